@@ -1,46 +1,50 @@
 -- What adding a pair does to the data.
-use Rattle.std.proofs.Common.{◌≡◌, ◌≢◌, ℕ, suc, ◌+◌, ◌*◌, ◌^◌, ◌<◌, ◌≤◌, inl, inr, List, length, sym, ◌∙◌, ap, subst, arith}
-use Rattle.std.proofs.lemmas.Bool.Decides.{eqb_tells}
+use Rattle.std.proofs.Common.{◌≡◌, ◌≢◌, ℕ, suc, ◌+◌, ◌*◌, ◌^◌, ◌<◌, ◌≤◌, inl, inr, List, length, None, sym, ◌∙◌, ap, subst, arith}
+use Rattle.std.proofs.lemmas.Bool.{cases_eq}
 use Rattle.array_shape.specs.declared.shape.Shape.{Shape}
 use Rattle.array_shape.specs.Places.{data_len}
 use Rattle.array_shape.specs.Places as array
 use Rattle.array_shape.specs.Logged.{applied}
+use Rattle.record_slots.specs.Slots.{slot_bytes, slot_said}
+use Rattle.record_slots.specs.Super.{SaysSuper}
 use Rattle.record_slots.specs.declared.super_page.Super.{Super}
-use Rattle.record_slots.specs.Places.{page_bytes, page_count, first_slot_page, slot_of, next_slot, next_page, IsSuper}
-use Rattle.page_store.specs.Index.{slots_of, index_pages_of, Grows}
-use Rattle.page_store.specs.Pairs.{Pair, inserted}
-use Rattle.index_pages.specs.Keys.{key_end}
-use Rattle.index_pages.specs.Fetched.{IsFront}
-use Rattle.index_pages.specs.Page.{pairs_said, kind_said, level_said, link_said, level_of}
-use Rattle.index_pages.specs.Ways.{above, Keeps, IsOwn}
-use Rattle.index_pages.proofs.Fronts.{super_written}
-use Rattle.index_pages.proofs.Carrying.{carries_on, carries_absent}
-use Rattle.index_pages.proofs.PageFacts.{length-page_pairs}
-use Rattle.index_pages.proofs.Added.{IsAdded, added_is}
-use Rattle.index_pages.proofs.Rising.{length-inserted}
-use Rattle.index_pages.proofs.Writing.{small_inserted, written_kind, written_level, written_link, written_pairs}
-use Rattle.btree_pages.specs.Checked.{IsFrontOf}
-use Rattle.btree_pages.specs.Descent.{page_for}
-use Rattle.btree_pages.specs.OnWay.{IsOnWay}
-use Rattle.btree_pages.specs.Tree.{IsUnder, IsSoundTree, pairs_of_tree}
-use Rattle.btree_pages.specs.Sound.{IsTree}
-use Rattle.btree_pages.specs.Writes.{IsRead}
-use Rattle.btree_pages.specs.Index.{tree}
-use Rattle.btree_pages.proofs.Ways.{Way, way_of, way_own}
-use Rattle.std.specs.Prelude.{None}
-use Rattle.record_slots.specs.Slots.{slot_bytes}
 use Rattle.record_slots.specs.declared.slot.Slot.TheVariants.{Absent}
-use Rattle.page_store.specs.Index.{Gains}
-use Rattle.page_store.specs.Pairs.{found}
+use Rattle.record_slots.specs.Places.{page_bytes, page_count, first_slot_page, slot_of, next_slot, next_page, free_slots, free_page_of, slot_due, used_slots, tables_of, IsSuper, Carries}
+use Rattle.page_store.specs.Index.{IsTable, slots_of, index_pages_of, Grows, Gains}
+use Rattle.page_store.specs.Pairs.{Pair, inserted, found}
+use Rattle.index_pages.specs.Adding.{adding_parts, TakesSlot, first_slot, with_slot_taken}
+use Rattle.index_pages.specs.Keys.{key_end}
+use Rattle.index_pages.specs.Page.{pairs_said, kind_said, level_said, link_said, level_of}
+use Rattle.index_pages.specs.Ways.{above, Keeps}
+use Rattle.index_pages.proofs.Added.{IsAdded, added_is}
+use Rattle.index_pages.proofs.Carrying.{carries_on, carries_absent, free_carries}
+use Rattle.index_pages.proofs.Fronts.{IsWritable, super_written, super_kept, version_kept}
 use Rattle.index_pages.proofs.Given.{above_zero}
-use Rattle.btree_pages.specs.Changes.{TakesPair}
-use Rattle.index_pages.specs.Adding.{adding_parts}
-use Rattle.btree_pages.proofs.Belonging.{inner_stays}
-use Rattle.btree_pages.proofs.Taking.{sound_tree_takes}
+use Rattle.index_pages.proofs.PageFacts.{length-page_pairs}
+use Rattle.index_pages.proofs.Rising.{length-inserted}
+use Rattle.index_pages.proofs.Tabled.{IsWhole, whole_counts}
+use Rattle.index_pages.proofs.Taken.{IsSlotAfter, is_slot_after, slot_is_due, slot_writable, slot_due_next, due_carries}
+use Rattle.index_pages.proofs.Writing.{small_inserted, written_kind, written_level, written_link, written_pairs}
+use Rattle.btree_laws.specs.Changes.{TakesPair}
+use Rattle.btree_laws.specs.Descent.{page_for, leaf_for}
+use Rattle.btree_laws.specs.Sound.{IsTree, IsSoundTree}
+use Rattle.btree_laws.specs.Tree.{IsUnder, IsPageOfTree, pairs_of_tree}
+use Rattle.btree_laws.specs.TreeFacts.{under_own}
+use Rattle.btree_laws.specs.declared.root.Root.{Root}
+use Rattle.btree_laws.proofs.Belonging.{tree_stays_taken}
+use Rattle.btree_laws.proofs.Splitting.{under_self}
+use Rattle.btree_laws.proofs.Taking.{sound_tree_takes}
+use Rattle.btree_laws.proofs.Ways.{Way, way_of, way_under}
+use Rattle.btree_pages.specs.Index.{tree, tree_of, AreSoundTrees}
+use Rattle.btree_pages.specs.OnWay.{IsOnWay}
+use Rattle.btree_pages.specs.Trees.{whole_of, table_sound}
+use Rattle.btree_pages.specs.Writes.{IsRead}
+use Rattle.btree_pages.proofs.Others.{free_apart, tables_apart, one_changed, others_untouched}
 
 module _ (shape : Shape) (old : List ℕ) (half : ℕ) (long : length old ≡ data_len shape) (half_is : half ≡ index_pages_of shape) (all : half + half ≡ array.page_count shape) (few : half ≤ 16384)
-    (front : Super) (key d leaf : ℕ) (pairs : List Pair) (fits : key < 2 ^ 64) (front_is : IsFront shape front) (read : IsRead shape leaf 0 pairs)
-    (sound : IsSoundTree old) (says : IsFrontOf old front) (way : IsOnWay old key d leaf 0 pairs) (room : length pairs < 30) (slot : front.next_slot < slots_of shape) (none : found (pairs_of_tree old) key ≡ None) where
+    (root : Root) (front after : Super) (slot key d leaf : ℕ) (pairs : List Pair) (fits : key < 2 ^ 64) (table_few : root.table < 8) (entries_long : length front.entries ≡ 256) (read : IsRead shape leaf 0 pairs)
+    (sound : AreSoundTrees old) (table : IsTable old root.table root.page) (says : SaysSuper (page_bytes old 0) front) (takes : TakesSlot old front slot after)
+    (way : IsOnWay root old key d leaf 0 pairs) (room : length pairs < 30) (left : used_slots old < slots_of shape) (none : found (pairs_of_tree old root.page) key ≡ None) where
   size : length old ≡ 512 * (half + half)
   size = omega (arith, long, all)
 
@@ -50,100 +54,150 @@ module _ (shape : Shape) (old : List ℕ) (half : ℕ) (long : length old ≡ da
   first : first_slot_page old ≡ half
   first = omega (arith, count)
 
-  eight : front.next_slot < 8 * half
-  eight = omega (arith, slot, all)
+  whole : IsWhole 1 tree_of old
+  whole = whole_of old sound
 
-  leaf_few : length (inserted pairs key front.next_slot) ≤ 30
-  leaf_few = omega (arith, length-inserted key front.next_slot pairs)
+  root_sound : IsSoundTree root old
+  root_sound = table_sound old root sound table
 
-  own_root : IsOwn old 1
-  own_root = (omega arith, omega (arith, sound.0.some_pages))
+  given_most : next_page old ≤ half
+  given_most = omega (arith, whole.front.pages, first)
 
-  root_tree : IsTree (above d 0) old 1 0 key_end
-  root_tree = subst (λ (n : ℕ). IsTree n old 1 0 key_end) way.level_is sound.1.1
+  slots_most : next_slot old ≤ 8 * half
+  slots_most = omega (arith, whole.front.slots, count)
 
-  own_leaf : IsOwn old leaf
-  own_leaf = subst (λ (x : ℕ). IsOwn old x) (sym way.page_is) (way_own d 0 old key 1 0 key_end own_root root_tree (omega arith) (omega arith))
+  slots_few : free_slots old ≤ next_slot old
+  slots_few = (whole_counts 1 tree_of old whole).free_slots_few
 
-  leaf_way : Way old 0 leaf key 0 key_end
-  leaf_way = subst (λ (x : ℕ). Way old 0 x key 0 key_end) (sym way.page_is) (way_of d 0 old key 1 0 key_end root_tree (omega arith) (omega arith))
+  due : slot ≡ slot_due old
+  due = takes.due ∙ slot_is_due old front says
+
+  eight : slot < 8 * half
+  eight = elim (cases_eq (free_slots old) 0) [
+    | inl empty ↦ omega (arith, due, slot_due_next old empty, left, empty, all)
+    | inr some ↦ omega (arith, due, (whole_counts 1 tree_of old whole).due some, slots_most)
+  ]
+
+  leaf_few : length (inserted pairs key slot) ≤ 30
+  leaf_few = omega (arith, length-inserted key slot pairs)
+
+  root_tree : IsTree root (above d 0) old root.page 0 key_end
+  root_tree = subst (λ (n : ℕ). IsTree root n old root.page 0 key_end) way.level_is root_sound.2
+
+  leaf_under : IsPageOfTree old root.page leaf
+  leaf_under =
+      subst (λ (x : ℕ). IsPageOfTree old root.page x) (sym way.page_is) (subst (λ (n : ℕ). IsUnder n old (page_for d old root.page key) root.page) (sym way.level_is)
+      (way_under root d 0 old key root.page 0 key_end (page_for d old root.page key) root_tree (omega arith) (omega (arith, fits)) (under_self 0 old (page_for d old root.page key))))
+
+  own_leaf : (1 ≤ leaf) × (leaf < next_page old)
+  own_leaf = under_own root (level_of old root.page) old leaf root.page 0 key_end root_sound.0 root_sound.2 leaf_under
+
+  leaf_way : Way root old 0 leaf key 0 key_end
+  leaf_way = subst (λ (x : ℕ). Way root old 0 x key 0 key_end) (sym way.page_is) (way_of root d 0 old key root.page 0 key_end root_tree (omega arith) (omega (arith, fits)))
 
   bottom : level_of old leaf ≡ 0
   bottom = leaf_way.tree.0.level
 
-  leaf_below : leaf < half
-  leaf_below = omega (arith, own_leaf, sound.0.pages, first)
+  writable : IsWritable after × (after.version ≡ front.version) × (after.form ≡ front.form) × (after.entries ≡ front.entries) × (after.next_page ≡ front.next_page)
+  writable = slot_writable old front after whole.slots whole.pages says takes.after_is entries_long (omega (arith, slots_most, few)) whole.front.some_pages (omega (arith, given_most, few))
 
   added : List ℕ
-  added = applied (adding_parts half front leaf 0 pairs key) old
+  added = applied (adding_parts half after slot leaf 0 pairs root.table key) old
 
-  is : IsAdded old added half front leaf 0 pairs key
+  is : IsAdded old added half after slot leaf 0 pairs root.table key
   unfolding added
-  is = added_is old half size front leaf 0 pairs key fits eight own_leaf.0 leaf_below (omega arith) room
+  is = added_is old half size after writable.0.entries slot leaf 0 pairs root.table key table_few fits eight own_leaf.0 (omega (arith, own_leaf, given_most)) (omega arith) room
 
-  page_old : (x : ℕ) → 1 ≤ x → x < next_page old → x ≢ leaf → page_bytes added x ≡ page_bytes old x
-  page_old x some lt other = is.pages x some (omega (arith, sound.0.pages, first)) other
+  says_now : SaysSuper (page_bytes added 0) after
+  says_now = super_written old added front after is.mark is.part says writable.1 writable.2 writable.0
 
-  slot_old : (j : ℕ) → j < next_slot old → slot_of added j ≡ slot_of old j
-  slot_old j lt = is.slots j (omega (arith, says.slots))
+  other_slots : (j : ℕ) → j ≢ slot_due old → slot_of added j ≡ slot_of old j
+  other_slots j ne = is.slots j (λ e. ne (e ∙ due))
 
-  counted : (next_slot added ≡ front.next_slot + 1) × (next_page added ≡ front.next_page) × IsSuper 1 added
-  counted = super_written 1 old added half (front.next_slot + 1) front.next_page (omega (arith, is.size, size)) few is.mark is.counts (omega (arith, eight)) front_is.some (omega (arith, front_is.pages, half_is)) sound.0
+  free_pages_kept : (x : ℕ) → free_page_of old x ≢ None → 1 ≤ x → x < half → page_bytes added x ≡ page_bytes old x
+  free_pages_kept x free some below = is.pages x some below (λ e. free_apart old root x root_sound (subst (λ (y : ℕ). IsPageOfTree old root.page y) (sym e) leaf_under) free)
+
+  lists_now : IsSlotAfter old added
+  lists_now = is_slot_after old added front after whole.slots whole.pages says takes.after_is says_now slots_few other_slots
+      (λ x free from to. free_pages_kept x free (omega (arith, from)) (omega (arith, to, given_most)))
+
+  after_slots_most : after.next_slot ≤ 8 * half
+  after_slots_most = elim (cases_eq (free_slots old) 0) [
+    | inl empty ↦ omega (arith, says_now.next_slot, lists_now.one_more empty, left, all, empty)
+    | inr some ↦ omega (arith, says_now.next_slot, lists_now.as_many some, slots_most)
+  ]
+
+  front_now : IsSuper 1 added × (tables_of added ≡ tables_of old)
+  front_now = super_kept 1 old added front after half (omega (arith, is.size, size)) says says_now writable.1 writable.2 writable.3
+      after_slots_most (omega (arith, writable.4)) (omega (arith, writable.4, says.next_page, given_most)) whole.front
 
   keeps : Keeps old added
   keeps = record {
-    pages = omega (arith, counted.1, says.pages);
-    slots = omega (arith, counted.0, says.slots);
-    carried = λ p lt carries. carries_on old added p (slot_old p.1 lt) carries;
+    pages = omega (arith, lists_now.pages_next);
+    slots = lists_now.later;
+    carried = λ t p lt carries. carries_on old added t p (other_slots p.1 (due_carries old t p whole.slots lt carries)) carries;
   }
 
-  takes : TakesPair old added leaf key front.next_slot
-  takes = record {
+  takes_pair : TakesPair root old added leaf key slot
+  takes_pair = record {
     room = omega (arith, room, ap (λ (ps : List Pair). length ps) way.pairs_are, length-page_pairs old leaf);
-    kind = ap kind_said is.bytes ∙ written_kind 0 0 (inserted pairs key front.next_slot) leaf_few (omega arith);
-    level = ap level_said is.bytes ∙ written_level 0 0 (inserted pairs key front.next_slot) leaf_few (omega arith);
-    link = ap link_said is.bytes ∙ written_link 0 0 (inserted pairs key front.next_slot) leaf_few (omega arith);
-    pairs = ap pairs_said is.bytes ∙ written_pairs 0 0 (inserted pairs key front.next_slot) leaf_few (omega arith) (small_inserted key front.next_slot pairs read.small fits (omega (arith, eight)))
-        ∙ ap (λ (ps : List Pair). inserted ps key front.next_slot) way.pairs_are;
-    given = omega (arith, counted.0);
-    carries = carries_absent added key front.next_slot fits is.slot;
+    kind = ap kind_said is.bytes ∙ written_kind 0 0 (inserted pairs key slot) leaf_few (omega arith);
+    level = ap level_said is.bytes ∙ written_level 0 0 (inserted pairs key slot) leaf_few (omega arith);
+    link = ap link_said is.bytes ∙ written_link 0 0 (inserted pairs key slot) leaf_few (omega arith);
+    pairs = ap pairs_said is.bytes ∙ written_pairs 0 0 (inserted pairs key slot) leaf_few (omega arith) (small_inserted key slot pairs read.small fits (omega (arith, eight, few)))
+        ∙ ap (λ (ps : List Pair). inserted ps key slot) way.pairs_are;
+    given = omega (arith, due, lists_now.given);
+    carries = carries_absent added root.table key slot table_few fits is.slot_is;
   }
 
-  leaf_there : leaf ≡ page_for (level_of old 1) old 1 key
-  leaf_there = way.page_is ∙ ap (λ (n : ℕ). page_for n old 1 key) (sym (way.level_is ∙ above_zero d))
+  leaf_there : leaf ≡ page_for (level_of old root.page) old root.page key
+  leaf_there = way.page_is ∙ ap (λ (n : ℕ). page_for n old root.page key) (sym (way.level_is ∙ above_zero d))
 
-  adds : IsSoundTree added × (pairs_of_tree added ≡ inserted (pairs_of_tree old) key front.next_slot)
-  adds = sound_tree_takes old added key front.next_slot sound keeps counted.2 fits none
-      (subst (λ (x : ℕ). TakesPair old added x key front.next_slot) leaf_there takes)
-      (subst (λ (x : ℕ). (y : ℕ) → 1 ≤ y → y < next_page old → y ≢ x → page_bytes added y ≡ page_bytes old y) leaf_there page_old)
+  tree_others : (x : ℕ) → IsPageOfTree old root.page x → x ≢ leaf → page_bytes added x ≡ page_bytes old x
+  tree_others x u ne =
+      let own = under_own root (level_of old root.page) old x root.page 0 key_end root_sound.0 root_sound.2 u in
+      is.pages x own.0 (omega (arith, own.1, given_most)) ne
 
-  added_level : level_of added 1 ≡ level_of old 1
-  added_level = elim (eqb_tells 1 leaf) [
-    | inl same ↦ subst (λ (q : ℕ). level_of added q ≡ level_of old q) (sym same.1) (takes.level ∙ sym bottom)
-    | inr far ↦ ap level_said (page_old 1 (omega arith) own_root.1 far.1)
-  ]
+  adds : IsSoundTree root added × (pairs_of_tree added root.page ≡ inserted (pairs_of_tree old root.page) key slot) × (level_of added root.page ≡ level_of old root.page)
+  adds = sound_tree_takes root old added key slot root_sound keeps (omega (arith, fits)) none
+      (subst (λ (x : ℕ). TakesPair root old added x key slot) leaf_there takes_pair)
+      (subst (λ (x : ℕ). (y : ℕ) → IsPageOfTree old root.page y → y ≢ x → page_bytes added y ≡ page_bytes old y) leaf_there tree_others)
+
+  tables_others : (two : Root) → IsTable old two.table two.page → two.page ≢ root.page → (x : ℕ) → IsPageOfTree old two.page x → page_bytes added x ≡ page_bytes old x
+  tables_others two named differ x u =
+      let t = table_sound old two sound named in
+      let own = under_own two (level_of old two.page) old x two.page 0 key_end t.0 t.2 u in
+      is.pages x own.0 (omega (arith, own.1, given_most)) (λ e. tables_apart old two root x sound named table differ u (subst (λ (y : ℕ). IsPageOfTree old root.page y) (sym e) leaf_under))
 
   -- what adding a pair does to the data
-  pub adding_grows : Grows tree old (applied (adding_parts half front leaf 0 pairs key) old) × Gains tree key old (applied (adding_parts half front leaf 0 pairs key) old)
+  pub adding_grows : Grows tree root.page old (applied (adding_parts half after slot leaf 0 pairs root.table key) old) × Gains tree root.page root.table key old (applied (adding_parts half after slot leaf 0 pairs root.table key) old)
   unfolding added
   adding_grows = (
     record {
-      sound = adds.0;
+      sound = one_changed old added root sound table front_now.0 lists_now.slots lists_now.pages front_now.1 keeps adds.0 tables_others;
       size = is.size;
-      slots = slot_old;
-      later = omega (arith, counted.1, says.pages);
-      few = omega (arith, counted.1, says.pages);
-      named = λ x from to. absurd (omega (arith, counted.1, says.pages));
-      kept = λ x u. subst (λ (n : ℕ). IsUnder n added x 1) (sym added_level) (inner_stays old added leaf x bottom (λ q own other. page_old q own.0 own.1 other) (level_of old 1) 1 0 key_end own_root sound.1.1 u);
-      levels = omega (arith, added_level);
+      version = version_kept old added is.mark;
+      tables = front_now.1;
+      others = others_untouched old added root sound table front_now.0 lists_now.slots lists_now.pages front_now.1 keeps adds.0 tables_others;
+      slots = λ j lt ne. other_slots j ne;
+      later = omega (arith, lists_now.pages_next);
+      few = omega (arith, lists_now.pages_next);
+      free_pages_fall = omega (arith, lists_now.pages_free);
+      named = λ x from to. absurd (omega (arith, lists_now.pages_next, from, to));
+      taken = λ x free. inl (free.0, omega (arith, free.1, lists_now.pages_free), lists_now.due free.0 ∙ free.2);
+      kept = λ x u. tree_stays_taken root old added leaf x root_sound bottom tree_others adds.2 u;
+      levels = omega (arith, adds.2);
     },
     record {
-      pairs = adds.1 ∙ ap (λ (s : ℕ). inserted (pairs_of_tree old) key s) says.slots;
-      slots = counted.0 ∙ (let e : front.next_slot + 1 ≡ suc (next_slot old) = omega (arith, says.slots) in e);
-      fresh = subst (λ (s : ℕ). slot_of added s ≡ slot_bytes (Absent key)) says.slots is.slot;
+      pairs = adds.1 ∙ ap (λ (s : ℕ). inserted (pairs_of_tree old root.page) key s) due;
+      slots = lists_now.in_use;
+      fresh = subst (λ (s : ℕ). slot_of added s ≡ slot_bytes (Absent root.table key)) due is.slot_is;
     },
   )
 
-  pub adding_takes_none : next_page (applied (adding_parts half front leaf 0 pairs key) old) ≡ next_page old
+  pub adding_takes_none : next_page (applied (adding_parts half after slot leaf 0 pairs root.table key) old) ≡ next_page old
   unfolding added
-  adding_takes_none = counted.1 ∙ says.pages
+  adding_takes_none = lists_now.pages_next
+
+  pub slot_there : slot ≡ slot_due old
+  slot_there = due

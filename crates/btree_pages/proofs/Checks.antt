@@ -1,17 +1,21 @@
 -- The tests of a tree, step by step.
-use Rattle.std.proofs.Common.{◌≡◌, ◌≢◌, ◌↔◌, ℕ, zero, suc, ◌+◌, ◌-◌, ◌<◌, ◌≤◌, inl, inr, List, ◌∷◌, Option, Some, None, Result, Ok, Err, refl, sym, ◌∙◌, ap, subst, arith}
+use Rattle.std.proofs.Common.{◌≡◌, ◌≢◌, ◌↔◌, ℕ, zero, suc, ◌+◌, ◌-◌, ◌<◌, ◌≤◌, inl, inr, List, [], ◌∷◌, drop, Option, Some, None, Result, Ok, Err, refl, sym, ◌∙◌, ap, subst, arith}
 use Rattle.record_slots.specs.Places.{next_page, page_bytes}
+use Rattle.record_slots.specs.Super.{SaysSuper}
+use Rattle.record_slots.specs.declared.super_page.Super.{Super}
+use Rattle.btree_pages.specs.Checked.{IsFrontOf}
 use Rattle.page_store.specs.Pairs.{Pair, Rise}
 use Rattle.page_store.specs.declared.index_fault.CheckFault.{CheckFault}
 use Rattle.page_store.specs.declared.index_fault.CheckFault.TheVariants.{Damaged, Media, Dead}
 use Rattle.index_pages.specs.Keys.{key_end}
-use Rattle.index_pages.specs.Page.{pairs_from, pair_said, pairs_said, page_pairs, kind_said, level_said, count_said, link_said}
+use Rattle.index_pages.specs.Page.{pairs_from, pair_said, pairs_said, page_pairs, kind_said, level_said, level_of, count_said, link_said}
 use Rattle.index_pages.proofs.Reading.{from_first, from_step, from_end}
 use Rattle.index_pages.specs.Slots.{slot_check, IsVerdict}
-use Rattle.mars_base.specs.Check.{each}
+use Rattle.mars_base.specs.Check.{Check, each}
 use Rattle.mars_base.proofs.Checks.{both_on, each_on}
+use Rattle.btree_laws.specs.Tree.{AreChildren, IsInner, IsLeafPage, children_check, next_low, tree_check, tree_from}
 use Rattle.btree_pages.specs.Node.{IsNode}
-use Rattle.btree_pages.specs.Tree.{IsLeafPage, AreChildren, next_low, IsInner, children_check, tree_from}
+use Rattle.btree_laws.specs.declared.root.Root.{Root}
 
 -- at first all pairs are left
 pub whole_left : (page : List ℕ) (n : ℕ) → n ≡ count_said page → pairs_said page ≡ pairs_from page 0 (n - 0)
@@ -59,35 +63,35 @@ named_children : (bytes : List ℕ) (pages : ℕ) (es : List Pair) → pages ≡
 named_children bytes pages es is = (λ are. subst (λ (n : ℕ). AreChildren n es) is are, λ are. subst (λ (n : ℕ). AreChildren n es) (sym is) are)
 
 -- Of all pairs of a leaf these are left: their verdict is that of all.
-abbrev pub SlotsLeft : List ℕ → ℕ → List Pair → List Pair → Type 0
-SlotsLeft bytes page pairs left = (verdict : Option ℕ) → each (slot_check bytes page) left verdict → each (slot_check bytes page) pairs verdict
+abbrev pub SlotsLeft : List ℕ → ℕ → ℕ → List Pair → List Pair → Type 0
+SlotsLeft bytes table page pairs left = (verdict : Option ℕ) → each (slot_check bytes table page) left verdict → each (slot_check bytes table page) pairs verdict
 
-module _ (bytes : List ℕ) (page : ℕ) (pairs : List Pair) (p : Pair) (rest : List Pair) (left : SlotsLeft bytes page pairs (p ∷ rest)) where
-  pub slots_step : (let r : Result (Unit {0}) CheckFault = Ok tt in IsVerdict (slot_check bytes page p) r) → SlotsLeft bytes page pairs rest
-  slots_step well = λ verdict told. left verdict (each_on (slot_check bytes page) p rest well verdict told)
+module _ (bytes : List ℕ) (table page : ℕ) (pairs : List Pair) (p : Pair) (rest : List Pair) (left : SlotsLeft bytes table page pairs (p ∷ rest)) where
+  pub slots_step : (let r : Result (Unit {0}) CheckFault = Ok tt in IsVerdict (slot_check bytes table page p) r) → SlotsLeft bytes table page pairs rest
+  slots_step well = λ verdict told. left verdict (each_on (slot_check bytes table page) p rest well verdict told)
 
-  pub slots_fail : (fault : CheckFault) → (let r : Result (Unit {0}) CheckFault = Err fault in IsVerdict (slot_check bytes page p) r) → (let s : Result (Unit {0}) CheckFault = Err fault in IsVerdict (each (slot_check bytes page) pairs) s)
+  pub slots_fail : (fault : CheckFault) → (let r : Result (Unit {0}) CheckFault = Err fault in IsVerdict (slot_check bytes table page p) r) → (let s : Result (Unit {0}) CheckFault = Err fault in IsVerdict (each (slot_check bytes table page) pairs) s)
   slots_fail (Damaged bad) f = left (Some bad) (inl f)
   slots_fail Media f = tt
   slots_fail Dead f = tt
 
 -- the same for the children of a page
-abbrev pub ChildrenLeft : ℕ → List ℕ → List Pair → List Pair → ℕ → Type 0
-ChildrenLeft l bytes all left high = (verdict : Option ℕ) → children_check (tree_from l bytes) left high verdict → children_check (tree_from l bytes) all high verdict
+abbrev pub ChildrenLeft : Root → ℕ → List ℕ → List Pair → List Pair → ℕ → Type 0
+ChildrenLeft root l bytes all left high = (verdict : Option ℕ) → children_check (tree_from root l bytes) left high verdict → children_check (tree_from root l bytes) all high verdict
 
-module _ (l : ℕ) (bytes : List ℕ) (all : List Pair) (e : Pair) (rest : List Pair) (high : ℕ) (left : ChildrenLeft l bytes all (e ∷ rest) high) where
-  pub children_step : (let r : Result (Unit {0}) CheckFault = Ok tt in IsVerdict (tree_from l bytes e.1 e.0 (next_low rest high)) r) → ChildrenLeft l bytes all rest high
-  children_step well = λ verdict told. left verdict (both_on (tree_from l bytes e.1 e.0 (next_low rest high)) (children_check (tree_from l bytes) rest high) well verdict told)
+module _ (root : Root) (l : ℕ) (bytes : List ℕ) (all : List Pair) (e : Pair) (rest : List Pair) (high : ℕ) (left : ChildrenLeft root l bytes all (e ∷ rest) high) where
+  pub children_step : (let r : Result (Unit {0}) CheckFault = Ok tt in IsVerdict (tree_from root l bytes e.1 e.0 (next_low rest high)) r) → ChildrenLeft root l bytes all rest high
+  children_step well = λ verdict told. left verdict (both_on (tree_from root l bytes e.1 e.0 (next_low rest high)) (children_check (tree_from root l bytes) rest high) well verdict told)
 
-  pub children_fail : (fault : CheckFault) → (let r : Result (Unit {0}) CheckFault = Err fault in IsVerdict (tree_from l bytes e.1 e.0 (next_low rest high)) r)
-      → (let s : Result (Unit {0}) CheckFault = Err fault in IsVerdict (children_check (tree_from l bytes) all high) s)
+  pub children_fail : (fault : CheckFault) → (let r : Result (Unit {0}) CheckFault = Err fault in IsVerdict (tree_from root l bytes e.1 e.0 (next_low rest high)) r)
+      → (let s : Result (Unit {0}) CheckFault = Err fault in IsVerdict (children_check (tree_from root l bytes) all high) s)
   children_fail (Damaged bad) f = left (Some bad) (inl f)
   children_fail Media f = tt
   children_fail Dead f = tt
 
 -- a page's own tests, once its bytes were read
-module _ (bytes buf : List ℕ) (page low high : ℕ) (is : buf ≡ page_bytes bytes page) where
-  leaf_node : IsLeafPage bytes page low high → IsNode buf
+module _ (root : Root) (bytes buf : List ℕ) (page low high : ℕ) (is : buf ≡ page_bytes bytes page) where
+  leaf_node : IsLeafPage root.page bytes page low high → IsNode buf
   leaf_node t = subst (λ (b : List ℕ). IsNode b) (sym is) (record { form = inl (t.kind, t.level); link = t.link; most = t.most })
 
   inner_node : (l : ℕ) → suc l ≤ 7 → IsInner bytes (suc l) page low → IsNode buf
@@ -98,17 +102,17 @@ module _ (bytes buf : List ℕ) (page low high : ℕ) (is : buf ≡ page_bytes b
   })
 
   -- it is not a page of the tree
-  pub other_page : (l : ℕ) → l ≤ 7 → ¬ IsNode buf → tree_from l bytes page low high (Some page)
+  pub other_page : (l : ℕ) → l ≤ 7 → ¬ IsNode buf → tree_from root l bytes page low high (Some page)
   other_page zero most other = inl ((λ t. other (leaf_node t)), refl)
   other_page (suc l) most other = inl ((λ t. other (inner_node l most t)), refl)
 
   -- it has another level
-  pub other_level : (l : ℕ) → level_said buf ≢ l → tree_from l bytes page low high (Some page)
+  pub other_level : (l : ℕ) → level_said buf ≢ l → tree_from root l bytes page low high (Some page)
   other_level zero other = inl ((λ t. other (ap level_said is ∙ t.level)), refl)
   other_level (suc l) other = inl ((λ t. other (ap level_said is ∙ t.level_is)), refl)
 
   module _ (node : IsNode buf) where
-    leaf_tests : level_said buf ≡ 0 → (page ≢ 1 → 1 ≤ count_said buf) × Rise low high (pairs_said buf) → IsLeafPage bytes page low high
+    leaf_tests : level_said buf ≡ 0 → (page ≢ root.page → 1 ≤ count_said buf) × Rise low high (pairs_said buf) → IsLeafPage root.page bytes page low high
     leaf_tests level tests =
         let kind : kind_said buf ≡ 1 = elim node.form [ inl f ↦ f.0 | inr f ↦ absurd (omega (arith, f.1, level)) ] in
         record {
@@ -116,20 +120,20 @@ module _ (bytes buf : List ℕ) (page low high : ℕ) (is : buf ≡ page_bytes b
           level = ap level_said (sym is) ∙ level;
           link = ap link_said (sym is) ∙ node.link;
           most = subst (λ (b : List ℕ). count_said b ≤ 30) is node.most;
-          some = subst (λ (b : List ℕ). page ≢ 1 → 1 ≤ count_said b) is tests.0;
+          some = subst (λ (b : List ℕ). page ≢ root.page → 1 ≤ count_said b) is tests.0;
           rises = subst (λ (b : List ℕ). Rise low high (pairs_said b)) is tests.1;
         }
 
-    pub leaf_fails : (l : ℕ) → l ≡ 0 → ¬ ((page ≢ 1 → 1 ≤ count_said buf) × Rise low high (pairs_said buf)) → tree_from l bytes page low high (Some page)
+    pub leaf_fails : (l : ℕ) → l ≡ 0 → ¬ ((page ≢ root.page → 1 ≤ count_said buf) × Rise low high (pairs_said buf)) → tree_from root l bytes page low high (Some page)
     leaf_fails (suc l) none other = absurd (omega arith)
     leaf_fails zero none other =
-        inl ((λ t. other (subst (λ (b : List ℕ). (page ≢ 1 → 1 ≤ count_said b) × Rise low high (pairs_said b)) (sym is) (t.some, t.rises))), refl)
+        inl ((λ t. other (subst (λ (b : List ℕ). (page ≢ root.page → 1 ≤ count_said b) × Rise low high (pairs_said b)) (sym is) (t.some, t.rises))), refl)
 
-    pub leaf_slots : (l : ℕ) → l ≡ 0 → level_said buf ≡ 0 → (page ≢ 1 → 1 ≤ count_said buf) × Rise low high (pairs_said buf) → (r : Result (Unit {0}) CheckFault) → IsVerdict (each (slot_check bytes page) (pairs_said buf)) r
-        → IsVerdict (tree_from l bytes page low high) r
+    pub leaf_slots : (l : ℕ) → l ≡ 0 → level_said buf ≡ 0 → (page ≢ root.page → 1 ≤ count_said buf) × Rise low high (pairs_said buf) → (r : Result (Unit {0}) CheckFault) → IsVerdict (each (slot_check bytes root.table page) (pairs_said buf)) r
+        → IsVerdict (tree_from root l bytes page low high) r
     leaf_slots (suc l) none level tests r cause = absurd (omega arith)
-    leaf_slots zero none level tests (Ok tt) cause = (leaf_tests level tests, subst (λ (b : List ℕ). each (slot_check bytes page) (pairs_said b) None) is cause)
-    leaf_slots zero none level tests (Err (Damaged bad)) cause = inr (leaf_tests level tests, subst (λ (b : List ℕ). each (slot_check bytes page) (pairs_said b) (Some bad)) is cause)
+    leaf_slots zero none level tests (Ok tt) cause = (leaf_tests level tests, subst (λ (b : List ℕ). each (slot_check bytes root.table page) (pairs_said b) None) is cause)
+    leaf_slots zero none level tests (Err (Damaged bad)) cause = inr (leaf_tests level tests, subst (λ (b : List ℕ). each (slot_check bytes root.table page) (pairs_said b) (Some bad)) is cause)
     leaf_slots zero none level tests (Err Media) cause = tt
     leaf_slots zero none level tests (Err Dead) cause = tt
 
@@ -148,7 +152,7 @@ module _ (bytes buf : List ℕ) (page low high : ℕ) (is : buf ≡ page_bytes b
             children = subst (λ (b : List ℕ). AreChildren (next_page bytes) (pairs_said b)) is ((named_children bytes pages (pairs_said buf) pages_is).0 tests.2);
           }
 
-      pub inner_fails : (l : ℕ) → l ≢ 0 → ¬ ((next_low (pairs_said buf) low ≡ low) × Rise low key_end (pairs_said buf) × AreChildren pages (pairs_said buf)) → tree_from l bytes page low high (Some page)
+      pub inner_fails : (l : ℕ) → l ≢ 0 → ¬ ((next_low (pairs_said buf) low ≡ low) × Rise low key_end (pairs_said buf) × AreChildren pages (pairs_said buf)) → tree_from root l bytes page low high (Some page)
       inner_fails zero some other = absurd (some refl)
       inner_fails (suc l) some other =
           inl (
@@ -158,12 +162,30 @@ module _ (bytes buf : List ℕ) (page low high : ℕ) (is : buf ≡ page_bytes b
           )
 
       pub inner_children : (l : ℕ) → l ≢ 0 → level_said buf ≡ l → (next_low (pairs_said buf) low ≡ low) × Rise low key_end (pairs_said buf) × AreChildren pages (pairs_said buf)
-          → (r : Result (Unit {0}) CheckFault) → IsVerdict (children_check (tree_from (l - 1) bytes) (pairs_said buf) high) r → IsVerdict (tree_from l bytes page low high) r
+          → (r : Result (Unit {0}) CheckFault) → IsVerdict (children_check (tree_from root (l - 1) bytes) (pairs_said buf) high) r → IsVerdict (tree_from root l bytes page low high) r
       inner_children zero some level tests r cause = absurd (some refl)
-      inner_children (suc l) some level tests r cause = go r (subst (λ (n : ℕ). IsVerdict (children_check (tree_from n bytes) (pairs_said buf) high) r) (let e : suc l - 1 ≡ l = omega arith in e) cause)
+      inner_children (suc l) some level tests r cause = go r (subst (λ (n : ℕ). IsVerdict (children_check (tree_from root n bytes) (pairs_said buf) high) r) (let e : suc l - 1 ≡ l = omega arith in e) cause)
         where
-          go : (r : Result (Unit {0}) CheckFault) → IsVerdict (children_check (tree_from l bytes) (pairs_said buf) high) r → IsVerdict (tree_from (suc l) bytes page low high) r
-          go (Ok tt) c = (inner_tests l level tests, subst (λ (b : List ℕ). children_check (tree_from l bytes) (pairs_said b) high None) is c)
-          go (Err (Damaged bad)) c = inr (inner_tests l level tests, subst (λ (b : List ℕ). children_check (tree_from l bytes) (pairs_said b) high (Some bad)) is c)
+          go : (r : Result (Unit {0}) CheckFault) → IsVerdict (children_check (tree_from root l bytes) (pairs_said buf) high) r → IsVerdict (tree_from root (suc l) bytes page low high) r
+          go (Ok tt) c = (inner_tests l level tests, subst (λ (b : List ℕ). children_check (tree_from root l bytes) (pairs_said b) high None) is c)
+          go (Err (Damaged bad)) c = inr (inner_tests l level tests, subst (λ (b : List ℕ). children_check (tree_from root l bytes) (pairs_said b) high (Some bad)) is c)
           go (Err Media) c = tt
           go (Err Dead) c = tt
+
+-- the level of the root, and then the tree under it
+module _ (root : Root) (bytes : List ℕ) (level : ℕ) (is : level ≡ level_of bytes root.page) where
+  pub level_fails : 7 < level → tree_check root bytes (Some root.page)
+  level_fails more = inl (λ le. omega (arith, is, more, le), refl)
+
+  pub level_passes : level ≤ 7 → (r : Result (Unit {0}) CheckFault) → IsVerdict (tree_from root level bytes root.page 0 key_end) r → IsVerdict (tree_check root bytes) r
+  level_passes le r cause = go r (subst (λ (n : ℕ). IsVerdict (tree_from root n bytes root.page 0 key_end) r) is cause)
+    where
+      go : (r : Result (Unit {0}) CheckFault) → IsVerdict (tree_from root (level_of bytes root.page) bytes root.page 0 key_end) r → IsVerdict (tree_check root bytes) r
+      go (Ok tt) c = (omega (arith, is, le), c)
+      go (Err (Damaged bad)) c = inr (omega (arith, is, le), c)
+      go (Err Media) c = tt
+      go (Err Dead) c = tt
+
+-- the counts that the super page says
+pub front_of : (bytes : List ℕ) (front : Super) → SaysSuper (page_bytes bytes 0) front → IsFrontOf bytes front
+front_of bytes front says = record { slots = says.next_slot; pages = says.next_page }

@@ -1,48 +1,53 @@
 -- What splitting a page does to the data.
-use Rattle.std.proofs.Common.{◌≡◌, ◌≢◌, ℕ, zero, suc, ◌+◌, ◌*◌, ◌^◌, ◌<◌, ◌≤◌, true, false, nat_lt, inl, inr, List, [], ◌∷◌, length, take, drop, refl, sym, ◌∙◌, ap, subst, arith}
+use Rattle.std.proofs.Common.{◌≡◌, ◌≢◌, ℕ, zero, suc, ◌+◌, ◌-◌, ◌*◌, ◌^◌, ◌<◌, ◌≤◌, true, false, nat_lt, inl, inr, List, [], ◌∷◌, length, take, drop, None, refl, sym, ◌∙◌, ap, subst, arith}
 use Rattle.std.specs.Prelude.{if◌then◌else◌}
 use Rattle.std.proofs.lemmas.Bool.{cases_lt}
-use Rattle.std.proofs.lemmas.Bool.Decides.{leb_tells, eqb_tells}
+use Rattle.std.proofs.lemmas.Bool.Decides.{leb_tells}
 use Rattle.std.proofs.lemmas.List.{length-take-le, length-drop}
 use Rattle.mars_base.specs.Bytes.{range}
 use Rattle.array_shape.specs.declared.shape.Shape.{Shape}
 use Rattle.array_shape.specs.Places.{data_len}
 use Rattle.array_shape.specs.Places as array
 use Rattle.array_shape.specs.Logged.{Part, applied, AllFit}
-use Rattle.record_slots.specs.Super.{count_bytes}
+use Rattle.record_slots.specs.Super.{SaysSuper, part_bytes}
 use Rattle.record_slots.specs.declared.super_page.Super.{Super}
-use Rattle.record_slots.specs.Places.{page_bytes, page_count, first_slot_page, slot_at, slot_of, next_slot, next_page, IsSuper}
-use Rattle.page_store.specs.Index.{index_pages_of, Grows, Rests}
+use Rattle.record_slots.specs.Places.{page_bytes, page_count, first_slot_page, slot_at, slot_of, next_slot, next_page, free_pages, free_page_of, used_pages, slot_due, page_due, tables_of, version_of, IsSuper}
+use Rattle.page_store.specs.Index.{IsTable, index_pages_of, Grows, Rests}
 use Rattle.page_store.specs.Pairs.{Pair, inserted}
 use Rattle.page_store.specs.Shown.{address}
+use Rattle.index_pages.specs.Adding.{TakesPage, first_page, with_page_taken}
 use Rattle.index_pages.specs.Fetched.{IsFront}
 use Rattle.index_pages.specs.Keys.{key_at, key_end}
 use Rattle.index_pages.specs.Page.{page_pairs, pairs_said, kind_said, level_said, link_said, kind_of, level_of, count_of}
 use Rattle.index_pages.specs.Ways.{above, Keeps, IsOwn}
 use Rattle.index_pages.specs.Written.{AreSmall, kind_for, written_page}
-use Rattle.index_pages.proofs.Fronts.{length-count_bytes, super_written}
+use Rattle.index_pages.proofs.Fronts.{IsWritable, length-part_bytes, super_written, super_kept, version_kept}
 use Rattle.index_pages.proofs.Carrying.{carries_on}
 use Rattle.index_pages.proofs.PageFacts.{length-page_pairs}
+use Rattle.index_pages.proofs.Puts.{AllApart, Stand, applied_long, applied_away, applied_stand}
 use Rattle.index_pages.proofs.Ranges.{Apart}
 use Rattle.index_pages.proofs.Rising.{length-inserted}
+use Rattle.index_pages.proofs.Tabled.{IsWhole, whole_counts}
+use Rattle.index_pages.proofs.Taken.{HasTaken, IsAfter, taken_none, taken_one, page_is_due, due_free, due_next, dues_differ, is_after, after_due, after_slots, after_pages, after_free, taken_writable}
 use Rattle.index_pages.proofs.Writing.{small_take, small_inserted, written_kind, written_level, written_link, written_pairs, length-written_page}
-use Rattle.btree_pages.specs.Changes.{IsHalf, IsCut, middle, with_entry, SplitsChild}
-use Rattle.btree_pages.specs.Checked.{IsFrontOf}
-use Rattle.btree_pages.specs.Descent.{child_for, page_for}
+use Rattle.btree_laws.specs.Changes.{IsHalf, IsCut, middle, with_entry, SplitsChild}
+use Rattle.btree_laws.specs.Descent.{child_for, page_for}
+use Rattle.btree_laws.specs.Tree.{IsUnder, IsUnderSome, IsPageOfTree, pairs_of_tree, next_low}
+use Rattle.btree_laws.specs.Sound.{IsTree, IsSoundTree}
+use Rattle.btree_laws.specs.TreeFacts.{tree_level, under_own}
+use Rattle.btree_laws.specs.declared.root.Root.{Root}
+use Rattle.btree_laws.proofs.Apart.{start_of, sub_of}
+use Rattle.btree_laws.proofs.Belonging.{StaysSplit, tree_stays_split}
+use Rattle.btree_laws.proofs.Splitting.{halves, sound_tree_splits, under_self, child_under}
+use Rattle.btree_laws.proofs.Ways.{Way, way_of, way_under, child_some, page_for_last}
 use Rattle.btree_pages.specs.OnWay.{IsOnWay}
-use Rattle.btree_pages.specs.Tree.{IsUnder, IsSoundTree, pairs_of_tree, next_low}
-use Rattle.btree_pages.specs.Sound.{IsTree}
 use Rattle.btree_pages.specs.Writes.{IsRead, cutting_parts}
-use Rattle.btree_pages.specs.Index.{tree, half_for, half_pairs, actions_below}
-use Rattle.btree_pages.proofs.Actions.{under_self, way_same, half_actions}
-use Rattle.btree_pages.proofs.Belonging.{split_stays, half_named, under_way}
-use Rattle.btree_pages.proofs.Apart.{start_of, sub_of}
+use Rattle.btree_pages.specs.Index.{tree, tree_of, AreSoundTrees, half_for, half_pairs, actions_below}
+use Rattle.btree_pages.specs.Trees.{whole_of, table_sound, page_given}
+use Rattle.btree_pages.proofs.Actions.{half_actions}
 use Rattle.btree_pages.proofs.Descending.{Child, child_step}
-use Rattle.btree_pages.proofs.Entries.{with_inserted, entry_child, page_for_last}
-use Rattle.index_pages.proofs.Puts.{AllApart, Stand, applied_long, applied_away, applied_stand}
-use Rattle.btree_pages.proofs.Splitting.{halves, sound_tree_splits}
-use Rattle.btree_pages.proofs.Ways.{Way, way_of, way_own, child_given}
-use Rattle.btree_pages.specs.TreeFacts.{tree_level, under_own}
+use Rattle.btree_pages.proofs.Entries.{with_inserted, entry_child}
+use Rattle.btree_pages.proofs.Others.{due_apart, free_apart, tables_apart, one_changed, others_untouched}
 
 pub small_at : (n : ℕ) (ps : List Pair) → n < length ps → AreSmall ps → key_at ps n < 2 ^ 64
 small_at n [] lt small = absurd (omega arith)
@@ -50,14 +55,16 @@ small_at zero (p ∷ ps) lt small = small.0
 small_at (suc n) (p ∷ ps) lt small = small_at n ps (omega arith) small.2
 
 -- the kind of a page is that of its level
-pub tree_kind : (m : ℕ) (bytes : List ℕ) (page low high : ℕ) → IsTree m bytes page low high → kind_of bytes page ≡ kind_for m
-tree_kind zero bytes page low high t = t.0.kind
-tree_kind (suc m) bytes page low high t = t.0.kind
+pub tree_kind : (root : Root) (m : ℕ) (bytes : List ℕ) (page low high : ℕ) → IsTree root m bytes page low high → kind_of bytes page ≡ kind_for m
+tree_kind root zero bytes page low high t = t.0.kind
+tree_kind root (suc m) bytes page low high t = t.0.kind
 
 module _ (shape : Shape) (old : List ℕ) (half : ℕ) (long : length old ≡ data_len shape) (half_is : half ≡ index_pages_of shape) (all : half + half ≡ array.page_count shape) (few : half ≤ 16384)
-    (front : Super) (key d page level parent : ℕ) (pairs entries : List Pair) (fits : key < 2 ^ 64) (front_is : IsFront shape front) (read : IsRead shape page level pairs) (above_read : IsRead shape parent (level + 1) entries)
-    (sound : IsSoundTree old) (says : IsFrontOf old front) (way : IsOnWay old key d parent (suc level) entries) (page_is : page ≡ child_for entries key) (pairs_are : pairs ≡ page_pairs old page)
-    (full : length pairs ≡ 30) (room : length entries < 30) (next : front.next_page < index_pages_of shape) where
+    (root : Root) (front after : Super) (taken key d page level parent : ℕ) (pairs entries : List Pair) (fits : key < 2 ^ 64) (entries_long : length front.entries ≡ 256)
+    (read : IsRead shape page level pairs) (above_read : IsRead shape parent (level + 1) entries)
+    (sound : AreSoundTrees old) (table : IsTable old root.table root.page) (says : SaysSuper (page_bytes old 0) front) (takes : TakesPage old front taken after)
+    (way : IsOnWay root old key d parent (suc level) entries) (page_is : page ≡ child_for entries key) (pairs_are : pairs ≡ page_pairs old page)
+    (full : length pairs ≡ 30) (room : length entries < 30) (left : used_pages old < index_pages_of shape) where
   size : length old ≡ 512 * (half + half)
   size = omega (arith, long, all)
 
@@ -67,6 +74,34 @@ module _ (shape : Shape) (old : List ℕ) (half : ℕ) (long : length old ≡ da
   first : first_slot_page old ≡ half
   first = omega (arith, count)
 
+  whole : IsWhole 1 tree_of old
+  whole = whole_of old sound
+
+  root_sound : IsSoundTree root old
+  root_sound = table_sound old root sound table
+
+  given_most : next_page old ≤ half
+  given_most = omega (arith, whole.front.pages, first)
+
+  free_few : free_pages old + 2 ≤ next_page old
+  free_few = (whole_counts 1 tree_of old whole).free_pages_few
+
+  took_none : HasTaken old 0 front
+  took_none = taken_none old front says whole.pages
+
+  due : taken ≡ page_due old 0
+  due = takes.due ∙ page_is_due old 0 front whole.pages took_none
+
+  took : HasTaken old 1 after
+  took = subst (λ (f : Super). HasTaken old 1 f) (sym takes.after_is) (taken_one old 0 front whole.pages took_none)
+
+  -- the page that is taken: it is a given page that is free, or the next
+  taken_in : (2 ≤ taken) × (taken < half) × (taken < next_page old + (1 - free_pages old))
+  taken_in = elim (cases_lt 0 (free_pages old)) [
+    | inl some ↦ let f = due_free old whole.pages 0 some in (omega (arith, due, f.1), omega (arith, due, f.2, given_most), omega (arith, due, f.2))
+    | inr none ↦ let f = due_next old whole.pages 0 (omega (arith, none)) in (omega (arith, due, f, whole.front.some_pages), omega (arith, due, f, none, left, half_is), omega (arith, due, f, none))
+  ]
+
   lower : List ℕ
   lower = written_page level 0 (take 15 pairs)
 
@@ -74,10 +109,10 @@ module _ (shape : Shape) (old : List ℕ) (half : ℕ) (long : length old ≡ da
   upper = written_page level 0 (drop 15 pairs)
 
   named : List ℕ
-  named = written_page (level + 1) 0 (inserted entries (key_at pairs 15) front.next_page)
+  named = written_page (level + 1) 0 (inserted entries (key_at pairs 15) taken)
 
-  counts : List ℕ
-  counts = count_bytes front.next_slot (front.next_page + 1)
+  part : List ℕ
+  part = part_bytes after
 
   lower_few : length (take 15 pairs) ≤ 30
   lower_few = omega (arith, length-take-le 15 pairs (omega arith))
@@ -85,36 +120,33 @@ module _ (shape : Shape) (old : List ℕ) (half : ℕ) (long : length old ≡ da
   upper_few : length (drop 15 pairs) ≤ 30
   upper_few = omega (arith, length-drop 15 pairs)
 
-  named_few : length (inserted entries (key_at pairs 15) front.next_page) ≤ 30
-  named_few = omega (arith, length-inserted (key_at pairs 15) front.next_page entries)
+  named_few : length (inserted entries (key_at pairs 15) taken) ≤ 30
+  named_few = omega (arith, length-inserted (key_at pairs 15) taken entries)
 
   len1 : length lower ≡ 512
   unfolding lower
-  len1 = length-written_page level 0 (take 15 pairs) lower_few (omega arith)
+  len1 = length-written_page level 0 (take 15 pairs) lower_few (omega (arith, read.level_most))
 
   len2 : length upper ≡ 512
   unfolding upper
-  len2 = length-written_page level 0 (drop 15 pairs) upper_few (omega arith)
+  len2 = length-written_page level 0 (drop 15 pairs) upper_few (omega (arith, read.level_most))
 
   len3 : length named ≡ 512
   unfolding named
-  len3 = length-written_page (level + 1) 0 (inserted entries (key_at pairs 15) front.next_page) named_few (omega arith)
+  len3 = length-written_page (level + 1) 0 (inserted entries (key_at pairs 15) taken) named_few (omega (arith, above_read.level_most))
 
-  len4 : length counts ≡ 8
-  unfolding counts
-  len4 = length-count_bytes front.next_slot (front.next_page + 1)
+  after_long : length after.entries ≡ 256
+  after_long = ap (λ (es : List ℕ). length es) (took.entries_are ∙ sym says.entries) ∙ entries_long
 
-  own_root : IsOwn old 1
-  own_root = (omega arith, omega (arith, sound.0.some_pages))
+  len4 : length part ≡ 280
+  unfolding part
+  len4 = length-part_bytes after after_long
 
-  root_tree : IsTree (above d (suc level)) old 1 0 key_end
-  root_tree = subst (λ (n : ℕ). IsTree n old 1 0 key_end) way.level_is sound.1.1
+  root_tree : IsTree root (above d (suc level)) old root.page 0 key_end
+  root_tree = subst (λ (n : ℕ). IsTree root n old root.page 0 key_end) way.level_is root_sound.2
 
-  parent_way : Way old (suc level) parent key 0 key_end
-  parent_way = subst (λ (x : ℕ). Way old (suc level) x key 0 key_end) (sym way.page_is) (way_of d (suc level) old key 1 0 key_end root_tree (omega arith) (omega arith))
-
-  own_parent : IsOwn old parent
-  own_parent = subst (λ (x : ℕ). IsOwn old x) (sym way.page_is) (way_own d (suc level) old key 1 0 key_end own_root root_tree (omega arith) (omega arith))
+  parent_way : Way root old (suc level) parent key 0 key_end
+  parent_way = subst (λ (x : ℕ). Way root old (suc level) x key 0 key_end) (sym way.page_is) (way_of root d (suc level) old key root.page 0 key_end root_tree (omega arith) (omega (arith, fits)))
 
   entries_some : 1 ≤ length (page_pairs old parent)
   entries_some = omega (arith, parent_way.tree.0.some, length-page_pairs old parent)
@@ -122,59 +154,71 @@ module _ (shape : Shape) (old : List ℕ) (half : ℕ) (long : length old ≡ da
   page_there : page ≡ child_for (page_pairs old parent) key
   page_there = page_is ∙ ap (λ (ps : List Pair). child_for ps key) way.pairs_are
 
-  own_page : (2 ≤ page) × (page < next_page old)
-  own_page = subst (λ (x : ℕ). (2 ≤ x) × (x < next_page old)) (sym page_there) (child_given old (page_pairs old parent) key entries_some parent_way.tree.0.children)
+  parent_under : IsPageOfTree old root.page parent
+  parent_under =
+      subst (λ (x : ℕ). IsPageOfTree old root.page x) (sym way.page_is) (subst (λ (n : ℕ). IsUnder n old (page_for d old root.page key) root.page) (sym way.level_is)
+      (way_under root d (suc level) old key root.page 0 key_end (page_for d old root.page key) root_tree (omega arith) (omega (arith, fits)) (under_self (suc level) old (page_for d old root.page key))))
+
+  page_under : IsPageOfTree old root.page page
+  page_under =
+      let here : IsUnder (suc level) old page parent = inr (subst (λ (x : ℕ). IsUnderSome (IsUnder level old x) (page_pairs old parent)) (sym page_there) (child_under level old (page_pairs old parent) key entries_some)) in
+      subst (λ (n : ℕ). IsUnder n old page root.page) (sym way.level_is)
+      (way_under root d (suc level) old key root.page 0 key_end page root_tree (omega arith) (omega (arith, fits)) (subst (λ (x : ℕ). IsUnder (suc level) old page x) way.page_is here))
+
+  own_parent : (1 ≤ parent) × (parent < next_page old)
+  own_parent = under_own root (level_of old root.page) old parent root.page 0 key_end root_sound.0 root_sound.2 parent_under
+
+  own_page : (1 ≤ page) × (page < next_page old)
+  own_page = under_own root (level_of old root.page) old page root.page 0 key_end root_sound.0 root_sound.2 page_under
+
+  -- no page of the tree is taken
+  fresh : (x : ℕ) → IsPageOfTree old root.page x → x ≢ taken
+  fresh x u same = due_apart old root x 0 whole.pages root_sound u (same ∙ due)
 
   level_parent : level_of old parent ≡ suc level
-  level_parent = tree_level (suc level) old parent parent_way.from parent_way.to parent_way.tree
+  level_parent = tree_level root (suc level) old parent parent_way.from parent_way.to parent_way.tree
 
   start : next_low (page_pairs old parent) parent_way.to ≡ parent_way.from
   start = start_of parent_way.from parent_way.to (page_pairs old parent) entries_some parent_way.tree.0.first
 
-  child : Child level old (page_pairs old parent) parent_way.to key
-  child = child_step level old (page_pairs old parent) parent_way.to key entries_some parent_way.tree.0.children parent_way.tree.1 (omega (arith, start, parent_way.from_key)) parent_way.key_to
+  child : Child root level old (page_pairs old parent) parent_way.to key
+  child = child_step root level old (page_pairs old parent) parent_way.to key entries_some parent_way.tree.0.children parent_way.tree.1 (omega (arith, start, parent_way.from_key)) parent_way.key_to
 
-  page_tree : IsTree level old page child.from child.to
-  page_tree = subst (λ (x : ℕ). IsTree level old x child.from child.to) (sym page_there) child.tree
+  page_tree : IsTree root level old page child.from child.to
+  page_tree = subst (λ (x : ℕ). IsTree root level old x child.from child.to) (sym page_there) child.tree
 
   level_page : level_of old page ≡ level
-  level_page = tree_level level old page child.from child.to page_tree
+  level_page = tree_level root level old page child.from child.to page_tree
 
   other : page ≢ parent
   other same = omega (arith, level_page, level_parent, ap (λ (x : ℕ). level_of old x) same)
 
-  next_is : front.next_page ≡ next_page old
-  next_is = says.pages
-
-  next_below : front.next_page < half
-  next_below = omega (arith, next, half_is)
-
   parts : List Part
-  parts = cutting_parts front page level pairs parent entries
+  parts = cutting_parts after page level pairs taken parent entries
 
   cut : List ℕ
-  cut = applied (cutting_parts front page level pairs parent entries) old
+  cut = applied (cutting_parts after page level pairs taken parent entries) old
 
   fit : AllFit (length old) parts
-  unfolding parts lower upper named counts
-  fit = (omega (arith, len1, size, own_page, next_is, next_below), (omega (arith, len2, size, next_below), (omega (arith, len3, size, own_parent, next_is, next_below), (omega (arith, len4, size, next_below), tt))))
+  unfolding parts lower upper named part
+  fit = (omega (arith, len1, size, own_page, given_most), (omega (arith, len2, size, taken_in), (omega (arith, len3, size, own_parent, given_most), (omega (arith, len4, size, taken_in), tt))))
 
   apart_pages : (x y n m : ℕ) → n ≡ 512 → m ≡ 512 → x ≢ y → Apart (address x 0) n (address y 0) m
   apart_pages x y n m is is' ne = elim (cases_lt x y) [ inl below ↦ inl (omega (arith, is)) | inr behind ↦ inr (omega (arith, is', ne)) ]
 
-  apart_front : (x n m : ℕ) → n ≡ 512 → m ≡ 8 → 1 ≤ x → Apart (address x 0) n (address 0 8) m
+  apart_front : (x n m : ℕ) → n ≡ 512 → m ≡ 280 → 1 ≤ x → Apart (address x 0) n (address 0 8) m
   apart_front x n m is is' some = inr (omega (arith, is', some))
 
   apart : AllApart parts
-  unfolding parts lower upper named counts
+  unfolding parts lower upper named part
   apart = (
     (
-      apart_pages page front.next_page _ _ len1 len2 (λ e. omega (arith, e, own_page, next_is)),
-      (apart_pages page parent _ _ len1 len3 other, (apart_front page _ _ len1 len4 (omega (arith, own_page)), tt)),
+      apart_pages page taken _ _ len1 len2 (fresh page page_under),
+      (apart_pages page parent _ _ len1 len3 other, (apart_front page _ _ len1 len4 own_page.0, tt)),
     ),
     (
-      (apart_pages front.next_page parent _ _ len2 len3 (λ e. omega (arith, e, own_parent, next_is)), (apart_front front.next_page _ _ len2 len4 (omega (arith, front_is.some)), tt)),
-      ((apart_front parent _ _ len3 len4 (omega (arith, own_parent)), tt), (tt, tt)),
+      (apart_pages taken parent _ _ len2 len3 (λ e. fresh parent parent_under (sym e)), (apart_front taken _ _ len2 len4 (omega (arith, taken_in)), tt)),
+      ((apart_front parent _ _ len3 len4 own_parent.0, tt), (tt, tt)),
     ),
   )
 
@@ -197,207 +241,253 @@ module _ (shape : Shape) (old : List ℕ) (half : ℕ) (long : length old ≡ da
   unfolding parts lower
   lower_new = page_at page lower len1 stand.0
 
-  upper_new : page_bytes cut front.next_page ≡ upper
+  upper_new : page_bytes cut taken ≡ upper
   unfolding parts upper
-  upper_new = page_at front.next_page upper len2 stand.1.0
+  upper_new = page_at taken upper len2 stand.1.0
 
   named_new : page_bytes cut parent ≡ named
   unfolding parts named
   named_new = page_at parent named len3 stand.1.1.0
 
-  counts_new : range cut 8 8 ≡ counts
-  unfolding parts counts
-  counts_new = ap (λ (n : ℕ). range cut 8 n) (sym len4) ∙ stand.1.1.1.0
+  part_new : range cut 8 280 ≡ part
+  unfolding parts part
+  part_new = ap (λ (n : ℕ). range cut 8 n) (sym len4) ∙ stand.1.1.1.0
 
-  away : (at n : ℕ) → Apart at n (address page 0) (length lower) → Apart at n (address front.next_page 0) (length upper) → Apart at n (address parent 0) (length named) → Apart at n (address 0 8) (length counts) → range cut at n ≡ range old at n
-  unfolding cut parts lower upper named counts
+  away : (at n : ℕ) → Apart at n (address page 0) (length lower) → Apart at n (address taken 0) (length upper) → Apart at n (address parent 0) (length named) → Apart at n (address 0 8) (length part) → range cut at n ≡ range old at n
+  unfolding cut parts lower upper named part
   away at n a b e f = applied_away parts old at n fit (a, (b, (e, (f, tt))))
 
   zero_new : range cut 0 8 ≡ range old 0 8
-  zero_new = away 0 8 (inl (omega (arith, own_page))) (inl (omega (arith, front_is.some))) (inl (omega (arith, own_parent))) (inl (omega arith))
+  zero_new = away 0 8 (inl (omega (arith, own_page))) (inl (omega (arith, taken_in))) (inl (omega (arith, own_parent))) (inl (omega arith))
 
   -- the other pages and the slots are as they were
-  pub cut_others : (x : ℕ) → 1 ≤ x → x < next_page old → x ≢ parent → x ≢ page → page_bytes (applied (cutting_parts front page level pairs parent entries) old) x ≡ page_bytes old x
-  unfolding page_bytes cut
-  cut_others x some lt no_parent no_page =
+  cut_others : (x : ℕ) → 1 ≤ x → x ≢ parent → x ≢ page → x ≢ taken → page_bytes cut x ≡ page_bytes old x
+  unfolding page_bytes
+  cut_others x some no_parent no_page no_taken =
       let e : 512 * x ≡ address x 0 = omega arith in
-      rw e (away (address x 0) 512 (apart_pages x page 512 _ refl len1 no_page) (apart_pages x front.next_page 512 _ refl len2 (λ s. omega (arith, s, next_is))) (apart_pages x parent 512 _ refl len3 no_parent) (apart_front x 512 _ refl len4 some))
+      rw e (away (address x 0) 512 (apart_pages x page 512 _ refl len1 no_page) (apart_pages x taken 512 _ refl len2 no_taken) (apart_pages x parent 512 _ refl len3 no_parent) (apart_front x 512 _ refl len4 some))
 
-  pub cut_slots : (j : ℕ) → slot_of (applied (cutting_parts front page level pairs parent entries) old) j ≡ slot_of old j
+  pub cut_slots : (j : ℕ) → slot_of (applied (cutting_parts after page level pairs taken parent entries) old) j ≡ slot_of old j
   unfolding slot_of cut
   cut_slots j =
       let place : slot_at cut j ≡ 512 * half + 64 * j = omega (arith, cut_count) in
       let place' : slot_at old j ≡ 512 * half + 64 * j = omega (arith, count) in
       ap (λ (x : ℕ). range cut x 64) place
-      ∙ away (512 * half + 64 * j) 64 (inr (omega (arith, len1, own_page, next_is, next_below))) (inr (omega (arith, len2, next_below))) (inr (omega (arith, len3, own_parent, next_is, next_below))) (inr (omega (arith, len4, next_below)))
+      ∙ away (512 * half + 64 * j) 64 (inr (omega (arith, len1, own_page, given_most))) (inr (omega (arith, len2, taken_in))) (inr (omega (arith, len3, own_parent, given_most))) (inr (omega (arith, len4, taken_in)))
       ∙ ap (λ (x : ℕ). range old x 64) (sym place')
 
-  counted : (next_slot cut ≡ front.next_slot) × (next_page cut ≡ front.next_page + 1) × IsSuper 1 cut
-  unfolding counts
-  counted = super_written 1 old cut half front.next_slot (front.next_page + 1) cut_count few zero_new counts_new (omega (arith, front_is.slots, all)) (omega (arith, front_is.some)) (omega (arith, next_below)) sound.0
+  -- what the super page says then
+  after_next : after.next_page ≡ next_page old + (1 - free_pages old)
+  after_next = took.page_next
+
+  after_most : after.next_page ≤ half
+  after_most = elim (cases_lt 0 (free_pages old)) [ inl some ↦ omega (arith, after_next, some, given_most) | inr none ↦ omega (arith, after_next, none, left, half_is) ]
+
+  same_version : after.version ≡ front.version
+  same_version = took.version_is ∙ sym says.version
+
+  same_form : after.form ≡ front.form
+  same_form = took.form_is ∙ sym says.form
+
+  slots_few : next_slot old ≤ 8 * half
+  slots_few = omega (arith, whole.front.slots, count)
+
+  says_now : SaysSuper (page_bytes cut 0) after
+  unfolding part
+  says_now =
+      super_written old cut front after zero_new part_new says same_version same_form
+      (taken_writable old 1 after whole.slots whole.pages took after_long (omega (arith, slots_few, few)) whole.front.some_pages (omega (arith, given_most, few)))
+
+  front_now : IsSuper 1 cut × (tables_of cut ≡ tables_of old)
+  front_now = super_kept 1 old cut front after half cut_count says says_now same_version same_form (took.entries_are ∙ sym says.entries)
+      (omega (arith, took.slot_next, slots_few)) (omega (arith, says.next_page, after_next)) after_most whole.front
+
+  lists_now : IsAfter old cut 1
+  unfolding cut
+  lists_now = is_after old cut 1 after whole.slots whole.pages took says_now
+      (λ i from less.
+      let f = due_free old whole.pages i less in
+      cut_others (page_due old i) (omega (arith, f.1)) (λ e. free_apart old root (page_due old i) root_sound (subst (λ (x : ℕ). IsPageOfTree old root.page x) (sym e) parent_under) f.3)
+      (λ e. free_apart old root (page_due old i) root_sound (subst (λ (x : ℕ). IsPageOfTree old root.page x) (sym e) page_under) f.3)
+      (λ e. dues_differ old whole.pages 0 i (omega (arith, from)) (sym due ∙ sym e)))
+      (λ j free. cut_slots j)
 
   keeps : Keeps old cut
   unfolding cut
   keeps = record {
-    pages = omega (arith, counted.1, next_is);
-    slots = omega (arith, counted.0, says.slots);
-    carried = λ p lt carries. carries_on old cut p (cut_slots p.1) carries;
+    pages = omega (arith, lists_now.pages_next);
+    slots = omega (arith, lists_now.slots_next);
+    carried = λ t p lt carries. carries_on old cut t p (cut_slots p.1) carries;
   }
-
-  read_pairs : take 15 pairs ≡ take 15 (page_pairs old page)
-  read_pairs = ap (take 15) pairs_are
 
   lower_half : IsHalf old cut page page (take 15 (page_pairs old page))
   unfolding lower
   lower_half = record {
-    kind = ap kind_said lower_new ∙ written_kind level 0 (take 15 pairs) lower_few (omega arith) ∙ sym (tree_kind level old page child.from child.to page_tree);
-    level = ap level_said lower_new ∙ written_level level 0 (take 15 pairs) lower_few (omega arith) ∙ sym level_page;
-    link = ap link_said lower_new ∙ written_link level 0 (take 15 pairs) lower_few (omega arith);
-    pairs_are = ap pairs_said lower_new ∙ written_pairs level 0 (take 15 pairs) lower_few (omega arith) (small_take 15 pairs read.small).0 ∙ ap (take 15) pairs_are;
+    kind = ap kind_said lower_new ∙ written_kind level 0 (take 15 pairs) lower_few (omega (arith, read.level_most)) ∙ sym (tree_kind root level old page child.from child.to page_tree);
+    level = ap level_said lower_new ∙ written_level level 0 (take 15 pairs) lower_few (omega (arith, read.level_most)) ∙ sym level_page;
+    link = ap link_said lower_new ∙ written_link level 0 (take 15 pairs) lower_few (omega (arith, read.level_most));
+    pairs_are = ap pairs_said lower_new ∙ written_pairs level 0 (take 15 pairs) lower_few (omega (arith, read.level_most)) (small_take 15 pairs read.small).0 ∙ ap (take 15) pairs_are;
   }
 
-  upper_half : IsHalf old cut page front.next_page (drop 15 (page_pairs old page))
+  upper_half : IsHalf old cut page taken (drop 15 (page_pairs old page))
   unfolding upper
   upper_half = record {
-    kind = ap kind_said upper_new ∙ written_kind level 0 (drop 15 pairs) upper_few (omega arith) ∙ sym (tree_kind level old page child.from child.to page_tree);
-    level = ap level_said upper_new ∙ written_level level 0 (drop 15 pairs) upper_few (omega arith) ∙ sym level_page;
-    link = ap link_said upper_new ∙ written_link level 0 (drop 15 pairs) upper_few (omega arith);
-    pairs_are = ap pairs_said upper_new ∙ written_pairs level 0 (drop 15 pairs) upper_few (omega arith) (small_take 15 pairs read.small).1 ∙ ap (drop 15) pairs_are;
+    kind = ap kind_said upper_new ∙ written_kind level 0 (drop 15 pairs) upper_few (omega (arith, read.level_most)) ∙ sym (tree_kind root level old page child.from child.to page_tree);
+    level = ap level_said upper_new ∙ written_level level 0 (drop 15 pairs) upper_few (omega (arith, read.level_most)) ∙ sym level_page;
+    link = ap link_said upper_new ∙ written_link level 0 (drop 15 pairs) upper_few (omega (arith, read.level_most));
+    pairs_are = ap pairs_said upper_new ∙ written_pairs level 0 (drop 15 pairs) upper_few (omega (arith, read.level_most)) (small_take 15 pairs read.small).1 ∙ ap (drop 15) pairs_are;
   }
 
-  is_cut : IsCut old cut page page front.next_page
+  is_cut : IsCut old cut page page taken
   is_cut = record { full = ap (λ (ps : List Pair). length ps) (sym pairs_are) ∙ full; left_is = lower_half; right_is = upper_half }
 
-  below_page : (a b : ℕ) → IsTree level old page a b → (x : ℕ) → IsUnder level old x page → x ≢ page → page_bytes cut x ≡ page_bytes old x
-  unfolding cut
+  -- the other pages of the tree
+  tree_others : (x : ℕ) → IsPageOfTree old root.page x → x ≢ parent → x ≢ page → page_bytes cut x ≡ page_bytes old x
+  tree_others x u no_parent no_page =
+      let own = under_own root (level_of old root.page) old x root.page 0 key_end root_sound.0 root_sound.2 u in
+      cut_others x own.0 no_parent no_page (fresh x u)
+
+  under_page : (x : ℕ) → IsUnder level old x page → IsPageOfTree old root.page x
+  under_page x u =
+      let here : IsUnder (suc level) old x parent = inr (child_some (IsUnder level old x) (page_pairs old parent) key entries_some (subst (λ (y : ℕ). IsUnder level old x y) page_there u)) in
+      subst (λ (n : ℕ). IsUnder n old x root.page) (sym way.level_is)
+      (way_under root d (suc level) old key root.page 0 key_end x root_tree (omega arith) (omega (arith, fits)) (subst (λ (y : ℕ). IsUnder (suc level) old x y) way.page_is here))
+
+  below_page : (a b : ℕ) → IsTree root level old page a b → (x : ℕ) → IsUnder level old x page → x ≢ page → page_bytes cut x ≡ page_bytes old x
   below_page a b t x u ne =
-      let own = under_own level old x page a b (omega (arith, own_page.0), own_page.1) t u in
-      let sub = sub_of level old x page a b t u in
-      cut_others x own.0 own.1 (λ e. omega (arith, ap (λ (y : ℕ). level_of old y) e, level_parent, tree_level sub.m old x sub.from sub.to sub.tree, sub.most)) ne
+      let sub = sub_of root level old x page a b t u in
+      tree_others x (under_page x u) (λ e. omega (arith, ap (λ (y : ℕ). level_of old y) e, level_parent, tree_level root sub.m old x sub.from sub.to sub.tree, sub.most)) ne
 
-  within : (a b : ℕ) → IsTree level old page a b → (a ≤ key_at (page_pairs old page) 15) × (key_at (page_pairs old page) 15 < b)
-  within a b t = let h = halves old cut keeps level page page front.next_page a b t is_cut (below_page a b t) in (omega (arith, h.above), h.below)
+  within : (a b : ℕ) → IsTree root level old page a b → (a ≤ key_at (page_pairs old page) 15) × (key_at (page_pairs old page) 15 < b)
+  within a b t = let h = halves root old cut keeps level page page taken a b t is_cut (below_page a b t) in (omega (arith, h.above), h.below)
 
-  named_small : AreSmall (inserted entries (key_at pairs 15) front.next_page)
-  named_small = small_inserted (key_at pairs 15) front.next_page entries above_read.small (small_at 15 pairs (omega arith) read.small) (omega (arith, next_below))
+  named_small : AreSmall (inserted entries (key_at pairs 15) taken)
+  named_small = small_inserted (key_at pairs 15) taken entries above_read.small (small_at 15 pairs (omega (arith, full)) read.small) (omega (arith, taken_in, few))
 
   one_more : level + 1 ≡ suc level
   one_more = omega arith
 
-  named_pairs : page_pairs cut parent ≡ with_entry (page_pairs old parent) key (middle old page, front.next_page)
+  named_pairs : page_pairs cut parent ≡ with_entry (page_pairs old parent) key (middle old page, taken)
   unfolding named
   named_pairs =
-      ap pairs_said named_new ∙ written_pairs (level + 1) 0 (inserted entries (key_at pairs 15) front.next_page) named_few (omega arith) named_small
-      ∙ ap (λ (ps : List Pair). inserted entries (key_at ps 15) front.next_page) pairs_are ∙ ap (λ (ps : List Pair). inserted ps (key_at (page_pairs old page) 15) front.next_page) way.pairs_are
-      ∙ with_inserted level old (page_pairs old parent) parent_way.to key (key_at (page_pairs old page) 15) front.next_page entries_some parent_way.tree.0.children parent_way.tree.1 (omega (arith, start, parent_way.from_key)) parent_way.key_to
-      (λ a b t. within a b (subst (λ (x : ℕ). IsTree level old x a b) (sym page_there) t))
+      ap pairs_said named_new ∙ written_pairs (level + 1) 0 (inserted entries (key_at pairs 15) taken) named_few (omega (arith, above_read.level_most)) named_small
+      ∙ ap (λ (ps : List Pair). inserted entries (key_at ps 15) taken) pairs_are ∙ ap (λ (ps : List Pair). inserted ps (key_at (page_pairs old page) 15) taken) way.pairs_are
+      ∙ with_inserted root level old (page_pairs old parent) parent_way.to key (key_at (page_pairs old page) 15) taken entries_some parent_way.tree.0.children parent_way.tree.1 (omega (arith, start, parent_way.from_key)) parent_way.key_to
+      (λ a b t. within a b (subst (λ (x : ℕ). IsTree root level old x a b) (sym page_there) t))
 
-  pub cut_splits : SplitsChild old (applied (cutting_parts front page level pairs parent entries) old) parent key front.next_page
-  unfolding cut named
+  cut_splits : SplitsChild root old cut parent key taken
+  unfolding named
   cut_splits = record {
     room = omega (arith, room, ap (λ (ps : List Pair). length ps) way.pairs_are, length-page_pairs old parent);
-    kind = ap kind_said named_new ∙ written_kind (level + 1) 0 (inserted entries (key_at pairs 15) front.next_page) named_few (omega arith) ∙ ap kind_for one_more;
-    level = ap level_said named_new ∙ written_level (level + 1) 0 (inserted entries (key_at pairs 15) front.next_page) named_few (omega arith) ∙ one_more ∙ sym level_parent;
-    link = ap link_said named_new ∙ written_link (level + 1) 0 (inserted entries (key_at pairs 15) front.next_page) named_few (omega arith);
-    pairs = named_pairs ∙ ap (λ (x : ℕ). with_entry (page_pairs old parent) key (middle old x, front.next_page)) page_there;
-    cut = subst (λ (x : ℕ). IsCut old cut x x front.next_page) page_there is_cut;
-    two = front_is.some;
-    given = omega (arith, counted.1);
+    kind = ap kind_said named_new ∙ written_kind (level + 1) 0 (inserted entries (key_at pairs 15) taken) named_few (omega (arith, above_read.level_most)) ∙ ap kind_for one_more;
+    level = ap level_said named_new ∙ written_level (level + 1) 0 (inserted entries (key_at pairs 15) taken) named_few (omega (arith, above_read.level_most)) ∙ one_more ∙ sym level_parent;
+    link = ap link_said named_new ∙ written_link (level + 1) 0 (inserted entries (key_at pairs 15) taken) named_few (omega (arith, above_read.level_most));
+    pairs = named_pairs ∙ ap (λ (x : ℕ). with_entry (page_pairs old parent) key (middle old x, taken)) page_there;
+    cut = subst (λ (x : ℕ). IsCut old cut x x taken) page_there is_cut;
+    two = taken_in.0;
+    other = λ e. fresh root.page (under_self (level_of old root.page) old root.page) (sym e);
+    given = omega (arith, lists_now.pages_next, taken_in.2);
   }
 
-  others_there : (x : ℕ) → 1 ≤ x → x < next_page old → x ≢ parent → x ≢ child_for (page_pairs old parent) key → page_bytes cut x ≡ page_bytes old x
-  unfolding cut
-  others_there x some lt no_parent no_child = cut_others x some lt no_parent (λ e. no_child (e ∙ page_there))
+  splits_there : SplitsChild root old cut (page_for d old root.page key) key taken
+  splits_there = subst (λ (q : ℕ). SplitsChild root old cut q key taken) way.page_is cut_splits
 
-  -- the data is sound and has the same pairs
-  pub cut_sound : IsSoundTree (applied (cutting_parts front page level pairs parent entries) old) × (pairs_of_tree (applied (cutting_parts front page level pairs parent entries) old) ≡ pairs_of_tree old)
-  unfolding cut
-  cut_sound =
-      sound_tree_splits old cut d level key front.next_page sound keeps counted.2 fits way.level_is
-      (subst (λ (q : ℕ). SplitsChild old cut q key front.next_page) way.page_is cut_splits)
-      (subst (λ (q : ℕ). (x : ℕ) → 1 ≤ x → x < next_page old → x ≢ q → x ≢ child_for (page_pairs old q) key → page_bytes cut x ≡ page_bytes old x) way.page_is others_there)
+  others_there : (x : ℕ) → IsPageOfTree old root.page x → x ≢ page_for d old root.page key → x ≢ child_for (page_pairs old (page_for d old root.page key)) key → page_bytes cut x ≡ page_bytes old x
+  others_there = subst (λ (q : ℕ). (x : ℕ) → IsPageOfTree old root.page x → x ≢ q → x ≢ child_for (page_pairs old q) key → page_bytes cut x ≡ page_bytes old x) way.page_is
+      (λ x u no_parent no_child. tree_others x u no_parent (λ e. no_child (e ∙ page_there)))
 
-  pub cut_counts : (next_slot (applied (cutting_parts front page level pairs parent entries) old) ≡ next_slot old) × (next_page (applied (cutting_parts front page level pairs parent entries) old) ≡ suc (next_page old))
-      × (length (applied (cutting_parts front page level pairs parent entries) old) ≡ length old)
-  unfolding cut
-  cut_counts = (counted.0 ∙ says.slots, counted.1 ∙ (let e : front.next_page + 1 ≡ suc (next_page old) = omega (arith, next_is) in e), cut_long)
+  -- the tree is sound and has the same pairs, and all its pages
+  cut_tree : IsSoundTree root cut × (pairs_of_tree cut root.page ≡ pairs_of_tree old root.page) × (level_of cut root.page ≡ level_of old root.page)
+  cut_tree = sound_tree_splits root old cut d level key taken root_sound keeps (omega (arith, fits)) way.level_is splits_there others_there
 
-  -- the root keeps its level
-  pub cut_level : level_of (applied (cutting_parts front page level pairs parent entries) old) 1 ≡ level_of old 1
-  unfolding cut
-  cut_level = elim (eqb_tells 1 parent) [
-    | inl same ↦ subst (λ (q : ℕ). level_of cut q ≡ level_of old q) (sym same.1) cut_splits.level
-    | inr far ↦ ap level_said (cut_others 1 (omega arith) own_root.1 far.1 (λ e. omega (arith, e, own_page.0)))
-  ]
+  stays : StaysSplit root old cut d key taken
+  stays = tree_stays_split root old cut d level key taken root_sound keeps (omega (arith, fits)) way.level_is splits_there others_there
 
-  above_same : (x : ℕ) → IsOwn old x → suc level < level_of old x → page_pairs cut x ≡ page_pairs old x
-  unfolding cut
-  above_same x own high =
-      ap pairs_said (cut_others x own.0 own.1 (λ e. omega (arith, high, level_parent, ap (λ (y : ℕ). level_of old y) e)) (λ e. omega (arith, high, level_page, ap (λ (y : ℕ). level_of old y) e)))
+  -- the pages of other trees are as they were
+  tables_others : (two : Root) → IsTable old two.table two.page → two.page ≢ root.page → (x : ℕ) → IsPageOfTree old two.page x → page_bytes cut x ≡ page_bytes old x
+  tables_others two is differ x u =
+      let t = table_sound old two sound is in
+      let own = under_own two (level_of old two.page) old x two.page 0 key_end t.0 t.2 u in
+      cut_others x own.0
+      (λ e. tables_apart old two root x sound is table differ u (subst (λ (y : ℕ). IsPageOfTree old root.page y) (sym e) parent_under))
+      (λ e. tables_apart old two root x sound is table differ u (subst (λ (y : ℕ). IsPageOfTree old root.page y) (sym e) page_under))
+      (λ e. due_apart old two x 0 whole.pages t u (e ∙ due))
 
-  -- the parent is still on the key's way
-  pub parent_there : parent ≡ page_for d (applied (cutting_parts front page level pairs parent entries) old) 1 key
+  pub cut_sound : AreSoundTrees (applied (cutting_parts after page level pairs taken parent entries) old)
   unfolding cut
-  parent_there = way.page_is ∙ sym (way_same (suc level) old cut above_same d key 1 0 key_end root_tree own_root (omega arith) fits)
-
-  cut_tree : IsTree (above d (suc level)) cut 1 0 key_end
-  unfolding cut
-  cut_tree = subst (λ (n : ℕ). IsTree n cut 1 0 key_end) (cut_level ∙ way.level_is) cut_sound.0.1.1
-
-  below_half : (x : ℕ) → IsUnder level cut x front.next_page → IsUnder (level_of cut 1) cut x 1
-  unfolding cut
-  below_half x u =
-      let level_child : level_of old (child_for (page_pairs old parent) key) ≡ level = ap (λ (q : ℕ). level_of old q) (sym page_there) ∙ level_page in
-      let named = half_named old cut level parent key front.next_page cut_splits level_parent level_child (λ q own no_parent no_child. others_there q own.0 own.1 no_parent no_child) x entries_some u in
-      subst (λ (n : ℕ). IsUnder n cut x 1) (sym (cut_level ∙ way.level_is))
-      (under_way d (suc level) cut key 1 0 key_end x cut_tree (omega arith) fits (subst (λ (q : ℕ). IsUnder (suc level) cut x q) parent_there named))
-
-  pub cut_stays : (x : ℕ) → IsUnder (level_of old 1) old x 1 → IsUnder (level_of (applied (cutting_parts front page level pairs parent entries) old) 1) (applied (cutting_parts front page level pairs parent entries) old) x 1
-  unfolding cut
-  cut_stays x u =
-      let level_child : level_of old (child_for (page_pairs old parent) key) ≡ level = ap (λ (q : ℕ). level_of old q) (sym page_there) ∙ level_page in
-      elim (split_stays old cut level parent key front.next_page cut_splits level_parent level_child (λ q own no_parent no_child. others_there q own.0 own.1 no_parent no_child) (level_of old 1) 1 0 key_end x own_root sound.1.1 u) [
-        | inl a ↦ subst (λ (n : ℕ). IsUnder n cut x 1) (sym cut_level) a
-        | inr a ↦ below_half x a
-      ]
+  cut_sound = one_changed old cut root sound table front_now.0 lists_now.slots lists_now.pages front_now.1 keeps cut_tree.0 tables_others
 
   -- what splitting a page does to the data
-  pub cutting_grows : Grows tree old (applied (cutting_parts front page level pairs parent entries) old) × Rests tree old (applied (cutting_parts front page level pairs parent entries) old)
+  pub cutting_grows : Grows tree root.page old (applied (cutting_parts after page level pairs taken parent entries) old) × Rests tree root.page old (applied (cutting_parts after page level pairs taken parent entries) old)
   unfolding cut
   cutting_grows = (
     record {
-      sound = cut_sound.0;
+      sound = cut_sound;
       size = cut_long;
-      slots = λ j lt. cut_slots j;
-      later = omega (arith, counted.1, next_is);
-      few = omega (arith, counted.1, next_is);
-      named = λ x from to. subst (λ (y : ℕ). IsUnder (level_of cut 1) cut y 1) (let e : front.next_page ≡ x = omega (arith, counted.1, next_is) in e) (below_half front.next_page (under_self level cut front.next_page));
-      kept = cut_stays;
-      levels = omega (arith, cut_level);
+      version = version_kept old cut zero_new;
+      tables = front_now.1;
+      others = others_untouched old cut root sound table front_now.0 lists_now.slots lists_now.pages front_now.1 keeps cut_tree.0 tables_others;
+      slots = λ j lt ne. cut_slots j;
+      later = omega (arith, lists_now.pages_next);
+      few = omega (arith, lists_now.pages_next);
+      free_pages_fall = omega (arith, lists_now.pages_free);
+      named = λ x from to. subst (λ (y : ℕ). IsPageOfTree cut root.page y) (next_is x from to) stays.named;
+      taken = λ x free. elim (after_free old cut 1 lists_now x free) [
+        | inl still ↦ inl still
+        | inr now ↦ inr (subst (λ (y : ℕ). IsPageOfTree cut root.page y) (due ∙ ap (λ (i : ℕ). page_due old i) (let z : 0 ≡ now.0 = omega (arith, now.1) in z) ∙ now.2) stays.named)
+      ];
+      kept = stays.stay;
+      levels = omega (arith, stays.level);
     },
-    record { pairs = cut_sound.1; slots = counted.0 ∙ says.slots },
+    record {
+      pairs = cut_tree.1;
+      slots = after_slots old cut 1 lists_now;
+      due = after_due old cut 1 lists_now;
+      same = cut_slots (slot_due old);
+    },
   )
+    where
+      next_is : (x : ℕ) → next_page old ≤ x → x < next_page cut → taken ≡ x
+      next_is x from to =
+          let none : free_pages old ≤ 0 = omega (arith, lists_now.pages_next, from, to) in
+          let f = due_next old whole.pages 0 none in
+          omega (arith, due, f, lists_now.pages_next, from, to)
+
+  pub cut_after : IsAfter old (applied (cutting_parts after page level pairs taken parent entries) old) 1
+  unfolding cut
+  cut_after = lists_now
+
+  pub cut_says : SaysSuper (page_bytes (applied (cutting_parts after page level pairs taken parent entries) old) 0) after
+  unfolding cut
+  cut_says = says_now
+
+  pub cut_size : length (applied (cutting_parts after page level pairs taken parent entries) old) ≡ length old
+  unfolding cut
+  cut_size = cut_long
+
+  -- the page that is taken is the one that is due
+  pub cut_due : taken ≡ page_due old 0
+  cut_due = due
+
+  -- one page less is left
+  pub cut_used : used_pages (applied (cutting_parts after page level pairs taken parent entries) old) ≡ used_pages old + 1
+  unfolding cut
+  cut_used = after_pages old cut 1 lists_now (omega (arith, free_few))
+
+  -- the root keeps its level
+  pub cut_level : level_of (applied (cutting_parts after page level pairs taken parent entries) old) root.page ≡ level_of old root.page
+  unfolding cut
+  cut_level = stays.level
 
   -- the half that has the key is now on its way, and has room
-  pub half_there : half_for (page_pairs old page) page front.next_page key ≡ page_for (suc d) (applied (cutting_parts front page level pairs parent entries) old) 1 key
+  pub half_there : half_for (page_pairs old page) page taken key ≡ page_for (suc d) (applied (cutting_parts after page level pairs taken parent entries) old) root.page key
   unfolding cut
   half_there =
-      ap (λ (x : ℕ). if nat_lt key (key_at (page_pairs old page) 15) then x else front.next_page) page_there
-      ∙ sym (page_for_last d cut 1 key ∙ ap (λ (q : ℕ). child_for (page_pairs cut q) key) (sym parent_there) ∙ ap (λ (ps : List Pair). child_for ps key) named_pairs
-      ∙ entry_child (page_pairs old parent) key (middle old page) front.next_page entries_some)
+      ap (λ (x : ℕ). if nat_lt key (key_at (page_pairs old page) 15) then x else taken) page_there
+      ∙ sym (page_for_last d cut root.page key ∙ ap (λ (q : ℕ). child_for (page_pairs cut q) key) (stays.way ∙ sym way.page_is) ∙ ap (λ (ps : List Pair). child_for ps key) named_pairs
+      ∙ entry_child (page_pairs old parent) key (middle old page) taken entries_some)
 
-  pub half_room : count_of (applied (cutting_parts front page level pairs parent entries) old) (half_for (page_pairs old page) page front.next_page key) ≡ 15
-  unfolding cut
-  half_room = elim (leb_tells (suc key) (key_at (page_pairs old page) 15)) [
-    | inl h ↦
-        let b : nat_lt key (key_at (page_pairs old page) 15) ≡ true = h.0 in
-        rw b (sym (length-page_pairs cut page) ∙ ap (λ (ps : List Pair). length ps) lower_half.pairs_are ∙ length-take-le 15 (page_pairs old page) (omega (arith, is_cut.full)))
-    | inr h ↦
-        let b : nat_lt key (key_at (page_pairs old page) 15) ≡ false = h.0 in
-        rw b (sym (length-page_pairs cut front.next_page) ∙ ap (λ (ps : List Pair). length ps) upper_half.pairs_are ∙ (let e : length (drop 15 (page_pairs old page)) ≡ 15 = omega (arith, length-drop 15 (page_pairs old page), is_cut.full) in e))
-  ]
-
-  pub half_says : page_pairs (applied (cutting_parts front page level pairs parent entries) old) (half_for (page_pairs old page) page front.next_page key) ≡ half_pairs (page_pairs old page) key
+  pub half_says : page_pairs (applied (cutting_parts after page level pairs taken parent entries) old) (half_for (page_pairs old page) page taken key) ≡ half_pairs (page_pairs old page) key
   unfolding cut
   half_says = elim (leb_tells (suc key) (key_at (page_pairs old page) 15)) [
     | inl h ↦ let b : nat_lt key (key_at (page_pairs old page) 15) ≡ true = h.0 in rw b lower_half.pairs_are
@@ -405,11 +495,11 @@ module _ (shape : Shape) (old : List ℕ) (half : ℕ) (long : length old ≡ da
   ]
 
   -- what is left to do after the split is what is to do from that half on
-  pub half_left : actions_below level (applied (cutting_parts front page level pairs parent entries) old) (half_for (page_pairs old page) page front.next_page key)
-      (half_for (page_pairs old page) page front.next_page key) (next_page (applied (cutting_parts front page level pairs parent entries) old)) key
-      ≡ actions_below level old page (half_for (page_pairs old page) page front.next_page key) (suc (next_page old)) key
+  pub half_left : actions_below level (applied (cutting_parts after page level pairs taken parent entries) old) (half_for (page_pairs old page) page taken key)
+      (half_for (page_pairs old page) page taken key) 0 key
+      ≡ actions_below level old page (half_for (page_pairs old page) page taken key) 1 key
   unfolding cut
   half_left =
-      half_actions old cut (counted.0 ∙ says.slots) cut_long page page front.next_page key is_cut level child.from child.to page_tree child.from_key child.key_to (below_page child.from child.to page_tree)
-      (half_for (page_pairs old page) page front.next_page key) (next_page cut)
-      ∙ ap (λ (n : ℕ). actions_below level old page (half_for (page_pairs old page) page front.next_page key) n key) cut_counts.1
+      half_actions root old cut 1 (after_due old cut 1 lists_now) cut_long lists_now.due page page taken key is_cut level child.from child.to page_tree child.from_key child.key_to (below_page child.from child.to page_tree)
+      (half_for (page_pairs old page) page taken key) 0
+      ∙ ap (λ (n : ℕ). actions_below level old page (half_for (page_pairs old page) page taken key) n key) (let z : 1 + 0 ≡ 1 = omega arith in z)

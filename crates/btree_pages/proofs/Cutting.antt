@@ -1,14 +1,8 @@
--- Keys and children among pairs, one by one.
+-- Children among pairs, one by one.
 use Rattle.std.proofs.Common.{◌≡◌, ◌+◌, ◌-◌, ◌<◌, ◌≤◌, ℕ, zero, suc, false, nat_lt, List, [], ◌∷◌, length, get_or, drop, refl, ◌∙◌, ap, subst, arith}
 use Rattle.std.proofs.lemmas.Bool.Decides.{nat_tests}
 use Rattle.page_store.specs.Pairs.{Pair}
-use Rattle.index_pages.specs.Keys.{key_at}
-use Rattle.btree_pages.specs.Descent.{child_for}
-
-pub get_key : (ps : List Pair) (n : ℕ) → (get_or ps n (0, 0)).0 ≡ key_at ps n
-get_key [] n = refl
-get_key (p ∷ ps) zero = refl
-get_key (p ∷ ps) (suc n) = get_key ps n
+use Rattle.btree_laws.specs.Descent.{child_for}
 
 -- the search for a key's child moves to the next entry
 child_on : (ps : List Pair) (i key : ℕ) → suc i < length ps → (get_or ps (suc i) (0, 0)).0 ≤ key → child_for (drop i ps) key ≡ child_for (drop (suc i) ps) key

@@ -11,35 +11,36 @@ use Rattle.index_pages.specs.Pieces.{joined}
 use Rattle.index_pages.proofs.PageFacts.{length-page_pairs}
 use Rattle.index_pages.proofs.Rising.{next-append, next-head, next-right}
 use Rattle.index_pages.proofs.Tiling.{tile_bounds, joined_rises}
-use Rattle.btree_pages.specs.Descent.{child_for, page_for, leaf_for}
-use Rattle.btree_pages.specs.Leaf.{bound_in, from_bound, IsBegin, AtLeaf}
+use Rattle.btree_laws.proofs.Apart.{child_facts, entries_tile, start_of, tree_some}
+use Rattle.btree_laws.proofs.Ways.{child_given, found_on_way}
+use Rattle.btree_laws.specs.Descent.{child_for, leaf_for, page_for}
+use Rattle.btree_laws.specs.Sound.{AreBelow, AreSound, IsSoundTree, IsTree}
+use Rattle.btree_laws.specs.Tree.{next_low, pairs_of_tree, pairs_under, pieces_with}
+use Rattle.btree_laws.specs.TreeFacts.{tree_level}
+use Rattle.btree_pages.specs.Leaf.{AtLeaf, IsBegin, bound_in, from_bound}
 use Rattle.btree_pages.specs.Node.{IsNode}
-use Rattle.btree_pages.specs.Tree.{AreChildren, next_low, pieces_with, pairs_under, IsSoundTree, pairs_of_tree, tree_from}
-use Rattle.btree_pages.specs.Sound.{AreSound, IsTree, slots_seen}
-use Rattle.btree_pages.proofs.Apart.{tree_some, child_facts, entries_tile, start_of}
-use Rattle.btree_pages.proofs.Ways.{found_on_way, child_given}
-use Rattle.btree_pages.specs.TreeFacts.{tree_level}
+use Rattle.btree_laws.specs.declared.root.Root.{Root}
 
 -- the entries after that of a key's child, whose range ends at their bound, and the pairs under them
-abbrev pub Behind : ℕ → List ℕ → List Pair → ℕ → ℕ → ℕ → ℕ → Option ℕ → Type 0
-Behind l bytes es high c from to None =
+abbrev pub Behind : Root → ℕ → List ℕ → List Pair → ℕ → ℕ → ℕ → ℕ → Option ℕ → Type 0
+Behind root l bytes es high c from to None =
     (to ≡ high) × ((k : ℕ) → from ≤ k → k < to → next (joined (pieces_with (pairs_under l bytes) es)) k ≡ next (pairs_under l bytes c) k)
-Behind l bytes es high c from to (Some b) =
-    (to ≡ b) × (b < high) × (2 ≤ child_for es b) × ((end : ℕ) × IsTree l bytes (child_for es b) b end)
+Behind root l bytes es high c from to (Some b) =
+    (to ≡ b) × (b < high) × (child_for es b ≢ root.page) × ((end : ℕ) × IsTree root l bytes (child_for es b) b end)
     × ((p : Pair) × (next (joined (pieces_with (pairs_under l bytes) es)) b ≡ Some p)
     × ((k : ℕ) → from ≤ k → k < to → next (joined (pieces_with (pairs_under l bytes) es)) k ≡ or_else (next (pairs_under l bytes c) k) (Some p)))
 
 -- the key's child among these entries
-pub record Child (l : ℕ) (bytes : List ℕ) (es : List Pair) (high key : ℕ) : Type 0 where
+pub record Child (root : Root) (l : ℕ) (bytes : List ℕ) (es : List Pair) (high key : ℕ) : Type 0 where
   pub from : ℕ
   pub to : ℕ
-  pub tree : IsTree l bytes (child_for es key) from to
+  pub tree : IsTree root l bytes (child_for es key) from to
   pub above : next_low es high ≤ from
   pub below : to ≤ high
   pub from_key : from ≤ key
   pub key_to : key < to
   pub same : (k : ℕ) → from ≤ k → k < to → child_for es k ≡ child_for es key
-  pub behind : Behind l bytes es high (child_for es key) from to (bound_in es key)
+  pub behind : Behind root l bytes es high (child_for es key) from to (bound_in es key)
 
 -- a list that is not empty has a first element
 head_some : (ps : List Pair) → 1 ≤ length ps → (p : Pair) × (head ps ≡ Some p)
@@ -55,9 +56,9 @@ first_child : (e : Pair) (es : List Pair) (high : ℕ) → e.0 < next_low es hig
 first_child e [] high lt = refl
 first_child e (f ∷ es) high lt = let b : nat_lt e.0 f.0 ≡ true = grind (arith, nat_tests) in rw b refl
 
-pub child_step : (l : ℕ) (bytes : List ℕ) (es : List Pair) (high key : ℕ) → 1 ≤ length es → AreChildren (next_page bytes) es → AreSound (tree_from l bytes) es high → next_low es high ≤ key → key < high → Child l bytes es high key
-child_step l bytes [] high key some are sound le lt = absurd (omega arith)
-child_step l bytes (e ∷ []) high key some are sound le lt = record {
+pub child_step : (root : Root) (l : ℕ) (bytes : List ℕ) (es : List Pair) (high key : ℕ) → 1 ≤ length es → AreBelow root.page (next_page bytes) es → AreSound (IsTree root l bytes) es high → next_low es high ≤ key → key < high → Child root l bytes es high key
+child_step root l bytes [] high key some are sound le lt = absurd (omega arith)
+child_step root l bytes (e ∷ []) high key some are sound le lt = record {
   from = e.0;
   to = high;
   tree = sound.0;
@@ -68,28 +69,28 @@ child_step l bytes (e ∷ []) high key some are sound le lt = record {
   same = λ k a b. refl;
   behind = (refl, λ k a b. ap (λ (ps : List Pair). next ps k) (append-nil (pairs_under l bytes e.1)));
 }
-child_step l bytes (e ∷ f ∷ es) high key some are sound le lt =
-    let here = child_facts l bytes e.1 e.0 f.0 are.0 sound.0 in
-    let there = child_facts l bytes f.1 f.0 (next_low es high) are.2.0 sound.1.0 in
-    let tile = entries_tile l bytes (f ∷ es) high are.2 sound.1 in
+child_step root l bytes (e ∷ f ∷ es) high key some are sound le lt =
+    let here = child_facts root l bytes e.1 e.0 f.0 are.0.1 sound.0 in
+    let there = child_facts root l bytes f.1 f.0 (next_low es high) are.2.0.1 sound.1.0 in
+    let tile = entries_tile root l bytes (f ∷ es) high are.2 sound.1 in
     let rest = joined_rises f.0 high (pieces_with (pairs_under l bytes) (f ∷ es)) tile in
-    let tail = tile_bounds (next_low es high) high (pieces_with (pairs_under l bytes) es) (entries_tile l bytes es high are.2.2 sound.1.1) in
+    let tail = tile_bounds (next_low es high) high (pieces_with (pairs_under l bytes) es) (entries_tile root l bytes es high are.2.2 sound.1.1) in
     let a : List Pair = pairs_under l bytes e.1 in
     let j : List Pair = joined (pieces_with (pairs_under l bytes) (f ∷ es)) in
     elim (leb_tells (suc key) f.0) [
       | inl h ↦
           let b : nat_lt key f.0 ≡ true = h.0 in
-          let first = head_some (pairs_under l bytes f.1) (tree_some l bytes f.1 f.0 (next_low es high) sound.1.0 (omega (arith, are.2.0))) in
+          let first = head_some (pairs_under l bytes f.1) (tree_some root l bytes f.1 f.0 (next_low es high) sound.1.0 are.2.0.1) in
           let p : Pair = first.0 in
           let is : head (joined (pieces_with (pairs_under l bytes) (f ∷ es))) ≡ Some first.0 = head_append first.0 (pairs_under l bytes f.1) (joined (pieces_with (pairs_under l bytes) es)) first.1 in
           let b' : nat_lt f.0 f.0 ≡ false = grind (arith, nat_tests) in
           let c : child_for (e ∷ f ∷ es) f.0 ≡ f.1 = (rw b' (first_child f es high there.1)) in
           let key_child : child_for (e ∷ f ∷ es) key ≡ e.1 = (rw b refl) in
-          let behind : Behind l bytes (e ∷ f ∷ es) high e.1 e.0 f.0 (Some f.0) = (
+          let behind : Behind root l bytes (e ∷ f ∷ es) high e.1 e.0 f.0 (Some f.0) = (
             refl,
             omega (arith, there.1, tail),
-            subst (λ (x : ℕ). 2 ≤ x) (sym c) are.2.0,
-            (next_low es high, subst (λ (x : ℕ). IsTree l bytes x f.0 (next_low es high)) (sym c) sound.1.0),
+            subst (λ (x : ℕ). x ≢ root.page) (sym c) are.2.0.1,
+            (next_low es high, subst (λ (x : ℕ). IsTree root l bytes x f.0 (next_low es high)) (sym c) sound.1.0),
             (
               first.0,
               next-right e.0 f.0 f.0 (pairs_under l bytes e.1) (joined (pieces_with (pairs_under l bytes) (f ∷ es))) here.0 (omega arith)
@@ -104,18 +105,18 @@ child_step l bytes (e ∷ f ∷ es) high key some are sound le lt =
           record {
             from = e.0;
             to = f.0;
-            tree = subst (λ (x : ℕ). IsTree l bytes x e.0 f.0) (sym key_child) sound.0;
+            tree = subst (λ (x : ℕ). IsTree root l bytes x e.0 f.0) (sym key_child) sound.0;
             above = omega arith;
             below = omega (arith, there.1, tail);
             from_key = le;
             key_to = h.1;
             same = λ k from to. let bk : nat_lt k f.0 ≡ true = grind (arith, nat_tests) in let is' : child_for (e ∷ f ∷ es) k ≡ e.1 = (rw bk refl) in is' ∙ sym key_child;
-            behind = subst (λ (o : Option ℕ). Behind l bytes (e ∷ f ∷ es) high (child_for (e ∷ f ∷ es) key) e.0 f.0 o) (sym bound)
-                (subst (λ (x : ℕ). Behind l bytes (e ∷ f ∷ es) high x e.0 f.0 (Some f.0)) (sym key_child) behind);
+            behind = subst (λ (o : Option ℕ). Behind root l bytes (e ∷ f ∷ es) high (child_for (e ∷ f ∷ es) key) e.0 f.0 o) (sym bound)
+                (subst (λ (x : ℕ). Behind root l bytes (e ∷ f ∷ es) high x e.0 f.0 (Some f.0)) (sym key_child) behind);
           }
       | inr h ↦
           let b : nat_lt key f.0 ≡ false = h.0 in
-          let r = child_step l bytes (f ∷ es) high key (omega arith) are.2 sound.1 (omega (arith, h.1)) lt in
+          let r = child_step root l bytes (f ∷ es) high key (omega arith) are.2 sound.1 (omega (arith, h.1)) lt in
           let key_child : child_for (e ∷ f ∷ es) key ≡ child_for (f ∷ es) key = (rw b refl) in
           let bound : bound_in (e ∷ f ∷ es) key ≡ bound_in (f ∷ es) key = (rw b refl) in
           let low : f.0 ≤ r.from = omega (arith, r.above) in
@@ -123,7 +124,7 @@ child_step l bytes (e ∷ f ∷ es) high key some are sound le lt =
           record {
             from = r.from;
             to = r.to;
-            tree = subst (λ (x : ℕ). IsTree l bytes x r.from r.to) (sym key_child) r.tree;
+            tree = subst (λ (x : ℕ). IsTree root l bytes x r.from r.to) (sym key_child) r.tree;
             above = omega (arith, here.1, low);
             below = r.below;
             from_key = r.from_key;
@@ -131,58 +132,58 @@ child_step l bytes (e ∷ f ∷ es) high key some are sound le lt =
             same = λ k from to.
                 let bk : nat_lt k f.0 ≡ false = grind (arith, nat_tests) in
                 let is' : child_for (e ∷ f ∷ es) k ≡ child_for (f ∷ es) k = (rw bk refl) in is' ∙ r.same k from to ∙ sym key_child;
-            behind = subst (λ (o : Option ℕ). Behind l bytes (e ∷ f ∷ es) high (child_for (e ∷ f ∷ es) key) r.from r.to o) (sym bound)
-                (subst (λ (x : ℕ). Behind l bytes (e ∷ f ∷ es) high x r.from r.to (bound_in (f ∷ es) key)) (sym key_child)
+            behind = subst (λ (o : Option ℕ). Behind root l bytes (e ∷ f ∷ es) high (child_for (e ∷ f ∷ es) key) r.from r.to o) (sym bound)
+                (subst (λ (x : ℕ). Behind root l bytes (e ∷ f ∷ es) high x r.from r.to (bound_in (f ∷ es) key)) (sym key_child)
                 (wider (child_for (f ∷ es) key) (bound_in (f ∷ es) key) r.from r.to f.0 (omega (arith, r.from_key, r.key_to)) low next_is r.behind));
           }
     ]
   where
     wider : (c : ℕ) (o : Option ℕ) (from to f0 : ℕ) → from < to → f.0 ≤ from → ((k : ℕ) → from ≤ k → next (joined (pieces_with (pairs_under l bytes) (e ∷ f ∷ es))) k ≡ next (joined (pieces_with (pairs_under l bytes) (f ∷ es))) k)
-        → Behind l bytes (f ∷ es) high c from to o → Behind l bytes (e ∷ f ∷ es) high c from to o
+        → Behind root l bytes (f ∷ es) high c from to o → Behind root l bytes (e ∷ f ∷ es) high c from to o
     wider c None from to f0 wide low next_is b = (b.0, λ k from' to'. next_is k from' ∙ b.1 k from' to')
     wider c (Some x) from to f0 wide low next_is b =
         let bx : nat_lt x f.0 ≡ false = grind (arith, nat_tests, b.0, wide, low) in
         let c : child_for (e ∷ f ∷ es) x ≡ child_for (f ∷ es) x = (rw bx refl) in (
           b.0,
           b.1,
-          subst (λ (y : ℕ). 2 ≤ y) (sym c) b.2,
-          (b.3.0, subst (λ (y : ℕ). IsTree l bytes y x b.3.0) (sym c) b.3.1),
+          subst (λ (y : ℕ). y ≢ root.page) (sym c) b.2,
+          (b.3.0, subst (λ (y : ℕ). IsTree root l bytes y x b.3.0) (sym c) b.3.1),
           (b.4.0, next_is x (omega (arith, b.0, wide)) ∙ b.4.1, λ k from' to'. next_is k from' ∙ b.4.2 k from' to'),
         )
 
 -- the way to the lower bound of a page ends at a leaf that begins there
-first_begins : (m : ℕ) (bytes : List ℕ) → ((q low high : ℕ) → 2 ≤ q → IsTree m bytes q low high → next (page_pairs bytes (page_for m bytes q low)) low ≢ None)
-    → (es : List Pair) (low high : ℕ) → 1 ≤ length es → next_low es high ≡ low → AreChildren (next_page bytes) es → AreSound (tree_from m bytes) es high → next (page_pairs bytes (page_for m bytes (child_for es low) low)) low ≢ None
-first_begins m bytes ih [] low high some start are sound none = absurd (omega arith)
-first_begins m bytes ih (e ∷ es) low high some start are sound none =
-    let wide = child_facts m bytes e.1 e.0 (next_low es high) are.0 sound.0 in
+first_begins : (root : Root) (m : ℕ) (bytes : List ℕ) → ((q low high : ℕ) → q ≢ root.page → IsTree root m bytes q low high → next (page_pairs bytes (page_for m bytes q low)) low ≢ None)
+    → (es : List Pair) (low high : ℕ) → 1 ≤ length es → next_low es high ≡ low → AreBelow root.page (next_page bytes) es → AreSound (IsTree root m bytes) es high → next (page_pairs bytes (page_for m bytes (child_for es low) low)) low ≢ None
+first_begins root m bytes ih [] low high some start are sound none = absurd (omega arith)
+first_begins root m bytes ih (e ∷ es) low high some start are sound none =
+    let wide = child_facts root m bytes e.1 e.0 (next_low es high) are.0.1 sound.0 in
     let c : child_for (e ∷ es) low ≡ e.1 = ap (λ (k : ℕ). child_for (e ∷ es) k) (sym start) ∙ first_child e es high wide.1 in
-    ih e.1 low (next_low es high) are.0 (subst (λ (k : ℕ). IsTree m bytes e.1 k (next_low es high)) start sound.0)
+    ih e.1 low (next_low es high) are.0.1 (subst (λ (k : ℕ). IsTree root m bytes e.1 k (next_low es high)) start sound.0)
     (ap (λ (x : ℕ). next (page_pairs bytes (page_for m bytes x low)) low) (sym c) ∙ none)
 
-leaf_begins : (m : ℕ) (bytes : List ℕ) (q low high : ℕ) → 2 ≤ q → IsTree m bytes q low high → next (page_pairs bytes (page_for m bytes q low)) low ≢ None
-leaf_begins zero bytes q low high two t = λ none.
-    let first = head_some (page_pairs bytes q) (omega (arith, t.0.some (omega (arith, two)), length-page_pairs bytes q)) in
+leaf_begins : (root : Root) (m : ℕ) (bytes : List ℕ) (q low high : ℕ) → q ≢ root.page → IsTree root m bytes q low high → next (page_pairs bytes (page_for m bytes q low)) low ≢ None
+leaf_begins root zero bytes q low high other t = λ none.
+    let first = head_some (page_pairs bytes q) (omega (arith, t.0.some other, length-page_pairs bytes q)) in
     let e : next (page_pairs bytes q) low ≡ Some first.0 = next-head low high low (page_pairs bytes q) t.0.rises (omega arith) ∙ first.1 in
     absurd (cc)
-leaf_begins (suc m) bytes q low high two t =
+leaf_begins root (suc m) bytes q low high other t =
     let some : 1 ≤ length (page_pairs bytes q) = omega (arith, t.0.some, length-page_pairs bytes q) in
-    first_begins m bytes (leaf_begins m bytes) (page_pairs bytes q) low high some (start_of low high (page_pairs bytes q) some t.0.first) t.0.children t.1
+    first_begins root m bytes (leaf_begins root m bytes) (page_pairs bytes q) low high some (start_of low high (page_pairs bytes q) some t.0.first) t.0.children t.1
 
 -- after so many steps down, this page decides for all keys in its range, of which the key is one
-pub record Down (bytes : List ℕ) (key steps page : ℕ) (bound : Option ℕ) : Type 0 where
+pub record Down (root : Root) (bytes : List ℕ) (key steps page : ℕ) (bound : Option ℕ) : Type 0 where
   pub m : ℕ
   pub low : ℕ
   pub high : ℕ
-  pub tree : IsTree m bytes page low high
+  pub tree : IsTree root m bytes page low high
   pub from : low ≤ key
   pub to : key < high
   pub left : m + steps ≤ 7
   pub inside : page < next_page bytes
-  pub way : (k : ℕ) → low ≤ k → k < high → leaf_for bytes k ≡ page_for m bytes page k
-  pub finds : (k : ℕ) → low ≤ k → k < high → found (pairs_of_tree bytes) k ≡ found (pairs_under m bytes page) k
-  pub nexts : (k : ℕ) → low ≤ k → k < high → next (pairs_of_tree bytes) k ≡ or_else (next (pairs_under m bytes page) k) (from_bound bytes bound)
-  pub begins : IsBegin bytes bound
+  pub way : (k : ℕ) → low ≤ k → k < high → leaf_for bytes root.page k ≡ page_for m bytes page k
+  pub finds : (k : ℕ) → low ≤ k → k < high → found (pairs_of_tree bytes root.page) k ≡ found (pairs_under m bytes page) k
+  pub nexts : (k : ℕ) → low ≤ k → k < high → next (pairs_of_tree bytes root.page) k ≡ or_else (next (pairs_under m bytes page) k) (from_bound root bytes bound)
+  pub begins : IsBegin root bytes bound
 
 or_none : (o : Option Pair) → or_else o None ≡ o
 or_none None = refl
@@ -192,51 +193,51 @@ or_or : (o : Option Pair) (p : Pair) (rest : Option Pair) → or_else (or_else o
 or_or None p rest = refl
 or_or (Some q) p rest = refl
 
-pub down_first : (bytes : List ℕ) (key : ℕ) → IsSoundTree bytes → key < key_end → Down bytes key 0 1 None
+pub down_first : (root : Root) (bytes : List ℕ) (key : ℕ) → IsSoundTree root bytes → key < key_end → Down root bytes key 0 root.page None
 unfolding pairs_of_tree
-down_first bytes key sound lt = record {
-  m = level_of bytes 1;
+down_first root bytes key sound lt = record {
+  m = level_of bytes root.page;
   low = 0;
   high = key_end;
-  tree = sound.1.1;
+  tree = sound.2;
   from = omega arith;
   to = lt;
-  left = omega (arith, sound.1.0);
-  inside = omega (arith, sound.0.some_pages);
+  left = omega (arith, sound.1);
+  inside = sound.0.1;
   way = λ k a b. refl;
   finds = λ k a b. refl;
-  nexts = λ k a b. sym (or_none (next (pairs_under (level_of bytes 1) bytes 1) k));
+  nexts = λ k a b. sym (or_none (next (pairs_under (level_of bytes root.page) bytes root.page) k));
   begins = tt;
 }
 
 -- one step down, to the key's child
-module _ (m : ℕ) (bytes : List ℕ) (key steps page low high : ℕ) (bound : Option ℕ) (t : IsTree (suc m) bytes page low high) (from : low ≤ key) (to : key < high) (left : suc m + steps ≤ 7)
-    (way : (k : ℕ) → low ≤ k → k < high → leaf_for bytes k ≡ page_for (suc m) bytes page k)
-    (finds : (k : ℕ) → low ≤ k → k < high → found (pairs_of_tree bytes) k ≡ found (pairs_under (suc m) bytes page) k)
-    (nexts : (k : ℕ) → low ≤ k → k < high → next (pairs_of_tree bytes) k ≡ or_else (next (pairs_under (suc m) bytes page) k) (from_bound bytes bound))
-    (begins : IsBegin bytes bound) where
-  pub behind_step : (child : Child m bytes (page_pairs bytes page) high key) → low ≤ child.from → (o : Option ℕ) → Behind m bytes (page_pairs bytes page) high (child_for (page_pairs bytes page) key) child.from child.to o
-      → ((k : ℕ) → child.from ≤ k → k < child.to → next (pairs_of_tree bytes) k ≡ or_else (next (pairs_under m bytes (child_for (page_pairs bytes page) key)) k) (from_bound bytes (option_or o bound)))
-      × IsBegin bytes (option_or o bound)
+module _ (root : Root) (m : ℕ) (bytes : List ℕ) (key steps page low high : ℕ) (bound : Option ℕ) (t : IsTree root (suc m) bytes page low high) (from : low ≤ key) (to : key < high) (left : suc m + steps ≤ 7)
+    (way : (k : ℕ) → low ≤ k → k < high → leaf_for bytes root.page k ≡ page_for (suc m) bytes page k)
+    (finds : (k : ℕ) → low ≤ k → k < high → found (pairs_of_tree bytes root.page) k ≡ found (pairs_under (suc m) bytes page) k)
+    (nexts : (k : ℕ) → low ≤ k → k < high → next (pairs_of_tree bytes root.page) k ≡ or_else (next (pairs_under (suc m) bytes page) k) (from_bound root bytes bound))
+    (begins : IsBegin root bytes bound) where
+  pub behind_step : (child : Child root m bytes (page_pairs bytes page) high key) → low ≤ child.from → (o : Option ℕ) → Behind root m bytes (page_pairs bytes page) high (child_for (page_pairs bytes page) key) child.from child.to o
+      → ((k : ℕ) → child.from ≤ k → k < child.to → next (pairs_of_tree bytes root.page) k ≡ or_else (next (pairs_under m bytes (child_for (page_pairs bytes page) key)) k) (from_bound root bytes (option_or o bound)))
+      × IsBegin root bytes (option_or o bound)
   behind_step child above None b = (
-    λ k a z. nexts k (omega (arith, a, above)) (omega (arith, z, child.below)) ∙ ap (λ (x : Option Pair). or_else x (from_bound bytes bound)) (b.1 k a z),
+    λ k a z. nexts k (omega (arith, a, above)) (omega (arith, z, child.below)) ∙ ap (λ (x : Option Pair). or_else x (from_bound root bytes bound)) (b.1 k a z),
     begins,
   )
   behind_step child above (Some x) b =
       let x_low : low ≤ x = omega (arith, above, child.from_key, child.key_to, b.0) in
-      let first : next (pairs_of_tree bytes) x ≡ Some b.4.0 = nexts x x_low b.1 ∙ ap (λ (o : Option Pair). or_else o (from_bound bytes bound)) b.4.1 in (
+      let first : next (pairs_of_tree bytes root.page) x ≡ Some b.4.0 = nexts x x_low b.1 ∙ ap (λ (o : Option Pair). or_else o (from_bound root bytes bound)) b.4.1 in (
         λ k a z.
-            nexts k (omega (arith, a, above)) (omega (arith, z, child.below)) ∙ ap (λ (o : Option Pair). or_else o (from_bound bytes bound)) (b.4.2 k a z)
-            ∙ or_or (next (pairs_under m bytes (child_for (page_pairs bytes page) key)) k) b.4.0 (from_bound bytes bound)
+            nexts k (omega (arith, a, above)) (omega (arith, z, child.below)) ∙ ap (λ (o : Option Pair). or_else o (from_bound root bytes bound)) (b.4.2 k a z)
+            ∙ or_or (next (pairs_under m bytes (child_for (page_pairs bytes page) key)) k) b.4.0 (from_bound root bytes bound)
             ∙ ap (λ (o : Option Pair). or_else (next (pairs_under m bytes (child_for (page_pairs bytes page) key)) k) o) (sym first),
-        λ none. leaf_begins m bytes (child_for (page_pairs bytes page) x) x b.3.0 b.2 b.3.1 (ap (λ (q : ℕ). next (page_pairs bytes q) x) (sym (way x x_low b.1)) ∙ none),
+        λ none. leaf_begins root m bytes (child_for (page_pairs bytes page) x) x b.3.0 b.2 b.3.1 (ap (λ (q : ℕ). next (page_pairs bytes q) x) (sym (way x x_low b.1)) ∙ none),
       )
 
-  pub step_down : Down bytes key (steps + 1) (child_for (page_pairs bytes page) key) (option_or (bound_in (page_pairs bytes page) key) bound)
+  pub step_down : Down root bytes key (steps + 1) (child_for (page_pairs bytes page) key) (option_or (bound_in (page_pairs bytes page) key) bound)
   step_down =
       let some : 1 ≤ length (page_pairs bytes page) = omega (arith, t.0.some, length-page_pairs bytes page) in
       let start = start_of low high (page_pairs bytes page) some t.0.first in
-      let child = child_step m bytes (page_pairs bytes page) high key some t.0.children t.1 (omega arith) to in
+      let child = child_step root m bytes (page_pairs bytes page) high key some t.0.children t.1 (omega arith) to in
       let above : low ≤ child.from = omega (arith, child.above, start) in
       let b = behind_step child above (bound_in (page_pairs bytes page) key) child.behind in
       record {
@@ -247,57 +248,57 @@ module _ (m : ℕ) (bytes : List ℕ) (key steps page low high : ℕ) (bound : O
         from = child.from_key;
         to = child.key_to;
         left = omega arith;
-        inside = (child_given bytes (page_pairs bytes page) key some t.0.children).1;
+        inside = (child_given root bytes (page_pairs bytes page) key some t.0.children).1;
         way = λ k a z. way k (omega (arith, a, above)) (omega (arith, z, child.below)) ∙ ap (λ (q : ℕ). page_for m bytes q k) (child.same k a z);
         finds = λ k a z.
-            finds k (omega (arith, a, above)) (omega (arith, z, child.below)) ∙ found_on_way 1 m bytes k page low high t (omega (arith, a, above)) (omega (arith, z, child.below))
+            finds k (omega (arith, a, above)) (omega (arith, z, child.below)) ∙ found_on_way root 1 m bytes k page low high t (omega (arith, a, above)) (omega (arith, z, child.below))
             ∙ ap (λ (q : ℕ). found (pairs_under m bytes q) k) (child.same k a z);
         nexts = b.0;
         begins = b.1;
       }
 
 -- the level of the page says whether it is a leaf
-down_level : (bytes : List ℕ) (key steps page : ℕ) (bound : Option ℕ) → (d : Down bytes key steps page bound) → level_of bytes page ≡ d.m
-down_level bytes key steps page bound d = tree_level d.m bytes page d.low d.high d.tree
+down_level : (root : Root) (bytes : List ℕ) (key steps page : ℕ) (bound : Option ℕ) → (d : Down root bytes key steps page bound) → level_of bytes page ≡ d.m
+down_level root bytes key steps page bound d = tree_level root d.m bytes page d.low d.high d.tree
 
-on : (m : ℕ) (bytes : List ℕ) (key steps page : ℕ) (bound : Option ℕ) (d : Down bytes key steps page bound) → d.m ≡ m → 1 ≤ m → Down bytes key (steps + 1) (child_for (page_pairs bytes page) key) (option_or (bound_in (page_pairs bytes page) key) bound)
-on zero bytes key steps page bound d is some = absurd (omega arith)
-on (suc m) bytes key steps page bound d is some =
-    step_down m bytes key steps page d.low d.high bound (subst (λ (n : ℕ). IsTree n bytes page d.low d.high) is d.tree) d.from d.to (omega (arith, d.left, is))
-    (subst (λ (n : ℕ). (k : ℕ) → d.low ≤ k → k < d.high → leaf_for bytes k ≡ page_for n bytes page k) is d.way)
-    (subst (λ (n : ℕ). (k : ℕ) → d.low ≤ k → k < d.high → found (pairs_of_tree bytes) k ≡ found (pairs_under n bytes page) k) is d.finds)
-    (subst (λ (n : ℕ). (k : ℕ) → d.low ≤ k → k < d.high → next (pairs_of_tree bytes) k ≡ or_else (next (pairs_under n bytes page) k) (from_bound bytes bound)) is d.nexts)
+on : (root : Root) (m : ℕ) (bytes : List ℕ) (key steps page : ℕ) (bound : Option ℕ) (d : Down root bytes key steps page bound) → d.m ≡ m → 1 ≤ m → Down root bytes key (steps + 1) (child_for (page_pairs bytes page) key) (option_or (bound_in (page_pairs bytes page) key) bound)
+on root zero bytes key steps page bound d is some = absurd (omega arith)
+on root (suc m) bytes key steps page bound d is some =
+    step_down root m bytes key steps page d.low d.high bound (subst (λ (n : ℕ). IsTree root n bytes page d.low d.high) is d.tree) d.from d.to (omega (arith, d.left, is))
+    (subst (λ (n : ℕ). (k : ℕ) → d.low ≤ k → k < d.high → leaf_for bytes root.page k ≡ page_for n bytes page k) is d.way)
+    (subst (λ (n : ℕ). (k : ℕ) → d.low ≤ k → k < d.high → found (pairs_of_tree bytes root.page) k ≡ found (pairs_under n bytes page) k) is d.finds)
+    (subst (λ (n : ℕ). (k : ℕ) → d.low ≤ k → k < d.high → next (pairs_of_tree bytes root.page) k ≡ or_else (next (pairs_under n bytes page) k) (from_bound root bytes bound)) is d.nexts)
     d.begins
 
-pub down_step : (bytes : List ℕ) (key steps page : ℕ) (bound : Option ℕ) → Down bytes key steps page bound → level_of bytes page ≢ 0
-    → Down bytes key (steps + 1) (child_for (page_pairs bytes page) key) (option_or (bound_in (page_pairs bytes page) key) bound)
-down_step bytes key steps page bound d inner = on d.m bytes key steps page bound d refl (omega (arith, inner, down_level bytes key steps page bound d))
+pub down_step : (root : Root) (bytes : List ℕ) (key steps page : ℕ) (bound : Option ℕ) → Down root bytes key steps page bound → level_of bytes page ≢ 0
+    → Down root bytes key (steps + 1) (child_for (page_pairs bytes page) key) (option_or (bound_in (page_pairs bytes page) key) bound)
+down_step root bytes key steps page bound d inner = on root d.m bytes key steps page bound d refl (omega (arith, inner, down_level root bytes key steps page bound d))
 
-pub node_of : (m : ℕ) (bytes : List ℕ) (page low high : ℕ) → m ≤ 7 → IsTree m bytes page low high → IsNode (page_bytes bytes page)
-node_of zero bytes page low high most t = record { form = inl (t.0.kind, t.0.level); link = t.0.link; most = t.0.most }
-node_of (suc m) bytes page low high most t = record {
+pub node_of : (root : Root) (m : ℕ) (bytes : List ℕ) (page low high : ℕ) → m ≤ 7 → IsTree root m bytes page low high → IsNode (page_bytes bytes page)
+node_of root zero bytes page low high most t = record { form = inl (t.0.kind, t.0.level); link = t.0.link; most = t.0.most }
+node_of root (suc m) bytes page low high most t = record {
   form = inr (t.0.kind, omega (arith, t.0.level_is), omega (arith, t.0.level_is), t.0.some);
   link = t.0.link;
   most = t.0.most;
 }
 
-pub down_node : (bytes : List ℕ) (key steps page : ℕ) (bound : Option ℕ) → Down bytes key steps page bound → IsNode (page_bytes bytes page)
-down_node bytes key steps page bound d = node_of d.m bytes page d.low d.high (omega (arith, d.left)) d.tree
+pub down_node : (root : Root) (bytes : List ℕ) (key steps page : ℕ) (bound : Option ℕ) → Down root bytes key steps page bound → IsNode (page_bytes bytes page)
+down_node root bytes key steps page bound d = node_of root d.m bytes page d.low d.high (omega (arith, d.left)) d.tree
 
-pub down_most : (bytes : List ℕ) (key steps page : ℕ) (bound : Option ℕ) → Down bytes key steps page bound → steps ≤ 7
-down_most bytes key steps page bound d = omega (arith, d.left)
+pub down_most : (root : Root) (bytes : List ℕ) (key steps page : ℕ) (bound : Option ℕ) → Down root bytes key steps page bound → steps ≤ 7
+down_most root bytes key steps page bound d = omega (arith, d.left)
 
-last : (m : ℕ) (bytes : List ℕ) (key steps page : ℕ) (bound : Option ℕ) (d : Down bytes key steps page bound) → d.m ≡ m → m ≡ 0 → AtLeaf bytes key bound (page_bytes bytes page)
-last (suc m) bytes key steps page bound d is none = absurd (omega arith)
-last zero bytes key steps page bound d is none =
-    let leaf : IsTree 0 bytes page d.low d.high = subst (λ (n : ℕ). IsTree n bytes page d.low d.high) is d.tree in
+last : (root : Root) (m : ℕ) (bytes : List ℕ) (key steps page : ℕ) (bound : Option ℕ) (d : Down root bytes key steps page bound) → d.m ≡ m → m ≡ 0 → AtLeaf root bytes key bound (page_bytes bytes page)
+last root (suc m) bytes key steps page bound d is none = absurd (omega arith)
+last root zero bytes key steps page bound d is none =
+    let leaf : IsTree root 0 bytes page d.low d.high = subst (λ (n : ℕ). IsTree root n bytes page d.low d.high) is d.tree in
     record {
       pairs = ap (λ (q : ℕ). page_pairs bytes q) (sym (d.way key d.from d.to ∙ ap (λ (n : ℕ). page_for n bytes page key) is));
-      given = slots_seen bytes page (page_pairs bytes page) leaf.1;
+      given = leaf.1;
       found_is = d.finds key d.from d.to ∙ ap (λ (n : ℕ). found (pairs_under n bytes page) key) is;
-      next_is = d.nexts key d.from d.to ∙ ap (λ (n : ℕ). or_else (next (pairs_under n bytes page) key) (from_bound bytes bound)) is;
+      next_is = d.nexts key d.from d.to ∙ ap (λ (n : ℕ). or_else (next (pairs_under n bytes page) key) (from_bound root bytes bound)) is;
       begins = d.begins;
     }
 
-pub down_last : (bytes : List ℕ) (key steps page : ℕ) (bound : Option ℕ) → Down bytes key steps page bound → level_of bytes page ≡ 0 → AtLeaf bytes key bound (page_bytes bytes page)
-down_last bytes key steps page bound d leaf = last d.m bytes key steps page bound d refl (sym (down_level bytes key steps page bound d) ∙ leaf)
+pub down_last : (root : Root) (bytes : List ℕ) (key steps page : ℕ) (bound : Option ℕ) → Down root bytes key steps page bound → level_of bytes page ≡ 0 → AtLeaf root bytes key bound (page_bytes bytes page)
+down_last root bytes key steps page bound d leaf = last root d.m bytes key steps page bound d refl (sym (down_level root bytes key steps page bound d) ∙ leaf)

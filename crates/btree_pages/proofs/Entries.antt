@@ -5,29 +5,30 @@ use Rattle.std.specs.Prelude.{if◌then◌else◌}
 use Rattle.std.proofs.lemmas.Bool.Decides.{nat_tests, leb_tells}
 use Rattle.page_store.specs.Pairs.{Pair, inserted}
 use Rattle.index_pages.specs.Page.{page_pairs}
-use Rattle.btree_pages.specs.Changes.{with_entry}
-use Rattle.btree_pages.specs.Descent.{child_for, page_for}
-use Rattle.btree_pages.specs.Tree.{AreChildren, next_low, tree_from}
-use Rattle.btree_pages.specs.Sound.{AreSound, IsTree}
-use Rattle.btree_pages.proofs.Apart.{child_facts}
+use Rattle.btree_laws.proofs.Apart.{child_facts}
+use Rattle.btree_laws.proofs.Splitting.{length-with, next_low-with}
+use Rattle.btree_laws.specs.Changes.{with_entry}
+use Rattle.btree_laws.specs.Descent.{child_for, page_for}
+use Rattle.btree_laws.specs.Sound.{AreBelow, AreSound, IsTree}
+use Rattle.btree_laws.specs.Tree.{next_low}
 use Rattle.btree_pages.proofs.Descending.{child_step}
-use Rattle.btree_pages.proofs.Splitting.{length-with, next_low-with}
+use Rattle.btree_laws.specs.declared.root.Root.{Root}
 
 -- the place of a key in the range of key's child is right after that child's entry
-pub with_inserted : (l : ℕ) (bytes : List ℕ) (es : List Pair) (high key mid to : ℕ) → 1 ≤ length es → AreChildren (next_page bytes) es → AreSound (tree_from l bytes) es high → next_low es high ≤ key → key < high
-    → ((a b : ℕ) → IsTree l bytes (child_for es key) a b → (a ≤ mid) × (mid < b)) → inserted es mid to ≡ with_entry es key (mid, to)
-with_inserted l bytes [] high key mid to some are sound le lt within = absurd (omega arith)
-with_inserted l bytes (e ∷ []) high key mid to some are sound le lt within =
+pub with_inserted : (root : Root) (l : ℕ) (bytes : List ℕ) (es : List Pair) (high key mid to : ℕ) → 1 ≤ length es → AreBelow root.page (next_page bytes) es → AreSound (IsTree root l bytes) es high → next_low es high ≤ key → key < high
+    → ((a b : ℕ) → IsTree root l bytes (child_for es key) a b → (a ≤ mid) × (mid < b)) → inserted es mid to ≡ with_entry es key (mid, to)
+with_inserted root l bytes [] high key mid to some are sound le lt within = absurd (omega arith)
+with_inserted root l bytes (e ∷ []) high key mid to some are sound le lt within =
     let w = within e.0 high sound.0 in
     let b : nat_lt mid e.0 ≡ false = grind (arith, nat_tests, w.0) in
     (rw b refl)
-with_inserted l bytes (e ∷ f ∷ es) high key mid to some are sound le lt within =
-    let here = child_facts l bytes e.1 e.0 f.0 are.0 sound.0 in
+with_inserted root l bytes (e ∷ f ∷ es) high key mid to some are sound le lt within =
+    let here = child_facts root l bytes e.1 e.0 f.0 are.0.1 sound.0 in
     elim (leb_tells (suc key) f.0) [
       | inl h ↦
           let k : nat_lt key f.0 ≡ true = h.0 in
           let is : child_for (e ∷ f ∷ es) key ≡ e.1 = (rw k refl) in
-          let w = within e.0 f.0 (subst (λ (x : ℕ). IsTree l bytes x e.0 f.0) (let back : e.1 ≡ child_for (e ∷ f ∷ es) key = (rw k refl) in back) sound.0) in
+          let w = within e.0 f.0 (subst (λ (x : ℕ). IsTree root l bytes x e.0 f.0) (let back : e.1 ≡ child_for (e ∷ f ∷ es) key = (rw k refl) in back) sound.0) in
           let b : nat_lt mid e.0 ≡ false = grind (arith, nat_tests, w.0) in
           let b' : nat_lt mid f.0 ≡ true = grind (arith, nat_tests, w.1) in
           rw (k, b, b') refl
@@ -35,11 +36,11 @@ with_inserted l bytes (e ∷ f ∷ es) high key mid to some are sound le lt with
           let k : nat_lt key f.0 ≡ false = h.0 in
           let back : child_for (f ∷ es) key ≡ child_for (e ∷ f ∷ es) key = (rw k refl) in
           let from : f.0 ≤ key = omega (arith, h.1) in
-          let child = child_step l bytes (f ∷ es) high key (omega arith) are.2 sound.1 from lt in
-          let within' = λ (a b : ℕ) (t : IsTree l bytes (child_for (f ∷ es) key) a b). within a b (subst (λ (x : ℕ). IsTree l bytes x a b) back t) in
+          let child = child_step root l bytes (f ∷ es) high key (omega arith) are.2 sound.1 from lt in
+          let within' = λ (a b : ℕ) (t : IsTree root l bytes (child_for (f ∷ es) key) a b). within a b (subst (λ (x : ℕ). IsTree root l bytes x a b) back t) in
           let w = within' child.from child.to child.tree in
           let b : nat_lt mid e.0 ≡ false = grind (arith, nat_tests, w.0, child.above, here.1) in
-          rw (k, b) (ap (λ (l : List Pair). e ∷ l) (with_inserted l bytes (f ∷ es) high key mid to (omega arith) are.2 sound.1 from lt within'))
+          rw (k, b) (ap (λ (l : List Pair). e ∷ l) (with_inserted root l bytes (f ∷ es) high key mid to (omega arith) are.2 sound.1 from lt within'))
     ]
 
 -- from the second entry's low key on, the first entry plays no part

@@ -1,50 +1,107 @@
 -- What splitting the root does to the data.
-use Rattle.std.proofs.Common.{◌≡◌, ◌≢◌, ℕ, suc, ◌+◌, ◌*◌, ◌^◌, ◌<◌, ◌≤◌, true, false, nat_lt, inl, inr, List, [], ◌∷◌, length, take, drop, sym, ◌∙◌, ap, subst, arith}
-use Rattle.std.proofs.lemmas.Bool.Decides.{leb_tells, eqb_tells}
+use Rattle.std.proofs.Common.{◌≡◌, ◌≢◌, ℕ, zero, suc, ◌+◌, ◌-◌, ◌*◌, ◌^◌, ◌<◌, ◌≤◌, true, false, nat_lt, inl, inr, List, [], ◌∷◌, length, take, drop, None, refl, sym, ◌∙◌, ap, subst, arith}
+use Rattle.std.specs.Prelude.{if◌then◌else◌}
+use Rattle.std.proofs.lemmas.Bool.{cases_lt}
+use Rattle.std.proofs.lemmas.Bool.Decides.{leb_tells}
 use Rattle.std.proofs.lemmas.List.{length-take-le, length-drop}
 use Rattle.mars_base.specs.Bytes.{range}
 use Rattle.array_shape.specs.declared.shape.Shape.{Shape}
 use Rattle.array_shape.specs.Places.{data_len}
 use Rattle.array_shape.specs.Places as array
 use Rattle.array_shape.specs.Logged.{Part, applied, AllFit}
-use Rattle.record_slots.specs.Super.{count_bytes}
+use Rattle.record_slots.specs.Super.{SaysSuper, part_bytes}
 use Rattle.record_slots.specs.declared.super_page.Super.{Super}
-use Rattle.record_slots.specs.Places.{page_bytes, page_count, slot_at, slot_of, next_slot, next_page, IsSuper}
-use Rattle.page_store.specs.Index.{index_pages_of, Grows, Rests}
-use Rattle.page_store.specs.Pairs.{Pair}
+use Rattle.record_slots.specs.Places.{page_bytes, page_count, first_slot_page, slot_at, slot_of, next_slot, next_page, free_pages, free_page_of, used_pages, slot_due, page_due, tables_of, version_of, IsSuper}
+use Rattle.page_store.specs.Index.{IsTable, index_pages_of, Grows, Rests}
+use Rattle.page_store.specs.Pairs.{Pair, inserted}
 use Rattle.page_store.specs.Shown.{address}
+use Rattle.index_pages.specs.Adding.{TakesPage, first_page, with_page_taken}
 use Rattle.index_pages.specs.Fetched.{IsFront}
 use Rattle.index_pages.specs.Keys.{key_at, key_end}
-use Rattle.index_pages.specs.Page.{page_pairs, pairs_said, kind_said, level_said, link_said, level_of, count_of}
-use Rattle.index_pages.specs.Ways.{Keeps, IsOwn}
+use Rattle.index_pages.specs.Page.{page_pairs, pairs_said, kind_said, level_said, link_said, kind_of, level_of, count_of}
+use Rattle.index_pages.specs.Ways.{above, Keeps, IsOwn}
 use Rattle.index_pages.specs.Written.{AreSmall, kind_for, written_page}
-use Rattle.index_pages.proofs.Fronts.{length-count_bytes, super_written}
+use Rattle.index_pages.proofs.Fronts.{IsWritable, length-part_bytes, super_written, super_kept, version_kept}
 use Rattle.index_pages.proofs.Carrying.{carries_on}
 use Rattle.index_pages.proofs.PageFacts.{length-page_pairs}
-use Rattle.index_pages.proofs.Ranges.{Apart}
-use Rattle.index_pages.proofs.Writing.{small_take, written_kind, written_level, written_link, written_pairs, length-written_page}
-use Rattle.btree_pages.specs.Changes.{IsHalf, IsCut, middle, SplitsRoot}
-use Rattle.btree_pages.specs.Checked.{IsFrontOf}
-use Rattle.btree_pages.specs.Descent.{child_for, page_for}
-use Rattle.btree_pages.specs.Index.{tree, half_for, half_pairs, actions_below}
-use Rattle.btree_pages.specs.Tree.{IsUnder, IsSoundTree, pairs_of_tree}
-use Rattle.btree_pages.specs.Sound.{IsTree}
-use Rattle.btree_pages.specs.Writes.{IsRead, growing_parts}
-use Rattle.btree_pages.proofs.Actions.{half_actions}
-use Rattle.btree_pages.proofs.Belonging.{grown_stays, left_named, right_named}
-use Rattle.btree_pages.proofs.CutData.{small_at, tree_kind}
 use Rattle.index_pages.proofs.Puts.{AllApart, Stand, applied_long, applied_away, applied_stand}
-use Rattle.btree_pages.proofs.Splitting.{sound_tree_grows}
-use Rattle.btree_pages.specs.TreeFacts.{under_own}
+use Rattle.index_pages.proofs.Ranges.{Apart}
+use Rattle.index_pages.proofs.Rising.{length-inserted}
+use Rattle.index_pages.proofs.Tabled.{IsWhole, whole_counts}
+use Rattle.index_pages.proofs.Taken.{HasTaken, IsAfter, taken_none, taken_one, page_is_due, due_free, due_next, dues_differ, is_after, after_due, after_slots, after_pages, after_free, taken_writable}
+use Rattle.index_pages.proofs.Writing.{small_take, small_inserted, written_kind, written_level, written_link, written_pairs, length-written_page}
+use Rattle.btree_laws.specs.Changes.{IsHalf, IsCut, middle, SplitsRoot}
+use Rattle.btree_laws.specs.Descent.{child_for, page_for}
+use Rattle.btree_laws.specs.Tree.{IsUnder, IsUnderSome, IsPageOfTree, pairs_of_tree, next_low}
+use Rattle.btree_laws.specs.Sound.{IsTree, IsSoundTree}
+use Rattle.btree_laws.specs.TreeFacts.{tree_level, under_own}
+use Rattle.btree_laws.specs.declared.root.Root.{Root}
+use Rattle.btree_laws.proofs.Belonging.{StaysGrown, tree_stays_grown}
+use Rattle.btree_laws.proofs.Splitting.{sound_tree_grows, under_self}
+use Rattle.btree_pages.specs.Writes.{IsRead, growing_parts}
+use Rattle.btree_pages.specs.Index.{tree, tree_of, AreSoundTrees, half_for, half_pairs, actions_below}
+use Rattle.btree_pages.specs.Trees.{whole_of, table_sound, page_given}
+use Rattle.btree_pages.proofs.Actions.{half_actions}
+use Rattle.btree_pages.proofs.Others.{due_apart, free_apart, tables_apart, one_changed, others_untouched}
+use Rattle.btree_pages.proofs.CutData.{small_at, tree_kind}
 
 module _ (shape : Shape) (old : List ℕ) (half : ℕ) (long : length old ≡ data_len shape) (half_is : half ≡ index_pages_of shape) (all : half + half ≡ array.page_count shape) (few : half ≤ 16384)
-    (front : Super) (key level : ℕ) (pairs : List Pair) (fits : key < 2 ^ 64) (front_is : IsFront shape front) (read : IsRead shape 1 level pairs)
-    (sound : IsSoundTree old) (says : IsFrontOf old front) (level_is : level_of old 1 ≡ level) (pairs_are : pairs ≡ page_pairs old 1) (full : length pairs ≡ 30) (less : level < 7) (next : front.next_page + 1 < index_pages_of shape) where
+    (root : Root) (front mid after : Super) (left right key level : ℕ) (pairs : List Pair) (fits : key < 2 ^ 64) (entries_long : length front.entries ≡ 256)
+    (read : IsRead shape root.page level pairs) (sound : AreSoundTrees old) (table : IsTable old root.table root.page) (says : SaysSuper (page_bytes old 0) front)
+    (one : TakesPage old front left mid) (two : TakesPage old mid right after)
+    (level_is : level_of old root.page ≡ level) (pairs_are : pairs ≡ page_pairs old root.page) (full : length pairs ≡ 30) (less : level < 7) (enough : used_pages old + 1 < index_pages_of shape) where
   size : length old ≡ 512 * (half + half)
   size = omega (arith, long, all)
 
   count : page_count old ≡ half + half
   count = omega (arith, size)
+
+  first : first_slot_page old ≡ half
+  first = omega (arith, count)
+
+  whole : IsWhole 1 tree_of old
+  whole = whole_of old sound
+
+  root_sound : IsSoundTree root old
+  root_sound = table_sound old root sound table
+
+  given_most : next_page old ≤ half
+  given_most = omega (arith, whole.front.pages, first)
+
+  free_few : free_pages old + 2 ≤ next_page old
+  free_few = (whole_counts 1 tree_of old whole).free_pages_few
+
+  took_none : HasTaken old 0 front
+  took_none = taken_none old front says whole.pages
+
+  left_due : left ≡ page_due old 0
+  left_due = one.due ∙ page_is_due old 0 front whole.pages took_none
+
+  took_one : HasTaken old 1 mid
+  took_one = subst (λ (f : Super). HasTaken old 1 f) (sym one.after_is) (taken_one old 0 front whole.pages took_none)
+
+  right_due : right ≡ page_due old 1
+  right_due = two.due ∙ page_is_due old 1 mid whole.pages took_one
+
+  took : HasTaken old 2 after
+  took = subst (λ (f : Super). HasTaken old 2 f) (sym two.after_is) (taken_one old 1 mid whole.pages took_one)
+
+  -- a page that is taken: it is a given page that is free, or one of the next
+  due_in : (i : ℕ) → i < 2 → (2 ≤ page_due old i) × (page_due old i < half) × (page_due old i < next_page old + (2 - free_pages old))
+  due_in i lt = elim (cases_lt i (free_pages old)) [
+    | inl some ↦ let f = due_free old whole.pages i some in (f.1, omega (arith, f.2, given_most), omega (arith, f.2))
+    | inr none ↦ let f = due_next old whole.pages i (omega (arith, none)) in
+        (omega (arith, f, whole.front.some_pages), omega (arith, f, none, enough, half_is, lt, free_few), omega (arith, f, none, lt))
+  ]
+
+  left_in : (2 ≤ left) × (left < half) × (left < next_page old + (2 - free_pages old))
+  left_in = let h = due_in 0 (omega arith) in (omega (arith, left_due, h.0), omega (arith, left_due, h.1), omega (arith, left_due, h.2))
+
+  right_in : (2 ≤ right) × (right < half) × (right < next_page old + (2 - free_pages old))
+  right_in = let h = due_in 1 (omega arith) in (omega (arith, right_due, h.0), omega (arith, right_due, h.1), omega (arith, right_due, h.2))
+
+  differ : left ≢ right
+  differ same = dues_differ old whole.pages 0 1 (omega arith) (sym left_due ∙ same ∙ right_due)
 
   lower : List ℕ
   lower = written_page level 0 (take 15 pairs)
@@ -53,18 +110,18 @@ module _ (shape : Shape) (old : List ℕ) (half : ℕ) (long : length old ≡ da
   upper = written_page level 0 (drop 15 pairs)
 
   named : List ℕ
-  named = written_page (level + 1) 0 ((0, front.next_page) ∷ (key_at pairs 15, front.next_page + 1) ∷ [])
+  named = written_page (level + 1) 0 ((0, left) ∷ (key_at pairs 15, right) ∷ [])
 
-  counts : List ℕ
-  counts = count_bytes front.next_slot (front.next_page + 2)
+  part : List ℕ
+  part = part_bytes after
 
   lower_few : length (take 15 pairs) ≤ 30
-  lower_few = omega (arith, length-take-le 15 pairs (omega arith))
+  lower_few = omega (arith, length-take-le 15 pairs (omega (arith, full)))
 
   upper_few : length (drop 15 pairs) ≤ 30
-  upper_few = omega (arith, length-drop 15 pairs)
+  upper_few = omega (arith, length-drop 15 pairs, full)
 
-  named_few : length {A = Pair} ((0, front.next_page) ∷ (key_at pairs 15, front.next_page + 1) ∷ []) ≤ 30
+  named_few : length {A = Pair} ((0, left) ∷ (key_at pairs 15, right) ∷ []) ≤ 30
   named_few = omega arith
 
   len1 : length lower ≡ 512
@@ -77,42 +134,55 @@ module _ (shape : Shape) (old : List ℕ) (half : ℕ) (long : length old ≡ da
 
   len3 : length named ≡ 512
   unfolding named
-  len3 = length-written_page (level + 1) 0 ((0, front.next_page) ∷ (key_at pairs 15, front.next_page + 1) ∷ []) named_few (omega arith)
+  len3 = length-written_page (level + 1) 0 ((0, left) ∷ (key_at pairs 15, right) ∷ []) named_few (omega arith)
 
-  len4 : length counts ≡ 8
-  unfolding counts
-  len4 = length-count_bytes front.next_slot (front.next_page + 2)
+  after_long : length after.entries ≡ 256
+  after_long = ap (λ (es : List ℕ). length es) (took.entries_are ∙ sym says.entries) ∙ entries_long
 
-  own_root : IsOwn old 1
-  own_root = (omega arith, omega (arith, sound.0.some_pages))
+  len4 : length part ≡ 280
+  unfolding part
+  len4 = length-part_bytes after after_long
 
-  root_tree : IsTree level old 1 0 key_end
-  root_tree = subst (λ (n : ℕ). IsTree n old 1 0 key_end) level_is sound.1.1
+  root_tree : IsTree root level old root.page 0 key_end
+  root_tree = subst (λ (n : ℕ). IsTree root n old root.page 0 key_end) level_is root_sound.2
 
-  next_is : front.next_page ≡ next_page old
-  next_is = says.pages
+  root_under : IsPageOfTree old root.page root.page
+  root_under = under_self (level_of old root.page) old root.page
 
-  two : 2 ≤ front.next_page
-  two = front_is.some
+  root_in : (1 ≤ root.page) × (root.page < next_page old)
+  root_in = root_sound.0
 
-  next_below : front.next_page + 1 < half
-  next_below = omega (arith, next, half_is)
+  -- no page of the tree is taken
+  not_left : (x : ℕ) → IsPageOfTree old root.page x → x ≢ left
+  not_left x u same = due_apart old root x 0 whole.pages root_sound u (same ∙ left_due)
+
+  not_right : (x : ℕ) → IsPageOfTree old root.page x → x ≢ right
+  not_right x u same = due_apart old root x 1 whole.pages root_sound u (same ∙ right_due)
 
   parts : List Part
-  parts = growing_parts front level pairs
+  parts = growing_parts after left right root.page level pairs
 
   grown : List ℕ
-  grown = applied (growing_parts front level pairs) old
+  grown = applied (growing_parts after left right root.page level pairs) old
 
   fit : AllFit (length old) parts
-  unfolding parts lower upper named counts
-  fit = (omega (arith, len1, size, next_below), (omega (arith, len2, size, next_below), (omega (arith, len3, size, next_below), (omega (arith, len4, size, next_below), tt))))
+  unfolding parts lower upper named part
+  fit = (omega (arith, len1, size, left_in), (omega (arith, len2, size, right_in), (omega (arith, len3, size, root_in, given_most), (omega (arith, len4, size, right_in), tt))))
+
+  apart_pages : (x y n m : ℕ) → n ≡ 512 → m ≡ 512 → x ≢ y → Apart (address x 0) n (address y 0) m
+  apart_pages x y n m is is' ne = elim (cases_lt x y) [ inl below ↦ inl (omega (arith, is)) | inr behind ↦ inr (omega (arith, is', ne)) ]
+
+  apart_front : (x n m : ℕ) → n ≡ 512 → m ≡ 280 → 1 ≤ x → Apart (address x 0) n (address 0 8) m
+  apart_front x n m is is' some = inr (omega (arith, is', some))
 
   apart : AllApart parts
-  unfolding parts lower upper named counts
+  unfolding parts lower upper named part
   apart = (
-    (inl (omega (arith, len1)), (inr (omega (arith, len3, two)), (inr (omega (arith, len4, two)), tt))),
-    ((inr (omega (arith, len3, two)), (inr (omega (arith, len4, two)), tt)), ((inr (omega (arith, len4)), tt), (tt, tt))),
+    (apart_pages left right _ _ len1 len2 differ, (apart_pages left root.page _ _ len1 len3 (λ e. not_left root.page root_under (sym e)), (apart_front left _ _ len1 len4 (omega (arith, left_in)), tt))),
+    (
+      (apart_pages right root.page _ _ len2 len3 (λ e. not_right root.page root_under (sym e)), (apart_front right _ _ len2 len4 (omega (arith, right_in)), tt)),
+      ((apart_front root.page _ _ len3 len4 root_in.0, tt), (tt, tt)),
+    ),
   )
 
   grown_long : length grown ≡ length old
@@ -130,32 +200,34 @@ module _ (shape : Shape) (old : List ℕ) (half : ℕ) (long : length old ≡ da
   unfolding page_bytes
   page_at x b is e = ap (λ (n : ℕ). range grown n 512) (let z : 512 * x ≡ address x 0 = omega arith in z) ∙ ap (λ (n : ℕ). range grown (address x 0) n) (sym is) ∙ e
 
-  lower_new : page_bytes grown front.next_page ≡ lower
+  lower_new : page_bytes grown left ≡ lower
   unfolding parts lower
-  lower_new = page_at front.next_page lower len1 stand.0
+  lower_new = page_at left lower len1 stand.0
 
-  upper_new : page_bytes grown (front.next_page + 1) ≡ upper
+  upper_new : page_bytes grown right ≡ upper
   unfolding parts upper
-  upper_new = page_at (front.next_page + 1) upper len2 stand.1.0
+  upper_new = page_at right upper len2 stand.1.0
 
-  named_new : page_bytes grown 1 ≡ named
+  named_new : page_bytes grown root.page ≡ named
   unfolding parts named
-  named_new = page_at 1 named len3 stand.1.1.0
+  named_new = page_at root.page named len3 stand.1.1.0
 
-  counts_new : range grown 8 8 ≡ counts
-  unfolding parts counts
-  counts_new = ap (λ (n : ℕ). range grown 8 n) (sym len4) ∙ stand.1.1.1.0
+  part_new : range grown 8 280 ≡ part
+  unfolding parts part
+  part_new = ap (λ (n : ℕ). range grown 8 n) (sym len4) ∙ stand.1.1.1.0
 
-  away : (at n : ℕ) → Apart at n (address front.next_page 0) (length lower) → Apart at n (address (front.next_page + 1) 0) (length upper) → Apart at n (address 1 0) (length named) → Apart at n (address 0 8) (length counts) → range grown at n ≡ range old at n
-  unfolding grown parts lower upper named counts
+  away : (at n : ℕ) → Apart at n (address left 0) (length lower) → Apart at n (address right 0) (length upper) → Apart at n (address root.page 0) (length named) → Apart at n (address 0 8) (length part) → range grown at n ≡ range old at n
+  unfolding grown parts lower upper named part
   away at n a b e f = applied_away parts old at n fit (a, (b, (e, (f, tt))))
 
   zero_new : range grown 0 8 ≡ range old 0 8
-  zero_new = away 0 8 (inl (omega (arith, two))) (inl (omega arith)) (inl (omega arith)) (inl (omega arith))
+  zero_new = away 0 8 (inl (omega (arith, left_in))) (inl (omega (arith, right_in))) (inl (omega (arith, root_in))) (inl (omega arith))
 
-  others : (x : ℕ) → 2 ≤ x → x < next_page old → page_bytes grown x ≡ page_bytes old x
+  others : (x : ℕ) → 1 ≤ x → x ≢ root.page → x ≢ left → x ≢ right → page_bytes grown x ≡ page_bytes old x
   unfolding page_bytes
-  others x some lt = away (512 * x) 512 (inl (omega (arith, next_is))) (inl (omega (arith, next_is))) (inr (omega (arith, len3))) (inr (omega (arith, len4)))
+  others x some no_root no_left no_right =
+      let e : 512 * x ≡ address x 0 = omega arith in
+      rw e (away (address x 0) 512 (apart_pages x left 512 _ refl len1 no_left) (apart_pages x right 512 _ refl len2 no_right) (apart_pages x root.page 512 _ refl len3 no_root) (apart_front x 512 _ refl len4 some))
 
   slots_same : (j : ℕ) → slot_of grown j ≡ slot_of old j
   unfolding slot_of
@@ -163,137 +235,199 @@ module _ (shape : Shape) (old : List ℕ) (half : ℕ) (long : length old ≡ da
       let place : slot_at grown j ≡ 512 * half + 64 * j = omega (arith, grown_count) in
       let place' : slot_at old j ≡ 512 * half + 64 * j = omega (arith, count) in
       ap (λ (x : ℕ). range grown x 64) place
-      ∙ away (512 * half + 64 * j) 64 (inr (omega (arith, len1, next_below))) (inr (omega (arith, len2, next_below))) (inr (omega (arith, len3, next_below))) (inr (omega (arith, len4, next_below)))
+      ∙ away (512 * half + 64 * j) 64 (inr (omega (arith, len1, left_in))) (inr (omega (arith, len2, right_in))) (inr (omega (arith, len3, root_in, given_most))) (inr (omega (arith, len4, right_in)))
       ∙ ap (λ (x : ℕ). range old x 64) (sym place')
 
-  counted : (next_slot grown ≡ front.next_slot) × (next_page grown ≡ front.next_page + 2) × IsSuper 1 grown
-  unfolding counts
-  counted = super_written 1 old grown half front.next_slot (front.next_page + 2) grown_count few zero_new counts_new (omega (arith, front_is.slots, all)) (omega (arith, front_is.some)) (omega (arith, next_below)) sound.0
+  after_most : after.next_page ≤ half
+  after_most = elim (cases_lt 1 (free_pages old)) [
+    | inl some ↦ omega (arith, took.page_next, some, given_most)
+    | inr none ↦ omega (arith, took.page_next, none, enough, half_is, free_few, given_most)
+  ]
+
+  same_version : after.version ≡ front.version
+  same_version = took.version_is ∙ sym says.version
+
+  same_form : after.form ≡ front.form
+  same_form = took.form_is ∙ sym says.form
+
+  slots_few : next_slot old ≤ 8 * half
+  slots_few = omega (arith, whole.front.slots, count)
+
+  says_now : SaysSuper (page_bytes grown 0) after
+  unfolding part
+  says_now =
+      super_written old grown front after zero_new part_new says same_version same_form
+      (taken_writable old 2 after whole.slots whole.pages took after_long (omega (arith, slots_few, few)) whole.front.some_pages (omega (arith, given_most, few)))
+
+  front_now : IsSuper 1 grown × (tables_of grown ≡ tables_of old)
+  front_now = super_kept 1 old grown front after half grown_count says says_now same_version same_form (took.entries_are ∙ sym says.entries)
+      (omega (arith, took.slot_next, slots_few)) (omega (arith, says.next_page, took.page_next)) after_most whole.front
+
+  lists_now : IsAfter old grown 2
+  lists_now = is_after old grown 2 after whole.slots whole.pages took says_now
+      (λ i from less.
+      let f = due_free old whole.pages i less in
+      others (page_due old i) (omega (arith, f.1)) (λ e. free_apart old root (page_due old i) root_sound (subst (λ (x : ℕ). IsPageOfTree old root.page x) (sym e) root_under) f.3)
+      (λ e. dues_differ old whole.pages 0 i (omega (arith, from)) (sym left_due ∙ sym e))
+      (λ e. dues_differ old whole.pages 1 i (omega (arith, from)) (sym right_due ∙ sym e)))
+      (λ j free. slots_same j)
 
   keeps : Keeps old grown
   keeps = record {
-    pages = omega (arith, counted.1, next_is);
-    slots = omega (arith, counted.0, says.slots);
-    carried = λ p lt carries. carries_on old grown p (slots_same p.1) carries;
+    pages = omega (arith, lists_now.pages_next);
+    slots = omega (arith, lists_now.slots_next);
+    carried = λ t p lt carries. carries_on old grown t p (slots_same p.1) carries;
   }
 
-  lower_half : IsHalf old grown 1 front.next_page (take 15 (page_pairs old 1))
+  lower_half : IsHalf old grown root.page left (take 15 (page_pairs old root.page))
   unfolding lower
   lower_half = record {
-    kind = ap kind_said lower_new ∙ written_kind level 0 (take 15 pairs) lower_few (omega arith) ∙ sym (tree_kind level old 1 0 key_end root_tree);
+    kind = ap kind_said lower_new ∙ written_kind level 0 (take 15 pairs) lower_few (omega arith) ∙ sym (tree_kind root level old root.page 0 key_end root_tree);
     level = ap level_said lower_new ∙ written_level level 0 (take 15 pairs) lower_few (omega arith) ∙ sym level_is;
     link = ap link_said lower_new ∙ written_link level 0 (take 15 pairs) lower_few (omega arith);
     pairs_are = ap pairs_said lower_new ∙ written_pairs level 0 (take 15 pairs) lower_few (omega arith) (small_take 15 pairs read.small).0 ∙ ap (take 15) pairs_are;
   }
 
-  upper_half : IsHalf old grown 1 (front.next_page + 1) (drop 15 (page_pairs old 1))
+  upper_half : IsHalf old grown root.page right (drop 15 (page_pairs old root.page))
   unfolding upper
   upper_half = record {
-    kind = ap kind_said upper_new ∙ written_kind level 0 (drop 15 pairs) upper_few (omega arith) ∙ sym (tree_kind level old 1 0 key_end root_tree);
+    kind = ap kind_said upper_new ∙ written_kind level 0 (drop 15 pairs) upper_few (omega arith) ∙ sym (tree_kind root level old root.page 0 key_end root_tree);
     level = ap level_said upper_new ∙ written_level level 0 (drop 15 pairs) upper_few (omega arith) ∙ sym level_is;
     link = ap link_said upper_new ∙ written_link level 0 (drop 15 pairs) upper_few (omega arith);
     pairs_are = ap pairs_said upper_new ∙ written_pairs level 0 (drop 15 pairs) upper_few (omega arith) (small_take 15 pairs read.small).1 ∙ ap (drop 15) pairs_are;
   }
 
-  is_cut : IsCut old grown 1 front.next_page (front.next_page + 1)
+  is_cut : IsCut old grown root.page left right
   is_cut = record { full = ap (λ (ps : List Pair). length ps) (sym pairs_are) ∙ full; left_is = lower_half; right_is = upper_half }
 
   one_more : level + 1 ≡ suc level
   one_more = omega arith
 
-  named_small : AreSmall ((0, front.next_page) ∷ (key_at pairs 15, front.next_page + 1) ∷ [])
-  named_small = (omega arith, omega (arith, next_below), (small_at 15 pairs (omega arith) read.small, omega (arith, next_below), tt))
+  named_small : AreSmall ((0, left) ∷ (key_at pairs 15, right) ∷ [])
+  named_small = (omega arith, omega (arith, left_in, few), (small_at 15 pairs (omega (arith, full)) read.small, omega (arith, right_in, few), tt))
 
-  named_pairs : page_pairs grown 1 ≡ (0, front.next_page) ∷ (middle old 1, front.next_page + 1) ∷ []
+  named_pairs : page_pairs grown root.page ≡ (0, left) ∷ (middle old root.page, right) ∷ []
   unfolding named
   named_pairs =
-      ap pairs_said named_new ∙ written_pairs (level + 1) 0 ((0, front.next_page) ∷ (key_at pairs 15, front.next_page + 1) ∷ []) named_few (omega arith) named_small
-      ∙ ap (λ (ps : List Pair). (0, front.next_page) ∷ (key_at ps 15, front.next_page + 1) ∷ []) pairs_are
+      ap pairs_said named_new ∙ written_pairs (level + 1) 0 ((0, left) ∷ (key_at pairs 15, right) ∷ []) named_few (omega arith) named_small
+      ∙ ap (λ (ps : List Pair). (0, left) ∷ (key_at ps 15, right) ∷ []) pairs_are
 
-  splits : SplitsRoot old grown front.next_page (front.next_page + 1)
+  splits : SplitsRoot root old grown left right
   unfolding named
   splits = record {
-    kind = ap kind_said named_new ∙ written_kind (level + 1) 0 ((0, front.next_page) ∷ (key_at pairs 15, front.next_page + 1) ∷ []) named_few (omega arith) ∙ ap kind_for one_more;
-    level = ap level_said named_new ∙ written_level (level + 1) 0 ((0, front.next_page) ∷ (key_at pairs 15, front.next_page + 1) ∷ []) named_few (omega arith) ∙ one_more ∙ ap suc (sym level_is);
-    link = ap link_said named_new ∙ written_link (level + 1) 0 ((0, front.next_page) ∷ (key_at pairs 15, front.next_page + 1) ∷ []) named_few (omega arith);
+    kind = ap kind_said named_new ∙ written_kind (level + 1) 0 ((0, left) ∷ (key_at pairs 15, right) ∷ []) named_few (omega arith) ∙ ap kind_for one_more;
+    level = ap level_said named_new ∙ written_level (level + 1) 0 ((0, left) ∷ (key_at pairs 15, right) ∷ []) named_few (omega arith) ∙ one_more ∙ ap suc (sym level_is);
+    link = ap link_said named_new ∙ written_link (level + 1) 0 ((0, left) ∷ (key_at pairs 15, right) ∷ []) named_few (omega arith);
     pairs = named_pairs;
     cut = is_cut;
-    two = two;
-    left_given = omega (arith, counted.1);
-    two' = omega (arith, two);
-    right_given = omega (arith, counted.1);
+    two = left_in.0;
+    other = λ e. not_left root.page root_under (sym e);
+    left_given = omega (arith, lists_now.pages_next, left_in.2);
+    two' = right_in.0;
+    other' = λ e. not_right root.page root_under (sym e);
+    right_given = omega (arith, lists_now.pages_next, right_in.2);
   }
 
-  grown_sound : IsSoundTree grown × (pairs_of_tree grown ≡ pairs_of_tree old)
-  grown_sound = sound_tree_grows old grown front.next_page (front.next_page + 1) sound keeps counted.2 (omega (arith, level_is)) splits others
+  tree_others : (x : ℕ) → IsPageOfTree old root.page x → x ≢ root.page → page_bytes grown x ≡ page_bytes old x
+  tree_others x u ne =
+      let own = under_own root (level_of old root.page) old x root.page 0 key_end root_sound.0 root_sound.2 u in
+      others x own.0 ne (not_left x u) (not_right x u)
 
-  below_root : (x : ℕ) → IsUnder level old x 1 → x ≢ 1 → page_bytes grown x ≡ page_bytes old x
-  below_root x u ne = let own = under_own level old x 1 0 key_end own_root root_tree u in others x (omega (arith, own.0, ne)) own.1
+  grown_tree : IsSoundTree root grown × (pairs_of_tree grown root.page ≡ pairs_of_tree old root.page)
+  grown_tree = sound_tree_grows root old grown left right root_sound keeps (omega (arith, level_is, less)) splits tree_others
+
+  stays : StaysGrown root old grown left right
+  stays = tree_stays_grown root old grown left right root_sound splits tree_others
+
+  -- the pages of other trees are as they were
+  tables_others : (two : Root) → IsTable old two.table two.page → two.page ≢ root.page → (x : ℕ) → IsPageOfTree old two.page x → page_bytes grown x ≡ page_bytes old x
+  tables_others two is ne x u =
+      let t = table_sound old two sound is in
+      let own = under_own two (level_of old two.page) old x two.page 0 key_end t.0 t.2 u in
+      others x own.0
+      (λ e. tables_apart old two root x sound is table ne u (subst (λ (y : ℕ). IsPageOfTree old root.page y) (sym e) root_under))
+      (λ e. due_apart old two x 0 whole.pages t u (e ∙ left_due))
+      (λ e. due_apart old two x 1 whole.pages t u (e ∙ right_due))
 
   -- the root is one level up
-  pub grown_level : level_of (applied (growing_parts front level pairs) old) 1 ≡ suc level
+  pub grown_level : level_of (applied (growing_parts after left right root.page level pairs) old) root.page ≡ suc level
   unfolding grown
   grown_level = splits.level ∙ ap suc level_is
 
-  new_named : (x : ℕ) → next_page old ≤ x → x < next_page grown → IsUnder (suc level) grown x 1
-  new_named x from to = elim (eqb_tells x front.next_page) [
-    | inl same ↦ subst (λ (y : ℕ). IsUnder (suc level) grown y 1) (sym same.1) (left_named old grown front.next_page (front.next_page + 1) splits level)
-    | inr far ↦
-        let e : x ≡ front.next_page + 1 = omega (arith, far.1, counted.1, next_is) in
-        subst (λ (y : ℕ). IsUnder (suc level) grown y 1) (sym e) (right_named old grown front.next_page (front.next_page + 1) splits level)
-  ]
+  -- each page that is taken is one of the tree
+  due_named : (i : ℕ) → i < 2 → (x : ℕ) → page_due old i ≡ x → IsPageOfTree grown root.page x
+  due_named zero lt x is = subst (λ (y : ℕ). IsPageOfTree grown root.page y) (left_due ∙ is) stays.left_is
+  due_named (suc zero) lt x is = subst (λ (y : ℕ). IsPageOfTree grown root.page y) (right_due ∙ is) stays.right_is
+  due_named (suc (suc i)) lt x is = absurd (omega arith)
 
   -- what splitting the root does to the data
-  pub growing_grows : Grows tree old (applied (growing_parts front level pairs) old) × Rests tree old (applied (growing_parts front level pairs) old)
+  pub growing_grows : Grows tree root.page old (applied (growing_parts after left right root.page level pairs) old) × Rests tree root.page old (applied (growing_parts after left right root.page level pairs) old)
   unfolding grown
   growing_grows = (
     record {
-      sound = grown_sound.0;
+      sound = one_changed old grown root sound table front_now.0 lists_now.slots lists_now.pages front_now.1 keeps grown_tree.0 tables_others;
       size = grown_long;
-      slots = λ j lt. slots_same j;
-      later = omega (arith, counted.1, next_is);
-      few = omega (arith, counted.1, next_is);
-      named = λ x from to. subst (λ (n : ℕ). IsUnder n grown x 1) (sym grown_level) (new_named x from to);
-      kept = λ x u. subst (λ (n : ℕ). IsUnder n grown x 1) (sym grown_level)
-          (grown_stays old grown front.next_page (front.next_page + 1) splits level 0 key_end x root_tree below_root (subst (λ (n : ℕ). IsUnder n old x 1) level_is u));
-      levels = omega (arith, grown_level, level_is);
+      version = version_kept old grown zero_new;
+      tables = front_now.1;
+      others = others_untouched old grown root sound table front_now.0 lists_now.slots lists_now.pages front_now.1 keeps grown_tree.0 tables_others;
+      slots = λ j lt ne. slots_same j;
+      later = omega (arith, lists_now.pages_next);
+      few = omega (arith, lists_now.pages_next);
+      free_pages_fall = omega (arith, lists_now.pages_free);
+      named = λ x from to.
+          let i : ℕ = x - next_page old + free_pages old in
+          let f = due_next old whole.pages (x - next_page old + free_pages old) (omega arith) in
+          due_named (x - next_page old + free_pages old) (omega (arith, lists_now.pages_next, from, to)) x (omega (arith, f, from));
+      taken = λ x free. elim (after_free old grown 2 lists_now x free) [
+        | inl still ↦ inl still
+        | inr now ↦ inr (due_named now.0 now.1 x now.2)
+      ];
+      kept = stays.stay;
+      levels = omega (arith, splits.level);
     },
-    record { pairs = grown_sound.1; slots = counted.0 ∙ says.slots },
+    record {
+      pairs = grown_tree.1;
+      slots = after_slots old grown 2 lists_now;
+      due = after_due old grown 2 lists_now;
+      same = slots_same (slot_due old);
+    },
   )
 
-  pub grown_counts : (next_slot (applied (growing_parts front level pairs) old) ≡ next_slot old) × (next_page (applied (growing_parts front level pairs) old) ≡ suc (suc (next_page old)))
+  pub grown_says : SaysSuper (page_bytes (applied (growing_parts after left right root.page level pairs) old) 0) after
   unfolding grown
-  grown_counts = (counted.0 ∙ says.slots, counted.1 ∙ (let e : front.next_page + 2 ≡ suc (suc (next_page old)) = omega (arith, next_is) in e))
+  grown_says = says_now
 
-  -- the half that has the key is the root's child for it, has room, and has what is left to do
-  pub grown_half : half_for (page_pairs old 1) front.next_page (front.next_page + 1) key ≡ page_for 1 (applied (growing_parts front level pairs) old) 1 key
+  -- the pages that are taken are those that are due
+  pub grown_dues : (left ≡ page_due old 0) × (right ≡ page_due old 1)
+  grown_dues = (left_due, right_due)
+
+  pub grown_slots : (next_slot (applied (growing_parts after left right root.page level pairs) old) ≡ next_slot old) × (next_page (applied (growing_parts after left right root.page level pairs) old) ≤ next_page old + 2)
+  unfolding grown
+  grown_slots = (lists_now.slots_next, omega (arith, lists_now.pages_next))
+
+  -- two pages less are left
+  pub grown_used : used_pages (applied (growing_parts after left right root.page level pairs) old) ≡ used_pages old + 2
+  unfolding grown
+  grown_used = after_pages old grown 2 lists_now (omega (arith, free_few))
+
+  -- the half that has the key is the root's child for it, and has what is left to do
+  pub grown_half : half_for (page_pairs old root.page) left right key ≡ page_for 1 (applied (growing_parts after left right root.page level pairs) old) root.page key
   unfolding grown
   grown_half = sym (ap (λ (ps : List Pair). child_for ps key) named_pairs)
 
-  pub grown_room : count_of (applied (growing_parts front level pairs) old) (half_for (page_pairs old 1) front.next_page (front.next_page + 1) key) ≡ 15
+  pub grown_pairs : page_pairs (applied (growing_parts after left right root.page level pairs) old) (half_for (page_pairs old root.page) left right key) ≡ half_pairs (page_pairs old root.page) key
   unfolding grown
-  grown_room = elim (leb_tells (suc key) (key_at (page_pairs old 1) 15)) [
-    | inl h ↦
-        let b : nat_lt key (key_at (page_pairs old 1) 15) ≡ true = h.0 in
-        rw b (sym (length-page_pairs grown front.next_page) ∙ ap (λ (ps : List Pair). length ps) lower_half.pairs_are ∙ length-take-le 15 (page_pairs old 1) (omega (arith, is_cut.full)))
-    | inr h ↦
-        let b : nat_lt key (key_at (page_pairs old 1) 15) ≡ false = h.0 in
-        rw b (sym (length-page_pairs grown (front.next_page + 1)) ∙ ap (λ (ps : List Pair). length ps) upper_half.pairs_are
-        ∙ (let e : length (drop 15 (page_pairs old 1)) ≡ 15 = omega (arith, length-drop 15 (page_pairs old 1), is_cut.full) in e))
+  grown_pairs = elim (leb_tells (suc key) (key_at (page_pairs old root.page) 15)) [
+    | inl h ↦ let b : nat_lt key (key_at (page_pairs old root.page) 15) ≡ true = h.0 in rw b lower_half.pairs_are
+    | inr h ↦ let b : nat_lt key (key_at (page_pairs old root.page) 15) ≡ false = h.0 in rw b upper_half.pairs_are
   ]
 
-  pub grown_says : page_pairs (applied (growing_parts front level pairs) old) (half_for (page_pairs old 1) front.next_page (front.next_page + 1) key) ≡ half_pairs (page_pairs old 1) key
-  unfolding grown
-  grown_says = elim (leb_tells (suc key) (key_at (page_pairs old 1) 15)) [
-    | inl h ↦ let b : nat_lt key (key_at (page_pairs old 1) 15) ≡ true = h.0 in rw b lower_half.pairs_are
-    | inr h ↦ let b : nat_lt key (key_at (page_pairs old 1) 15) ≡ false = h.0 in rw b upper_half.pairs_are
-  ]
-
-  pub grown_left : actions_below level (applied (growing_parts front level pairs) old) (half_for (page_pairs old 1) front.next_page (front.next_page + 1) key)
-      (half_for (page_pairs old 1) front.next_page (front.next_page + 1) key) (next_page (applied (growing_parts front level pairs) old)) key
-      ≡ actions_below level old 1 (half_for (page_pairs old 1) front.next_page (front.next_page + 1) key) (suc (suc (next_page old))) key
+  pub grown_left : actions_below level (applied (growing_parts after left right root.page level pairs) old) (half_for (page_pairs old root.page) left right key)
+      (half_for (page_pairs old root.page) left right key) 0 key
+      ≡ actions_below level old root.page (half_for (page_pairs old root.page) left right key) 2 key
   unfolding grown
   grown_left =
-      half_actions old grown (counted.0 ∙ says.slots) grown_long 1 front.next_page (front.next_page + 1) key is_cut level 0 key_end root_tree (omega arith) fits below_root
-      (half_for (page_pairs old 1) front.next_page (front.next_page + 1) key) (next_page grown)
-      ∙ ap (λ (n : ℕ). actions_below level old 1 (half_for (page_pairs old 1) front.next_page (front.next_page + 1) key) n key) grown_counts.1
+      half_actions root old grown 2 (after_due old grown 2 lists_now) grown_long lists_now.due root.page left right key is_cut level 0 key_end root_tree (omega arith) (omega (arith, fits))
+      (λ x u ne. tree_others x (subst (λ (n : ℕ). IsUnder n old x root.page) (sym level_is) u) ne)
+      (half_for (page_pairs old root.page) left right key) 0
+      ∙ ap (λ (n : ℕ). actions_below level old root.page (half_for (page_pairs old root.page) left right key) n key) (let z : 2 + 0 ≡ 2 = omega arith in z)

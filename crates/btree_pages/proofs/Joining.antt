@@ -1,60 +1,45 @@
--- Data along an insertion: what its steps make of it together.
-use Rattle.std.proofs.Common.{ℕ, suc, ◌+◌, ◌≤◌, inl, inr, List, sym, ◌∙◌, ap, arith}
-use Rattle.std.proofs.lemmas.Bool.Decides.{leb_tells}
-use Rattle.record_slots.specs.Places.{next_slot, next_page, slot_of}
-use Rattle.page_store.specs.Index.{Grows, Rests, Gains}
-use Rattle.page_store.specs.Inserts.{MayBecome}
-use Rattle.page_store.specs.Pairs.{Pair, inserted}
-use Rattle.btree_pages.specs.Index.{tree, tree_below}
-use Rattle.btree_pages.specs.Tree.{pairs_of_tree}
+-- Data along an insertion: an action after others.
+use Rattle.std.proofs.Common.{◌≡◌, ℕ, ◌+◌, ◌≤◌, List}
+use Rattle.record_slots.specs.Places.{next_slot, next_page}
+use Rattle.page_store.specs.Index.{Action, Grows, Rests, Gains}
+use Rattle.index_pages.proofs.Joining.{grows_within, gains_within, grows_after, rests_after, gains_after}
+use Rattle.btree_pages.specs.Index.{tree, tree_below, actions_below}
 
-module _ (page level most : ℕ) (a b c : List ℕ) (limit : most ≤ next_page a + 9) where
-  -- an action after others
-  pub grows_more : Grows (tree_below page level most) a b → Rests (tree_below page level most) a b → Grows tree b c → next_page c ≤ most → Grows (tree_below page level most) a c
-  grows_more first rests second few = record {
-    sound = (second.sound, few);
-    size = second.size ∙ first.size;
-    slots = λ j lt. second.slots j (omega (arith, lt, rests.slots)) ∙ first.slots j lt;
-    later = omega (arith, first.later, second.later);
-    few = omega (arith, few, limit);
-    named = λ x from to. elim (leb_tells (next_page b) x) [ inl late ↦ second.named x late.1 to | inr early ↦ second.kept x (first.named x from (omega (arith, early.1))) ];
-    kept = λ x on. second.kept x (first.kept x on);
-    levels = omega (arith, first.levels, second.levels);
+module _ (page level most root : ℕ) where
+  abbrev acts : List ℕ → ℕ → ℕ → List Action
+  acts bytes root key = actions_below level bytes page page 0 key
+
+  grows_without : (a b : List ℕ) → Grows (tree_below page level most) root a b → Grows tree root a b
+  grows_without a b g = record {
+    sound = g.sound.0;
+    size = g.size;
+    version = g.version;
+    tables = g.tables;
+    others = λ table other is ne. let u = g.others table other is ne in record { pairs = u.pairs; level = u.level; pages = u.pages };
+    slots = g.slots;
+    later = g.later;
+    few = g.few;
+    free_pages_fall = g.free_pages_fall;
+    named = g.named;
+    taken = g.taken;
+    kept = g.kept;
+    levels = g.levels;
   }
 
-  pub rests_more : Rests (tree_below page level most) a b → Rests tree b c → Rests (tree_below page level most) a c
-  rests_more first second = record { pairs = second.pairs ∙ first.pairs; slots = second.slots ∙ first.slots }
+  rests_without : (a b : List ℕ) → Rests (tree_below page level most) root a b → Rests tree root a b
+  rests_without a b r = record { pairs = r.pairs; slots = r.slots; due = r.due; same = r.same }
 
-  pub gains_more : (key : ℕ) → Rests (tree_below page level most) a b → Gains tree key b c → Gains (tree_below page level most) key a c
-  gains_more key rests gains = record {
-    pairs = gains.pairs ∙ ap (λ (ps : List Pair). inserted ps key (next_slot b)) rests.pairs ∙ ap (λ (s : ℕ). inserted (pairs_of_tree a) key s) rests.slots;
-    slots = gains.slots ∙ ap (λ (s : ℕ). suc s) rests.slots;
-    fresh = ap (λ (s : ℕ). slot_of c s) (sym rests.slots) ∙ gains.fresh;
-  }
+  rests_within : (a b : List ℕ) → Rests tree root a b → Rests (tree_below page level most) root a b
+  rests_within a b r = record { pairs = r.pairs; slots = r.slots; due = r.due; same = r.same }
 
-  -- what is left of an insertion after the first actions
-  pub grows_below : Grows tree a b → Rests tree a b → Grows (tree_below page level most) b c → Grows tree a c
-  grows_below first rests second = record {
-    sound = second.sound.0;
-    size = second.size ∙ first.size;
-    slots = λ j lt. second.slots j (omega (arith, lt, rests.slots)) ∙ first.slots j lt;
-    later = omega (arith, first.later, second.later);
-    few = omega (arith, second.sound.1, limit);
-    named = λ x from to. elim (leb_tells (next_page b) x) [ inl late ↦ second.named x late.1 to | inr early ↦ second.kept x (first.named x from (omega (arith, early.1))) ];
-    kept = λ x on. second.kept x (first.kept x on);
-    levels = omega (arith, first.levels, second.levels);
-  }
+  module _ (a b c : List ℕ) (limit : most ≤ next_page a + 9) (slots_next : next_slot b ≡ next_slot a) where
+    pub grows_more : Grows (tree_below page level most) root a b → Rests (tree_below page level most) root a b → Grows tree root b c → next_page c ≤ most → Grows (tree_below page level most) root a c
+    grows_more first rests second few =
+        grows_within tree most acts root a c (grows_after tree most acts root a b c limit slots_next (grows_without a b first) (rests_without a b rests) (grows_within tree most acts root b c second few)) few
 
-  pub rests_below : Rests tree a b → Rests (tree_below page level most) b c → Rests tree a c
-  rests_below first second = record { pairs = second.pairs ∙ first.pairs; slots = second.slots ∙ first.slots }
+    pub rests_more : Rests (tree_below page level most) root a b → Rests tree root b c → Rests (tree_below page level most) root a c
+    rests_more first second = rests_within a c (rests_after tree most acts root a b c limit slots_next (rests_without a b first) (rests_within b c second))
 
-  pub gains_below : (key : ℕ) → Rests tree a b → Gains (tree_below page level most) key b c → Gains tree key a c
-  gains_below key rests gains = record {
-    pairs = gains.pairs ∙ ap (λ (ps : List Pair). inserted ps key (next_slot b)) rests.pairs ∙ ap (λ (s : ℕ). inserted (pairs_of_tree a) key s) rests.slots;
-    slots = gains.slots ∙ ap (λ (s : ℕ). suc s) rests.slots;
-    fresh = ap (λ (s : ℕ). slot_of c s) (sym rests.slots) ∙ gains.fresh;
-  }
-
-  pub may_below : (key : ℕ) → Grows tree a b → Rests tree a b → MayBecome (tree_below page level most) key b c → MayBecome tree key a c
-  may_below key first rests (second, inl still) = (grows_below first rests second, inl (rests_below rests still))
-  may_below key first rests (second, inr gains) = (grows_below first rests second, inr (gains_below key rests gains))
+    pub gains_more : (table key : ℕ) → Rests (tree_below page level most) root a b → Gains tree root table key b c → Gains (tree_below page level most) root table key a c
+    gains_more table key rests gains =
+        gains_within tree most acts root table key a c (gains_after tree most acts root a b c limit slots_next table key (rests_without a b rests) (gains_within tree most acts root table key b c gains))

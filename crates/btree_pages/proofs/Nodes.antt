@@ -6,7 +6,7 @@ use Rattle.index_pages.specs.Page.{level_said, count_said, pair_said, pairs_from
 use Rattle.index_pages.specs.Written.{IsPage, SaysHead}
 use Rattle.index_pages.specs.declared.page.Head.{Head}
 use Rattle.index_pages.proofs.Reading.{from_step, from_end}
-use Rattle.btree_pages.specs.Descent.{child_for}
+use Rattle.btree_laws.specs.Descent.{child_for}
 use Rattle.btree_pages.specs.Leaf.{bound_in}
 use Rattle.btree_pages.specs.Node.{IsNode, SaysNode}
 

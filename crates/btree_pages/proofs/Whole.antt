@@ -6,253 +6,269 @@ use Rattle.array_shape.specs.Places.{data_len, page_count}
 use Rattle.array_shape.specs.Logged.{applied}
 use Rattle.eaw_face.specs.State.{State}
 use Rattle.eaw_face.specs.Causes.{IsAlive}
-use Rattle.record_slots.specs.Places.{page_bytes, next_slot, next_page}
+use Rattle.record_slots.specs.Places.{page_bytes, next_slot, next_page, used_slots, used_pages, page_due}
 use Rattle.record_slots.specs.Super.{SaysSuper}
 use Rattle.record_slots.specs.declared.super_page.Super.{Super}
 use Rattle.page_store.specs.Fits.{FitAll, IsFirstLacking}
-use Rattle.page_store.specs.Index.{Action, Grows, Rests, slots_of, index_pages_of}
-use Rattle.page_store.specs.Inserts.{ActionFits, LackPages, MayBecome, Inserts}
-use Rattle.page_store.specs.Looks.{Looks, is_failed}
+use Rattle.page_store.specs.Index.{Action, IsTable, Grows, Rests, slots_of, index_pages_of}
+use Rattle.page_store.specs.Inserts.{ActionFits, LackPages, LackRoom, MayBecome, Inserts}
+use Rattle.page_store.specs.Looks.{Looks, LookCause, is_failed}
 use Rattle.page_store.specs.Pairs.{Pair, found}
 use Rattle.page_store.specs.Shown.{PagesView}
 use Rattle.page_store.specs.declared.fault.PageFault.{PageFault}
 use Rattle.page_store.specs.declared.index_fault.IndexFault.{IndexFault}
 use Rattle.page_store.specs.declared.index_fault.IndexFault.TheVariants as index
 use Rattle.index_pages.specs.Acts.{Acts}
+use Rattle.index_pages.specs.Adding.{TakesPage}
 use Rattle.index_pages.specs.Faults.{as_index}
 use Rattle.index_pages.specs.Fetched.{TestCause, IsFront}
 use Rattle.index_pages.specs.Page.{page_pairs, count_of, level_of}
+use Rattle.index_pages.proofs.Causing.{look_cause, still_same}
+use Rattle.index_pages.proofs.Going.{Going, going_looks, going_act, alive_now, inserts_refused, inserts_look_err, inserts_act_err}
+use Rattle.index_pages.proofs.Looking.{looks_none}
 use Rattle.index_pages.proofs.PageFacts.{length-page_pairs}
 use Rattle.index_pages.proofs.Sizes.{index_pages_are}
-use Rattle.btree_pages.specs.Checked.{IsFrontOf}
-use Rattle.btree_pages.specs.Index.{tree, tree_below, growing, half_for, half_pairs, tree_actions, actions_below}
+use Rattle.btree_laws.specs.Tree.{pairs_of_tree}
+use Rattle.btree_laws.specs.declared.root.Root.{Root}
+use Rattle.btree_pages.specs.Index.{tree, tree_below, growing, half_for, half_pairs, tree_actions, actions_below, AreSoundTrees}
 use Rattle.btree_pages.specs.Node.{IsNode}
 use Rattle.btree_pages.specs.OnWay.{IsOnWay, IsReached}
-use Rattle.btree_pages.specs.Tree.{IsSoundTree, pairs_of_tree}
+use Rattle.btree_pages.specs.Trees.{whole_of, table_sound, trees_count}
 use Rattle.btree_pages.specs.Writes.{IsRead, growing_pages, growing_parts}
 use Rattle.btree_pages.specs.declared.node.Node.{Node}
-use Rattle.index_pages.proofs.Causing.{look_cause, still_same}
+use Rattle.index_pages.proofs.Claims.{entries_long, slots_few}
 use Rattle.btree_pages.proofs.Descending.{down_first, down_node}
-use Rattle.index_pages.proofs.Going.{Going, going_looks, going_act, alive_now, inserts_refused, inserts_look_err, inserts_act_err}
-use Rattle.btree_pages.proofs.GrowData.{growing_grows, grown_counts, grown_level, grown_half, grown_says, grown_left}
-use Rattle.btree_pages.proofs.Left.{DecidesAll, all_left, room_lacks, fits_same, lacks_same}
-use Rattle.btree_pages.proofs.Lifting.{inserts_then}
+use Rattle.btree_pages.proofs.GrowData.{growing_grows, grown_level, grown_half, grown_pairs, grown_says, grown_used, grown_left, grown_dues, grown_slots}
+use Rattle.index_pages.proofs.Left.{DecidesAll, all_left, room_lacks, fits_same, lacks_same}
+use Rattle.index_pages.proofs.Lifting.{joins_same, inserts_then}
+use Rattle.index_pages.proofs.Joining.{named_kept, joins_within}
 use Rattle.btree_pages.proofs.Walking.{root_first, grow_due, growing_takes, growing_stops, growing_lacks, grown_decides}
 
-pub front_says : (bytes : List ℕ) (front : Super) → SaysSuper (page_bytes bytes 0) front → IsFrontOf bytes front
-front_says bytes front says = record { slots = says.next_slot; pages = says.next_page }
-
-module _ (tells : Bool) (E : Shape → List ℕ → List ℕ → Type 0) (t key : ℕ) (v0 v1 : PagesView) (sound : IsTrue tells → IsAlive v0.store → IsSoundTree v0.store.state.bytes) (fits : key < 2 ^ 64)
-    (looks : Looks tells (E v0.store.shape) false v0 v1) where
+module _ (tells : Bool) (E : Shape → List ℕ → List ℕ → Type 0) (t : ℕ) (root : Root) (key : ℕ) (v0 v1 : PagesView) (sound : IsTrue tells → IsAlive v0.store → AreSoundTrees v0.store.state.bytes)
+    (named : IsTrue tells → IsAlive v0.store → IsTable v0.store.state.bytes root.table root.page) (fits : key < 2 ^ 64) (looks : Looks tells (E v0.store.shape) false v0 v1) where
   -- the root cannot be read
   pub root_err : (v2 : PagesView) (fault : PageFault)
-      → (let r : Result Node PageFault = Err fault in Looks tells (E v1.store.shape) (is_failed r) v1 v2 × TestCause tells (IsNode (page_bytes v1.store.state.bytes 1)) 1 v1.store r)
-      → (let r : Result ℕ IndexFault = Err (as_index fault) in Inserts tells (E v0.store.shape) tree t key v0 v2 r)
+      → (let r : Result Node PageFault = Err fault in Looks tells (E v1.store.shape) (is_failed r) v1 v2 × TestCause tells (IsNode (page_bytes v1.store.state.bytes root.page)) root.page v1.store r)
+      → (let r : Result ℕ IndexFault = Err (as_index fault) in Inserts tells (E v0.store.shape) tree t root.page root.table key v0 v2 r)
   root_err v2 fault looks' =
       let r : Result Node PageFault = Err fault in
       let still = looks.still refl in
-      inserts_look_err tree tells (E v0.store.shape) t key Node v0 v1 v2 (going_looks tree tells (E v0.store.shape) t key v0 v1 sound looks) fault (
+      inserts_look_err tree tells (E v0.store.shape) t root.page root.table key Node v0 v1 v2 (going_looks tree tells (E v0.store.shape) t root.page root.table key v0 v1 sound looks) fault (
         subst (λ (sh : Shape). Looks tells (E sh) (is_failed r) v1 v2) looks.shape looks'.0,
-        look_cause Node Node tells v1.store v1.store (IsNode (page_bytes v1.store.state.bytes 1)) 1 fault (still_same tells v1.store)
-            (λ told living. subst (λ (st : State). IsNode (page_bytes st.bytes 1)) (sym (still.state told))
-            (down_node v0.store.state.bytes key 0 1 None (down_first v0.store.state.bytes key (sound told (sym still.dead ∙ living)) fits))) looks'.1,
+        look_cause Node Node tells v1.store v1.store (IsNode (page_bytes v1.store.state.bytes root.page)) root.page fault (still_same tells v1.store)
+            (λ told living. subst (λ (st : State). IsNode (page_bytes st.bytes root.page)) (sym (still.state told))
+            (down_node root v0.store.state.bytes key 0 root.page None (down_first root v0.store.state.bytes key (table_sound v0.store.state.bytes root (sound told (sym still.dead ∙ living)) (named told (sym still.dead ∙ living))) fits))) looks'.1,
       )
 
-module _ (tells : Bool) (E : Shape → List ℕ → List ℕ → Type 0) (t key : ℕ) (v0 v1 : PagesView) (half : ℕ) (half_is : half ≡ index_pages_of v0.store.shape) (all : half + half ≡ page_count v0.store.shape)
-    (few : half ≤ 16384) (two : 2 ≤ half) (fits : key < 2 ^ 64) (sound : IsTrue tells → IsAlive v0.store → IsSoundTree v0.store.state.bytes)
-    (absent : IsTrue tells → IsAlive v0.store → found (pairs_of_tree v0.store.state.bytes) key ≡ None) (long : IsTrue tells → length v0.store.state.bytes ≡ data_len v0.store.shape)
-    (looks : Looks tells (E v0.store.shape) false v0 v1) (alive : IsAlive v0.store) (front : Super) (front_is : IsFront v0.store.shape front) (counts : IsTrue tells → IsFrontOf v0.store.state.bytes front) (other : front.next_slot ≢ 8 * half)
-    (page level : ℕ) (pairs : List Pair) (page_is : page ≡ 1) (read : IsRead v0.store.shape 1 level pairs) (level_is : IsTrue tells → level ≡ level_of v0.store.state.bytes 1)
-    (are : IsTrue tells → pairs ≡ page_pairs v0.store.state.bytes 1) where
-  going1 : Going tree tells (E v0.store.shape) t key v0 v1
-  going1 = going_looks tree tells (E v0.store.shape) t key v0 v1 sound looks
+  module _ (alive : IsAlive v0.store) where
+    going1 : Going tree tells (E v0.store.shape) t root.page root.table key v0 v1
+    going1 = going_looks tree tells (E v0.store.shape) t root.page root.table key v0 v1 sound looks
 
-  slot : front.next_slot < slots_of v0.store.shape
-  slot = (let ne : front.next_slot ≡ 8 * half → ⊥ = other in omega (arith, front_is.slots, all))
+    same1 : IsTrue tells → v1.store.state.bytes ≡ v0.store.state.bytes
+    same1 told = ap (λ (st : State). st.bytes) ((looks.still refl).state told)
 
-  same1 : IsTrue tells → v1.store.state.bytes ≡ v0.store.state.bytes
-  same1 told = ap (λ (st : State). st.bytes) ((looks.still refl).state told)
+    -- the rest of the insertion, after what was only read
+    pub looked_then : (v2 : PagesView) (r : Result ℕ IndexFault) → Inserts tells (E v1.store.shape) tree t root.page root.table key v1 v2 r → Inserts tells (E v0.store.shape) tree t root.page root.table key v0 v2 r
+    looked_then v2 r rest =
+        inserts_then tells E t root.page root.table key v0 v1 v2 tree tree going1 alive (λ told. joins_same tree root.page root.table key v0.store.state.bytes v1.store.state.bytes (same1 told))
+        (λ told. subst (λ (b : List ℕ). DecidesAll v0.store t (index_pages_of v0.store.shape - used_pages v0.store.state.bytes) (tree_actions v0.store.state.bytes root.page key) (index_pages_of v0.store.shape - used_pages b) (tree_actions b root.page key)) (sym (same1 told)) (all_left v0.store t (index_pages_of v0.store.shape - used_pages v0.store.state.bytes) (tree_actions v0.store.state.bytes root.page key))) r rest
 
-  slot_left : IsTrue tells → next_slot v0.store.state.bytes < slots_of v0.store.shape
-  slot_left told = omega (arith, slot, (counts told).slots)
+    -- from a root with room on
+    pub root_then : (front : Super) (page level : ℕ) (pairs : List Pair) → (IsTrue tells → SaysSuper (page_bytes v0.store.state.bytes 0) front) → page ≡ root.page → level ≤ 7 → (IsTrue tells → level ≡ level_of v0.store.state.bytes root.page)
+        → (IsTrue tells → pairs ≡ page_pairs v0.store.state.bytes root.page) → length pairs < 30
+        → (v2 : PagesView) (r : Result ℕ IndexFault) → Inserts tells (E v1.store.shape) (tree_below page level (front.next_page + level)) t root.page root.table key v1 v2 r → Inserts tells (E v0.store.shape) tree t root.page root.table key v0 v2 r
+    root_then front page level pairs says page_is level_most level_is are room v2 r rest =
+        inserts_then tells E t root.page root.table key v0 v1 v2 tree (tree_below page level (front.next_page + level)) going1 alive
+        (λ told. joins_within tree (front.next_page + level) (λ bytes root key. actions_below level bytes page page 0 key) root.page root.table key v0.store.state.bytes v1.store.state.bytes (omega (arith, (says told).next_page, level_most)) (ap (λ (b : List ℕ). next_slot b) (same1 told)) (going1.made told alive).0 (going1.made told alive).1)
+        first_decides r rest
+      where
+        first_decides : IsTrue tells → DecidesAll v0.store t (index_pages_of v0.store.shape - used_pages v0.store.state.bytes) (tree_actions v0.store.state.bytes root.page key) (index_pages_of v0.store.shape - used_pages v1.store.state.bytes) (actions_below level v1.store.state.bytes page page 0 key)
+        first_decides told =
+            let count : count_of v0.store.state.bytes root.page < 30 = omega (arith, room, length-page_pairs v0.store.state.bytes root.page, ap (λ (ps : List Pair). length ps) (are told)) in
+            let is : tree_actions v0.store.state.bytes root.page key ≡ actions_below level v0.store.state.bytes page page 0 key =
+            sym (root_first root.page key v0.store.state.bytes count)
+            ∙ ap (λ (n : ℕ). actions_below n v0.store.state.bytes root.page root.page 0 key) (sym (level_is told))
+            ∙ ap (λ (p : ℕ). actions_below level v0.store.state.bytes p p 0 key) (sym page_is) in
+            subst (λ (b : List ℕ). DecidesAll v0.store t (index_pages_of v0.store.shape - used_pages v0.store.state.bytes) (tree_actions v0.store.state.bytes root.page key) (index_pages_of v0.store.shape - used_pages b) (actions_below level b page page 0 key)) (sym (same1 told))
+            (subst (λ (l : List Action). DecidesAll v0.store t (index_pages_of v0.store.shape - used_pages v0.store.state.bytes) (tree_actions v0.store.state.bytes root.page key) (index_pages_of v0.store.shape - used_pages v0.store.state.bytes) l) is (all_left v0.store t (index_pages_of v0.store.shape - used_pages v0.store.state.bytes) (tree_actions v0.store.state.bytes root.page key)))
 
-  count_is : IsTrue tells → count_of v0.store.state.bytes 1 ≡ length pairs
-  count_is told = sym (length-page_pairs v0.store.state.bytes 1) ∙ ap (λ (ps : List Pair). length ps) (sym (are told))
+module _ (tells : Bool) (E : Shape → List ℕ → List ℕ → Type 0) (t : ℕ) (root : Root) (key : ℕ) (v0 : PagesView) (half : ℕ) (half_is : half ≡ index_pages_of v0.store.shape) (all : half + half ≡ page_count v0.store.shape)
+    (few : half ≤ 16384) (two : 2 ≤ half) (fits : key < 2 ^ 64) (sound : IsTrue tells → AreSoundTrees v0.store.state.bytes) (named : IsTrue tells → IsTable v0.store.state.bytes root.table root.page)
+    (absent : IsTrue tells → found (pairs_of_tree v0.store.state.bytes root.page) key ≡ None) (long : IsTrue tells → length v0.store.state.bytes ≡ data_len v0.store.shape) (alive : IsAlive v0.store)
+    (front : Super) (front_is : IsFront v0.store.shape front) (slot : front.free_slots ≡ 0 → front.next_slot < slots_of v0.store.shape) (says : IsTrue tells → SaysSuper (page_bytes v0.store.state.bytes 0) front)
+    (level : ℕ) (pairs : List Pair) (read : IsRead v0.store.shape root.page level pairs) (level_is : IsTrue tells → level ≡ level_of v0.store.state.bytes root.page) (are : IsTrue tells → pairs ≡ page_pairs v0.store.state.bytes root.page) (full : length pairs ≡ 30) where
+  many : IsTrue tells → 30 ≤ count_of v0.store.state.bytes root.page
+  many told = omega (arith, full, length-page_pairs v0.store.state.bytes root.page, ap (λ (ps : List Pair). length ps) (are told))
 
-  -- a root with room
-  module _ (room : length pairs < 30) where
-    first_decides : IsTrue tells → DecidesAll v0.store t (index_pages_of v0.store.shape - next_page v0.store.state.bytes) (tree_actions v0.store.state.bytes key)
-        (index_pages_of v0.store.shape - next_page v1.store.state.bytes) (actions_below level v1.store.state.bytes page page (next_page v1.store.state.bytes) key)
-    first_decides told =
-        let is : tree_actions v0.store.state.bytes key ≡ actions_below level v0.store.state.bytes page page (next_page v0.store.state.bytes) key =
-        sym (root_first key v0.store.state.bytes (omega (arith, room, count_is told)))
-        ∙ ap (λ (n : ℕ). actions_below n v0.store.state.bytes 1 1 (next_page v0.store.state.bytes) key) (sym (level_is told))
-        ∙ ap (λ (p : ℕ). actions_below level v0.store.state.bytes p p (next_page v0.store.state.bytes) key) (sym page_is) in
-        subst (λ (b : List ℕ). DecidesAll v0.store t (index_pages_of v0.store.shape - next_page v0.store.state.bytes) (tree_actions v0.store.state.bytes key)
-        (index_pages_of v0.store.shape - next_page b) (actions_below level b page page (next_page b) key)) (sym (same1 told))
-        (subst (λ (l : List Action). DecidesAll v0.store t (index_pages_of v0.store.shape - next_page v0.store.state.bytes) (tree_actions v0.store.state.bytes key) (index_pages_of v0.store.shape - next_page v0.store.state.bytes) l) is
-        (all_left v0.store t (index_pages_of v0.store.shape - next_page v0.store.state.bytes) (tree_actions v0.store.state.bytes key)))
+  slot_left : IsTrue tells → used_slots v0.store.state.bytes < slots_of v0.store.shape
+  slot_left told = slots_few v0.store.shape v0.store.state.bytes front front_is slot (says told) (trees_count v0.store.state.bytes (sound told))
 
-    pub root_then : (v2 : PagesView) (r : Result ℕ IndexFault) → Inserts tells (E v1.store.shape) (tree_below page level (front.next_page + level)) t key v1 v2 r → Inserts tells (E v0.store.shape) tree t key v0 v2 r
-    root_then v2 r rest =
-        inserts_then tells E t key v0 v1 v2 page level (front.next_page + level) going1 alive (λ told. omega (arith, (counts told).pages, read.level_most)) first_decides r rest
+  going0 : Going tree tells (E v0.store.shape) t root.page root.table key v0 v0
+  going0 = going_looks tree tells (E v0.store.shape) t root.page root.table key v0 v0 (λ told running. sound told) (looks_none tells (E v0.store.shape) v0)
 
-  -- a root without room
-  module _ (full : length pairs ≡ 30) where
-    many : IsTrue tells → 30 ≤ count_of v0.store.state.bytes 1
-    many told = omega (arith, full, count_is told)
+  refused : (IsTrue tells → LackPages v0.store t (index_pages_of v0.store.shape - used_pages v0.store.state.bytes) (tree_actions v0.store.state.bytes root.page key)) → (IsTrue tells → (half - 1 ≤ used_pages v0.store.state.bytes) ⊎ (7 ≤ level_of v0.store.state.bytes root.page))
+      → (let r : Result ℕ IndexFault = Err (index.PagesFull (half - 1)) in Inserts tells (E v0.store.shape) tree t root.page root.table key v0 v0 r)
+  refused lack out = inserts_refused tree tells (E v0.store.shape) t root.page root.table key v0 v0 going0 (index.PagesFull (half - 1)) (refl, (alive, ap (λ (n : ℕ). n - 1) half_is, λ told. (slot_left told, lack told)))
+      (λ n e told running. let e' : half - 1 ≡ n = cc in subst (λ (m : ℕ). (m ≤ used_pages v0.store.state.bytes) ⊎ (7 ≤ level_of v0.store.state.bytes root.page)) e' (out told))
 
-    refused : (IsTrue tells → LackPages v0.store t (index_pages_of v0.store.shape - next_page v0.store.state.bytes) (tree_actions v0.store.state.bytes key))
-        → (IsTrue tells → (half - 1 ≤ next_page v1.store.state.bytes) ⊎ (7 ≤ level_of v1.store.state.bytes 1))
-        → (let r : Result ℕ IndexFault = Err (index.PagesFull (half - 1)) in Inserts tells (E v0.store.shape) tree t key v0 v1 r)
-    refused lack out = inserts_refused tree tells (E v0.store.shape) t key v0 v1 going1 (index.PagesFull (half - 1)) (refl, (alive, ap (λ (n : ℕ). n - 1) half_is, λ told. (slot_left told, lack told)))
-        (λ n e told running. let e' : half - 1 ≡ n = cc in subst (λ (m : ℕ). (m ≤ next_page v1.store.state.bytes) ⊎ (7 ≤ level_of v1.store.state.bytes 1)) e' (out told))
+  -- the root has the highest level
+  pub root_high : level ≡ 7 → (let r : Result ℕ IndexFault = Err (index.PagesFull (half - 1)) in Inserts tells (E v0.store.shape) tree t root.page root.table key v0 v0 r)
+  root_high high = refused
+      (λ told. let stops = growing_stops v0.store t (index_pages_of v0.store.shape) root.page key v0.store.state.bytes (many told) (omega (arith, high, level_is told)) in
+      let counts = trees_count v0.store.state.bytes (sound told) in
+      growing_lacks v0.store t (index_pages_of v0.store.shape) root.page key v0.store.state.bytes (many told)
+      (omega (arith, stops, index_pages_are v0.store.shape v0.store.state.bytes (long told), counts.free_pages_few, half_is, two)))
+      (λ told. inr (omega (arith, high, level_is told)))
 
-    -- it has the highest level
-    pub root_high : level ≡ 7 → (let r : Result ℕ IndexFault = Err (index.PagesFull (half - 1)) in Inserts tells (E v0.store.shape) tree t key v0 v1 r)
-    root_high high = refused
-        (λ told. let stops = growing_stops v0.store t (index_pages_of v0.store.shape) key v0.store.state.bytes (many told) (omega (arith, high, level_is told)) in
-        growing_lacks v0.store t (index_pages_of v0.store.shape) key v0.store.state.bytes (many told)
-        (omega (arith, stops, index_pages_are v0.store.shape v0.store.state.bytes (long told), (sound told alive).0.some_pages, half_is, two)))
-        (λ told. inr (omega (arith, high, level_is told, ap (λ (b : List ℕ). level_of b 1) (same1 told))))
+  module _ (low : level ≢ 7) where
+    less : level < 7
+    less = (let ne : level ≡ 7 → ⊥ = low in omega (arith, read.level_most))
 
-    module _ (low : level ≢ 7) where
-      less : level < 7
-      less = (let ne : level ≡ 7 → ⊥ = low in omega (arith, read.level_most))
+    takes : (b : List ℕ) → (IsTrue tells → b ≡ v0.store.state.bytes) → IsTrue tells → (growing b root.page).takes ≡ 2
+    takes b same told = subst (λ (x : List ℕ). (growing x root.page).takes ≡ 2) (sym (same told)) (growing_takes v0.store t (index_pages_of v0.store.shape) root.page key v0.store.state.bytes (many told) (omega (arith, less, level_is told)))
 
-      takes : IsTrue tells → (growing v0.store.state.bytes).takes ≡ 2
-      takes told = growing_takes v0.store t (index_pages_of v0.store.shape) key v0.store.state.bytes (many told) (omega (arith, less, level_is told))
+    -- fewer than two pages are left
+    pub root_full : (2 ≤ front.free_pages + (half - front.next_page) → ⊥) → (let r : Result ℕ IndexFault = Err (index.PagesFull (half - 1)) in Inserts tells (E v0.store.shape) tree t root.page root.table key v0 v0 r)
+    root_full out = (let gone : 2 ≤ front.free_pages + (half - front.next_page) → ⊥ = out in refused
+        (λ told. growing_lacks v0.store t (index_pages_of v0.store.shape) root.page key v0.store.state.bytes (many told) (omega (arith, takes v0.store.state.bytes (λ t'. refl) told, gone, half_is, front_is.pages, (says told).next_page, (says told).free_pages)))
+        (λ told. inl (omega (arith, gone, half_is, front_is.pages, (says told).next_page, (says told).free_pages))))
 
-      -- fewer than two pages are left
-      pub root_full : half ≤ front.next_page + 1 → (let r : Result ℕ IndexFault = Err (index.PagesFull (half - 1)) in Inserts tells (E v0.store.shape) tree t key v0 v1 r)
-      root_full none = refused
-          (λ told. growing_lacks v0.store t (index_pages_of v0.store.shape) key v0.store.state.bytes (many told) (omega (arith, takes told, none, half_is, (counts told).pages)))
-          (λ told. inl (omega (arith, none, (counts told).pages, ap (λ (b : List ℕ). next_page b) (same1 told))))
+    module _ (left_two : 2 ≤ front.free_pages + (half - front.next_page)) (v2 : PagesView) (looks : Looks tells (E v0.store.shape) false v0 v2) (left right : ℕ) (mid after : Super)
+        (one : IsTrue tells → TakesPage v2.store.state.bytes front left mid) (other : IsTrue tells → TakesPage v2.store.state.bytes mid right after) where
+      going2 : Going tree tells (E v0.store.shape) t root.page root.table key v0 v2
+      going2 = going_looks tree tells (E v0.store.shape) t root.page root.table key v0 v2 (λ told running. sound told) looks
 
-      module _ (next' : front.next_page + 1 < half) where
-        next : front.next_page + 1 < index_pages_of v0.store.shape
-        next = omega (arith, next', half_is)
+      same2 : IsTrue tells → v2.store.state.bytes ≡ v0.store.state.bytes
+      same2 told = ap (λ (st : State). st.bytes) ((looks.still refl).state told)
 
-        sound1 : IsTrue tells → IsSoundTree v1.store.state.bytes
-        sound1 told = (going1.made told alive).0.sound
+      to2 : (P : List ℕ → Type 0) → (IsTrue tells → P v0.store.state.bytes) → IsTrue tells → P v2.store.state.bytes
+      to2 P before told = subst (λ (b : List ℕ). P b) (sym (same2 told)) (before told)
 
-        counts1 : IsTrue tells → IsFrontOf v1.store.state.bytes front
-        counts1 told = subst (λ (b : List ℕ). IsFrontOf b front) (sym (same1 told)) (counts told)
+      sound2 : IsTrue tells → AreSoundTrees v2.store.state.bytes
+      sound2 = to2 AreSoundTrees sound
 
-        level1 : IsTrue tells → level_of v1.store.state.bytes 1 ≡ level
-        level1 told = ap (λ (b : List ℕ). level_of b 1) (same1 told) ∙ sym (level_is told)
+      named2 : IsTrue tells → IsTable v2.store.state.bytes root.table root.page
+      named2 = to2 (λ (b : List ℕ). IsTable b root.table root.page) named
 
-        are1 : IsTrue tells → pairs ≡ page_pairs v1.store.state.bytes 1
-        are1 told = are told ∙ ap (λ (b : List ℕ). page_pairs b 1) (sym (same1 told))
+      says2 : IsTrue tells → SaysSuper (page_bytes v2.store.state.bytes 0) front
+      says2 = to2 (λ (b : List ℕ). SaysSuper (page_bytes b 0) front) says
 
-        long1 : IsTrue tells → length v1.store.state.bytes ≡ data_len v0.store.shape
-        long1 told = (going1.made told alive).0.size ∙ long told
+      long2 : IsTrue tells → length v2.store.state.bytes ≡ data_len v0.store.shape
+      long2 = to2 (λ (b : List ℕ). length b ≡ data_len v0.store.shape) long
 
-        grow_data : IsTrue tells → Grows tree v0.store.state.bytes (applied (growing_parts front level pairs) v1.store.state.bytes) × Rests tree v0.store.state.bytes (applied (growing_parts front level pairs) v1.store.state.bytes)
-        grow_data told =
-            subst (λ (b : List ℕ). Grows tree b (applied (growing_parts front level pairs) v1.store.state.bytes) × Rests tree b (applied (growing_parts front level pairs) v1.store.state.bytes)) (same1 told)
-            (growing_grows v0.store.shape v1.store.state.bytes half (long1 told) half_is all few front key level pairs fits front_is read (sound1 told) (counts1 told) (level1 told) (are1 told) full less next)
+      level2_is : IsTrue tells → level_of v2.store.state.bytes root.page ≡ level
+      level2_is = to2 (λ (b : List ℕ). level_of b root.page ≡ level) (λ told. sym (level_is told))
 
-        grow_may : IsTrue tells → IsAlive v0.store → MayBecome tree key v0.store.state.bytes (applied (growing_parts front level pairs) v1.store.state.bytes)
-        grow_may told running = let d = grow_data told in (d.0, inl d.1)
+      are2 : IsTrue tells → pairs ≡ page_pairs v2.store.state.bytes root.page
+      are2 = to2 (λ (b : List ℕ). pairs ≡ page_pairs b root.page) are
 
-        grow_pages : IsTrue tells → growing_pages front.next_page ≡ (growing v0.store.state.bytes).pages
-        grow_pages told =
-            let one : front.next_page + 1 ≡ suc (next_page v0.store.state.bytes) = omega (arith, (counts told).pages) in
-            ap (λ (n : ℕ). n ∷ (front.next_page + 1) ∷ 1 ∷ 0 ∷ []) (counts told).pages ∙ ap (λ (n : ℕ). next_page v0.store.state.bytes ∷ n ∷ 1 ∷ 0 ∷ []) one
+      many2 : IsTrue tells → 30 ≤ count_of v2.store.state.bytes root.page
+      many2 = to2 (λ (b : List ℕ). 30 ≤ count_of b root.page) many
 
-        enough : IsTrue tells → (growing v0.store.state.bytes).takes ≤ index_pages_of v0.store.shape - next_page v0.store.state.bytes
-        enough told = omega (arith, takes told, next, (counts told).pages)
+      enough2 : IsTrue tells → used_pages v2.store.state.bytes + 1 < index_pages_of v0.store.shape
+      enough2 told = omega (arith, left_two, half_is, front_is.pages, (trees_count v2.store.state.bytes (sound2 told)).free_pages_few, (says2 told).next_page, (says2 told).free_pages)
 
-        grow_start : (v2 : PagesView) (r : Result (Unit {0}) PageFault) → Acts tells (E v1.store.shape) t (growing_pages front.next_page) (growing_parts front level pairs) v1 v2 r
-            → Acts tells (E v0.store.shape) t (growing_pages front.next_page) (growing_parts front level pairs) v1 v2 r
-        grow_start v2 r acts = subst (λ (sh : Shape). Acts tells (E sh) t (growing_pages front.next_page) (growing_parts front level pairs) v1 v2 r) looks.shape acts
+      living2 : IsAlive v2.store
+      living2 = alive_now tree tells (E v0.store.shape) t root.page root.table key v0 v2 going2 alive
 
-        -- the split was refused
-        pub grow_err : (v2 : PagesView) (fault : PageFault) → (let r : Result (Unit {0}) PageFault = Err fault in Acts tells (E v1.store.shape) t (growing_pages front.next_page) (growing_parts front level pairs) v1 v2 r)
-            → (let r : Result ℕ IndexFault = Err (as_index fault) in Inserts tells (E v0.store.shape) tree t key v0 v2 r)
-        grow_err v2 fault acts' =
-            let r : Result (Unit {0}) PageFault = Err fault in
-            inserts_act_err tree tells (E v0.store.shape) t key v0 v1 v2 going1 (growing_pages front.next_page) (growing_parts front level pairs) grow_may alive
-            (λ g h n lacks. let lacks' = lacks_same v0.store v1.store t going1.shape (going1.logs.ranges t) (growing_pages front.next_page) g h n lacks in (
-              alive,
-              (growing_pages front.next_page, omega arith, lacks'),
-              λ told. (
-                slot_left told,
-                room_lacks v0.store t (index_pages_of v0.store.shape - next_page v0.store.state.bytes) (tree_actions v0.store.state.bytes key)
-                    (index_pages_of v0.store.shape - next_page v0.store.state.bytes) (growing v0.store.state.bytes)
-                    (actions_below (level_of v0.store.state.bytes 1) v0.store.state.bytes 1 (half_for (page_pairs v0.store.state.bytes 1) (next_page v0.store.state.bytes) (suc (next_page v0.store.state.bytes)) key) (suc (suc (next_page v0.store.state.bytes))) key)
-                    g h n (grow_due v0.store t (index_pages_of v0.store.shape) key v0.store.state.bytes (many told)) (enough told) (subst (λ (ps : List ℕ). IsFirstLacking v0.store t ps g h n) (grow_pages told) lacks'),
-              ),
-            ))
-            fault (grow_start v2 r acts')
+      grow_data : IsTrue tells → Grows tree root.page v0.store.state.bytes (applied (growing_parts after left right root.page level pairs) v2.store.state.bytes) × Rests tree root.page v0.store.state.bytes (applied (growing_parts after left right root.page level pairs) v2.store.state.bytes)
+      grow_data told = subst (λ (b : List ℕ). Grows tree root.page b (applied (growing_parts after left right root.page level pairs) v2.store.state.bytes) × Rests tree root.page b (applied (growing_parts after left right root.page level pairs) v2.store.state.bytes)) (same2 told) (growing_grows v0.store.shape v2.store.state.bytes half (long2 told) half_is all few root front mid after left right key level pairs fits (entries_long v2.store.state.bytes front (omega (arith, long2 told, all, two)) (says2 told)) read (sound2 told) (named2 told) (says2 told) (one told) (other told) (level2_is told) (are2 told) full less (enough2 told))
 
-        module _ (v2 : PagesView) (acts' : (let r : Result (Unit {0}) PageFault = Ok tt in Acts tells (E v1.store.shape) t (growing_pages front.next_page) (growing_parts front level pairs) v1 v2 r))
-            (page2 : ℕ) (pairs2 : List Pair) (page2_is : page2 ≡ half_for pairs front.next_page (front.next_page + 1) key) (pairs2_are : pairs2 ≡ half_pairs pairs key) where
-          grow_acts : (let r : Result (Unit {0}) PageFault = Ok tt in Acts tells (E v0.store.shape) t (growing_pages front.next_page) (growing_parts front level pairs) v1 v2 r)
-          grow_acts = (let r : Result (Unit {0}) PageFault = Ok tt in grow_start v2 r acts')
+      grow_may : IsTrue tells → IsAlive v0.store → MayBecome tree root.page root.table key v0.store.state.bytes (applied (growing_parts after left right root.page level pairs) v2.store.state.bytes)
+      grow_may told running = let d = grow_data told in (d.0, inl d.1)
 
-          pub going2 : Going tree tells (E v0.store.shape) t key v0 v2
-          going2 = going_act tree tells (E v0.store.shape) t key v0 v1 v2 going1 (growing_pages front.next_page) (growing_parts front level pairs) grow_may grow_acts (λ told running. grow_data told)
+      grow_pages : IsTrue tells → (growing_pages left right root.page) ≡ (growing v2.store.state.bytes root.page).pages
+      grow_pages told = let d = grown_dues v0.store.shape v2.store.state.bytes half (long2 told) half_is all few root front mid after left right key level pairs fits (entries_long v2.store.state.bytes front (omega (arith, long2 told, all, two)) (says2 told)) read (sound2 told) (named2 told) (says2 told) (one told) (other told) (level2_is told) (are2 told) full less (enough2 told) in
+          ap (λ (n : ℕ). n ∷ right ∷ root.page ∷ 0 ∷ []) d.0 ∙ ap (λ (n : ℕ). page_due v2.store.state.bytes 0 ∷ n ∷ root.page ∷ 0 ∷ []) d.1
 
-          pub sound2 : IsTrue tells → IsSoundTree v2.store.state.bytes
-          sound2 told = (going2.made told alive).0.sound
+      enough : IsTrue tells → (growing v2.store.state.bytes root.page).takes ≤ index_pages_of v0.store.shape - used_pages v2.store.state.bytes
+      enough told = omega (arith, takes v2.store.state.bytes same2 told, enough2 told)
 
-          pub absent2 : IsTrue tells → found (pairs_of_tree v2.store.state.bytes) key ≡ None
-          absent2 told = ap (λ (ps : List Pair). found ps key) (going2.made told alive).1.pairs ∙ absent told alive
+      grow_start : (v3 : PagesView) (r : Result (Unit {0}) PageFault) → Acts tells (E v2.store.shape) t (growing_pages left right root.page) (growing_parts after left right root.page level pairs) v2 v3 r → Acts tells (E v0.store.shape) t (growing_pages left right root.page) (growing_parts after left right root.page level pairs) v2 v3 r
+      grow_start v3 r acts = subst (λ (sh : Shape). Acts tells (E sh) t (growing_pages left right root.page) (growing_parts after left right root.page level pairs) v2 v3 r) looks.shape acts
 
-          grow_bytes : IsTrue tells → v2.store.state.bytes ≡ applied (growing_parts front level pairs) v1.store.state.bytes
-          grow_bytes told = grow_acts.made told (alive_now tree tells (E v0.store.shape) t key v0 v1 going1 alive)
+      -- the split was refused
+      pub grow_err : (v3 : PagesView) (fault : PageFault) → (let r : Result (Unit {0}) PageFault = Err fault in Acts tells (E v2.store.shape) t (growing_pages left right root.page) (growing_parts after left right root.page level pairs) v2 v3 r)
+          → (let r : Result ℕ IndexFault = Err (as_index fault) in Inserts tells (E v0.store.shape) tree t root.page root.table key v0 v3 r)
+      grow_err v3 fault acts' =
+          let r : Result (Unit {0}) PageFault = Err fault in
+          inserts_act_err tree tells (E v0.store.shape) t root.page root.table key v0 v2 v3 going2 (growing_pages left right root.page) (growing_parts after left right root.page level pairs) grow_may alive
+          (λ g h n lacks. let lacks' = lacks_same v0.store v2.store t going2.shape (going2.logs.ranges t) (growing_pages left right root.page) g h n lacks in (
+            alive,
+            ((growing_pages left right root.page), omega arith, lacks'),
+            λ told. (
+              slot_left told,
+              subst (λ (b : List ℕ). LackRoom v0.store t g h n (index_pages_of v0.store.shape - used_pages b) (tree_actions b root.page key)) (same2 told)
+                  (room_lacks v0.store t (index_pages_of v0.store.shape - used_pages v2.store.state.bytes) (tree_actions v2.store.state.bytes root.page key) (index_pages_of v0.store.shape - used_pages v2.store.state.bytes) (growing v2.store.state.bytes root.page) (actions_below (level_of v2.store.state.bytes root.page) v2.store.state.bytes root.page (half_for (page_pairs v2.store.state.bytes root.page) (page_due v2.store.state.bytes 0) (page_due v2.store.state.bytes 1) key) 2 key)
+                  g h n (grow_due v0.store t (index_pages_of v0.store.shape) root.page key v2.store.state.bytes (many2 told)) (enough told) (subst (λ (ps : List ℕ). IsFirstLacking v0.store t ps g h n) (grow_pages told) lacks')),
+            ),
+          ))
+          fault (grow_start v3 r acts')
 
-          grow_counts : IsTrue tells → (next_slot v2.store.state.bytes ≡ next_slot v1.store.state.bytes) × (next_page v2.store.state.bytes ≡ suc (suc (next_page v1.store.state.bytes)))
-          grow_counts told =
-              subst (λ (b : List ℕ). (next_slot b ≡ next_slot v1.store.state.bytes) × (next_page b ≡ suc (suc (next_page v1.store.state.bytes)))) (sym (grow_bytes told))
-              (grown_counts v0.store.shape v1.store.state.bytes half (long1 told) half_is all few front key level pairs fits front_is read (sound1 told) (counts1 told) (level1 told) (are1 told) full less next)
+      module _ (v3 : PagesView) (acts' : (let r : Result (Unit {0}) PageFault = Ok tt in Acts tells (E v2.store.shape) t (growing_pages left right root.page) (growing_parts after left right root.page level pairs) v2 v3 r)) where
+        grow_acts : (let r : Result (Unit {0}) PageFault = Ok tt in Acts tells (E v0.store.shape) t (growing_pages left right root.page) (growing_parts after left right root.page level pairs) v2 v3 r)
+        grow_acts = (let r : Result (Unit {0}) PageFault = Ok tt in grow_start v3 r acts')
 
-          pub counts2 : (front2 : Super) → front2.next_slot ≡ front.next_slot → front2.next_page ≡ front.next_page + 2 → IsTrue tells → IsFrontOf v2.store.state.bytes front2
-          counts2 front2 slot2 next2 told = record {
-            slots = slot2 ∙ (counts1 told).slots ∙ sym (grow_counts told).0;
-            pages = omega (arith, next2, (counts1 told).pages, (grow_counts told).1);
-          }
+        pub going3 : Going tree tells (E v0.store.shape) t root.page root.table key v0 v3
+        going3 = going_act tree tells (E v0.store.shape) t root.page root.table key v0 v2 v3 going2 (growing_pages left right root.page) (growing_parts after left right root.page level pairs) grow_may grow_acts (λ told running. grow_data told)
 
-          page2_there : IsTrue tells → page2 ≡ half_for (page_pairs v1.store.state.bytes 1) front.next_page (front.next_page + 1) key
-          page2_there told = page2_is ∙ ap (λ (ps : List Pair). half_for ps front.next_page (front.next_page + 1) key) (are1 told)
+        bytes3 : IsTrue tells → v3.store.state.bytes ≡ (applied (growing_parts after left right root.page level pairs) v2.store.state.bytes)
+        bytes3 told = grow_acts.made told living2
 
-          way2 : IsTrue tells → IsOnWay v2.store.state.bytes key 1 page2 level pairs2
-          way2 told = subst (λ (b : List ℕ). IsOnWay b key 1 page2 level pairs2) (sym (grow_bytes told)) (record {
-            page_is = page2_there told ∙ grown_half v0.store.shape v1.store.state.bytes half (long1 told) half_is all few front key level pairs fits front_is read (sound1 told) (counts1 told) (level1 told) (are1 told) full less next;
-            level_is = grown_level v0.store.shape v1.store.state.bytes half (long1 told) half_is all few front key level pairs fits front_is read (sound1 told) (counts1 told) (level1 told) (are1 told) full less next;
-            pairs_are = pairs2_are ∙ ap (λ (ps : List Pair). half_pairs ps key) (are1 told)
-                ∙ sym (grown_says v0.store.shape v1.store.state.bytes half (long1 told) half_is all few front key level pairs fits front_is read (sound1 told) (counts1 told) (level1 told) (are1 told) full less next)
-                ∙ ap (λ (x : ℕ). page_pairs (applied (growing_parts front level pairs) v1.store.state.bytes) x) (sym (page2_there told));
-          })
+        pub living3 : IsAlive v3.store
+        living3 = alive_now tree tells (E v0.store.shape) t root.page root.table key v0 v3 going3 alive
 
-          pub reached2 : (level2 : ℕ) → level2 ≡ level → IsTrue tells → IsReached v2.store.state.bytes key page2 level2 pairs2
-          reached2 level2 is told = (1, subst (λ (n : ℕ). IsOnWay v2.store.state.bytes key 1 page2 n pairs2) (sym is) (way2 told))
+        pub sound3 : IsTrue tells → AreSoundTrees v3.store.state.bytes
+        sound3 told = (going3.made told alive).0.sound
 
-          grow_fits : IsTrue tells → ActionFits v0.store t (index_pages_of v0.store.shape - next_page v0.store.state.bytes) (growing v0.store.state.bytes)
-          grow_fits told = (enough told, subst (λ (ps : List ℕ). FitAll v0.store t ps) (grow_pages told) (fits_same v0.store v1.store t going1.shape (going1.logs.ranges t) (growing_pages front.next_page) grow_acts.cause.1))
+        pub named3 : IsTrue tells → IsTable v3.store.state.bytes root.table root.page
+        named3 told = named_kept v3.store.state.bytes v0.store.state.bytes (sym (going3.made told alive).0.tables) root.table root.page (named told)
 
-          left2 : IsTrue tells → actions_below level v2.store.state.bytes page2 page2 (next_page v2.store.state.bytes) key ≡ actions_below level v0.store.state.bytes 1 page2 (suc (suc (next_page v0.store.state.bytes))) key
-          left2 told =
-              let left = grown_left v0.store.shape v1.store.state.bytes half (long1 told) half_is all few front key level pairs fits front_is read (sound1 told) (counts1 told) (level1 told) (are1 told) full less next in
-              ap (λ (b : List ℕ). actions_below level b page2 page2 (next_page b) key) (grow_bytes told)
-              ∙ subst (λ (x : ℕ). actions_below level (applied (growing_parts front level pairs) v1.store.state.bytes) x x (next_page (applied (growing_parts front level pairs) v1.store.state.bytes)) key
-              ≡ actions_below level v1.store.state.bytes 1 x (suc (suc (next_page v1.store.state.bytes))) key) (sym (page2_there told)) left
-              ∙ ap (λ (b : List ℕ). actions_below level b 1 page2 (suc (suc (next_page b))) key) (same1 told)
+        pub absent3 : IsTrue tells → found (pairs_of_tree v3.store.state.bytes root.page) key ≡ None
+        absent3 told = ap (λ (ps : List Pair). found ps key) (going3.made told alive).1.pairs ∙ absent told
 
-          page2_first : IsTrue tells → page2 ≡ half_for (page_pairs v0.store.state.bytes 1) (next_page v0.store.state.bytes) (suc (next_page v0.store.state.bytes)) key
-          page2_first told =
-              let one : front.next_page + 1 ≡ suc (next_page v0.store.state.bytes) = omega (arith, (counts told).pages) in
-              page2_is ∙ ap (λ (ps : List Pair). half_for ps front.next_page (front.next_page + 1) key) (are told)
-              ∙ ap (λ (n : ℕ). half_for (page_pairs v0.store.state.bytes 1) n (front.next_page + 1) key) (counts told).pages
-              ∙ ap (λ (n : ℕ). half_for (page_pairs v0.store.state.bytes 1) (next_page v0.store.state.bytes) n key) one
+        pub says3 : IsTrue tells → SaysSuper (page_bytes v3.store.state.bytes 0) after
+        says3 told = subst (λ (b : List ℕ). SaysSuper (page_bytes b 0) after) (sym (bytes3 told)) (grown_says v0.store.shape v2.store.state.bytes half (long2 told) half_is all few root front mid after left right key level pairs fits (entries_long v2.store.state.bytes front (omega (arith, long2 told, all, two)) (says2 told)) read (sound2 told) (named2 told) (says2 told) (one told) (other told) (level2_is told) (are2 told) full less (enough2 told))
 
-          pub grown_then : (level2 most : ℕ) (v3 : PagesView) (r : Result ℕ IndexFault) → level2 ≡ level → most ≡ front.next_page + 2 + level2
-              → Inserts tells (E v2.store.shape) (tree_below page2 level2 most) t key v2 v3 r → Inserts tells (E v0.store.shape) tree t key v0 v3 r
-          grown_then level2 most v3 r is most_is rest =
-              inserts_then tells E t key v0 v2 v3 page2 level2 most going2 alive (λ told. omega (arith, (counts told).pages, less, is, most_is))
-              (λ told. subst (λ (n : ℕ). DecidesAll v0.store t (index_pages_of v0.store.shape - next_page v0.store.state.bytes) (tree_actions v0.store.state.bytes key)
-              (index_pages_of v0.store.shape - next_page v2.store.state.bytes) (actions_below n v2.store.state.bytes page2 page2 (next_page v2.store.state.bytes) key)) (sym is)
-              (grown_decides v0.store t (index_pages_of v0.store.shape) key v0.store.state.bytes (many told) v2.store.state.bytes page2 level (sym (level_is told)) less (page2_first told) (grow_fits told)
-              ((grow_counts told).1 ∙ ap (λ (b : List ℕ). suc (suc (next_page b))) (same1 told)) (left2 told))) r rest
+        slots3 : IsTrue tells → next_slot v3.store.state.bytes ≡ next_slot v0.store.state.bytes
+        slots3 told = ap (λ (b : List ℕ). next_slot b) (bytes3 told) ∙ (grown_slots v0.store.shape v2.store.state.bytes half (long2 told) half_is all few root front mid after left right key level pairs fits (entries_long v2.store.state.bytes front (omega (arith, long2 told, all, two)) (says2 told)) read (sound2 told) (named2 told) (says2 told) (one told) (other told) (level2_is told) (are2 told) full less (enough2 told)).0 ∙ ap (λ (b : List ℕ). next_slot b) (same2 told)
+
+        grow_fits : IsTrue tells → ActionFits v0.store t (index_pages_of v0.store.shape - used_pages v2.store.state.bytes) (growing v2.store.state.bytes root.page)
+        grow_fits told = (enough told, subst (λ (ps : List ℕ). FitAll v0.store t ps) (grow_pages told) (fits_same v0.store v2.store t going2.shape (going2.logs.ranges t) (growing_pages left right root.page) grow_acts.cause.1))
+
+        module _ (page2 : ℕ) (pairs2 : List Pair) (page2_is : page2 ≡ half_for pairs left right key) (pairs2_are : pairs2 ≡ half_pairs pairs key) where
+          half_is2 : IsTrue tells → page2 ≡ half_for (page_pairs v2.store.state.bytes root.page) left right key
+          half_is2 told = page2_is ∙ ap (λ (ps : List Pair). half_for ps left right key) (are2 told)
+
+          pub reached3 : (level2 : ℕ) → level2 ≡ level → IsTrue tells → IsReached root v3.store.state.bytes key page2 level2 pairs2
+          reached3 level2 level2_is' told =
+              subst (λ (b : List ℕ). IsReached root b key page2 level2 pairs2) (sym (bytes3 told)) (
+                1,
+                record {
+                  page_is = half_is2 told ∙ grown_half v0.store.shape v2.store.state.bytes half (long2 told) half_is all few root front mid after left right key level pairs fits (entries_long v2.store.state.bytes front (omega (arith, long2 told, all, two)) (says2 told)) read (sound2 told) (named2 told) (says2 told) (one told) (other told) (level2_is told) (are2 told) full less (enough2 told);
+                  level_is = grown_level v0.store.shape v2.store.state.bytes half (long2 told) half_is all few root front mid after left right key level pairs fits (entries_long v2.store.state.bytes front (omega (arith, long2 told, all, two)) (says2 told)) read (sound2 told) (named2 told) (says2 told) (one told) (other told) (level2_is told) (are2 told) full less (enough2 told) ∙ ap (λ (n : ℕ). suc n) (sym level2_is');
+                  pairs_are = pairs2_are ∙ ap (λ (ps : List Pair). half_pairs ps key) (are2 told) ∙ sym (grown_pairs v0.store.shape v2.store.state.bytes half (long2 told) half_is all few root front mid after left right key level pairs fits (entries_long v2.store.state.bytes front (omega (arith, long2 told, all, two)) (says2 told)) read (sound2 told) (named2 told) (says2 told) (one told) (other told) (level2_is told) (are2 told) full less (enough2 told))
+                      ∙ ap (λ (x : ℕ). page_pairs (applied (growing_parts after left right root.page level pairs) v2.store.state.bytes) x) (sym (half_is2 told));
+                },
+              )
+
+          grown_rest : IsTrue tells → actions_below level (applied (growing_parts after left right root.page level pairs) v2.store.state.bytes) page2 page2 0 key ≡ actions_below level v2.store.state.bytes root.page page2 2 key
+          grown_rest told = subst (λ (x : ℕ). actions_below level (applied (growing_parts after left right root.page level pairs) v2.store.state.bytes) x x 0 key ≡ actions_below level v2.store.state.bytes root.page x 2 key) (sym (half_is2 told)) (grown_left v0.store.shape v2.store.state.bytes half (long2 told) half_is all few root front mid after left right key level pairs fits (entries_long v2.store.state.bytes front (omega (arith, long2 told, all, two)) (says2 told)) read (sound2 told) (named2 told) (says2 told) (one told) (other told) (level2_is told) (are2 told) full less (enough2 told))
+
+          half_due : IsTrue tells → page2 ≡ half_for (page_pairs v2.store.state.bytes root.page) (page_due v2.store.state.bytes 0) (page_due v2.store.state.bytes 1) key
+          half_due told = let d = grown_dues v0.store.shape v2.store.state.bytes half (long2 told) half_is all few root front mid after left right key level pairs fits (entries_long v2.store.state.bytes front (omega (arith, long2 told, all, two)) (says2 told)) read (sound2 told) (named2 told) (says2 told) (one told) (other told) (level2_is told) (are2 told) full less (enough2 told) in
+              half_is2 told ∙ ap (λ (n : ℕ). half_for (page_pairs v2.store.state.bytes root.page) n right key) d.0 ∙ ap (λ (n : ℕ). half_for (page_pairs v2.store.state.bytes root.page) (page_due v2.store.state.bytes 0) n key) d.1
+
+          decides3 : IsTrue tells → DecidesAll v0.store t (index_pages_of v0.store.shape - used_pages v0.store.state.bytes) (tree_actions v0.store.state.bytes root.page key) (index_pages_of v0.store.shape - used_pages v3.store.state.bytes) (actions_below level v3.store.state.bytes page2 page2 0 key)
+          decides3 told =
+              subst (λ (b : List ℕ). DecidesAll v0.store t (index_pages_of v0.store.shape - used_pages v0.store.state.bytes) (tree_actions v0.store.state.bytes root.page key) (index_pages_of v0.store.shape - used_pages b) (actions_below level b page2 page2 0 key)) (sym (bytes3 told))
+              (subst (λ (b : List ℕ). DecidesAll v0.store t (index_pages_of v0.store.shape - used_pages b) (tree_actions b root.page key) (index_pages_of v0.store.shape - used_pages (applied (growing_parts after left right root.page level pairs) v2.store.state.bytes)) (actions_below level (applied (growing_parts after left right root.page level pairs) v2.store.state.bytes) page2 page2 0 key)) (same2 told)
+              (grown_decides v0.store t (index_pages_of v0.store.shape) root.page key v2.store.state.bytes (many2 told) (applied (growing_parts after left right root.page level pairs) v2.store.state.bytes) page2 level (level2_is told) less (half_due told) (grow_fits told) (grown_used v0.store.shape v2.store.state.bytes half (long2 told) half_is all few root front mid after left right key level pairs fits (entries_long v2.store.state.bytes front (omega (arith, long2 told, all, two)) (says2 told)) read (sound2 told) (named2 told) (says2 told) (one told) (other told) (level2_is told) (are2 told) full less (enough2 told)) (grown_rest told)))
+
+          -- what is left of the insertion decides
+          pub grown_then : (level2 : ℕ) → level2 ≡ level → (v4 : PagesView) (r : Result ℕ IndexFault) → Inserts tells (E v3.store.shape) (tree_below page2 level2 (after.next_page + level2)) t root.page root.table key v3 v4 r → Inserts tells (E v0.store.shape) tree t root.page root.table key v0 v4 r
+          grown_then level2 same v4 r rest =
+              inserts_then tells E t root.page root.table key v0 v3 v4 tree (tree_below page2 level2 (after.next_page + level2)) going3 alive
+              (λ told. joins_within tree (after.next_page + level2) (λ bytes root key. actions_below level2 bytes page2 page2 0 key) root.page root.table key v0.store.state.bytes v3.store.state.bytes
+              (omega (arith, (grown_says v0.store.shape v2.store.state.bytes half (long2 told) half_is all few root front mid after left right key level pairs fits (entries_long v2.store.state.bytes front (omega (arith, long2 told, all, two)) (says2 told)) read (sound2 told) (named2 told) (says2 told) (one told) (other told) (level2_is told) (are2 told) full less (enough2 told)).next_page, (grown_slots v0.store.shape v2.store.state.bytes half (long2 told) half_is all few root front mid after left right key level pairs fits (entries_long v2.store.state.bytes front (omega (arith, long2 told, all, two)) (says2 told)) read (sound2 told) (named2 told) (says2 told) (one told) (other told) (level2_is told) (are2 told) full less (enough2 told)).1, ap (λ (b : List ℕ). next_page b) (same2 told), less, same)) (slots3 told) (going3.made told alive).0 (going3.made told alive).1)
+              (λ told. subst (λ (n : ℕ). DecidesAll v0.store t (index_pages_of v0.store.shape - used_pages v0.store.state.bytes) (tree_actions v0.store.state.bytes root.page key) (index_pages_of v0.store.shape - used_pages v3.store.state.bytes) (actions_below n v3.store.state.bytes page2 page2 0 key)) (sym same) (decides3 told)) r rest

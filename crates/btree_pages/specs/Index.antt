@@ -1,27 +1,41 @@
--- The tree as an index: its pages, and the actions of an insertion.
+-- Trees as an index: the tree of each table, its pages, and the actions of an insertion.
 use Rattle.std.specs.Prelude.{ℕ, zero, suc, ◌≤◌, nat_lt, if◌then◌else◌, List, [], ◌∷◌, take, drop, Some, None}
-use Rattle.record_slots.specs.Places.{next_slot, next_page, first_slot_page, slot_page}
+use Rattle.mars_base.specs.Check.{Check}
+use Rattle.record_slots.specs.Places.{next_page, first_slot_page, slot_page, slot_due, page_due}
 use Rattle.page_store.specs.Index.{Action, Index}
 use Rattle.page_store.specs.Pairs.{Pair}
 use Rattle.index_pages.specs.Keys.{key_at}
 use Rattle.index_pages.specs.Page.{level_of, count_of, page_pairs}
-use Rattle.btree_pages.specs.Descent.{child_for}
-use Rattle.btree_pages.specs.Tree.{IsUnder, IsSoundTree, IsFirstDamagedOfTree, tree_check, pairs_of_tree}
+use Rattle.index_pages.specs.Slots.{index_check}
+use Rattle.index_pages.specs.Within.{within}
+use Rattle.btree_laws.specs.Descent.{child_for}
+use Rattle.btree_laws.specs.Tree.{tree_check, pairs_of_tree, IsPageOfTree}
 
--- adding a pair: the next slot, the leaf, the super page
+-- the tree of a table, as its root and its number tell it
+abbrev pub tree_of : List ℕ → ℕ → ℕ → Check ℕ
+tree_of bytes root table = tree_check (record { page = root; table = table }) bytes
+
+-- data whose trees are sound; and the page that fails first
+abbrev pub AreSoundTrees : List ℕ → Type 0
+AreSoundTrees bytes = index_check 1 tree_of bytes None
+
+abbrev pub IsFirstDamagedOfTrees : List ℕ → ℕ → Type 0
+IsFirstDamagedOfTrees bytes page = index_check 1 tree_of bytes (Some page)
+
+-- adding a pair: the slot that is due, the leaf, the super page
 abbrev pub adding : List ℕ → ℕ → Action
-adding bytes leaf = record { pages = slot_page bytes (next_slot bytes) ∷ leaf ∷ 0 ∷ []; takes = 0 }
+adding bytes leaf = record { pages = slot_page bytes (slot_due bytes) ∷ leaf ∷ 0 ∷ []; takes = 0 }
 
--- splitting a full page: the page, the next page, which takes the upper half, the parent, the super page
+-- splitting a full page: the page, the page that is taken for its upper half, the parent, the super page
 abbrev pub cutting : ℕ → ℕ → ℕ → Action
-cutting page next parent = record { pages = page ∷ next ∷ parent ∷ 0 ∷ []; takes = 1 }
+cutting page taken parent = record { pages = page ∷ taken ∷ parent ∷ 0 ∷ []; takes = 1 }
 
--- Splitting a full root: the next two pages, which take the halves, the root, the super page. A root of level 7 cannot be split: the action
+-- Splitting a full root: the two pages that are taken for its halves, the root, the super page. A root of level 7 cannot be split: the action
 -- counts as taking more pages than are left.
-abbrev pub growing : List ℕ → Action
-growing bytes = record {
-  pages = next_page bytes ∷ suc (next_page bytes) ∷ 1 ∷ 0 ∷ [];
-  takes = if nat_lt (level_of bytes 1) 7 then 2 else first_slot_page bytes;
+abbrev pub growing : List ℕ → ℕ → Action
+growing bytes root = record {
+  pages = page_due bytes 0 ∷ page_due bytes 1 ∷ root ∷ 0 ∷ [];
+  takes = if nat_lt (level_of bytes root) 7 then 2 else first_slot_page bytes;
 }
 
 -- which half of 30 pairs has the key in its range; the left half has 15
@@ -33,39 +47,29 @@ abbrev pub half_pairs : List Pair → ℕ → List Pair
 half_pairs pairs key = if nat_lt key (key_at pairs 15) then take 15 pairs else drop 15 pairs
 
 -- The actions on the way down to a key, from a page with room that is this many levels above the leaves. What that page said before the
--- insertion is now in page `now`, and `next` is the page that is given out next.
+-- insertion is now in page `now`, and so many pages were taken before.
 abbrev pub actions_below : ℕ → List ℕ → ℕ → ℕ → ℕ → ℕ → List Action
-actions_below zero bytes page now next key = adding bytes now ∷ []
-actions_below (suc d) bytes page now next key =
+actions_below zero bytes page now taken key = adding bytes now ∷ []
+actions_below (suc d) bytes page now taken key =
     if nat_lt (count_of bytes (child_for (page_pairs bytes page) key)) 30 then
-    actions_below d bytes (child_for (page_pairs bytes page) key) (child_for (page_pairs bytes page) key) next key
+    actions_below d bytes (child_for (page_pairs bytes page) key) (child_for (page_pairs bytes page) key) taken key
     else
-    cutting (child_for (page_pairs bytes page) key) next now
+    cutting (child_for (page_pairs bytes page) key) (page_due bytes taken) now
     ∷ actions_below d bytes (child_for (page_pairs bytes page) key)
-    (half_for (page_pairs bytes (child_for (page_pairs bytes page) key)) (child_for (page_pairs bytes page) key) next key) (suc next) key
+    (half_for (page_pairs bytes (child_for (page_pairs bytes page) key)) (child_for (page_pairs bytes page) key) (page_due bytes taken) key) (suc taken) key
 
 -- the actions from the root down
-abbrev pub tree_actions : List ℕ → ℕ → List Action
-tree_actions bytes key =
-    if nat_lt (count_of bytes 1) 30 then actions_below (level_of bytes 1) bytes 1 1 (next_page bytes) key
+abbrev pub tree_actions : List ℕ → ℕ → ℕ → List Action
+tree_actions bytes root key =
+    if nat_lt (count_of bytes root) 30 then actions_below (level_of bytes root) bytes root root 0 key
     else
-    growing bytes
-    ∷ actions_below (level_of bytes 1) bytes 1 (half_for (page_pairs bytes 1) (next_page bytes) (suc (next_page bytes)) key) (suc (suc (next_page bytes))) key
-
-abbrev pub IsPageOfTree : List ℕ → ℕ → Type 0
-IsPageOfTree bytes page = IsUnder (level_of bytes 1) bytes page 1
+    growing bytes root
+    ∷ actions_below (level_of bytes root) bytes root (half_for (page_pairs bytes root) (page_due bytes 0) (page_due bytes 1) key) 2 key
 
 abbrev pub tree : Index
-tree = record { sound = λ bytes. tree_check bytes None; fails = λ bytes page. tree_check bytes (Some page); pairs = pairs_of_tree; level = λ bytes. level_of bytes 1; has_page = IsPageOfTree; actions = tree_actions }
+tree = record { sound = AreSoundTrees; fails = IsFirstDamagedOfTrees; pairs = pairs_of_tree; level = level_of; has_page = IsPageOfTree; actions = tree_actions }
 
 -- The index for the rest of an insertion, from a page on its way that has room and is this many levels above the leaves. Its actions are
 -- those from there on, and sound data has at most this many pages given out.
 abbrev pub tree_below : ℕ → ℕ → ℕ → Index
-tree_below page level most = record {
-  sound = λ bytes. IsSoundTree bytes × (next_page bytes ≤ most);
-  fails = IsFirstDamagedOfTree;
-  pairs = pairs_of_tree;
-  level = λ bytes. level_of bytes 1;
-  has_page = IsPageOfTree;
-  actions = λ bytes key. actions_below level bytes page page (next_page bytes) key;
-}
+tree_below page level most = within tree most (λ bytes root key. actions_below level bytes page page 0 key)

@@ -4,8 +4,9 @@ use Rattle.record_slots.specs.Places.{AreGiven}
 use Rattle.page_store.specs.Pairs.{Pair, found, next}
 use Rattle.index_pages.specs.Keys.{or_else}
 use Rattle.index_pages.specs.Page.{page_pairs, pairs_said}
-use Rattle.btree_pages.specs.Descent.{leaf_for}
-use Rattle.btree_pages.specs.Tree.{pairs_of_tree}
+use Rattle.btree_laws.specs.Descent.{leaf_for}
+use Rattle.btree_laws.specs.Tree.{pairs_of_tree}
+use Rattle.btree_laws.specs.declared.root.Root.{Root}
 
 -- the low key of the entry after that of the key's child
 abbrev pub bound_in : List Pair → ℕ → Option ℕ
@@ -14,25 +15,25 @@ bound_in (e ∷ []) key = None
 bound_in (e ∷ f ∷ es) key = if nat_lt key f.0 then Some f.0 else bound_in (f ∷ es) key
 
 -- the first pair from a bound on
-abbrev pub from_bound : List ℕ → Option ℕ → Option Pair
-from_bound bytes None = None
-from_bound bytes (Some low) = next (pairs_of_tree bytes) low
+abbrev pub from_bound : Root → List ℕ → Option ℕ → Option Pair
+from_bound root bytes None = None
+from_bound root bytes (Some low) = next (pairs_of_tree bytes root.page) low
 
 -- a leaf begins at this bound and has a pair
-abbrev pub IsBegin : List ℕ → Option ℕ → Type 0
-IsBegin bytes None = Unit {0}
-IsBegin bytes (Some low) = next (page_pairs bytes (leaf_for bytes low)) low ≢ None
+abbrev pub IsBegin : Root → List ℕ → Option ℕ → Type 0
+IsBegin root bytes None = Unit {0}
+IsBegin root bytes (Some low) = next (page_pairs bytes (leaf_for bytes root.page low)) low ≢ None
 
 -- These are the bytes of the key's leaf, which decide what the key leads to. The next leaf begins at the bound, if there is one.
-pub record AtLeaf (bytes : List ℕ) (key : ℕ) (bound : Option ℕ) (leaf : List ℕ) : Type 0 where
-  pub pairs : pairs_said leaf ≡ page_pairs bytes (leaf_for bytes key)
-  pub given : AreGiven bytes (pairs_said leaf)
-  pub found_is : found (pairs_of_tree bytes) key ≡ found (pairs_said leaf) key
-  pub next_is : next (pairs_of_tree bytes) key ≡ or_else (next (pairs_said leaf) key) (from_bound bytes bound)
-  pub begins : IsBegin bytes bound
+pub record AtLeaf (root : Root) (bytes : List ℕ) (key : ℕ) (bound : Option ℕ) (leaf : List ℕ) : Type 0 where
+  pub pairs : pairs_said leaf ≡ page_pairs bytes (leaf_for bytes root.page key)
+  pub given : AreGiven bytes root.table (pairs_said leaf)
+  pub found_is : found (pairs_of_tree bytes root.page) key ≡ found (pairs_said leaf) key
+  pub next_is : next (pairs_of_tree bytes root.page) key ≡ or_else (next (pairs_said leaf) key) (from_bound root bytes bound)
+  pub begins : IsBegin root bytes bound
 
 -- the first pair from the key on in the key's leaf, and the bound at which the next leaf begins
-pub record Reaches (bytes : List ℕ) (key : ℕ) (least : Option Pair) (bound : Option ℕ) : Type 0 where
-  pub least_is : least ≡ next (page_pairs bytes (leaf_for bytes key)) key
-  pub next_is : next (pairs_of_tree bytes) key ≡ or_else least (from_bound bytes bound)
-  pub begins : IsBegin bytes bound
+pub record Reaches (root : Root) (bytes : List ℕ) (key : ℕ) (least : Option Pair) (bound : Option ℕ) : Type 0 where
+  pub least_is : least ≡ next (page_pairs bytes (leaf_for bytes root.page key)) key
+  pub next_is : next (pairs_of_tree bytes root.page) key ≡ or_else least (from_bound root bytes bound)
+  pub begins : IsBegin root bytes bound

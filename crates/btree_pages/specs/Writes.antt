@@ -2,7 +2,7 @@
 use Rattle.std.specs.Prelude.{ℕ, ◌+◌, ◌<◌, ◌≤◌, List, [], ◌∷◌, length, take, drop}
 use Rattle.array_shape.specs.declared.shape.Shape.{Shape}
 use Rattle.array_shape.specs.Logged.{Part}
-use Rattle.record_slots.specs.Super.{count_bytes}
+use Rattle.record_slots.specs.Super.{part_bytes}
 use Rattle.record_slots.specs.declared.super_page.Super.{Super}
 use Rattle.page_store.specs.Index.{index_pages_of}
 use Rattle.page_store.specs.Pairs.{Pair, inserted}
@@ -18,24 +18,25 @@ pub record IsRead (shape : Shape) (page level : ℕ) (pairs : List Pair) : Type 
   pub most : length pairs ≤ 30
   pub small : AreSmall pairs
 
--- splitting a full page: the page, which keeps the lower half; the next page with the upper half; the parent, which names that; the counts
+-- splitting a full page: the page, which keeps the lower half; the page that is taken, with the upper half; the parent, which names that; the
+-- super page as it is then
 abbrev pub cutting_pages : ℕ → ℕ → ℕ → List ℕ
-cutting_pages page next parent = page ∷ next ∷ parent ∷ 0 ∷ []
+cutting_pages page taken parent = page ∷ taken ∷ parent ∷ 0 ∷ []
 
-abbrev pub cutting_parts : Super → ℕ → ℕ → List Pair → ℕ → List Pair → List Part
-cutting_parts front page level pairs parent above =
+abbrev pub cutting_parts : Super → ℕ → ℕ → List Pair → ℕ → ℕ → List Pair → List Part
+cutting_parts after page level pairs taken parent above =
     (address page 0, written_page level 0 (take 15 pairs))
-    ∷ (address front.next_page 0, written_page level 0 (drop 15 pairs))
-    ∷ (address parent 0, written_page (level + 1) 0 (inserted above (key_at pairs 15) front.next_page))
-    ∷ (address 0 8, count_bytes front.next_slot (front.next_page + 1)) ∷ []
+    ∷ (address taken 0, written_page level 0 (drop 15 pairs))
+    ∷ (address parent 0, written_page (level + 1) 0 (inserted above (key_at pairs 15) taken))
+    ∷ (address 0 8, part_bytes after) ∷ []
 
--- splitting the root: two new pages with its halves; the root, one level up, which names both; the counts
-abbrev pub growing_pages : ℕ → List ℕ
-growing_pages next = next ∷ (next + 1) ∷ 1 ∷ 0 ∷ []
+-- splitting the root: the two pages that are taken, with its halves; the root, one level up, which names both; the super page as it is then
+abbrev pub growing_pages : ℕ → ℕ → ℕ → List ℕ
+growing_pages left right root = left ∷ right ∷ root ∷ 0 ∷ []
 
-abbrev pub growing_parts : Super → ℕ → List Pair → List Part
-growing_parts front level pairs =
-    (address front.next_page 0, written_page level 0 (take 15 pairs))
-    ∷ (address (front.next_page + 1) 0, written_page level 0 (drop 15 pairs))
-    ∷ (address 1 0, written_page (level + 1) 0 ((0, front.next_page) ∷ (key_at pairs 15, front.next_page + 1) ∷ []))
-    ∷ (address 0 8, count_bytes front.next_slot (front.next_page + 2)) ∷ []
+abbrev pub growing_parts : Super → ℕ → ℕ → ℕ → ℕ → List Pair → List Part
+growing_parts after left right root level pairs =
+    (address left 0, written_page level 0 (take 15 pairs))
+    ∷ (address right 0, written_page level 0 (drop 15 pairs))
+    ∷ (address root 0, written_page (level + 1) 0 ((0, left) ∷ (key_at pairs 15, right) ∷ []))
+    ∷ (address 0 8, part_bytes after) ∷ []

@@ -2,7 +2,8 @@
 ghost use Rattle.std.specs.Prelude.{◌≡◌, ◌≢◌, ◌<◌, ◌≤◌, ◌-◌, ◌^◌, ◌↔◌, suc, IsErrOf, IsTrue};
 ghost use Rattle.mars_base.specs.Check.{each};
 ghost use Rattle.eaw_face.specs.Causes.{IsAlive};
-ghost use Rattle.record_slots.specs.Places.{next_slot, page_bytes};
+ghost use Rattle.record_slots.specs.Places.{next_slot, page_bytes, tables_of, IsSuper};
+ghost use Rattle.record_slots.specs.Super.{SaysSuper};
 ghost use Rattle.page_store.specs.Index.{slots_of, index_pages_of};
 ghost use Rattle.page_store.specs.Looks.{Looks, CheckCause, is_check_failed};
 ghost use Rattle.page_store.specs.Shown.{pages_of};
@@ -11,25 +12,25 @@ ghost use Rattle.index_pages.specs.Fetched.{IsFront};
 ghost use Rattle.index_pages.specs.Page.{count_said, level_said, pairs_said, pairs_from};
 ghost use Rattle.btree_pages.specs.Checked.{high_of, least_of, IsFrontOf};
 ghost use Rattle.index_pages.specs.Keys.{key_end};
-ghost use Rattle.index_pages.specs.Slots.{slot_check, IsVerdict};
-ghost use Rattle.btree_pages.specs.Index.{tree};
-ghost use Rattle.btree_pages.specs.Tree.{AreChildren, next_low, children_check, tree_from};
+ghost use Rattle.index_pages.specs.Slots.{slot_check, tables_check, IsVerdict};
+ghost use Rattle.btree_pages.specs.Index.{tree, tree_of};
+ghost use Rattle.btree_laws.specs.Tree.{AreChildren, next_low, children_check, tree_from, tree_check};
 
-use crate::look::ROOT;
 use crate::page::read_node_head;
+use btree_laws::Root;
 use eaw_face::EawStore;
 use index_pages::{
-    LEVEL_MAX, PAGE_LEN, check_fault, check_slot, fetch_page, fetch_super, read_pair,
+    LEVEL_MAX, PAGE_LEN, check_fault, check_lists, check_slot, check_super, fetch_page, read_pair,
 };
 use page_store::{CheckFault, Pages};
-use record_slots::Super;
+use record_slots::{Super, TABLES_MAX, table_root};
 
-// The form that the super page of a tree names.
+// The form that the super page of trees names.
 pub const FORM: u8 = 1;
 
 const FIRST_CHILD: u64 = 2;
 
-// A page of the tree and the range of its keys.
+// A page of a tree and the range of its keys.
 #[derive(Clone, Copy)]
 struct Spot {
     page: u32,
@@ -38,32 +39,81 @@ struct Spot {
     high: Option<u64>,
 }
 
-// Tests the super page and then the pages of the tree from the root down, children from left to right.
+// Tests the super page, the lists of what is free, and then the tree of each table by its number.
 pub fn check<S: EawStore>(pages: &mut Pages<S>) -> Result<(), CheckFault>
     ensures looks { Looks S.tells (S.opens (S.view pages.old.store).shape) (is_check_failed result)
         (pages_of (S.view pages.old.store) pages.old) (pages_of (S.view pages.new.store) pages.new) }
     ensures cause { CheckCause S.tells tree (S.view pages.old.store) result }
     ensures dead { IsErrOf result CheckFault.Dead → pages.new ≡ pages.old }
 {
-    let front = match fetch_super(pages, FORM) {
+    let front = match check_super(pages, FORM) {
         Ok(front) => front,
         Err(fault) => return Err(check_fault(fault)),
     };
+    match check_lists(pages, &front) {
+        Ok(()) => {}
+        Err(fault) => return Err(fault),
+    }
+    check_tables(pages, &front)
+}
+
+// Tests the tree of each table by its number.
+fn check_tables<S: EawStore>(pages: &mut Pages<S>, front: &Super) -> Result<(), CheckFault>
+    requires alive { IsAlive (S.view pages.old.store) }
+    requires front { IsFront (S.view pages.old.store).shape front.now }
+    requires sound { IsTrue S.tells → IsSuper 1 (S.view pages.old.store).state.bytes }
+    ensures looks { Looks S.tells (S.opens (S.view pages.old.store).shape) (is_check_failed result)
+        (pages_of (S.view pages.old.store) pages.old) (pages_of (S.view pages.new.store) pages.new) }
+    ensures cause { IsTrue S.tells → SaysSuper (page_bytes (S.view pages.old.store).state.bytes 0) front.now
+        → IsVerdict (tables_check (tree_of (S.view pages.old.store).state.bytes) 0 (tables_of (S.view pages.old.store).state.bytes)) result }
+    ensures dead { IsErrOf result CheckFault.Dead → ⊥ }
+{
+    for table in 0..TABLES_MAX as u8 {
+        let Some(page) = table_root(front, table) else {
+            return Ok(());
+        };
+        if page >= front.next_page {
+            return Err(CheckFault::Damaged { page: 0 });
+        }
+        match check_tree(pages, front, Root { page, table }) {
+            Ok(()) => {}
+            Err(fault) => return Err(fault),
+        }
+    }
+    Ok(())
+}
+
+// Tests the pages of a tree from the root down, children from left to right.
+fn check_tree<S: EawStore>(
+    pages: &mut Pages<S>,
+    front: &Super,
+    root: Root,
+) -> Result<(), CheckFault>
+    requires alive { IsAlive (S.view pages.old.store) }
+    requires front { IsFront (S.view pages.old.store).shape front.now }
+    requires root { root.page < index_pages_of (S.view pages.old.store).shape }
+    ensures looks { Looks S.tells (S.opens (S.view pages.old.store).shape) (is_check_failed result)
+        (pages_of (S.view pages.old.store) pages.old) (pages_of (S.view pages.new.store) pages.new) }
+    ensures cause { IsTrue S.tells → IsFrontOf (S.view pages.old.store).state.bytes front.now
+        → IsVerdict (tree_check root (S.view pages.old.store).state.bytes) result }
+    ensures dead { IsErrOf result CheckFault.Dead → ⊥ }
+{
+    let page = root.page;
     let mut bytes = [0; PAGE_LEN];
-    match fetch_page(pages, ROOT, &mut bytes) {
+    match fetch_page(pages, page, &mut bytes) {
         Ok(()) => {}
         Err(fault) => return Err(check_fault(fault)),
     }
     let level = level_in(&bytes);
     if level > LEVEL_MAX {
-        return Err(CheckFault::Damaged { page: ROOT });
+        return Err(CheckFault::Damaged { page });
     }
-    let root = Spot {
-        page: ROOT,
+    let top = Spot {
+        page,
         low: 0,
         high: None,
     };
-    check_page(pages, &front, level, root, &bytes)
+    check_page(pages, front, root, level, top, &bytes)
 }
 
 fn level_in(page: &[u8; PAGE_LEN]) -> u8
@@ -77,6 +127,7 @@ fn level_in(page: &[u8; PAGE_LEN]) -> u8
 fn check_under<S: EawStore>(
     pages: &mut Pages<S>,
     front: &Super,
+    root: Root,
     level: u8,
     spot: Spot,
 ) -> Result<(), CheckFault>
@@ -87,7 +138,7 @@ fn check_under<S: EawStore>(
     ensures looks { Looks S.tells (S.opens (S.view pages.old.store).shape) (is_check_failed result)
         (pages_of (S.view pages.old.store) pages.old) (pages_of (S.view pages.new.store) pages.new) }
     ensures cause { IsTrue S.tells → IsFrontOf (S.view pages.old.store).state.bytes front.now
-        → IsVerdict (tree_from level (S.view pages.old.store).state.bytes spot.page spot.low (high_of spot.high)) result }
+        → IsVerdict (tree_from root level (S.view pages.old.store).state.bytes spot.page spot.low (high_of spot.high)) result }
     ensures dead { IsErrOf result CheckFault.Dead → ⊥ }
 {
     let mut bytes = [0; PAGE_LEN];
@@ -95,7 +146,7 @@ fn check_under<S: EawStore>(
         Ok(()) => {}
         Err(fault) => return Err(check_fault(fault)),
     }
-    check_page(pages, front, level, spot, &bytes)
+    check_page(pages, front, root, level, spot, &bytes)
 }
 
 // Tests a page of this level that has been read and all pages below it.
@@ -103,6 +154,7 @@ fn check_under<S: EawStore>(
 fn check_page<S: EawStore>(
     pages: &mut Pages<S>,
     front: &Super,
+    root: Root,
     level: u8,
     spot: Spot,
     bytes: &[u8; PAGE_LEN],
@@ -113,7 +165,7 @@ fn check_page<S: EawStore>(
     ensures looks { Looks S.tells (S.opens (S.view pages.old.store).shape) (is_check_failed result)
         (pages_of (S.view pages.old.store) pages.old) (pages_of (S.view pages.new.store) pages.new) }
     ensures cause { IsTrue S.tells → IsFrontOf (S.view pages.old.store).state.bytes front.now → bytes.now ≡ page_bytes (S.view pages.old.store).state.bytes spot.page
-        → IsVerdict (tree_from level (S.view pages.old.store).state.bytes spot.page spot.low (high_of spot.high)) result }
+        → IsVerdict (tree_from root level (S.view pages.old.store).state.bytes spot.page spot.low (high_of spot.high)) result }
     ensures dead { IsErrOf result CheckFault.Dead → ⊥ }
 {
     let page = spot.page;
@@ -124,15 +176,15 @@ fn check_page<S: EawStore>(
         return Err(CheckFault::Damaged { page });
     }
     if level == 0 {
-        if !is_leaf(bytes, head.count, &spot) {
+        if !is_leaf(bytes, head.count, root.page, &spot) {
             return Err(CheckFault::Damaged { page });
         }
-        return check_slots(pages, page, bytes, head.count, front.next_slot);
+        return check_slots(pages, root.table, page, bytes, head.count, front.next_slot);
     }
     if !is_inner(bytes, head.count, spot.low, front.next_page) {
         return Err(CheckFault::Damaged { page });
     }
-    check_children(pages, front, level, bytes, head.count, spot.high)
+    check_children(pages, front, root, level, bytes, head.count, spot.high)
 }
 
 // Tests the children of a page of this level, one after another.
@@ -140,6 +192,7 @@ fn check_page<S: EawStore>(
 fn check_children<S: EawStore>(
     pages: &mut Pages<S>,
     front: &Super,
+    root: Root,
     level: u8,
     bytes: &[u8; PAGE_LEN],
     count: u16,
@@ -155,7 +208,7 @@ fn check_children<S: EawStore>(
     ensures looks { Looks S.tells (S.opens (S.view pages.old.store).shape) (is_check_failed result)
         (pages_of (S.view pages.old.store) pages.old) (pages_of (S.view pages.new.store) pages.new) }
     ensures cause { IsTrue S.tells → IsFrontOf (S.view pages.old.store).state.bytes front.now
-        → IsVerdict (children_check (tree_from (level - 1) (S.view pages.old.store).state.bytes) (pairs_said bytes.now) (high_of high)) result }
+        → IsVerdict (children_check (tree_from root (level - 1) (S.view pages.old.store).state.bytes) (pairs_said bytes.now) (high_of high)) result }
     ensures dead { IsErrOf result CheckFault.Dead → ⊥ }
 {
     for i in 0..count {
@@ -165,7 +218,7 @@ fn check_children<S: EawStore>(
             low,
             high: end_of(bytes, count, i, high),
         };
-        match check_under(pages, front, level - 1, spot) {
+        match check_under(pages, front, root, level - 1, spot) {
             Ok(()) => {}
             Err(fault) => return Err(fault),
         }
@@ -188,12 +241,12 @@ fn end_of(bytes: &[u8; PAGE_LEN], count: u16, i: u16, high: Option<u64>) -> Opti
 }
 
 // The tests of a leaf before its slots.
-fn is_leaf(bytes: &[u8; PAGE_LEN], count: u16, spot: &Spot) -> bool
+fn is_leaf(bytes: &[u8; PAGE_LEN], count: u16, root: u32, spot: &Spot) -> bool
     requires count { count ≡ count_said bytes.now }
     requires most { count ≤ 30 }
-    ensures { IsTrue result ↔ (spot.now.page ≢ 1 → 1 ≤ count) × Rise spot.now.low (high_of spot.now.high) (pairs_said bytes.now) }
+    ensures { IsTrue result ↔ (spot.now.page ≢ root → 1 ≤ count) × Rise spot.now.low (high_of spot.now.high) (pairs_said bytes.now) }
 {
-    if spot.page != ROOT && count == 0 {
+    if spot.page != root && count == 0 {
         return false;
     }
     rises(bytes, count, spot.low, spot.high)
@@ -275,6 +328,7 @@ fn are_named(bytes: &[u8; PAGE_LEN], count: u16, pages: u32) -> bool
 // Tests the slots of a leaf.
 fn check_slots<S: EawStore>(
     pages: &mut Pages<S>,
+    table: u8,
     page: u32,
     bytes: &[u8; PAGE_LEN],
     count: u16,
@@ -287,12 +341,12 @@ fn check_slots<S: EawStore>(
     ensures looks { Looks S.tells (S.opens (S.view pages.old.store).shape) (is_check_failed result)
         (pages_of (S.view pages.old.store) pages.old) (pages_of (S.view pages.new.store) pages.new) }
     ensures cause { IsTrue S.tells → slots ≡ next_slot (S.view pages.old.store).state.bytes
-        → IsVerdict (each (slot_check (S.view pages.old.store).state.bytes page) (pairs_said bytes.now)) result }
+        → IsVerdict (each (slot_check (S.view pages.old.store).state.bytes table page) (pairs_said bytes.now)) result }
     ensures dead { IsErrOf result CheckFault.Dead → ⊥ }
 {
     for i in 0..count {
         let pair = read_pair(bytes, i);
-        match check_slot(pages, page, pair, slots) {
+        match check_slot(pages, table, page, pair, slots) {
             Ok(()) => {}
             Err(fault) => return Err(fault),
         }

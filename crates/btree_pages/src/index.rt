@@ -1,53 +1,65 @@
-ghost use Rattle.btree_pages.specs.Props.{IsSoundTree-prop};
-ghost use Rattle.btree_pages.specs.TreeFacts.{sound_tree_rises};
-ghost use Rattle.btree_pages.specs.Sound.{tree_excludes, tree_first};
-ghost use Rattle.btree_pages.specs.Resting.{sound_tree_given, sound_tree_counts, sound_tree_rests};
+ghost use Rattle.btree_pages.specs.Props.{AreSoundTrees-prop};
+ghost use Rattle.btree_pages.specs.Trees.{trees_rise, trees_given, trees_count, trees_rest, trees_excluded, trees_first};
 ghost use Rattle.btree_pages.specs.Index.{tree};
 
 use crate::{checking, insertion, look};
+use btree_laws::Root;
 use eaw_face::EawStore;
 use page_store::{CheckFault, IndexFault, KeyIndex, PageFault, Pages};
 
-/// An index that is a B+ tree of pages whose root is page 1. A look-up reads the pages from the root down to the leaf of its key, eight at
+/// Indexes that are B+ trees of pages, one for each table. A look-up reads the pages from the root down to the leaf of its key, eight at
 /// most. To find the pair with the least key from a bound on, it may also read the next leaf. An insertion splits each full page on its way
 /// down and then adds the pair. A split is one nested top action of four parts: both halves, the page that names them, and the super page.
-/// Adding the pair takes three: the slot, the leaf and the super page.
+/// Adding the pair takes three: the slot, the leaf and the super page. Free pages and free slots are taken first.
 #[derive(Clone, Copy, Debug)]
 pub struct BTreePages {}
 
 impl KeyIndex for BTreePages {
     ghost index = { tree };
 
-    ghost alone = { IsSoundTree-prop };
+    ghost alone = { AreSoundTrees-prop };
 
     fn check<S: EawStore>(pages: &mut Pages<S>) -> Result<(), CheckFault> {
         checking::check(pages)
     }
 
-    fn find<S: EawStore>(pages: &mut Pages<S>, key: u64) -> Result<Option<u32>, PageFault> {
-        look::find(pages, key)
+    fn find<S: EawStore>(
+        pages: &mut Pages<S>,
+        root: u32,
+        table: u8,
+        key: u64,
+    ) -> Result<Option<u32>, PageFault> {
+        look::find(pages, Root { page: root, table }, key)
     }
 
     fn next_key<S: EawStore>(
         pages: &mut Pages<S>,
+        root: u32,
+        table: u8,
         from: u64,
     ) -> Result<Option<(u64, u32)>, PageFault> {
-        look::next(pages, from)
+        look::next(pages, Root { page: root, table }, from)
     }
 
-    fn insert<S: EawStore>(pages: &mut Pages<S>, tid: u8, key: u64) -> Result<u32, IndexFault> {
-        insertion::insert(pages, tid, key)
+    fn insert<S: EawStore>(
+        pages: &mut Pages<S>,
+        tid: u8,
+        root: u32,
+        table: u8,
+        key: u64,
+    ) -> Result<u32, IndexFault> {
+        insertion::insert(pages, tid, Root { page: root, table }, key)
     }
 
-    ghost rises = { sound_tree_rises };
+    ghost rises = { trees_rise };
 
-    ghost given = { sound_tree_given };
+    ghost given = { trees_given };
 
-    ghost counts = { sound_tree_counts };
+    ghost counts = { trees_count };
 
-    ghost rests = { sound_tree_rests };
+    ghost rests = { trees_rest };
 
-    ghost excluded = { tree_excludes };
+    ghost excluded = { trees_excluded };
 
-    ghost first = { tree_first };
+    ghost first = { trees_first };
 }

@@ -1,35 +1,45 @@
-// Insertions into the tree: each full page on the way down is split, and then the pair goes to its leaf.
-ghost use Rattle.std.specs.Prelude.{◌≡◌, ◌≢◌, ◌+◌, ◌^◌, ◌<◌, ◌≤◌, None, IsErrOf, IsTrue, length};
+// Insertions into the tree of a table: each full page on the way down is split, and then the pair goes to its leaf.
+ghost use Rattle.std.specs.Prelude.{◌≡◌, ◌≢◌, ◌↔◌, ◌+◌, ◌-◌, ◌*◌, ◌<◌, ◌≤◌, None, IsErrOf, IsTrue, length};
 ghost use Rattle.eaw_face.specs.Causes.{IsAlive};
-ghost use Rattle.page_store.specs.Index.{slots_of};
+ghost use Rattle.record_slots.specs.Places.{page_bytes};
+ghost use Rattle.record_slots.specs.Super.{SaysSuper};
+ghost use Rattle.page_store.specs.Index.{IsTable, index_pages_of, slots_of};
 ghost use Rattle.page_store.specs.Inserts.{Inserts};
 ghost use Rattle.page_store.specs.Pairs.{found};
 ghost use Rattle.page_store.specs.Shown.{pages_of, top_in};
 ghost use Rattle.index_pages.specs.Fetched.{IsFront};
-ghost use Rattle.btree_pages.specs.Checked.{IsFrontOf};
-ghost use Rattle.btree_pages.specs.Index.{tree, tree_below};
+ghost use Rattle.index_pages.specs.Page.{level_of, page_pairs};
+ghost use Rattle.btree_laws.specs.Tree.{pairs_of_tree};
+ghost use Rattle.btree_pages.specs.Index.{tree, tree_below, AreSoundTrees};
 ghost use Rattle.btree_pages.specs.OnWay.{IsReached};
-ghost use Rattle.btree_pages.specs.Tree.{IsSoundTree, pairs_of_tree};
 ghost use Rattle.btree_pages.specs.Writes.{IsRead};
 
 use crate::checking::FORM;
-use crate::look::ROOT;
 use crate::node::{Node, fetch_child, fetch_node};
 use crate::write::{add_pair, cut_page, grow_root, half_of};
+use btree_laws::Root;
 use eaw_face::EawStore;
 use index_pages::{
-    LEVEL_MAX, PAIRS_MAX, SLOTS_IN_PAGE, fetch_super, index_fault, index_page_count,
+    LEVEL_MAX, PAIRS_MAX, SLOTS_IN_PAGE, fetch_super, index_fault, index_page_count, take_page,
+    take_slot,
 };
 use page_store::{IndexFault, Pages};
 use record_slots::Super;
 
 // Inserts a key that is absent. A full root is split first.
-pub fn insert<S: EawStore>(pages: &mut Pages<S>, tid: u8, key: u64) -> Result<u32, IndexFault>
+pub fn insert<S: EawStore>(
+    pages: &mut Pages<S>,
+    tid: u8,
+    root: Root,
+    key: u64,
+) -> Result<u32, IndexFault>
     requires tid { tid < (S.view pages.old.store).shape.numbers }
+    requires table { root.table < 8 }
     requires closed { IsAlive (S.view pages.old.store) → top_in pages.old.marks tid ≡ None }
-    requires sound { IsTrue S.tells → IsAlive (S.view pages.old.store) → IsSoundTree (S.view pages.old.store).state.bytes }
-    requires absent { IsTrue S.tells → IsAlive (S.view pages.old.store) → found (pairs_of_tree (S.view pages.old.store).state.bytes) key ≡ None }
-    ensures inserts { Inserts S.tells (S.opens (S.view pages.old.store).shape) tree tid key
+    requires sound { IsTrue S.tells → IsAlive (S.view pages.old.store) → AreSoundTrees (S.view pages.old.store).state.bytes }
+    requires named { IsTrue S.tells → IsAlive (S.view pages.old.store) → IsTable (S.view pages.old.store).state.bytes root.table root.page }
+    requires absent { IsTrue S.tells → IsAlive (S.view pages.old.store) → found (pairs_of_tree (S.view pages.old.store).state.bytes root.page) key ≡ None }
+    ensures inserts { Inserts S.tells (S.opens (S.view pages.old.store).shape) tree tid root.page root.table key
         (pages_of (S.view pages.old.store) pages.old) (pages_of (S.view pages.new.store) pages.new) result }
     ensures dead { IsErrOf result IndexFault.Dead → pages.new ≡ pages.old }
 {
@@ -38,65 +48,122 @@ pub fn insert<S: EawStore>(pages: &mut Pages<S>, tid: u8, key: u64) -> Result<u3
         Ok(front) => front,
         Err(fault) => return Err(index_fault(fault)),
     };
-    if front.next_slot == SLOTS_IN_PAGE * count {
+    if !is_slot_left(&front, count) {
         return Err(IndexFault::SlotsFull {
             slots: front.next_slot,
         });
     }
-    let root = match fetch_node(pages, ROOT) {
-        Ok(root) => root,
+    if !is_index_page(root.page, count) {
+        return Err(IndexFault::Damaged { page: 0 });
+    }
+    let top = match fetch_node(pages, root.page) {
+        Ok(top) => top,
         Err(fault) => return Err(index_fault(fault)),
     };
-    if root.pairs.len() < PAIRS_MAX {
-        return insert_below(pages, tid, key, front, root);
+    if top.pairs.len() < PAIRS_MAX {
+        return insert_below(pages, tid, root, key, front, top);
     }
-    if root.level == LEVEL_MAX {
+    insert_above(pages, tid, root, key, front, top)
+}
+
+// Splits the full root, and goes on from the half that has the key.
+fn insert_above<S: EawStore>(
+    pages: &mut Pages<S>,
+    tid: u8,
+    root: Root,
+    key: u64,
+    front: Super,
+    top: Node,
+) -> Result<u32, IndexFault>
+    requires tid { tid < (S.view pages.old.store).shape.numbers }
+    requires table { root.table < 8 }
+    requires closed { top_in pages.old.marks tid ≡ None }
+    requires alive { IsAlive (S.view pages.old.store) }
+    requires sound { IsTrue S.tells → AreSoundTrees (S.view pages.old.store).state.bytes }
+    requires named { IsTrue S.tells → IsTable (S.view pages.old.store).state.bytes root.table root.page }
+    requires absent { IsTrue S.tells → found (pairs_of_tree (S.view pages.old.store).state.bytes root.page) key ≡ None }
+    requires front { IsFront (S.view pages.old.store).shape front }
+    requires slot { front.free_slots ≡ 0 → front.next_slot < slots_of (S.view pages.old.store).shape }
+    requires says { IsTrue S.tells → SaysSuper (page_bytes (S.view pages.old.store).state.bytes 0) front }
+    requires page { top.page ≡ root.page }
+    requires read { IsRead (S.view pages.old.store).shape top.page top.level top.pairs.items }
+    requires full { length top.pairs.items ≡ 30 }
+    requires level { IsTrue S.tells → top.level ≡ level_of (S.view pages.old.store).state.bytes root.page }
+    requires pairs { IsTrue S.tells → top.pairs.items ≡ page_pairs (S.view pages.old.store).state.bytes root.page }
+    ensures inserts { Inserts S.tells (S.opens (S.view pages.old.store).shape) tree tid root.page root.table key
+        (pages_of (S.view pages.old.store) pages.old) (pages_of (S.view pages.new.store) pages.new) result }
+    ensures dead { IsErrOf result IndexFault.Dead → ⊥ }
+{
+    let count = index_page_count(pages);
+    if top.level == LEVEL_MAX {
         return Err(IndexFault::PagesFull { pages: count - 1 });
     }
-    if front.next_page + 1 >= count {
+    if !are_pages_left(&front, count, 2) {
         return Err(IndexFault::PagesFull { pages: count - 1 });
     }
-    match grow_root(pages, tid, &front, root.level, &root.pairs) {
+    let left = match take_page(pages, &front) {
+        Ok(left) => left,
+        Err(fault) => return Err(index_fault(fault)),
+    };
+    let right = match take_page(pages, &left.front) {
+        Ok(right) => right,
+        Err(fault) => return Err(index_fault(fault)),
+    };
+    match grow_root(pages, tid, left.number, &right, &top) {
         Ok(()) => {}
         Err(fault) => return Err(index_fault(fault)),
     }
-    let half = half_of(&root, front.next_page, front.next_page + 1, key);
-    insert_below(pages, tid, key, with_pages(front, 2), half)
+    let half = half_of(&top, left.number, right.number, key);
+    insert_below(pages, tid, root, key, right.front, half)
 }
 
-// The counts with `more` pages given out.
-fn with_pages(front: Super, more: u32) -> Super
-    requires { front.next_page + more < 2 ^ 32 }
-    ensures slot { result.next_slot ≡ front.next_slot }
-    ensures page { result.next_page ≡ front.next_page + more }
+// Whether a page is one of so many, and not the super page.
+fn is_index_page(page: u32, count: u32) -> bool
+    ensures { IsTrue result ↔ (1 ≤ page) × (page < count) }
 {
-    Super {
-        next_page: front.next_page + more,
-        ..front
-    }
+    page != 0 && page < count
+}
+
+// Whether a slot is free, or one is left to give out.
+fn is_slot_left(front: &Super, count: u32) -> bool
+    requires { count ≤ 16384 }
+    ensures { IsTrue result ↔ (front.now.free_slots ≡ 0 → front.now.next_slot ≢ 8 * count) }
+{
+    front.free_slots != 0 || front.next_slot != SLOTS_IN_PAGE * count
+}
+
+// Whether so many pages are left of `count`: free ones, and those to give out.
+fn are_pages_left(front: &Super, count: u32, pages: u64) -> bool
+    requires { front.now.next_page ≤ count }
+    ensures { IsTrue result ↔ (pages ≤ front.now.free_pages + (count - front.now.next_page)) }
+{
+    u64::from(front.free_pages) + u64::from(count - front.next_page) >= pages
 }
 
 // Inserts a key, going on from a page on its way that has room.
 fn insert_below<S: EawStore>(
     pages: &mut Pages<S>,
     tid: u8,
+    root: Root,
     key: u64,
     front: Super,
     node: Node,
 ) -> Result<u32, IndexFault>
     requires tid { tid < (S.view pages.old.store).shape.numbers }
+    requires table { root.table < 8 }
     requires closed { top_in pages.old.marks tid ≡ None }
     requires alive { IsAlive (S.view pages.old.store) }
-    requires sound { IsTrue S.tells → IsSoundTree (S.view pages.old.store).state.bytes }
-    requires absent { IsTrue S.tells → found (pairs_of_tree (S.view pages.old.store).state.bytes) key ≡ None }
+    requires sound { IsTrue S.tells → AreSoundTrees (S.view pages.old.store).state.bytes }
+    requires named { IsTrue S.tells → IsTable (S.view pages.old.store).state.bytes root.table root.page }
+    requires absent { IsTrue S.tells → found (pairs_of_tree (S.view pages.old.store).state.bytes root.page) key ≡ None }
     requires front { IsFront (S.view pages.old.store).shape front }
-    requires slot { front.next_slot < slots_of (S.view pages.old.store).shape }
-    requires counts { IsTrue S.tells → IsFrontOf (S.view pages.old.store).state.bytes front }
+    requires slot { front.free_slots ≡ 0 → front.next_slot < slots_of (S.view pages.old.store).shape }
+    requires says { IsTrue S.tells → SaysSuper (page_bytes (S.view pages.old.store).state.bytes 0) front }
     requires read { IsRead (S.view pages.old.store).shape node.page node.level node.pairs.items }
     requires some { node.level ≢ 0 → 1 ≤ length node.pairs.items }
     requires room { length node.pairs.items < 30 }
-    requires reached { IsTrue S.tells → IsReached (S.view pages.old.store).state.bytes key node.page node.level node.pairs.items }
-    ensures inserts { Inserts S.tells (S.opens (S.view pages.old.store).shape) (tree_below node.page node.level (front.next_page + node.level)) tid key
+    requires reached { IsTrue S.tells → IsReached root (S.view pages.old.store).state.bytes key node.page node.level node.pairs.items }
+    ensures inserts { Inserts S.tells (S.opens (S.view pages.old.store).shape) (tree_below node.page node.level (front.next_page + node.level)) tid root.page root.table key
         (pages_of (S.view pages.old.store) pages.old) (pages_of (S.view pages.new.store) pages.new) result }
     ensures dead { IsErrOf result IndexFault.Dead → ⊥ }
 {
@@ -104,7 +171,7 @@ fn insert_below<S: EawStore>(
     let mut front = front;
     let mut node = node;
     while node.level > 0 {
-        let child = match fetch_child(pages, &node, key) {
+        let child = match fetch_child(pages, root, &node, key) {
             Ok(child) => child,
             Err(fault) => return Err(index_fault(fault)),
         };
@@ -112,18 +179,26 @@ fn insert_below<S: EawStore>(
             node = child;
             continue;
         }
-        if front.next_page == count {
+        if !are_pages_left(&front, count, 1) {
             return Err(IndexFault::PagesFull { pages: count - 1 });
         }
-        match cut_page(pages, tid, &front, &child, node) {
+        let taken = match take_page(pages, &front) {
+            Ok(taken) => taken,
+            Err(fault) => return Err(index_fault(fault)),
+        };
+        match cut_page(pages, tid, &taken, &child, node) {
             Ok(()) => {}
             Err(fault) => return Err(index_fault(fault)),
         }
-        node = half_of(&child, child.page, front.next_page, key);
-        front = with_pages(front, 1);
+        node = half_of(&child, child.page, taken.number, key);
+        front = taken.front;
     }
-    match add_pair(pages, tid, key, &front, node) {
-        Ok(()) => Ok(front.next_slot),
+    let slot = match take_slot(pages, &front) {
+        Ok(slot) => slot,
+        Err(fault) => return Err(index_fault(fault)),
+    };
+    match add_pair(pages, tid, root.table, key, &slot, node) {
+        Ok(()) => Ok(slot.number),
         Err(fault) => Err(index_fault(fault)),
     }
 }

@@ -2,18 +2,19 @@
 ghost use Rattle.std.specs.Prelude.{◌≡◌, ◌≢◌, ◌+◌, ◌<◌, ◌≤◌, IfOk, IsErrOf, IsTrue, length};
 ghost use Rattle.eaw_face.specs.Causes.{IsAlive};
 ghost use Rattle.record_slots.specs.Places.{page_bytes};
-ghost use Rattle.page_store.specs.Index.{index_pages_of};
+ghost use Rattle.page_store.specs.Index.{IsTable, index_pages_of};
 ghost use Rattle.page_store.specs.Looks.{Looks, LookCause, is_failed};
 ghost use Rattle.page_store.specs.Shown.{pages_of};
 ghost use Rattle.index_pages.specs.Fetched.{TestCause};
 ghost use Rattle.index_pages.specs.Page.{level_of, page_pairs};
-ghost use Rattle.btree_pages.specs.Descent.{child_for};
+ghost use Rattle.btree_laws.specs.Descent.{child_for};
+ghost use Rattle.btree_pages.specs.Index.{AreSoundTrees};
 ghost use Rattle.btree_pages.specs.Node.{IsNode};
 ghost use Rattle.btree_pages.specs.OnWay.{IsReached};
-ghost use Rattle.btree_pages.specs.Tree.{IsSoundTree};
 ghost use Rattle.btree_pages.specs.Writes.{IsRead};
 
 use crate::look::read_node;
+use btree_laws::Root;
 use eaw_face::EawStore;
 use index_pages::{PAGE_LEN, Pairs, index_page_count, read_pairs};
 use page_store::{PageFault, Pages};
@@ -70,12 +71,14 @@ pub fn child_of(pairs: &[(u64, u64)], key: u64) -> u64
 // Reads the child of an inner page whose range has the key.
 pub fn fetch_child<S: EawStore>(
     pages: &mut Pages<S>,
+    root: Root,
     node: &Node,
     key: u64,
 ) -> Result<Node, PageFault>
     requires alive { IsAlive (S.view pages.old.store) }
-    requires sound { IsTrue S.tells → IsSoundTree (S.view pages.old.store).state.bytes }
-    requires reached { IsTrue S.tells → IsReached (S.view pages.old.store).state.bytes key node.now.page node.now.level node.now.pairs.items }
+    requires sound { IsTrue S.tells → AreSoundTrees (S.view pages.old.store).state.bytes }
+    requires named { IsTrue S.tells → IsTable (S.view pages.old.store).state.bytes root.table root.page }
+    requires reached { IsTrue S.tells → IsReached root (S.view pages.old.store).state.bytes key node.now.page node.now.level node.now.pairs.items }
     requires inner { node.now.level ≢ 0 }
     requires some { 1 ≤ length node.now.pairs.items }
     ensures looks { Looks S.tells (S.opens (S.view pages.old.store).shape) (is_failed result)

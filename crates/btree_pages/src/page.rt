@@ -2,7 +2,7 @@
 ghost use Rattle.std.specs.Prelude.{◌≡◌, ◌≤◌, IfSome, IfNone};
 ghost use Rattle.page_store.specs.Pairs.{found};
 ghost use Rattle.index_pages.specs.Page.{count_said, pairs_said};
-ghost use Rattle.btree_pages.specs.Descent.{child_for};
+ghost use Rattle.btree_laws.specs.Descent.{child_for};
 ghost use Rattle.btree_pages.specs.Leaf.{bound_in};
 ghost use Rattle.btree_pages.specs.Node.{IsNode, SaysNode};
 

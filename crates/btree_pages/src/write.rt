@@ -4,48 +4,39 @@ ghost use Rattle.eaw_face.specs.Causes.{IsAlive};
 ghost use Rattle.page_store.specs.Index.{slots_of, index_pages_of};
 ghost use Rattle.page_store.specs.Shown.{pages_of, top_in};
 ghost use Rattle.index_pages.specs.Acts.{Acts};
-ghost use Rattle.index_pages.specs.Fetched.{IsFront};
-ghost use Rattle.index_pages.specs.Keys.{key_at};
+ghost use Rattle.index_pages.specs.Adding.{adding_pages, adding_parts};
 ghost use Rattle.btree_pages.specs.Index.{half_for, half_pairs};
 ghost use Rattle.btree_pages.specs.Writes.{IsRead, cutting_pages, cutting_parts, growing_pages, growing_parts};
-ghost use Rattle.index_pages.specs.Adding.{adding_pages, adding_parts};
 
-use crate::look::ROOT;
 use crate::node::Node;
 use eaw_face::EawStore;
 use index_pages::{
-    HALF, LeafPage, PAGE_LEN, Pairs, act_all, front_part, whole_page, with_pair, write_page,
+    Claim, HALF, LeafPage, PAGE_LEN, act_all, copy_of, front_part, middle_of, whole_page,
+    with_pair, write_page,
 };
 use page_store::{PageFault, Pages};
-use record_slots::{COUNTS_LEN, Super, write_super_counts};
+use record_slots::{PART_LEN, write_super_part};
 
-// A page of the tree has no link.
+// A page of a tree has no link.
 const NO_LINK: u32 = 0;
 
-// The first key of the upper half of 30 pairs.
-fn middle_of(pairs: &Pairs) -> u64
-    requires { length pairs.now.items ≡ 30 }
-    ensures { result ≡ key_at pairs.now.items 15 }
-{
-    pairs.as_slice()[HALF].0
-}
-
-// Adds a pair of the key and the next slot to the key's leaf, which has room.
+// Adds a pair of the key of a table and the slot that is taken to the key's leaf, which has room.
 pub fn add_pair<S: EawStore>(
     pages: &mut Pages<S>,
     tid: u8,
+    table: u8,
     key: u64,
-    front: &Super,
+    slot: &Claim,
     leaf: Node,
 ) -> Result<(), PageFault>
     requires tid { tid < (S.view pages.old.store).shape.numbers }
+    requires table { table < 8 }
     requires closed { IsAlive (S.view pages.old.store) → top_in pages.old.marks tid ≡ None }
-    requires front { IsFront (S.view pages.old.store).shape front.now }
     requires leaf { IsRead (S.view pages.old.store).shape leaf.page leaf.level leaf.pairs.items }
     requires room { length leaf.pairs.items < 30 }
-    requires slot { front.now.next_slot < slots_of (S.view pages.old.store).shape }
-    ensures acts { Acts S.tells (S.opens (S.view pages.old.store).shape) tid (adding_pages (index_pages_of (S.view pages.old.store).shape) front.now leaf.page)
-        (adding_parts (index_pages_of (S.view pages.old.store).shape) front.now leaf.page 0 leaf.pairs.items key)
+    requires slot { slot.now.number < slots_of (S.view pages.old.store).shape }
+    ensures acts { Acts S.tells (S.opens (S.view pages.old.store).shape) tid (adding_pages (index_pages_of (S.view pages.old.store).shape) slot.now.number leaf.page)
+        (adding_parts (index_pages_of (S.view pages.old.store).shape) slot.now.front slot.now.number leaf.page 0 leaf.pairs.items table key)
         (pages_of (S.view pages.old.store) pages.old) (pages_of (S.view pages.new.store) pages.new) result }
     ensures dead { IsErrOf result PageFault.Dead → pages.new ≡ pages.old }
 {
@@ -55,29 +46,28 @@ pub fn add_pair<S: EawStore>(
         link: NO_LINK,
         pairs,
     };
-    index_pages::add_pair(pages, tid, key, front, leaf)
+    index_pages::add_pair(pages, tid, table, key, slot, leaf)
 }
 
-// Splits a full page below a parent that has room. Its upper half goes to the next page, which the parent names with the first key of that
-// half.
+// Splits a full page below a parent that has room. Its upper half goes to the page that is taken, which the parent names with the first key
+// of that half.
 pub fn cut_page<S: EawStore>(
     pages: &mut Pages<S>,
     tid: u8,
-    front: &Super,
+    taken: &Claim,
     node: &Node,
     parent: Node,
 ) -> Result<(), PageFault>
     requires tid { tid < (S.view pages.old.store).shape.numbers }
     requires closed { IsAlive (S.view pages.old.store) → top_in pages.old.marks tid ≡ None }
-    requires front { IsFront (S.view pages.old.store).shape front.now }
     requires node { IsRead (S.view pages.old.store).shape node.now.page node.now.level node.now.pairs.items }
     requires parent { IsRead (S.view pages.old.store).shape parent.page parent.level parent.pairs.items }
     requires below { node.now.level + 1 ≡ parent.level }
     requires full { length node.now.pairs.items ≡ 30 }
     requires room { length parent.pairs.items < 30 }
-    requires next { front.now.next_page < index_pages_of (S.view pages.old.store).shape }
-    ensures acts { Acts S.tells (S.opens (S.view pages.old.store).shape) tid (cutting_pages node.now.page front.now.next_page parent.page)
-        (cutting_parts front.now node.now.page node.now.level node.now.pairs.items parent.page parent.pairs.items)
+    requires taken { taken.now.number < index_pages_of (S.view pages.old.store).shape }
+    ensures acts { Acts S.tells (S.opens (S.view pages.old.store).shape) tid (cutting_pages node.now.page taken.now.number parent.page)
+        (cutting_parts taken.now.front node.now.page node.now.level node.now.pairs.items taken.now.number parent.page parent.pairs.items)
         (pages_of (S.view pages.old.store) pages.old) (pages_of (S.view pages.new.store) pages.new) result }
     ensures dead { IsErrOf result PageFault.Dead → pages.new ≡ pages.old }
 {
@@ -91,57 +81,59 @@ pub fn cut_page<S: EawStore>(
         pairs: above,
         ..
     } = parent;
-    let above = with_pair(above, middle_of(&node.pairs), front.next_page);
+    let above = with_pair(above, middle_of(&node.pairs), taken.number);
     let mut named = [0; PAGE_LEN];
     write_page(node.level + 1, NO_LINK, above.as_slice(), &mut named);
-    let mut counts = [0; COUNTS_LEN];
-    write_super_counts(front.next_slot, front.next_page + 1, &mut counts);
+    let mut part = [0; PART_LEN];
+    write_super_part(&taken.front, &mut part);
     let parts = [
         whole_page(node.page, &lower),
-        whole_page(front.next_page, &upper),
+        whole_page(taken.number, &upper),
         whole_page(page, &named),
-        front_part(&counts),
+        front_part(&part),
     ];
     act_all(pages, tid, &parts)
 }
 
-// Splits a full root. Its halves go to the next two pages, which it then names from one level up.
+// Splits a full root. Its halves go to the two pages that are taken, the second after the first, which it then names from one level up.
 pub fn grow_root<S: EawStore>(
     pages: &mut Pages<S>,
     tid: u8,
-    front: &Super,
-    level: u8,
-    root: &Pairs,
+    left: u32,
+    right: &Claim,
+    root: &Node,
 ) -> Result<(), PageFault>
     requires tid { tid < (S.view pages.old.store).shape.numbers }
     requires closed { IsAlive (S.view pages.old.store) → top_in pages.old.marks tid ≡ None }
-    requires front { IsFront (S.view pages.old.store).shape front.now }
-    requires root { IsRead (S.view pages.old.store).shape 1 level root.now.items }
-    requires level { level < 7 }
-    requires full { length root.now.items ≡ 30 }
-    requires next { front.now.next_page + 1 < index_pages_of (S.view pages.old.store).shape }
-    ensures acts { Acts S.tells (S.opens (S.view pages.old.store).shape) tid (growing_pages front.now.next_page)
-        (growing_parts front.now level root.now.items)
+    requires root { IsRead (S.view pages.old.store).shape root.now.page root.now.level root.now.pairs.items }
+    requires level { root.now.level < 7 }
+    requires full { length root.now.pairs.items ≡ 30 }
+    requires left { left < index_pages_of (S.view pages.old.store).shape }
+    requires right { right.now.number < index_pages_of (S.view pages.old.store).shape }
+    ensures acts { Acts S.tells (S.opens (S.view pages.old.store).shape) tid (growing_pages left right.now.number root.now.page)
+        (growing_parts right.now.front left right.now.number root.now.page root.now.level root.now.pairs.items)
         (pages_of (S.view pages.old.store) pages.old) (pages_of (S.view pages.new.store) pages.new) result }
     ensures dead { IsErrOf result PageFault.Dead → pages.new ≡ pages.old }
 {
-    let pairs = root.as_slice();
-    let left = front.next_page;
-    let right = left + 1;
+    let level = root.level;
+    let pairs = root.pairs.as_slice();
     let mut lower = [0; PAGE_LEN];
     write_page(level, NO_LINK, &pairs[..HALF], &mut lower);
     let mut upper = [0; PAGE_LEN];
     write_page(level, NO_LINK, &pairs[HALF..], &mut upper);
     let mut named = [0; PAGE_LEN];
-    let both = [(0, u64::from(left)), (middle_of(root), u64::from(right))];
+    let both = [
+        (0, u64::from(left)),
+        (middle_of(&root.pairs), u64::from(right.number)),
+    ];
     write_page(level + 1, NO_LINK, &both, &mut named);
-    let mut counts = [0; COUNTS_LEN];
-    write_super_counts(front.next_slot, right + 1, &mut counts);
+    let mut part = [0; PART_LEN];
+    write_super_part(&right.front, &mut part);
     let parts = [
         whole_page(left, &lower),
-        whole_page(right, &upper),
-        whole_page(ROOT, &named),
-        front_part(&counts),
+        whole_page(right.number, &upper),
+        whole_page(root.page, &named),
+        front_part(&part),
     ];
     act_all(pages, tid, &parts)
 }
@@ -167,16 +159,4 @@ pub fn half_of(node: &Node, left: u32, right: u32, key: u64) -> Node
             pairs: copy_of(&pairs[HALF..]),
         }
     }
-}
-
-// A copy of the pairs of a half.
-fn copy_of(pairs: &[(u64, u64)]) -> Pairs
-    requires { length pairs.now ≤ 30 }
-    ensures { result.items ≡ pairs.now }
-{
-    let mut copy = Pairs::new();
-    for pair in pairs {
-        copy.push(*pair);
-    }
-    copy
 }

@@ -13,7 +13,7 @@ use Rattle.array_shape.proofs.Apart.{row_end, data_end, region_end, region_fits,
 use Rattle.array_image.specs.Image.{data_of}
 use Rattle.array_image.proofs.Data.{length-data_of, data_put, data_away}
 use Rattle.record_slots.specs.Fresh.{fresh_page}
-use Rattle.record_slots.specs.Super.{count_bytes}
+use Rattle.record_slots.specs.Super.{part_bytes}
 use Rattle.eaw_device.specs.Fresh.{behind_header, HasPages, HasRows, HasParts}
 
 -- pages of the same data
@@ -29,7 +29,7 @@ pub whole : (shape : Shape) (i : ℕ) → IsOutside ((0, media_len shape) ∷ []
 whole shape i out = (((λ le lt. out.0 (omega arith) (omega arith)), tt), ((λ le lt. out.0 (omega arith) (omega arith)), tt))
 
 pub length-fresh_page : (p : ℕ) → length (fresh_page p) ≡ 512
-unfolding count_bytes
+unfolding part_bytes
 length-fresh_page zero = refl
 length-fresh_page (suc zero) = refl
 length-fresh_page (suc (suc p)) = length-replicate {A = ℕ} 512 0

@@ -15,12 +15,12 @@ inserted_local key to = record {
 pub same_local : (key : ℕ) → IsLocal key (λ ps. ps)
 same_local key = record { left = λ mid high xs ys r lt. refl; right = λ low mid xs ys r le. refl }
 
-pub given_inserted : (new : List ℕ) (key to : ℕ) (ps : List Pair) → to < next_slot new → Carries new (key, to) → AreGiven new ps → AreGiven new (inserted ps key to)
-given_inserted new key to [] a b g = (a, b, tt)
-given_inserted new key to (p ∷ ps) a b g =
+pub given_inserted : (new : List ℕ) (table key to : ℕ) (ps : List Pair) → to < next_slot new → Carries new table (key, to) → AreGiven new table ps → AreGiven new table (inserted ps key to)
+given_inserted new table key to [] a b g = (a, b, tt)
+given_inserted new table key to (p ∷ ps) a b g =
     elim (leb_tells (suc key) p.0) [
       | inl h ↦ let e : nat_lt key p.0 ≡ true = h.0 in rw e (a, b, g)
-      | inr h ↦ let e : nat_lt key p.0 ≡ false = h.0 in rw e (g.0, g.1, given_inserted new key to ps a b g.2)
+      | inr h ↦ let e : nat_lt key p.0 ≡ false = h.0 in rw e (g.0, g.1, given_inserted new table key to ps a b g.2)
     ]
 
 pub above_zero : (d : ℕ) → above d 0 ≡ d

@@ -8,9 +8,9 @@ use Rattle.array_shape.specs.Logged.{Part, applied}
 use Rattle.eaw_face.specs.State.{State, listed}
 use Rattle.eaw_face.specs.StoreView.{LeavesOnly}
 use Rattle.eaw_face.specs.Causes.{IsAlive}
-use Rattle.record_slots.specs.Places.{next_slot, next_page}
+use Rattle.record_slots.specs.Places.{used_pages, slot_due}
 use Rattle.page_store.specs.Fits.{IsFirstLacking}
-use Rattle.page_store.specs.Index.{Index, Grows, Rests, Gains}
+use Rattle.page_store.specs.Index.{Index, IsUntouched, Grows, Rests, Gains}
 use Rattle.page_store.specs.Inserts.{KeepsLogs, MayBecome, Made, InsertCause, Inserts, is_insert_failed}
 use Rattle.page_store.specs.Looks.{Looks, LookCause, is_failed}
 use Rattle.page_store.specs.Shown.{PagesView}
@@ -21,19 +21,27 @@ use Rattle.page_store.specs.declared.index_fault.IndexFault.TheVariants as index
 use Rattle.index_pages.specs.Acts.{Acts}
 use Rattle.index_pages.specs.Faults.{as_index}
 
-pub nothing_grows : (ix : Index) (bytes : List ℕ) → ix.sound bytes → Grows ix bytes bytes × Rests ix bytes bytes
-nothing_grows ix bytes sound = (
+pub nothing_touched : (ix : Index) (root : ℕ) (bytes : List ℕ) → IsUntouched ix root bytes bytes
+nothing_touched ix root bytes = record { pairs = refl; level = refl; pages = λ x on. (on, refl) }
+
+pub nothing_grows : (ix : Index) (root : ℕ) (bytes : List ℕ) → ix.sound bytes → Grows ix root bytes bytes × Rests ix root bytes bytes
+nothing_grows ix root bytes sound = (
   record {
     sound = sound;
     size = refl;
-    slots = λ j lt. refl;
+    version = refl;
+    tables = refl;
+    others = λ table other is ne. nothing_touched ix other bytes;
+    slots = λ j lt ne. refl;
     later = omega arith;
     few = omega arith;
+    free_pages_fall = omega arith;
     named = λ x from to. absurd (omega arith);
+    taken = λ x free. inl free;
     kept = λ x on. on;
     levels = omega arith;
   },
-  record { pairs = refl; slots = refl },
+  record { pairs = refl; slots = refl; due = refl; same = refl },
 )
 
 pub logs_then : (tells : Bool) (a b c : PagesView) → KeepsLogs tells a b → KeepsLogs tells b c → KeepsLogs tells a c
@@ -56,15 +64,15 @@ looks_logs tells Opens old now looks =
       logs = λ told u. ap (λ (s : State). listed (s.logs u)) (still.state told);
     }
 
-module _ (ix : Index) (tells : Bool) (Opens : List ℕ → List ℕ → Type 0) (t key : ℕ) where
+module _ (ix : Index) (tells : Bool) (Opens : List ℕ → List ℕ → Type 0) (t root table key : ℕ) where
   -- So far logs and saves are as they were, and the data has at most grown.
   pub record Going (old now : PagesView) : Type 0 where
     pub shape : now.store.shape ≡ old.store.shape
     pub saves : now.counts ≡ old.counts
     pub others : (u : ℕ) → u ≢ t → now.store.ranges u ≡ old.store.ranges u
     pub logs : KeepsLogs tells old now
-    pub made : IsTrue tells → IsAlive old.store → Grows ix old.store.state.bytes now.store.state.bytes × Rests ix old.store.state.bytes now.store.state.bytes
-    pub time : IsTrue tells → IsAlive old.store → LeavesOnly (λ image. (bytes : List ℕ) × Opens image bytes × MayBecome ix key old.store.state.bytes bytes) old.store now.store
+    pub made : IsTrue tells → IsAlive old.store → Grows ix root old.store.state.bytes now.store.state.bytes × Rests ix root old.store.state.bytes now.store.state.bytes
+    pub time : IsTrue tells → IsAlive old.store → LeavesOnly (λ image. (bytes : List ℕ) × Opens image bytes × MayBecome ix root table key old.store.state.bytes bytes) old.store now.store
 
   pub going_looks : (old now : PagesView) → (IsTrue tells → IsAlive old.store → ix.sound old.store.state.bytes) → Looks tells Opens false old now → Going old now
   going_looks old now sound looks =
@@ -74,8 +82,8 @@ module _ (ix : Index) (tells : Bool) (Opens : List ℕ → List ℕ → Type 0) 
         saves = looks.saves;
         others = λ u ne. ap (λ (f : ℕ → Option (List (ℕ × ℕ))). f u) looks.ranges;
         logs = looks_logs tells Opens old now looks;
-        made = λ told alive. subst (λ (s : State). Grows ix old.store.state.bytes s.bytes × Rests ix old.store.state.bytes s.bytes) (sym (still.state told)) (nothing_grows ix old.store.state.bytes (sound told alive));
-        time = λ told alive. let grown = nothing_grows ix old.store.state.bytes (sound told alive) in weaker (λ image opens. (old.store.state.bytes, opens, (grown.0, inl grown.1))) (looks.time told alive);
+        made = λ told alive. subst (λ (s : State). Grows ix root old.store.state.bytes s.bytes × Rests ix root old.store.state.bytes s.bytes) (sym (still.state told)) (nothing_grows ix root old.store.state.bytes (sound told alive));
+        time = λ told alive. let grown = nothing_grows ix root old.store.state.bytes (sound told alive) in weaker (λ image opens. (old.store.state.bytes, opens, (grown.0, inl grown.1))) (looks.time told alive);
       }
 
   pub alive_now : (old now : PagesView) → Going old now → IsAlive old.store → IsAlive now.store
@@ -83,7 +91,7 @@ module _ (ix : Index) (tells : Bool) (Opens : List ℕ → List ℕ → Type 0) 
 
   -- what may be left within a look at the data
   time_looks : (failed : Bool) (old mid now : PagesView) → Going old mid → Looks tells Opens failed mid now → IsTrue tells → IsAlive old.store
-      → LeavesOnly (λ image. (bytes : List ℕ) × Opens image bytes × MayBecome ix key old.store.state.bytes bytes) old.store now.store
+      → LeavesOnly (λ image. (bytes : List ℕ) × Opens image bytes × MayBecome ix root table key old.store.state.bytes bytes) old.store now.store
   time_looks failed old mid now going looks told alive =
       let grown = going.made told alive in
       (then) (going.time told alive) (weaker (λ image opens. (mid.store.state.bytes, opens, (grown.0, inl grown.1))) (looks.time told (alive_now old mid going alive)))
@@ -96,15 +104,15 @@ module _ (ix : Index) (tells : Bool) (Opens : List ℕ → List ℕ → Type 0) 
         saves = looks.saves ∙ going.saves;
         others = λ u ne. ap (λ (f : ℕ → Option (List (ℕ × ℕ))). f u) looks.ranges ∙ going.others u ne;
         logs = logs_then tells old mid now going.logs (looks_logs tells Opens mid now looks);
-        made = λ told alive. subst (λ (s : State). Grows ix old.store.state.bytes s.bytes × Rests ix old.store.state.bytes s.bytes) (sym (still.state told)) (going.made told alive);
+        made = λ told alive. subst (λ (s : State). Grows ix root old.store.state.bytes s.bytes × Rests ix root old.store.state.bytes s.bytes) (sym (still.state told)) (going.made told alive);
         time = λ told alive. time_looks false old mid now going looks told alive;
       }
 
   module _ (old mid now : PagesView) (going : Going old mid) (pages : List ℕ) (parts : List Part)
-      (may : IsTrue tells → IsAlive old.store → MayBecome ix key old.store.state.bytes (applied parts mid.store.state.bytes)) where
+      (may : IsTrue tells → IsAlive old.store → MayBecome ix root table key old.store.state.bytes (applied parts mid.store.state.bytes)) where
     -- what may be left within an action
     time_acts : (r : Result (Unit {0}) PageFault) → Acts tells Opens t pages parts mid now r → IsTrue tells → IsAlive old.store
-        → LeavesOnly (λ image. (bytes : List ℕ) × Opens image bytes × MayBecome ix key old.store.state.bytes bytes) old.store now.store
+        → LeavesOnly (λ image. (bytes : List ℕ) × Opens image bytes × MayBecome ix root table key old.store.state.bytes bytes) old.store now.store
     time_acts r acts told alive =
         let grown = going.made told alive in
         (then) (going.time told alive)
@@ -115,13 +123,13 @@ module _ (ix : Index) (tells : Bool) (Opens : List ℕ → List ℕ → Type 0) 
 
     -- an action that was done and keeps the pairs
     pub going_act : (let r : Result (Unit {0}) PageFault = Ok tt in Acts tells Opens t pages parts mid now r)
-        → (IsTrue tells → IsAlive old.store → Grows ix old.store.state.bytes (applied parts mid.store.state.bytes) × Rests ix old.store.state.bytes (applied parts mid.store.state.bytes)) → Going old now
+        → (IsTrue tells → IsAlive old.store → Grows ix root old.store.state.bytes (applied parts mid.store.state.bytes) × Rests ix root old.store.state.bytes (applied parts mid.store.state.bytes)) → Going old now
     going_act acts grown = record {
       shape = acts.shape ∙ going.shape;
       saves = acts.saves ∙ going.saves;
       others = λ u ne. acts.others u ne ∙ going.others u ne;
       logs = logs_then tells old mid now going.logs (acts.kept refl);
-      made = λ told alive. subst (λ (b : List ℕ). Grows ix old.store.state.bytes b × Rests ix old.store.state.bytes b) (sym (acts.made told (alive_now old mid going alive))) (grown told alive);
+      made = λ told alive. subst (λ (b : List ℕ). Grows ix root old.store.state.bytes b × Rests ix root old.store.state.bytes b) (sym (acts.made told (alive_now old mid going alive))) (grown told alive);
       time = λ told alive. (let r : Result (Unit {0}) PageFault = Ok tt in time_acts r acts told alive);
     }
 
@@ -132,14 +140,14 @@ module _ (ix : Index) (tells : Bool) (Opens : List ℕ → List ℕ → Type 0) 
       saves = acts.saves ∙ going.saves;
       others = λ u ne. acts.others u ne ∙ going.others u ne;
       logs = logs_then tells old mid now going.logs (acts.kept refl);
-      made = λ told alive. subst (λ (b : List ℕ). Grows ix old.store.state.bytes b × Rests ix old.store.state.bytes b) (sym (acts.made told (alive_now old mid going alive))) (going.made told alive);
+      made = λ told alive. subst (λ (b : List ℕ). Grows ix root old.store.state.bytes b × Rests ix root old.store.state.bytes b) (sym (acts.made told (alive_now old mid going alive))) (going.made told alive);
       time = λ told alive. (let r : Result (Unit {0}) PageFault = Err (page.LogFull g h n) in time_acts r acts told alive);
     }
 
     -- the insertion ends with the pair
     pub inserts_done : (slot : ℕ) → (let r : Result (Unit {0}) PageFault = Ok tt in Acts tells Opens t pages parts mid now r)
-        → (IsTrue tells → IsAlive old.store → (slot ≡ next_slot old.store.state.bytes) × Grows ix old.store.state.bytes (applied parts mid.store.state.bytes) × Gains ix key old.store.state.bytes (applied parts mid.store.state.bytes))
-        → (let s : Result ℕ IndexFault = Ok slot in InsertCause tells ix t key old.store s) → (let s : Result ℕ IndexFault = Ok slot in Inserts tells Opens ix t key old now s)
+        → (IsTrue tells → IsAlive old.store → (slot ≡ slot_due old.store.state.bytes) × Grows ix root old.store.state.bytes (applied parts mid.store.state.bytes) × Gains ix root table key old.store.state.bytes (applied parts mid.store.state.bytes))
+        → (let s : Result ℕ IndexFault = Ok slot in InsertCause tells ix t root key old.store s) → (let s : Result ℕ IndexFault = Ok slot in Inserts tells Opens ix t root table key old now s)
     inserts_done slot acts data' cause = record {
       shape = acts.shape ∙ going.shape;
       cause = cause;
@@ -147,14 +155,14 @@ module _ (ix : Index) (tells : Bool) (Opens : List ℕ → List ℕ → Type 0) 
       others = λ u ne. acts.others u ne ∙ going.others u ne;
       kept = λ well. logs_then tells old mid now going.logs (acts.kept refl);
       made = λ told alive.
-          subst (λ (b : List ℕ). (slot ≡ next_slot old.store.state.bytes) × Grows ix old.store.state.bytes b × Gains ix key old.store.state.bytes b) (sym (acts.made told (alive_now old mid going alive))) (data' told alive);
+          subst (λ (b : List ℕ). (slot ≡ slot_due old.store.state.bytes) × Grows ix root old.store.state.bytes b × Gains ix root table key old.store.state.bytes b) (sym (acts.made told (alive_now old mid going alive))) (data' told alive);
       dies = λ failed. absurd (false≢true failed);
       time = λ told alive. (let r : Result (Unit {0}) PageFault = Ok tt in time_acts r acts told alive);
     }
 
   -- the insertion ends without the pair
-  pub inserts_refused : (old now : PagesView) → Going old now → (fault : IndexFault) → (let s : Result ℕ IndexFault = Err fault in (is_insert_failed s ≡ false) × InsertCause tells ix t key old.store s)
-      → ((n : ℕ) → fault ≡ index.PagesFull n → IsTrue tells → IsAlive old.store → (n ≤ next_page now.store.state.bytes) ⊎ (7 ≤ ix.level now.store.state.bytes)) → (let s : Result ℕ IndexFault = Err fault in Inserts tells Opens ix t key old now s)
+  pub inserts_refused : (old now : PagesView) → Going old now → (fault : IndexFault) → (let s : Result ℕ IndexFault = Err fault in (is_insert_failed s ≡ false) × InsertCause tells ix t root key old.store s)
+      → ((n : ℕ) → fault ≡ index.PagesFull n → IsTrue tells → IsAlive old.store → (n ≤ used_pages now.store.state.bytes) ⊎ (7 ≤ ix.level now.store.state.bytes root)) → (let s : Result ℕ IndexFault = Err fault in Inserts tells Opens ix t root table key old now s)
   inserts_refused old now going fault cause full = record {
     shape = going.shape;
     cause = cause.1;
@@ -166,8 +174,8 @@ module _ (ix : Index) (tells : Bool) (Opens : List ℕ → List ℕ → Type 0) 
     time = going.time;
   }
     where
-      made_of : (fault : IndexFault) → (let s : Result ℕ IndexFault = Err fault in is_insert_failed s ≡ false) → ((n : ℕ) → fault ≡ index.PagesFull n → IsTrue tells → IsAlive old.store → (n ≤ next_page now.store.state.bytes) ⊎ (7 ≤ ix.level now.store.state.bytes))
-          → IsTrue tells → IsAlive old.store → (let s : Result ℕ IndexFault = Err fault in Made ix key old.store.state.bytes now.store.state.bytes s)
+      made_of : (fault : IndexFault) → (let s : Result ℕ IndexFault = Err fault in is_insert_failed s ≡ false) → ((n : ℕ) → fault ≡ index.PagesFull n → IsTrue tells → IsAlive old.store → (n ≤ used_pages now.store.state.bytes) ⊎ (7 ≤ ix.level now.store.state.bytes root))
+          → IsTrue tells → IsAlive old.store → (let s : Result ℕ IndexFault = Err fault in Made ix root table key old.store.state.bytes now.store.state.bytes s)
       made_of (index.SlotsFull n) well full told alive = going.made told alive
       made_of (index.PagesFull n) well full told alive = let grown = going.made told alive in (grown.0, grown.1, full n refl told alive)
       made_of (index.LogFull g h n) well full told alive = going.made told alive
@@ -176,7 +184,7 @@ module _ (ix : Index) (tells : Bool) (Opens : List ℕ → List ℕ → Type 0) 
       made_of (index.Damaged bad) well full told alive = going.made told alive
 
   -- the medium failed
-  inserts_look_media : (old mid now : PagesView) → Going old mid → Looks tells Opens true mid now → IsAlive old.store → (let s : Result ℕ IndexFault = Err index.Media in Inserts tells Opens ix t key old now s)
+  inserts_look_media : (old mid now : PagesView) → Going old mid → Looks tells Opens true mid now → IsAlive old.store → (let s : Result ℕ IndexFault = Err index.Media in Inserts tells Opens ix t root table key old now s)
   inserts_look_media old mid now going looks alive =
       let dies = looks.dies refl in
       record {
@@ -191,7 +199,7 @@ module _ (ix : Index) (tells : Bool) (Opens : List ℕ → List ℕ → Type 0) 
       }
 
   pub inserts_look_err : (T : Type 0) (old mid now : PagesView) → Going old mid → (fault : PageFault) → (let r : Result T PageFault = Err fault in Looks tells Opens (is_failed r) mid now × LookCause tells mid.store r)
-      → (let s : Result ℕ IndexFault = Err (as_index fault) in Inserts tells Opens ix t key old now s)
+      → (let s : Result ℕ IndexFault = Err (as_index fault) in Inserts tells Opens ix t root table key old now s)
   inserts_look_err T old mid now going page.Media looks = inserts_look_media old mid now going looks.0 (sym going.logs.dead ∙ looks.1)
   inserts_look_err T old mid now going page.Dead looks = inserts_refused old now (going_more old mid now going looks.0) index.Dead (refl, sym going.logs.dead ∙ looks.1) (λ n e. absurd (cc))
   inserts_look_err T old mid now going (page.Damaged bad) looks = inserts_refused old now (going_more old mid now going looks.0) (index.Damaged bad) (refl, (sym going.logs.dead ∙ looks.1.0, looks.1.1)) (λ n e. absurd (cc))
@@ -199,9 +207,9 @@ module _ (ix : Index) (tells : Bool) (Opens : List ℕ → List ℕ → Type 0) 
   inserts_look_err T old mid now going page.SavesFull looks = absurd looks.1
 
   pub inserts_act_err : (old mid now : PagesView) → (going : Going old mid) → (pages : List ℕ) (parts : List Part)
-      → (may : IsTrue tells → IsAlive old.store → MayBecome ix key old.store.state.bytes (applied parts mid.store.state.bytes)) → IsAlive old.store
-      → ((g h n : ℕ) → IsFirstLacking mid.store t pages g h n → (let s : Result ℕ IndexFault = Err (index.LogFull g h n) in InsertCause tells ix t key old.store s))
-      → (fault : PageFault) → (let r : Result (Unit {0}) PageFault = Err fault in Acts tells Opens t pages parts mid now r) → (let s : Result ℕ IndexFault = Err (as_index fault) in Inserts tells Opens ix t key old now s)
+      → (may : IsTrue tells → IsAlive old.store → MayBecome ix root table key old.store.state.bytes (applied parts mid.store.state.bytes)) → IsAlive old.store
+      → ((g h n : ℕ) → IsFirstLacking mid.store t pages g h n → (let s : Result ℕ IndexFault = Err (index.LogFull g h n) in InsertCause tells ix t root key old.store s))
+      → (fault : PageFault) → (let r : Result (Unit {0}) PageFault = Err fault in Acts tells Opens t pages parts mid now r) → (let s : Result ℕ IndexFault = Err (as_index fault) in Inserts tells Opens ix t root table key old now s)
   inserts_act_err old mid now going pages parts may alive cause page.Media acts =
       let dies = acts.dies refl in
       record {

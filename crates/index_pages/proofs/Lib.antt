@@ -19,4 +19,17 @@ pub mod Carrying
 pub mod Slotted
 pub mod Parting
 pub mod Puts
+pub mod Stacks
+pub mod Tabled
+pub mod Taken
 pub mod Added
+pub mod Members
+pub mod Left
+pub mod Faulting
+pub mod Lifting
+pub mod Claims
+pub mod Halved
+pub mod Owned
+pub mod Joining
+pub mod Tables
+pub mod Tests

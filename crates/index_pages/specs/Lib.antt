@@ -10,3 +10,4 @@ pub mod Faults
 pub mod Parts
 pub mod Adding
 pub mod Slots
+pub mod Within

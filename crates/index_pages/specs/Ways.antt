@@ -12,7 +12,7 @@ above (suc d) m = suc (above d m)
 pub record Keeps (old new : List ℕ) : Type 0 where
   pub pages : next_page old ≤ next_page new
   pub slots : next_slot old ≤ next_slot new
-  pub carried : (p : Pair) → p.1 < next_slot old → Carries old p → Carries new p
+  pub carried : (table : ℕ) (p : Pair) → p.1 < next_slot old → Carries old table p → Carries new table p
 
 -- A change is local to a key: of a list of two halves it changes the half in whose range the key lies. So what is done to the pairs
 -- below a page on the key's way is done to all pairs.

@@ -18,9 +18,9 @@ pub struct PagePart<'a> {
 }
 
 // The most parts of an action.
-const PARTS_MAX: usize = 4;
+const PARTS_MAX: usize = 5;
 
-/// Writes up to four parts, one after another, as one nested top action of the number: all of them or none, whatever becomes of the
+/// Writes up to five parts, one after another, as one nested top action of the number: all of them or none, whatever becomes of the
 /// number. The room for them is tested first.
 pub fn act_all<S: EawStore>(
     pages: &mut Pages<S>,
@@ -29,7 +29,7 @@ pub fn act_all<S: EawStore>(
 ) -> Result<(), PageFault>
     requires tid { tid < (S.view pages.old.store).shape.numbers }
     requires closed { IsAlive (S.view pages.old.store) → top_in pages.old.marks tid ≡ None }
-    requires few { length parts.now ≤ 4 }
+    requires few { length parts.now ≤ 5 }
     requires inside { AreInPages (S.view pages.old.store) parts.now }
     ensures acts { Acts S.tells (S.opens (S.view pages.old.store).shape) tid (pages_named parts.now) (parts_named parts.now)
         (pages_of (S.view pages.old.store) pages.old) (pages_of (S.view pages.new.store) pages.new) result }
@@ -54,7 +54,7 @@ pub fn act_all<S: EawStore>(
 
 // The pages of the parts.
 fn pages_in(parts: &[PagePart<'_>]) -> ArrayVec<u32, PARTS_MAX>
-    requires { length parts.now ≤ 4 }
+    requires { length parts.now ≤ 5 }
     ensures { result.items ≡ pages_named parts.now }
 {
     let mut pages = ArrayVec::new();

@@ -1,20 +1,20 @@
 // The action that adds a pair, and the parts that other actions share with it.
-ghost use Rattle.std.specs.Prelude.{◌≡◌, ◌+◌, ◌<◌, None, IsErrOf, length};
+ghost use Rattle.std.specs.Prelude.{◌≡◌, ◌<◌, None, IsErrOf, length};
 ghost use Rattle.eaw_face.specs.Causes.{IsAlive};
 ghost use Rattle.page_store.specs.Index.{slots_of, index_pages_of};
 ghost use Rattle.page_store.specs.Pairs.{inserted};
 ghost use Rattle.page_store.specs.Shown.{pages_of, top_in};
 ghost use Rattle.index_pages.specs.Acts.{Acts};
 ghost use Rattle.index_pages.specs.Adding.{adding_pages, adding_parts};
-ghost use Rattle.index_pages.specs.Fetched.{IsFront};
 
 use crate::action::{PagePart, act_all};
 use crate::fetch::{SLOTS_IN_PAGE, index_page_count};
 use crate::page::{PAGE_LEN, Pairs, write_page};
 use crate::place::place_of;
+use crate::taking::Claim;
 use eaw_face::EawStore;
 use page_store::{PageFault, Pages};
-use record_slots::{COUNTS_AT, COUNTS_LEN, SLOT_LEN, Slot, Super, write_slot, write_super_counts};
+use record_slots::{PART_AT, PART_LEN, SLOT_LEN, Slot, write_slot, write_super_part};
 
 /// A page of level 0 as it was read: its link and its pairs.
 #[derive(Drop)]
@@ -24,40 +24,41 @@ pub struct LeafPage {
     pub pairs: Pairs,
 }
 
-/// Adds a pair of the key and the next slot to a page of level 0 that has room, as one nested top action of three parts: the slot, which
-/// is absent under the key, the page, and the counts of the super page.
+/// Adds a pair of the key of a table and a slot that is taken to a page of level 0 that has room, as one nested top action of three parts:
+/// the slot, which is absent under the key, the page, and the super page, which says that the slot is in use.
 pub fn add_pair<S: EawStore>(
     pages: &mut Pages<S>,
     tid: u8,
+    table: u8,
     key: u64,
-    front: &Super,
+    taken: &Claim,
     leaf: LeafPage,
 ) -> Result<(), PageFault>
     requires tid { tid < (S.view pages.old.store).shape.numbers }
     requires closed { IsAlive (S.view pages.old.store) → top_in pages.old.marks tid ≡ None }
-    requires front { IsFront (S.view pages.old.store).shape front.now }
+    requires table { table < 8 }
     requires inside { leaf.page < index_pages_of (S.view pages.old.store).shape }
     requires room { length leaf.pairs.items < 30 }
-    requires slot { front.now.next_slot < slots_of (S.view pages.old.store).shape }
-    ensures acts { Acts S.tells (S.opens (S.view pages.old.store).shape) tid (adding_pages (index_pages_of (S.view pages.old.store).shape) front.now leaf.page)
-        (adding_parts (index_pages_of (S.view pages.old.store).shape) front.now leaf.page leaf.link leaf.pairs.items key)
+    requires slot { taken.now.number < slots_of (S.view pages.old.store).shape }
+    ensures acts { Acts S.tells (S.opens (S.view pages.old.store).shape) tid (adding_pages (index_pages_of (S.view pages.old.store).shape) taken.now.number leaf.page)
+        (adding_parts (index_pages_of (S.view pages.old.store).shape) taken.now.front taken.now.number leaf.page leaf.link leaf.pairs.items table key)
         (pages_of (S.view pages.old.store) pages.old) (pages_of (S.view pages.new.store) pages.new) result }
     ensures dead { IsErrOf result PageFault.Dead → pages.new ≡ pages.old }
 {
     let LeafPage { page, link, pairs } = leaf;
-    let pairs = with_pair(pairs, key, front.next_slot);
+    let pairs = with_pair(pairs, key, taken.number);
     let mut slot = [0; SLOT_LEN];
-    write_slot(&Slot::Absent { key }, &mut slot);
+    write_slot(&Slot::Absent { table, key }, &mut slot);
     let mut bytes = [0; PAGE_LEN];
     write_page(0, link, pairs.as_slice(), &mut bytes);
-    let mut counts = [0; COUNTS_LEN];
-    write_super_counts(front.next_slot + 1, front.next_page, &mut counts);
+    let mut part = [0; PART_LEN];
+    write_super_part(&taken.front, &mut part);
     let slot_part = PagePart {
-        page: index_page_count(pages) + front.next_slot / SLOTS_IN_PAGE,
-        at: front.next_slot % SLOTS_IN_PAGE * SLOT_LEN as u32,
+        page: index_page_count(pages) + taken.number / SLOTS_IN_PAGE,
+        at: taken.number % SLOTS_IN_PAGE * SLOT_LEN as u32,
         bytes: &slot,
     };
-    let parts = [slot_part, whole_page(page, &bytes), front_part(&counts)];
+    let parts = [slot_part, whole_page(page, &bytes), front_part(&part)];
     act_all(pages, tid, &parts)
 }
 
@@ -81,15 +82,15 @@ pub fn whole_page(page: u32, bytes: &[u8; PAGE_LEN]) -> PagePart<'_>
     PagePart { page, at: 0, bytes }
 }
 
-/// The counts of the super page as a part.
-pub fn front_part(counts: &[u8; COUNTS_LEN]) -> PagePart<'_>
+/// The part of the super page that changes.
+pub fn front_part(part: &[u8; PART_LEN]) -> PagePart<'_>
     ensures page { result.page ≡ 0 }
     ensures at { result.at ≡ 8 }
-    ensures bytes { result.bytes.now ≡ counts.now }
+    ensures bytes { result.bytes.now ≡ part.now }
 {
     PagePart {
         page: 0,
-        at: COUNTS_AT as u32,
-        bytes: counts,
+        at: PART_AT as u32,
+        bytes: part,
     }
 }

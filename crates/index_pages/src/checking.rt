@@ -1,23 +1,31 @@
-// The test of a slot that an index names.
+// The tests of what all indexes stand on: slots that pairs name, and the lists of what is free.
 ghost use Rattle.std.specs.Prelude.{◌≡◌, ◌≤◌, ◌↔◌, IsErrOf, IsTrue};
+ghost use Rattle.mars_base.specs.Check.{both};
 ghost use Rattle.eaw_face.specs.Causes.{IsAlive};
-ghost use Rattle.record_slots.specs.Places.{next_slot, IsOfKey};
+ghost use Rattle.record_slots.specs.Places.{next_slot, page_bytes, IsOfKey};
+ghost use Rattle.record_slots.specs.Super.{SaysSuper};
 ghost use Rattle.page_store.specs.Index.{slots_of};
 ghost use Rattle.page_store.specs.Looks.{Looks, is_check_failed};
 ghost use Rattle.page_store.specs.Shown.{pages_of};
-ghost use Rattle.index_pages.specs.Slots.{slot_check, IsVerdict};
+ghost use Rattle.index_pages.specs.Fetched.{IsFront};
+ghost use Rattle.index_pages.specs.Slots.{slot_check, slots_check, pages_check, IsVerdict};
 
 use crate::fault::check_fault;
-use crate::fetch::{SLOTS_IN_PAGE, fetch_slot, index_page_count};
+use crate::fetch::{
+    SLOTS_IN_PAGE, fetch_free_page, fetch_free_slot, fetch_slot, index_page_count,
+};
+use crate::taking::ranked;
 use eaw_face::EawStore;
 use page_store::{CheckFault, Pages};
-use record_slots::Slot;
+use record_slots::{Slot, Super};
 
-/// Tests the slot of a pair on a page of leaves, where so many slots are given out: it is one of them and carries the key.
+/// Tests the slot of a pair of a table on a page of leaves, where so many slots are given out: it is one of them and carries the key for
+/// that table.
 ///
-/// If it is not given out, the pair's page is damaged. If it carries another key, or none, the slot's own page is.
+/// If it is not given out, the pair's page is damaged. If it carries another key, or none, or is another table's, the slot's own page is.
 pub fn check_slot<S: EawStore>(
     pages: &mut Pages<S>,
+    table: u8,
     page: u32,
     pair: (u64, u64),
     slots: u32,
@@ -27,7 +35,7 @@ pub fn check_slot<S: EawStore>(
     ensures looks { Looks S.tells (S.opens (S.view pages.old.store).shape) (is_check_failed result)
         (pages_of (S.view pages.old.store) pages.old) (pages_of (S.view pages.new.store) pages.new) }
     ensures cause { IsTrue S.tells → slots ≡ next_slot (S.view pages.old.store).state.bytes
-        → IsVerdict (slot_check (S.view pages.old.store).state.bytes page pair) result }
+        → IsVerdict (slot_check (S.view pages.old.store).state.bytes table page pair) result }
     ensures dead { IsErrOf result CheckFault.Dead → ⊥ }
 {
     if pair.1 >= u64::from(slots) {
@@ -37,7 +45,7 @@ pub fn check_slot<S: EawStore>(
     let count = index_page_count(pages);
     match fetch_slot(pages, slot) {
         Ok(said) => {
-            if is_of_key(&said, pair.0) {
+            if is_of_key(&said, table, pair.0) {
                 Ok(())
             } else {
                 Err(CheckFault::Damaged {
@@ -49,13 +57,107 @@ pub fn check_slot<S: EawStore>(
     }
 }
 
-// Whether what was read is a slot of this key.
-fn is_of_key(said: &Option<Slot>, key: u64) -> bool
-    ensures { IsTrue result ↔ IsOfKey key said.now }
+// Whether what was read is a slot of this table and key.
+fn is_of_key(said: &Option<Slot>, table: u8, key: u64) -> bool
+    ensures { IsTrue result ↔ IsOfKey table key said.now }
 {
     match said {
         None => false,
-        Some(Slot::Absent { key: other }) => *other == key,
-        Some(Slot::Present { key: other, .. }) => *other == key,
+        Some(Slot::Absent { table: of, key: other }) => *of == table && *other == key,
+        Some(Slot::Present {
+            table: of,
+            key: other,
+            ..
+        }) => *of == table && *other == key,
     }
+}
+
+/// Tests the lists of free slots and free pages, one after another, each along its members.
+///
+/// Whoever names a wrong member is damaged, at first the super page; a member that is not free, or of a wrong rank, is damaged itself.
+pub fn check_lists<S: EawStore>(pages: &mut Pages<S>, front: &Super) -> Result<(), CheckFault>
+    requires alive { IsAlive (S.view pages.old.store) }
+    requires front { IsFront (S.view pages.old.store).shape front.now }
+    ensures looks { Looks S.tells (S.opens (S.view pages.old.store).shape) (is_check_failed result)
+        (pages_of (S.view pages.old.store) pages.old) (pages_of (S.view pages.new.store) pages.new) }
+    ensures cause { IsTrue S.tells → SaysSuper (page_bytes (S.view pages.old.store).state.bytes 0) front.now
+        → IsVerdict (both (slots_check (S.view pages.old.store).state.bytes) (pages_check (S.view pages.old.store).state.bytes)) result }
+    ensures dead { IsErrOf result CheckFault.Dead → ⊥ }
+{
+    match check_free_slots(pages, front) {
+        Ok(()) => {}
+        Err(fault) => return Err(fault),
+    }
+    check_free_pages(pages, front)
+}
+
+// Tests the list of free slots.
+fn check_free_slots<S: EawStore>(pages: &mut Pages<S>, front: &Super) -> Result<(), CheckFault>
+    requires alive { IsAlive (S.view pages.old.store) }
+    requires front { IsFront (S.view pages.old.store).shape front.now }
+    ensures looks { Looks S.tells (S.opens (S.view pages.old.store).shape) (is_check_failed result)
+        (pages_of (S.view pages.old.store) pages.old) (pages_of (S.view pages.new.store) pages.new) }
+    ensures cause { IsTrue S.tells → SaysSuper (page_bytes (S.view pages.old.store).state.bytes 0) front.now
+        → IsVerdict (slots_check (S.view pages.old.store).state.bytes) result }
+    ensures dead { IsErrOf result CheckFault.Dead → ⊥ }
+{
+    let count = index_page_count(pages);
+    let mut named = front.free_slot;
+    let mut page = 0;
+    for done in 0..front.free_slots {
+        if named == 0 {
+            return Err(CheckFault::Damaged { page });
+        }
+        if named > front.next_slot {
+            return Err(CheckFault::Damaged { page });
+        }
+        page = count + (named - 1) / SLOTS_IN_PAGE;
+        let said = match fetch_free_slot(pages, named - 1) {
+            Ok(said) => said,
+            Err(fault) => return Err(check_fault(fault)),
+        };
+        let Some(free) = ranked(&said, front.free_slots - done) else {
+            return Err(CheckFault::Damaged { page });
+        };
+        named = free.next;
+    }
+    if named != 0 {
+        return Err(CheckFault::Damaged { page });
+    }
+    Ok(())
+}
+
+// Tests the list of free pages.
+fn check_free_pages<S: EawStore>(pages: &mut Pages<S>, front: &Super) -> Result<(), CheckFault>
+    requires alive { IsAlive (S.view pages.old.store) }
+    requires front { IsFront (S.view pages.old.store).shape front.now }
+    ensures looks { Looks S.tells (S.opens (S.view pages.old.store).shape) (is_check_failed result)
+        (pages_of (S.view pages.old.store) pages.old) (pages_of (S.view pages.new.store) pages.new) }
+    ensures cause { IsTrue S.tells → SaysSuper (page_bytes (S.view pages.old.store).state.bytes 0) front.now
+        → IsVerdict (pages_check (S.view pages.old.store).state.bytes) result }
+    ensures dead { IsErrOf result CheckFault.Dead → ⊥ }
+{
+    let mut named = front.free_page;
+    let mut page = 0;
+    for done in 0..front.free_pages {
+        if named <= 2 {
+            return Err(CheckFault::Damaged { page });
+        }
+        if named > front.next_page {
+            return Err(CheckFault::Damaged { page });
+        }
+        page = named - 1;
+        let said = match fetch_free_page(pages, page) {
+            Ok(said) => said,
+            Err(fault) => return Err(check_fault(fault)),
+        };
+        let Some(free) = ranked(&said, front.free_pages - done) else {
+            return Err(CheckFault::Damaged { page });
+        };
+        named = free.next;
+    }
+    if named != 0 {
+        return Err(CheckFault::Damaged { page });
+    }
+    Ok(())
 }

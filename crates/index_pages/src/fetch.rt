@@ -1,9 +1,9 @@
 // Reads of the pages of an index, and of slots.
 ghost use Rattle.std.specs.Prelude.{◌≡◌, ◌<◌, ◌≤◌, ◌↔◌, ◌+◌, ◌*◌, IfOk, OnOk, IsErrOf, IsTrue};
 ghost use Rattle.array_shape.specs.Places.{page_count};
-ghost use Rattle.record_slots.specs.Places.{page_bytes, slot_of, IsSuper};
+ghost use Rattle.record_slots.specs.Places.{page_bytes, slot_of, free_slot_of, free_page_of, IsSuper};
 ghost use Rattle.record_slots.specs.Slots.{slot_said};
-ghost use Rattle.record_slots.specs.Super.{SaysSuper};
+ghost use Rattle.record_slots.specs.Super.{SaysSuper, HasTables};
 ghost use Rattle.page_store.specs.Index.{slots_of, index_pages_of};
 ghost use Rattle.page_store.specs.Looks.{Looks, is_failed};
 ghost use Rattle.page_store.specs.Shown.{pages_of};
@@ -12,7 +12,9 @@ ghost use Rattle.index_pages.specs.Fetched.{ReadCause, TestCause, IsFront};
 use crate::page::PAGE_LEN;
 use eaw_face::EawStore;
 use page_store::{PageFault, Pages};
-use record_slots::{SLOT_LEN, Slot, Super, read_slot, read_super};
+use record_slots::{
+    Free, SLOT_LEN, Slot, Super, has_tables, read_free_page, read_free_slot, read_slot, read_super,
+};
 
 /// How many slots a page has.
 pub const SLOTS_IN_PAGE: u32 = PAGE_LEN as u32 / SLOT_LEN as u32;
@@ -59,13 +61,48 @@ pub fn fetch_slot<S: EawStore>(pages: &mut Pages<S>, slot: u32) -> Result<Option
     Ok(read_slot(&bytes))
 }
 
-/// Reads the super page. It is damaged if it is not that of an index of this form.
+/// Reads what a slot says if it is free.
+pub fn fetch_free_slot<S: EawStore>(
+    pages: &mut Pages<S>,
+    slot: u32,
+) -> Result<Option<Free>, PageFault>
+    requires { slot < slots_of (S.view pages.old.store).shape }
+    ensures looks { Looks S.tells (S.opens (S.view pages.old.store).shape) (is_failed result)
+        (pages_of (S.view pages.old.store) pages.old) (pages_of (S.view pages.new.store) pages.new) }
+    ensures cause { ReadCause (S.view pages.old.store) result }
+    ensures said { IsTrue S.tells → IfOk result (λ said. said ≡ free_slot_of (S.view pages.old.store).state.bytes slot) }
+    ensures dead { IsErrOf result PageFault.Dead → pages.new ≡ pages.old }
+{
+    let page = index_page_count(pages) + slot / SLOTS_IN_PAGE;
+    let mut bytes = [0; SLOT_LEN];
+    pages.read(page, slot % SLOTS_IN_PAGE * SLOT_LEN as u32, &mut bytes)?;
+    Ok(read_free_slot(&bytes))
+}
+
+/// Reads what a page says if it is free.
+pub fn fetch_free_page<S: EawStore>(
+    pages: &mut Pages<S>,
+    page: u32,
+) -> Result<Option<Free>, PageFault>
+    requires { page < page_count (S.view pages.old.store).shape }
+    ensures looks { Looks S.tells (S.opens (S.view pages.old.store).shape) (is_failed result)
+        (pages_of (S.view pages.old.store) pages.old) (pages_of (S.view pages.new.store) pages.new) }
+    ensures cause { ReadCause (S.view pages.old.store) result }
+    ensures said { IsTrue S.tells → IfOk result (λ said. said ≡ free_page_of (S.view pages.old.store).state.bytes page) }
+    ensures dead { IsErrOf result PageFault.Dead → pages.new ≡ pages.old }
+{
+    let mut bytes = [0; PAGE_LEN];
+    fetch_page(pages, page, &mut bytes)?;
+    Ok(read_free_page(&bytes))
+}
+
+/// Reads the super page. It is damaged if its counts are not those of an index of this form. Its entries are not tested.
 pub fn fetch_super<S: EawStore>(pages: &mut Pages<S>, form: u8) -> Result<Super, PageFault>
     ensures looks { Looks S.tells (S.opens (S.view pages.old.store).shape) (is_failed result)
         (pages_of (S.view pages.old.store) pages.old) (pages_of (S.view pages.new.store) pages.new) }
     ensures cause { TestCause S.tells (IsSuper form (S.view pages.old.store).state.bytes) 0 (S.view pages.old.store) result }
     ensures front { IfOk result (IsFront (S.view pages.old.store).shape) }
-    ensures sound { IsTrue S.tells → OnOk result (IsSuper form (S.view pages.old.store).state.bytes) }
+    ensures form { IfOk result (λ front. front.form ≡ form) }
     ensures says { IsTrue S.tells → IfOk result (SaysSuper (page_bytes (S.view pages.old.store).state.bytes 0)) }
     ensures dead { IsErrOf result PageFault.Dead → pages.new ≡ pages.old }
 {
@@ -76,6 +113,28 @@ pub fn fetch_super<S: EawStore>(pages: &mut Pages<S>, form: u8) -> Result<Super,
         return Err(PageFault::Damaged { page: 0 });
     };
     if is_front(&front, form, count) {
+        Ok(front)
+    } else {
+        Err(PageFault::Damaged { page: 0 })
+    }
+}
+
+/// Reads the super page. It is damaged if it is not that of an index of this form, with its entries.
+pub fn check_super<S: EawStore>(pages: &mut Pages<S>, form: u8) -> Result<Super, PageFault>
+    ensures looks { Looks S.tells (S.opens (S.view pages.old.store).shape) (is_failed result)
+        (pages_of (S.view pages.old.store) pages.old) (pages_of (S.view pages.new.store) pages.new) }
+    ensures cause { TestCause S.tells (IsSuper form (S.view pages.old.store).state.bytes) 0 (S.view pages.old.store) result }
+    ensures front { IfOk result (IsFront (S.view pages.old.store).shape) }
+    ensures tables { IfOk result (λ front. HasTables front.version front.next_page front.entries) }
+    ensures sound { IsTrue S.tells → OnOk result (IsSuper form (S.view pages.old.store).state.bytes) }
+    ensures says { IsTrue S.tells → IfOk result (SaysSuper (page_bytes (S.view pages.old.store).state.bytes 0)) }
+    ensures dead { IsErrOf result PageFault.Dead → pages.new ≡ pages.old }
+{
+    let front = match fetch_super(pages, form) {
+        Ok(front) => front,
+        Err(fault) => return Err(fault),
+    };
+    if has_tables(&front) {
         Ok(front)
     } else {
         Err(PageFault::Damaged { page: 0 })

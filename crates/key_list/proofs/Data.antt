@@ -1,7 +1,8 @@
 -- What the actions of an insertion make of the data.
-use Rattle.std.proofs.Common.{◌≡◌, ◌≢◌, ℕ, suc, ◌+◌, ◌*◌, ◌^◌, ◌<◌, ◌≤◌, true, false, nat_lt, inl, inr, List, length, take, drop, None, sym, ◌∙◌, ap, subst, arith}
-use Rattle.std.proofs.lemmas.Bool.{cases_lt}
-use Rattle.std.proofs.lemmas.Bool.Decides.{eqb_tells, leb_tells}
+use Rattle.std.proofs.Common.{◌≡◌, ◌≢◌, ℕ, suc, ◌+◌, ◌-◌, ◌*◌, ◌^◌, ◌<◌, ◌≤◌, true, false, nat_lt, inl, inr, List, [], ◌∷◌, length, take, drop, None, refl, sym, ◌∙◌, ap, subst, arith}
+use Rattle.std.specs.Prelude.{if◌then◌else◌}
+use Rattle.std.proofs.lemmas.Bool.{cases_lt, cases_eq}
+use Rattle.std.proofs.lemmas.Bool.Decides.{eqb_tells, leb_tells, nat_tests}
 use Rattle.std.proofs.lemmas.List.{length-take-le, length-drop}
 use Rattle.mars_base.specs.Bytes.{range}
 use Rattle.array_shape.specs.declared.shape.Shape.{Shape}
@@ -9,35 +10,42 @@ use Rattle.array_shape.specs.Places.{data_len}
 use Rattle.array_shape.specs.Places as array
 use Rattle.array_shape.specs.Logged.{Part, applied, AllFit}
 use Rattle.record_slots.specs.Slots.{slot_bytes}
-use Rattle.record_slots.specs.Super.{count_bytes}
+use Rattle.record_slots.specs.Super.{SaysSuper, part_bytes}
 use Rattle.record_slots.specs.declared.super_page.Super.{Super}
 use Rattle.record_slots.specs.declared.slot.Slot.TheVariants.{Absent}
-use Rattle.record_slots.specs.Places.{page_bytes, page_count, first_slot_page, slot_at, slot_of, next_slot, next_page, IsSuper}
-use Rattle.page_store.specs.Index.{slots_of, index_pages_of, Grows, Rests, Gains}
+use Rattle.record_slots.specs.Places.{page_bytes, page_count, first_slot_page, slot_at, slot_page, slot_of, next_slot, next_page, free_slots, free_pages, free_page_of, slot_due, page_due, used_slots, used_pages, tables_of, IsSuper}
+use Rattle.page_store.specs.Index.{Action, IsTable, HasCounts, slots_of, index_pages_of, Grows, Rests, Gains}
 use Rattle.page_store.specs.Pairs.{Pair, found, inserted}
 use Rattle.page_store.specs.Shown.{address}
-use Rattle.key_list.specs.Chain.{IsSoundChain, pairs_of_chain, page_of_key}
-use Rattle.key_list.specs.Changes.{TakesPairInChain, SplitsPage}
-use Rattle.index_pages.specs.Keys.{key_at}
-use Rattle.index_pages.specs.Page.{page_pairs, pairs_said, kind_said, level_said, link_said, link_of}
-use Rattle.index_pages.specs.Ways.{Keeps}
+use Rattle.index_pages.specs.Adding.{adding_parts, TakesSlot, TakesPage, first_slot, with_slot_taken, first_page, with_page_taken}
+use Rattle.index_pages.specs.Fetched.{IsFront}
+use Rattle.index_pages.specs.Keys.{key_at, key_end}
+use Rattle.index_pages.specs.Page.{page_pairs, pairs_said, kind_said, level_said, link_said, kind_of, link_of, count_of}
+use Rattle.index_pages.specs.Ways.{Keeps, IsOwn}
 use Rattle.index_pages.specs.Written.{AreSmall, written_page}
 use Rattle.index_pages.proofs.Added.{IsAdded, added_is}
+use Rattle.index_pages.proofs.Carrying.{carries_on, carries_absent}
+use Rattle.index_pages.proofs.Claims.{entries_long}
+use Rattle.index_pages.proofs.Fronts.{IsWritable, length-part_bytes, super_written, super_kept, version_kept}
+use Rattle.index_pages.proofs.PageFacts.{length-page_pairs}
 use Rattle.index_pages.proofs.Puts.{AllApart, Stand, applied_long, applied_away, applied_stand}
 use Rattle.index_pages.proofs.Ranges.{Apart}
-use Rattle.index_pages.proofs.Fronts.{length-count_bytes, super_written}
-use Rattle.index_pages.proofs.Carrying.{carries_on, carries_absent}
-use Rattle.index_pages.proofs.Writing.{small_take, small_inserted, written_kind, written_level, written_link, written_pairs, length-written_page}
 use Rattle.index_pages.proofs.Rising.{length-inserted}
-use Rattle.index_pages.proofs.PageFacts.{length-page_pairs}
-use Rattle.key_list.proofs.ChainActions.{sound_chain_takes, sound_chain_splits}
-use Rattle.key_list.specs.Index.{chain, IsPageOfChain, half_for}
+use Rattle.index_pages.proofs.Tabled.{IsWhole, whole_counts}
+use Rattle.index_pages.proofs.Taken.{HasTaken, IsAfter, IsSlotAfter, is_slot_after, slot_is_due, slot_writable, slot_due_next, due_carries, taken_none, taken_one, page_is_due, due_free, due_next, dues_differ, is_after, after_due, after_slots, after_pages, after_free, taken_writable}
+use Rattle.index_pages.proofs.Writing.{small_take, small_inserted, written_kind, written_level, written_link, written_pairs, length-written_page}
+use Rattle.key_list.specs.Chain.{chain_check, IsSoundChain, pairs_of_chain, page_of_key}
+use Rattle.key_list.specs.Changes.{TakesPairInChain, SplitsPage}
+use Rattle.key_list.specs.Index.{chain, chain_actions, adding, by_half, IsPageOfChain}
 use Rattle.key_list.specs.Located.{IsLocated, Locates, cutting_parts}
-use Rattle.index_pages.specs.Adding.{adding_parts}
+use Rattle.key_list.specs.Resting.{sound_table}
+use Rattle.key_list.proofs.ChainActions.{chain_of_table_takes, chain_of_table_splits, chain_of_table_more}
 use Rattle.key_list.proofs.Chains.{key_page_own, pages_same, cut_keeps, cut_names, half_after}
+use Rattle.key_list.proofs.Others.{whole_of, root_own, member_of, free_apart, due_apart, tables_apart, one_changed, others_untouched}
 
 module _ (shape : Shape) (old : List ℕ) (half : ℕ) (long : length old ≡ data_len shape) (half_is : half ≡ index_pages_of shape) (all : half + half ≡ array.page_count shape) (few : half ≤ 16384)
-    (front : Super) (page link : ℕ) (pairs : List Pair) (key : ℕ) (fits : key < 2 ^ 64) (loc : IsLocated shape front page link pairs) (sound : IsSoundChain old) (says : Locates old key front page link pairs) where
+    (root table : ℕ) (front : Super) (page link : ℕ) (pairs : List Pair) (key : ℕ) (fits : key < 2 ^ 64) (loc : IsLocated shape front page link pairs)
+    (sound : IsSoundChain old) (named : IsTable old table root) (says : Locates old root key front page link pairs) where
   size : length old ≡ 512 * (half + half)
   size = omega (arith, long, all)
 
@@ -47,153 +55,249 @@ module _ (shape : Shape) (old : List ℕ) (half : ℕ) (long : length old ≡ da
   first : first_slot_page old ≡ half
   first = omega (arith, count)
 
+  whole : IsWhole 0 chain_check old
+  whole = whole_of old sound
+
+  counts : HasCounts old
+  counts = whole_counts 0 chain_check old whole
+
+  chain_sound : chain_check old root table None
+  chain_sound = sound_table old table root sound named
+
+  own : IsOwn old root
+  own = root_own old table root sound named
+
+  on_page : IsPageOfChain old root page
+  on_page = subst (λ (x : ℕ). IsPageOfChain old root x) (sym says.page_is) (key_page_own table old root key own chain_sound).1
+
   own_page : (1 ≤ page) × (page < next_page old)
-  own_page = subst (λ (x : ℕ). (1 ≤ x) × (x < next_page old)) (sym says.page_is) (key_page_own old key sound).0
+  own_page = subst (λ (x : ℕ). (1 ≤ x) × (x < next_page old)) (sym says.page_is) (key_page_own table old root key own chain_sound).0
 
-  -- a pair is added
-  module _ (slot : front.next_slot < slots_of shape) (room : length pairs < 30) (none : found (pairs_of_chain old) key ≡ None) where
-    many : length (inserted pairs key front.next_slot) ≤ 30
-    many = omega (arith, length-inserted key front.next_slot pairs)
+  page_kind : kind_of old page ≡ 1
+  page_kind = (member_of old table root page sound named on_page).kind
 
-    link_fits : link < 2 ^ 32
-    link_fits = omega (arith, loc.link_inside, half_is)
+  given_most : next_page old ≤ half
+  given_most = omega (arith, whole.front.pages, first)
+
+  slots_most : next_slot old ≤ 8 * half
+  slots_most = omega (arith, whole.front.slots, count)
+
+  long_entries : length front.entries ≡ 256
+  long_entries = entries_long old front (omega (arith, size, given_most, whole.front.some_pages)) says.front_says
+
+  link_fits : link < 2 ^ 32
+  link_fits = omega (arith, loc.link_inside, half_is, few)
+
+  -- a pair is added with the slot that is due
+  module _ (after : Super) (slot : ℕ) (takes : TakesSlot old front slot after) (table_few : table < 8) (room : length pairs < 30) (left : used_slots old < slots_of shape)
+      (none : found (pairs_of_chain old root) key ≡ None) where
+    due : slot ≡ slot_due old
+    due = takes.due ∙ slot_is_due old front says.front_says
+
+    eight : slot < 8 * half
+    eight = elim (cases_eq (free_slots old) 0) [
+      | inl empty ↦ omega (arith, due, slot_due_next old empty, left, empty, all)
+      | inr some ↦ omega (arith, due, counts.due some, slots_most)
+    ]
+
+    many : length (inserted pairs key slot) ≤ 30
+    many = omega (arith, length-inserted key slot pairs)
+
+    writable : IsWritable after × (after.version ≡ front.version) × (after.form ≡ front.form) × (after.entries ≡ front.entries) × (after.next_page ≡ front.next_page)
+    writable = slot_writable old front after whole.slots whole.pages says.front_says takes.after_is long_entries (omega (arith, slots_most, few)) whole.front.some_pages (omega (arith, given_most, few))
 
     added : List ℕ
-    added = applied (adding_parts half front page link pairs key) old
+    added = applied (adding_parts half after slot page link pairs table key) old
 
-    eight : front.next_slot < 8 * half
-    eight = omega (arith, slot, all)
-
-    is : IsAdded old added half front page link pairs key
+    is : IsAdded old added half after slot page link pairs table key
     unfolding added
-    is = added_is old half size front page link pairs key fits eight loc.some (omega (arith, loc.inside, half_is)) link_fits room
+    is = added_is old half size after writable.0.entries slot page link pairs table key table_few fits eight own_page.0 (omega (arith, own_page, given_most)) link_fits room
 
-    counted : (next_slot added ≡ front.next_slot + 1) × (next_page added ≡ front.next_page) × IsSuper 0 added
-    counted = super_written 0 old added half (front.next_slot + 1) front.next_page (omega (arith, is.size, size)) few is.mark is.counts (omega (arith, eight)) loc.front_is.some (omega (arith, loc.front_is.pages, half_is)) sound.0
+    says_now : SaysSuper (page_bytes added 0) after
+    says_now = super_written old added front after is.mark is.part says.front_says writable.1 writable.2 writable.0
 
-    slots_stay : (j : ℕ) → j < next_slot old → slot_of added j ≡ slot_of old j
-    slots_stay j lt = is.slots j (omega (arith, says.slot_is))
+    other_slots : (j : ℕ) → j ≢ slot_due old → slot_of added j ≡ slot_of old j
+    other_slots j ne = is.slots j (λ e. ne (e ∙ due))
+
+    free_pages_kept : (x : ℕ) → free_page_of old x ≢ None → 1 ≤ x → x < half → page_bytes added x ≡ page_bytes old x
+    free_pages_kept x free some below = is.pages x some below (λ e. free_apart old x (ap (λ (y : ℕ). kind_of old y) e ∙ page_kind) free)
+
+    lists_now : IsSlotAfter old added
+    lists_now = is_slot_after old added front after whole.slots whole.pages says.front_says takes.after_is says_now counts.free_slots_few other_slots
+        (λ x free from to. free_pages_kept x free (omega (arith, from)) (omega (arith, to, given_most)))
+
+    after_slots_most : after.next_slot ≤ 8 * half
+    after_slots_most = elim (cases_eq (free_slots old) 0) [
+      | inl empty ↦ omega (arith, says_now.next_slot, lists_now.one_more empty, left, all, empty)
+      | inr some ↦ omega (arith, says_now.next_slot, lists_now.as_many some, slots_most)
+    ]
+
+    front_now : IsSuper 0 added × (tables_of added ≡ tables_of old)
+    front_now = super_kept 0 old added front after half (omega (arith, is.size, size)) says.front_says says_now writable.1 writable.2 writable.3
+        after_slots_most (omega (arith, writable.4)) (omega (arith, writable.4, says.front_says.next_page, given_most)) whole.front
 
     keeps : Keeps old added
     keeps = record {
-      pages = omega (arith, counted.1, says.next_is);
-      slots = omega (arith, counted.0, says.slot_is);
-      carried = λ p lt carries. carries_on old added p (slots_stay p.1 lt) carries;
+      pages = omega (arith, lists_now.pages_next);
+      slots = lists_now.later;
+      carried = λ t p lt carries. carries_on old added t p (other_slots p.1 (due_carries old t p whole.slots lt carries)) carries;
     }
 
-    small : AreSmall (inserted pairs key front.next_slot)
-    small = small_inserted key front.next_slot pairs loc.small fits (omega (arith, eight))
-
-    takes : TakesPairInChain old added page key front.next_slot
-    takes = record {
+    takes_pair : TakesPairInChain old added table page key slot
+    takes_pair = record {
       room = omega (arith, room, ap (λ (ps : List Pair). length ps) says.pairs_are, length-page_pairs old page);
-      kind = ap kind_said is.bytes ∙ written_kind 0 link (inserted pairs key front.next_slot) many link_fits;
-      level = ap level_said is.bytes ∙ written_level 0 link (inserted pairs key front.next_slot) many link_fits;
-      link = ap link_said is.bytes ∙ written_link 0 link (inserted pairs key front.next_slot) many link_fits ∙ says.link_is;
-      pairs = ap pairs_said is.bytes ∙ written_pairs 0 link (inserted pairs key front.next_slot) many link_fits small ∙ ap (λ (ps : List Pair). inserted ps key front.next_slot) says.pairs_are;
-      given = omega (arith, counted.0);
-      carries = carries_absent added key front.next_slot fits is.slot;
+      kind = ap kind_said is.bytes ∙ written_kind 0 link (inserted pairs key slot) many link_fits;
+      level = ap level_said is.bytes ∙ written_level 0 link (inserted pairs key slot) many link_fits;
+      link = ap link_said is.bytes ∙ written_link 0 link (inserted pairs key slot) many link_fits ∙ says.link_is;
+      pairs = ap pairs_said is.bytes ∙ written_pairs 0 link (inserted pairs key slot) many link_fits (small_inserted key slot pairs loc.small fits (omega (arith, eight, few)))
+          ∙ ap (λ (ps : List Pair). inserted ps key slot) says.pairs_are;
+      given = omega (arith, due, lists_now.given);
+      carries = carries_absent added table key slot table_few fits is.slot_is;
     }
 
-    pages_stay : (x : ℕ) → 1 ≤ x → x < next_page old → x ≢ page → page_bytes added x ≡ page_bytes old x
-    pages_stay x some lt other = is.pages x some (omega (arith, sound.0.pages, first)) other
+    pages_kept : (x : ℕ) → 1 ≤ x → x < next_page old → kind_of old x ≡ 1 → x ≢ page → page_bytes added x ≡ page_bytes old x
+    pages_kept x some lt kind ne = is.pages x some (omega (arith, lt, given_most)) ne
 
-    adds : IsSoundChain added × (pairs_of_chain added ≡ inserted (pairs_of_chain old) key front.next_slot)
-    adds = sound_chain_takes old added key front.next_slot sound keeps counted.2 (counted.1 ∙ says.next_is) fits none
-        (subst (λ (x : ℕ). TakesPairInChain old added x key front.next_slot) says.page_is takes)
-        (subst (λ (x : ℕ). (y : ℕ) → 1 ≤ y → y < next_page old → y ≢ x → page_bytes added y ≡ page_bytes old y) says.page_is pages_stay)
+    adds : chain_check added root table None × (pairs_of_chain added root ≡ inserted (pairs_of_chain old root) key slot)
+    adds = chain_of_table_takes old added root table key slot own chain_sound keeps lists_now.pages_next fits none
+        (subst (λ (x : ℕ). TakesPairInChain old added table x key slot) says.page_is takes_pair)
+        (subst (λ (x : ℕ). (y : ℕ) → 1 ≤ y → y < next_page old → kind_of old y ≡ 1 → y ≢ x → page_bytes added y ≡ page_bytes old y) says.page_is pages_kept)
 
-    links_stay : (p : ℕ) → 1 ≤ p → p < next_page old → link_of added p ≡ link_of old p
-    links_stay p some lt = elim (eqb_tells p page) [
-      | inl same ↦ ap (λ (x : ℕ). link_of added x) same.1 ∙ takes.link ∙ ap (λ (x : ℕ). link_of old x) (sym same.1)
-      | inr other ↦ ap link_said (pages_stay p some lt other.1)
+    links_kept : (p : ℕ) → 1 ≤ p → p < next_page old → kind_of old p ≡ 1 → link_of added p ≡ link_of old p
+    links_kept p some lt kind = elim (eqb_tells p page) [
+      | inl same ↦ ap (λ (x : ℕ). link_of added x) same.1 ∙ takes_pair.link ∙ ap (λ (x : ℕ). link_of old x) (sym same.1)
+      | inr other ↦ ap link_said (pages_kept p some lt kind other.1)
     ]
 
+    tables_kept : (table' root' : ℕ) → IsTable old table' root' → root' ≢ root → (x : ℕ) → IsPageOfChain old root' x → page_bytes added x ≡ page_bytes old x
+    tables_kept table' root' is' differ x on =
+        let m = member_of old table' root' x sound is' on in
+        pages_kept x m.own.0 m.own.1 m.kind (λ e. tables_apart old table' root' table root x sound is' named differ on (subst (λ (y : ℕ). IsPageOfChain old root y) (sym e) on_page))
+
     -- what an added pair makes of the data
-    pub adding_grows : Grows chain old (applied (adding_parts half front page link pairs key) old) × Gains chain key old (applied (adding_parts half front page link pairs key) old)
-        × (next_page (applied (adding_parts half front page link pairs key) old) ≡ next_page old)
+    pub adding_grows : Grows chain root old (applied (adding_parts half after slot page link pairs table key) old) × Gains chain root table key old (applied (adding_parts half after slot page link pairs table key) old)
     unfolding added
     adding_grows = (
       record {
-        sound = adds.0;
+        sound = one_changed old added table root sound named front_now.0 lists_now.slots lists_now.pages front_now.1 keeps adds.0 tables_kept;
         size = is.size;
-        slots = slots_stay;
-        later = omega (arith, counted.1, says.next_is);
-        few = omega (arith, counted.1, says.next_is);
-        named = λ x from to. absurd (omega (arith, counted.1, says.next_is));
-        kept = pages_same old added sound (counted.1 ∙ says.next_is) links_stay;
+        version = version_kept old added is.mark;
+        tables = front_now.1;
+        others = others_untouched old added table root sound named front_now.0 lists_now.slots lists_now.pages front_now.1 keeps adds.0 tables_kept;
+        slots = λ j lt ne. other_slots j ne;
+        later = omega (arith, lists_now.pages_next);
+        few = omega (arith, lists_now.pages_next);
+        free_pages_fall = omega (arith, lists_now.pages_free);
+        named = λ x from to. absurd (omega (arith, lists_now.pages_next, from, to));
+        taken = λ x free. inl (free.0, omega (arith, free.1, lists_now.pages_free), lists_now.due free.0 ∙ free.2);
+        kept = pages_same table old added root own chain_sound lists_now.pages_next links_kept;
         levels = omega arith;
       },
       record {
-        pairs = adds.1 ∙ ap (λ (s : ℕ). inserted (pairs_of_chain old) key s) says.slot_is;
-        slots = counted.0 ∙ (let e : front.next_slot + 1 ≡ suc (next_slot old) = omega (arith, says.slot_is) in e);
-        fresh = subst (λ (s : ℕ). slot_of added s ≡ slot_bytes (Absent key)) says.slot_is is.slot;
+        pairs = adds.1 ∙ ap (λ (s : ℕ). inserted (pairs_of_chain old root) key s) due;
+        slots = lists_now.in_use;
+        fresh = subst (λ (s : ℕ). slot_of added s ≡ slot_bytes (Absent table key)) due is.slot_is;
       },
-      counted.1 ∙ says.next_is,
     )
 
-  -- a full page is cut
-  module _ (full : length pairs ≡ 30) (next : front.next_page < index_pages_of shape) where
-    c1 : List ℕ
-    c1 = written_page 0 front.next_page (take 15 pairs)
+    pub adding_takes_none : next_page (applied (adding_parts half after slot page link pairs table key) old) ≡ next_page old
+    unfolding added
+    adding_takes_none = lists_now.pages_next
 
-    c2 : List ℕ
-    c2 = written_page 0 link (drop 15 pairs)
+    pub slot_there : slot ≡ slot_due old
+    slot_there = due
 
-    c3 : List ℕ
-    c3 = count_bytes front.next_slot (front.next_page + 1)
+  -- a full page is cut: its upper half goes to the page that is due
+  module _ (after : Super) (taken : ℕ) (takes : TakesPage old front taken after) (full : length pairs ≡ 30) (left : used_pages old < index_pages_of shape) where
+    took_none : HasTaken old 0 front
+    took_none = taken_none old front says.front_says whole.pages
+
+    taken_due : taken ≡ page_due old 0
+    taken_due = takes.due ∙ page_is_due old 0 front whole.pages took_none
+
+    took : HasTaken old 1 after
+    took = subst (λ (f : Super). HasTaken old 1 f) (sym takes.after_is) (taken_one old 0 front whole.pages took_none)
+
+    -- it is a given page that is free, or the next
+    taken_in : (2 ≤ taken) × (taken < half) × (taken < next_page old + (1 - free_pages old))
+    taken_in = elim (cases_lt 0 (free_pages old)) [
+      | inl some ↦ let f = due_free old whole.pages 0 some in (omega (arith, taken_due, f.1), omega (arith, taken_due, f.2, given_most), omega (arith, taken_due, f.2))
+      | inr empty ↦
+          let f = due_next old whole.pages 0 (omega (arith, empty)) in
+          (omega (arith, taken_due, f, whole.front.some_pages), omega (arith, taken_due, f, empty, left, half_is), omega (arith, taken_due, f, empty))
+    ]
+
+    lower : List ℕ
+    lower = written_page 0 taken (take 15 pairs)
+
+    upper : List ℕ
+    upper = written_page 0 link (drop 15 pairs)
+
+    part : List ℕ
+    part = part_bytes after
 
     cut : List ℕ
-    cut = applied (cutting_parts front page link pairs) old
+    cut = applied (cutting_parts after taken page link pairs) old
 
-    lower_many : length (take 15 pairs) ≤ 30
-    lower_many = omega (arith, length-take-le 15 pairs (omega arith))
+    lower_many : length (take 15 pairs) ≡ 15
+    lower_many = length-take-le 15 pairs (omega (arith, full))
 
-    upper_many : length (drop 15 pairs) ≤ 30
-    upper_many = omega (arith, length-drop 15 pairs)
+    upper_many : length (drop 15 pairs) ≡ 15
+    upper_many = omega (arith, length-drop 15 pairs, full)
 
-    next_fits : front.next_page < 2 ^ 32
-    next_fits = omega (arith, next, half_is)
+    lower_few : length (take 15 pairs) ≤ 30
+    lower_few = omega (arith, lower_many)
 
-    link_fits' : link < 2 ^ 32
-    link_fits' = omega (arith, loc.link_inside, half_is)
+    upper_few : length (drop 15 pairs) ≤ 30
+    upper_few = omega (arith, upper_many)
 
-    next_below : front.next_page < half
-    next_below = omega (arith, next, half_is)
+    taken_fits : taken < 2 ^ 32
+    taken_fits = omega (arith, taken_in.1, few)
 
-    page_first : page < front.next_page
-    page_first = omega (arith, own_page.1, says.next_is)
+    len1 : length lower ≡ 512
+    unfolding lower
+    len1 = length-written_page 0 taken (take 15 pairs) lower_few taken_fits
 
-    clen1 : length c1 ≡ 512
-    unfolding c1
-    clen1 = length-written_page 0 front.next_page (take 15 pairs) lower_many next_fits
+    len2 : length upper ≡ 512
+    unfolding upper
+    len2 = length-written_page 0 link (drop 15 pairs) upper_few link_fits
 
-    clen2 : length c2 ≡ 512
-    unfolding c2
-    clen2 = length-written_page 0 link (drop 15 pairs) upper_many link_fits'
+    after_long : length after.entries ≡ 256
+    after_long = ap (λ (es : List ℕ). length es) (took.entries_are ∙ sym says.front_says.entries) ∙ long_entries
 
-    clen3 : length c3 ≡ 8
-    unfolding c3
-    clen3 = length-count_bytes front.next_slot (front.next_page + 1)
+    len3 : length part ≡ 280
+    unfolding part
+    len3 = length-part_bytes after after_long
+
+    page_below : page < half
+    page_below = omega (arith, own_page.1, given_most)
+
+    fresh : page ≢ taken
+    fresh same = due_apart old page 0 whole.pages own_page page_kind (same ∙ taken_due)
 
     parts : List Part
-    parts = cutting_parts front page link pairs
+    parts = cutting_parts after taken page link pairs
 
     fit : AllFit (length old) parts
-    unfolding parts c1 c2 c3
-    fit = (omega (arith, clen1, size, page_first, next_below), (omega (arith, clen2, size, next_below), (omega (arith, clen3, size, next_below), tt)))
+    unfolding parts lower upper part
+    fit = (omega (arith, len1, size, page_below), (omega (arith, len2, size, taken_in.1), (omega (arith, len3, size, page_below), tt)))
+
+    apart_pages : (x y n m : ℕ) → n ≡ 512 → m ≡ 512 → x ≢ y → Apart (address x 0) n (address y 0) m
+    apart_pages x y n m is is' ne = elim (cases_lt x y) [ inl below ↦ inl (omega (arith, is)) | inr behind ↦ (let other : x ≡ y → ⊥ = ne in inr (omega (arith, is', other))) ]
+
+    apart_front : (x n m : ℕ) → n ≡ 512 → m ≡ 280 → 1 ≤ x → Apart (address x 0) n (address 0 8) m
+    apart_front x n m is is' some = inr (omega (arith, is', some))
 
     apart : AllApart parts
-    unfolding parts c1 c2 c3
-    apart = ((inl (omega (arith, clen1, page_first)), (inr (omega (arith, clen3, loc.some)), tt)), ((inr (omega (arith, clen3, loc.front_is.some)), tt), (tt, tt)))
+    unfolding parts lower upper part
+    apart = (
+      (apart_pages page taken _ _ len1 len2 fresh, (apart_front page _ _ len1 len3 own_page.0, tt)),
+      ((apart_front taken _ _ len2 len3 (omega (arith, taken_in.0)), tt), (tt, tt)),
+    )
 
     stand : Stand parts cut
     unfolding cut parts
     stand = applied_stand parts old fit apart
-
-    caway : (at n : ℕ) → Apart at n (address page 0) (length c1) → Apart at n (address front.next_page 0) (length c2) → Apart at n (address 0 8) (length c3) → range cut at n ≡ range old at n
-    unfolding cut parts c1 c2 c3
-    caway at n x y z = applied_away parts old at n fit (x, (y, (z, tt)))
 
     cut_long : length cut ≡ length old
     unfolding cut parts
@@ -202,103 +306,214 @@ module _ (shape : Shape) (old : List ℕ) (half : ℕ) (long : length old ≡ da
     cut_count : page_count cut ≡ half + half
     cut_count = omega (arith, cut_long, size)
 
-    lower_new : page_bytes cut page ≡ written_page 0 front.next_page (take 15 pairs)
-    unfolding page_bytes parts c1
-    lower_new = ap (λ (x : ℕ). range cut x 512) (let e : 512 * page ≡ address page 0 = omega arith in e) ∙ ap (λ (n : ℕ). range cut (address page 0) n) (sym clen1) ∙ stand.0
-
-    upper_new : page_bytes cut front.next_page ≡ written_page 0 link (drop 15 pairs)
-    unfolding page_bytes parts c2
-    upper_new =
-        ap (λ (x : ℕ). range cut x 512) (let e : 512 * front.next_page ≡ address front.next_page 0 = omega arith in e) ∙ ap (λ (n : ℕ). range cut (address front.next_page 0) n) (sym clen2) ∙ stand.1.0
-
-    counts_cut : range cut 8 8 ≡ count_bytes front.next_slot (front.next_page + 1)
-    unfolding parts c3
-    counts_cut = ap (λ (n : ℕ). range cut 8 n) (sym clen3) ∙ stand.1.1.0
-
-    zero_cut : range cut 0 8 ≡ range old 0 8
-    zero_cut = caway 0 8 (inl (omega (arith, loc.some))) (inl (omega (arith, loc.front_is.some))) (inl (omega arith))
-
-    others_cut : (x : ℕ) → 1 ≤ x → x < next_page old → x ≢ page → page_bytes cut x ≡ page_bytes old x
+    page_at : (x : ℕ) (b : List ℕ) → length b ≡ 512 → range cut (address x 0) (length b) ≡ b → page_bytes cut x ≡ b
     unfolding page_bytes
-    others_cut x some lt other =
-        let apart : Apart (512 * x) 512 (address page 0) (length c1) = elim (cases_lt x page) [
-          | inl below ↦ inl (omega arith)
-          | inr above ↦ (let ne : x ≡ page → ⊥ = other in inr (omega (arith, clen1)))
-        ] in
-        caway (512 * x) 512 apart (inl (omega (arith, says.next_is))) (inr (omega (arith, clen3)))
+    page_at x b is e = ap (λ (n : ℕ). range cut n 512) (let z : 512 * x ≡ address x 0 = omega arith in z) ∙ ap (λ (n : ℕ). range cut (address x 0) n) (sym is) ∙ e
 
-    slots_cut : (j : ℕ) → slot_of cut j ≡ slot_of old j
-    unfolding slot_of
-    slots_cut j =
+    lower_new : page_bytes cut page ≡ lower
+    unfolding parts lower
+    lower_new = page_at page lower len1 stand.0
+
+    upper_new : page_bytes cut taken ≡ upper
+    unfolding parts upper
+    upper_new = page_at taken upper len2 stand.1.0
+
+    part_new : range cut 8 280 ≡ part
+    unfolding parts part
+    part_new = ap (λ (n : ℕ). range cut 8 n) (sym len3) ∙ stand.1.1.0
+
+    away : (at n : ℕ) → Apart at n (address page 0) (length lower) → Apart at n (address taken 0) (length upper) → Apart at n (address 0 8) (length part) → range cut at n ≡ range old at n
+    unfolding cut parts lower upper part
+    away at n a b e = applied_away parts old at n fit (a, (b, (e, tt)))
+
+    zero_new : range cut 0 8 ≡ range old 0 8
+    zero_new = away 0 8 (inl (omega (arith, own_page.0))) (inl (omega (arith, taken_in.0))) (inl (omega arith))
+
+    cut_others : (x : ℕ) → 1 ≤ x → x ≢ page → x ≢ taken → page_bytes cut x ≡ page_bytes old x
+    unfolding page_bytes
+    cut_others x some no_page no_taken =
+        let e : 512 * x ≡ address x 0 = omega arith in
+        rw e (away (address x 0) 512 (apart_pages x page 512 _ refl len1 no_page) (apart_pages x taken 512 _ refl len2 no_taken) (apart_front x 512 _ refl len3 some))
+
+    pub cut_slots : (j : ℕ) → slot_of (applied (cutting_parts after taken page link pairs) old) j ≡ slot_of old j
+    unfolding slot_of cut
+    cut_slots j =
         let place : slot_at cut j ≡ 512 * half + 64 * j = omega (arith, cut_count) in
         let place' : slot_at old j ≡ 512 * half + 64 * j = omega (arith, count) in
         ap (λ (x : ℕ). range cut x 64) place
-        ∙ caway (512 * half + 64 * j) 64 (inr (omega (arith, clen1, page_first, next_below))) (inr (omega (arith, clen2, next_below))) (inr (omega (arith, clen3, next_below)))
+        ∙ away (512 * half + 64 * j) 64 (inr (omega (arith, len1, page_below))) (inr (omega (arith, len2, taken_in.1))) (inr (omega (arith, len3, page_below)))
         ∙ ap (λ (x : ℕ). range old x 64) (sym place')
 
-    cut_counted : (next_slot cut ≡ front.next_slot) × (next_page cut ≡ front.next_page + 1) × IsSuper 0 cut
-    cut_counted = super_written 0 old cut half front.next_slot (front.next_page + 1) cut_count few zero_cut counts_cut (omega (arith, loc.front_is.slots, all)) (omega (arith, loc.front_is.some)) (omega (arith, next_below)) sound.0
+    after_next : after.next_page ≡ next_page old + (1 - free_pages old)
+    after_next = took.page_next
 
-    keeps_cut : Keeps old cut
-    keeps_cut = record {
-      pages = omega (arith, cut_counted.1, says.next_is);
-      slots = omega (arith, cut_counted.0, says.slot_is);
-      carried = λ p lt carries. carries_on old cut p (slots_cut p.1) carries;
+    after_most : after.next_page ≤ half
+    after_most = elim (cases_lt 0 (free_pages old)) [ inl some ↦ omega (arith, after_next, some, given_most) | inr empty ↦ omega (arith, after_next, empty, left, half_is) ]
+
+    same_version : after.version ≡ front.version
+    same_version = took.version_is ∙ sym says.front_says.version
+
+    same_form : after.form ≡ front.form
+    same_form = took.form_is ∙ sym says.front_says.form
+
+    cut_says_now : SaysSuper (page_bytes cut 0) after
+    unfolding part
+    cut_says_now =
+        super_written old cut front after zero_new part_new says.front_says same_version same_form
+        (taken_writable old 1 after whole.slots whole.pages took after_long (omega (arith, slots_most, few)) whole.front.some_pages (omega (arith, given_most, few)))
+
+    cut_front : IsSuper 0 cut × (tables_of cut ≡ tables_of old)
+    cut_front = super_kept 0 old cut front after half cut_count says.front_says cut_says_now same_version same_form (took.entries_are ∙ sym says.front_says.entries)
+        (omega (arith, took.slot_next, slots_most)) (omega (arith, says.front_says.next_page, after_next)) after_most whole.front
+
+    cut_lists : IsAfter old cut 1
+    unfolding cut
+    cut_lists = is_after old cut 1 after whole.slots whole.pages took cut_says_now
+        (λ i from less.
+        let f = due_free old whole.pages i less in
+        cut_others (page_due old i) (omega (arith, f.1)) (λ e. free_apart old (page_due old i) (ap (λ (y : ℕ). kind_of old y) e ∙ page_kind) f.3)
+        (λ e. dues_differ old whole.pages 0 i (omega (arith, from)) (sym taken_due ∙ sym e)))
+        (λ j free. cut_slots j)
+
+    cut_kept : Keeps old cut
+    unfolding cut
+    cut_kept = record {
+      pages = omega (arith, cut_lists.pages_next);
+      slots = omega (arith, cut_lists.slots_next);
+      carried = λ t p lt carries. carries_on old cut t p (cut_slots p.1) carries;
     }
 
-    splits : SplitsPage old cut page
-    splits =
-        let upper : (x : ℕ) → x ≡ front.next_page → page_bytes cut x ≡ written_page 0 link (drop 15 pairs) = λ x is. ap (λ (y : ℕ). page_bytes cut y) is ∙ upper_new in
-        let there = upper (next_page old) (sym says.next_is) in
-        record {
-          full = ap (λ (ps : List Pair). length ps) (sym says.pairs_are) ∙ full;
-          kind = ap kind_said lower_new ∙ written_kind 0 front.next_page (take 15 pairs) lower_many next_fits;
-          level = ap level_said lower_new ∙ written_level 0 front.next_page (take 15 pairs) lower_many next_fits;
-          link = ap link_said lower_new ∙ written_link 0 front.next_page (take 15 pairs) lower_many next_fits ∙ says.next_is;
-          pairs = ap pairs_said lower_new ∙ written_pairs 0 front.next_page (take 15 pairs) lower_many next_fits (small_take 15 pairs loc.small).0 ∙ ap (take 15) says.pairs_are;
-          kind' = ap kind_said there ∙ written_kind 0 link (drop 15 pairs) upper_many link_fits';
-          level' = ap level_said there ∙ written_level 0 link (drop 15 pairs) upper_many link_fits';
-          link' = ap link_said there ∙ written_link 0 link (drop 15 pairs) upper_many link_fits' ∙ says.link_is;
-          pairs' = ap pairs_said there ∙ written_pairs 0 link (drop 15 pairs) upper_many link_fits' (small_take 15 pairs loc.small).1 ∙ ap (drop 15) says.pairs_are;
-          one_more = cut_counted.1 ∙ (let e : front.next_page + 1 ≡ suc (next_page old) = omega (arith, says.next_is) in e);
-        }
+    splits : SplitsPage old cut page taken
+    unfolding lower upper
+    splits = record {
+      full = ap (λ (ps : List Pair). length ps) (sym says.pairs_are) ∙ full;
+      kind = ap kind_said lower_new ∙ written_kind 0 taken (take 15 pairs) lower_few taken_fits;
+      level = ap level_said lower_new ∙ written_level 0 taken (take 15 pairs) lower_few taken_fits;
+      link = ap link_said lower_new ∙ written_link 0 taken (take 15 pairs) lower_few taken_fits;
+      pairs = ap pairs_said lower_new ∙ written_pairs 0 taken (take 15 pairs) lower_few taken_fits (small_take 15 pairs loc.small).0 ∙ ap (take 15) says.pairs_are;
+      kind' = ap kind_said upper_new ∙ written_kind 0 link (drop 15 pairs) upper_few link_fits;
+      level' = ap level_said upper_new ∙ written_level 0 link (drop 15 pairs) upper_few link_fits;
+      link' = ap link_said upper_new ∙ written_link 0 link (drop 15 pairs) upper_few link_fits ∙ says.link_is;
+      pairs' = ap pairs_said upper_new ∙ written_pairs 0 link (drop 15 pairs) upper_few link_fits (small_take 15 pairs loc.small).1 ∙ ap (drop 15) says.pairs_are;
+      two = taken_in.0;
+      given = omega (arith, cut_lists.pages_next, taken_in.2);
+    }
 
-    cuts : IsSoundChain cut × (pairs_of_chain cut ≡ pairs_of_chain old)
-    cuts = sound_chain_splits old cut key sound keeps_cut cut_counted.2 fits
-        (subst (λ (x : ℕ). SplitsPage old cut x) says.page_is splits)
-        (subst (λ (x : ℕ). (y : ℕ) → 1 ≤ y → y < next_page old → y ≢ x → page_bytes cut y ≡ page_bytes old y) says.page_is others_cut)
+    cut_pages : (x : ℕ) → 1 ≤ x → x < next_page old → kind_of old x ≡ 1 → x ≢ page → page_bytes cut x ≡ page_bytes old x
+    cut_pages x some lt kind ne = cut_others x some ne (λ e. due_apart old x 0 whole.pages (some, lt) kind (e ∙ taken_due))
+
+    splits_there : SplitsPage old cut (page_of_key old root key) taken
+    splits_there = subst (λ (x : ℕ). SplitsPage old cut x taken) says.page_is splits
+
+    pages_there : (x : ℕ) → 1 ≤ x → x < next_page old → kind_of old x ≡ 1 → x ≢ page_of_key old root key → page_bytes cut x ≡ page_bytes old x
+    pages_there = subst (λ (y : ℕ). (x : ℕ) → 1 ≤ x → x < next_page old → kind_of old x ≡ 1 → x ≢ y → page_bytes cut x ≡ page_bytes old x) says.page_is cut_pages
+
+    cuts : chain_check cut root table None × (pairs_of_chain cut root ≡ pairs_of_chain old root)
+    cuts = chain_of_table_splits old cut root table taken key own chain_sound cut_kept fits splits_there pages_there
+
+    cut_tables : (table' root' : ℕ) → IsTable old table' root' → root' ≢ root → (x : ℕ) → IsPageOfChain old root' x → page_bytes cut x ≡ page_bytes old x
+    cut_tables table' root' is' differ x on =
+        let m = member_of old table' root' x sound is' on in
+        cut_pages x m.own.0 m.own.1 m.kind (λ e. tables_apart old table' root' table root x sound is' named differ on (subst (λ (y : ℕ). IsPageOfChain old root y) (sym e) on_page))
+
+    on_taken : IsPageOfChain cut root taken
+    on_taken = cut_names table old cut page taken splits cut_pages root own chain_sound cuts.0 on_page
+
+    next_is : (x : ℕ) → next_page old ≤ x → x < next_page cut → taken ≡ x
+    next_is x from to =
+        let empty : free_pages old ≤ 0 = omega (arith, cut_lists.pages_next, from, to) in
+        let f = due_next old whole.pages 0 empty in
+        omega (arith, taken_due, f, cut_lists.pages_next, from, to)
 
     -- what a cut page makes of the data
-    pub cutting_grows : Grows chain old (applied (cutting_parts front page link pairs) old) × Rests chain old (applied (cutting_parts front page link pairs) old)
-        × (next_page (applied (cutting_parts front page link pairs) old) ≡ suc (next_page old))
-        × (page_of_key (applied (cutting_parts front page link pairs) old) key ≡ half_for old page key)
+    pub cutting_grows : Grows chain root old (applied (cutting_parts after taken page link pairs) old) × Rests chain root old (applied (cutting_parts after taken page link pairs) old)
     unfolding cut
-    cutting_grows =
-        let on : IsPageOfChain old page = subst (λ (x : ℕ). IsPageOfChain old x) (sym says.page_is) (key_page_own old key sound).1 in (
-          record {
-            sound = cuts.0;
-            size = cut_long;
-            slots = λ j lt. slots_cut j;
-            later = omega (arith, cut_counted.1, says.next_is);
-            few = omega (arith, cut_counted.1, says.next_is);
-            named = λ x from to. subst (λ (y : ℕ). IsPageOfChain cut y) (let e : next_page old ≡ x = omega (arith, cut_counted.1, says.next_is) in e)
-                (cut_names old cut page splits sound.0.some_pages others_cut sound on);
-            kept = cut_keeps old cut page splits sound.0.some_pages others_cut sound;
-            levels = omega arith;
-          },
-          record { pairs = cuts.1; slots = cut_counted.0 ∙ says.slot_is },
-          splits.one_more,
-          half_after old cut page splits sound.0.some_pages others_cut key sound says.page_is,
-        )
+    cutting_grows = (
+      record {
+        sound = one_changed old cut table root sound named cut_front.0 cut_lists.slots cut_lists.pages cut_front.1 cut_kept cuts.0 cut_tables;
+        size = cut_long;
+        version = version_kept old cut zero_new;
+        tables = cut_front.1;
+        others = others_untouched old cut table root sound named cut_front.0 cut_lists.slots cut_lists.pages cut_front.1 cut_kept cuts.0 cut_tables;
+        slots = λ j lt ne. cut_slots j;
+        later = omega (arith, cut_lists.pages_next);
+        few = omega (arith, cut_lists.pages_next);
+        free_pages_fall = omega (arith, cut_lists.pages_free);
+        named = λ x from to. subst (λ (y : ℕ). IsPageOfChain cut root y) (next_is x from to) on_taken;
+        taken = λ x free. elim (after_free old cut 1 cut_lists x free) [
+          | inl still ↦ inl still
+          | inr now ↦ inr (subst (λ (y : ℕ). IsPageOfChain cut root y) (taken_due ∙ ap (λ (i : ℕ). page_due old i) (let z : 0 ≡ now.0 = omega (arith, now.1) in z) ∙ now.2) on_taken)
+        ];
+        kept = cut_keeps table old cut page taken splits cut_pages root own chain_sound cuts.0;
+        levels = omega arith;
+      },
+      record {
+        pairs = cuts.1;
+        slots = after_slots old cut 1 cut_lists;
+        due = after_due old cut 1 cut_lists;
+        same = cut_slots (slot_due old);
+      },
+    )
 
-    -- the half of the key has room
-    pub half_short : length (page_pairs (applied (cutting_parts front page link pairs) old) (half_for old page key)) < 30
+    pub cut_after : IsAfter old (applied (cutting_parts after taken page link pairs) old) 1
     unfolding cut
-    half_short = elim (leb_tells (suc key) (key_at (page_pairs old page) 15)) [
-      | inl low ↦
-          let b : nat_lt key (key_at (page_pairs old page) 15) ≡ true = low.0 in
-          rw b (omega (arith, ap (λ (ps : List Pair). length ps) splits.pairs, length-take-le 15 (page_pairs old page) (omega (arith, splits.full))))
-      | inr high ↦
-          let b : nat_lt key (key_at (page_pairs old page) 15) ≡ false = high.0 in
-          rw b (omega (arith, ap (λ (ps : List Pair). length ps) splits.pairs', length-drop 15 (page_pairs old page), splits.full))
+    cut_after = cut_lists
+
+    -- the page that is taken is the one that is due
+    pub cut_due : taken ≡ page_due old 0
+    cut_due = taken_due
+
+    -- one page less is left
+    pub cut_used : used_pages (applied (cutting_parts after taken page link pairs) old) ≡ used_pages old + 1
+    unfolding cut
+    cut_used = after_pages old cut 1 cut_lists (omega (arith, counts.free_pages_few))
+
+    half_page_is : page_of_key cut root key ≡ by_half (page_pairs old page) key page taken
+    half_page_is = half_after table old cut page taken splits cut_pages key root own chain_sound (chain_of_table_more old cut root table taken key own chain_sound cut_kept fits splits_there pages_there) cuts.0 says.page_is
+
+    by_pairs : {T : Type 0} → (a b : T) → by_half (page_pairs old page) key a b ≡ by_half pairs key a b
+    by_pairs a b = ap (λ (ps : List Pair). by_half ps key a b) (sym says.pairs_are)
+
+    half_link_is : link_of cut (by_half pairs key page taken) ≡ by_half pairs key taken link
+    half_link_is = elim (leb_tells (suc key) (key_at pairs 15)) [
+      | inl h ↦ let b : nat_lt key (key_at pairs 15) ≡ true = h.0 in rw b splits.link
+      | inr h ↦ let b : nat_lt key (key_at pairs 15) ≡ false = h.0 in rw b (splits.link' ∙ sym says.link_is)
     ]
+
+    half_pairs_are : page_pairs cut (by_half pairs key page taken) ≡ by_half pairs key (take 15 pairs) (drop 15 pairs)
+    half_pairs_are = elim (leb_tells (suc key) (key_at pairs 15)) [
+      | inl h ↦ let b : nat_lt key (key_at pairs 15) ≡ true = h.0 in rw b (splits.pairs ∙ ap (take 15) (sym says.pairs_are))
+      | inr h ↦ let b : nat_lt key (key_at pairs 15) ≡ false = h.0 in rw b (splits.pairs' ∙ ap (drop 15) (sym says.pairs_are))
+    ]
+
+    -- the half that has the key is its page then
+    pub half_located : (hpage hlink : ℕ) (hpairs : List Pair) → hpage ≡ by_half pairs key page taken → hlink ≡ by_half pairs key taken link → hpairs ≡ by_half pairs key (take 15 pairs) (drop 15 pairs)
+        → Locates (applied (cutting_parts after taken page link pairs) old) root key after hpage hlink hpairs
+    unfolding cut
+    half_located hpage hlink hpairs page_is link_is pairs_are = record {
+      front_says = cut_says_now;
+      page_is = page_is ∙ sym (by_pairs page taken) ∙ sym half_page_is;
+      link_is = link_is ∙ sym half_link_is ∙ ap (λ (x : ℕ). link_of cut x) (sym page_is);
+      pairs_are = pairs_are ∙ sym half_pairs_are ∙ ap (λ (x : ℕ). page_pairs cut x) (sym page_is);
+    }
+
+    -- the action that is left adds to that half, with the slot that was due
+    pub half_left : chain_actions (applied (cutting_parts after taken page link pairs) old) root key ≡ adding old (by_half (page_pairs old page) key page (page_due old 0)) ∷ []
+    unfolding cut
+    half_left =
+        let at : page_of_key cut root key ≡ by_half pairs key page taken = half_page_is ∙ by_pairs page taken in
+        let short : length (by_half pairs key (take 15 pairs) (drop 15 pairs)) ≡ 15 = half_many in
+        let count : count_of cut (page_of_key cut root key) ≡ 15 =
+        sym (length-page_pairs cut (page_of_key cut root key)) ∙ ap (λ (x : ℕ). length (page_pairs cut x)) at ∙ ap (λ (ps : List Pair). length ps) half_pairs_are ∙ short in
+        let b : nat_lt (count_of cut (page_of_key cut root key)) 30 ≡ true = grind (arith, nat_tests, count) in
+        let one : chain_actions cut root key ≡ adding cut (page_of_key cut root key) ∷ [] = (rw b refl) in
+        let slot : slot_page cut (slot_due cut) ≡ slot_page old (slot_due old) = ap (λ (s : ℕ). slot_page cut s) (after_due old cut 1 cut_lists) ∙ (let e : slot_page cut (slot_due old) ≡ slot_page old (slot_due old) = omega (arith, cut_count, count) in e) in
+        one
+        ∙ ap (λ (x : ℕ). adding cut x ∷ []) (half_page_is ∙ ap (λ (x : ℕ). by_half (page_pairs old page) key page x) taken_due)
+        ∙ ap (λ (s : ℕ). (let a : Action = record { pages = s ∷ by_half (page_pairs old page) key page (page_due old 0) ∷ 0 ∷ []; takes = 0 } in a) ∷ []) slot
+      where
+        half_many : length (by_half pairs key (take 15 pairs) (drop 15 pairs)) ≡ 15
+        half_many = elim (leb_tells (suc key) (key_at pairs 15)) [
+          | inl h ↦ let b : nat_lt key (key_at pairs 15) ≡ true = h.0 in rw b lower_many
+          | inr h ↦ let b : nat_lt key (key_at pairs 15) ≡ false = h.0 in rw b upper_many
+        ]

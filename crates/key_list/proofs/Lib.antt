@@ -1,8 +1,9 @@
 pub mod Walking
 pub mod Chains
 pub mod ChainActions
+pub mod Others
 pub mod Data
-pub mod Counting
 pub mod Whole
+pub mod Even
 pub mod Testing
 pub mod Fresh

@@ -3,55 +3,57 @@ use Rattle.std.proofs.Common.{◌≡◌, ◌≢◌, ℕ, zero, suc, ◌+◌, ◌
 use Rattle.std.specs.Prelude.{nat_le, if◌then◌else◌}
 use Rattle.std.proofs.lemmas.Bool.Decides.{nat_tests, eqb_tells, leb_tells}
 use Rattle.page_store.specs.Pairs.{Pair, Rise, found, next}
-use Rattle.record_slots.specs.Places.{page_bytes, next_slot, next_page, AreGiven, first_slot_page}
+use Rattle.record_slots.specs.Places.{page_bytes, next_slot, next_page, AreGiven, first_slot_page, IsSuper}
 use Rattle.index_pages.specs.Page.{page_pairs, link_of, count_of, count_said, pair_said, pairs_from, pairs_said}
 use Rattle.index_pages.proofs.Reading.{from_first}
 use Rattle.index_pages.specs.Pieces.{joined}
-use Rattle.key_list.specs.Chain.{behind, chain_pieces, first_key, IsSoundChain, pairs_of_chain, chain_page_for, page_of_key}
+use Rattle.key_list.specs.Chain.{behind, chain_pieces, first_key, chain_check, pairs_of_chain, chain_page_for, page_of_key}
 use Rattle.key_list.specs.Seen.{IsChain, IsChainPage, pages_of_sound, pieces_have}
 use Rattle.index_pages.proofs.Rising.{next-none, next-some, found-below}
 use Rattle.key_list.specs.ChainFacts.{chain_head}
+use Rattle.key_list.proofs.ChainActions.{first_below, linked_some}
+use Rattle.index_pages.specs.Keys.{key_end}
 use Rattle.key_list.specs.Linked.{IsLinked}
 
 -- after `steps` steps the chain from this page on answers
-pub record Next (bytes : List ℕ) (from steps page : ℕ) : Type 0 where
+pub record Next (bytes : List ℕ) (root table from steps page : ℕ) : Type 0 where
   pub n : ℕ
   pub low : ℕ
   pub start : ℕ
-  pub chain : IsChain (suc n) bytes page low
+  pub chain : IsChain table (suc n) bytes page low
   pub left : suc n + steps ≡ next_page bytes
-  pub answers : next (pairs_of_chain bytes) from ≡ next (joined (chain_pieces (suc n) bytes page start)) from
+  pub answers : next (pairs_of_chain bytes root) from ≡ next (joined (chain_pieces (suc n) bytes page start)) from
 
-pub next_first : (bytes : List ℕ) (from : ℕ) → IsSoundChain bytes → Next bytes from 0 1
-next_first bytes from sound =
-    let e : next_page bytes ≡ suc (next_page bytes - 1) = omega (arith, sound.0.some_pages) in
+pub next_first : (bytes : List ℕ) (root table from : ℕ) → 1 ≤ next_page bytes → chain_check bytes root table None → Next bytes root table from 0 root
+next_first bytes root table from some sound =
+    let e : next_page bytes ≡ suc (next_page bytes - 1) = omega (arith, some) in
     record {
       n = next_page bytes - 1;
       low = 0;
       start = 0;
-      chain = subst (λ (n : ℕ). IsChain n bytes 1 0) e (pages_of_sound bytes sound);
+      chain = subst (λ (n : ℕ). IsChain table n bytes root 0) e (pages_of_sound bytes root table sound);
       left = omega arith;
-      answers = ap (λ (ps : List Pair). next ps from) (sym (pieces_have bytes)) ∙ ap (λ (n : ℕ). next (joined (chain_pieces n bytes 1 0)) from) e;
+      answers = ap (λ (ps : List Pair). next ps from) (sym (pieces_have bytes root)) ∙ ap (λ (n : ℕ). next (joined (chain_pieces n bytes root 0)) from) e;
     }
 
 -- a page of the chain is linked as it has to be
-pub page_linked : (bytes : List ℕ) (pages page low : ℕ) → IsSoundChain bytes → first_slot_page bytes ≡ pages → IsChainPage bytes page low → IsLinked pages (page_bytes bytes page)
-page_linked bytes pages page low sound is head = record {
+pub page_linked : (bytes : List ℕ) (table pages page low : ℕ) → IsSuper 0 bytes → first_slot_page bytes ≡ pages → IsChainPage table bytes page low → IsLinked pages (page_bytes bytes page)
+page_linked bytes table pages page low sound is head = record {
   leaf = record { kind = head.kind; level = head.level; most = head.most };
   link = elim (eqb_tells (link_of bytes page) 0) [
-    | inl none ↦ omega (arith, none.1, sound.0.some_pages, sound.0.pages)
-    | inr some ↦ omega (arith, (head.link some.1).1, sound.0.pages)
+    | inl none ↦ omega (arith, none.1, sound.some_pages, sound.pages)
+    | inr some ↦ omega (arith, (head.link some.1).1, sound.pages)
   ];
 }
 
-pub next_linked : (bytes : List ℕ) (pages from steps page : ℕ) → IsSoundChain bytes → first_slot_page bytes ≡ pages → Next bytes from steps page → IsLinked pages (page_bytes bytes page)
-next_linked bytes pages from steps page sound is at = page_linked bytes pages page at.low sound is (chain_head (suc at.n) bytes page at.low at.chain)
+pub next_linked : (bytes : List ℕ) (root table pages from steps page : ℕ) → IsSuper 0 bytes → first_slot_page bytes ≡ pages → Next bytes root table from steps page → IsLinked pages (page_bytes bytes page)
+next_linked bytes root table pages from steps page sound is at = page_linked bytes table pages page at.low sound is (chain_head table (suc at.n) bytes page at.low at.chain)
 
-next_on : (n : ℕ) (bytes : List ℕ) (from steps page low start : ℕ) → IsChain (suc n) bytes page low → suc n + steps ≡ next_page bytes
-    → next (pairs_of_chain bytes) from ≡ next (joined (chain_pieces (suc n) bytes page start)) from
-    → link_of bytes page ≢ 0 → next (page_pairs bytes page) from ≡ None → Next bytes from (steps + 1) (link_of bytes page)
-next_on zero bytes from steps page low start chain left answers more none = absurd (chain.1 more)
-next_on (suc n) bytes from steps page low start chain left answers more none =
+next_on : (n : ℕ) (bytes : List ℕ) (root table from steps page low start : ℕ) → IsChain table (suc n) bytes page low → suc n + steps ≡ next_page bytes
+    → next (pairs_of_chain bytes root) from ≡ next (joined (chain_pieces (suc n) bytes page start)) from
+    → link_of bytes page ≢ 0 → next (page_pairs bytes page) from ≡ None → Next bytes root table from (steps + 1) (link_of bytes page)
+next_on zero bytes root table from steps page low start chain left answers more none = absurd (chain.1 more)
+next_on (suc n) bytes root table from steps page low start chain left answers more none =
     let b : nat_eq (link_of bytes page) 0 ≡ false = grind (arith, nat_tests) in
     record {
       n = n;
@@ -64,30 +66,30 @@ next_on (suc n) bytes from steps page low start chain left answers more none =
           ∙ (rw b refl);
     }
 
-pub next_step : (bytes : List ℕ) (from steps page : ℕ) → Next bytes from steps page → link_of bytes page ≢ 0 → next (page_pairs bytes page) from ≡ None → Next bytes from (steps + 1) (link_of bytes page)
-next_step bytes from steps page at more none = next_on at.n bytes from steps page at.low at.start at.chain at.left at.answers more none
+pub next_step : (bytes : List ℕ) (root table from steps page : ℕ) → Next bytes root table from steps page → link_of bytes page ≢ 0 → next (page_pairs bytes page) from ≡ None → Next bytes root table from (steps + 1) (link_of bytes page)
+next_step bytes root table from steps page at more none = next_on at.n bytes root table from steps page at.low at.start at.chain at.left at.answers more none
 
-pub next_here : (bytes : List ℕ) (from steps page : ℕ) (p : Pair) → Next bytes from steps page → next (page_pairs bytes page) from ≡ Some p → next (pairs_of_chain bytes) from ≡ Some p
-next_here bytes from steps page p at some = at.answers ∙ next-some from p (page_pairs bytes page) _ some
+pub next_here : (bytes : List ℕ) (root table from steps page : ℕ) (p : Pair) → Next bytes root table from steps page → next (page_pairs bytes page) from ≡ Some p → next (pairs_of_chain bytes root) from ≡ Some p
+next_here bytes root table from steps page p at some = at.answers ∙ next-some from p (page_pairs bytes page) _ some
 
-pub next_last : (bytes : List ℕ) (from steps page : ℕ) → Next bytes from steps page → link_of bytes page ≡ 0 → next (page_pairs bytes page) from ≡ None → next (pairs_of_chain bytes) from ≡ None
-next_last bytes from steps page at last none =
+pub next_last : (bytes : List ℕ) (root table from steps page : ℕ) → Next bytes root table from steps page → link_of bytes page ≡ 0 → next (page_pairs bytes page) from ≡ None → next (pairs_of_chain bytes root) from ≡ None
+next_last bytes root table from steps page at last none =
     let b : nat_eq (link_of bytes page) 0 ≡ true = grind (arith, nat_tests) in
     at.answers
     ∙ next-none from (page_pairs bytes page) (joined (if nat_eq (link_of bytes page) 0 then [] else chain_pieces at.n bytes (link_of bytes page) (first_key (page_pairs bytes (link_of bytes page))))) none
     ∙ (rw b refl)
 
 -- the slot of a pair that is found is given
-given_next : (bytes : List ℕ) (from : ℕ) (p : Pair) (ps : List Pair) → AreGiven bytes ps → next ps from ≡ Some p → p.1 < next_slot bytes
-given_next bytes from p [] given some = absurd (cc)
-given_next bytes from p (q ∷ qs) given some =
+given_next : (bytes : List ℕ) (table from : ℕ) (p : Pair) (ps : List Pair) → AreGiven bytes table ps → next ps from ≡ Some p → p.1 < next_slot bytes
+given_next bytes table from p [] given some = absurd (cc)
+given_next bytes table from p (q ∷ qs) given some =
     elim (leb_tells from q.0) [
       | inl le ↦ let b : nat_le from q.0 ≡ true = le.0 in let e : Some q ≡ Some p = (let some' : (if nat_le from q.0 then Some q else next qs from) ≡ Some p = some in rw b at some') in let e' : q ≡ p = cc in omega (arith, given.0, ap (λ (x : Pair). x.1) e')
-      | inr lt ↦ let b : nat_le from q.0 ≡ false = lt.0 in given_next bytes from p qs given.2 (let some' : (if nat_le from q.0 then Some q else next qs from) ≡ Some p = some in rw b at some')
+      | inr lt ↦ let b : nat_le from q.0 ≡ false = lt.0 in given_next bytes table from p qs given.2 (let some' : (if nat_le from q.0 then Some q else next qs from) ≡ Some p = some in rw b at some')
     ]
 
-pub next_slot_given : (bytes : List ℕ) (from steps page : ℕ) (p : Pair) → Next bytes from steps page → next (page_pairs bytes page) from ≡ Some p → p.1 < next_slot bytes
-next_slot_given bytes from steps page p at some = given_next bytes from p (page_pairs bytes page) (chain_head (suc at.n) bytes page at.low at.chain).given some
+pub next_slot_given : (bytes : List ℕ) (root table from steps page : ℕ) (p : Pair) → Next bytes root table from steps page → next (page_pairs bytes page) from ≡ Some p → p.1 < next_slot bytes
+next_slot_given bytes root table from steps page p at some = given_next bytes table from p (page_pairs bytes page) (chain_head table (suc at.n) bytes page at.low at.chain).given some
 
 -- what a key leads to follows from the least pair from it on
 pub found_next : (ps : List Pair) (key : ℕ) (p : Pair) → next ps key ≡ Some p → p.0 ≡ key → found ps key ≡ Some p.1
@@ -138,63 +140,63 @@ found_other low high (q ∷ qs) key p rises some other =
     ]
 
 -- on the way to the page of a key: this page was read, and the one after it is next
-pub record Place (bytes : List ℕ) (key steps page link : ℕ) : Type 0 where
+pub record Place (bytes : List ℕ) (root table key steps page link : ℕ) : Type 0 where
   pub n : ℕ
   pub low : ℕ
-  pub chain : IsChain (suc n) bytes page low
+  pub chain : IsChain table (suc n) bytes page low
   pub left : suc n + steps ≡ next_page bytes
   pub link_is : link ≡ link_of bytes page
-  pub answers : page_of_key bytes key ≡ chain_page_for (suc n) bytes page key
+  pub answers : page_of_key bytes root key ≡ chain_page_for (suc n) bytes page key
 
-pub place_first : (bytes : List ℕ) (key link : ℕ) → IsSoundChain bytes → link ≡ link_of bytes 1 → Place bytes key 0 1 link
-place_first bytes key link sound link_is =
-    let e : next_page bytes ≡ suc (next_page bytes - 1) = omega (arith, sound.0.some_pages) in
+pub place_first : (bytes : List ℕ) (root table key link : ℕ) → 1 ≤ next_page bytes → chain_check bytes root table None → link ≡ link_of bytes root → Place bytes root table key 0 root link
+place_first bytes root table key link some sound link_is =
+    let e : next_page bytes ≡ suc (next_page bytes - 1) = omega (arith, some) in
     record {
       n = next_page bytes - 1;
       low = 0;
-      chain = subst (λ (n : ℕ). IsChain n bytes 1 0) e (pages_of_sound bytes sound);
+      chain = subst (λ (n : ℕ). IsChain table n bytes root 0) e (pages_of_sound bytes root table sound);
       left = omega arith;
       link_is = link_is;
-      answers = ap (λ (n : ℕ). chain_page_for n bytes 1 key) e;
+      answers = ap (λ (n : ℕ). chain_page_for n bytes root key) e;
     }
 
-pub first_linked : (bytes : List ℕ) (pages : ℕ) → IsSoundChain bytes → first_slot_page bytes ≡ pages → IsLinked pages (page_bytes bytes 1)
-first_linked bytes pages sound is = page_linked bytes pages 1 0 sound is (chain_head (next_page bytes) bytes 1 0 (pages_of_sound bytes sound))
+pub first_linked : (bytes : List ℕ) (root table pages : ℕ) → IsSuper 0 bytes → chain_check bytes root table None → first_slot_page bytes ≡ pages → IsLinked pages (page_bytes bytes root)
+first_linked bytes root table pages front sound is = page_linked bytes table pages root 0 front is (chain_head table (next_page bytes) bytes root 0 (pages_of_sound bytes root table sound))
 
 -- the chain after the page
-link_chain : (n : ℕ) (bytes : List ℕ) (page low link : ℕ) → IsChain (suc n) bytes page low → link ≡ link_of bytes page → link ≢ 0 → IsChainPage bytes link (behind low (page_pairs bytes page)) × (2 ≤ link)
-link_chain n bytes page low link chain is more =
+link_chain : (n : ℕ) (bytes : List ℕ) (table page low link : ℕ) → IsChain table (suc n) bytes page low → link ≡ link_of bytes page → link ≢ 0 → IsChainPage table bytes link (behind low (page_pairs bytes page)) × (2 ≤ link) × (1 ≤ behind low (page_pairs bytes page))
+link_chain n bytes table page low link chain is more =
     let more' : link_of bytes page ≢ 0 = λ e. more (is ∙ e) in
-    subst (λ (x : ℕ). IsChainPage bytes x (behind low (page_pairs bytes page)) × (2 ≤ x)) (sym is)
-    (chain_head n bytes (link_of bytes page) (behind low (page_pairs bytes page)) (chain.1 more'), (chain.0.link more').0)
+    subst (λ (x : ℕ). IsChainPage table bytes x (behind low (page_pairs bytes page)) × (2 ≤ x) × (1 ≤ behind low (page_pairs bytes page))) (sym is)
+    (chain_head table n bytes (link_of bytes page) (behind low (page_pairs bytes page)) (chain.1 more'), (chain.0.link more').0, (let near = first_below low key_end (page_pairs bytes page) (linked_some table bytes page low more' chain.0) chain.0.rises in omega (arith, near)))
 
-pub place_linked : (bytes : List ℕ) (pages key steps page link : ℕ) → IsSoundChain bytes → first_slot_page bytes ≡ pages → Place bytes key steps page link → link ≢ 0 → IsLinked pages (page_bytes bytes link)
-place_linked bytes pages key steps page link sound is at more =
-    page_linked bytes pages link (behind at.low (page_pairs bytes page)) sound is (link_chain at.n bytes page at.low link at.chain at.link_is more).0
+pub place_linked : (bytes : List ℕ) (root table pages key steps page link : ℕ) → IsSuper 0 bytes → first_slot_page bytes ≡ pages → Place bytes root table key steps page link → link ≢ 0 → IsLinked pages (page_bytes bytes link)
+place_linked bytes root table pages key steps page link sound is at more =
+    page_linked bytes table pages link (behind at.low (page_pairs bytes page)) sound is (link_chain at.n bytes table page at.low link at.chain at.link_is more).0
 
-pub place_some : (bytes : List ℕ) (key steps page link : ℕ) → Place bytes key steps page link → link ≢ 0 → count_of bytes link ≢ 0
-place_some bytes key steps page link at more none =
-    let head = link_chain at.n bytes page at.low link at.chain at.link_is more in
-    omega (arith, head.1, (head.0.some none).0)
+pub place_some : (bytes : List ℕ) (root table key steps page link : ℕ) → Place bytes root table key steps page link → link ≢ 0 → count_of bytes link ≢ 0
+place_some bytes root table key steps page link at more none =
+    let head = link_chain at.n bytes table page at.low link at.chain at.link_is more in
+    omega (arith, head.2, (head.0.some none).0)
 
-pub place_last : (bytes : List ℕ) (key steps page link : ℕ) → Place bytes key steps page link → link ≡ 0 → page_of_key bytes key ≡ page
-place_last bytes key steps page link at last =
+pub place_last : (bytes : List ℕ) (root table key steps page link : ℕ) → Place bytes root table key steps page link → link ≡ 0 → page_of_key bytes root key ≡ page
+place_last bytes root table key steps page link at last =
     let e : link_of bytes page ≡ 0 = sym at.link_is ∙ last in
     let b : nat_eq (link_of bytes page) 0 ≡ true = grind (arith, nat_tests) in
     at.answers ∙ (rw b refl)
 
-pub place_here : (bytes : List ℕ) (key steps page link : ℕ) → Place bytes key steps page link → link ≢ 0 → key < first_key (page_pairs bytes link) → page_of_key bytes key ≡ page
-place_here bytes key steps page link at more lt =
+pub place_here : (bytes : List ℕ) (root table key steps page link : ℕ) → Place bytes root table key steps page link → link ≢ 0 → key < first_key (page_pairs bytes link) → page_of_key bytes root key ≡ page
+place_here bytes root table key steps page link at more lt =
     let other : link_of bytes page ≢ 0 = λ e. more (at.link_is ∙ e) in
     let b : nat_eq (link_of bytes page) 0 ≡ false = grind (arith, nat_tests) in
     let below : key < first_key (page_pairs bytes (link_of bytes page)) = subst (λ (x : ℕ). key < first_key (page_pairs bytes x)) at.link_is lt in
     let b' : nat_lt key (first_key (page_pairs bytes (link_of bytes page))) ≡ true = grind (arith, nat_tests) in
     at.answers ∙ (rw b (rw b' refl))
 
-place_on : (n : ℕ) (bytes : List ℕ) (key steps page low link : ℕ) → IsChain (suc n) bytes page low → suc n + steps ≡ next_page bytes → page_of_key bytes key ≡ chain_page_for (suc n) bytes page key
-    → link_of bytes page ≢ 0 → first_key (page_pairs bytes (link_of bytes page)) ≤ key → link ≡ link_of bytes (link_of bytes page) → Place bytes key (steps + 1) (link_of bytes page) link
-place_on zero bytes key steps page low link chain left answers other le is = absurd (chain.1 other)
-place_on (suc n) bytes key steps page low link chain left answers other le is =
+place_on : (n : ℕ) (bytes : List ℕ) (root table key steps page low link : ℕ) → IsChain table (suc n) bytes page low → suc n + steps ≡ next_page bytes → page_of_key bytes root key ≡ chain_page_for (suc n) bytes page key
+    → link_of bytes page ≢ 0 → first_key (page_pairs bytes (link_of bytes page)) ≤ key → link ≡ link_of bytes (link_of bytes page) → Place bytes root table key (steps + 1) (link_of bytes page) link
+place_on zero bytes root table key steps page low link chain left answers other le is = absurd (chain.1 other)
+place_on (suc n) bytes root table key steps page low link chain left answers other le is =
     let b : nat_eq (link_of bytes page) 0 ≡ false = grind (arith, nat_tests) in
     let b' : nat_lt key (first_key (page_pairs bytes (link_of bytes page))) ≡ false = grind (arith, nat_tests) in
     record {
@@ -206,10 +208,10 @@ place_on (suc n) bytes key steps page low link chain left answers other le is =
       answers = answers ∙ (rw b (rw b' refl));
     }
 
-pub place_step : (bytes : List ℕ) (key steps page link next : ℕ) → Place bytes key steps page link → link ≢ 0 → first_key (page_pairs bytes link) ≤ key → next ≡ link_of bytes link → Place bytes key (steps + 1) link next
-place_step bytes key steps page link next at more le is =
-    subst (λ (x : ℕ). Place bytes key (steps + 1) x next) (sym at.link_is)
-    (place_on at.n bytes key steps page at.low next at.chain at.left at.answers (λ e. more (at.link_is ∙ e)) (subst (λ (x : ℕ). first_key (page_pairs bytes x) ≤ key) at.link_is le) (is ∙ ap (λ (x : ℕ). link_of bytes x) at.link_is))
+pub place_step : (bytes : List ℕ) (root table key steps page link next : ℕ) → Place bytes root table key steps page link → link ≢ 0 → first_key (page_pairs bytes link) ≤ key → next ≡ link_of bytes link → Place bytes root table key (steps + 1) link next
+place_step bytes root table key steps page link next at more le is =
+    subst (λ (x : ℕ). Place bytes root table key (steps + 1) x next) (sym at.link_is)
+    (place_on at.n bytes root table key steps page at.low next at.chain at.left at.answers (λ e. more (at.link_is ∙ e)) (subst (λ (x : ℕ). first_key (page_pairs bytes x) ≤ key) at.link_is le) (is ∙ ap (λ (x : ℕ). link_of bytes x) at.link_is))
 
 -- the first key of a page with pairs
 first_from_some : (page : List ℕ) (n : ℕ) → n ≢ 0 → first_key (pairs_from page 0 n) ≡ (pair_said page 0).0
@@ -220,9 +222,9 @@ pub first_said : (page : List ℕ) → count_said page ≢ 0 → first_key (pair
 first_said page some = ap (λ (ps : List Pair). first_key ps) (from_first page) ∙ first_from_some page (count_said page) some
 
 -- the page of a key is one of the chain
-page_on_chain : (n : ℕ) (bytes : List ℕ) (page low key : ℕ) → IsChain n bytes page low → (l : ℕ) × IsChainPage bytes (chain_page_for n bytes page key) l
-page_on_chain zero bytes page low key chain = absurd chain
-page_on_chain (suc n) bytes page low key chain =
+page_on_chain : (n : ℕ) (bytes : List ℕ) (table page low key : ℕ) → IsChain table n bytes page low → (l : ℕ) × IsChainPage table bytes (chain_page_for n bytes page key) l
+page_on_chain zero bytes table page low key chain = absurd chain
+page_on_chain (suc n) bytes table page low key chain =
     elim (eqb_tells (link_of bytes page) 0) [
       | inl last ↦ let b : nat_eq (link_of bytes page) 0 ≡ true = last.0 in rw b (low, chain.0)
       | inr more ↦
@@ -231,12 +233,12 @@ page_on_chain (suc n) bytes page low key chain =
             | inl h ↦ let b' : nat_lt key (first_key (page_pairs bytes (link_of bytes page))) ≡ true = h.0 in rw b (rw b' (low, chain.0))
             | inr h ↦
                 let b' : nat_lt key (first_key (page_pairs bytes (link_of bytes page))) ≡ false = h.0 in
-                rw b (rw b' (page_on_chain n bytes (link_of bytes page) (behind low (page_pairs bytes page)) key (chain.1 more.1)))
+                rw b (rw b' (page_on_chain n bytes table (link_of bytes page) (behind low (page_pairs bytes page)) key (chain.1 more.1)))
           ]
     ]
 
-pub key_page : (bytes : List ℕ) (key : ℕ) → IsSoundChain bytes → (l : ℕ) × IsChainPage bytes (page_of_key bytes key) l
-key_page bytes key sound = page_on_chain (next_page bytes) bytes 1 0 key (pages_of_sound bytes sound)
+pub key_page : (bytes : List ℕ) (root table key : ℕ) → chain_check bytes root table None → (l : ℕ) × IsChainPage table bytes (page_of_key bytes root key) l
+key_page bytes root table key sound = page_on_chain (next_page bytes) bytes table root 0 key (pages_of_sound bytes root table sound)
 
-pub key_page_linked : (bytes : List ℕ) (pages key : ℕ) → IsSoundChain bytes → first_slot_page bytes ≡ pages → IsLinked pages (page_bytes bytes (page_of_key bytes key))
-key_page_linked bytes pages key sound is = let at = key_page bytes key sound in page_linked bytes pages (page_of_key bytes key) at.0 sound is at.1
+pub key_page_linked : (bytes : List ℕ) (root table pages key : ℕ) → IsSuper 0 bytes → chain_check bytes root table None → first_slot_page bytes ≡ pages → IsLinked pages (page_bytes bytes (page_of_key bytes root key))
+key_page_linked bytes root table pages key front sound is = let at = key_page bytes root table key sound in page_linked bytes table pages (page_of_key bytes root key) at.0 front is at.1

@@ -1,250 +1,394 @@
 -- An insertion as a whole, from what its steps give.
-use Rattle.std.proofs.Common.{◌≡◌, ◌≢◌, ℕ, suc, ◌+◌, ◌-◌, ◌*◌, ◌/◌, ◌^◌, ◌<◌, ◌≤◌, Bool, false, inl, inr, List, [], ◌∷◌, length, Option, None, Result, Ok, Err, refl, sym, ◌∙◌, ap, subst, arith}
+use Rattle.std.proofs.Common.{◌≡◌, ◌≢◌, ℕ, suc, ◌+◌, ◌-◌, ◌*◌, ◌^◌, ◌<◌, ◌≤◌, Bool, true, false, nat_lt, inl, inr, List, [], ◌∷◌, length, take, drop, None, Result, Ok, Err, refl, sym, ◌∙◌, ap, subst, arith}
 use Rattle.std.specs.Prelude.{IsTrue}
+use Rattle.std.proofs.lemmas.Bool.{cases_lt, cases_eq}
+use Rattle.std.proofs.lemmas.Bool.Decides.{leb_tells, nat_tests}
+use Rattle.std.proofs.lemmas.List.{length-take-le, length-drop}
 use Rattle.array_shape.specs.declared.shape.Shape.{Shape}
 use Rattle.array_shape.specs.Places.{data_len, page_count}
 use Rattle.array_shape.specs.Logged.{applied}
-use Rattle.eaw_face.specs.State.{State, listed}
+use Rattle.eaw_face.specs.State.{State}
 use Rattle.eaw_face.specs.Causes.{IsAlive}
-use Rattle.record_slots.specs.Places.{next_slot, next_page, slot_of}
+use Rattle.record_slots.specs.Places.{page_bytes, next_slot, next_page, slot_page, used_slots, used_pages, free_slots, free_pages, slot_due, page_due}
 use Rattle.record_slots.specs.declared.super_page.Super.{Super}
 use Rattle.page_store.specs.Fits.{FitAll, IsFirstLacking}
-use Rattle.page_store.specs.Index.{Grows, Rests, Gains, slots_of, index_pages_of}
-use Rattle.page_store.specs.Inserts.{MayBecome, Inserts}
+use Rattle.page_store.specs.Index.{Action, IsTable, Grows, Rests, Gains, slots_of, index_pages_of}
+use Rattle.page_store.specs.Inserts.{ActionFits, AllFit, LackPages, LackRoom, ComesTo, MayBecome, Inserts}
 use Rattle.page_store.specs.Looks.{Looks, LookCause, is_failed}
-use Rattle.page_store.specs.Pairs.{Pair, found, inserted}
+use Rattle.page_store.specs.Pairs.{Pair, found}
 use Rattle.page_store.specs.Shown.{PagesView}
 use Rattle.page_store.specs.declared.fault.PageFault.{PageFault}
 use Rattle.page_store.specs.declared.index_fault.IndexFault.{IndexFault}
 use Rattle.page_store.specs.declared.index_fault.IndexFault.TheVariants as index
 use Rattle.index_pages.specs.Acts.{Acts}
-use Rattle.key_list.specs.Chain.{IsSoundChain, pairs_of_chain, page_of_key}
-use Rattle.index_pages.specs.Page.{page_pairs}
+use Rattle.index_pages.specs.Adding.{TakesPage, TakesSlot, adding_pages, adding_parts}
 use Rattle.index_pages.specs.Faults.{as_index}
-use Rattle.key_list.specs.Index.{chain, half_for}
+use Rattle.index_pages.specs.Fetched.{IsFront}
+use Rattle.index_pages.specs.Keys.{key_at}
+use Rattle.index_pages.specs.Page.{page_pairs, count_of}
+use Rattle.index_pages.proofs.Claims.{slots_few, pages_few, adding_at}
+use Rattle.index_pages.proofs.Going.{Going, going_looks, going_act, alive_now, inserts_done, inserts_refused, inserts_look_err, inserts_act_err}
+use Rattle.index_pages.proofs.Joining.{named_kept, grows_within, gains_within, joins_within}
+use Rattle.index_pages.proofs.Left.{DecidesAll, all_left, one_done, fits_same, lacks_same}
+use Rattle.index_pages.proofs.Lifting.{joins_same, inserts_then}
+use Rattle.index_pages.proofs.Looking.{looks_none}
+use Rattle.index_pages.proofs.PageFacts.{length-page_pairs}
+use Rattle.index_pages.specs.Written.{AreSmall}
+use Rattle.index_pages.proofs.Writing.{small_take}
+use Rattle.key_list.specs.Chain.{IsSoundChain, pairs_of_chain, page_of_key}
+use Rattle.key_list.specs.Index.{chain, chain_within, chain_actions, adding, cutting, by_half}
 use Rattle.key_list.specs.Located.{IsLocated, Locates, cutting_pages, cutting_parts}
-use Rattle.index_pages.specs.Adding.{adding_pages, adding_parts}
-use Rattle.key_list.specs.declared.place.Located.{Located}
-use Rattle.index_pages.proofs.Going.{Going, going_looks, going_more, going_act, inserts_done, inserts_refused, inserts_look_err, inserts_act_err}
-use Rattle.key_list.proofs.Data.{adding_grows, cutting_grows, half_short}
-use Rattle.key_list.proofs.Counting.{fits_same, lacking_same, added_cause, added_lacks, pages_run_out, cut_lacks, both_cause, second_lacks}
+use Rattle.key_list.specs.Resting.{sound_chain_counts}
+use Rattle.key_list.proofs.Data.{adding_grows, adding_takes_none, slot_there, cutting_grows, cut_after, cut_due, cut_used, half_located, half_left}
 
--- one more page, and then one more pair
-grows_then : (key : ℕ) (a b c : List ℕ) → Grows chain a b → Rests chain a b → next_page b ≡ suc (next_page a) → Grows chain b c → Gains chain key b c → next_page c ≡ next_page b → Grows chain a c × Gains chain key a c
-grows_then key a b c first rests more second gains same = (
-  record {
-    sound = second.sound;
-    size = second.size ∙ first.size;
-    slots = λ j lt. second.slots j (omega (arith, rests.slots)) ∙ first.slots j lt;
-    later = omega arith;
-    few = omega arith;
-    named = λ x from to. second.kept x (first.named x from (omega arith));
-    kept = λ x on. second.kept x (first.kept x on);
-    levels = omega arith;
-  },
-  record {
-    pairs = gains.pairs ∙ ap (λ (ps : List Pair). inserted ps key (next_slot b)) rests.pairs ∙ ap (λ (s : ℕ). inserted (pairs_of_chain a) key s) rests.slots;
-    slots = gains.slots ∙ ap suc rests.slots;
-    fresh = ap (λ (s : ℕ). slot_of c s) (sym rests.slots) ∙ gains.fresh;
-  },
-)
+-- nothing is left of so many
+pub none_left : (free next half : ℕ) → ((free ≡ 0 → next < half) → ⊥) → (free ≡ 0) × (half ≤ next)
+none_left free next half gone = elim (cases_eq free 0) [
+  | inl none ↦ elim (cases_lt next half) [ inl less ↦ absurd (gone (λ e. less)) | inr most ↦ (none, most) ]
+  | inr some ↦ absurd (gone (λ e. absurd (some e)))
+]
 
-module _ (tells : Bool) (E : Shape → List ℕ → List ℕ → Type 0) (t key : ℕ) (v0 v1 : PagesView) (half : ℕ) (half_is : half ≡ index_pages_of v0.store.shape) (all : half + half ≡ page_count v0.store.shape)
-    (few : half ≤ 16384) (fits : key < 2 ^ 64) (sound : IsTrue tells → IsAlive v0.store → IsSoundChain v0.store.state.bytes)
-    (absent : IsTrue tells → IsAlive v0.store → found (pairs_of_chain v0.store.state.bytes) key ≡ None) (long : IsTrue tells → length v0.store.state.bytes ≡ data_len v0.store.shape)
-    (looks : Looks tells (E v0.store.shape) false v0 v1) (alive : IsAlive v0.store) (front : Super) (page link : ℕ) (pairs : List Pair)
-    (loc : IsLocated v0.store.shape front page link pairs) (said : IsTrue tells → Locates v0.store.state.bytes key front page link pairs) (other : front.next_slot ≢ 8 * half) where
-  going1 : Going chain tells (E v0.store.shape) t key v0 v1
-  going1 = going_looks chain tells (E v0.store.shape) t key v0 v1 sound looks
+-- an insertion into the chain cannot look at the data
+pub look_err : (tells : Bool) (E : Shape → List ℕ → List ℕ → Type 0) (t root table key : ℕ) (v0 : PagesView) → (IsTrue tells → IsAlive v0.store → IsSoundChain v0.store.state.bytes)
+    → (T : Type 0) (v1 : PagesView) (fault : PageFault) → (let r : Result T PageFault = Err fault in Looks tells (E v0.store.shape) (is_failed r) v0 v1 × LookCause tells v0.store r)
+    → (let s : Result ℕ IndexFault = Err (as_index fault) in Inserts tells (E v0.store.shape) chain t root table key v0 v1 s)
+look_err tells E t root table key v0 sound T v1 fault looks =
+    inserts_look_err chain tells (E v0.store.shape) t root table key T v0 v0 v1 (going_looks chain tells (E v0.store.shape) t root table key v0 v0 sound (looks_none tells (E v0.store.shape) v0)) fault looks
 
-  slot : front.next_slot < slots_of v0.store.shape
-  slot = (let ne : front.next_slot ≡ 8 * half → ⊥ = other in omega (arith, loc.front_is.slots, all))
+-- no slot is left
+pub slots_full : (tells : Bool) (E : Shape → List ℕ → List ℕ → Type 0) (t root table key : ℕ) (v0 v1 : PagesView) → (IsTrue tells → IsAlive v0.store → IsSoundChain v0.store.state.bytes) → Looks tells (E v0.store.shape) false v0 v1 → IsAlive v0.store
+    → (slots : ℕ) → slots ≡ slots_of v0.store.shape → (front : Super) (page link : ℕ) (pairs : List Pair) → IsLocated v0.store.shape front page link pairs → (IsTrue tells → Locates v0.store.state.bytes root key front page link pairs)
+    → ((front.free_slots ≡ 0 → front.next_slot < slots) → ⊥) → (let s : Result ℕ IndexFault = Err (index.SlotsFull slots) in Inserts tells (E v0.store.shape) chain t root table key v0 v1 s)
+slots_full tells E t root table key v0 v1 sound looks alive slots slots_is front page link pairs loc said gone =
+    let none = none_left front.free_slots front.next_slot slots gone in
+    inserts_refused chain tells (E v0.store.shape) t root table key v0 v1 (going_looks chain tells (E v0.store.shape) t root table key v0 v1 sound looks) (index.SlotsFull slots)
+    (refl, (alive, slots_is, λ told. omega (arith, none.0, none.1, slots_is, loc.front_is.slots, (said told).front_says.next_slot, (said told).front_says.free_slots))) (λ n e. absurd (cc))
 
-  same1 : IsTrue tells → v1.store.state.bytes ≡ v0.store.state.bytes
-  same1 told = ap (λ (s : State). s.bytes) ((looks.still refl).state told)
+module _ (tells : Bool) (E : Shape → List ℕ → List ℕ → Type 0) (t root table key : ℕ) (v0 : PagesView) (half : ℕ) (half_is : half ≡ index_pages_of v0.store.shape) (all : half + half ≡ page_count v0.store.shape)
+    (few : half ≤ 16384) (fits : key < 2 ^ 64) (table_few : table < 8) (sound : IsTrue tells → IsSoundChain v0.store.state.bytes) (named : IsTrue tells → IsTable v0.store.state.bytes table root)
+    (absent : IsTrue tells → found (pairs_of_chain v0.store.state.bytes root) key ≡ None) (long : IsTrue tells → length v0.store.state.bytes ≡ data_len v0.store.shape) (alive : IsAlive v0.store)
+    (front : Super) (page link : ℕ) (pairs : List Pair) (loc : IsLocated v0.store.shape front page link pairs) (said : IsTrue tells → Locates v0.store.state.bytes root key front page link pairs)
+    (slot : front.free_slots ≡ 0 → front.next_slot < slots_of v0.store.shape) where
+  slot_left : IsTrue tells → used_slots v0.store.state.bytes < slots_of v0.store.shape
+  slot_left told = slots_few v0.store.shape v0.store.state.bytes front loc.front_is slot (said told).front_says (sound_chain_counts v0.store.state.bytes (sound told))
 
-  logged1 : listed (v1.store.ranges t) ≡ listed (v0.store.ranges t)
-  logged1 = ap (λ (f : ℕ → Option (List (ℕ × ℕ))). listed (f t)) looks.ranges
+  count_is : IsTrue tells → count_of v0.store.state.bytes (page_of_key v0.store.state.bytes root key) ≡ length pairs
+  count_is told =
+      sym (length-page_pairs v0.store.state.bytes (page_of_key v0.store.state.bytes root key)) ∙ ap (λ (x : ℕ). length (page_pairs v0.store.state.bytes x)) (sym (said told).page_is)
+      ∙ ap (λ (ps : List Pair). length ps) (sym (said told).pairs_are)
 
-  -- the parts of an addition, stated for the shape at the start
-  added_acts : (w x : PagesView) (f : Super) (p l : ℕ) (ps : List Pair) (r : Result (Unit {0}) PageFault) → w.store.shape ≡ v0.store.shape
-      → Acts tells (E w.store.shape) t (adding_pages (index_pages_of w.store.shape) f p) (adding_parts (index_pages_of w.store.shape) f p l ps key) w x r
-      → Acts tells (E v0.store.shape) t (adding_pages half f p) (adding_parts half f p l ps key) w x r
-  added_acts w x f p l ps r shape acts =
-      subst (λ (n : ℕ). Acts tells (E v0.store.shape) t (adding_pages n f p) (adding_parts n f p l ps key) w x r) (sym half_is)
-      (subst (λ (s : Shape). Acts tells (E s) t (adding_pages (index_pages_of s) f p) (adding_parts (index_pages_of s) f p l ps key) w x r) shape acts)
-
+  -- the page has room
   module _ (room : length pairs < 30) where
-    data1 : IsTrue tells → Grows chain v0.store.state.bytes (applied (adding_parts half front page link pairs key) v1.store.state.bytes)
-        × Gains chain key v0.store.state.bytes (applied (adding_parts half front page link pairs key) v1.store.state.bytes)
-    data1 told =
-        let d = adding_grows v0.store.shape v0.store.state.bytes half (long told) half_is all few front page link pairs key fits loc (sound told alive) (said told) slot room (absent told alive) in
-        subst (λ (b : List ℕ). Grows chain v0.store.state.bytes (applied (adding_parts half front page link pairs key) b)
-        × Gains chain key v0.store.state.bytes (applied (adding_parts half front page link pairs key) b)) (sym (same1 told)) (d.0, d.1)
+    one_action : IsTrue tells → chain_actions v0.store.state.bytes root key ≡ adding v0.store.state.bytes page ∷ []
+    one_action told =
+        let b : nat_lt (count_of v0.store.state.bytes (page_of_key v0.store.state.bytes root key)) 30 ≡ true = grind (arith, nat_tests, count_is told, room) in
+        let at_key : chain_actions v0.store.state.bytes root key ≡ adding v0.store.state.bytes (page_of_key v0.store.state.bytes root key) ∷ [] = (rw b refl) in
+        at_key ∙ ap (λ (x : ℕ). adding v0.store.state.bytes x ∷ []) (sym (said told).page_is)
 
-    may1 : IsTrue tells → IsAlive v0.store → MayBecome chain key v0.store.state.bytes (applied (adding_parts half front page link pairs key) v1.store.state.bytes)
-    may1 told living = let d = data1 told in (d.0, inr d.1)
+    here_first : (v1 : PagesView) → Looks tells (E v0.store.shape) false v0 v1 → Going (chain_within front.next_page) tells (E v0.store.shape) t root table key v0 v1
+    here_first v1 looks = going_looks (chain_within front.next_page) tells (E v0.store.shape) t root table key v0 v1 (λ told living. (sound told, omega (arith, (said told).front_says.next_page))) looks
 
-    -- a pair was added at once
-    pub added_done : (v2 : PagesView) → (let r : Result (Unit {0}) PageFault = Ok tt in
-        Acts tells (E v1.store.shape) t (adding_pages (index_pages_of v1.store.shape) front page) (adding_parts (index_pages_of v1.store.shape) front page link pairs key) v1 v2 r)
-        → (let s : Result ℕ IndexFault = Ok front.next_slot in Inserts tells (E v0.store.shape) chain t key v0 v2 s)
-    added_done v2 acts' =
-        let r : Result (Unit {0}) PageFault = Ok tt in
-        let acts = added_acts v1 v2 front page link pairs r looks.shape acts' in
-        inserts_done chain tells (E v0.store.shape) t key v0 v1 v2 going1 (adding_pages half front page) (adding_parts half front page link pairs key) may1 front.next_slot acts
-        (λ told living. let d = data1 told in ((said told).slot_is, d.0, d.1))
-        (alive, slot, λ told. added_cause v0.store t key half (long told) all front page link pairs (said told) slot room (fits_same v0.store v1.store t (adding_pages half front page) looks.shape logged1 acts.cause.1))
+    -- the slot cannot be taken
+    pub slot_err : (T : Type 0) (v1 : PagesView) (fault : PageFault) → (let r : Result T PageFault = Err fault in Looks tells (E v0.store.shape) (is_failed r) v0 v1 × LookCause tells v0.store r)
+        → (let s : Result ℕ IndexFault = Err (as_index fault) in Inserts tells (E v0.store.shape) (chain_within front.next_page) t root table key v0 v1 s)
+    slot_err T v1 fault looks =
+        inserts_look_err (chain_within front.next_page) tells (E v0.store.shape) t root table key T v0 v0 v1 (here_first v0 (looks_none tells (E v0.store.shape) v0)) fault looks
 
-    pub added_err : (v2 : PagesView) (fault : PageFault) → (let r : Result (Unit {0}) PageFault = Err fault in
-        Acts tells (E v1.store.shape) t (adding_pages (index_pages_of v1.store.shape) front page) (adding_parts (index_pages_of v1.store.shape) front page link pairs key) v1 v2 r)
-        → (let s : Result ℕ IndexFault = Err (as_index fault) in Inserts tells (E v0.store.shape) chain t key v0 v2 s)
-    added_err v2 fault acts' =
-        let r : Result (Unit {0}) PageFault = Err fault in
-        let acts = added_acts v1 v2 front page link pairs r looks.shape acts' in
-        inserts_act_err chain tells (E v0.store.shape) t key v0 v1 v2 going1 (adding_pages half front page) (adding_parts half front page link pairs key) may1 alive
-        (λ g h n lacks. let lacks' = lacking_same v0.store v1.store t (adding_pages half front page) g h n looks.shape logged1 lacks in
-        (alive, (adding_pages half front page, omega arith, lacks'), λ told. added_lacks v0.store t key half (long told) all front page link pairs (said told) slot room g h n lacks'))
-        fault acts
+    module _ (v1 : PagesView) (looks : Looks tells (E v0.store.shape) false v0 v1) (after : Super) (taken : ℕ) (takes : IsTrue tells → TakesSlot v0.store.state.bytes front taken after)
+        (taken_in : taken < slots_of v0.store.shape) where
+      going1 : Going (chain_within front.next_page) tells (E v0.store.shape) t root table key v0 v1
+      going1 = here_first v1 looks
 
+      same1 : IsTrue tells → v1.store.state.bytes ≡ v0.store.state.bytes
+      same1 told = ap (λ (s : State). s.bytes) ((looks.still refl).state told)
+
+      data1 : IsTrue tells → Grows (chain_within front.next_page) root v0.store.state.bytes (applied (adding_parts half after taken page link pairs table key) v1.store.state.bytes)
+          × Gains (chain_within front.next_page) root table key v0.store.state.bytes (applied (adding_parts half after taken page link pairs table key) v1.store.state.bytes)
+      data1 told =
+          let d = adding_grows v0.store.shape v0.store.state.bytes half (long told) half_is all few root table front page link pairs key fits loc (sound told) (named told) (said told) after taken (takes told) table_few room (slot_left told) (absent told) in
+          let none = adding_takes_none v0.store.shape v0.store.state.bytes half (long told) half_is all few root table front page link pairs key fits loc (sound told) (named told) (said told) after taken (takes told) table_few room (slot_left told) (absent told) in
+          subst (λ (b : List ℕ). Grows (chain_within front.next_page) root v0.store.state.bytes (applied (adding_parts half after taken page link pairs table key) b)
+          × Gains (chain_within front.next_page) root table key v0.store.state.bytes (applied (adding_parts half after taken page link pairs table key) b)) (sym (same1 told)) (
+            grows_within chain front.next_page chain_actions root v0.store.state.bytes (applied (adding_parts half after taken page link pairs table key) v0.store.state.bytes) d.0 (omega (arith, none, (said told).front_says.next_page)),
+            gains_within chain front.next_page chain_actions root table key v0.store.state.bytes (applied (adding_parts half after taken page link pairs table key) v0.store.state.bytes) d.1,
+          )
+
+      may1 : IsTrue tells → IsAlive v0.store → MayBecome (chain_within front.next_page) root table key v0.store.state.bytes (applied (adding_parts half after taken page link pairs table key) v1.store.state.bytes)
+      may1 told living = let d = data1 told in (d.0, inr d.1)
+
+      add_start : (v2 : PagesView) (r : Result (Unit {0}) PageFault) → Acts tells (E v1.store.shape) t (adding_pages (index_pages_of v1.store.shape) taken page) (adding_parts (index_pages_of v1.store.shape) after taken page link pairs table key) v1 v2 r
+          → Acts tells (E v0.store.shape) t (adding_pages half taken page) (adding_parts half after taken page link pairs table key) v1 v2 r
+      add_start v2 r acts =
+          subst (λ (n : ℕ). Acts tells (E v0.store.shape) t (adding_pages n taken page) (adding_parts n after taken page link pairs table key) v1 v2 r) (sym half_is)
+          (subst (λ (s : Shape). Acts tells (E s) t (adding_pages (index_pages_of s) taken page) (adding_parts (index_pages_of s) after taken page link pairs table key) v1 v2 r) looks.shape acts)
+
+      due_is : IsTrue tells → taken ≡ slot_due v0.store.state.bytes
+      due_is told = slot_there v0.store.shape v0.store.state.bytes half (long told) half_is all few root table front page link pairs key fits loc (sound told) (named told) (said told) after taken (takes told) table_few room (slot_left told) (absent told)
+
+      pages_are : IsTrue tells → adding_pages half taken page ≡ (adding v0.store.state.bytes page).pages
+      pages_are told = adding_at v0.store.shape v0.store.state.bytes (long told) half all taken page (due_is told)
+
+      -- the pair was added
+      pub add_done : (v2 : PagesView) → (let r : Result (Unit {0}) PageFault = Ok tt in
+          Acts tells (E v1.store.shape) t (adding_pages (index_pages_of v1.store.shape) taken page) (adding_parts (index_pages_of v1.store.shape) after taken page link pairs table key) v1 v2 r)
+          → (let s : Result ℕ IndexFault = Ok taken in Inserts tells (E v0.store.shape) (chain_within front.next_page) t root table key v0 v2 s)
+      add_done v2 acts' =
+          let r : Result (Unit {0}) PageFault = Ok tt in
+          let acts = add_start v2 r acts' in
+          inserts_done (chain_within front.next_page) tells (E v0.store.shape) t root table key v0 v1 v2 going1 (adding_pages half taken page) (adding_parts half after taken page link pairs table key) may1 taken acts
+          (λ told living. let d = data1 told in (due_is told, d.0, d.1)) (
+            alive,
+            taken_in,
+            λ told. (
+              slot_left told,
+              subst (λ (steps : List Action). AllFit v0.store t (index_pages_of v0.store.shape - used_pages v0.store.state.bytes) steps) (sym (one_action told))
+                  ((omega arith, subst (λ (ps : List ℕ). FitAll v0.store t ps) (pages_are told) (fits_same v0.store v1.store t going1.shape (going1.logs.ranges t) (adding_pages half taken page) acts.cause.1)), tt),
+            ),
+          )
+
+      pub add_err : (v2 : PagesView) (fault : PageFault) → (let r : Result (Unit {0}) PageFault = Err fault in
+          Acts tells (E v1.store.shape) t (adding_pages (index_pages_of v1.store.shape) taken page) (adding_parts (index_pages_of v1.store.shape) after taken page link pairs table key) v1 v2 r)
+          → (let s : Result ℕ IndexFault = Err (as_index fault) in Inserts tells (E v0.store.shape) (chain_within front.next_page) t root table key v0 v2 s)
+      add_err v2 fault acts' =
+          let r : Result (Unit {0}) PageFault = Err fault in
+          inserts_act_err (chain_within front.next_page) tells (E v0.store.shape) t root table key v0 v1 v2 going1 (adding_pages half taken page) (adding_parts half after taken page link pairs table key) may1 alive
+          (λ g h n lacks. let lacks' = lacks_same v0.store v1.store t going1.shape (going1.logs.ranges t) (adding_pages half taken page) g h n lacks in (
+            alive,
+            (adding_pages half taken page, omega arith, lacks'),
+            λ told. (
+              slot_left told,
+              subst (λ (steps : List Action). LackRoom v0.store t g h n (index_pages_of v0.store.shape - used_pages v0.store.state.bytes) steps) (sym (one_action told))
+                  (inl (omega arith, subst (λ (ps : List ℕ). IsFirstLacking v0.store t ps g h n) (pages_are told) lacks')),
+            ),
+          ))
+          fault (add_start v2 r acts')
+
+  -- the page is full
   module _ (full : length pairs ≡ 30) where
+    two_actions : IsTrue tells
+        → chain_actions v0.store.state.bytes root key ≡ cutting v0.store.state.bytes page ∷ adding v0.store.state.bytes (by_half (page_pairs v0.store.state.bytes page) key page (page_due v0.store.state.bytes 0)) ∷ []
+    two_actions told =
+        let b : nat_lt (count_of v0.store.state.bytes (page_of_key v0.store.state.bytes root key)) 30 ≡ false = grind (arith, nat_tests, count_is told, full) in
+        let at_key : chain_actions v0.store.state.bytes root key
+        ≡ cutting v0.store.state.bytes (page_of_key v0.store.state.bytes root key)
+        ∷ adding v0.store.state.bytes (by_half (page_pairs v0.store.state.bytes (page_of_key v0.store.state.bytes root key)) key (page_of_key v0.store.state.bytes root key) (page_due v0.store.state.bytes 0)) ∷ [] = (rw b refl) in
+        at_key
+        ∙ ap (λ (x : ℕ). cutting v0.store.state.bytes x ∷ adding v0.store.state.bytes (by_half (page_pairs v0.store.state.bytes x) key x (page_due v0.store.state.bytes 0)) ∷ []) (sym (said told).page_is)
+
+    cut_first : (v1 : PagesView) → Looks tells (E v0.store.shape) false v0 v1 → Going chain tells (E v0.store.shape) t root table key v0 v1
+    cut_first v1 looks = going_looks chain tells (E v0.store.shape) t root table key v0 v1 (λ told living. sound told) looks
+
+    due_two : IsTrue tells → DecidesAll v0.store t (index_pages_of v0.store.shape - used_pages v0.store.state.bytes) (chain_actions v0.store.state.bytes root key) (index_pages_of v0.store.shape - used_pages v0.store.state.bytes)
+        (cutting v0.store.state.bytes page ∷ adding v0.store.state.bytes (by_half (page_pairs v0.store.state.bytes page) key page (page_due v0.store.state.bytes 0)) ∷ [])
+    due_two told =
+        subst (λ (steps : List Action). DecidesAll v0.store t (index_pages_of v0.store.shape - used_pages v0.store.state.bytes) (chain_actions v0.store.state.bytes root key) (index_pages_of v0.store.shape - used_pages v0.store.state.bytes) steps)
+        (two_actions told) (all_left v0.store t (index_pages_of v0.store.shape - used_pages v0.store.state.bytes) (chain_actions v0.store.state.bytes root key))
+
     -- no page is left
-    pub pages_full : front.next_page ≡ half → (let s : Result ℕ IndexFault = Err (index.PagesFull (half - 1)) in Inserts tells (E v0.store.shape) chain t key v0 v1 s)
-    pages_full none = inserts_refused chain tells (E v0.store.shape) t key v0 v1 going1 (index.PagesFull (half - 1))
-        (refl, (alive, ap (λ (n : ℕ). n - 1) half_is, λ told. pages_run_out v0.store t key half (long told) all front page link pairs (said told) slot full (none ∙ half_is)))
-        (λ n e told living. let e' : half - 1 ≡ n = cc in inl (omega (arith, none, (said told).next_is, ap next_page (same1 told))))
+    pub pages_full : ((front.free_pages ≡ 0 → front.next_page < half) → ⊥) → (let s : Result ℕ IndexFault = Err (index.PagesFull (half - 1)) in Inserts tells (E v0.store.shape) chain t root table key v0 v0 s)
+    pages_full gone =
+        let none = none_left front.free_pages front.next_page half gone in
+        inserts_refused chain tells (E v0.store.shape) t root table key v0 v0 (cut_first v0 (looks_none tells (E v0.store.shape) v0)) (index.PagesFull (half - 1)) (
+          refl,
+          (
+            alive,
+            ap (λ (n : ℕ). n - 1) half_is,
+            λ told. (
+              slot_left told,
+              (due_two told).lack_pages (inl (omega (arith, none.0, none.1, half_is, (said told).front_says.next_page, (said told).front_says.free_pages))),
+            ),
+          ),
+        )
+        (λ n e told living. let e' : half - 1 ≡ n = cc in inl (omega (arith, none.0, none.1, (said told).front_says.next_page, (said told).front_says.free_pages, e')))
 
-    module _ (some : front.next_page ≢ half) where
-      next : front.next_page < index_pages_of v0.store.shape
-      next = (let ne : front.next_page ≡ half → ⊥ = some in omega (arith, loc.front_is.pages, half_is))
+    -- the page cannot be taken
+    pub page_err : (T : Type 0) (v1 : PagesView) (fault : PageFault) → (let r : Result T PageFault = Err fault in Looks tells (E v0.store.shape) (is_failed r) v0 v1 × LookCause tells v0.store r)
+        → (let s : Result ℕ IndexFault = Err (as_index fault) in Inserts tells (E v0.store.shape) chain t root table key v0 v1 s)
+    page_err T v1 fault looks = look_err tells E t root table key v0 (λ told living. sound told) T v1 fault looks
 
-      data2 : IsTrue tells → Grows chain v0.store.state.bytes (applied (cutting_parts front page link pairs) v1.store.state.bytes) × Rests chain v0.store.state.bytes (applied (cutting_parts front page link pairs) v1.store.state.bytes)
-          × (next_page (applied (cutting_parts front page link pairs) v1.store.state.bytes) ≡ suc (next_page v0.store.state.bytes))
-          × (page_of_key (applied (cutting_parts front page link pairs) v1.store.state.bytes) key ≡ half_for v0.store.state.bytes page key)
-          × (length (page_pairs (applied (cutting_parts front page link pairs) v1.store.state.bytes) (half_for v0.store.state.bytes page key)) < 30)
+    module _ (left : front.free_pages ≡ 0 → front.next_page < half) (v1 : PagesView) (looks : Looks tells (E v0.store.shape) false v0 v1) (after : Super) (taken : ℕ)
+        (takes : IsTrue tells → TakesPage v0.store.state.bytes front taken after) (taken_in : (2 ≤ taken) × (taken < index_pages_of v0.store.shape)) (after_is : IsFront v0.store.shape after)
+        (after_slots : (after.next_slot ≡ front.next_slot) × (after.free_slots ≡ front.free_slots)) where
+      going2 : Going chain tells (E v0.store.shape) t root table key v0 v1
+      going2 = cut_first v1 looks
+
+      same2 : IsTrue tells → v1.store.state.bytes ≡ v0.store.state.bytes
+      same2 told = ap (λ (s : State). s.bytes) ((looks.still refl).state told)
+
+      used_left : IsTrue tells → used_pages v0.store.state.bytes < index_pages_of v0.store.shape
+      used_left told = pages_few v0.store.shape v0.store.state.bytes front loc.front_is (λ none. omega (arith, left none, half_is)) (said told).front_says (sound_chain_counts v0.store.state.bytes (sound told))
+
+      data2 : IsTrue tells → Grows chain root v0.store.state.bytes (applied (cutting_parts after taken page link pairs) v1.store.state.bytes) × Rests chain root v0.store.state.bytes (applied (cutting_parts after taken page link pairs) v1.store.state.bytes)
       data2 told =
-          let d = cutting_grows v0.store.shape v0.store.state.bytes half (long told) half_is all few front page link pairs key fits loc (sound told alive) (said told) full next in
-          let short = half_short v0.store.shape v0.store.state.bytes half (long told) half_is all few front page link pairs key fits loc (sound told alive) (said told) full next in
-          subst (λ (b : List ℕ). Grows chain v0.store.state.bytes (applied (cutting_parts front page link pairs) b) × Rests chain v0.store.state.bytes (applied (cutting_parts front page link pairs) b)
-          × (next_page (applied (cutting_parts front page link pairs) b) ≡ suc (next_page v0.store.state.bytes))
-          × (page_of_key (applied (cutting_parts front page link pairs) b) key ≡ half_for v0.store.state.bytes page key)
-          × (length (page_pairs (applied (cutting_parts front page link pairs) b) (half_for v0.store.state.bytes page key)) < 30)) (sym (same1 told)) (d.0, d.1, d.2, d.3, short)
+          subst (λ (b : List ℕ). Grows chain root v0.store.state.bytes (applied (cutting_parts after taken page link pairs) b) × Rests chain root v0.store.state.bytes (applied (cutting_parts after taken page link pairs) b)) (sym (same2 told))
+          (cutting_grows v0.store.shape v0.store.state.bytes half (long told) half_is all few root table front page link pairs key fits loc (sound told) (named told) (said told) after taken (takes told) full (used_left told))
 
-      may2 : IsTrue tells → IsAlive v0.store → MayBecome chain key v0.store.state.bytes (applied (cutting_parts front page link pairs) v1.store.state.bytes)
+      may2 : IsTrue tells → IsAlive v0.store → MayBecome chain root table key v0.store.state.bytes (applied (cutting_parts after taken page link pairs) v1.store.state.bytes)
       may2 told living = let d = data2 told in (d.0, inl d.1)
 
-      on_start : (v2 : PagesView) (r : Result (Unit {0}) PageFault) → Acts tells (E v1.store.shape) t (cutting_pages front page) (cutting_parts front page link pairs) v1 v2 r
-          → Acts tells (E v0.store.shape) t (cutting_pages front page) (cutting_parts front page link pairs) v1 v2 r
-      on_start v2 r acts = subst (λ (s : Shape). Acts tells (E s) t (cutting_pages front page) (cutting_parts front page link pairs) v1 v2 r) looks.shape acts
+      cut_start : (v2 : PagesView) (r : Result (Unit {0}) PageFault) → Acts tells (E v1.store.shape) t (cutting_pages taken page) (cutting_parts after taken page link pairs) v1 v2 r
+          → Acts tells (E v0.store.shape) t (cutting_pages taken page) (cutting_parts after taken page link pairs) v1 v2 r
+      cut_start v2 r acts = subst (λ (s : Shape). Acts tells (E s) t (cutting_pages taken page) (cutting_parts after taken page link pairs) v1 v2 r) looks.shape acts
 
-      pub cut_err : (v2 : PagesView) (fault : PageFault) → (let r : Result (Unit {0}) PageFault = Err fault in Acts tells (E v1.store.shape) t (cutting_pages front page) (cutting_parts front page link pairs) v1 v2 r)
-          → (let s : Result ℕ IndexFault = Err (as_index fault) in Inserts tells (E v0.store.shape) chain t key v0 v2 s)
+      page_is_due : IsTrue tells → taken ≡ page_due v0.store.state.bytes 0
+      page_is_due told = cut_due v0.store.shape v0.store.state.bytes half (long told) half_is all few root table front page link pairs key fits loc (sound told) (named told) (said told) after taken (takes told) full (used_left told)
+
+      cut_pages_are : IsTrue tells → cutting_pages taken page ≡ (cutting v0.store.state.bytes page).pages
+      cut_pages_are told = ap (λ (x : ℕ). page ∷ x ∷ 0 ∷ []) (page_is_due told)
+
+      one_left : IsTrue tells → 1 ≤ index_pages_of v0.store.shape - used_pages v0.store.state.bytes
+      one_left told = omega (arith, used_left told)
+
+      -- the cut was refused
+      pub cut_err : (v2 : PagesView) (fault : PageFault) → (let r : Result (Unit {0}) PageFault = Err fault in Acts tells (E v1.store.shape) t (cutting_pages taken page) (cutting_parts after taken page link pairs) v1 v2 r)
+          → (let s : Result ℕ IndexFault = Err (as_index fault) in Inserts tells (E v0.store.shape) chain t root table key v0 v2 s)
       cut_err v2 fault acts' =
           let r : Result (Unit {0}) PageFault = Err fault in
-          inserts_act_err chain tells (E v0.store.shape) t key v0 v1 v2 going1 (cutting_pages front page) (cutting_parts front page link pairs) may2 alive
-          (λ g h n lacks. let lacks' = lacking_same v0.store v1.store t (cutting_pages front page) g h n looks.shape logged1 lacks in
-          (alive, (cutting_pages front page, omega arith, lacks'), λ told. cut_lacks v0.store t key half (long told) all front page link pairs (said told) slot full next g h n lacks'))
-          fault (on_start v2 r acts')
+          inserts_act_err chain tells (E v0.store.shape) t root table key v0 v1 v2 going2 (cutting_pages taken page) (cutting_parts after taken page link pairs) may2 alive
+          (λ g h n lacks. let lacks' = lacks_same v0.store v1.store t going2.shape (going2.logs.ranges t) (cutting_pages taken page) g h n lacks in (
+            alive,
+            (cutting_pages taken page, omega arith, lacks'),
+            λ told. (slot_left told, (due_two told).lack_room g h n (inl (one_left told, subst (λ (ps : List ℕ). IsFirstLacking v0.store t ps g h n) (cut_pages_are told) lacks'))),
+          ))
+          fault (cut_start v2 r acts')
 
-      module _ (v2 : PagesView) (acts' : (let r : Result (Unit {0}) PageFault = Ok tt in Acts tells (E v1.store.shape) t (cutting_pages front page) (cutting_parts front page link pairs) v1 v2 r)) where
-        cut_acts : (let r : Result (Unit {0}) PageFault = Ok tt in Acts tells (E v0.store.shape) t (cutting_pages front page) (cutting_parts front page link pairs) v1 v2 r)
-        cut_acts = (let r : Result (Unit {0}) PageFault = Ok tt in on_start v2 r acts')
+      module _ (v2 : PagesView) (acts' : (let r : Result (Unit {0}) PageFault = Ok tt in Acts tells (E v1.store.shape) t (cutting_pages taken page) (cutting_parts after taken page link pairs) v1 v2 r)) where
+        cut_acts : (let r : Result (Unit {0}) PageFault = Ok tt in Acts tells (E v0.store.shape) t (cutting_pages taken page) (cutting_parts after taken page link pairs) v1 v2 r)
+        cut_acts = (let r : Result (Unit {0}) PageFault = Ok tt in cut_start v2 r acts')
 
-        pub going2 : Going chain tells (E v0.store.shape) t key v0 v2
-        going2 = going_act chain tells (E v0.store.shape) t key v0 v1 v2 going1 (cutting_pages front page) (cutting_parts front page link pairs) may2 cut_acts (λ told living. let d = data2 told in (d.0, d.1))
+        pub going3 : Going chain tells (E v0.store.shape) t root table key v0 v2
+        going3 = going_act chain tells (E v0.store.shape) t root table key v0 v1 v2 going2 (cutting_pages taken page) (cutting_parts after taken page link pairs) may2 cut_acts (λ told living. data2 told)
 
-        pub sound2 : IsTrue tells → IsSoundChain v2.store.state.bytes
-        sound2 told = (going2.made told alive).0.sound
+        pub living3 : IsAlive v2.store
+        living3 = alive_now chain tells (E v0.store.shape) t root table key v0 v2 going3 alive
 
-        bytes2 : IsTrue tells → v2.store.state.bytes ≡ applied (cutting_parts front page link pairs) v1.store.state.bytes
-        bytes2 told = cut_acts.made told ((looks.still refl).dead ∙ alive)
+        bytes3 : IsTrue tells → v2.store.state.bytes ≡ applied (cutting_parts after taken page link pairs) v0.store.state.bytes
+        bytes3 told = cut_acts.made told ((looks.still refl).dead ∙ alive) ∙ ap (λ (b : List ℕ). applied (cutting_parts after taken page link pairs) b) (same2 told)
 
-        pub located_err : (v3 : PagesView) (fault : PageFault) → (let r : Result Located PageFault = Err fault in Looks tells (E v2.store.shape) (is_failed r) v2 v3 × LookCause tells v2.store r)
-            → (let s : Result ℕ IndexFault = Err (as_index fault) in Inserts tells (E v0.store.shape) chain t key v0 v3 s)
-        located_err v3 fault looks' =
-            let r : Result Located PageFault = Err fault in
-            inserts_look_err chain tells (E v0.store.shape) t key Located v0 v2 v3 going2 fault (subst (λ (s : Shape). Looks tells (E s) (is_failed r) v2 v3) going2.shape looks'.0, looks'.1)
+        pub sound3 : IsTrue tells → IsSoundChain v2.store.state.bytes
+        sound3 told = (going3.made told alive).0.sound
 
-        module _ (v3 : PagesView) (looks2 : Looks tells (E v2.store.shape) false v2 v3) (hfront : Super) (hpage hlink : ℕ) (hpairs : List Pair)
-            (hloc : IsLocated v2.store.shape hfront hpage hlink hpairs) (hsaid : IsTrue tells → Locates v2.store.state.bytes key hfront hpage hlink hpairs) where
-          going3 : Going chain tells (E v0.store.shape) t key v0 v3
-          going3 = going_more chain tells (E v0.store.shape) t key v0 v2 v3 going2 (subst (λ (s : Shape). Looks tells (E s) false v2 v3) going2.shape looks2)
+        pub named3 : IsTrue tells → IsTable v2.store.state.bytes table root
+        named3 told = named_kept v2.store.state.bytes v0.store.state.bytes (sym (going3.made told alive).0.tables) table root (named told)
 
-          -- a top action that is not open stays so
-          pub closed3 : v0.top t ≡ None → v3.top t ≡ None
-          closed3 closed = ap (λ (f : ℕ → Option ℕ). f t) going3.logs.tops ∙ closed
+        pub absent3 : IsTrue tells → found (pairs_of_chain v2.store.state.bytes root) key ≡ None
+        absent3 told = ap (λ (ps : List Pair). found ps key) (going3.made told alive).1.pairs ∙ absent told
 
-          hslot : IsTrue tells → hfront.next_slot ≡ front.next_slot
-          hslot told = (hsaid told).slot_is ∙ (going2.made told alive).1.slots ∙ sym (said told).slot_is
-
-          hpage_is : IsTrue tells → hpage ≡ half_for v0.store.state.bytes page key
-          hpage_is told = (hsaid told).page_is ∙ ap (λ (b : List ℕ). page_of_key b key) (bytes2 told) ∙ (data2 told).3
-
-          hshort : IsTrue tells → length hpairs < 30
-          hshort told =
-              let d = data2 told in
-              let e : length hpairs ≡ length (page_pairs (applied (cutting_parts front page link pairs) v1.store.state.bytes) (half_for v0.store.state.bytes page key)) =
-              ap (λ (ps : List Pair). length ps) (hsaid told).pairs_are ∙ ap (λ (b : List ℕ). length (page_pairs b hpage)) (bytes2 told)
-              ∙ ap (λ (p : ℕ). length (page_pairs (applied (cutting_parts front page link pairs) v1.store.state.bytes) p)) (hpage_is told) in
-              omega (arith, e, d.4)
-
-          pub damaged_slot : hfront.next_slot ≢ front.next_slot → (let s : Result ℕ IndexFault = Err (index.Damaged 0) in Inserts tells (E v0.store.shape) chain t key v0 v3 s)
-          damaged_slot ne = inserts_refused chain tells (E v0.store.shape) t key v0 v3 going3 (index.Damaged 0) (refl, (alive, λ told. ne (hslot told))) (λ n e. absurd (cc))
-
-          pub damaged_page : 30 ≤ length hpairs → (let s : Result ℕ IndexFault = Err (index.Damaged hpage) in Inserts tells (E v0.store.shape) chain t key v0 v3 s)
-          damaged_page many = inserts_refused chain tells (E v0.store.shape) t key v0 v3 going3 (index.Damaged hpage) (refl, (alive, λ told. omega (arith, many, hshort told))) (λ n e. absurd (cc))
-
-          module _ (hroom : length hpairs < 30) (hsame : hfront.next_slot ≡ front.next_slot) where
-            data3 : IsTrue tells → Grows chain v0.store.state.bytes (applied (adding_parts half hfront hpage hlink hpairs key) v3.store.state.bytes)
-                × Gains chain key v0.store.state.bytes (applied (adding_parts half hfront hpage hlink hpairs key) v3.store.state.bytes)
-            data3 told =
-                let grown = going2.made told alive in
-                let long2 : length v2.store.state.bytes ≡ data_len v0.store.shape = grown.0.size ∙ long told in
-                let loc2 : IsLocated v0.store.shape hfront hpage hlink hpairs = subst (λ (s : Shape). IsLocated s hfront hpage hlink hpairs) going2.shape hloc in
-                let none2 : found (pairs_of_chain v2.store.state.bytes) key ≡ None = ap (λ (ps : List Pair). found ps key) grown.1.pairs ∙ absent told alive in
-                let hslot' : hfront.next_slot < slots_of v0.store.shape = omega (arith, hsame, slot) in
-                let d = adding_grows v0.store.shape v2.store.state.bytes half long2 half_is all few hfront hpage hlink hpairs key fits loc2 grown.0.sound (hsaid told) hslot' hroom none2 in
-                let more : next_page v2.store.state.bytes ≡ suc (next_page v0.store.state.bytes) = ap next_page (bytes2 told) ∙ (data2 told).2 in
-                let whole = grows_then key v0.store.state.bytes v2.store.state.bytes (applied (adding_parts half hfront hpage hlink hpairs key) v2.store.state.bytes) grown.0 grown.1 more d.0 d.1 d.2 in
-                subst (λ (s : State). Grows chain v0.store.state.bytes (applied (adding_parts half hfront hpage hlink hpairs key) s.bytes)
-                × Gains chain key v0.store.state.bytes (applied (adding_parts half hfront hpage hlink hpairs key) s.bytes)) (sym ((looks2.still refl).state told)) whole
-
-            may3 : IsTrue tells → IsAlive v0.store → MayBecome chain key v0.store.state.bytes (applied (adding_parts half hfront hpage hlink hpairs key) v3.store.state.bytes)
-            may3 told living = let d = data3 told in (d.0, inr d.1)
-
-            cut_room : FitAll v0.store t (cutting_pages front page)
-            cut_room = fits_same v0.store v1.store t (cutting_pages front page) looks.shape logged1 cut_acts.cause.1
-
-            half_pages : IsTrue tells → adding_pages half hfront hpage ≡ adding_pages half front (half_for v0.store.state.bytes (page_of_key v0.store.state.bytes key) key)
-            half_pages told =
-                ap (λ (s : ℕ). (half + s / 8) ∷ hpage ∷ 0 ∷ []) (hslot told)
-                ∙ ap (λ (p : ℕ). adding_pages half front p) (hpage_is told ∙ ap (λ (p : ℕ). half_for v0.store.state.bytes p key) (said told).page_is)
-
-            pub halved_done : (v4 : PagesView) → (let r : Result (Unit {0}) PageFault = Ok tt in
-                Acts tells (E v3.store.shape) t (adding_pages (index_pages_of v3.store.shape) hfront hpage) (adding_parts (index_pages_of v3.store.shape) hfront hpage hlink hpairs key) v3 v4 r)
-                → (let s : Result ℕ IndexFault = Ok front.next_slot in Inserts tells (E v0.store.shape) chain t key v0 v4 s)
-            halved_done v4 acts'' =
-                let r : Result (Unit {0}) PageFault = Ok tt in
-                let acts = added_acts v3 v4 hfront hpage hlink hpairs r going3.shape acts'' in
-                inserts_done chain tells (E v0.store.shape) t key v0 v3 v4 going3 (adding_pages half hfront hpage) (adding_parts half hfront hpage hlink hpairs key) may3 front.next_slot acts
-                (λ told living. let d = data3 told in ((said told).slot_is, d.0, d.1)) (
-                  alive,
-                  slot,
-                  λ told. both_cause v0.store t key half (long told) all front page link pairs (said told) slot full next cut_room
-                      (subst (λ (ps : List ℕ). FitAll v0.store t ps) (half_pages told) (fits_same v0.store v3.store t (adding_pages half hfront hpage) going3.shape (going3.logs.ranges t) acts.cause.1)),
+        module _ (hfront : Super) (hpage hlink : ℕ) (hpairs : List Pair) (front_is : hfront ≡ after) (page_is : hpage ≡ by_half pairs key page taken) (link_is : hlink ≡ by_half pairs key taken link)
+            (pairs_are : hpairs ≡ by_half pairs key (take 15 pairs) (drop 15 pairs)) where
+          half_read : IsLocated v0.store.shape after hpage hlink hpairs × (length hpairs ≡ 15)
+          half_read = elim (leb_tells (suc key) (key_at pairs 15)) [
+            | inl h ↦
+                let b : nat_lt key (key_at pairs 15) ≡ true = h.0 in
+                let at : hpage ≡ page = page_is ∙ (rw b refl) in
+                let to : hlink ≡ taken = link_is ∙ (rw b refl) in
+                let of : hpairs ≡ take 15 pairs = pairs_are ∙ (rw b refl) in
+                let many : length hpairs ≡ 15 = ap (λ (ps : List Pair). length ps) of ∙ length-take-le 15 pairs (omega (arith, full)) in (
+                  record {
+                    front_is = after_is;
+                    some = omega (arith, at, loc.some);
+                    inside = omega (arith, at, loc.inside);
+                    link_inside = omega (arith, to, taken_in.1);
+                    most = omega (arith, many);
+                    small = subst (λ (ps : List Pair). AreSmall ps) (sym of) (small_take 15 pairs loc.small).0;
+                  },
+                  many,
                 )
+            | inr h ↦
+                let b : nat_lt key (key_at pairs 15) ≡ false = h.0 in
+                let at : hpage ≡ taken = page_is ∙ (rw b refl) in
+                let to : hlink ≡ link = link_is ∙ (rw b refl) in
+                let of : hpairs ≡ drop 15 pairs = pairs_are ∙ (rw b refl) in
+                let many : length hpairs ≡ 15 = ap (λ (ps : List Pair). length ps) of ∙ (let e : length (drop 15 pairs) ≡ 15 = omega (arith, length-drop 15 pairs, full) in e) in (
+                  record {
+                    front_is = after_is;
+                    some = omega (arith, at, taken_in.0);
+                    inside = omega (arith, at, taken_in.1);
+                    link_inside = omega (arith, to, loc.link_inside);
+                    most = omega (arith, many);
+                    small = subst (λ (ps : List Pair). AreSmall ps) (sym of) (small_take 15 pairs loc.small).1;
+                  },
+                  many,
+                )
+          ]
 
-            pub halved_err : (v4 : PagesView) (fault : PageFault) → (let r : Result (Unit {0}) PageFault = Err fault in
-                Acts tells (E v3.store.shape) t (adding_pages (index_pages_of v3.store.shape) hfront hpage) (adding_parts (index_pages_of v3.store.shape) hfront hpage hlink hpairs key) v3 v4 r)
-                → (let s : Result ℕ IndexFault = Err (as_index fault) in Inserts tells (E v0.store.shape) chain t key v0 v4 s)
-            halved_err v4 fault acts'' =
-                let r : Result (Unit {0}) PageFault = Err fault in
-                let acts = added_acts v3 v4 hfront hpage hlink hpairs r going3.shape acts'' in
-                inserts_act_err chain tells (E v0.store.shape) t key v0 v3 v4 going3 (adding_pages half hfront hpage) (adding_parts half hfront hpage hlink hpairs key) may3 alive
-                (λ g h n lacks. let lacks' = lacking_same v0.store v3.store t (adding_pages half hfront hpage) g h n going3.shape (going3.logs.ranges t) lacks in (
-                  alive,
-                  (adding_pages half hfront hpage, omega arith, lacks'),
-                  λ told. second_lacks v0.store t key half (long told) all front page link pairs (said told) slot full next cut_room g h n
-                      (subst (λ (ps : List ℕ). IsFirstLacking v0.store t ps g h n) (half_pages told) lacks'),
-                ))
-                fault acts
+          pub located3 : IsLocated v2.store.shape hfront hpage hlink hpairs
+          located3 = subst (λ (s : Shape). IsLocated s hfront hpage hlink hpairs) (sym going3.shape) (subst (λ (f : Super). IsLocated v0.store.shape f hpage hlink hpairs) (sym front_is) half_read.0)
+
+          pub room3 : length hpairs < 30
+          room3 = omega (arith, half_read.1)
+
+          pub slot3 : hfront.free_slots ≡ 0 → hfront.next_slot < slots_of v2.store.shape
+          slot3 none =
+              let less : front.next_slot < slots_of v0.store.shape = slot (sym after_slots.1 ∙ ap (λ (f : Super). f.free_slots) (sym front_is) ∙ none) in
+              omega (arith, less, after_slots.0, ap (λ (f : Super). f.next_slot) front_is, ap slots_of going3.shape)
+
+          pub said3 : IsTrue tells → Locates v2.store.state.bytes root key hfront hpage hlink hpairs
+          said3 told =
+              subst (λ (f : Super). Locates v2.store.state.bytes root key f hpage hlink hpairs) (sym front_is)
+              (subst (λ (b : List ℕ). Locates b root key after hpage hlink hpairs) (sym (bytes3 told))
+              (half_located v0.store.shape v0.store.state.bytes half (long told) half_is all few root table front page link pairs key fits loc (sound told) (named told) (said told) after taken (takes told) full (used_left told)
+              hpage hlink hpairs page_is link_is pairs_are))
+
+          after3 : IsTrue tells → (next_slot v2.store.state.bytes ≡ next_slot v0.store.state.bytes) × (hfront.next_page ≤ next_page v0.store.state.bytes + 9)
+          after3 told =
+              let a = cut_after v0.store.shape v0.store.state.bytes half (long told) half_is all few root table front page link pairs key fits loc (sound told) (named told) (said told) after taken (takes told) full (used_left told) in
+              let next : next_page v2.store.state.bytes ≡ next_page v0.store.state.bytes + (1 - free_pages v0.store.state.bytes) = ap (λ (b : List ℕ). next_page b) (bytes3 told) ∙ a.pages_next in
+              (ap (λ (b : List ℕ). next_slot b) (bytes3 told) ∙ a.slots_next, omega (arith, next, (said3 told).front_says.next_page))
+
+          cut_fits : IsTrue tells → ActionFits v0.store t (index_pages_of v0.store.shape - used_pages v0.store.state.bytes) (cutting v0.store.state.bytes page)
+          cut_fits told = (one_left told, subst (λ (ps : List ℕ). FitAll v0.store t ps) (cut_pages_are told) (fits_same v0.store v1.store t going2.shape (going2.logs.ranges t) (cutting_pages taken page) cut_acts.cause.1))
+
+          decides3 : IsTrue tells → DecidesAll v0.store t (index_pages_of v0.store.shape - used_pages v0.store.state.bytes) (chain_actions v0.store.state.bytes root key)
+              (index_pages_of v0.store.shape - used_pages v2.store.state.bytes) (chain_actions v2.store.state.bytes root key)
+          decides3 told =
+              let used = cut_used v0.store.shape v0.store.state.bytes half (long told) half_is all few root table front page link pairs key fits loc (sound told) (named told) (said told) after taken (takes told) full (used_left told) in
+              let rest = half_left v0.store.shape v0.store.state.bytes half (long told) half_is all few root table front page link pairs key fits loc (sound told) (named told) (said told) after taken (takes told) full (used_left told) in
+              let less : index_pages_of v0.store.shape - used_pages v0.store.state.bytes - 1 ≡ index_pages_of v0.store.shape - used_pages (applied (cutting_parts after taken page link pairs) v0.store.state.bytes) = omega (arith, used, used_left told) in
+              let first = one_done v0.store t (index_pages_of v0.store.shape - used_pages v0.store.state.bytes) (chain_actions v0.store.state.bytes root key) (index_pages_of v0.store.shape - used_pages v0.store.state.bytes)
+              (cutting v0.store.state.bytes page) (adding v0.store.state.bytes (by_half (page_pairs v0.store.state.bytes page) key page (page_due v0.store.state.bytes 0)) ∷ []) (due_two told) (cut_fits told) in
+              subst (λ (b : List ℕ). DecidesAll v0.store t (index_pages_of v0.store.shape - used_pages v0.store.state.bytes) (chain_actions v0.store.state.bytes root key) (index_pages_of v0.store.shape - used_pages b) (chain_actions b root key)) (sym (bytes3 told))
+              (subst (λ (steps : List Action). DecidesAll v0.store t (index_pages_of v0.store.shape - used_pages v0.store.state.bytes) (chain_actions v0.store.state.bytes root key)
+              (index_pages_of v0.store.shape - used_pages (applied (cutting_parts after taken page link pairs) v0.store.state.bytes)) steps) (sym rest)
+              (subst (λ (n : ℕ). DecidesAll v0.store t (index_pages_of v0.store.shape - used_pages v0.store.state.bytes) (chain_actions v0.store.state.bytes root key) n
+              (adding v0.store.state.bytes (by_half (page_pairs v0.store.state.bytes page) key page (page_due v0.store.state.bytes 0)) ∷ [])) less first))
+
+          -- what is left of the insertion decides
+          pub cut_then : (v3 : PagesView) (r : Result ℕ IndexFault) → Inserts tells (E v2.store.shape) (chain_within hfront.next_page) t root table key v2 v3 r → Inserts tells (E v0.store.shape) chain t root table key v0 v3 r
+          cut_then v3 r rest =
+              inserts_then tells E t root table key v0 v2 v3 chain (chain_within hfront.next_page) going3 alive
+              (λ told. let a = after3 told in let d = going3.made told alive in joins_within chain hfront.next_page chain_actions root table key v0.store.state.bytes v2.store.state.bytes a.1 a.0 d.0 d.1)
+              decides3 r rest
+
+-- what was only looked at before
+module _ (tells : Bool) (E : Shape → List ℕ → List ℕ → Type 0) (t root table key : ℕ) (v0 v1 : PagesView) (sound : IsTrue tells → IsAlive v0.store → IsSoundChain v0.store.state.bytes)
+    (looks : Looks tells (E v0.store.shape) false v0 v1) (alive : IsAlive v0.store) where
+  looked : Going chain tells (E v0.store.shape) t root table key v0 v1
+  looked = going_looks chain tells (E v0.store.shape) t root table key v0 v1 sound looks
+
+  same_yet : IsTrue tells → v1.store.state.bytes ≡ v0.store.state.bytes
+  same_yet told = ap (λ (s : State). s.bytes) ((looks.still refl).state told)
+
+  -- what was known of the data still is
+  pub alive_yet : IsAlive v1.store
+  alive_yet = (looks.still refl).dead ∙ alive
+
+  pub yet : (P : List ℕ → Type 0) → (IsTrue tells → IsAlive v0.store → P v0.store.state.bytes) → IsTrue tells → P v1.store.state.bytes
+  yet P before told = subst (λ (b : List ℕ). P b) (sym (same_yet told)) (before told alive)
+
+  all_due : IsTrue tells → DecidesAll v0.store t (index_pages_of v0.store.shape - used_pages v0.store.state.bytes) (chain_actions v0.store.state.bytes root key)
+      (index_pages_of v0.store.shape - used_pages v1.store.state.bytes) (chain_actions v1.store.state.bytes root key)
+  all_due told =
+      subst (λ (b : List ℕ). DecidesAll v0.store t (index_pages_of v0.store.shape - used_pages v0.store.state.bytes) (chain_actions v0.store.state.bytes root key) (index_pages_of v0.store.shape - used_pages b) (chain_actions b root key)) (sym (same_yet told))
+      (all_left v0.store t (index_pages_of v0.store.shape - used_pages v0.store.state.bytes) (chain_actions v0.store.state.bytes root key))
+
+  -- the rest of the insertion, with a cut and without one
+  pub looked_cut : (v2 : PagesView) (r : Result ℕ IndexFault) → Inserts tells (E v1.store.shape) chain t root table key v1 v2 r → Inserts tells (E v0.store.shape) chain t root table key v0 v2 r
+  looked_cut v2 r rest = inserts_then tells E t root table key v0 v1 v2 chain chain looked alive (λ told. joins_same chain root table key v0.store.state.bytes v1.store.state.bytes (same_yet told)) all_due r rest
+
+  pub looked_here : (most : ℕ) → (IsTrue tells → most ≡ next_page v0.store.state.bytes) → (v2 : PagesView) (r : Result ℕ IndexFault)
+      → Inserts tells (E v1.store.shape) (chain_within most) t root table key v1 v2 r → Inserts tells (E v0.store.shape) chain t root table key v0 v2 r
+  looked_here most most_is v2 r rest =
+      inserts_then tells E t root table key v0 v1 v2 chain (chain_within most) looked alive
+      (λ told. let d = looked.made told alive in joins_within chain most chain_actions root table key v0.store.state.bytes v1.store.state.bytes (omega (arith, most_is told)) (ap (λ (b : List ℕ). next_slot b) (same_yet told)) d.0 d.1)
+      all_due r rest

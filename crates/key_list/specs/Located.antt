@@ -1,9 +1,9 @@
 -- The page of a key as an insertion finds it, and the parts that it writes.
-use Rattle.std.specs.Prelude.{ℕ, ◌≡◌, ◌+◌, ◌<◌, ◌≤◌, List, [], ◌∷◌, length, take, drop}
+use Rattle.std.specs.Prelude.{ℕ, ◌≡◌, ◌<◌, ◌≤◌, List, [], ◌∷◌, length, take, drop}
 use Rattle.array_shape.specs.declared.shape.Shape.{Shape}
 use Rattle.array_shape.specs.Logged.{Part}
-use Rattle.record_slots.specs.Places.{next_slot, next_page}
-use Rattle.record_slots.specs.Super.{count_bytes}
+use Rattle.record_slots.specs.Places.{page_bytes}
+use Rattle.record_slots.specs.Super.{SaysSuper, part_bytes}
 use Rattle.record_slots.specs.declared.super_page.Super.{Super}
 use Rattle.page_store.specs.Index.{index_pages_of}
 use Rattle.page_store.specs.Pairs.{Pair}
@@ -23,19 +23,18 @@ pub record IsLocated (shape : Shape) (front : Super) (page link : ℕ) (pairs : 
   pub small : AreSmall pairs
 
 -- it is what the data says
-pub record Locates (bytes : List ℕ) (key : ℕ) (front : Super) (page link : ℕ) (pairs : List Pair) : Type 0 where
-  pub slot_is : front.next_slot ≡ next_slot bytes
-  pub next_is : front.next_page ≡ next_page bytes
-  pub page_is : page ≡ page_of_key bytes key
+pub record Locates (bytes : List ℕ) (root key : ℕ) (front : Super) (page link : ℕ) (pairs : List Pair) : Type 0 where
+  pub front_says : SaysSuper (page_bytes bytes 0) front
+  pub page_is : page ≡ page_of_key bytes root key
   pub link_is : link ≡ link_of bytes page
   pub pairs_are : pairs ≡ page_pairs bytes page
 
--- a full page is cut: the page with the lower half, linked to the next page; that with the upper half; the counts
-abbrev pub cutting_pages : Super → ℕ → List ℕ
-cutting_pages front page = page ∷ front.next_page ∷ 0 ∷ []
+-- a full page is cut: the page with the lower half, linked to the page that is taken; that with the upper half; the super page as it is then
+abbrev pub cutting_pages : ℕ → ℕ → List ℕ
+cutting_pages next page = page ∷ next ∷ 0 ∷ []
 
-abbrev pub cutting_parts : Super → ℕ → ℕ → List Pair → List Part
-cutting_parts front page link pairs =
-    (address page 0, written_page 0 front.next_page (take 15 pairs))
-    ∷ (address front.next_page 0, written_page 0 link (drop 15 pairs))
-    ∷ (address 0 8, count_bytes front.next_slot (front.next_page + 1)) ∷ []
+abbrev pub cutting_parts : Super → ℕ → ℕ → ℕ → List Pair → List Part
+cutting_parts after next page link pairs =
+    (address page 0, written_page 0 next (take 15 pairs))
+    ∷ (address next 0, written_page 0 link (drop 15 pairs))
+    ∷ (address 0 8, part_bytes after) ∷ []

@@ -1,37 +1,90 @@
 // The test of the whole chain.
 ghost use Rattle.std.specs.Prelude.{◌≡◌, ◌<◌, ◌≤◌, ◌↔◌, ◌^◌, IfOk, IfSome, IfNone, IsErrOf, IsTrue};
 ghost use Rattle.eaw_face.specs.Causes.{IsAlive};
-ghost use Rattle.record_slots.specs.Places.{next_slot};
+ghost use Rattle.array_shape.specs.Places.{page_count};
+ghost use Rattle.record_slots.specs.Places.{next_slot, page_bytes, tables_of, IsSuper};
+ghost use Rattle.record_slots.specs.Super.{SaysSuper};
 ghost use Rattle.page_store.specs.Index.{slots_of, index_pages_of};
 ghost use Rattle.page_store.specs.Looks.{Looks, CheckCause, is_check_failed};
 ghost use Rattle.page_store.specs.Shown.{pages_of};
+ghost use Rattle.index_pages.specs.Fetched.{IsFront};
 ghost use Rattle.index_pages.specs.Page.{count_said, pairs_said};
 ghost use Rattle.key_list.specs.Linked.{SaysLeaf};
-ghost use Rattle.index_pages.specs.Slots.{IsVerdict};
-ghost use Rattle.key_list.specs.Chain.{behind, IsChainHead, pair_check, pairs_check};
+ghost use Rattle.index_pages.specs.Slots.{IsVerdict, tables_check};
+ghost use Rattle.key_list.specs.Chain.{behind, IsChainHead, pair_check, pairs_check, chain_check};
 ghost use Rattle.key_list.specs.Checked.{low_of};
 ghost use Rattle.key_list.specs.Index.{chain};
 
 use crate::page::read_leaf_head;
 use crate::place::FORM;
 use eaw_face::EawStore;
-use index_pages::{Head, PAGE_LEN, check_fault, check_slot, fetch_page, fetch_super, read_pair};
-use page_store::{CheckFault, PageFault, Pages};
+use index_pages::{
+    Head, PAGE_LEN, check_fault, check_lists, check_slot, check_super, fetch_page, read_pair,
+};
+use page_store::{CheckFault, Pages};
+use record_slots::{Super, TABLES_MAX, table_root};
 
-const FIRST_PAGE: u32 = 1;
-
-// Tests the super page, and then the pages of the chain one after another.
+// Tests the super page, the lists of what is free, and then the chain of each table.
 pub fn check<S: EawStore>(pages: &mut Pages<S>) -> Result<(), CheckFault>
     ensures looks { Looks S.tells (S.opens (S.view pages.old.store).shape) (is_check_failed result)
         (pages_of (S.view pages.old.store) pages.old) (pages_of (S.view pages.new.store) pages.new) }
     ensures cause { CheckCause S.tells chain (S.view pages.old.store) result }
     ensures dead { IsErrOf result CheckFault.Dead → pages.new ≡ pages.old }
 {
-    let front = match fetch_super(pages, FORM) {
+    let front = match check_super(pages, FORM) {
         Ok(front) => front,
         Err(fault) => return Err(check_fault(fault)),
     };
-    let mut page = FIRST_PAGE;
+    match check_lists(pages, &front) {
+        Ok(()) => {}
+        Err(fault) => return Err(fault),
+    }
+    check_tables(pages, &front)
+}
+
+// Tests the chain of each table by its number.
+fn check_tables<S: EawStore>(pages: &mut Pages<S>, front: &Super) -> Result<(), CheckFault>
+    requires alive { IsAlive (S.view pages.old.store) }
+    requires front { IsFront (S.view pages.old.store).shape front.now }
+    requires sound { IsTrue S.tells → IsSuper 0 (S.view pages.old.store).state.bytes }
+    ensures looks { Looks S.tells (S.opens (S.view pages.old.store).shape) (is_check_failed result)
+        (pages_of (S.view pages.old.store) pages.old) (pages_of (S.view pages.new.store) pages.new) }
+    ensures cause { IsTrue S.tells → SaysSuper (page_bytes (S.view pages.old.store).state.bytes 0) front.now
+        → IsVerdict (tables_check (chain_check (S.view pages.old.store).state.bytes) 0 (tables_of (S.view pages.old.store).state.bytes)) result }
+    ensures dead { IsErrOf result CheckFault.Dead → ⊥ }
+{
+    for table in 0..TABLES_MAX as u8 {
+        let Some(root) = table_root(front, table) else {
+            return Ok(());
+        };
+        if root >= front.next_page {
+            return Err(CheckFault::Damaged { page: 0 });
+        }
+        match check_table(pages, root, table, front) {
+            Ok(()) => {}
+            Err(fault) => return Err(fault),
+        }
+    }
+    Ok(())
+}
+
+// Tests the pages of the chain of a table one after another.
+fn check_table<S: EawStore>(
+    pages: &mut Pages<S>,
+    root: u32,
+    table: u8,
+    front: &Super,
+) -> Result<(), CheckFault>
+    requires alive { IsAlive (S.view pages.old.store) }
+    requires root { root < page_count (S.view pages.old.store).shape }
+    requires front { IsFront (S.view pages.old.store).shape front.now }
+    ensures looks { Looks S.tells (S.opens (S.view pages.old.store).shape) (is_check_failed result)
+        (pages_of (S.view pages.old.store) pages.old) (pages_of (S.view pages.new.store) pages.new) }
+    ensures cause { IsTrue S.tells → SaysSuper (page_bytes (S.view pages.old.store).state.bytes 0) front.now
+        → IsVerdict (chain_check (S.view pages.old.store).state.bytes root table) result }
+    ensures dead { IsErrOf result CheckFault.Dead → ⊥ }
+{
+    let mut page = root;
     let mut last = None;
     let mut bytes = [0; PAGE_LEN];
     for _step in 0..front.next_page {
@@ -39,10 +92,18 @@ pub fn check<S: EawStore>(pages: &mut Pages<S>) -> Result<(), CheckFault>
             Ok(()) => {}
             Err(fault) => return Err(check_fault(fault)),
         }
-        let Some(head) = chain_head(&bytes, page) else {
+        let Some(head) = chain_head(&bytes, last) else {
             return Err(CheckFault::Damaged { page });
         };
-        last = match check_pairs(pages, page, &bytes, head.count, last, front.next_slot) {
+        last = match check_pairs(
+            pages,
+            table,
+            page,
+            &bytes,
+            head.count,
+            last,
+            front.next_slot,
+        ) {
             Ok(last) => last,
             Err(fault) => return Err(fault),
         };
@@ -60,17 +121,17 @@ pub fn check<S: EawStore>(pages: &mut Pages<S>) -> Result<(), CheckFault>
     Err(CheckFault::Damaged { page })
 }
 
-// The head of a page of the chain. Only the first page may be without pairs, and then it is the last one too.
-fn chain_head(bytes: &[u8; PAGE_LEN], page: u32) -> Option<Head>
+// The head of a page of the chain after a last key. It may be without pairs only if there is no such key, and then it is the last one too.
+fn chain_head(bytes: &[u8; PAGE_LEN], last: Option<u64>) -> Option<Head>
     ensures says { IfSome result (SaysLeaf bytes.now) }
-    ensures head { IfSome result (λ head. IsChainHead page bytes.now) }
-    ensures other { IfNone result (¬ IsChainHead page bytes.now) }
+    ensures head { IfSome result (λ head. IsChainHead (low_of last) bytes.now) }
+    ensures other { IfNone result (¬ IsChainHead (low_of last) bytes.now) }
 {
     let head = read_leaf_head(bytes)?;
     if head.count > 0 {
         return Some(head);
     }
-    if page != FIRST_PAGE {
+    if last.is_some() {
         return None;
     }
     if head.link != 0 {
@@ -82,6 +143,7 @@ fn chain_head(bytes: &[u8; PAGE_LEN], page: u32) -> Option<Head>
 // Tests the pairs of a page after a last key, and returns the new last key.
 fn check_pairs<S: EawStore>(
     pages: &mut Pages<S>,
+    table: u8,
     page: u32,
     bytes: &[u8; PAGE_LEN],
     count: u16,
@@ -97,14 +159,14 @@ fn check_pairs<S: EawStore>(
         (pages_of (S.view pages.old.store) pages.old) (pages_of (S.view pages.new.store) pages.new) }
     ensures low { IfOk result (λ last. low_of last ≤ 2 ^ 64) }
     ensures cause { IsTrue S.tells → slots ≡ next_slot (S.view pages.old.store).state.bytes
-        → IsVerdict (pairs_check (S.view pages.old.store).state.bytes page (low_of last) (pairs_said bytes.now)) result }
+        → IsVerdict (pairs_check (S.view pages.old.store).state.bytes table page (low_of last) (pairs_said bytes.now)) result }
     ensures behind { IfOk result (λ key. low_of key ≡ behind (low_of last) (pairs_said bytes.now)) }
     ensures dead { IsErrOf result CheckFault.Dead → ⊥ }
 {
     let mut last = last;
     for i in 0..count {
         let (key, slot) = read_pair(bytes, i);
-        match check_pair(pages, page, (key, slot), last, slots) {
+        match check_pair(pages, table, page, (key, slot), last, slots) {
             Ok(()) => {}
             Err(fault) => return Err(fault),
         }
@@ -116,6 +178,7 @@ fn check_pairs<S: EawStore>(
 // Tests a pair of a page after a last key: its key, its slot, and what that slot says.
 fn check_pair<S: EawStore>(
     pages: &mut Pages<S>,
+    table: u8,
     page: u32,
     pair: (u64, u64),
     last: Option<u64>,
@@ -126,13 +189,13 @@ fn check_pair<S: EawStore>(
     ensures looks { Looks S.tells (S.opens (S.view pages.old.store).shape) (is_check_failed result)
         (pages_of (S.view pages.old.store) pages.old) (pages_of (S.view pages.new.store) pages.new) }
     ensures cause { IsTrue S.tells → slots ≡ next_slot (S.view pages.old.store).state.bytes
-        → IsVerdict (pair_check (S.view pages.old.store).state.bytes page (low_of last) pair) result }
+        → IsVerdict (pair_check (S.view pages.old.store).state.bytes table page (low_of last) pair) result }
     ensures dead { IsErrOf result CheckFault.Dead → ⊥ }
 {
     if !is_above(last, pair.0) {
         return Err(CheckFault::Damaged { page });
     }
-    check_slot(pages, page, pair, slots)
+    check_slot(pages, table, page, pair, slots)
 }
 
 // Whether the key may follow the last one.

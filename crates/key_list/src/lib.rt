@@ -1,4 +1,4 @@
-//! `KeyList`: an index that is a chain of pages in the order of their keys, beginning in page 1.
+//! `KeyList`: indexes that are chains of pages in the order of their keys, one for each table.
 //!
 //! Read first `chain.rt` and `specs/Chain`, in which a sound chain and its first damaged page are one check. Look-ups follow the links;
 //! an insertion splits a full page, in a nested top action of its own.

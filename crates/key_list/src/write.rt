@@ -1,67 +1,112 @@
 // The nested top actions of an insertion.
-ghost use Rattle.std.specs.Prelude.{◌≡◌, ◌<◌, ℕ, None, IsErrOf, length};
+ghost use Rattle.std.specs.Prelude.{◌≡◌, ◌<◌, ℕ, None, IsErrOf, length, take, drop};
 ghost use Rattle.eaw_face.specs.Causes.{IsAlive};
 ghost use Rattle.page_store.specs.Index.{slots_of, index_pages_of};
 ghost use Rattle.page_store.specs.Shown.{pages_of, top_in};
 ghost use Rattle.index_pages.specs.Acts.{Acts};
 ghost use Rattle.index_pages.specs.Adding.{adding_pages, adding_parts};
+ghost use Rattle.key_list.specs.Index.{by_half};
 ghost use Rattle.key_list.specs.Located.{IsLocated, cutting_pages, cutting_parts};
 
 use crate::place::Located;
 use eaw_face::EawStore;
-use index_pages::{HALF, LeafPage, PAGE_LEN, act_all, front_part, whole_page, write_page};
+use index_pages::{
+    Claim, HALF, LeafPage, PAGE_LEN, act_all, copy_of, front_part, middle_of, whole_page,
+    write_page,
+};
 use page_store::{PageFault, Pages};
-use record_slots::{COUNTS_LEN, write_super_counts};
+use record_slots::{PART_LEN, write_super_part};
 
-// Adds a pair of the key and the next slot to its page.
+// Adds a pair of the key and the slot that is taken to its page.
 pub fn add_pair<S: EawStore>(
     pages: &mut Pages<S>,
     tid: u8,
+    table: u8,
     key: u64,
+    taken: &Claim,
     at: Located,
 ) -> Result<(), PageFault>
     requires tid { tid < (S.view pages.old.store).shape.numbers }
     requires closed { IsAlive (S.view pages.old.store) → top_in pages.old.marks tid ≡ None }
+    requires table { table < 8 }
     requires located { IsLocated (S.view pages.old.store).shape at.front at.page at.link at.pairs.items }
     requires room { length at.pairs.items < 30 }
-    requires slot { at.front.next_slot < slots_of (S.view pages.old.store).shape }
-    ensures acts { Acts S.tells (S.opens (S.view pages.old.store).shape) tid (adding_pages (index_pages_of (S.view pages.old.store).shape) at.front at.page)
-        (adding_parts (index_pages_of (S.view pages.old.store).shape) at.front at.page at.link at.pairs.items key)
+    requires slot { taken.now.number < slots_of (S.view pages.old.store).shape }
+    ensures acts { Acts S.tells (S.opens (S.view pages.old.store).shape) tid (adding_pages (index_pages_of (S.view pages.old.store).shape) taken.now.number at.page)
+        (adding_parts (index_pages_of (S.view pages.old.store).shape) taken.now.front taken.now.number at.page at.link at.pairs.items table key)
         (pages_of (S.view pages.old.store) pages.old) (pages_of (S.view pages.new.store) pages.new) result }
     ensures dead { IsErrOf result PageFault.Dead → pages.new ≡ pages.old }
 {
     let Located {
-        front,
+        front: _,
         page,
         link,
         pairs,
     } = at;
-    index_pages::add_pair(pages, tid, key, &front, LeafPage { page, link, pairs })
+    index_pages::add_pair(
+        pages,
+        tid,
+        table,
+        key,
+        taken,
+        LeafPage { page, link, pairs },
+    )
 }
 
-// Cuts a full page: its upper half goes to the next page.
-pub fn cut_page<S: EawStore>(pages: &mut Pages<S>, tid: u8, at: &Located) -> Result<(), PageFault>
+// Cuts a full page: its upper half goes to the page that is taken.
+pub fn cut_page<S: EawStore>(
+    pages: &mut Pages<S>,
+    tid: u8,
+    taken: &Claim,
+    at: &Located,
+) -> Result<(), PageFault>
     requires tid { tid < (S.view pages.old.store).shape.numbers }
     requires closed { IsAlive (S.view pages.old.store) → top_in pages.old.marks tid ≡ None }
     requires located { IsLocated (S.view pages.old.store).shape at.now.front at.now.page at.now.link at.now.pairs.items }
     requires full { length at.now.pairs.items ≡ 30 }
-    requires next { at.now.front.next_page < index_pages_of (S.view pages.old.store).shape }
-    ensures acts { Acts S.tells (S.opens (S.view pages.old.store).shape) tid (cutting_pages at.now.front at.now.page)
-        (cutting_parts at.now.front at.now.page at.now.link at.now.pairs.items)
+    requires next { taken.now.number < index_pages_of (S.view pages.old.store).shape }
+    ensures acts { Acts S.tells (S.opens (S.view pages.old.store).shape) tid (cutting_pages taken.now.number at.now.page)
+        (cutting_parts taken.now.front taken.now.number at.now.page at.now.link at.now.pairs.items)
         (pages_of (S.view pages.old.store) pages.old) (pages_of (S.view pages.new.store) pages.new) result }
     ensures dead { IsErrOf result PageFault.Dead → pages.new ≡ pages.old }
 {
     let pairs = at.pairs.as_slice();
     let mut lower = [0; PAGE_LEN];
-    write_page(0, at.front.next_page, &pairs[..HALF], &mut lower);
+    write_page(0, taken.number, &pairs[..HALF], &mut lower);
     let mut upper = [0; PAGE_LEN];
     write_page(0, at.link, &pairs[HALF..], &mut upper);
-    let mut counts = [0; COUNTS_LEN];
-    write_super_counts(at.front.next_slot, at.front.next_page + 1, &mut counts);
+    let mut part = [0; PART_LEN];
+    write_super_part(&taken.front, &mut part);
     let parts = [
         whole_page(at.page, &lower),
-        whole_page(at.front.next_page, &upper),
-        front_part(&counts),
+        whole_page(taken.number, &upper),
+        front_part(&part),
     ];
     act_all(pages, tid, &parts)
+}
+
+// The half of a full page whose range has the key, once the page is cut.
+pub fn half_of(at: &Located, taken: &Claim, key: u64) -> Located
+    requires { length at.now.pairs.items ≡ 30 }
+    ensures front { result.front ≡ taken.now.front }
+    ensures page { result.page ≡ by_half at.now.pairs.items key at.now.page taken.now.number }
+    ensures link { result.link ≡ by_half at.now.pairs.items key taken.now.number at.now.link }
+    ensures pairs { result.pairs.items ≡ by_half at.now.pairs.items key (take 15 at.now.pairs.items) (drop 15 at.now.pairs.items) }
+{
+    let pairs = at.pairs.as_slice();
+    if key < middle_of(&at.pairs) {
+        Located {
+            front: taken.front,
+            page: at.page,
+            link: taken.number,
+            pairs: copy_of(&pairs[..HALF]),
+        }
+    } else {
+        Located {
+            front: taken.front,
+            page: taken.number,
+            link: at.link,
+            pairs: copy_of(&pairs[HALF..]),
+        }
+    }
 }

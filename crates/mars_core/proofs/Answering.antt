@@ -215,8 +215,8 @@ module _ (tells : Bool) (Opens : Shape → List ℕ → List ℕ → Type 0) (in
     right = tied.sound.right t
 
     named : (u : ℕ) → AreNamed s.index (log_of (calls_of s u)).writes
-    named u = named_is s.index (index.pairs p.store.state.bytes) (log_of (calls_of s u)).writes (λ key. ap (λ (x : Index). x.slot_of key) shows.indexed)
-        (subst (λ (ws : List Write). shown.AreNamed (index.pairs p.store.state.bytes) ws) (ap (λ (l : Log). l.writes) (tied.mirrors.logs u)) (tells_writes.named told alive u))
+    named u = named_is s.index (index.pairs p.store.state.bytes 1) (log_of (calls_of s u)).writes (λ key. ap (λ (x : Index). x.slot_of key) shows.indexed)
+        (subst (λ (ws : List Write). shown.AreNamed (index.pairs p.store.state.bytes 1) ws) (ap (λ (l : Log). l.writes) (tied.mirrors.logs u)) (tells_writes.named told alive u))
 
     -- the data after the call is within the array
     module _ (result : Result Reply TableFault) (works : Did tells (Opens p.store.shape) index t call p q result) where

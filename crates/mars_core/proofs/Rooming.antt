@@ -40,12 +40,12 @@ named_is index pairs (write ∷ writes) same named = (subst (λ (o : Option ℕ)
 
 -- A state s over what pages show, whose index is that of the data.
 module _ (index : below.Index) (p : PagesView) (s : State) (indexed : s.index ≡ index_of index p.store.state.bytes) (mirrors : Mirrors (state_of index p) s)
-    (held : (t g : ℕ) → shown.held_on p t g ≡ length (filter (shown.is_write_on p.store.shape (index.pairs p.store.state.bytes) g) ((state_of index p).logs t).writes)) where
+    (held : (t g : ℕ) → shown.held_on p t g ≡ length (filter (shown.is_write_on p.store.shape (index.pairs p.store.state.bytes 1) g) ((state_of index p).logs t).writes)) where
   -- what a logger holds
   pub held_is : (t g : ℕ) → held_on (limits_of p.store.shape) s t g ≡ shown.held_on p t g
   held_is t g =
       ap (λ (ix : Index). length (filter (is_write_on (limits_of p.store.shape) ix g) (log_of (calls_of s t)).writes)) indexed
-      ∙ (λ i. length (filter (λ (write : Write). same_slot_on p.store.shape g (found (index.pairs p.store.state.bytes) write.0) i) (sym (mirrors.logs t) i).writes))
+      ∙ (λ i. length (filter (λ (write : Write). same_slot_on p.store.shape g (found (index.pairs p.store.state.bytes 1) write.0) i) (sym (mirrors.logs t) i).writes))
       ∙ sym (held t g)
 
   anew_is : (t key : ℕ) → log.is_rewritten (log_of (calls_of s t)) key ≡ table_causes.rewrites index p t key
@@ -72,11 +72,11 @@ module _ (index : below.Index) (p : PagesView) (s : State) (indexed : s.index �
     put_fits key None fits = has_entry t key (next_slot p.store.state.bytes) fits.1
     put_fits key (Some slot) room = has_entry t key slot room
 
-    slot_is : (key : ℕ) → unwrap_or (found (index.pairs p.store.state.bytes) key) (next_slot p.store.state.bytes) ≡ slot_for s.index key
+    slot_is : (key : ℕ) → unwrap_or (found (index.pairs p.store.state.bytes 1) key) (next_slot p.store.state.bytes) ≡ slot_for s.index key
     slot_is key = sym (ap (λ (ix : Index). slot_for ix key) indexed)
 
     pub fits_is : (call : Call) → IsOfTable call → table_causes.Fits index p t call → Fits (limits_of p.store.shape) s t call
-    fits_is (Put key value) of fits = subst (λ (slot : ℕ). HasEntry (limits_of p.store.shape) s t key slot) (slot_is key) (put_fits key (found (index.pairs p.store.state.bytes) key) fits)
+    fits_is (Put key value) of fits = subst (λ (slot : ℕ). HasEntry (limits_of p.store.shape) s t key slot) (slot_is key) (put_fits key (found (index.pairs p.store.state.bytes 1) key) fits)
     fits_is (Del key) of fits = λ seen_there.
         let at = fits (seen_from key seen_there) in
         subst (λ (slot : ℕ). HasEntry (limits_of p.store.shape) s t key slot)
@@ -134,13 +134,13 @@ module _ (index : below.Index) (p : PagesView) (s : State) (indexed : s.index �
           left (inr (comes, full)) = slot_left comes.0
       put_lacks key g h n (Some slot) full short = slot_full key slot g h n full short
 
-      found_is : (key : ℕ) → found (index.pairs p.store.state.bytes) key ≡ s.index.slot_of key
+      found_is : (key : ℕ) → found (index.pairs p.store.state.bytes 1) key ≡ s.index.slot_of key
       found_is key = sym (ap (λ (ix : Index). ix.slot_of key) indexed)
 
       pub log_lacks : (call : Call) (g h n : ℕ) → IsOfTable call → table_causes.Lacks index p g h n t call → table_causes.MayLack p g h n t call
           → Lacks (limits_of p.store.shape) s t call (reply.LogFull g h n)
       log_lacks (Put key value) g h n of lacks short = subst (λ (o : Option ℕ). LacksAt (limits_of p.store.shape) s t key o (reply.LogFull g h n)) (found_is key)
-          (put_lacks key g h n (found (index.pairs p.store.state.bytes) key) lacks short)
+          (put_lacks key g h n (found (index.pairs p.store.state.bytes 1) key) lacks short)
       log_lacks (Del key) g h n of (seen_there, slot, at, full) short = (
         seen_to key seen_there,
         slot,

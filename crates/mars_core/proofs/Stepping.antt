@@ -166,7 +166,7 @@ pub counts_is : (index : below.Index) (p : PagesView) (t : ℕ) → length ((sta
 counts_is index p t = length-map _ shown.writes_of ∙ length-map (p.counts t) _
 
 module _ (index : below.Index) (p : PagesView) (s : State) (shows : ShowsPages index p s) (mirrors : Mirrors (state_of index p) s)
-    (held : (t g : ℕ) → held_on p t g ≡ length (filter (is_write_on p.store.shape (index.pairs p.store.state.bytes) g) ((state_of index p).logs t).writes)) (t : ℕ) (right : IsRight (records_of s) (calls_of s t)) where
+    (held : (t g : ℕ) → held_on p t g ≡ length (filter (is_write_on p.store.shape (index.pairs p.store.state.bytes 1) g) ((state_of index p).logs t).writes)) (t : ℕ) (right : IsRight (records_of s) (calls_of s t)) where
   -- the saves that a call finds are its caller's
   pub saves_at : (call : Call) → HasSaves (length ((state_of index p).logs t).saved) call → SavesAt s t call
   saves_at Save saves = subst (λ (n : ℕ). n < 32) (saves_are (state_of index p) s mirrors t right) saves

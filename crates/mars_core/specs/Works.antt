@@ -58,5 +58,5 @@ pub record Made (tells : Bool) (Opens : List ℕ → List ℕ → Type 0) (index
 -- what records show of the writes that numbers have not committed, while their store is not dead: how many each logger holds, and that the
 -- index has their keys
 pub record IsShown (tells : Bool) (index : Index) (old : PagesView) : Type 0 where
-  pub held : IsTrue tells → IsAlive old.store → (t g : ℕ) → held_on old t g ≡ length (filter (is_write_on old.store.shape (index.pairs old.store.state.bytes) g) ((state_of index old).logs t).writes)
-  pub named : IsTrue tells → IsAlive old.store → (t : ℕ) → AreNamed (index.pairs old.store.state.bytes) ((state_of index old).logs t).writes
+  pub held : IsTrue tells → IsAlive old.store → (t g : ℕ) → held_on old t g ≡ length (filter (is_write_on old.store.shape (index.pairs old.store.state.bytes 1) g) ((state_of index old).logs t).writes)
+  pub named : IsTrue tells → IsAlive old.store → (t : ℕ) → AreNamed (index.pairs old.store.state.bytes 1) ((state_of index old).logs t).writes

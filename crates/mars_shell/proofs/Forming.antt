@@ -9,7 +9,7 @@ use Rattle.record_slots.specs.Places.{IsSuper, page_bytes}
 use Rattle.record_slots.specs.Super.{form_said}
 use Rattle.page_store.specs.Index.{Index}
 use Rattle.key_list.specs.Seen.{chain_excludes}
-use Rattle.btree_pages.specs.Sound.{tree_excludes}
+use Rattle.btree_pages.specs.Trees.{trees_excluded}
 use Rattle.record_table.specs.Shown.{table_of}
 use Rattle.caller_steps.specs.State as face
 use Rattle.caller_steps.specs.Room.{Limits}
@@ -52,7 +52,7 @@ super_fails bytes none other = fails_first (form_said (page_bytes bytes 0)) byte
 -- no page of sound data fails
 not_both : (form : ℕ) (bytes : List ℕ) (page : ℕ) → (index_of_form form).fails bytes page → (index_of_form form).sound bytes → ⊥
 not_both zero bytes page fails sound = chain_excludes bytes page fails sound
-not_both (suc zero) bytes page fails sound = tree_excludes bytes page fails sound
+not_both (suc zero) bytes page fails sound = trees_excluded bytes page fails sound
 not_both (suc (suc form)) bytes page fails sound = chain_excludes bytes page fails sound
 
 pub damage_is_no_soundness : (bytes : List ℕ) (page : ℕ) → (index_at bytes).fails bytes page → (index_at bytes).sound bytes → ⊥

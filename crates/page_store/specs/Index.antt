@@ -1,10 +1,10 @@
 -- What an index makes of the data of a store.
-use Rattle.std.specs.Prelude.{ℕ, suc, ◌≡◌, ◌+◌, ◌*◌, ◌/◌, ◌<◌, ◌≤◌, List, length}
+use Rattle.std.specs.Prelude.{ℕ, suc, ◌≡◌, ◌≢◌, ◌+◌, ◌*◌, ◌/◌, ◌<◌, ◌≤◌, ◌⊎◌, List, length, Some, None}
 use Rattle.array_shape.specs.declared.shape.Shape.{Shape}
 use Rattle.array_shape.specs.Places.{page_count}
 use Rattle.record_slots.specs.Slots.{slot_bytes}
 use Rattle.record_slots.specs.declared.slot.Slot.TheVariants.{Absent}
-use Rattle.record_slots.specs.Places.{page_bytes, slot_of, next_slot, next_page, slot_count, first_slot_page, Carries}
+use Rattle.record_slots.specs.Places.{page_bytes, slot_of, next_slot, next_page, slot_count, first_slot_page, version_of, tables_of, root_of, free_slots, free_pages, free_slot_of, used_slots, slot_due, page_due, Carries}
 use Rattle.page_store.specs.Pairs.{Pair, inserted}
 
 -- one nested top action of an insertion: the pages that its parts lie in, one for each part, and how many new pages it takes
@@ -12,15 +12,16 @@ pub record Action : Type 0 where
   pub pages : List ℕ
   pub takes : ℕ
 
--- Which data is a sound index, and which page fails first; the pairs (key, slot) of data; how many levels of inner pages
--- stand above its leaves; which pages it has; and the actions that the insertion of a key makes, splits first.
+-- What an index makes of data that has one for each table: which data is sound, and which page fails first. And for the index of one table,
+-- told by its root: its pairs (key, slot); how many levels of inner pages stand above its leaves; which pages it has; and the actions that
+-- the insertion of a key makes, splits first.
 pub record Index : Type 1 where
   pub sound : List ℕ → Type 0
   pub fails : List ℕ → ℕ → Type 0
-  pub pairs : List ℕ → List Pair
-  pub level : List ℕ → ℕ
-  pub has_page : List ℕ → ℕ → Type 0
-  pub actions : List ℕ → ℕ → List Action
+  pub pairs : List ℕ → ℕ → List Pair
+  pub level : List ℕ → ℕ → ℕ
+  pub has_page : List ℕ → ℕ → ℕ → Type 0
+  pub actions : List ℕ → ℕ → ℕ → List Action
 
 -- there are four slots for each page of the array; half of the pages are for the index, among them the super page
 abbrev pub slots_of : Shape → ℕ
@@ -29,37 +30,66 @@ slots_of shape = 4 * page_count shape
 abbrev pub index_pages_of : Shape → ℕ
 index_pages_of shape = page_count shape / 2
 
--- no more slots are given than there are, and no more pages than lie below those of slots
+-- the table of this number has this root
+abbrev pub IsTable : List ℕ → ℕ → ℕ → Type 0
+IsTable bytes table root = root_of bytes table ≡ Some root
+
+-- The data is of version 1, until tables are made. No more slots are in use than there are, and no more pages than lie below those of
+-- slots; what is free was given out; and the first table has root 1.
 pub record HasCounts (bytes : List ℕ) : Type 0 where
+  pub version : version_of bytes ≡ 1
   pub slots : next_slot bytes ≤ slot_count bytes
   pub some : 2 ≤ next_page bytes
   pub pages : next_page bytes ≤ first_slot_page bytes
+  pub free_slots_few : free_slots bytes ≤ next_slot bytes
+  pub free_pages_few : free_pages bytes + 2 ≤ next_page bytes
+  pub due : free_slots bytes ≢ 0 → slot_due bytes < next_slot bytes
+  pub main : IsTable bytes 0 1
 
--- the index pages are as they were, and each given slot that carries a key still carries it
+-- The index pages are as they were. Each given slot that carries a key of a table still carries it, and each free slot is as it was.
 pub record KeepsIndex (old new : List ℕ) : Type 0 where
   pub size : length new ≡ length old
   pub pages : (page : ℕ) → page < first_slot_page old → page_bytes new page ≡ page_bytes old page
-  pub carried : (pair : Pair) → pair.1 < next_slot old → Carries old pair → Carries new pair
+  pub carried : (table : ℕ) (pair : Pair) → pair.1 < next_slot old → Carries old table pair → Carries new table pair
+  pub free : (slot : ℕ) → slot < next_slot old → free_slot_of old slot ≢ None → slot_of new slot ≡ slot_of old slot
 
--- Data during an insertion or after it: it is sound, slots given before are as they were, at most nine more pages are given,
--- each of them one of the index, which loses none; and it has no fewer levels.
-pub record Grows (index : Index) (old new : List ℕ) : Type 0 where
+-- the page is in the list of free pages
+abbrev pub IsFreePage : List ℕ → ℕ → Type 0
+IsFreePage bytes page = (n : ℕ) × (n < free_pages bytes) × (page_due bytes n ≡ page)
+
+-- the index of this root has the pairs, the levels and the pages that it had, and these are as they were
+pub record IsUntouched (index : Index) (root : ℕ) (old new : List ℕ) : Type 0 where
+  pub pairs : index.pairs new root ≡ index.pairs old root
+  pub level : index.level new root ≡ index.level old root
+  pub pages : (page : ℕ) → index.has_page old root page → index.has_page new root page × (page_bytes new page ≡ page_bytes old page)
+
+-- Data during an insertion into the index of this root or after it. It is sound, of the same version, with the same tables, and the index
+-- of each other table is untouched. Slots given before are as they were, but for the one that is due. At most nine more pages are given;
+-- each of them, and each free page that is free no more, is one of the index, which loses none; and it has no fewer levels.
+pub record Grows (index : Index) (root : ℕ) (old new : List ℕ) : Type 0 where
   pub sound : index.sound new
   pub size : length new ≡ length old
-  pub slots : (slot : ℕ) → slot < next_slot old → slot_of new slot ≡ slot_of old slot
+  pub version : version_of new ≡ version_of old
+  pub tables : tables_of new ≡ tables_of old
+  pub others : (table other : ℕ) → IsTable old table other → other ≢ root → IsUntouched index other old new
+  pub slots : (slot : ℕ) → slot < next_slot old → slot ≢ slot_due old → slot_of new slot ≡ slot_of old slot
   pub later : next_page old ≤ next_page new
   pub few : next_page new ≤ next_page old + 9
-  pub named : (page : ℕ) → next_page old ≤ page → page < next_page new → index.has_page new page
-  pub kept : (page : ℕ) → index.has_page old page → index.has_page new page
-  pub levels : index.level old ≤ index.level new
+  pub free_pages_fall : free_pages new ≤ free_pages old
+  pub named : (page : ℕ) → next_page old ≤ page → page < next_page new → index.has_page new root page
+  pub taken : (page : ℕ) → IsFreePage old page → IsFreePage new page ⊎ index.has_page new root page
+  pub kept : (page : ℕ) → index.has_page old root page → index.has_page new root page
+  pub levels : index.level old root ≤ index.level new root
 
--- the pairs are those before, and no more slots are given
-pub record Rests (index : Index) (old new : List ℕ) : Type 0 where
-  pub pairs : index.pairs new ≡ index.pairs old
-  pub slots : next_slot new ≡ next_slot old
+-- the pairs are those before, the same slot is due, and it is as it was; no more slots are in use
+pub record Rests (index : Index) (root : ℕ) (old new : List ℕ) : Type 0 where
+  pub pairs : index.pairs new root ≡ index.pairs old root
+  pub slots : used_slots new ≡ used_slots old
+  pub due : slot_due new ≡ slot_due old
+  pub same : slot_of new (slot_due old) ≡ slot_of old (slot_due old)
 
--- there is one more pair: the key with the next slot, which is now given, is absent, and carries the key
-pub record Gains (index : Index) (key : ℕ) (old new : List ℕ) : Type 0 where
-  pub pairs : index.pairs new ≡ inserted (index.pairs old) key (next_slot old)
-  pub slots : next_slot new ≡ suc (next_slot old)
-  pub fresh : slot_of new (next_slot old) ≡ slot_bytes (Absent key)
+-- there is one more pair: the key with the slot that was due, which is now in use, is absent, and carries the key of the table
+pub record Gains (index : Index) (root table key : ℕ) (old new : List ℕ) : Type 0 where
+  pub pairs : index.pairs new root ≡ inserted (index.pairs old root) key (slot_due old)
+  pub slots : used_slots new ≡ suc (used_slots old)
+  pub fresh : slot_of new (slot_due old) ≡ slot_bytes (Absent table key)

@@ -3,7 +3,7 @@ use thiserror::Error;
 /// Why an insertion was refused. After `Dead` the kinds are in order: a later one comes only if no earlier one does.
 #[derive(Clone, Copy, Debug, PartialEq, Eq, Error)]
 pub enum IndexFault {
-    /// All slots are given.
+    /// All slots are in use.
     #[error("all {slots} slots are given")]
     SlotsFull { slots: u32 },
     /// A split is due, and too few index pages are left for it.

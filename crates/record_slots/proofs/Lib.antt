@@ -1,3 +1,4 @@
 pub mod SlotLemmas
 pub mod WritingBack
 pub mod Front
+pub mod Used

@@ -1,13 +1,15 @@
 -- What bytes say, and that a slot's own bytes say it.
-use Rattle.std.proofs.Common.{◌≡◌, ℕ, zero, suc, ◌+◌, ◌-◌, ◌^◌, ◌<◌, ◌≤◌, true, List, [], ◌∷◌, ◌++◌, length, take, drop, replicate, Option, Some, None, refl, sym, ◌∙◌, ap, subst, arith}
+use Rattle.std.proofs.Common.{◌≡◌, ℕ, zero, suc, ◌+◌, ◌-◌, ◌*◌, ◌/◌, ◌%◌, ◌^◌, ◌<◌, ◌≤◌, inl, inr, true, List, [], ◌∷◌, ◌++◌, length, take, drop, replicate, Option, Some, None, refl, sym, ◌∙◌, ap, subst, arith}
 use Rattle.std.specs.Prelude.{slice_index}
 use Rattle.std.specs.Option.{SomeIff}
-use Rattle.std.proofs.lemmas.Bool.{and_parts, and_from, leb-true, le-leb, ne_eqb, false_from_ne_true}
+use Rattle.std.proofs.lemmas.Bool.{and_parts, and_from, cases_eq, leb-true, le-leb, lt-leb, ne_eqb, false_from_ne_true}
 use Rattle.std.proofs.lemmas.List.{get_or-drop, length-drop, length-take-le, length-append, append-nil, take_at, drop_at, length-replicate, drop-replicate}
 use Rattle.byteorder.specs.Endian.{little_from, little_bytes}
 use Rattle.byteorder.specs.Numbers.{little_from-take, little_from-cons, little_number-reads_back, length-bytes_low_first}
 use Rattle.record_slots.specs.Text.{IsValue}
-use Rattle.record_slots.specs.Slots.{key_said, text_said, is_value_said, value_said, present, slot_said, slot_bytes, IsSlot}
+use Rattle.record_slots.specs.Free.{free_slot_said, free_page_said}
+use Rattle.record_slots.specs.Slots.{key_said, text_said, is_value_said, value_said, present, state_said, slot_said, slot_bytes, IsSlot}
+use Rattle.record_slots.specs.declared.free.Free.{Free}
 use Rattle.record_slots.specs.declared.slot.Slot.{Slot}
 use Rattle.record_slots.specs.declared.slot.Slot.TheVariants.{Absent, Present}
 
@@ -70,17 +72,42 @@ value_said-of bytes text None long fits there refused = sym (value_said-none byt
 value_said-of bytes text (Some value) long fits there is = ap Some (is.1 ∙ there) ∙ sym (value_said-some bytes long fits (subst IsValue there is.0))
 
 -- the three kinds of state byte
-pub slot_said-absent : (bytes : List ℕ) → slice_index bytes 0 ≡ 0 → slot_said bytes ≡ Some (Absent (key_said bytes))
+pub slot_said-absent : (bytes : List ℕ) → state_said bytes < 16 → state_said bytes % 2 ≡ 0 → slot_said bytes ≡ Some (Absent (state_said bytes / 2) (key_said bytes))
 unfolding slot_said
-slot_said-absent bytes e = rw e refl
+slot_said-absent bytes small even = rw (lt-leb 16 (state_said bytes) small, even) refl
 
-pub slot_said-present : (bytes : List ℕ) → slice_index bytes 0 ≡ 1 → slot_said bytes ≡ present (key_said bytes) (value_said bytes)
+pub slot_said-present : (bytes : List ℕ) → state_said bytes < 16 → (state_said bytes % 2 ≡ 0 → ⊥) → slot_said bytes ≡ present (state_said bytes / 2) (key_said bytes) (value_said bytes)
 unfolding slot_said
-slot_said-present bytes e = rw e refl
+slot_said-present bytes small odd = rw (lt-leb 16 (state_said bytes) small, ne_eqb (state_said bytes % 2) 0 odd) refl
 
-pub slot_said-other : (bytes : List ℕ) → (slice_index bytes 0 ≡ 0 → ⊥) → (slice_index bytes 0 ≡ 1 → ⊥) → slot_said bytes ≡ None
+pub slot_said-other : (bytes : List ℕ) → 16 ≤ state_said bytes → slot_said bytes ≡ None
 unfolding slot_said
-slot_said-other bytes not_absent not_present = rw (ne_eqb (slice_index bytes 0) 0 not_absent, ne_eqb (slice_index bytes 0) 1 not_present) refl
+slot_said-other bytes large = rw (le-leb 16 (state_said bytes) large) refl
+
+-- what says that it is free, and what does not
+pub free_slot_is : (bytes : List ℕ) → slice_index bytes 0 ≡ 0xF0 → free_slot_said bytes ≡ Some (record { next = little_from 2 4 bytes; rank = little_from 6 4 bytes })
+unfolding free_slot_said
+free_slot_is bytes e = rw e refl
+
+pub no_free_slot : (bytes : List ℕ) → (slice_index bytes 0 ≡ 0xF0 → ⊥) → free_slot_said bytes ≡ None
+unfolding free_slot_said
+no_free_slot bytes ne = rw (ne_eqb (slice_index bytes 0) 0xF0 ne) refl
+
+pub free_page_is : (bytes : List ℕ) → slice_index bytes 0 ≡ 0xFF → free_page_said bytes ≡ Some (record { next = little_from 4 4 bytes; rank = little_from 8 4 bytes })
+unfolding free_page_said
+free_page_is bytes e = rw e refl
+
+pub no_free_page : (bytes : List ℕ) → (slice_index bytes 0 ≡ 0xFF → ⊥) → free_page_said bytes ≡ None
+unfolding free_page_said
+no_free_page bytes ne = rw (ne_eqb (slice_index bytes 0) 0xFF ne) refl
+
+-- a free slot is of no table
+pub free_says_none : (bytes : List ℕ) (free : Free) → free_slot_said bytes ≡ Some free → slot_said bytes ≡ None
+free_says_none bytes free is =
+    elim (cases_eq (state_said bytes) 0xF0) [
+      | inl e ↦ slot_said-other bytes (omega (arith, e))
+      | inr ne ↦ absurd (let h : Some free ≡ None = sym is ∙ no_free_slot bytes ne in cc)
+    ]
 
 -- the key behind the first two bytes
 key_behind : (a b key : ℕ) (rest : List ℕ) → key < 2 ^ 64 → key_said (a ∷ b ∷ (little_bytes 8 key ++ rest)) ≡ key
@@ -89,49 +116,60 @@ key_behind a b key rest fits =
     little_from-cons 1 8 a (b ∷ (little_bytes 8 key ++ rest)) ∙ little_from-cons 0 8 b (little_bytes 8 key ++ rest) ∙ little_number-reads_back 8 key rest fits
 
 -- the bytes of a present slot, before they are named
-with_value : ℕ → List ℕ → List ℕ
-with_value key value = 1 ∷ length value ∷ (little_bytes 8 key ++ (value ++ replicate (54 - length value) 0))
+with_value : ℕ → ℕ → List ℕ → List ℕ
+with_value state key value = state ∷ length value ∷ (little_bytes 8 key ++ (value ++ replicate (54 - length value) 0))
 
-text_behind : (key : ℕ) (value : List ℕ) → text_said (with_value key value) ≡ value
+text_behind : (state key : ℕ) (value : List ℕ) → text_said (with_value state key value) ≡ value
 unfolding with_value
-text_behind key value =
+text_behind state key value =
     ap (λ (l : List ℕ). take (length value) l) (drop_at (little_bytes 8 key) _ 8 (length-bytes_low_first 0 8 key))
     ∙ take_at value _ (length value) refl
 
-length-with_value : (key : ℕ) (value : List ℕ) → length value ≤ 54 → length (with_value key value) ≡ 64
+length-with_value : (state key : ℕ) (value : List ℕ) → length value ≤ 54 → length (with_value state key value) ≡ 64
 unfolding with_value
-length-with_value key value short =
+length-with_value state key value short =
     omega (arith, length-append (little_bytes 8 key) (value ++ replicate (54 - length value) 0), length-append value (replicate (54 - length value) 0), length-replicate {A = ℕ} (54 - length value) 0, length-bytes_low_first 0 8 key)
 
-value_behind : (key : ℕ) (value : List ℕ) → IsValue value → value_said (with_value key value) ≡ Some value
-value_behind key value is =
-    let text = text_behind key value in
-    value_said-some (with_value key value) (length-with_value key value is.short) (unfold with_value in is.short) (rw text is) ∙ ap Some text
+value_behind : (state key : ℕ) (value : List ℕ) → IsValue value → value_said (with_value state key value) ≡ Some value
+value_behind state key value is =
+    let text = text_behind state key value in
+    value_said-some (with_value state key value) (length-with_value state key value is.short) (unfold with_value in is.short) (rw text is) ∙ ap Some text
+
+-- the state of a table's slot
+even_state : (table : ℕ) → (2 * table % 2 ≡ 0) × (2 * table / 2 ≡ table)
+even_state table = (omega arith, omega arith)
+
+odd_state : (table : ℕ) → ((2 * table + 1) % 2 ≡ 1) × ((2 * table + 1) / 2 ≡ table)
+odd_state table = (omega arith, omega arith)
 
 -- A slot's own bytes say it.
 pub slot_said-slot_bytes : (slot : Slot) → IsSlot slot → slot_said (slot_bytes slot) ≡ Some slot
 unfolding slot_bytes with_value
-slot_said-slot_bytes (Absent key) fits = slot_said-absent _ refl ∙ ap (λ (k : ℕ). Some (Absent k)) (key_behind 0 0 key (replicate 54 0) fits)
-slot_said-slot_bytes (Present key value) fits =
-    slot_said-present (with_value key value) refl
-    ∙ ap (present (key_said (with_value key value))) (value_behind key value fits.1)
-    ∙ ap (λ (k : ℕ). Some (Present k value)) (key_behind 1 (length value) key (value ++ replicate (54 - length value) 0) fits.0)
+slot_said-slot_bytes (Absent table key) fits =
+    let bytes : List ℕ = (2 * table) ∷ 0 ∷ (little_bytes 8 key ++ replicate 54 0) in
+    let half : state_said bytes / 2 ≡ table = (even_state table).1 in
+    slot_said-absent bytes (omega (arith, fits.0)) (even_state table).0 ∙ (λ i. Some (Absent (half i) (key_behind (2 * table) 0 key (replicate 54 0) fits.1 i)))
+slot_said-slot_bytes (Present table key value) fits =
+    let bytes = with_value (2 * table + 1) key value in
+    let half : state_said bytes / 2 ≡ table = (odd_state table).1 in
+    slot_said-present bytes (omega (arith, fits.0)) (λ (even : state_said bytes % 2 ≡ 0). omega (arith, even, (odd_state table).0))
+    ∙ (λ i. present (half i) (key_behind (2 * table + 1) (length value) key (value ++ replicate (54 - length value) 0) fits.1 i) (value_behind (2 * table + 1) key value fits.2 i))
 
 -- there are 64 of them
 pub length-slot_bytes : (slot : Slot) → IsSlot slot → length (slot_bytes slot) ≡ 64
 unfolding slot_bytes with_value
-length-slot_bytes (Absent key) fits = omega (arith, length-append (little_bytes 8 key) (replicate 54 0), length-bytes_low_first 0 8 key)
-length-slot_bytes (Present key value) fits = length-with_value key value fits.1.short
+length-slot_bytes (Absent table key) fits = omega (arith, length-append (little_bytes 8 key) (replicate 54 0), length-bytes_low_first 0 8 key)
+length-slot_bytes (Present table key value) fits = length-with_value (2 * table + 1) key value fits.2.short
 
 -- what the writer's steps leave are the bytes of the slot
-pub absent_written : (key : ℕ) (buf : List ℕ) → buf ≡ little_bytes 8 key ++ replicate 54 0 → 0 ∷ 0 ∷ (buf ++ []) ≡ slot_bytes (Absent key)
+pub absent_written : (table key : ℕ) (buf : List ℕ) → buf ≡ little_bytes 8 key ++ replicate 54 0 → (2 * table) ∷ 0 ∷ (buf ++ []) ≡ slot_bytes (Absent table key)
 unfolding slot_bytes
-absent_written key buf e = rw (append-nil buf) (ap (λ (l : List ℕ). 0 ∷ 0 ∷ l) e)
+absent_written table key buf e = rw (append-nil buf) (ap (λ (l : List ℕ). (2 * table) ∷ 0 ∷ l) e)
 
-pub present_written : (key : ℕ) (value buf copied : List ℕ) → buf ≡ little_bytes 8 key ++ replicate 54 0 → copied ≡ value
-    → 1 ∷ length value ∷ (take 8 (buf ++ []) ++ (copied ++ drop (10 + length value - 10) (drop 8 (buf ++ [])))) ≡ slot_bytes (Present key value)
+pub present_written : (table key : ℕ) (value buf copied : List ℕ) → buf ≡ little_bytes 8 key ++ replicate 54 0 → copied ≡ value
+    → (2 * table + 1) ∷ length value ∷ (take 8 (buf ++ []) ++ (copied ++ drop (10 + length value - 10) (drop 8 (buf ++ [])))) ≡ slot_bytes (Present table key value)
 unfolding slot_bytes
-present_written key value buf copied written same =
+present_written table key value buf copied written same =
     let eight = length-bytes_low_first 0 8 key in
     let places : 10 + length value - 10 ≡ length value = omega arith in
     let front : take 8 (buf ++ []) ≡ little_bytes 8 key = rw (append-nil buf, written) (take_at (little_bytes 8 key) (replicate 54 0) 8 eight) in

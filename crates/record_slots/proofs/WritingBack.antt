@@ -4,10 +4,10 @@ use Rattle.std.specs.Prelude.{slice_index}
 use Rattle.std.specs.Int.{byte_at, bytes_low_first}
 use Rattle.std.proofs.Math.Nat.{add-mul-div_left, add-mul-mod_self_left, div-div-eq-div-mul, div-eq_of_lt, div-one, mod-eq_of_lt, pow-succ'}
 use Rattle.std.proofs.Math.Seq.{drop-cons}
-use Rattle.std.proofs.lemmas.Bool.{cases_eq, cases_Bool, false≢true}
+use Rattle.std.proofs.lemmas.Bool.{cases_eq, cases_lt, cases_Bool, false≢true}
 use Rattle.std.proofs.lemmas.List.{drop-drop, take-append-drop}
 use Rattle.byteorder.specs.Endian.{little_from, little_bytes}
-use Rattle.record_slots.specs.Slots.{key_said, text_said, is_value_said, present, slot_said, slot_bytes, IsPlain}
+use Rattle.record_slots.specs.Slots.{key_said, text_said, is_value_said, present, state_said, slot_said, slot_bytes, IsPlain}
 use Rattle.record_slots.specs.declared.slot.Slot.{Slot}
 use Rattle.record_slots.specs.declared.slot.Slot.TheVariants.{Absent, Present}
 use Rattle.record_slots.proofs.SlotLemmas.{some_said, none_said, short_said, length-text_said, slot_said-absent, slot_said-present, slot_said-other}
@@ -52,34 +52,43 @@ front bytes plain =
     ap (λ (l : List ℕ). slice_index bytes 0 ∷ slice_index bytes 1 ∷ (l ++ drop 10 bytes)) key ∙ ap (λ (l : List ℕ). slice_index bytes 0 ∷ slice_index bytes 1 ∷ l) two
     ∙ ap (λ (l : List ℕ). slice_index bytes 0 ∷ l) (sym (drop-cons bytes 1 0 (omega arith))) ∙ sym (drop-cons bytes 0 0 (omega arith))
 
-absent_back : (bytes : List ℕ) → IsPlain bytes → slice_index bytes 0 ≡ 0 → slot_bytes (Absent (key_said bytes)) ≡ bytes
-unfolding slot_bytes
-absent_back bytes plain state =
-    let none = plain.absent state in
-    let room : drop 10 bytes ≡ replicate 54 0 = subst (λ (n : ℕ). drop (10 + n) bytes ≡ replicate (54 - n) 0) none plain.padded in
-    (λ j. sym state j ∷ sym none j ∷ (little_bytes 8 (key_said bytes) ++ sym room j)) ∙ front bytes plain
+-- the state is that of the table which it says
+halves : (n : ℕ) → n % 2 ≡ 0 → 2 * (n / 2) ≡ n
+halves n even = omega arith
 
-present_back : (bytes : List ℕ) → IsPlain bytes → slice_index bytes 0 ≡ 1 → is_value_said bytes ≡ true → slot_bytes (Present (key_said bytes) (text_said bytes)) ≡ bytes
+odd_halves : (n : ℕ) → (n % 2 ≡ 0 → ⊥) → 2 * (n / 2) + 1 ≡ n
+odd_halves n odd = elim (cases_eq (n % 2) 0) [ | inl even ↦ absurd (odd even) | inr other ↦ omega arith ]
+
+absent_back : (bytes : List ℕ) → IsPlain bytes → state_said bytes % 2 ≡ 0 → slot_bytes (Absent (state_said bytes / 2) (key_said bytes)) ≡ bytes
 unfolding slot_bytes
-present_back bytes plain state value =
+absent_back bytes plain even =
+    let none = plain.absent even in
+    let state = halves (state_said bytes) even in
+    let room : drop 10 bytes ≡ replicate 54 0 = subst (λ (n : ℕ). drop (10 + n) bytes ≡ replicate (54 - n) 0) none plain.padded in
+    (λ j. state j ∷ sym none j ∷ (little_bytes 8 (key_said bytes) ++ sym room j)) ∙ front bytes plain
+
+present_back : (bytes : List ℕ) → IsPlain bytes → (state_said bytes % 2 ≡ 0 → ⊥) → is_value_said bytes ≡ true → slot_bytes (Present (state_said bytes / 2) (key_said bytes) (text_said bytes)) ≡ bytes
+unfolding slot_bytes
+present_back bytes plain odd value =
     let n = slice_index bytes 1 in
+    let state = odd_halves (state_said bytes) odd in
     let len = length-text_said bytes plain.size (short_said bytes value) in
     let behind : replicate (54 - length (text_said bytes)) 0 ≡ drop n (drop 10 bytes) = ap (λ (m : ℕ). replicate (54 - m) 0) len ∙ sym plain.padded ∙ sym (drop-drop n 10 bytes) in
     let room : text_said bytes ++ replicate (54 - length (text_said bytes)) 0 ≡ drop 10 bytes = ap (λ (l : List ℕ). text_said bytes ++ l) behind ∙ take-append-drop n (drop 10 bytes) in
-    (λ j. sym state j ∷ len j ∷ (little_bytes 8 (key_said bytes) ++ room j)) ∙ front bytes plain
+    (λ j. state j ∷ len j ∷ (little_bytes 8 (key_said bytes) ++ room j)) ∙ front bytes plain
 
 some_is : {X : Type 0} {x y : X} → Some x ≡ Some y → x ≡ y
 some_is e = cc
 
 pub slot_bytes-slot_said : (bytes : List ℕ) (slot : Slot) → IsPlain bytes → slot_said bytes ≡ Some slot → slot_bytes slot ≡ bytes
 slot_bytes-slot_said bytes slot plain says =
-    elim (cases_eq (slice_index bytes 0) 0) [
-      | inl absent ↦ ap slot_bytes (some_is (sym says ∙ slot_said-absent bytes absent)) ∙ absent_back bytes plain absent
-      | inr other ↦ elim (cases_eq (slice_index bytes 0) 1) [
-        | inl state ↦ elim (cases_Bool (is_value_said bytes)) [
-          | inl value ↦ ap slot_bytes (some_is (sym says ∙ slot_said-present bytes state ∙ ap (present (key_said bytes)) (some_said bytes value))) ∙ present_back bytes plain state value
-          | inr broken ↦ absurd (let h : Some slot ≡ None = sym says ∙ slot_said-present bytes state ∙ ap (present (key_said bytes)) (none_said bytes (λ e. false≢true (sym broken ∙ e))) in cc)
+    elim (cases_lt (state_said bytes) 16) [
+      | inr large ↦ absurd (let h : Some slot ≡ None = sym says ∙ slot_said-other bytes large in cc)
+      | inl small ↦ elim (cases_eq (state_said bytes % 2) 0) [
+        | inl even ↦ ap slot_bytes (some_is (sym says ∙ slot_said-absent bytes small even)) ∙ absent_back bytes plain even
+        | inr odd ↦ elim (cases_Bool (is_value_said bytes)) [
+          | inl value ↦ ap slot_bytes (some_is (sym says ∙ slot_said-present bytes small odd ∙ ap (present (state_said bytes / 2) (key_said bytes)) (some_said bytes value))) ∙ present_back bytes plain odd value
+          | inr broken ↦ absurd (let h : Some slot ≡ None = sym says ∙ slot_said-present bytes small odd ∙ ap (present (state_said bytes / 2) (key_said bytes)) (none_said bytes (λ e. false≢true (sym broken ∙ e))) in cc)
         ]
-        | inr unknown ↦ absurd (let h : Some slot ≡ None = sym says ∙ slot_said-other bytes other unknown in cc)
       ]
     ]

@@ -5,9 +5,19 @@ use Rattle.record_slots.specs.IndexHead.{index_head_bytes}
 use Rattle.record_slots.specs.declared.super_page.Super.{Super}
 use Rattle.record_slots.specs.declared.index_head.IndexHead.{IndexHead}
 
--- the form 1, a tree; no slot given out; and 2 as the next page to give out
+-- version 1 and form 1, a tree; no slot given out; 2 as the next page to give out; no entries, and nothing free
 abbrev pub fresh_super : Super
-fresh_super = record { form = 1; next_slot = 0; next_page = 2 }
+fresh_super = record {
+  version = 1;
+  form = 1;
+  next_slot = 0;
+  next_page = 2;
+  entries = replicate 256 0;
+  free_slot = 0;
+  free_page = 0;
+  free_slots = 0;
+  free_pages = 0;
+}
 
 -- the root, a leaf without pairs
 abbrev pub fresh_root : IndexHead

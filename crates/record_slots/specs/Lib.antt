@@ -1,5 +1,6 @@
 pub mod Text
 pub mod Slots
+pub mod Free
 pub mod Super
 pub mod IndexHead
 pub mod Fresh

@@ -1,5 +1,5 @@
 -- What the 64 bytes of a slot say, and the bytes with which a slot is written.
-use Rattle.std.specs.Prelude.{ℕ, ◌≡◌, ◌+◌, ◌-◌, ◌^◌, ◌<◌, Bool, nat_eq, nat_le, ◌&&◌, if◌then◌else◌, List, ◌∷◌, ◌++◌, length, take, drop, replicate, slice_index, Option, Some, None}
+use Rattle.std.specs.Prelude.{ℕ, ◌≡◌, ◌+◌, ◌-◌, ◌*◌, ◌/◌, ◌%◌, ◌^◌, ◌<◌, Bool, nat_eq, nat_le, ◌&&◌, if◌then◌else◌, List, ◌∷◌, ◌++◌, length, take, drop, replicate, slice_index, Option, Some, None}
 use Rattle.std.specs.List.{list_all}
 use Rattle.byteorder.specs.Endian.{little_from, little_bytes}
 use Rattle.record_slots.specs.Text.{is_visible, IsValue}
@@ -22,31 +22,40 @@ is_value_said bytes = nat_le 1 (slice_index bytes 1) && (nat_le (slice_index byt
 unfoldable pub value_said : List ℕ → Option (List ℕ)
 value_said bytes = if is_value_said bytes then Some (text_said bytes) else None
 
--- a present slot with its value, if there is one
-abbrev pub present : ℕ → Option (List ℕ) → Option Slot
-present key None = None
-present key (Some value) = Some (Present key value)
+-- a present slot of a table with its value, if there is one
+abbrev pub present : ℕ → ℕ → Option (List ℕ) → Option Slot
+present table key None = None
+present table key (Some value) = Some (Present table key value)
 
--- State 0 is absent. State 1 is present if the bytes say a value. All else says no slot.
+-- The state in byte 0 is that of table j: 2 * j is absent, 2 * j + 1 is present if the bytes say a value. There are eight tables; all else
+-- says no slot.
+abbrev pub state_said : List ℕ → ℕ
+state_said bytes = slice_index bytes 0
+
 unfoldable pub slot_said : List ℕ → Option Slot
 slot_said bytes =
-    if nat_eq (slice_index bytes 0) 0 then Some (Absent (key_said bytes))
-    else if nat_eq (slice_index bytes 0) 1 then present (key_said bytes) (value_said bytes)
-    else None
+    if nat_le 16 (state_said bytes) then None
+    else if nat_eq (state_said bytes % 2) 0 then Some (Absent (state_said bytes / 2) (key_said bytes))
+    else present (state_said bytes / 2) (key_said bytes) (value_said bytes)
 
 -- state, length, key, value, zeros
 unfoldable pub slot_bytes : Slot → List ℕ
-slot_bytes (Absent key) = 0 ∷ 0 ∷ (little_bytes 8 key ++ replicate 54 0)
-slot_bytes (Present key value) = 1 ∷ length value ∷ (little_bytes 8 key ++ (value ++ replicate (54 - length value) 0))
+slot_bytes (Absent table key) = (2 * table) ∷ 0 ∷ (little_bytes 8 key ++ replicate 54 0)
+slot_bytes (Present table key value) = (2 * table + 1) ∷ length value ∷ (little_bytes 8 key ++ (value ++ replicate (54 - length value) 0))
 
--- a key of 64 bits, and a value
+-- one of eight tables, a key of 64 bits, and a value
 abbrev pub IsSlot : Slot → Type 0
-IsSlot (Absent key) = key < 2 ^ 64
-IsSlot (Present key value) = (key < 2 ^ 64) × IsValue value
+IsSlot (Absent table key) = (table < 8) × (key < 2 ^ 64)
+IsSlot (Present table key value) = (table < 8) × (key < 2 ^ 64) × IsValue value
 
 -- 64 bytes, of which those that say nothing of the slot are zero
 pub record IsPlain (bytes : List ℕ) : Type 0 where
   pub size : length bytes ≡ 64
   pub fits : (i : ℕ) → slice_index bytes i < 256
-  pub absent : slice_index bytes 0 ≡ 0 → slice_index bytes 1 ≡ 0
+  pub absent : state_said bytes % 2 ≡ 0 → slice_index bytes 1 ≡ 0
   pub padded : drop (10 + slice_index bytes 1) bytes ≡ replicate (54 - slice_index bytes 1) 0
+
+-- the table of a slot
+abbrev pub table_of_slot : Slot → ℕ
+table_of_slot (Absent table key) = table
+table_of_slot (Present table key value) = table

@@ -1,18 +1,28 @@
 -- What the 512 bytes of the super page say, and the bytes that are written.
-use Rattle.std.specs.Prelude.{ℕ, ◌≡◌, List, [], ◌∷◌, ◌++◌, take, codes, replicate, slice_index}
+use Rattle.std.specs.Prelude.{ℕ, zero, suc, ◌≡◌, ◌≢◌, ◌-◌, ◌<◌, ◌≤◌, Bool, true, IsTrue, nat_eq, nat_le, ◌&&◌, if◌then◌else◌, List, [], ◌∷◌, ◌++◌, length, take, drop, codes, replicate, slice_index, slice_get, Option, Some, None}
+use Rattle.std.specs.List.{list_all}
 use Rattle.byteorder.specs.Endian.{little_from, little_bytes}
+use Rattle.mars_base.specs.Bytes.{range}
+use Rattle.record_slots.specs.Text.{is_letter}
 use Rattle.record_slots.specs.declared.super_page.Super.{Super}
+use Rattle.record_slots.specs.declared.super_page.TableEntry.{TableEntry}
 
--- the mark MREC and the version 1, in the first five bytes
+-- the mark in the first four bytes
 abbrev pub super_mark : List ℕ
-super_mark = codes "MREC" ++ 1 ∷ []
+super_mark = codes "MREC"
 
-abbrev pub HasSuperMark : List ℕ → Type 0
-HasSuperMark bytes = take 5 bytes ≡ super_mark
+-- the version in byte 4, the form of the index in byte 5
+unfoldable pub version_said : List ℕ → ℕ
+version_said bytes = slice_index bytes 4
 
--- the form of the index, in byte 5
 unfoldable pub form_said : List ℕ → ℕ
 form_said bytes = slice_index bytes 5
+
+-- the mark, and version 1; version 2 is not in use yet
+pub record HasSuperMark (bytes : List ℕ) : Type 0 where
+  pub mark : take 4 bytes ≡ super_mark
+  pub some : 1 ≤ version_said bytes
+  pub known : version_said bytes ≤ 1
 
 -- the next slot and the next page to give out, in bytes 8 to 15
 unfoldable pub next_slot_said : List ℕ → ℕ
@@ -21,17 +31,116 @@ next_slot_said bytes = little_from 8 4 bytes
 unfoldable pub next_page_said : List ℕ → ℕ
 next_page_said bytes = little_from 12 4 bytes
 
--- the super page with this index form and these counts; its other bytes say nothing
+-- the eight entries of tables, in bytes 16 to 271
+unfoldable pub entries_said : List ℕ → List ℕ
+entries_said bytes = range bytes 16 256
+
+-- an entry of 32 bytes: the length of the name in byte 0, which is 0 if the entry is free, the name behind it, and the root in bytes 20 to 23
+abbrev pub name_said : List ℕ → List ℕ
+name_said entry = take (slice_index entry 0) (drop 1 entry)
+
+abbrev pub entry_said : List ℕ → TableEntry
+entry_said entry = record { name = name_said entry; root = little_from 20 4 entry }
+
+-- the used ones of n entries, up to the first that is free
+abbrev pub used_entries : ℕ → List ℕ → List TableEntry
+used_entries zero entries = []
+used_entries (suc n) entries = if nat_eq (slice_index entries 0) 0 then [] else entry_said entries ∷ used_entries n (drop 32 entries)
+
+-- those of all eight
+unfoldable pub tables_used : List ℕ → List TableEntry
+tables_used entries = used_entries 8 entries
+
+-- the table of version 1
+abbrev pub main_table : TableEntry
+main_table = record { name = codes "main"; root = 1 }
+
+-- the tables: of version 1 just `main` with root 1, of version 2 those of the used entries
+abbrev pub tables_in : ℕ → List ℕ → List TableEntry
+tables_in version entries = if nat_eq version 1 then main_table ∷ [] else tables_used entries
+
+unfoldable pub tables_said : List ℕ → List TableEntry
+tables_said bytes = tables_in (version_said bytes) (entries_said bytes)
+
+-- all of n entries are free
+abbrev pub are_free : ℕ → List ℕ → Bool
+are_free zero entries = true
+are_free (suc n) entries = nat_eq (slice_index entries 0) 0 && are_free n (drop 32 entries)
+
+-- 1 to 16 letters
+abbrev pub is_name : List ℕ → Bool
+is_name text = nat_le 1 (length text) && (nat_le (length text) 16 && list_all is_letter text)
+
+-- of n entries each used one has a name, and behind a free one all are free
+abbrev pub are_entries : ℕ → List ℕ → Bool
+are_entries zero entries = true
+are_entries (suc n) entries =
+    if nat_eq (slice_index entries 0) 0 then are_free n (drop 32 entries) else is_name (name_said entries) && are_entries n (drop 32 entries)
+
+-- the table `main`, whose root is page 1
+abbrev pub IsMain : Option TableEntry → Type 0
+IsMain None = ⊥
+IsMain (Some table) = (table.name ≡ codes "main") × (table.root ≡ 1)
+
+-- all eight are such
+unfoldable pub are_named : List ℕ → Bool
+are_named entries = are_entries 8 entries
+
+-- no table before table j has its name or its root
+abbrev pub IsApart : List TableEntry → ℕ → Type 0
+IsApart tables j =
+    (i : ℕ) (one two : TableEntry) → i < j → slice_get tables i ≡ Some one → slice_get tables j ≡ Some two → (one.name ≢ two.name) × (one.root ≢ two.root)
+
+-- The first is `main` with root 1. Each other root is one of so many pages, and neither the super page nor page 1. No two have one name, and
+-- no two have one root.
+pub record AreTables (pages : ℕ) (tables : List TableEntry) : Type 0 where
+  pub main : IsMain (slice_get tables 0)
+  pub inside : (j : ℕ) (table : TableEntry) → 1 ≤ j → slice_get tables j ≡ Some table → (2 ≤ table.root) × (table.root < pages)
+  pub other : (j : ℕ) → IsApart tables j
+
+-- The entries of version 2 are those of tables; version 1 has none.
+abbrev pub HasTables : ℕ → ℕ → List ℕ → Type 0
+HasTables version pages entries = version ≡ 2 → IsTrue (are_named entries) × AreTables pages (tables_used entries)
+
+-- The first free slot and the first free page by their numbers plus 1, and how many there are of each: bytes 272 to 287. Version 1 has none.
+abbrev pub free_in : ℕ → ℕ → ℕ
+free_in version n = if nat_eq version 1 then 0 else n
+
+unfoldable pub free_slot_in : List ℕ → ℕ
+free_slot_in bytes = free_in (version_said bytes) (little_from 272 4 bytes)
+
+unfoldable pub free_page_in : List ℕ → ℕ
+free_page_in bytes = free_in (version_said bytes) (little_from 276 4 bytes)
+
+unfoldable pub free_slots_in : List ℕ → ℕ
+free_slots_in bytes = free_in (version_said bytes) (little_from 280 4 bytes)
+
+unfoldable pub free_pages_in : List ℕ → ℕ
+free_pages_in bytes = free_in (version_said bytes) (little_from 284 4 bytes)
+
+-- the super page says this version, form, counts, entries and free ones; its other bytes say nothing
 pub record SaysSuper (bytes : List ℕ) (front : Super) : Type 0 where
   pub has_mark : HasSuperMark bytes
+  pub version : front.version ≡ version_said bytes
   pub form : front.form ≡ form_said bytes
   pub next_slot : front.next_slot ≡ next_slot_said bytes
   pub next_page : front.next_page ≡ next_page_said bytes
+  pub entries : front.entries ≡ entries_said bytes
+  pub free_slot : front.free_slot ≡ free_slot_in bytes
+  pub free_page : front.free_page ≡ free_page_in bytes
+  pub free_slots : front.free_slots ≡ free_slots_in bytes
+  pub free_pages : front.free_pages ≡ free_pages_in bytes
 
--- bytes 8 to 15 of a super page with these counts
-unfoldable pub count_bytes : ℕ → ℕ → List ℕ
-count_bytes next_slot next_page = little_bytes 4 next_slot ++ little_bytes 4 next_page
+-- bytes 8 to 287 of a super page: the counts, the entries, the free ones
+unfoldable pub part_bytes : Super → List ℕ
+part_bytes front =
+    little_bytes 4 front.next_slot ++ (little_bytes 4 front.next_page ++ (front.entries ++ (little_bytes 4 front.free_slot
+    ++ (little_bytes 4 front.free_page ++ (little_bytes 4 front.free_slots ++ little_bytes 4 front.free_pages)))))
 
--- the 512 bytes of a super page: the mark, the form, the counts, and zeros
+-- the 512 bytes of a super page: the mark, the version, the form, that part, and zeros
 abbrev pub super_bytes : Super → List ℕ
-super_bytes front = super_mark ++ front.form ∷ 0 ∷ 0 ∷ (count_bytes front.next_slot front.next_page ++ replicate 496 0)
+super_bytes front = super_mark ++ front.version ∷ front.form ∷ 0 ∷ 0 ∷ (part_bytes front ++ replicate 224 0)
+
+-- an entry of a table, and a free one
+abbrev pub entry_bytes : TableEntry → List ℕ
+entry_bytes table = length table.name ∷ (table.name ++ (replicate (19 - length table.name) 0 ++ (little_bytes 4 table.root ++ replicate 8 0)))

@@ -1,15 +1,34 @@
-ghost use Rattle.std.specs.Prelude.{◌≡◌, IfSome, IfNone};
-ghost use Rattle.record_slots.specs.Super.{HasSuperMark, SaysSuper, count_bytes, super_bytes};
+ghost use Rattle.std.specs.Prelude.{◌≡◌, ◌+◌, ◌*◌, ◌<◌, IfSome, IfNone};
+ghost use Rattle.byteorder.specs.Endian.{little_from};
+ghost use Rattle.record_slots.specs.Super.{HasSuperMark, SaysSuper, free_in, part_bytes, super_bytes};
 
+use crate::Name;
 use byteorder::{ByteOrder, LittleEndian};
 
-/// Where in the super page the eight bytes of the two counts begin.
-pub const COUNTS_AT: usize = 8;
+/// The most tables of an array.
+pub const TABLES_MAX: usize = 8;
 
-/// How many bytes the two counts take.
-pub const COUNTS_LEN: usize = 8;
+/// The bytes of an entry.
+pub const ENTRY_LEN: usize = 32;
 
-const MARK: [u8; 5] = *b"MREC\x01";
+/// The bytes of all entries.
+pub const ENTRIES_LEN: usize = TABLES_MAX * ENTRY_LEN;
+
+/// Where in the super page the part begins that changes: the counts, the entries and the free ones.
+pub const PART_AT: usize = 8;
+
+/// How many bytes that part takes.
+pub const PART_LEN: usize = 280;
+
+const MARK: [u8; 4] = *b"MREC";
+
+/// The version that has entries of tables, and lists of what is free.
+pub const VERSION: u8 = 2;
+
+/// The newest version that is read. It is also the one that is written.
+const NEWEST: u8 = 1;
+
+const VERSION_AT: usize = 4;
 
 const FORM_AT: usize = 5;
 
@@ -17,15 +36,41 @@ const NEXT_SLOT_AT: usize = 8;
 
 const NEXT_PAGE_AT: usize = 12;
 
-/// What the super page says: the form of the index (0 is a chain), and the next slot and the next page to give out.
+const ENTRIES_AT: usize = 16;
+
+const FREE_AT: usize = ENTRIES_AT + ENTRIES_LEN;
+
+/// A table as its entry says it: its name, and the page in which its index begins.
 #[derive(Clone, Copy, Debug, PartialEq, Eq)]
-pub struct Super {
-    pub form: u8,
-    pub next_slot: u32,
-    pub next_page: u32,
+pub struct TableEntry {
+    pub name: Name,
+    pub root: u32,
 }
 
-/// What a super page says. `None` exactly when its first five bytes are not the mark and the version.
+/// What the super page says.
+#[derive(Clone, Copy, Debug, PartialEq, Eq)]
+pub struct Super {
+    /// 1 has just the table `main`, and nothing free; 2 has entries of tables, and lists of what is free.
+    pub version: u8,
+    /// The form of the indexes: 0 is a chain, 1 a tree.
+    pub form: u8,
+    /// The next slot to give out.
+    pub next_slot: u32,
+    /// The next page to give out.
+    pub next_page: u32,
+    /// The entries of the tables, as they stand in the page.
+    pub entries: [u8; ENTRIES_LEN],
+    /// The first free slot, by its number plus 1; 0 for none.
+    pub free_slot: u32,
+    /// The first free page, by its number plus 1; 0 for none.
+    pub free_page: u32,
+    /// How many slots are free.
+    pub free_slots: u32,
+    /// How many pages are free.
+    pub free_pages: u32,
+}
+
+/// What a super page says. `None` exactly when it does not begin with the mark and version 1. The entries are not looked at.
 pub fn read_super(bytes: &[u8; 512]) -> Option<Super>
     ensures says { IfSome result (SaysSuper bytes.now) }
     ensures unmarked { IfNone result (¬ HasSuperMark bytes.now) }
@@ -33,29 +78,61 @@ pub fn read_super(bytes: &[u8; 512]) -> Option<Super>
     if !bytes.starts_with(&MARK) {
         return None;
     }
+    let version = bytes[VERSION_AT];
+    if version == 0 {
+        return None;
+    }
+    if version > NEWEST {
+        return None;
+    }
+    let mut entries = [0; ENTRIES_LEN];
+    entries.copy_from_slice(&bytes[ENTRIES_AT..FREE_AT]);
     Some(Super {
+        version,
         form: bytes[FORM_AT],
         next_slot: LittleEndian::read_u32(&bytes[NEXT_SLOT_AT..]),
         next_page: LittleEndian::read_u32(&bytes[NEXT_PAGE_AT..]),
+        entries,
+        free_slot: read_free(bytes, version, 0),
+        free_page: read_free(bytes, version, 1),
+        free_slots: read_free(bytes, version, 2),
+        free_pages: read_free(bytes, version, 3),
     })
+}
+
+// One of the four numbers on what is free, which version 1 does not have.
+fn read_free(bytes: &[u8; 512], version: u8, i: usize) -> u32
+    requires { i < 4 }
+    ensures { result ≡ free_in version (little_from (272 + 4 * i) 4 bytes.now) }
+{
+    if version == 1 {
+        return 0;
+    }
+    LittleEndian::read_u32(&bytes[FREE_AT + 4 * i..])
 }
 
 /// Writes a super page, with zeros where it says nothing.
 pub fn write_super(front: &Super, out: &mut [u8; 512])
     ensures { out.new ≡ super_bytes front.now }
 {
-    let mut counts = [0; COUNTS_LEN];
-    write_super_counts(front.next_slot, front.next_page, &mut counts);
+    let mut part = [0; PART_LEN];
+    write_super_part(front, &mut part);
     out.fill(0);
     out[..MARK.len()].copy_from_slice(&MARK);
+    out[VERSION_AT] = front.version;
     out[FORM_AT] = front.form;
-    out[COUNTS_AT..COUNTS_AT + COUNTS_LEN].copy_from_slice(&counts);
+    out[PART_AT..PART_AT + PART_LEN].copy_from_slice(&part);
 }
 
-/// Writes the eight bytes of the two counts, which stand in the super page from `COUNTS_AT` on.
-pub fn write_super_counts(next_slot: u32, next_page: u32, out: &mut [u8; COUNTS_LEN])
-    ensures { out.new ≡ count_bytes next_slot next_page }
+/// Writes the part of a super page that changes, which stands in it from `PART_AT` on.
+pub fn write_super_part(front: &Super, out: &mut [u8; PART_LEN])
+    ensures { out.new ≡ part_bytes front.now }
 {
-    LittleEndian::write_u32(&mut out[..4], next_slot);
-    LittleEndian::write_u32(&mut out[4..], next_page);
+    LittleEndian::write_u32(&mut out[..4], front.next_slot);
+    LittleEndian::write_u32(&mut out[4..8], front.next_page);
+    out[8..264].copy_from_slice(&front.entries);
+    LittleEndian::write_u32(&mut out[264..268], front.free_slot);
+    LittleEndian::write_u32(&mut out[268..272], front.free_page);
+    LittleEndian::write_u32(&mut out[272..276], front.free_slots);
+    LittleEndian::write_u32(&mut out[276..], front.free_pages);
 }

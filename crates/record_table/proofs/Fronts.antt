@@ -5,7 +5,7 @@ use Rattle.array_shape.specs.declared.shape.Shape.{Shape}
 use Rattle.array_shape.specs.Places.{data_len}
 use Rattle.array_shape.specs.Places as array
 use Rattle.record_slots.specs.Places.{page_bytes, page_count, next_slot, next_page, IsSuper}
-use Rattle.record_slots.specs.Super.{HasSuperMark, SaysSuper, form_said, next_slot_said, next_page_said}
+use Rattle.record_slots.specs.Super.{HasSuperMark, SaysSuper, version_said, form_said, next_slot_said, next_page_said}
 use Rattle.record_slots.specs.declared.super_page.Super.{Super}
 
 -- the first 512 bytes are page 0
@@ -45,6 +45,7 @@ module _ (shape : Shape) (bytes page : List ℕ) (long : length bytes ≡ data_l
       slots = omega (arith, slot_is, counts.0, pages_are);
       some_pages = omega (arith, next_is, counts.1);
       pages = omega (arith, next_is, counts.2, pages_are);
+      tables = λ two. absurd (omega (arith, two, says.has_mark.known, ap version_said page_is));
     }
 
     counts_of : (form : ℕ) → IsSuper form bytes → Counts

@@ -23,34 +23,34 @@ module _ (index : Index) (laws : Laws index) (t : ℕ) (old : PagesView) (tied :
   seen_data : List ℕ
   seen_data = applied (listed (old.store.state.logs t)) old.store.state.bytes
 
-  rises : Rise 0 (2 ^ 64) (index.pairs old.store.state.bytes)
-  rises = laws.rises old.store.state.bytes tied.sound
+  rises : Rise 0 (2 ^ 64) (index.pairs old.store.state.bytes 1)
+  rises = laws.rises old.store.state.bytes 0 1 tied.sound (laws.counts old.store.state.bytes tied.sound).main
 
-  rows_are : (low high : ℕ) → rows_seen index t old low high ≡ filter (is_within low high) (rows_of (applied (listed (old.store.state.logs t)) old.store.state.bytes) (index.pairs old.store.state.bytes))
+  rows_are : (low high : ℕ) → rows_seen index t old low high ≡ filter (is_within low high) (rows_of (applied (listed (old.store.state.logs t)) old.store.state.bytes) (index.pairs old.store.state.bytes 1))
   unfolding table_of
   rows_are low high =
       let w = applied_parts index laws (listed (old.store.state.logs t)) old.store.state.bytes tied.sound (tied.parts t) in
       ap (λ (m : Table). rows_within low high m) (sym w.table)
       ∙ ap (λ (l : List Pair). rows_within low high (table_in (applied (listed (old.store.state.logs t)) old.store.state.bytes) l)) w.pairs
-      ∙ ap (filter (is_within low high)) (entries_are (applied (listed (old.store.state.logs t)) old.store.state.bytes) 0 (2 ^ 64) (index.pairs old.store.state.bytes) rises)
+      ∙ ap (filter (is_within low high)) (entries_are (applied (listed (old.store.state.logs t)) old.store.state.bytes) 0 (2 ^ 64) (index.pairs old.store.state.bytes 1) rises)
 
-  pub follows_none : (from high : ℕ) → next (index.pairs old.store.state.bytes) from ≡ None → rows_seen index t old from high ≡ []
-  follows_none from high none = rows_are from high ∙ none_from (applied (listed (old.store.state.logs t)) old.store.state.bytes) from high (index.pairs old.store.state.bytes) none
+  pub follows_none : (from high : ℕ) → next (index.pairs old.store.state.bytes 1) from ≡ None → rows_seen index t old from high ≡ []
+  follows_none from high none = rows_are from high ∙ none_from (applied (listed (old.store.state.logs t)) old.store.state.bytes) from high (index.pairs old.store.state.bytes 1) none
 
   pub follows_past : (from high : ℕ) → high < from → rows_seen index t old from high ≡ []
-  follows_past from high lt = rows_are from high ∙ none_past (applied (listed (old.store.state.logs t)) old.store.state.bytes) from high (index.pairs old.store.state.bytes) lt
+  follows_past from high lt = rows_are from high ∙ none_past (applied (listed (old.store.state.logs t)) old.store.state.bytes) from high (index.pairs old.store.state.bytes 1) lt
 
-  module _ (from high key slot : ℕ) (is : next (index.pairs old.store.state.bytes) from ≡ Some (key, slot)) where
+  module _ (from high key slot : ℕ) (is : next (index.pairs old.store.state.bytes 1) from ≡ Some (key, slot)) where
     pub follows_above : high < key → rows_seen index t old from high ≡ []
-    follows_above lt = rows_are from high ∙ none_between (applied (listed (old.store.state.logs t)) old.store.state.bytes) from high key slot 0 (2 ^ 64) (index.pairs old.store.state.bytes) rises is lt
+    follows_above lt = rows_are from high ∙ none_between (applied (listed (old.store.state.logs t)) old.store.state.bytes) from high key slot 0 (2 ^ 64) (index.pairs old.store.state.bytes 1) rises is lt
 
     pub next_is : key ≤ high → (from ≤ key) × (slot_in index old key ≡ Some slot)
-    next_is le = let f = first_from (applied (listed (old.store.state.logs t)) old.store.state.bytes) from high key slot 0 (2 ^ 64) (index.pairs old.store.state.bytes) rises is le in (f.0, f.1)
+    next_is le = let f = first_from (applied (listed (old.store.state.logs t)) old.store.state.bytes) from high key slot 0 (2 ^ 64) (index.pairs old.store.state.bytes 1) rises is le in (f.0, f.1)
 
     pub follows_some : key ≤ high → (said : Option Slot) → said ≡ slot_said (slot_of (applied (listed (old.store.state.logs t)) old.store.state.bytes) slot)
         → rows_seen index t old from high ≡ row_at key (value_of said) ++ rows_seen index t old (suc key) high
     follows_some le said read =
-        let f = first_from (applied (listed (old.store.state.logs t)) old.store.state.bytes) from high key slot 0 (2 ^ 64) (index.pairs old.store.state.bytes) rises is le in
+        let f = first_from (applied (listed (old.store.state.logs t)) old.store.state.bytes) from high key slot 0 (2 ^ 64) (index.pairs old.store.state.bytes 1) rises is le in
         rows_are from high ∙ f.2
         ∙ (λ i. row_at key (value_of (sym read i)) ++ sym (rows_are (suc key) high) i)
 

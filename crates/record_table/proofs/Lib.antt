@@ -14,3 +14,4 @@ pub mod RowsOf
 pub mod Gathering
 pub mod Holding
 pub mod Fronts
+pub mod Main

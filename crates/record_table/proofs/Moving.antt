@@ -1,5 +1,5 @@
 -- Calls below that leave records, writes and saves as they were: looks and insertions, one after another, and one that fails.
-use Rattle.std.proofs.Common.{◌≡◌, ◌≢◌, ℕ, ◌+◌, ◌*◌, ◌/◌, ◌⊎◌, Bool, true, false, cond, inl, inr, IsTrue, List, [], ◌∷◌, Result, Ok, Err, refl, sym, ◌∙◌, ap, subst}
+use Rattle.std.proofs.Common.{◌≡◌, ◌≢◌, ℕ, ◌+◌, ◌*◌, ◌/◌, ◌<◌, ◌⊎◌, Bool, true, false, cond, inl, inr, IsTrue, List, [], ◌∷◌, Result, Ok, Err, refl, sym, ◌∙◌, ap, subst, arith}
 use Rattle.std.specs.Prelude.{nat_eq, nat_lt, map, Option, Some, None, IsFalse}
 use Rattle.std.proofs.lemmas.Bool.{cases_eq, false≢true, cases_Bool, eq-eqb, ne_eqb}
 use Rattle.mars_base.specs.Causes.{Rose}
@@ -9,7 +9,7 @@ use Rattle.eaw_face.specs.State.{State, listed}
 use Rattle.eaw_face.specs.StoreView.{LeavesOnly}
 use Rattle.eaw_face.specs.Causes.{IsAlive}
 use Rattle.record_slots.specs.Slots.{slot_said, slot_bytes}
-use Rattle.record_slots.specs.Places.{next_slot}
+use Rattle.record_slots.specs.Places.{next_slot, slot_due}
 use Rattle.record_slots.specs.declared.slot.Slot.TheVariants.{Absent}
 use Rattle.page_store.specs.Index.{Index, Grows, Gains}
 use Rattle.page_store.specs.Index as face
@@ -25,7 +25,7 @@ use Rattle.record_table.specs.Sought.{LooksAs}
 use Rattle.record_table.specs.State.{TableState}
 use Rattle.history.proofs.Tables.{same_table}
 use Rattle.record_table.proofs.Tables.{record_at, get-table_in}
-use Rattle.record_table.proofs.SlotParts.{Laws, found_given}
+use Rattle.record_table.proofs.SlotParts.{Laws, found_given, due_next}
 
 -- records, writes and saves are as they were, and the invariant holds
 pub record Moved (tells : Bool) (Opens : List ℕ → List ℕ → Type 0) (index : Index) (t : ℕ) (old new : PagesView) : Type 0 where
@@ -145,13 +145,19 @@ found_new (p ∷ ps) key to none = go (nat_lt key p.0) (found_new ps key to)
     go true rest = ap (λ (b : Bool). cond b (Some to) (found (p ∷ ps) key)) (eq-eqb key key refl)
     go false rest = ap (λ (b : Bool). cond b (Some p.1) (found (inserted ps key to) key)) other ∙ rest rest_none
 
-module _ (index : Index) (laws : Laws index) (key : ℕ) (d e : List ℕ) (sound : index.sound d) (absent : found (index.pairs d) key ≡ None) (grows : Grows index d e) where
-  -- the slots of keys are as they were
-  record_kept : (o : Option ℕ) (q : ℕ) → found (index.pairs d) q ≡ o → record_at e o ≡ record_at d o
-  record_kept None q is = refl
-  record_kept (Some slot) q is = ap (λ (b : List ℕ). value_of (slot_said b)) (grows.slots slot (found_given d (index.pairs d) q slot (laws.given d sound) is).0)
+module _ (index : Index) (laws : Laws index) (key : ℕ) (d e : List ℕ) (sound : index.sound d) (absent : found (index.pairs d 1) key ≡ None) (grows : Grows index 1 d e) where
+  -- the slot of a key is not the one that is due
+  at : (q slot : ℕ) → found (index.pairs d 1) q ≡ Some slot → (slot < next_slot d) × (slot ≢ slot_due d)
+  at q slot is =
+      let g = found_given d (index.pairs d 1) q slot (laws.given d 0 1 sound (laws.counts d sound).main) is in
+      (g.0, λ e. omega (arith, g.0, e, due_next index laws d sound))
 
-  part_kept : (pairs : (q slot : ℕ) → found (index.pairs d) q ≡ Some slot → found (index.pairs e) q ≡ Some slot) (log : List Part) → AreSlotParts index d log → AreSlotParts index e log
+  -- the slots of keys are as they were
+  record_kept : (o : Option ℕ) (q : ℕ) → found (index.pairs d 1) q ≡ o → record_at e o ≡ record_at d o
+  record_kept None q is = refl
+  record_kept (Some slot) q is = ap (λ (b : List ℕ). value_of (slot_said b)) (grows.slots slot (at q slot is).0 (at q slot is).1)
+
+  part_kept : (pairs : (q slot : ℕ) → found (index.pairs d 1) q ≡ Some slot → found (index.pairs e 1) q ≡ Some slot) (log : List Part) → AreSlotParts index d log → AreSlotParts index e log
   part_kept pairs [] parts = tt
   part_kept pairs (p ∷ ps) parts = (
     record {
@@ -164,40 +170,40 @@ module _ (index : Index) (laws : Laws index) (key : ℕ) (d e : List ℕ) (sound
     part_kept pairs ps parts.1,
   )
 
-  resting : face.Rests index d e → (table_of index e ≡ table_of index d) × ((log : List Part) → AreSlotParts index d log → AreSlotParts index e log)
+  resting : face.Rests index 1 d e → (table_of index e ≡ table_of index d) × ((log : List Part) → AreSlotParts index d log → AreSlotParts index e log)
   unfolding table_of
   resting rests = (
-    same_table (table_in e (index.pairs e)) (table_in d (index.pairs d)) (λ q.
-        get-table_in e (index.pairs e) q ∙ ap (λ (l : List Pair). record_at e (found l q)) rests.pairs ∙ record_kept (found (index.pairs d) q) q refl ∙ sym (get-table_in d (index.pairs d) q)),
+    same_table (table_in e (index.pairs e 1)) (table_in d (index.pairs d 1)) (λ q.
+        get-table_in e (index.pairs e 1) q ∙ ap (λ (l : List Pair). record_at e (found l q)) rests.pairs ∙ record_kept (found (index.pairs d 1) q) q refl ∙ sym (get-table_in d (index.pairs d 1) q)),
     part_kept (λ q slot is. ap (λ (l : List Pair). found l q) rests.pairs ∙ is),
   )
 
-  other_than : (q slot : ℕ) → found (index.pairs d) q ≡ Some slot → q ≢ key
-  other_than q slot is same = let x : Some slot ≡ None = sym is ∙ ap (found (index.pairs d)) same ∙ absent in absurd (cc)
+  other_than : (q slot : ℕ) → found (index.pairs d 1) q ≡ Some slot → q ≢ key
+  other_than q slot is same = let x : Some slot ≡ None = sym is ∙ ap (found (index.pairs d 1)) same ∙ absent in absurd (cc)
 
-  gaining : slot_said (slot_bytes (Absent key)) ≡ Some (Absent key) → Gains index key d e → (table_of index e ≡ table_of index d) × ((log : List Part) → AreSlotParts index d log → AreSlotParts index e log)
+  gaining : slot_said (slot_bytes (Absent 0 key)) ≡ Some (Absent 0 key) → Gains index 1 0 key d e → (table_of index e ≡ table_of index d) × ((log : List Part) → AreSlotParts index d log → AreSlotParts index e log)
   unfolding table_of
   gaining reads gains = (
-    same_table (table_in e (index.pairs e)) (table_in d (index.pairs d)) (λ q.
-        get-table_in e (index.pairs e) q ∙ ap (λ (l : List Pair). record_at e (found l q)) gains.pairs
+    same_table (table_in e (index.pairs e 1)) (table_in d (index.pairs d 1)) (λ q.
+        get-table_in e (index.pairs e 1) q ∙ ap (λ (l : List Pair). record_at e (found l q)) gains.pairs
         ∙ elim (cases_eq q key) [
           | inl same ↦
-              ap (λ (k : ℕ). record_at e (found (inserted (index.pairs d) key (next_slot d)) k)) same
-              ∙ ap (record_at e) (found_new (index.pairs d) key (next_slot d) absent)
+              ap (λ (k : ℕ). record_at e (found (inserted (index.pairs d 1) key (slot_due d)) k)) same
+              ∙ ap (record_at e) (found_new (index.pairs d 1) key (slot_due d) absent)
               ∙ ap (λ (b : List ℕ). value_of (slot_said b)) gains.fresh ∙ ap value_of reads
-              ∙ sym (ap (λ (k : ℕ). record_at d (found (index.pairs d) k)) same ∙ ap (record_at d) absent)
-          | inr ne ↦ ap (record_at e) (found_inserted (index.pairs d) key (next_slot d) q ne) ∙ record_kept (found (index.pairs d) q) q refl
+              ∙ sym (ap (λ (k : ℕ). record_at d (found (index.pairs d 1) k)) same ∙ ap (record_at d) absent)
+          | inr ne ↦ ap (record_at e) (found_inserted (index.pairs d 1) key (slot_due d) q ne) ∙ record_kept (found (index.pairs d 1) q) q refl
         ]
-        ∙ sym (get-table_in d (index.pairs d) q)),
-    part_kept (λ q slot is. ap (λ (l : List Pair). found l q) gains.pairs ∙ found_inserted (index.pairs d) key (next_slot d) q (other_than q slot is) ∙ is),
+        ∙ sym (get-table_in d (index.pairs d 1) q)),
+    part_kept (λ q slot is. ap (λ (l : List Pair). found l q) gains.pairs ∙ found_inserted (index.pairs d 1) key (slot_due d) q (other_than q slot is) ∙ is),
   )
 
   -- data during or after the insertion has the same records
-  pub insertion_keeps : slot_said (slot_bytes (Absent key)) ≡ Some (Absent key) → (face.Rests index d e ⊎ Gains index key d e)
+  pub insertion_keeps : slot_said (slot_bytes (Absent 0 key)) ≡ Some (Absent 0 key) → (face.Rests index 1 d e ⊎ Gains index 1 0 key d e)
       → (table_of index e ≡ table_of index d) × ((log : List Part) → AreSlotParts index d log → AreSlotParts index e log)
   insertion_keeps reads either = elim either [ inl r ↦ resting r | inr g ↦ gaining reads g ]
 
-either_of : (index : Index) (key : ℕ) (d e : List ℕ) (r : Result ℕ IndexFault) → IsFalse (is_insert_failed r) → Made index key d e r → Grows index d e × (face.Rests index d e ⊎ Gains index key d e)
+either_of : (index : Index) (key : ℕ) (d e : List ℕ) (r : Result ℕ IndexFault) → IsFalse (is_insert_failed r) → Made index 1 0 key d e r → Grows index 1 d e × (face.Rests index 1 d e ⊎ Gains index 1 0 key d e)
 either_of index key d e (Ok slot) well made = (made.1, inr made.2)
 either_of index key d e (Err fault.Media) well made = absurd (false≢true (sym well))
 either_of index key d e (Err (fault.PagesFull n)) well made = (made.0, inl made.1)
@@ -206,8 +212,8 @@ either_of index key d e (Err (fault.LogFull g h n)) well made = (made.0, inl mad
 either_of index key d e (Err fault.Dead) well made = (made.0, inl made.1)
 either_of index key d e (Err (fault.Damaged p)) well made = (made.0, inl made.1)
 
-module _ (tells : Bool) (Opens : List ℕ → List ℕ → Type 0) (index : Index) (laws : Laws index) (t key : ℕ) (reads : slot_said (slot_bytes (Absent key)) ≡ Some (Absent key)) (old new : PagesView) (alive : IsAlive old.store)
-    (rests : Rests tells index old) (absent : IsTrue tells → found (index.pairs old.store.state.bytes) key ≡ None) (r : Result ℕ IndexFault) (does : Inserts tells Opens index t key old new r) where
+module _ (tells : Bool) (Opens : List ℕ → List ℕ → Type 0) (index : Index) (laws : Laws index) (t key : ℕ) (reads : slot_said (slot_bytes (Absent 0 key)) ≡ Some (Absent 0 key)) (old new : PagesView) (alive : IsAlive old.store)
+    (rests : Rests tells index old) (absent : IsTrue tells → found (index.pairs old.store.state.bytes 1) key ≡ None) (r : Result ℕ IndexFault) (does : Inserts tells Opens index t 1 0 key old new r) where
   insert_time : IsTrue tells → LeavesOnly (λ image. OpensWith Opens index image (state_of index old).table) old.store new.store
   insert_time told = weaker (λ image left. record {
     bytes = left.0;

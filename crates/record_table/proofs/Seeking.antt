@@ -32,8 +32,8 @@ slot_read : (e : List ℕ) (shape : Shape) (slot : ℕ) → length e ≡ data_le
 unfolding slot_of
 slot_read e shape slot long = let at : 64 * (slots_of shape + slot) ≡ 64 * (4 * (length e / 512) + slot) = omega (arith, long) in ap (λ (n : ℕ). range e n 64) at
 
-no_slot : (key : ℕ) (said : Option Slot) → said ≡ None → IsOfKey key said → ⊥
-no_slot key said none of = subst (IsOfKey key) none of
+no_slot : (key : ℕ) (said : Option Slot) → said ≡ None → IsOfKey 0 key said → ⊥
+no_slot key said none of = subst (IsOfKey 0 key) none of
 
 module _ (index : Index) (laws : Laws index) (t key : ℕ) (old : PagesView) (tied : IsTied index old) where
   pub seen_none : slot_in index old key ≡ None → get (seen_by (state_of index old) t) key ≡ None

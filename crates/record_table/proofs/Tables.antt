@@ -35,5 +35,5 @@ get-table_in bytes (p ∷ ps) q = get-set (table_in bytes ps) p.0 (value_of (slo
 -- the write that a slot stands for writes the slot's value
 pub value_is : (said : Option Slot) → value_of said ≡ (write_said said).1
 value_is None = refl
-value_is (Some (Absent k)) = refl
-value_is (Some (Present k v)) = refl
+value_is (Some (Absent t k)) = refl
+value_is (Some (Present t k v)) = refl

@@ -50,7 +50,7 @@ module _ (index : Index) (laws : Laws index) (d : List ℕ) (sound : index.sound
 
   same_place : (p : Part) → IsSlotPart index d p → (write_of p).0 ≡ (write_of new).0 → (p.0 ≡ new.0) × (length p.1 ≡ length new.1)
   same_place p at key =
-      let slot : at.slot ≡ is.slot = same_Some at.slot is.slot (sym at.named ∙ ap (found (index.pairs d)) key ∙ is.named) in
+      let slot : at.slot ≡ is.slot = same_Some at.slot is.slot (sym at.named ∙ ap (found (index.pairs d 1)) key ∙ is.named) in
       (at.place ∙ ap (slot_at d) slot ∙ sym is.place, at.size ∙ sym is.size)
 
   other_place : (p : Part) (at : IsSlotPart index d p) → (write_of p).0 ≢ (write_of new).0 → at.slot ≢ is.slot

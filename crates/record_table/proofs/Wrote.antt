@@ -9,6 +9,7 @@ use Rattle.eaw_face.specs.State.{listed, count_on}
 use Rattle.eaw_face.specs.StoreView.{LeavesOnly}
 use Rattle.eaw_face.specs.Causes.{IsAlive}
 use Rattle.record_slots.specs.Slots.{slot_said, slot_bytes}
+use Rattle.record_slots.specs.Places.{IsOfKey}
 use Rattle.record_slots.specs.declared.slot.Slot.{Slot}
 use Rattle.page_store.specs.Command.{write_as}
 use Rattle.page_store.specs.Does.{Does}
@@ -65,18 +66,18 @@ at_most_one true = omega arith
 at_most_one false = omega arith
 
 module _ (tells : Bool) (Opens : List ℕ → List ℕ → Type 0) (index : Index) (laws : Laws index) (t slot : ℕ) (said : Slot) (old new : PagesView) (alive : IsAlive old.store) (rests : Rests tells index old)
-    (told_by : IsTrue tells → IsTold old.store) (ordered : IsOrdered (outline_of old)) (named : IsTrue tells → found (index.pairs old.store.state.bytes) (write_said (Some said)).0 ≡ Some slot)
-    (reads : slot_said (slot_bytes said) ≡ Some said) (whole : length (slot_bytes said) ≡ 64) where
+    (told_by : IsTrue tells → IsTold old.store) (ordered : IsOrdered (outline_of old)) (named : IsTrue tells → found (index.pairs old.store.state.bytes 1) (write_said (Some said)).0 ≡ Some slot)
+    (reads : slot_said (slot_bytes said) ≡ Some said) (whole : length (slot_bytes said) ≡ 64) (of_main : IsOfKey 0 (write_said (Some said)).0 (Some said)) where
   addr : ℕ
   addr = 64 * (slots_of old.store.shape + slot)
 
   part_is : IsTrue tells → IsSlotPart index old.store.state.bytes (64 * (slots_of old.store.shape + slot), slot_bytes said)
   part_is told = record {
     slot = slot;
-    named = ap (λ (s : Option Slot). found (index.pairs old.store.state.bytes) (write_said s).0) reads ∙ named told;
+    named = ap (λ (s : Option Slot). found (index.pairs old.store.state.bytes 1) (write_said s).0) reads ∙ named told;
     place = omega (arith, (told_by told).long);
     size = whole;
-    says = ap is_some reads;
+    says = subst (λ (s : Option Slot). IsOfKey 0 (write_said s).0 s) (sym reads) of_main;
   }
 
   floor_is : IsTrue tells → floor_in (outline_of old) t ≡ floor_of ((state_of index old).logs t)

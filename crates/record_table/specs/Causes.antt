@@ -1,14 +1,15 @@
 -- When each answer comes. `Dead` goes first, then the refusals in their order.
-use Rattle.std.specs.Prelude.{ℕ, ◌≡◌, ◌-◌, ◌<◌, ◌≤◌, ◌⊎◌, Bool, true, false, IsTrue, length, Option, Some, None, IsSome, Result, Ok, Err}
+use Rattle.std.specs.Prelude.{ℕ, ◌≡◌, ◌-◌, ◌<◌, ◌≤◌, ◌⊎◌, Bool, true, false, IsTrue, length, Option, Some, None, IsSome, Result, Ok, Err, List}
 use Rattle.std.specs.FinMap.{get}
 use Rattle.mars_base.specs.Room.{HaveRoom, IsFirstFull}
 use Rattle.eaw_face.specs.Causes.{IsAlive}
-use Rattle.record_slots.specs.Places.{next_slot}
+use Rattle.eaw_face.specs.StoreView.{StoreView}
+use Rattle.record_slots.specs.Places.{next_slot, next_page}
 use Rattle.history.specs.Log.{is_rewritten}
 use Rattle.history.specs.declared.call.Call.{Call}
 use Rattle.history.specs.declared.call.Call.TheVariants.{Get, Put, Del, Scan, Save}
-use Rattle.page_store.specs.Index.{Index, slots_of, index_pages_of}
-use Rattle.page_store.specs.Inserts.{AllFit, LackPages, LackRoom, ComesTo}
+use Rattle.page_store.specs.Index.{Action, Index, slots_of, index_pages_of}
+use Rattle.page_store.specs.Inserts.{AllFit, LackPages, LackRoom}
 use Rattle.page_store.specs.Pairs.{found}
 use Rattle.page_store.specs.Shown.{PagesView}
 use Rattle.record_table.specs.State.{seen_by}
@@ -34,7 +35,12 @@ IsSeen index old t key = IsSome (get (seen_by (state_of index old) t) key)
 
 -- the slot of a key, if the index has the key
 abbrev pub slot_in : Index → PagesView → ℕ → Option ℕ
-slot_in index old key = found (index.pairs old.store.state.bytes) key
+slot_in index old key = found (index.pairs old.store.state.bytes 1) key
+
+-- How far the insertion of a key comes, where no slot and no page is free: a slot is left to give out, and then the actions follow one another.
+abbrev pub ComesTo : Index → ℕ → StoreView → (ℕ → List Action → Type 0) → Type 0
+ComesTo index key old Ends =
+    (next_slot old.state.bytes < slots_of old.shape) × Ends (index_pages_of old.shape - next_page old.state.bytes) (index.actions old.state.bytes 1 key)
 
 -- There is room for a value in the slot of its key. If the index lacks the key, there is room first for its insertion and then for the
 -- value in the next slot.

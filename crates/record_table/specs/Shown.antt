@@ -19,14 +19,14 @@ use Rattle.record_table.specs.State.{TableState, Keys}
 
 -- the value in a slot, if it holds one
 abbrev pub value_of : Option Slot → Option (List ℕ)
-value_of (Some (Present key value)) = Some value
+value_of (Some (Present table key value)) = Some value
 value_of _ = None
 
 -- the write that a slot stands for
 abbrev pub write_said : Option Slot → Write
 write_said None = (0, None)
-write_said (Some (Absent key)) = (key, None)
-write_said (Some (Present key value)) = (key, Some value)
+write_said (Some (Absent table key)) = (key, None)
+write_said (Some (Present table key value)) = (key, Some value)
 
 -- the records of pairs: each key with the value in its slot
 abbrev pub table_in : List ℕ → List Pair → Table
@@ -35,7 +35,7 @@ table_in bytes (pair ∷ pairs) = write_into (table_in bytes pairs) (pair.0, val
 
 -- the records of the data
 unfoldable pub table_of : Index → List ℕ → Table
-table_of index bytes = table_in bytes (index.pairs bytes)
+table_of index bytes = table_in bytes (index.pairs bytes 1)
 
 abbrev pub write_of : Part → Write
 write_of part = write_said (slot_said part.1)
@@ -53,7 +53,7 @@ state_of index view = shown_by index (pages.state_of view)
 
 -- the index in the data
 abbrev pub keys_of : Index → List ℕ → Keys
-keys_of index bytes = record { pairs = index.pairs bytes; next_slot = next_slot bytes; next_page = next_page bytes; level = index.level bytes }
+keys_of index bytes = record { pairs = index.pairs bytes 1; next_slot = next_slot bytes; next_page = next_page bytes; level = index.level bytes 1 }
 
 -- the logger that holds the writes to a slot, and how many entries of a logger one such write needs
 abbrev pub logger_of_slot : Shape → ℕ → ℕ

@@ -15,6 +15,7 @@ ghost use Rattle.record_table.specs.Shown.{state_of, held_on, is_write_on, AreNa
 ghost use Rattle.record_table.specs.Sought.{LooksAs};
 
 use crate::fault::{AttachRecords, TableFault};
+use crate::main_table::{TABLE, find, insert};
 use crate::scanning::gather;
 use crate::slots::{seek, value_at, write_as};
 use crate::told::told;
@@ -92,9 +93,9 @@ impl<S: EawStore, K: KeyIndex> Records<S, K> {
     pub fn is_dead(&self) -> bool
         ensures dead { result ≡ (S.view self.now.store).is_dead }
         ensures held { IsTrue S.tells → IsAlive (S.view self.now.store) → (t g : ℕ) → held_on (pages_of (S.view self.now.store) self.now) t g ≡
-            length (filter (is_write_on (S.view self.now.store).shape (K.index.pairs (S.view self.now.store).state.bytes) g)
+            length (filter (is_write_on (S.view self.now.store).shape (K.index.pairs (S.view self.now.store).state.bytes 1) g)
             ((state_of K.index (pages_of (S.view self.now.store) self.now)).logs t).writes) }
-        ensures named { IsTrue S.tells → IsAlive (S.view self.now.store) → (t : ℕ) → AreNamed (K.index.pairs (S.view self.now.store).state.bytes)
+        ensures named { IsTrue S.tells → IsAlive (S.view self.now.store) → (t : ℕ) → AreNamed (K.index.pairs (S.view self.now.store).state.bytes 1)
             ((state_of K.index (pages_of (S.view self.now.store) self.now)).logs t).writes }
     {
         self.pages.is_dead()
@@ -130,10 +131,14 @@ impl<S: EawStore, K: KeyIndex> Records<S, K> {
             (pages_of (S.view self.old.store) self.old) (pages_of (S.view self.new.store) self.new) (replied (λ done. Fine) result) }
         ensures dead { IsErrOf result TableFault.Dead → self.new ≡ self.old }
     {
-        let present = Slot::Present { key, value };
-        match K::find(&mut self.pages, key) {
+        let present = Slot::Present {
+            table: TABLE,
+            key,
+            value,
+        };
+        match find::<S, K>(&mut self.pages, key) {
             Ok(Some(slot)) => told(write_as(&mut self.pages, tid, slot, &present)),
-            Ok(None) => match K::insert(&mut self.pages, tid, key) {
+            Ok(None) => match insert::<S, K>(&mut self.pages, tid, key) {
                 Ok(slot) => told(write_as(&mut self.pages, tid, slot, &present)),
                 Err(fault) => Err(TableFault::from(fault)),
             },
@@ -156,7 +161,7 @@ impl<S: EawStore, K: KeyIndex> Records<S, K> {
         if place.value.is_none() {
             return Ok(false);
         }
-        match write_as(&mut self.pages, tid, place.slot, &Slot::Absent { key }) {
+        match write_as(&mut self.pages, tid, place.slot, &Slot::Absent { table: TABLE, key }) {
             Ok(()) => Ok(true),
             Err(fault) => Err(TableFault::from(fault)),
         }

@@ -9,6 +9,7 @@ ghost use Rattle.record_table.specs.Scanned.{row_at, rows_seen, Follows, ScanCau
 ghost use Rattle.record_table.specs.Sought.{LooksAs};
 
 use crate::fault::TableFault;
+use crate::main_table::next_key;
 use crate::slots::{page_of, read_as, value_in};
 use eaw_face::EawStore;
 use history::Rows;
@@ -39,7 +40,7 @@ fn next_row<S: EawStore, K: KeyIndex>(
     ensures inside { IfOk result (λ next. IfSome next (λ next. (from ≤ next.key) × (next.key ≤ high))) }
     ensures dead { IsErrOf result PageFault.Dead → pages.new ≡ pages.old }
 {
-    let (key, slot) = match K::next_key(pages, from) {
+    let (key, slot) = match next_key::<S, K>(pages, from) {
         Ok(Some(pair)) => pair,
         Ok(None) => return Ok(None),
         Err(fault) => return Err(fault),

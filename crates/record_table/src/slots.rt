@@ -3,7 +3,7 @@ ghost use Rattle.std.specs.Prelude.{◌≡◌, ◌≢◌, ◌+◌, ◌*◌, ◌%
 ghost use Rattle.mars_base.specs.Bytes.{range};
 ghost use Rattle.array_shape.specs.Places.{page_count};
 ghost use Rattle.eaw_face.specs.Causes.{IsAlive};
-ghost use Rattle.record_slots.specs.Slots.{slot_said, slot_bytes};
+ghost use Rattle.record_slots.specs.Slots.{slot_said, slot_bytes, table_of_slot};
 ghost use Rattle.page_store.specs.Command.{write_as};
 ghost use Rattle.page_store.specs.Does.{Does};
 ghost use Rattle.page_store.specs.Index.{slots_of, index_pages_of};
@@ -15,6 +15,7 @@ ghost use Rattle.record_table.specs.Invariant.{Holds};
 ghost use Rattle.record_table.specs.Shown.{value_of};
 ghost use Rattle.record_table.specs.Sought.{LooksAs, Finds, value_at};
 
+use crate::main_table::find;
 use eaw_face::EawStore;
 use page_store::{KeyIndex, PageFault, Pages};
 use record_slots::{SLOT_LEN, Slot, Value, read_slot, write_slot};
@@ -69,6 +70,7 @@ pub fn write_as<S: EawStore>(
 ) -> Result<(), PageFault>
     requires tid { tid < (S.view pages.old.store).shape.numbers }
     requires slot { slot < slots_of (S.view pages.old.store).shape }
+    requires named { table_of_slot said.now < 8 }
     ensures does { Does S.tells (S.opens (S.view pages.old.store).shape)
         (write_as tid (64 * (slots_of (S.view pages.old.store).shape + slot)) (slot_bytes said.now))
         (pages_of (S.view pages.old.store) pages.old) (pages_of (S.view pages.new.store) pages.new) result }
@@ -101,7 +103,7 @@ pub fn seek<S: EawStore, K: KeyIndex>(
     ensures inside { IfOk result (λ place. IfSome place (λ place. place.slot < slots_of (S.view pages.old.store).shape)) }
     ensures dead { IsErrOf result PageFault.Dead → pages.new ≡ pages.old }
 {
-    let slot = match K::find(pages, key) {
+    let slot = match find::<S, K>(pages, key) {
         Ok(Some(slot)) => slot,
         Ok(None) => return Ok(None),
         Err(fault) => return Err(fault),
@@ -132,7 +134,7 @@ pub fn value_in(said: &Slot) -> Option<Value>
     ensures { result ≡ value_of (Some said.now) }
 {
     match said {
-        Slot::Present { key: _, value } => Some(*value),
-        Slot::Absent { key: _ } => None,
+        Slot::Present { value, .. } => Some(*value),
+        Slot::Absent { .. } => None,
     }
 }

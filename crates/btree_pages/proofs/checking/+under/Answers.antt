@@ -12,11 +12,11 @@ use Rattle.index_pages.proofs.Looking.{looks_none, looks_next}
 use Rattle.index_pages.proofs.Sizes.{index_pages_most}
 use Rattle.index_pages.proofs.Reading.{from_step, from_end}
 use Rattle.btree_pages.specs.Checked.{high_of, IsFrontOf}
-use Rattle.btree_pages.specs.Tree.{AreChildren, next_low, children_check, tree_from}
+use Rattle.btree_laws.specs.Tree.{AreChildren, next_low, children_check, tree_from}
 use Rattle.index_pages.specs.Slots.{IsVerdict}
 use Rattle.btree_pages.proofs.Checks.{whole_left, named_step, named_here, ChildrenLeft, children_step, children_fail, inner_fails, inner_children}
 use Rattle.record_slots.specs.Places.{page_bytes}
-use Rattle.btree_pages.proofs.Telling.{not_damaged, not_passed, told_looks, told_cause, told_dead}
+use Rattle.index_pages.proofs.Tests.{not_damaged, not_passed, told_looks, told_verdict, told_dead}
 use Rattle.btree_pages.proofs.checking.+under.Goals as goal
 
 pub check_children-loop-i-init : goal.check_children-loop-i-init
@@ -30,7 +30,7 @@ check_children-loop-i-init g t c =
         λ a. subst (λ (ps : List Pair). AreChildren c.args.front.now.next_page ps) (sym e) a,
         λ a. subst (λ (ps : List Pair). AreChildren c.args.front.now.next_page ps) e a,
       );
-      left = λ told front. subst (λ (ps : List Pair). ChildrenLeft (c.args.level - 1) view.state.bytes (pairs_said c.args.bytes.now) ps (high_of c.args.high)) e
+      left = λ told front. subst (λ (ps : List Pair). ChildrenLeft c.args.root (c.args.level - 1) view.state.bytes (pairs_said c.args.bytes.now) ps (high_of c.args.high)) e
           (λ verdict told. told);
     }
 
@@ -62,14 +62,14 @@ check_children-returns-in-Err-clause-cause g t c = λ told front.
     let same = (c.loop-i.invariant.looks.still refl).state told in
     let rest = pairs_from c.args.bytes.now (suc c.loop-i.i) (c.args.count - suc c.loop-i.i) in
     let e : Result (Unit {0}) CheckFault = Err c.in-Err.fault in
-    let left = subst (λ (ps : List Pair). ChildrenLeft (c.args.level - 1) view.state.bytes (pairs_said c.args.bytes.now) ps (high_of c.args.high)) (from_step c.args.bytes.now c.loop-i.i c.args.count c.loop-i-test.true)
+    let left = subst (λ (ps : List Pair). ChildrenLeft c.args.root (c.args.level - 1) view.state.bytes (pairs_said c.args.bytes.now) ps (high_of c.args.high)) (from_step c.args.bytes.now c.loop-i.i c.args.count c.loop-i-test.true)
     (c.loop-i.invariant.left told front) in
     let cause = c.in-Err.ensures.cause told (subst (λ (s : State). IsFrontOf s.bytes c.args.front.now) (sym same) front) in
-    let cause' : IsVerdict (tree_from (c.args.level - 1) view.state.bytes (pair_said c.args.bytes.now c.loop-i.i).1 (pair_said c.args.bytes.now c.loop-i.i).0 (next_low rest (high_of c.args.high))) e =
-    subst (λ (h : ℕ). IsVerdict (tree_from (c.args.level - 1) view.state.bytes (pair_said c.args.bytes.now c.loop-i.i).1 (pair_said c.args.bytes.now c.loop-i.i).0 h) e) c.end_of.ensures
-    (subst (λ (p : Pair). IsVerdict (tree_from (c.args.level - 1) view.state.bytes p.1 p.0 (high_of c.end_of.result)) e) c.read_pair-low.ensures.pair
-    (subst (λ (s : State). IsVerdict (tree_from (c.args.level - 1) s.bytes c.read_pair-low.result.1 c.read_pair-low.result.0 (high_of c.end_of.result)) e) same cause)) in
-    children_fail (c.args.level - 1) view.state.bytes (pairs_said c.args.bytes.now) (pair_said c.args.bytes.now c.loop-i.i) rest (high_of c.args.high) left c.in-Err.fault cause'
+    let cause' : IsVerdict (tree_from c.args.root (c.args.level - 1) view.state.bytes (pair_said c.args.bytes.now c.loop-i.i).1 (pair_said c.args.bytes.now c.loop-i.i).0 (next_low rest (high_of c.args.high))) e =
+    subst (λ (h : ℕ). IsVerdict (tree_from c.args.root (c.args.level - 1) view.state.bytes (pair_said c.args.bytes.now c.loop-i.i).1 (pair_said c.args.bytes.now c.loop-i.i).0 h) e) c.end_of.ensures
+    (subst (λ (p : Pair). IsVerdict (tree_from c.args.root (c.args.level - 1) view.state.bytes p.1 p.0 (high_of c.end_of.result)) e) c.read_pair-low.ensures.pair
+    (subst (λ (s : State). IsVerdict (tree_from c.args.root (c.args.level - 1) s.bytes c.read_pair-low.result.1 c.read_pair-low.result.0 (high_of c.end_of.result)) e) same cause)) in
+    children_fail c.args.root (c.args.level - 1) view.state.bytes (pairs_said c.args.bytes.now) (pair_said c.args.bytes.now c.loop-i.i) rest (high_of c.args.high) left c.in-Err.fault cause'
 
 pub check_children-loop-i-preserved : goal.check_children-loop-i-preserved
 check_children-loop-i-preserved g t c =
@@ -85,34 +85,34 @@ check_children-loop-i-preserved g t c =
           let same = (c.loop-i.invariant.looks.still refl).state told in
           let rest = pairs_from c.args.bytes.now (suc c.loop-i.i) (c.args.count - suc c.loop-i.i) in
           let r : Result (Unit {0}) CheckFault = Ok tt in
-          let left = subst (λ (ps : List Pair). ChildrenLeft (c.args.level - 1) view.state.bytes (pairs_said c.args.bytes.now) ps (high_of c.args.high)) (from_step c.args.bytes.now c.loop-i.i c.args.count c.loop-i-test.true)
+          let left = subst (λ (ps : List Pair). ChildrenLeft c.args.root (c.args.level - 1) view.state.bytes (pairs_said c.args.bytes.now) ps (high_of c.args.high)) (from_step c.args.bytes.now c.loop-i.i c.args.count c.loop-i-test.true)
           (c.loop-i.invariant.left told front) in
           let cause = c.in-Ok.ensures.cause told (subst (λ (s : State). IsFrontOf s.bytes c.args.front.now) (sym same) front) in
-          let cause' : IsVerdict (tree_from (c.args.level - 1) view.state.bytes (pair_said c.args.bytes.now c.loop-i.i).1 (pair_said c.args.bytes.now c.loop-i.i).0 (next_low rest (high_of c.args.high))) r =
-          subst (λ (h : ℕ). IsVerdict (tree_from (c.args.level - 1) view.state.bytes (pair_said c.args.bytes.now c.loop-i.i).1 (pair_said c.args.bytes.now c.loop-i.i).0 h) r) c.end_of.ensures
-          (subst (λ (p : Pair). IsVerdict (tree_from (c.args.level - 1) view.state.bytes p.1 p.0 (high_of c.end_of.result)) r) c.read_pair-low.ensures.pair
-          (subst (λ (s : State). IsVerdict (tree_from (c.args.level - 1) s.bytes c.read_pair-low.result.1 c.read_pair-low.result.0 (high_of c.end_of.result)) r) same cause)) in
+          let cause' : IsVerdict (tree_from c.args.root (c.args.level - 1) view.state.bytes (pair_said c.args.bytes.now c.loop-i.i).1 (pair_said c.args.bytes.now c.loop-i.i).0 (next_low rest (high_of c.args.high))) r =
+          subst (λ (h : ℕ). IsVerdict (tree_from c.args.root (c.args.level - 1) view.state.bytes (pair_said c.args.bytes.now c.loop-i.i).1 (pair_said c.args.bytes.now c.loop-i.i).0 h) r) c.end_of.ensures
+          (subst (λ (p : Pair). IsVerdict (tree_from c.args.root (c.args.level - 1) view.state.bytes p.1 p.0 (high_of c.end_of.result)) r) c.read_pair-low.ensures.pair
+          (subst (λ (s : State). IsVerdict (tree_from c.args.root (c.args.level - 1) s.bytes c.read_pair-low.result.1 c.read_pair-low.result.0 (high_of c.end_of.result)) r) same cause)) in
           let on : suc c.loop-i.i ≡ c.loop-i.i + 1 = omega arith in
-          subst (λ (n : ℕ). ChildrenLeft (c.args.level - 1) view.state.bytes (pairs_said c.args.bytes.now) (pairs_from c.args.bytes.now n (c.args.count - n)) (high_of c.args.high)) on
-          (children_step (c.args.level - 1) view.state.bytes (pairs_said c.args.bytes.now) (pair_said c.args.bytes.now c.loop-i.i) rest (high_of c.args.high) left cause');
+          subst (λ (n : ℕ). ChildrenLeft c.args.root (c.args.level - 1) view.state.bytes (pairs_said c.args.bytes.now) (pairs_from c.args.bytes.now n (c.args.count - n)) (high_of c.args.high)) on
+          (children_step c.args.root (c.args.level - 1) view.state.bytes (pairs_said c.args.bytes.now) (pair_said c.args.bytes.now c.loop-i.i) rest (high_of c.args.high) left cause');
     }
 
 pub check_children-returns-clause-cause : goal.check_children-returns-clause-cause
 check_children-returns-clause-cause g t c = λ told front.
     let view = g.S.EawStore.view c.args.pages.now.store in
     c.loop-i.invariant.left told front None
-    (subst (λ (ps : List Pair). children_check (tree_from (c.args.level - 1) view.state.bytes) ps (high_of c.args.high) None) (sym (from_end c.args.bytes.now c.loop-i.i c.args.count c.loop-i-test.false)) tt)
+    (subst (λ (ps : List Pair). children_check (tree_from c.args.root (c.args.level - 1) view.state.bytes) ps (high_of c.args.high) None) (sym (from_end c.args.bytes.now c.loop-i.i c.args.count c.loop-i-test.false)) tt)
 
 pub check_page-returns-then-not-is_inner-clause-cause : goal.check_page-returns-then-not-is_inner-clause-cause
 check_page-returns-then-not-is_inner-clause-cause g t c = λ told front is.
     let view = g.S.EawStore.view c.args.pages.now.store in
-    inner_fails view.state.bytes c.args.bytes.now c.args.spot.page c.args.spot.low (high_of c.args.spot.high) is c.in-Some.ensures.says.node c.args.front.now.next_page front.pages
+    inner_fails c.args.root view.state.bytes c.args.bytes.now c.args.spot.page c.args.spot.low (high_of c.args.spot.high) is c.in-Some.ensures.says.node c.args.front.now.next_page front.pages
     c.args.level c.if-level-eq0.false (λ tests. false≢true (c.if-not-is_inner.ensures.1 tests))
 
 pub check_page-returns-clause-cause : goal.check_page-returns-clause-cause
 check_page-returns-clause-cause g t c = λ told front is.
     let view = g.S.EawStore.view c.args.pages.now.store in
-    inner_children view.state.bytes c.args.bytes.now c.args.spot.page c.args.spot.low (high_of c.args.spot.high) is c.in-Some.ensures.says.node c.args.front.now.next_page front.pages
+    inner_children c.args.root view.state.bytes c.args.bytes.now c.args.spot.page c.args.spot.low (high_of c.args.spot.high) is c.in-Some.ensures.says.node c.args.front.now.next_page front.pages
     c.args.level c.if-level-eq0.false (sym c.in-Some.ensures.says.level ∙ c.if-head-level.false) (c.if-not-is_inner.ensures.0 refl) c.check_children.result
     (c.check_children.ensures.cause told front)
 
@@ -176,7 +176,7 @@ check_page-returns-clause-dead g t c = c.check_children.ensures.dead
 pub check_under-returns-in-Err : goal.check_under-returns-in-Err
 check_under-returns-in-Err g t c = record {
   looks = told_looks g.S.EawStore.tells (g.S.EawStore.opens (g.S.EawStore.view c.args.pages.now.store).shape) (pages_of (g.S.EawStore.view c.args.pages.now.store) c.args.pages.now) (pages_of (g.S.EawStore.view c.fetch_page.new.pages.store) c.fetch_page.new.pages) c.requires.alive c.in-Err.fault c.in-Err.ensures.cause c.check_fault.result c.check_fault.ensures c.in-Err.ensures.looks;
-  cause = λ told front. told_cause g.S.EawStore.tells (g.S.EawStore.opens (g.S.EawStore.view c.args.pages.now.store).shape) (pages_of (g.S.EawStore.view c.args.pages.now.store) c.args.pages.now) (pages_of (g.S.EawStore.view c.fetch_page.new.pages.store) c.fetch_page.new.pages) c.requires.alive c.in-Err.fault c.in-Err.ensures.cause c.check_fault.result c.check_fault.ensures c.args.level (g.S.EawStore.view c.args.pages.now.store).state.bytes c.args.spot.page c.args.spot.low (high_of c.args.spot.high);
+  cause = λ told front. told_verdict g.S.EawStore.tells (g.S.EawStore.opens (g.S.EawStore.view c.args.pages.now.store).shape) (pages_of (g.S.EawStore.view c.args.pages.now.store) c.args.pages.now) (pages_of (g.S.EawStore.view c.fetch_page.new.pages.store) c.fetch_page.new.pages) c.requires.alive c.in-Err.fault c.in-Err.ensures.cause c.check_fault.result c.check_fault.ensures (tree_from c.args.root c.args.level (g.S.EawStore.view c.args.pages.now.store).state.bytes c.args.spot.page c.args.spot.low (high_of c.args.spot.high));
   dead = λ told. told_dead g.S.EawStore.tells (g.S.EawStore.opens (g.S.EawStore.view c.args.pages.now.store).shape) (pages_of (g.S.EawStore.view c.args.pages.now.store) c.args.pages.now) (pages_of (g.S.EawStore.view c.fetch_page.new.pages.store) c.fetch_page.new.pages) c.requires.alive c.in-Err.fault c.in-Err.ensures.cause c.check_fault.result c.check_fault.ensures told;
 }
 
@@ -185,7 +185,7 @@ check_under-returns g t c = record {
   looks = looks_next g.S.EawStore.tells g.S.EawStore.opens _ (pages_of (g.S.EawStore.view c.args.pages.now.store) c.args.pages.now) (pages_of (g.S.EawStore.view c.fetch_page.new.pages.store) c.fetch_page.new.pages) (pages_of (g.S.EawStore.view c.check_page.new.pages.store) c.check_page.new.pages) c.in-Ok.ensures.looks c.check_page.ensures.looks;
   cause = λ told front.
       let same = (c.in-Ok.ensures.looks.still refl).state told in
-      subst (λ (s : State). IsVerdict (tree_from c.args.level s.bytes c.args.spot.page c.args.spot.low (high_of c.args.spot.high)) c.check_page.result) same
+      subst (λ (s : State). IsVerdict (tree_from c.args.root c.args.level s.bytes c.args.spot.page c.args.spot.low (high_of c.args.spot.high)) c.check_page.result) same
       (c.check_page.ensures.cause told (subst (λ (s : State). IsFrontOf s.bytes c.args.front.now) (sym same) front)
       (subst (λ (s : State). c.fetch_page.new.bytes ≡ page_bytes s.bytes c.args.spot.page) (sym same) (c.in-Ok.ensures.bytes told)));
   dead = c.check_page.ensures.dead;

@@ -4,7 +4,7 @@ use Rattle.page_store.specs.Looks.{Looks}
 use Rattle.page_store.specs.Shown.{pages_of}
 use Rattle.index_pages.specs.Page.{pairs_from, pairs_said}
 use Rattle.btree_pages.specs.Checked.{high_of, IsFrontOf}
-use Rattle.btree_pages.specs.Tree.{AreChildren}
+use Rattle.btree_laws.specs.Tree.{AreChildren}
 use Rattle.btree_pages.proofs.Checks.{ChildrenLeft}
 use Rattle.btree_pages.proofs.checking.+under.Given as goal
 
@@ -25,5 +25,5 @@ invariant-check_children-loop-i g l = record {
   alive : IsAlive (g.S.EawStore.view l.pages.store);
   named : AreChildren l.front.next_page (pairs_from l.bytes l.i (l.count - l.i)) ↔ AreChildren l.front.next_page (pairs_said l.bytes);
   left : IsTrue g.S.EawStore.tells → IsFrontOf (g.S.EawStore.view l.fn.pages.store).state.bytes l.front
-      → ChildrenLeft (l.level - 1) (g.S.EawStore.view l.fn.pages.store).state.bytes (pairs_said l.bytes) (pairs_from l.bytes l.i (l.count - l.i)) (high_of l.high);
+      → ChildrenLeft l.root (l.level - 1) (g.S.EawStore.view l.fn.pages.store).state.bytes (pairs_said l.bytes) (pairs_from l.bytes l.i (l.count - l.i)) (high_of l.high);
 }

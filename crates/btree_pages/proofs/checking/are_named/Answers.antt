@@ -1,7 +1,7 @@
 use Rattle.std.proofs.Common.{List, refl, ap, subst, sym, arith}
 use Rattle.std.proofs.lemmas.Bool.{false≢true}
 use Rattle.page_store.specs.Pairs.{Pair}
-use Rattle.btree_pages.specs.Tree.{AreChildren}
+use Rattle.btree_laws.specs.Tree.{AreChildren}
 use Rattle.index_pages.specs.Page.{pairs_said}
 use Rattle.btree_pages.proofs.Checks.{whole_left, named_step, named_here, named_end}
 use Rattle.btree_pages.proofs.checking.are_named.Goals as goal

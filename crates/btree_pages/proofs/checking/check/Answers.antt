@@ -1,37 +1,75 @@
-use Rattle.std.proofs.Common.{◌∙◌, false, Err, refl, sym, ap, subst}
+use Rattle.std.proofs.Common.{◌≡◌, ◌∙◌, false, Ok, Err, Result, None, refl, sym, ap, subst}
 use Rattle.array_shape.specs.declared.shape.Shape.{Shape}
+use Rattle.eaw_face.specs.State.{State}
+use Rattle.mars_base.specs.Check.{both}
+use Rattle.record_slots.specs.Places.{page_bytes, tables_of, IsSuper}
+use Rattle.record_slots.specs.Super.{SaysSuper}
 use Rattle.record_slots.specs.declared.super_page.Super.{Super}
 use Rattle.page_store.specs.Shown.{pages_of}
+use Rattle.page_store.specs.declared.index_fault.CheckFault.{CheckFault}
 use Rattle.index_pages.specs.Fetched.{IsFront}
+use Rattle.index_pages.specs.Slots.{IsVerdict, slots_check, pages_check, tables_check}
 use Rattle.index_pages.proofs.Looking.{looks_next}
-use Rattle.btree_pages.proofs.Telling.{check_looks, dead_told, not_damaged, told_dead}
+use Rattle.btree_pages.specs.Index.{tree, tree_of}
+use Rattle.index_pages.proofs.Tests.{check_looks, dead_told, super_fails, lists_fail, tables_tell}
 use Rattle.btree_pages.proofs.checking.check.Goals as goal
 
 pub returns-in-Err-clause-looks : goal.returns-in-Err-clause-looks
-returns-in-Err-clause-looks g c = check_looks Super g.S.EawStore.tells (g.S.EawStore.opens (g.S.EawStore.view c.args.pages.now.store).shape) (pages_of (g.S.EawStore.view c.args.pages.now.store) c.args.pages.now) (pages_of (g.S.EawStore.view c.fetch_super.new.pages.store) c.fetch_super.new.pages) c.in-Err.fault c.check_fault.result c.check_fault.ensures c.in-Err.ensures.looks
+returns-in-Err-clause-looks g c = check_looks Super g.S.EawStore.tells (g.S.EawStore.opens (g.S.EawStore.view c.args.pages.now.store).shape) (pages_of (g.S.EawStore.view c.args.pages.now.store) c.args.pages.now) (pages_of (g.S.EawStore.view c.check_super.new.pages.store) c.check_super.new.pages) c.in-Err.fault c.check_fault.result c.check_fault.ensures c.in-Err.ensures.looks
+
+pub returns-in-Err-clause-cause : goal.returns-in-Err-clause-cause
+returns-in-Err-clause-cause g c = super_fails tree 1 tree_of (λ b c. c) (λ b bad c. c) g.S.EawStore.tells (g.S.EawStore.view c.args.pages.now.store) c.in-Err.fault c.check_fault.result c.check_fault.ensures c.in-Err.ensures.cause
 
 pub returns-in-Err-clause-dead : goal.returns-in-Err-clause-dead
 returns-in-Err-clause-dead g c = λ told. c.in-Err.ensures.dead (ap Err (dead_told Super _ _ _ (g.S.EawStore.view c.args.pages.now.store) c.in-Err.fault c.check_fault.result c.in-Err.ensures.cause c.check_fault.ensures told))
 
-pub returns-in-Err-fetch_page-clause-looks : goal.returns-in-Err-fetch_page-clause-looks
-returns-in-Err-fetch_page-clause-looks g c = check_looks (Unit {0}) g.S.EawStore.tells (g.S.EawStore.opens (g.S.EawStore.view c.args.pages.now.store).shape) (pages_of (g.S.EawStore.view c.args.pages.now.store) c.args.pages.now) (pages_of (g.S.EawStore.view c.fetch_page.new.pages.store) c.fetch_page.new.pages) c.in-Err-fetch_page.fault c.check_fault-in-Err-fetch_page.result c.check_fault-in-Err-fetch_page.ensures
-    (looks_next g.S.EawStore.tells g.S.EawStore.opens _ (pages_of (g.S.EawStore.view c.args.pages.now.store) c.args.pages.now) (pages_of (g.S.EawStore.view c.fetch_super.new.pages.store) c.fetch_super.new.pages) (pages_of (g.S.EawStore.view c.fetch_page.new.pages.store) c.fetch_page.new.pages) c.in-Ok.ensures.looks c.in-Err-fetch_page.ensures.looks)
+pub check_lists-requires : goal.check_lists-requires
+check_lists-requires g c = record {
+  alive = (c.in-Ok.ensures.looks.still refl).dead ∙ c.in-Ok.ensures.cause;
+  front = subst (λ (sh : Shape). IsFront sh c.in-Ok.front) (sym c.in-Ok.ensures.looks.shape) c.in-Ok.ensures.front;
+}
 
-pub returns-in-Err-fetch_page-clause-dead : goal.returns-in-Err-fetch_page-clause-dead
-returns-in-Err-fetch_page-clause-dead g c = λ told. told_dead g.S.EawStore.tells (g.S.EawStore.opens (g.S.EawStore.view c.fetch_super.new.pages.store).shape) (pages_of (g.S.EawStore.view c.fetch_super.new.pages.store) c.fetch_super.new.pages) (pages_of (g.S.EawStore.view c.fetch_page.new.pages.store) c.fetch_page.new.pages) ((c.in-Ok.ensures.looks.still refl).dead ∙ c.in-Ok.ensures.cause) c.in-Err-fetch_page.fault c.in-Err-fetch_page.ensures.cause c.check_fault-in-Err-fetch_page.result c.check_fault-in-Err-fetch_page.ensures told
+pub returns-in-Err-check_lists-clause-looks : goal.returns-in-Err-check_lists-clause-looks
+returns-in-Err-check_lists-clause-looks g c = looks_next g.S.EawStore.tells g.S.EawStore.opens _ (pages_of (g.S.EawStore.view c.args.pages.now.store) c.args.pages.now) (pages_of (g.S.EawStore.view c.check_super.new.pages.store) c.check_super.new.pages) (pages_of (g.S.EawStore.view c.check_lists.new.pages.store) c.check_lists.new.pages) c.in-Ok.ensures.looks c.in-Err-check_lists.ensures.looks
 
-pub returns-then-level-gt-LEVEL_MAX-clause-looks : goal.returns-then-level-gt-LEVEL_MAX-clause-looks
-returns-then-level-gt-LEVEL_MAX-clause-looks g c = looks_next g.S.EawStore.tells g.S.EawStore.opens false (pages_of (g.S.EawStore.view c.args.pages.now.store) c.args.pages.now) (pages_of (g.S.EawStore.view c.fetch_super.new.pages.store) c.fetch_super.new.pages) (pages_of (g.S.EawStore.view c.fetch_page.new.pages.store) c.fetch_page.new.pages) c.in-Ok.ensures.looks c.in-Ok-fetch_page.ensures.looks
+pub returns-in-Err-check_lists-clause-cause : goal.returns-in-Err-check_lists-clause-cause
+returns-in-Err-check_lists-clause-cause g c =
+    let r : Result (Unit {0}) CheckFault = Err c.in-Err-check_lists.fault in
+    lists_fail tree 1 tree_of (λ b c. c) (λ b bad c. c) g.S.EawStore.tells (g.S.EawStore.view c.args.pages.now.store) c.in-Ok.ensures.cause (λ told. c.in-Ok.ensures.sound told) c.in-Err-check_lists.fault
+    (λ told.
+    let same = (c.in-Ok.ensures.looks.still refl).state told in
+    subst (λ (s : State). IsVerdict (both (slots_check s.bytes) (pages_check s.bytes)) r) same
+    (c.in-Err-check_lists.ensures.cause told (subst (λ (s : State). SaysSuper (page_bytes s.bytes 0) c.in-Ok.front) (sym same) (c.in-Ok.ensures.says told))))
+    c.in-Err-check_lists.ensures.dead
 
-pub returns-then-level-gt-LEVEL_MAX-clause-dead : goal.returns-then-level-gt-LEVEL_MAX-clause-dead
-returns-then-level-gt-LEVEL_MAX-clause-dead g c = λ told. not_damaged _ told
+pub returns-in-Err-check_lists-clause-dead : goal.returns-in-Err-check_lists-clause-dead
+returns-in-Err-check_lists-clause-dead g c = λ told. absurd (c.in-Err-check_lists.ensures.dead told)
 
-pub check_page-requires : goal.check_page-requires
-check_page-requires g c = record { alive = (c.in-Ok-fetch_page.ensures.looks.still refl).dead ∙ (c.in-Ok.ensures.looks.still refl).dead ∙ c.in-Ok.ensures.cause; front = subst (λ (sh : Shape). IsFront sh c.in-Ok.front) (sym (c.in-Ok-fetch_page.ensures.looks.shape ∙ c.in-Ok.ensures.looks.shape)) c.in-Ok.ensures.front; level = c.if-level-gt-LEVEL_MAX.false }
+pub check_tables-requires : goal.check_tables-requires
+check_tables-requires g c = record {
+  alive = (c.in-Ok-check_lists.ensures.looks.still refl).dead ∙ (c.in-Ok.ensures.looks.still refl).dead ∙ c.in-Ok.ensures.cause;
+  front = subst (λ (sh : Shape). IsFront sh c.in-Ok.front) (sym (c.in-Ok-check_lists.ensures.looks.shape ∙ c.in-Ok.ensures.looks.shape)) c.in-Ok.ensures.front;
+  sound = λ told.
+      subst (λ (s : State). IsSuper 1 s.bytes) (sym ((c.in-Ok-check_lists.ensures.looks.still refl).state told ∙ (c.in-Ok.ensures.looks.still refl).state told)) (c.in-Ok.ensures.sound told);
+}
 
 pub returns-clause-looks : goal.returns-clause-looks
-returns-clause-looks g c =
-    looks_next g.S.EawStore.tells g.S.EawStore.opens _ (pages_of (g.S.EawStore.view c.args.pages.now.store) c.args.pages.now) (pages_of (g.S.EawStore.view c.fetch_page.new.pages.store) c.fetch_page.new.pages) (pages_of (g.S.EawStore.view c.check_page.new.pages.store) c.check_page.new.pages) (looks_next g.S.EawStore.tells g.S.EawStore.opens false (pages_of (g.S.EawStore.view c.args.pages.now.store) c.args.pages.now) (pages_of (g.S.EawStore.view c.fetch_super.new.pages.store) c.fetch_super.new.pages) (pages_of (g.S.EawStore.view c.fetch_page.new.pages.store) c.fetch_page.new.pages) c.in-Ok.ensures.looks c.in-Ok-fetch_page.ensures.looks) c.check_page.ensures.looks
+returns-clause-looks g c = looks_next g.S.EawStore.tells g.S.EawStore.opens _ (pages_of (g.S.EawStore.view c.args.pages.now.store) c.args.pages.now) (pages_of (g.S.EawStore.view c.check_lists.new.pages.store) c.check_lists.new.pages) (pages_of (g.S.EawStore.view c.check_tables.new.pages.store) c.check_tables.new.pages) (looks_next g.S.EawStore.tells g.S.EawStore.opens false (pages_of (g.S.EawStore.view c.args.pages.now.store) c.args.pages.now) (pages_of (g.S.EawStore.view c.check_super.new.pages.store) c.check_super.new.pages) (pages_of (g.S.EawStore.view c.check_lists.new.pages.store) c.check_lists.new.pages) c.in-Ok.ensures.looks c.in-Ok-check_lists.ensures.looks) c.check_tables.ensures.looks
+
+pub returns-clause-cause : goal.returns-clause-cause
+returns-clause-cause g c =
+    let r : Result (Unit {0}) CheckFault = Ok tt in
+    tables_tell tree 1 tree_of (λ b c. c) (λ b bad c. c) g.S.EawStore.tells (g.S.EawStore.view c.args.pages.now.store) c.in-Ok.ensures.cause (λ told. c.in-Ok.ensures.sound told)
+    (λ told.
+    let same = (c.in-Ok.ensures.looks.still refl).state told in
+    subst (λ (s : State). IsVerdict (both (slots_check s.bytes) (pages_check s.bytes)) r) same
+    (c.in-Ok-check_lists.ensures.cause told (subst (λ (s : State). SaysSuper (page_bytes s.bytes 0) c.in-Ok.front) (sym same) (c.in-Ok.ensures.says told))))
+    c.check_tables.result
+    (λ told.
+    let same = (c.in-Ok-check_lists.ensures.looks.still refl).state told ∙ (c.in-Ok.ensures.looks.still refl).state told in
+    subst (λ (s : State). IsVerdict (tables_check (tree_of s.bytes) 0 (tables_of s.bytes)) c.check_tables.result) same
+    (c.check_tables.ensures.cause told (subst (λ (s : State). SaysSuper (page_bytes s.bytes 0) c.in-Ok.front) (sym same) (c.in-Ok.ensures.says told))))
+    c.check_tables.ensures.dead
 
 pub returns-clause-dead : goal.returns-clause-dead
-returns-clause-dead g c = λ told. absurd (c.check_page.ensures.dead told)
+returns-clause-dead g c = λ told. absurd (c.check_tables.ensures.dead told)

@@ -18,7 +18,7 @@ loop-i-init g c =
     record {
       looks = looks_none g.S.EawStore.tells (g.S.EawStore.opens view.shape) (pages_of view c.args.pages.now);
       alive = c.requires.alive;
-      left = λ told slots. subst (λ (ps : List Pair). SlotsLeft view.state.bytes c.args.page (pairs_said c.args.bytes.now) ps) (whole_left c.args.bytes.now c.args.count c.requires.count)
+      left = λ told slots. subst (λ (ps : List Pair). SlotsLeft view.state.bytes c.args.table c.args.page (pairs_said c.args.bytes.now) ps) (whole_left c.args.bytes.now c.args.count c.requires.count)
           (λ verdict told. told);
     }
 
@@ -28,12 +28,12 @@ returns-in-Err-clause-cause g c = λ told slots.
     let same = (c.loop-i.invariant.looks.still refl).state told in
     let rest = pairs_from c.args.bytes.now (suc c.loop-i.i) (c.args.count - suc c.loop-i.i) in
     let e : Result (Unit {0}) CheckFault = Err c.in-Err.fault in
-    let left = subst (λ (ps : List Pair). SlotsLeft view.state.bytes c.args.page (pairs_said c.args.bytes.now) ps) (from_step c.args.bytes.now c.loop-i.i c.args.count c.loop-i-test.true)
+    let left = subst (λ (ps : List Pair). SlotsLeft view.state.bytes c.args.table c.args.page (pairs_said c.args.bytes.now) ps) (from_step c.args.bytes.now c.loop-i.i c.args.count c.loop-i-test.true)
     (c.loop-i.invariant.left told slots) in
     let cause = c.in-Err.ensures.cause told (slots ∙ ap (λ (s : State). next_slot s.bytes) (sym same)) in
-    let cause' : IsVerdict (slot_check view.state.bytes c.args.page (pair_said c.args.bytes.now c.loop-i.i)) e =
-    subst (λ (p : Pair). IsVerdict (slot_check view.state.bytes c.args.page p) e) c.read_pair-pair.ensures.pair (subst (λ (s : State). IsVerdict (slot_check s.bytes c.args.page c.read_pair-pair.result) e) same cause) in
-    slots_fail view.state.bytes c.args.page (pairs_said c.args.bytes.now) (pair_said c.args.bytes.now c.loop-i.i) rest left c.in-Err.fault cause'
+    let cause' : IsVerdict (slot_check view.state.bytes c.args.table c.args.page (pair_said c.args.bytes.now c.loop-i.i)) e =
+    subst (λ (p : Pair). IsVerdict (slot_check view.state.bytes c.args.table c.args.page p) e) c.read_pair-pair.ensures.pair (subst (λ (s : State). IsVerdict (slot_check s.bytes c.args.table c.args.page c.read_pair-pair.result) e) same cause) in
+    slots_fail view.state.bytes c.args.table c.args.page (pairs_said c.args.bytes.now) (pair_said c.args.bytes.now c.loop-i.i) rest left c.in-Err.fault cause'
 
 pub loop-i-preserved : goal.loop-i-preserved
 loop-i-preserved g c =
@@ -47,17 +47,17 @@ loop-i-preserved g c =
           let same = (c.loop-i.invariant.looks.still refl).state told in
           let rest = pairs_from c.args.bytes.now (suc c.loop-i.i) (c.args.count - suc c.loop-i.i) in
           let r : Result (Unit {0}) CheckFault = Ok tt in
-          let left = subst (λ (ps : List Pair). SlotsLeft view.state.bytes c.args.page (pairs_said c.args.bytes.now) ps) (from_step c.args.bytes.now c.loop-i.i c.args.count c.loop-i-test.true)
+          let left = subst (λ (ps : List Pair). SlotsLeft view.state.bytes c.args.table c.args.page (pairs_said c.args.bytes.now) ps) (from_step c.args.bytes.now c.loop-i.i c.args.count c.loop-i-test.true)
           (c.loop-i.invariant.left told slots) in
           let cause = c.in-Ok.ensures.cause told (slots ∙ ap (λ (s : State). next_slot s.bytes) (sym same)) in
-          let cause' : IsVerdict (slot_check view.state.bytes c.args.page (pair_said c.args.bytes.now c.loop-i.i)) r =
-          subst (λ (p : Pair). IsVerdict (slot_check view.state.bytes c.args.page p) r) c.read_pair-pair.ensures.pair (subst (λ (s : State). IsVerdict (slot_check s.bytes c.args.page c.read_pair-pair.result) r) same cause) in
+          let cause' : IsVerdict (slot_check view.state.bytes c.args.table c.args.page (pair_said c.args.bytes.now c.loop-i.i)) r =
+          subst (λ (p : Pair). IsVerdict (slot_check view.state.bytes c.args.table c.args.page p) r) c.read_pair-pair.ensures.pair (subst (λ (s : State). IsVerdict (slot_check s.bytes c.args.table c.args.page c.read_pair-pair.result) r) same cause) in
           let on : suc c.loop-i.i ≡ c.loop-i.i + 1 = omega arith in
-          subst (λ (n : ℕ). SlotsLeft view.state.bytes c.args.page (pairs_said c.args.bytes.now) (pairs_from c.args.bytes.now n (c.args.count - n))) on
-          (slots_step view.state.bytes c.args.page (pairs_said c.args.bytes.now) (pair_said c.args.bytes.now c.loop-i.i) rest left cause');
+          subst (λ (n : ℕ). SlotsLeft view.state.bytes c.args.table c.args.page (pairs_said c.args.bytes.now) (pairs_from c.args.bytes.now n (c.args.count - n))) on
+          (slots_step view.state.bytes c.args.table c.args.page (pairs_said c.args.bytes.now) (pair_said c.args.bytes.now c.loop-i.i) rest left cause');
     }
 
 pub returns-clause-cause : goal.returns-clause-cause
 returns-clause-cause g c = λ told slots.
     let view = g.S.EawStore.view c.args.pages.now.store in
-    c.loop-i.invariant.left told slots None (subst (λ (ps : List Pair). each (slot_check view.state.bytes c.args.page) ps None) (sym (from_end c.args.bytes.now c.loop-i.i c.args.count c.loop-i-test.false)) tt)
+    c.loop-i.invariant.left told slots None (subst (λ (ps : List Pair). each (slot_check view.state.bytes c.args.table c.args.page) ps None) (sym (from_end c.args.bytes.now c.loop-i.i c.args.count c.loop-i-test.false)) tt)

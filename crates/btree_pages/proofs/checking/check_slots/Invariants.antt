@@ -14,5 +14,5 @@ invariant-loop-i g l = record {
       (pages_of (g.S.EawStore.view l.fn.pages.store) l.fn.pages) (pages_of (g.S.EawStore.view l.pages.store) l.pages);
   alive : IsAlive (g.S.EawStore.view l.pages.store);
   left : IsTrue g.S.EawStore.tells → l.slots ≡ next_slot (g.S.EawStore.view l.fn.pages.store).state.bytes
-      → SlotsLeft (g.S.EawStore.view l.fn.pages.store).state.bytes l.page (pairs_said l.bytes) (pairs_from l.bytes l.i (l.count - l.i));
+      → SlotsLeft (g.S.EawStore.view l.fn.pages.store).state.bytes l.table l.page (pairs_said l.bytes) (pairs_from l.bytes l.i (l.count - l.i));
 }

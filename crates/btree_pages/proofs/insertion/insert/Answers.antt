@@ -1,52 +1,87 @@
-use Rattle.std.proofs.Common.{◌≡◌, ◌+◌, ◌^◌, ◌<◌, ℕ, false, Option, Result, Err, length, List, IsTrue, refl, sym, ◌∙◌, ap, subst, arith}
+use Rattle.std.proofs.Common.{◌≡◌, ◌+◌, ◌^◌, ◌<◌, ◌≤◌, ℕ, List, Option, Result, Err, length, false, IsTrue, refl, sym, ◌∙◌, ap, subst, arith}
+use Rattle.std.proofs.lemmas.Bool.{false≢true}
 use Rattle.array_shape.specs.declared.shape.Shape.{Shape}
-use Rattle.array_shape.specs.Places.{page_count}
 use Rattle.eaw_face.specs.State.{State}
+use Rattle.record_slots.specs.Places.{page_bytes, first_slot_page, IsSuper}
+use Rattle.record_slots.specs.declared.super_page.Super.{Super}
+use Rattle.page_store.specs.Index.{slots_of, index_pages_of}
 use Rattle.page_store.specs.Inserts.{Inserts}
 use Rattle.page_store.specs.Shown.{pages_of}
 use Rattle.page_store.specs.declared.index_fault.IndexFault.{IndexFault}
-use Rattle.page_store.specs.Index.{slots_of, index_pages_of}
 use Rattle.index_pages.specs.Fetched.{IsFront}
 use Rattle.index_pages.specs.Page.{level_of, page_pairs}
 use Rattle.index_pages.proofs.Looking.{looks_next}
-use Rattle.btree_pages.specs.Checked.{IsFrontOf}
-use Rattle.btree_pages.specs.Index.{tree}
-use Rattle.btree_pages.specs.Writes.{IsRead, growing_pages}
-use Rattle.record_slots.specs.declared.super_page.Super.{Super}
+use Rattle.index_pages.proofs.Sizes.{index_pages_are}
 use Rattle.btree_pages.specs.declared.node.Node.{Node}
-use Rattle.btree_pages.proofs.Whole.{front_says, root_err, root_then, root_high, root_full, grow_err, going2, sound2, absent2, counts2, reached2, grown_then}
-use Rattle.btree_pages.proofs.Below.{half_read}
-use Rattle.btree_pages.proofs.Rooted.{test_of_index, act_of_index, dead_fault, not_full, not_slots, dead_test, dead_act, slot_there, room_for, full_with, below_most, two_some, one_less, half_some, half_room, front_more, read_half, super_err, slots_full, alive_yet, bytes_yet, sound_yet, absent_yet, root_reached, root_read}
+use Rattle.btree_pages.specs.Index.{tree}
+use Rattle.btree_pages.specs.Node.{IsNode}
+use Rattle.btree_pages.specs.Writes.{IsRead}
+use Rattle.index_pages.proofs.Faulting.{test_of_index, dead_fault, dead_test, not_slots, not_damage, room_for, full_with}
+use Rattle.btree_pages.proofs.Rooted.{slot_there, super_err, slots_full, root_out, alive_yet, bytes_yet, sound_yet, named_yet, absent_yet, says_yet, root_reached, root_read}
+use Rattle.btree_pages.proofs.Whole.{root_err, looked_then, root_then}
 use Rattle.btree_pages.proofs.insertion.insert.Goals as goal
 
-pub returns-in-Err : goal.returns-in-Err
-returns-in-Err g c =
+pub returns-in-Err-clause-inserts : goal.returns-in-Err-clause-inserts
+returns-in-Err-clause-inserts g c =
     let T = g.S.EawStore.tells in
     let V = g.S.EawStore.view in
     let E = g.S.EawStore.opens in
     let t = c.args.tid in
+    let root = c.args.root in
     let key = c.args.key in
     let v0 = pages_of (V c.args.pages.now.store) c.args.pages.now in
+    let n = c.index_page_count-count.ensures in
     let vs = pages_of (V c.fetch_super.new.pages.store) c.fetch_super.new.pages in
-    record {
-      inserts = subst (λ (f : IndexFault). (let r : Result ℕ IndexFault = Err f in Inserts T (E v0.store.shape) tree t key v0 vs r)) (sym c.index_fault.ensures)
-          (super_err T E t key v0 c.requires.sound vs c.in-Err.fault c.in-Err.ensures.looks c.in-Err.ensures.cause);
-      dead = λ told. c.in-Err.ensures.dead (ap Err (dead_fault c.in-Err.fault c.index_fault.result (test_of_index Super _ _ _ v0.store c.in-Err.fault c.in-Err.ensures.cause) c.index_fault.ensures told));
-    }
+    subst (λ (f : IndexFault). (let r : Result ℕ IndexFault = Err f in Inserts T (E v0.store.shape) tree t root.page root.table key v0 vs r)) (sym c.index_fault.ensures) (super_err T E t root key v0 c.requires.sound c.requires.named vs c.in-Err.fault c.in-Err.ensures.looks c.in-Err.ensures.cause)
 
-pub returns-then-front-count : goal.returns-then-front-count
-returns-then-front-count g c =
+pub returns-in-Err-clause-dead : goal.returns-in-Err-clause-dead
+returns-in-Err-clause-dead g c =
+    λ told. c.in-Err.ensures.dead (ap Err (dead_fault c.in-Err.fault c.index_fault.result (test_of_index Super g.S.EawStore.tells (IsSuper 1 (g.S.EawStore.view c.args.pages.now.store).state.bytes) 0 (g.S.EawStore.view c.args.pages.now.store) c.in-Err.fault c.in-Err.ensures.cause) c.index_fault.ensures told))
+
+pub returns-then-not-is_slot_left-clause-inserts : goal.returns-then-not-is_slot_left-clause-inserts
+returns-then-not-is_slot_left-clause-inserts g c =
     let T = g.S.EawStore.tells in
     let V = g.S.EawStore.view in
     let E = g.S.EawStore.opens in
     let t = c.args.tid in
+    let root = c.args.root in
     let key = c.args.key in
     let v0 = pages_of (V c.args.pages.now.store) c.args.pages.now in
+    let n = c.index_page_count-count.ensures in
     let vs = pages_of (V c.fetch_super.new.pages.store) c.fetch_super.new.pages in
+    let front = c.in-Ok.front in
+    slots_full T E t root key v0 c.requires.sound c.requires.named vs c.in-Ok.ensures.looks c.in-Ok.ensures.cause c.index_page_count-count.result front n.all c.in-Ok.ensures.front (λ has. false≢true (c.if-not-is_slot_left.ensures.1 has)) c.in-Ok.ensures.says
+
+pub returns-then-not-is_slot_left-clause-dead : goal.returns-then-not-is_slot_left-clause-dead
+returns-then-not-is_slot_left-clause-dead g c =
+    λ told. not_slots _ told
+
+pub returns-then-not-is_index_page-clause-inserts : goal.returns-then-not-is_index_page-clause-inserts
+returns-then-not-is_index_page-clause-inserts g c =
+    let T = g.S.EawStore.tells in
+    let V = g.S.EawStore.view in
+    let E = g.S.EawStore.opens in
+    let t = c.args.tid in
+    let root = c.args.root in
+    let key = c.args.key in
+    let v0 = pages_of (V c.args.pages.now.store) c.args.pages.now in
+    let n = c.index_page_count-count.ensures in
+    let vs = pages_of (V c.fetch_super.new.pages.store) c.fetch_super.new.pages in
+    let front = c.in-Ok.front in
+    let long = λ (told : IsTrue g.S.EawStore.tells). g.met.S.EawStore.long c.args.pages.now.store told in
+    root_out T E t root key v0 c.requires.sound c.requires.named vs c.in-Ok.ensures.looks c.in-Ok.ensures.cause c.index_page_count-count.result n.count (λ told. (let e : first_slot_page (g.S.EawStore.view c.args.pages.now.store).state.bytes ≡ c.index_page_count-count.result = omega (arith, index_pages_are v0.store.shape v0.store.state.bytes (long told), n.count) in e))
+    (λ some less. false≢true (c.if-not-is_index_page.ensures.1 (some, less)))
+
+pub returns-then-not-is_index_page-clause-dead : goal.returns-then-not-is_index_page-clause-dead
+returns-then-not-is_index_page-clause-dead g c =
+    λ told. not_damage _ told
+
+pub fetch_node-requires : goal.fetch_node-requires
+fetch_node-requires g c =
+    let inside = c.if-not-is_index_page.ensures.0 refl in
     record {
-      inserts = slots_full T E t key v0 c.requires.sound vs c.in-Ok.ensures.looks c.in-Ok.ensures.cause c.index_page_count-count.result c.in-Ok.front.next_slot c.index_page_count-count.ensures.all c.if-front-count.true
-          (λ told. (front_says v0.store.state.bytes c.in-Ok.front (c.in-Ok.ensures.says told)).slots);
-      dead = λ told. not_slots c.in-Ok.front.next_slot told;
+      some = inside.0;
+      inside = subst (λ (k : ℕ). c.args.root.page < k) (c.index_page_count-count.ensures.count ∙ ap index_pages_of (sym c.in-Ok.ensures.looks.shape)) inside.1;
     }
 
 pub returns-in-Err-fetch_node-clause-inserts : goal.returns-in-Err-fetch_node-clause-inserts
@@ -55,18 +90,33 @@ returns-in-Err-fetch_node-clause-inserts g c =
     let V = g.S.EawStore.view in
     let E = g.S.EawStore.opens in
     let t = c.args.tid in
+    let root = c.args.root in
     let key = c.args.key in
     let v0 = pages_of (V c.args.pages.now.store) c.args.pages.now in
+    let n = c.index_page_count-count.ensures in
     let vs = pages_of (V c.fetch_super.new.pages.store) c.fetch_super.new.pages in
+    let front = c.in-Ok.front in
     let v1 = pages_of (V c.fetch_node.new.pages.store) c.fetch_node.new.pages in
     let small : c.args.key < 2 ^ 64 = omega arith in
-    subst (λ (f : IndexFault). (let r : Result ℕ IndexFault = Err f in Inserts T (E v0.store.shape) tree t key v0 v1 r)) (sym c.index_fault-in-Err-fetch_node.ensures)
-    (root_err T E t key v0 vs c.requires.sound small c.in-Ok.ensures.looks v1 c.in-Err-fetch_node.fault (c.in-Err-fetch_node.ensures.looks, c.in-Err-fetch_node.ensures.cause))
+    subst (λ (f : IndexFault). (let r : Result ℕ IndexFault = Err f in Inserts T (E v0.store.shape) tree t root.page root.table key v0 v1 r)) (sym c.index_fault-in-Err-fetch_node.ensures)
+    (root_err T E t root key v0 vs c.requires.sound c.requires.named small c.in-Ok.ensures.looks v1 c.in-Err-fetch_node.fault (c.in-Err-fetch_node.ensures.looks, c.in-Err-fetch_node.ensures.cause))
 
 pub returns-in-Err-fetch_node-clause-dead : goal.returns-in-Err-fetch_node-clause-dead
 returns-in-Err-fetch_node-clause-dead g c =
-    λ told. dead_test Node _ _ _ (g.S.EawStore.view c.fetch_super.new.pages.store) c.in-Err-fetch_node.fault ((c.in-Ok.ensures.looks.still refl).dead ∙ c.in-Ok.ensures.cause)
-    (dead_fault c.in-Err-fetch_node.fault c.index_fault-in-Err-fetch_node.result (test_of_index Node _ _ _ (g.S.EawStore.view c.fetch_super.new.pages.store) c.in-Err-fetch_node.fault c.in-Err-fetch_node.ensures.cause) c.index_fault-in-Err-fetch_node.ensures told) c.in-Err-fetch_node.ensures.cause
+    let T = g.S.EawStore.tells in
+    let V = g.S.EawStore.view in
+    let E = g.S.EawStore.opens in
+    let t = c.args.tid in
+    let root = c.args.root in
+    let key = c.args.key in
+    let v0 = pages_of (V c.args.pages.now.store) c.args.pages.now in
+    let n = c.index_page_count-count.ensures in
+    let vs = pages_of (V c.fetch_super.new.pages.store) c.fetch_super.new.pages in
+    let front = c.in-Ok.front in
+    let at = root.page in
+    let good = IsNode (page_bytes vs.store.state.bytes c.args.root.page) in
+    λ told. dead_test Node T good at vs.store c.in-Err-fetch_node.fault ((c.in-Ok.ensures.looks.still refl).dead ∙ c.in-Ok.ensures.cause)
+    (dead_fault c.in-Err-fetch_node.fault c.index_fault-in-Err-fetch_node.result (test_of_index Node T good at vs.store c.in-Err-fetch_node.fault c.in-Err-fetch_node.ensures.cause) c.index_fault-in-Err-fetch_node.ensures told) c.in-Err-fetch_node.ensures.cause
 
 pub insert_below-requires : goal.insert_below-requires
 insert_below-requires g c =
@@ -74,33 +124,36 @@ insert_below-requires g c =
     let V = g.S.EawStore.view in
     let E = g.S.EawStore.opens in
     let t = c.args.tid in
+    let root = c.args.root in
     let key = c.args.key in
     let v0 = pages_of (V c.args.pages.now.store) c.args.pages.now in
-    let vs = pages_of (V c.fetch_super.new.pages.store) c.fetch_super.new.pages in
-    let v1 = pages_of (V c.fetch_node.new.pages.store) c.fetch_node.new.pages in
     let n = c.index_page_count-count.ensures in
+    let vs = pages_of (V c.fetch_super.new.pages.store) c.fetch_super.new.pages in
     let front = c.in-Ok.front in
-    let root = c.in-Ok-fetch_node.root in
-    let alive = c.in-Ok.ensures.cause in
-    let read = subst (λ (sh : Shape). IsRead sh 1 c.in-Ok-fetch_node.root.level c.in-Ok-fetch_node.root.pairs.items) c.in-Ok.ensures.looks.shape c.in-Ok-fetch_node.ensures.read in
+    let v1 = pages_of (V c.fetch_node.new.pages.store) c.fetch_node.new.pages in
+    let small : c.args.key < 2 ^ 64 = omega arith in
     let looks = looks_next T E false v0 vs v1 c.in-Ok.ensures.looks c.in-Ok-fetch_node.ensures.looks in
     let still = c.in-Ok.ensures.looks.still refl in
-    let counts = λ (told : IsTrue g.S.EawStore.tells). front_says (g.S.EawStore.view c.args.pages.now.store).state.bytes c.in-Ok.front (c.in-Ok.ensures.says told) in
-    let level = λ (told : IsTrue g.S.EawStore.tells). c.in-Ok-fetch_node.ensures.level told ∙ ap (λ (st : State). level_of st.bytes 1) (still.state told) in
-    let pairs = λ (told : IsTrue g.S.EawStore.tells). c.in-Ok-fetch_node.ensures.pairs told ∙ ap (λ (st : State). page_pairs st.bytes 1) (still.state told) in
+    let top = c.in-Ok-fetch_node.top in
+    let read = subst (λ (sh : Shape). IsRead sh c.args.root.page c.in-Ok-fetch_node.top.level c.in-Ok-fetch_node.top.pairs.items) c.in-Ok.ensures.looks.shape c.in-Ok-fetch_node.ensures.read in
+    let level = λ (told : IsTrue g.S.EawStore.tells). c.in-Ok-fetch_node.ensures.level told ∙ ap (λ (st : State). level_of st.bytes c.args.root.page) (still.state told) in
+    let pairs = λ (told : IsTrue g.S.EawStore.tells). c.in-Ok-fetch_node.ensures.pairs told ∙ ap (λ (st : State). page_pairs st.bytes c.args.root.page) (still.state told) in
+    let room : length c.in-Ok-fetch_node.top.pairs.items < 30 = room_for c.in-Ok-fetch_node.top.pairs.items c.len.result c.len.ensures.value c.if-len-lt-PAIRS_MAX.true in
     record {
       tid = subst (λ (sh : Shape). c.args.tid < sh.numbers) (sym looks.shape) c.requires.tid;
+      table = c.requires.table;
       closed = ap (λ (f : ℕ → Option ℕ). f c.args.tid) (c.in-Ok-fetch_node.ensures.looks.tops ∙ c.in-Ok.ensures.looks.tops) ∙ c.requires.closed c.in-Ok.ensures.cause;
-      alive = alive_yet T E t key v0 c.requires.sound v1 looks alive;
-      sound = sound_yet T E t key v0 c.requires.sound v1 looks alive;
-      absent = absent_yet T E t key v0 c.requires.sound v1 looks alive c.requires.absent;
+      alive = alive_yet T E t root key v0 c.requires.sound c.requires.named v1 looks c.in-Ok.ensures.cause;
+      sound = sound_yet T E t root key v0 c.requires.sound c.requires.named v1 looks c.in-Ok.ensures.cause;
+      named = named_yet T E t root key v0 c.requires.sound c.requires.named v1 looks c.in-Ok.ensures.cause;
+      absent = absent_yet T E t root key v0 c.requires.sound c.requires.named v1 looks c.in-Ok.ensures.cause c.requires.absent;
       front = subst (λ (sh : Shape). IsFront sh c.in-Ok.front) (sym looks.shape) c.in-Ok.ensures.front;
-      slot = slot_there v1.store.shape c.index_page_count-count.result front (n.all ∙ ap page_count (sym looks.shape)) (subst (λ (sh : Shape). IsFront sh c.in-Ok.front) (sym looks.shape) c.in-Ok.ensures.front) c.if-front-count.false;
-      counts = bytes_yet T E t key v0 c.requires.sound v1 looks alive (λ (b : List ℕ). IsFrontOf b c.in-Ok.front) counts;
-      read = root_read T E t key v0 c.requires.sound v1 looks alive root.page root.level root.pairs.items c.in-Ok-fetch_node.ensures.page read;
+      slot = λ none. subst (λ (sh : Shape). c.in-Ok.front.next_slot < slots_of sh) (sym looks.shape) ((slot_there v0.store.shape c.index_page_count-count.result front n.all c.in-Ok.ensures.front (c.if-not-is_slot_left.ensures.0 refl)) none);
+      says = says_yet T E t root key v0 c.requires.sound c.requires.named v1 looks c.in-Ok.ensures.cause front c.in-Ok.ensures.says;
+      read = root_read T E t root key v0 c.requires.sound c.requires.named v1 looks c.in-Ok.ensures.cause top.page top.level top.pairs.items c.in-Ok-fetch_node.ensures.page read;
       some = c.in-Ok-fetch_node.ensures.some;
-      room = room_for root.pairs.items c.len.result c.len.ensures.value c.if-len-lt-PAIRS_MAX.true;
-      reached = root_reached T E t key v0 c.requires.sound v1 looks alive root.page root.level root.pairs.items c.in-Ok-fetch_node.ensures.page level pairs;
+      room = room;
+      reached = root_reached T E t root key v0 c.requires.sound c.requires.named v1 looks c.in-Ok.ensures.cause top.page top.level top.pairs.items c.in-Ok-fetch_node.ensures.page level pairs;
     }
 
 pub returns-then-len-lt-PAIRS_MAX-clause-inserts : goal.returns-then-len-lt-PAIRS_MAX-clause-inserts
@@ -109,213 +162,65 @@ returns-then-len-lt-PAIRS_MAX-clause-inserts g c =
     let V = g.S.EawStore.view in
     let E = g.S.EawStore.opens in
     let t = c.args.tid in
+    let root = c.args.root in
     let key = c.args.key in
     let v0 = pages_of (V c.args.pages.now.store) c.args.pages.now in
-    let vs = pages_of (V c.fetch_super.new.pages.store) c.fetch_super.new.pages in
-    let v1 = pages_of (V c.fetch_node.new.pages.store) c.fetch_node.new.pages in
     let n = c.index_page_count-count.ensures in
-    let small : c.args.key < 2 ^ 64 = omega arith in
-    let long = λ (told : IsTrue g.S.EawStore.tells). g.met.S.EawStore.long c.args.pages.now.store told in
-    let looks = looks_next T E false v0 vs v1 c.in-Ok.ensures.looks c.in-Ok-fetch_node.ensures.looks in
+    let vs = pages_of (V c.fetch_super.new.pages.store) c.fetch_super.new.pages in
     let front = c.in-Ok.front in
-    let root = c.in-Ok-fetch_node.root in
-    let view = V c.args.pages.now.store in
-    let mid = V c.fetch_super.new.pages.store in
+    let v1 = pages_of (V c.fetch_node.new.pages.store) c.fetch_node.new.pages in
+    let small : c.args.key < 2 ^ 64 = omega arith in
+    let looks = looks_next T E false v0 vs v1 c.in-Ok.ensures.looks c.in-Ok-fetch_node.ensures.looks in
     let still = c.in-Ok.ensures.looks.still refl in
-    let counts = λ (told : IsTrue g.S.EawStore.tells). front_says view.state.bytes c.in-Ok.front (c.in-Ok.ensures.says told) in
-    let read = subst (λ (sh : Shape). IsRead sh 1 c.in-Ok-fetch_node.root.level c.in-Ok-fetch_node.root.pairs.items) c.in-Ok.ensures.looks.shape c.in-Ok-fetch_node.ensures.read in
-    let level = λ (told : IsTrue g.S.EawStore.tells). c.in-Ok-fetch_node.ensures.level told ∙ ap (λ (st : State). level_of st.bytes 1) (still.state told) in
-    let pairs = λ (told : IsTrue g.S.EawStore.tells). c.in-Ok-fetch_node.ensures.pairs told ∙ ap (λ (st : State). page_pairs st.bytes 1) (still.state told) in
-    let room : length c.in-Ok-fetch_node.root.pairs.items < 30 = omega (arith, c.len.ensures.value, c.if-len-lt-PAIRS_MAX.true) in
+    let top = c.in-Ok-fetch_node.top in
+    let read = subst (λ (sh : Shape). IsRead sh c.args.root.page c.in-Ok-fetch_node.top.level c.in-Ok-fetch_node.top.pairs.items) c.in-Ok.ensures.looks.shape c.in-Ok-fetch_node.ensures.read in
+    let level = λ (told : IsTrue g.S.EawStore.tells). c.in-Ok-fetch_node.ensures.level told ∙ ap (λ (st : State). level_of st.bytes c.args.root.page) (still.state told) in
+    let pairs = λ (told : IsTrue g.S.EawStore.tells). c.in-Ok-fetch_node.ensures.pairs told ∙ ap (λ (st : State). page_pairs st.bytes c.args.root.page) (still.state told) in
+    let room : length c.in-Ok-fetch_node.top.pairs.items < 30 = room_for c.in-Ok-fetch_node.top.pairs.items c.len.result c.len.ensures.value c.if-len-lt-PAIRS_MAX.true in
     let v2 = pages_of (V c.insert_below.new.pages.store) c.insert_below.new.pages in
-    root_then T E t key v0 v1 c.index_page_count-count.result n.count n.all n.most n.some small c.requires.sound c.requires.absent long looks c.in-Ok.ensures.cause front c.in-Ok.ensures.front counts c.if-front-count.false root.page root.level root.pairs.items c.in-Ok-fetch_node.ensures.page read level pairs room v2 c.insert_below.result c.insert_below.ensures.inserts
+    root_then T E t root key v0 v1 c.requires.sound c.requires.named small looks c.in-Ok.ensures.cause front top.page top.level top.pairs.items c.in-Ok.ensures.says c.in-Ok-fetch_node.ensures.page c.in-Ok-fetch_node.ensures.read.level_most level pairs room v2 c.insert_below.result c.insert_below.ensures.inserts
 
 pub returns-then-len-lt-PAIRS_MAX-clause-dead : goal.returns-then-len-lt-PAIRS_MAX-clause-dead
 returns-then-len-lt-PAIRS_MAX-clause-dead g c =
     λ told. absurd (c.insert_below.ensures.dead told)
 
-pub returns-then-root-eq-LEVEL_MAX-clause-inserts : goal.returns-then-root-eq-LEVEL_MAX-clause-inserts
-returns-then-root-eq-LEVEL_MAX-clause-inserts g c =
+pub insert_above-requires : goal.insert_above-requires
+insert_above-requires g c =
     let T = g.S.EawStore.tells in
     let V = g.S.EawStore.view in
     let E = g.S.EawStore.opens in
     let t = c.args.tid in
+    let root = c.args.root in
     let key = c.args.key in
     let v0 = pages_of (V c.args.pages.now.store) c.args.pages.now in
-    let vs = pages_of (V c.fetch_super.new.pages.store) c.fetch_super.new.pages in
-    let v1 = pages_of (V c.fetch_node.new.pages.store) c.fetch_node.new.pages in
     let n = c.index_page_count-count.ensures in
+    let vs = pages_of (V c.fetch_super.new.pages.store) c.fetch_super.new.pages in
+    let front = c.in-Ok.front in
+    let v1 = pages_of (V c.fetch_node.new.pages.store) c.fetch_node.new.pages in
     let small : c.args.key < 2 ^ 64 = omega arith in
-    let long = λ (told : IsTrue g.S.EawStore.tells). g.met.S.EawStore.long c.args.pages.now.store told in
     let looks = looks_next T E false v0 vs v1 c.in-Ok.ensures.looks c.in-Ok-fetch_node.ensures.looks in
-    let front = c.in-Ok.front in
-    let root = c.in-Ok-fetch_node.root in
-    let view = V c.args.pages.now.store in
-    let mid = V c.fetch_super.new.pages.store in
     let still = c.in-Ok.ensures.looks.still refl in
-    let counts = λ (told : IsTrue g.S.EawStore.tells). front_says view.state.bytes c.in-Ok.front (c.in-Ok.ensures.says told) in
-    let read = subst (λ (sh : Shape). IsRead sh 1 c.in-Ok-fetch_node.root.level c.in-Ok-fetch_node.root.pairs.items) c.in-Ok.ensures.looks.shape c.in-Ok-fetch_node.ensures.read in
-    let level = λ (told : IsTrue g.S.EawStore.tells). c.in-Ok-fetch_node.ensures.level told ∙ ap (λ (st : State). level_of st.bytes 1) (still.state told) in
-    let pairs = λ (told : IsTrue g.S.EawStore.tells). c.in-Ok-fetch_node.ensures.pairs told ∙ ap (λ (st : State). page_pairs st.bytes 1) (still.state told) in
-    let full : length c.in-Ok-fetch_node.root.pairs.items ≡ 30 = full_with c.in-Ok-fetch_node.root.pairs.items c.len.result c.len.ensures.value c.if-len-lt-PAIRS_MAX.false c.in-Ok-fetch_node.ensures.read.most in
-    root_high T E t key v0 v1 c.index_page_count-count.result n.count n.all n.most n.some small c.requires.sound c.requires.absent long looks c.in-Ok.ensures.cause front c.in-Ok.ensures.front counts c.if-front-count.false root.page root.level root.pairs.items c.in-Ok-fetch_node.ensures.page read level pairs full c.if-root-eq-LEVEL_MAX.true
-
-pub returns-then-root-eq-LEVEL_MAX-clause-dead : goal.returns-then-root-eq-LEVEL_MAX-clause-dead
-returns-then-root-eq-LEVEL_MAX-clause-dead g c =
-    λ told. not_full _ told
-
-pub returns-then-front-count-2-clause-inserts : goal.returns-then-front-count-2-clause-inserts
-returns-then-front-count-2-clause-inserts g c =
-    let T = g.S.EawStore.tells in
-    let V = g.S.EawStore.view in
-    let E = g.S.EawStore.opens in
-    let t = c.args.tid in
-    let key = c.args.key in
-    let v0 = pages_of (V c.args.pages.now.store) c.args.pages.now in
-    let vs = pages_of (V c.fetch_super.new.pages.store) c.fetch_super.new.pages in
-    let v1 = pages_of (V c.fetch_node.new.pages.store) c.fetch_node.new.pages in
-    let n = c.index_page_count-count.ensures in
-    let small : c.args.key < 2 ^ 64 = omega arith in
-    let long = λ (told : IsTrue g.S.EawStore.tells). g.met.S.EawStore.long c.args.pages.now.store told in
-    let looks = looks_next T E false v0 vs v1 c.in-Ok.ensures.looks c.in-Ok-fetch_node.ensures.looks in
-    let front = c.in-Ok.front in
-    let root = c.in-Ok-fetch_node.root in
-    let view = V c.args.pages.now.store in
-    let mid = V c.fetch_super.new.pages.store in
-    let still = c.in-Ok.ensures.looks.still refl in
-    let counts = λ (told : IsTrue g.S.EawStore.tells). front_says view.state.bytes c.in-Ok.front (c.in-Ok.ensures.says told) in
-    let read = subst (λ (sh : Shape). IsRead sh 1 c.in-Ok-fetch_node.root.level c.in-Ok-fetch_node.root.pairs.items) c.in-Ok.ensures.looks.shape c.in-Ok-fetch_node.ensures.read in
-    let level = λ (told : IsTrue g.S.EawStore.tells). c.in-Ok-fetch_node.ensures.level told ∙ ap (λ (st : State). level_of st.bytes 1) (still.state told) in
-    let pairs = λ (told : IsTrue g.S.EawStore.tells). c.in-Ok-fetch_node.ensures.pairs told ∙ ap (λ (st : State). page_pairs st.bytes 1) (still.state told) in
-    let full : length c.in-Ok-fetch_node.root.pairs.items ≡ 30 = full_with c.in-Ok-fetch_node.root.pairs.items c.len.result c.len.ensures.value c.if-len-lt-PAIRS_MAX.false c.in-Ok-fetch_node.ensures.read.most in
-    root_full T E t key v0 v1 c.index_page_count-count.result n.count n.all n.most n.some small c.requires.sound c.requires.absent long looks c.in-Ok.ensures.cause front c.in-Ok.ensures.front counts c.if-front-count.false root.page root.level root.pairs.items c.in-Ok-fetch_node.ensures.page read level pairs full c.if-root-eq-LEVEL_MAX.false (omega (arith, c.if-front-count-2.true))
-
-pub returns-then-front-count-2-clause-dead : goal.returns-then-front-count-2-clause-dead
-returns-then-front-count-2-clause-dead g c =
-    λ told. not_full _ told
-
-pub grow_root-requires : goal.grow_root-requires
-grow_root-requires g c =
-    let T = g.S.EawStore.tells in
-    let V = g.S.EawStore.view in
-    let E = g.S.EawStore.opens in
-    let t = c.args.tid in
-    let key = c.args.key in
-    let v0 = pages_of (V c.args.pages.now.store) c.args.pages.now in
-    let vs = pages_of (V c.fetch_super.new.pages.store) c.fetch_super.new.pages in
-    let v1 = pages_of (V c.fetch_node.new.pages.store) c.fetch_node.new.pages in
-    let n = c.index_page_count-count.ensures in
-    let front = c.in-Ok.front in
-    let root = c.in-Ok-fetch_node.root in
-    let alive = c.in-Ok.ensures.cause in
-    let read = subst (λ (sh : Shape). IsRead sh 1 c.in-Ok-fetch_node.root.level c.in-Ok-fetch_node.root.pairs.items) c.in-Ok.ensures.looks.shape c.in-Ok-fetch_node.ensures.read in
-    let looks = looks_next T E false v0 vs v1 c.in-Ok.ensures.looks c.in-Ok-fetch_node.ensures.looks in
+    let top = c.in-Ok-fetch_node.top in
+    let read = subst (λ (sh : Shape). IsRead sh c.args.root.page c.in-Ok-fetch_node.top.level c.in-Ok-fetch_node.top.pairs.items) c.in-Ok.ensures.looks.shape c.in-Ok-fetch_node.ensures.read in
+    let level = λ (told : IsTrue g.S.EawStore.tells). c.in-Ok-fetch_node.ensures.level told ∙ ap (λ (st : State). level_of st.bytes c.args.root.page) (still.state told) in
+    let pairs = λ (told : IsTrue g.S.EawStore.tells). c.in-Ok-fetch_node.ensures.pairs told ∙ ap (λ (st : State). page_pairs st.bytes c.args.root.page) (still.state told) in
+    let full : length c.in-Ok-fetch_node.top.pairs.items ≡ 30 = full_with c.in-Ok-fetch_node.top.pairs.items c.len.result c.len.ensures.value c.if-len-lt-PAIRS_MAX.false c.in-Ok-fetch_node.ensures.read.most in
     record {
       tid = subst (λ (sh : Shape). c.args.tid < sh.numbers) (sym looks.shape) c.requires.tid;
-      closed = λ running. ap (λ (f : ℕ → Option ℕ). f c.args.tid) (c.in-Ok-fetch_node.ensures.looks.tops ∙ c.in-Ok.ensures.looks.tops) ∙ c.requires.closed c.in-Ok.ensures.cause;
+      table = c.requires.table;
+      closed = ap (λ (f : ℕ → Option ℕ). f c.args.tid) (c.in-Ok-fetch_node.ensures.looks.tops ∙ c.in-Ok.ensures.looks.tops) ∙ c.requires.closed c.in-Ok.ensures.cause;
+      alive = alive_yet T E t root key v0 c.requires.sound c.requires.named v1 looks c.in-Ok.ensures.cause;
+      sound = sound_yet T E t root key v0 c.requires.sound c.requires.named v1 looks c.in-Ok.ensures.cause;
+      named = named_yet T E t root key v0 c.requires.sound c.requires.named v1 looks c.in-Ok.ensures.cause;
+      absent = absent_yet T E t root key v0 c.requires.sound c.requires.named v1 looks c.in-Ok.ensures.cause c.requires.absent;
       front = subst (λ (sh : Shape). IsFront sh c.in-Ok.front) (sym looks.shape) c.in-Ok.ensures.front;
-      root = subst (λ (sh : Shape). IsRead sh 1 c.in-Ok-fetch_node.root.level c.in-Ok-fetch_node.root.pairs.items) (sym looks.shape) read;
-      level = below_most root.level c.if-root-eq-LEVEL_MAX.false c.in-Ok-fetch_node.ensures.read.level_most;
-      full = full_with c.in-Ok-fetch_node.root.pairs.items c.len.result c.len.ensures.value c.if-len-lt-PAIRS_MAX.false c.in-Ok-fetch_node.ensures.read.most;
-      next = subst (λ (k : ℕ). c.in-Ok.front.next_page + 1 < k) (n.count ∙ ap index_pages_of (sym looks.shape)) c.if-front-count-2.false;
-    }
-
-pub returns-in-Err-grow_root-clause-inserts : goal.returns-in-Err-grow_root-clause-inserts
-returns-in-Err-grow_root-clause-inserts g c =
-    let T = g.S.EawStore.tells in
-    let V = g.S.EawStore.view in
-    let E = g.S.EawStore.opens in
-    let t = c.args.tid in
-    let key = c.args.key in
-    let v0 = pages_of (V c.args.pages.now.store) c.args.pages.now in
-    let vs = pages_of (V c.fetch_super.new.pages.store) c.fetch_super.new.pages in
-    let v1 = pages_of (V c.fetch_node.new.pages.store) c.fetch_node.new.pages in
-    let n = c.index_page_count-count.ensures in
-    let small : c.args.key < 2 ^ 64 = omega arith in
-    let long = λ (told : IsTrue g.S.EawStore.tells). g.met.S.EawStore.long c.args.pages.now.store told in
-    let looks = looks_next T E false v0 vs v1 c.in-Ok.ensures.looks c.in-Ok-fetch_node.ensures.looks in
-    let front = c.in-Ok.front in
-    let root = c.in-Ok-fetch_node.root in
-    let view = V c.args.pages.now.store in
-    let mid = V c.fetch_super.new.pages.store in
-    let still = c.in-Ok.ensures.looks.still refl in
-    let counts = λ (told : IsTrue g.S.EawStore.tells). front_says view.state.bytes c.in-Ok.front (c.in-Ok.ensures.says told) in
-    let read = subst (λ (sh : Shape). IsRead sh 1 c.in-Ok-fetch_node.root.level c.in-Ok-fetch_node.root.pairs.items) c.in-Ok.ensures.looks.shape c.in-Ok-fetch_node.ensures.read in
-    let level = λ (told : IsTrue g.S.EawStore.tells). c.in-Ok-fetch_node.ensures.level told ∙ ap (λ (st : State). level_of st.bytes 1) (still.state told) in
-    let pairs = λ (told : IsTrue g.S.EawStore.tells). c.in-Ok-fetch_node.ensures.pairs told ∙ ap (λ (st : State). page_pairs st.bytes 1) (still.state told) in
-    let full : length c.in-Ok-fetch_node.root.pairs.items ≡ 30 = full_with c.in-Ok-fetch_node.root.pairs.items c.len.result c.len.ensures.value c.if-len-lt-PAIRS_MAX.false c.in-Ok-fetch_node.ensures.read.most in
-    let v2 = pages_of (V c.grow_root.new.pages.store) c.grow_root.new.pages in
-    let next : c.in-Ok.front.next_page + 1 < c.index_page_count-count.result = omega (arith, c.if-front-count-2.false) in
-    subst (λ (f : IndexFault). (let r : Result ℕ IndexFault = Err f in Inserts T (E v0.store.shape) tree t key v0 v2 r)) (sym c.index_fault-in-Err-grow_root.ensures)
-    (grow_err T E t key v0 v1 c.index_page_count-count.result n.count n.all n.most n.some small c.requires.sound c.requires.absent long looks c.in-Ok.ensures.cause front c.in-Ok.ensures.front counts c.if-front-count.false root.page root.level root.pairs.items c.in-Ok-fetch_node.ensures.page read level pairs full c.if-root-eq-LEVEL_MAX.false next v2 c.in-Err-grow_root.fault c.in-Err-grow_root.ensures.acts)
-
-pub returns-in-Err-grow_root-clause-dead : goal.returns-in-Err-grow_root-clause-dead
-returns-in-Err-grow_root-clause-dead g c =
-    let T = g.S.EawStore.tells in
-    let V = g.S.EawStore.view in
-    let E = g.S.EawStore.opens in
-    let t = c.args.tid in
-    let key = c.args.key in
-    let v0 = pages_of (V c.args.pages.now.store) c.args.pages.now in
-    let vs = pages_of (V c.fetch_super.new.pages.store) c.fetch_super.new.pages in
-    let v1 = pages_of (V c.fetch_node.new.pages.store) c.fetch_node.new.pages in
-    let n = c.index_page_count-count.ensures in
-    let front = c.in-Ok.front in
-    let root = c.in-Ok-fetch_node.root in
-    let alive = c.in-Ok.ensures.cause in
-    let read = subst (λ (sh : Shape). IsRead sh 1 c.in-Ok-fetch_node.root.level c.in-Ok-fetch_node.root.pairs.items) c.in-Ok.ensures.looks.shape c.in-Ok-fetch_node.ensures.read in
-    let looks = looks_next T E false v0 vs v1 c.in-Ok.ensures.looks c.in-Ok-fetch_node.ensures.looks in
-    λ told. dead_act v1.store t (growing_pages front.next_page) c.in-Err-grow_root.fault (alive_yet T E t key v0 c.requires.sound v1 looks alive)
-    (dead_fault c.in-Err-grow_root.fault c.index_fault-in-Err-grow_root.result (act_of_index v1.store t (growing_pages front.next_page) c.in-Err-grow_root.fault c.in-Err-grow_root.ensures.acts.cause) c.index_fault-in-Err-grow_root.ensures told) c.in-Err-grow_root.ensures.acts.cause
-
-pub half_of-half-requires : goal.half_of-half-requires
-half_of-half-requires g c =
-    full_with c.in-Ok-fetch_node.root.pairs.items c.len.result c.len.ensures.value c.if-len-lt-PAIRS_MAX.false c.in-Ok-fetch_node.ensures.read.most
-
-pub insert_below-requires-2 : goal.insert_below-requires-2
-insert_below-requires-2 g c =
-    let T = g.S.EawStore.tells in
-    let V = g.S.EawStore.view in
-    let E = g.S.EawStore.opens in
-    let t = c.args.tid in
-    let key = c.args.key in
-    let v0 = pages_of (V c.args.pages.now.store) c.args.pages.now in
-    let vs = pages_of (V c.fetch_super.new.pages.store) c.fetch_super.new.pages in
-    let v1 = pages_of (V c.fetch_node.new.pages.store) c.fetch_node.new.pages in
-    let n = c.index_page_count-count.ensures in
-    let small : c.args.key < 2 ^ 64 = omega arith in
-    let long = λ (told : IsTrue g.S.EawStore.tells). g.met.S.EawStore.long c.args.pages.now.store told in
-    let looks = looks_next T E false v0 vs v1 c.in-Ok.ensures.looks c.in-Ok-fetch_node.ensures.looks in
-    let front = c.in-Ok.front in
-    let root = c.in-Ok-fetch_node.root in
-    let view = V c.args.pages.now.store in
-    let mid = V c.fetch_super.new.pages.store in
-    let still = c.in-Ok.ensures.looks.still refl in
-    let counts = λ (told : IsTrue g.S.EawStore.tells). front_says view.state.bytes c.in-Ok.front (c.in-Ok.ensures.says told) in
-    let read = subst (λ (sh : Shape). IsRead sh 1 c.in-Ok-fetch_node.root.level c.in-Ok-fetch_node.root.pairs.items) c.in-Ok.ensures.looks.shape c.in-Ok-fetch_node.ensures.read in
-    let level = λ (told : IsTrue g.S.EawStore.tells). c.in-Ok-fetch_node.ensures.level told ∙ ap (λ (st : State). level_of st.bytes 1) (still.state told) in
-    let pairs = λ (told : IsTrue g.S.EawStore.tells). c.in-Ok-fetch_node.ensures.pairs told ∙ ap (λ (st : State). page_pairs st.bytes 1) (still.state told) in
-    let full : length c.in-Ok-fetch_node.root.pairs.items ≡ 30 = full_with c.in-Ok-fetch_node.root.pairs.items c.len.result c.len.ensures.value c.if-len-lt-PAIRS_MAX.false c.in-Ok-fetch_node.ensures.read.most in
-    let v2 = pages_of (V c.grow_root.new.pages.store) c.grow_root.new.pages in
-    let half = c.half_of-half in
-    let next : c.in-Ok.front.next_page + 1 < c.index_page_count-count.result = omega (arith, c.if-front-count-2.false) in
-    let shape2 = c.in-Ok-grow_root.ensures.acts.shape ∙ looks.shape in
-    let there = subst (λ (k : ℕ). c.in-Ok.front.next_page + 1 < k) n.count c.if-front-count-2.false in
-    let front2 = front_more v0.store.shape c.in-Ok.front c.with_pages.result 2 c.in-Ok.ensures.front c.with_pages.ensures.slot c.with_pages.ensures.page (omega (arith, there)) in
-    let half_is = half_read v0.store.shape root.pairs.items front.next_page (front.next_page + 1) key half.result.page half.result.pairs.items full read.small (two_some front.next_page c.in-Ok.ensures.front.some) (one_less _ _ there) (omega arith) there half.ensures.page half.ensures.pairs in
-    record {
-      tid = subst (λ (sh : Shape). c.args.tid < sh.numbers) (sym shape2) c.requires.tid;
-      closed = ap (λ (f : ℕ → Option ℕ). f c.args.tid) (going2 T E t key v0 v1 c.index_page_count-count.result n.count n.all n.most n.some small c.requires.sound c.requires.absent long looks c.in-Ok.ensures.cause front c.in-Ok.ensures.front counts c.if-front-count.false root.page root.level root.pairs.items c.in-Ok-fetch_node.ensures.page read level pairs full c.if-root-eq-LEVEL_MAX.false next v2 c.in-Ok-grow_root.ensures.acts half.result.page half.result.pairs.items half.ensures.page half.ensures.pairs).logs.tops ∙ c.requires.closed c.in-Ok.ensures.cause;
-      alive = (going2 T E t key v0 v1 c.index_page_count-count.result n.count n.all n.most n.some small c.requires.sound c.requires.absent long looks c.in-Ok.ensures.cause front c.in-Ok.ensures.front counts c.if-front-count.false root.page root.level root.pairs.items c.in-Ok-fetch_node.ensures.page read level pairs full c.if-root-eq-LEVEL_MAX.false next v2 c.in-Ok-grow_root.ensures.acts half.result.page half.result.pairs.items half.ensures.page half.ensures.pairs).logs.dead ∙ c.in-Ok.ensures.cause;
-      sound = sound2 T E t key v0 v1 c.index_page_count-count.result n.count n.all n.most n.some small c.requires.sound c.requires.absent long looks c.in-Ok.ensures.cause front c.in-Ok.ensures.front counts c.if-front-count.false root.page root.level root.pairs.items c.in-Ok-fetch_node.ensures.page read level pairs full c.if-root-eq-LEVEL_MAX.false next v2 c.in-Ok-grow_root.ensures.acts half.result.page half.result.pairs.items half.ensures.page half.ensures.pairs;
-      absent = absent2 T E t key v0 v1 c.index_page_count-count.result n.count n.all n.most n.some small c.requires.sound c.requires.absent long looks c.in-Ok.ensures.cause front c.in-Ok.ensures.front counts c.if-front-count.false root.page root.level root.pairs.items c.in-Ok-fetch_node.ensures.page read level pairs full c.if-root-eq-LEVEL_MAX.false next v2 c.in-Ok-grow_root.ensures.acts half.result.page half.result.pairs.items half.ensures.page half.ensures.pairs;
-      front = subst (λ (sh : Shape). IsFront sh c.with_pages.result) (sym shape2) front2;
-      slot = subst (λ (sh : Shape). c.with_pages.result.next_slot < slots_of sh) (sym shape2) (subst (λ (k : ℕ). k < slots_of v0.store.shape) (sym c.with_pages.ensures.slot) (slot_there v0.store.shape c.index_page_count-count.result front n.all c.in-Ok.ensures.front c.if-front-count.false));
-      counts = counts2 T E t key v0 v1 c.index_page_count-count.result n.count n.all n.most n.some small c.requires.sound c.requires.absent long looks c.in-Ok.ensures.cause front c.in-Ok.ensures.front counts c.if-front-count.false root.page root.level root.pairs.items c.in-Ok-fetch_node.ensures.page read level pairs full c.if-root-eq-LEVEL_MAX.false next v2 c.in-Ok-grow_root.ensures.acts half.result.page half.result.pairs.items half.ensures.page half.ensures.pairs c.with_pages.result c.with_pages.ensures.slot c.with_pages.ensures.page;
-      read = subst (λ (sh : Shape). IsRead sh half.result.page half.result.level half.result.pairs.items) (sym shape2) (read_half v0.store.shape root.level half.result.page half.result.level root.pairs.items half.result.pairs.items read half_is half.ensures.level);
-      some = λ inner. half_some half.result.pairs.items half_is.many;
-      room = half_room half.result.pairs.items half_is.many;
-      reached = reached2 T E t key v0 v1 c.index_page_count-count.result n.count n.all n.most n.some small c.requires.sound c.requires.absent long looks c.in-Ok.ensures.cause front c.in-Ok.ensures.front counts c.if-front-count.false root.page root.level root.pairs.items c.in-Ok-fetch_node.ensures.page read level pairs full c.if-root-eq-LEVEL_MAX.false next v2 c.in-Ok-grow_root.ensures.acts half.result.page half.result.pairs.items half.ensures.page half.ensures.pairs half.result.level half.ensures.level;
+      slot = λ none. subst (λ (sh : Shape). c.in-Ok.front.next_slot < slots_of sh) (sym looks.shape) ((slot_there v0.store.shape c.index_page_count-count.result front n.all c.in-Ok.ensures.front (c.if-not-is_slot_left.ensures.0 refl)) none);
+      says = says_yet T E t root key v0 c.requires.sound c.requires.named v1 looks c.in-Ok.ensures.cause front c.in-Ok.ensures.says;
+      page = c.in-Ok-fetch_node.ensures.page;
+      read = root_read T E t root key v0 c.requires.sound c.requires.named v1 looks c.in-Ok.ensures.cause top.page top.level top.pairs.items c.in-Ok-fetch_node.ensures.page read;
+      full = full;
+      level = bytes_yet T E t root key v0 c.requires.sound c.requires.named v1 looks c.in-Ok.ensures.cause (λ (b : List ℕ). c.in-Ok-fetch_node.top.level ≡ level_of b c.args.root.page) level;
+      pairs = bytes_yet T E t root key v0 c.requires.sound c.requires.named v1 looks c.in-Ok.ensures.cause (λ (b : List ℕ). c.in-Ok-fetch_node.top.pairs.items ≡ page_pairs b c.args.root.page) pairs;
     }
 
 pub returns-clause-inserts : goal.returns-clause-inserts
@@ -324,30 +229,23 @@ returns-clause-inserts g c =
     let V = g.S.EawStore.view in
     let E = g.S.EawStore.opens in
     let t = c.args.tid in
+    let root = c.args.root in
     let key = c.args.key in
     let v0 = pages_of (V c.args.pages.now.store) c.args.pages.now in
-    let vs = pages_of (V c.fetch_super.new.pages.store) c.fetch_super.new.pages in
-    let v1 = pages_of (V c.fetch_node.new.pages.store) c.fetch_node.new.pages in
     let n = c.index_page_count-count.ensures in
-    let small : c.args.key < 2 ^ 64 = omega arith in
-    let long = λ (told : IsTrue g.S.EawStore.tells). g.met.S.EawStore.long c.args.pages.now.store told in
-    let looks = looks_next T E false v0 vs v1 c.in-Ok.ensures.looks c.in-Ok-fetch_node.ensures.looks in
+    let vs = pages_of (V c.fetch_super.new.pages.store) c.fetch_super.new.pages in
     let front = c.in-Ok.front in
-    let root = c.in-Ok-fetch_node.root in
-    let view = V c.args.pages.now.store in
-    let mid = V c.fetch_super.new.pages.store in
+    let v1 = pages_of (V c.fetch_node.new.pages.store) c.fetch_node.new.pages in
+    let small : c.args.key < 2 ^ 64 = omega arith in
+    let looks = looks_next T E false v0 vs v1 c.in-Ok.ensures.looks c.in-Ok-fetch_node.ensures.looks in
     let still = c.in-Ok.ensures.looks.still refl in
-    let counts = λ (told : IsTrue g.S.EawStore.tells). front_says view.state.bytes c.in-Ok.front (c.in-Ok.ensures.says told) in
-    let read = subst (λ (sh : Shape). IsRead sh 1 c.in-Ok-fetch_node.root.level c.in-Ok-fetch_node.root.pairs.items) c.in-Ok.ensures.looks.shape c.in-Ok-fetch_node.ensures.read in
-    let level = λ (told : IsTrue g.S.EawStore.tells). c.in-Ok-fetch_node.ensures.level told ∙ ap (λ (st : State). level_of st.bytes 1) (still.state told) in
-    let pairs = λ (told : IsTrue g.S.EawStore.tells). c.in-Ok-fetch_node.ensures.pairs told ∙ ap (λ (st : State). page_pairs st.bytes 1) (still.state told) in
-    let full : length c.in-Ok-fetch_node.root.pairs.items ≡ 30 = full_with c.in-Ok-fetch_node.root.pairs.items c.len.result c.len.ensures.value c.if-len-lt-PAIRS_MAX.false c.in-Ok-fetch_node.ensures.read.most in
-    let v2 = pages_of (V c.grow_root.new.pages.store) c.grow_root.new.pages in
-    let half = c.half_of-half in
-    let next : c.in-Ok.front.next_page + 1 < c.index_page_count-count.result = omega (arith, c.if-front-count-2.false) in
-    let v3 = pages_of (V c.insert_below-2.new.pages.store) c.insert_below-2.new.pages in
-    grown_then T E t key v0 v1 c.index_page_count-count.result n.count n.all n.most n.some small c.requires.sound c.requires.absent long looks c.in-Ok.ensures.cause front c.in-Ok.ensures.front counts c.if-front-count.false root.page root.level root.pairs.items c.in-Ok-fetch_node.ensures.page read level pairs full c.if-root-eq-LEVEL_MAX.false next v2 c.in-Ok-grow_root.ensures.acts half.result.page half.result.pairs.items half.ensures.page half.ensures.pairs half.result.level (c.with_pages.result.next_page + half.result.level) v3 c.insert_below-2.result half.ensures.level (ap (λ (m : ℕ). m + c.half_of-half.result.level) c.with_pages.ensures.page) c.insert_below-2.ensures.inserts
+    let top = c.in-Ok-fetch_node.top in
+    let read = subst (λ (sh : Shape). IsRead sh c.args.root.page c.in-Ok-fetch_node.top.level c.in-Ok-fetch_node.top.pairs.items) c.in-Ok.ensures.looks.shape c.in-Ok-fetch_node.ensures.read in
+    let level = λ (told : IsTrue g.S.EawStore.tells). c.in-Ok-fetch_node.ensures.level told ∙ ap (λ (st : State). level_of st.bytes c.args.root.page) (still.state told) in
+    let pairs = λ (told : IsTrue g.S.EawStore.tells). c.in-Ok-fetch_node.ensures.pairs told ∙ ap (λ (st : State). page_pairs st.bytes c.args.root.page) (still.state told) in
+    let v2 = pages_of (V c.insert_above.new.pages.store) c.insert_above.new.pages in
+    looked_then T E t root key v0 v1 c.requires.sound c.requires.named small looks c.in-Ok.ensures.cause v2 c.insert_above.result c.insert_above.ensures.inserts
 
 pub returns-clause-dead : goal.returns-clause-dead
 returns-clause-dead g c =
-    λ told. absurd (c.insert_below-2.ensures.dead told)
+    λ told. absurd (c.insert_above.ensures.dead told)

@@ -6,7 +6,7 @@ use Rattle.btree_pages.proofs.insertion.insert_below.Given as goal
 -- the insertion has come to the page
 abbrev pub invariant-loop-node : goal.invariant-loop-node
 invariant-loop-node g l =
-    Stands g.S.EawStore.tells g.S.EawStore.opens l.tid l.key (pages_of (g.S.EawStore.view l.fn.pages.store) l.fn.pages) l.fn.node.page l.fn.node.level (l.fn.front.next_page + l.fn.node.level) l.fn.front.next_slot
+    Stands g.S.EawStore.tells g.S.EawStore.opens l.tid l.root l.key (pages_of (g.S.EawStore.view l.fn.pages.store) l.fn.pages) l.fn.node.page l.fn.node.level (l.fn.front.next_page + l.fn.node.level)
     (pages_of (g.S.EawStore.view l.pages.store) l.pages) l.front l.node.page l.node.level l.node.pairs.items
 
 abbrev pub decreases-loop-node : goal.decreases-loop-node

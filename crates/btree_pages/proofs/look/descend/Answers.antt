@@ -10,22 +10,23 @@ use Rattle.record_slots.specs.Places.{page_bytes}
 use Rattle.index_pages.specs.Page.{level_said, level_of, pairs_said, page_pairs}
 use Rattle.index_pages.proofs.Looking.{looks_none, looks_next}
 use Rattle.index_pages.proofs.Sizes.{index_pages_are}
-use Rattle.btree_pages.specs.Descent.{child_for}
+use Rattle.btree_laws.specs.Descent.{child_for}
 use Rattle.btree_pages.specs.Leaf.{bound_in, AtLeaf}
 use Rattle.btree_pages.specs.Node.{IsNode}
 use Rattle.index_pages.specs.declared.page.Head.{Head}
 use Rattle.btree_pages.specs.declared.look.Leaf.{Leaf}
 use Rattle.index_pages.proofs.Causing.{look_cause}
 use Rattle.btree_pages.proofs.Descending.{Down, down_first, down_step, down_node, down_last}
+use Rattle.btree_pages.specs.Trees.{whole_of, table_sound}
 use Rattle.btree_pages.proofs.look.descend.Goals as goal
 
 pub loop-step-init : goal.loop-step-init
 loop-step-init g c = record {
-  inside = omega (arith, c.index_page_count-count.ensures.count, c.index_page_count-count.ensures.some);
+  inside = c.requires.root;
   looks = looks_none g.S.EawStore.tells (g.S.EawStore.opens (g.S.EawStore.view c.args.pages.now.store).shape) (pages_of (g.S.EawStore.view c.args.pages.now.store) c.args.pages.now);
   alive = λ some. absurd (omega arith);
   dead = λ dead. refl;
-  down = λ told alive. down_first (g.S.EawStore.view c.args.pages.now.store).state.bytes c.args.key (c.requires told alive) (omega arith);
+  down = λ told alive. down_first c.args.root (g.S.EawStore.view c.args.pages.now.store).state.bytes c.args.key (table_sound (g.S.EawStore.view c.args.pages.now.store).state.bytes c.args.root (c.requires.sound told alive) (c.requires.named told alive)) (omega arith);
 }
 
 pub returns-in-Err-clause-cause : goal.returns-in-Err-clause-cause
@@ -35,7 +36,7 @@ returns-in-Err-clause-cause g c =
     let still = c.loop-step.invariant.looks.still refl in
     look_cause Head Leaf g.S.EawStore.tells view mid (IsNode (page_bytes mid.state.bytes c.loop-step.page)) c.loop-step.page c.in-Err.fault still
     (λ told alive. subst (λ (s : State). IsNode (page_bytes s.bytes c.loop-step.page)) (sym (still.state told))
-    (down_node view.state.bytes c.args.key c.loop-step._step c.loop-step.page c.loop-step.bound (c.loop-step.invariant.down told alive)))
+    (down_node c.args.root view.state.bytes c.args.key c.loop-step._step c.loop-step.page c.loop-step.bound (c.loop-step.invariant.down told alive)))
     c.in-Err.ensures.cause
 
 pub returns-then-head-eq0-clause-leaf : goal.returns-then-head-eq0-clause-leaf
@@ -45,8 +46,8 @@ returns-then-head-eq0-clause-leaf g c = λ told.
     let alive : IsAlive view = sym still.dead ∙ c.in-Ok.ensures.cause in
     let buf = c.in-Ok.ensures.bytes told ∙ ap (λ (s : State). page_bytes s.bytes c.loop-step.page) (still.state told) in
     let level : level_of view.state.bytes c.loop-step.page ≡ 0 = sym (ap level_said buf) ∙ sym c.in-Ok.ensures.head.level ∙ c.if-head-eq0.true in
-    subst (λ (b : List ℕ). AtLeaf view.state.bytes c.args.key c.loop-step.bound b) (sym buf)
-    (down_last view.state.bytes c.args.key c.loop-step._step c.loop-step.page c.loop-step.bound (c.loop-step.invariant.down told alive) level)
+    subst (λ (b : List ℕ). AtLeaf c.args.root view.state.bytes c.args.key c.loop-step.bound b) (sym buf)
+    (down_last c.args.root view.state.bytes c.args.key c.loop-step._step c.loop-step.page c.loop-step.bound (c.loop-step.invariant.down told alive) level)
 
 pub returns-then-child-from-clause-cause : goal.returns-then-child-from-clause-cause
 returns-then-child-from-clause-cause g c =
@@ -59,8 +60,8 @@ returns-then-child-from-clause-cause g c =
           let buf = c.in-Ok.ensures.bytes told ∙ ap (λ (s : State). page_bytes s.bytes c.loop-step.page) (still.state told) in
           let inner : level_of bytes c.loop-step.page ≢ 0 = λ e. c.if-head-eq0.false (c.in-Ok.ensures.head.level ∙ ap level_said buf ∙ e) in
           let child : c.child_in-child.result.0 ≡ child_for (page_pairs bytes c.loop-step.page) c.args.key = c.child_in-child.ensures.child ∙ ap (λ (b : List ℕ). child_for (pairs_said b) c.args.key) buf in
-          let next = down_step bytes c.args.key c.loop-step._step c.loop-step.page c.loop-step.bound (c.loop-step.invariant.down told alive) inner in
-          omega (arith, next.inside, child, (c.requires told alive).0.pages, index_pages_are view.shape bytes (g.met.S.EawStore.long c.args.pages.now.store told), c.index_page_count-count.ensures.count, c.if-child-from.true, c.from.ensures),
+          let next = down_step c.args.root bytes c.args.key c.loop-step._step c.loop-step.page c.loop-step.bound (c.loop-step.invariant.down told alive) inner in
+          omega (arith, next.inside, child, (whole_of bytes (c.requires.sound told alive)).front.pages, index_pages_are view.shape bytes (g.met.S.EawStore.long c.args.pages.now.store told), c.index_page_count-count.ensures.count, c.if-child-from.true, c.from.ensures),
     )
 
 pub loop-step-preserved : goal.loop-step-preserved
@@ -82,9 +83,9 @@ loop-step-preserved g c =
           let inner : level_of bytes c.loop-step.page ≢ 0 = λ e. c.if-head-eq0.false (c.in-Ok.ensures.head.level ∙ ap level_said buf ∙ e) in
           let child : c.child_in-child.result.0 ≡ child_for (page_pairs bytes c.loop-step.page) c.args.key = c.child_in-child.ensures.child ∙ ap (λ (b : List ℕ). child_for (pairs_said b) c.args.key) buf in
           let bound : c.child_in-child.result.1 ≡ bound_in (page_pairs bytes c.loop-step.page) c.args.key = c.child_in-child.ensures.bound ∙ ap (λ (b : List ℕ). bound_in (pairs_said b) c.args.key) buf in
-          let next = down_step bytes c.args.key c.loop-step._step c.loop-step.page c.loop-step.bound (c.loop-step.invariant.down told alive) inner in
-          subst (λ (p : ℕ). Down bytes c.args.key (c.loop-step._step + 1) p c.or-bound.result) (sym child)
-          (subst (λ (o : Option ℕ). Down bytes c.args.key (c.loop-step._step + 1) (child_for (page_pairs bytes c.loop-step.page) c.args.key) o)
+          let next = down_step c.args.root bytes c.args.key c.loop-step._step c.loop-step.page c.loop-step.bound (c.loop-step.invariant.down told alive) inner in
+          subst (λ (p : ℕ). Down c.args.root bytes c.args.key (c.loop-step._step + 1) p c.or-bound.result) (sym child)
+          (subst (λ (o : Option ℕ). Down c.args.root bytes c.args.key (c.loop-step._step + 1) (child_for (page_pairs bytes c.loop-step.page) c.args.key) o)
           (ap (λ (o : Option ℕ). option_or o c.loop-step.bound) (sym bound) ∙ sym c.or-bound.ensures) next);
     }
 

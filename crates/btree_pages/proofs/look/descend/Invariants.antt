@@ -1,6 +1,6 @@
 use Rattle.std.proofs.Common.{◌≡◌, ◌<◌, true, false, IsTrue}
 use Rattle.eaw_face.specs.Causes.{IsAlive}
-use Rattle.page_store.specs.Index.{index_pages_of}
+use Rattle.array_shape.specs.Places.{page_count}
 use Rattle.page_store.specs.Looks.{Looks}
 use Rattle.page_store.specs.Shown.{pages_of}
 use Rattle.btree_pages.proofs.Descending.{Down}
@@ -9,10 +9,10 @@ use Rattle.btree_pages.proofs.look.descend.Given as goal
 -- the data is as it was, and the page is on the key's way
 abbrev pub invariant-loop-step : goal.invariant-loop-step
 invariant-loop-step g l = record {
-  inside : l.page < index_pages_of (g.S.EawStore.view l.fn.pages.store).shape;
+  inside : l.page < page_count (g.S.EawStore.view l.fn.pages.store).shape;
   looks : Looks g.S.EawStore.tells (g.S.EawStore.opens (g.S.EawStore.view l.fn.pages.store).shape) false
       (pages_of (g.S.EawStore.view l.fn.pages.store) l.fn.pages) (pages_of (g.S.EawStore.view l.pages.store) l.pages);
   alive : 0 < l._step → IsAlive (g.S.EawStore.view l.pages.store);
   dead : (g.S.EawStore.view l.pages.store).is_dead ≡ true → l.pages ≡ l.fn.pages;
-  down : IsTrue g.S.EawStore.tells → IsAlive (g.S.EawStore.view l.fn.pages.store) → Down (g.S.EawStore.view l.fn.pages.store).state.bytes l.key l._step l.page l.bound;
+  down : IsTrue g.S.EawStore.tells → IsAlive (g.S.EawStore.view l.fn.pages.store) → Down l.fn.root (g.S.EawStore.view l.fn.pages.store).state.bytes l.key l._step l.page l.bound;
 }

@@ -5,7 +5,7 @@ use Rattle.index_pages.proofs.Looking.{looks_next}
 use Rattle.btree_pages.specs.Leaf.{from_bound}
 use Rattle.btree_pages.specs.declared.look.Reached.{Reached}
 use Rattle.btree_pages.proofs.Nexting.{no_error, other_error, first_some, first_none, look_before}
-use Rattle.btree_pages.proofs.Rooted.{dead_look}
+use Rattle.index_pages.proofs.Faulting.{dead_look}
 use Rattle.btree_pages.proofs.look.next.Goals as goal
 
 pub returns-in-Err : goal.returns-in-Err
@@ -15,7 +15,7 @@ pub returns-then-is_some : goal.returns-then-is_some
 returns-then-is_some g c = record { looks = c.in-Ok.ensures.looks; cause = c.in-Ok.ensures.cause; next = λ told. sym ((c.in-Ok.ensures.least told).next_is ∙ first_some c.in-Ok.at.least _ c.if-is_some.ensures); inside = c.in-Ok.ensures.inside; dead = λ told. no_error _ _ told }
 
 pub returns-in_default : goal.returns-in_default
-returns-in_default g c = record { looks = c.in-Ok.ensures.looks; cause = c.in-Ok.ensures.cause; next = λ told. sym ((c.in-Ok.ensures.least told).next_is ∙ first_none c.in-Ok.at.least _ c.if-is_some.ensures ∙ ap (from_bound (g.S.EawStore.view c.args.pages.now.store).state.bytes) c.in_default.is); inside = tt; dead = λ told. no_error _ _ told }
+returns-in_default g c = record { looks = c.in-Ok.ensures.looks; cause = c.in-Ok.ensures.cause; next = λ told. sym ((c.in-Ok.ensures.least told).next_is ∙ first_none c.in-Ok.at.least _ c.if-is_some.ensures ∙ ap (from_bound c.args.root (g.S.EawStore.view c.args.pages.now.store).state.bytes) c.in_default.is); inside = tt; dead = λ told. no_error _ _ told }
 
 pub returns-in-Err-reach : goal.returns-in-Err-reach
 returns-in-Err-reach g c = record {

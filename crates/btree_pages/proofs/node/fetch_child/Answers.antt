@@ -1,17 +1,18 @@
 use Rattle.page_store.specs.Shown.{pages_of}
 use Rattle.index_pages.proofs.Looking.{looks_none}
 use Rattle.btree_pages.proofs.Nexting.{no_error, not_damaged_page, error_is}
-use Rattle.btree_pages.proofs.Rooted.{dead_test}
+use Rattle.index_pages.proofs.Faulting.{dead_test}
 use Rattle.std.proofs.Common.{◌≡◌, ◌+◌, ℕ, List, sym, ◌∙◌, ap, subst, arith}
 use Rattle.record_slots.specs.Places.{page_bytes}
 use Rattle.page_store.specs.Pairs.{Pair}
 use Rattle.index_pages.specs.Page.{level_of}
 use Rattle.index_pages.proofs.Sizes.{index_pages_are}
-use Rattle.btree_pages.specs.Descent.{child_for}
+use Rattle.btree_laws.specs.Descent.{child_for}
 use Rattle.btree_pages.specs.Node.{IsNode}
 use Rattle.btree_pages.specs.declared.node.Node.{Node}
 use Rattle.index_pages.proofs.Causing.{look_cause, still_same}
 use Rattle.btree_pages.proofs.Children.{reached_child}
+use Rattle.btree_pages.specs.Trees.{whole_of, table_sound}
 use Rattle.btree_pages.proofs.node.fetch_child.Goals as goal
 
 pub returns-then-page-eq0-clause-cause : goal.returns-then-page-eq0-clause-cause
@@ -20,7 +21,7 @@ returns-then-page-eq0-clause-cause g c = (
   λ told.
       let node = c.args.node.now in
       let page : c.child_of-page.result ≡ child_for node.pairs.items c.args.key = c.child_of-page.ensures ∙ ap (λ (ps : List Pair). child_for ps c.args.key) c.as_slice.ensures.value in
-      let child = reached_child (g.S.EawStore.view c.args.pages.now.store).state.bytes c.args.key node.page node.level node.pairs.items (c.requires.sound told) (omega arith) (c.requires.reached told) c.requires.inner in
+      let child = reached_child c.args.root (g.S.EawStore.view c.args.pages.now.store).state.bytes c.args.key node.page node.level node.pairs.items (table_sound (g.S.EawStore.view c.args.pages.now.store).state.bytes c.args.root (c.requires.sound told) (c.requires.named told)) (omega arith) (c.requires.reached told) c.requires.inner in
       omega (arith, child.two, page, c.if-page-eq0.true),
 )
 
@@ -31,8 +32,8 @@ returns-then-page-from-clause-cause g c = (
       let view = g.S.EawStore.view c.args.pages.now.store in
       let node = c.args.node.now in
       let page : c.child_of-page.result ≡ child_for node.pairs.items c.args.key = c.child_of-page.ensures ∙ ap (λ (ps : List Pair). child_for ps c.args.key) c.as_slice.ensures.value in
-      let child = reached_child view.state.bytes c.args.key node.page node.level node.pairs.items (c.requires.sound told) (omega arith) (c.requires.reached told) c.requires.inner in
-      omega (arith, child.given, page, c.if-page-from.true, c.from.ensures, (c.requires.sound told).0.pages, index_pages_are view.shape view.state.bytes (g.met.S.EawStore.long c.args.pages.now.store told), c.index_page_count-count.ensures.count),
+      let child = reached_child c.args.root view.state.bytes c.args.key node.page node.level node.pairs.items (table_sound (g.S.EawStore.view c.args.pages.now.store).state.bytes c.args.root (c.requires.sound told) (c.requires.named told)) (omega arith) (c.requires.reached told) c.requires.inner in
+      omega (arith, child.given, page, c.if-page-from.true, c.from.ensures, (whole_of view.state.bytes (c.requires.sound told)).front.pages, index_pages_are view.shape view.state.bytes (g.met.S.EawStore.long c.args.pages.now.store told), c.index_page_count-count.ensures.count),
 )
 
 pub returns-in-Err-clause-cause : goal.returns-in-Err-clause-cause
@@ -41,7 +42,7 @@ returns-in-Err-clause-cause g c =
     let node = c.args.node.now in
     let page : c.child_of-page.result ≡ child_for node.pairs.items c.args.key = c.child_of-page.ensures ∙ ap (λ (ps : List Pair). child_for ps c.args.key) c.as_slice.ensures.value in
     look_cause Node Node g.S.EawStore.tells view view (IsNode (page_bytes view.state.bytes c.child_of-page.result)) c.child_of-page.result c.in-Err.fault (still_same g.S.EawStore.tells view)
-    (λ told alive. let child = reached_child view.state.bytes c.args.key node.page node.level node.pairs.items (c.requires.sound told) (omega arith) (c.requires.reached told) c.requires.inner in
+    (λ told alive. let child = reached_child c.args.root view.state.bytes c.args.key node.page node.level node.pairs.items (table_sound (g.S.EawStore.view c.args.pages.now.store).state.bytes c.args.root (c.requires.sound told) (c.requires.named told)) (omega arith) (c.requires.reached told) c.requires.inner in
     subst (λ (p : ℕ). IsNode (page_bytes view.state.bytes p)) (sym page) child.node)
     c.in-Err.ensures.cause
 
@@ -52,7 +53,7 @@ returns-then-child-node-clause-cause g c = (
       let view = g.S.EawStore.view c.args.pages.now.store in
       let node = c.args.node.now in
       let page : c.child_of-page.result ≡ child_for node.pairs.items c.args.key = c.child_of-page.ensures ∙ ap (λ (ps : List Pair). child_for ps c.args.key) c.as_slice.ensures.value in
-      let child = reached_child view.state.bytes c.args.key node.page node.level node.pairs.items (c.requires.sound told) (omega arith) (c.requires.reached told) c.requires.inner in
+      let child = reached_child c.args.root view.state.bytes c.args.key node.page node.level node.pairs.items (table_sound (g.S.EawStore.view c.args.pages.now.store).state.bytes c.args.root (c.requires.sound told) (c.requires.named told)) (omega arith) (c.requires.reached told) c.requires.inner in
       let level : level_of view.state.bytes c.child_of-page.result + 1 ≡ node.level = subst (λ (p : ℕ). level_of view.state.bytes p + 1 ≡ node.level) (sym page) child.level_is in
       c.if-child-node.true (ap (λ (n : ℕ). n + 1) (c.in-Ok.ensures.level told) ∙ level),
 )

@@ -2,7 +2,7 @@ use Rattle.std.proofs.Common.{◌≡◌, ℕ, suc, ◌+◌, ◌-◌, ◌<◌, �
 use Rattle.page_store.specs.Pairs.{Pair}
 use Rattle.index_pages.specs.Page.{pairs_from, pair_said, count_said}
 use Rattle.index_pages.proofs.Reading.{from_first}
-use Rattle.btree_pages.specs.Descent.{child_for}
+use Rattle.btree_laws.specs.Descent.{child_for}
 use Rattle.btree_pages.specs.Leaf.{bound_in}
 use Rattle.btree_pages.proofs.Nodes.{child_here, child_later}
 use Rattle.btree_pages.proofs.page.child_in.Goals as goal

@@ -1,6 +1,6 @@
 use Rattle.std.proofs.Common.{◌≡◌, ◌-◌}
 use Rattle.index_pages.specs.Page.{pairs_said, pairs_from, pair_said}
-use Rattle.btree_pages.specs.Descent.{child_for}
+use Rattle.btree_laws.specs.Descent.{child_for}
 use Rattle.btree_pages.specs.Leaf.{bound_in}
 use Rattle.btree_pages.proofs.page.child_in.Given as goal
 

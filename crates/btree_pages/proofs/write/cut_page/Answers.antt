@@ -1,4 +1,4 @@
-use Rattle.std.proofs.Common.{◌≡◌, ◌+◌, ℕ, List, [], ◌∷◌, take, drop, ◌∙◌, ap, subst, arith}
+use Rattle.std.proofs.Common.{◌≡◌, ◌+◌, ◌<◌, ℕ, List, [], ◌∷◌, take, drop, ◌∙◌, ap, subst, arith}
 use Rattle.array_shape.specs.Logged.{Part}
 use Rattle.page_store.specs.Pairs.{Pair, inserted}
 use Rattle.page_store.specs.Shown.{pages_of}
@@ -6,7 +6,8 @@ use Rattle.index_pages.specs.Acts.{Acts}
 use Rattle.index_pages.specs.Keys.{key_at}
 use Rattle.index_pages.specs.Written.{written_page}
 use Rattle.btree_pages.specs.Writes.{cutting_parts}
-use Rattle.index_pages.proofs.Parting.{all_behind, same_part, same_four, page_there, super_there, part_in}
+use Rattle.index_pages.proofs.Parting.{all_behind, same_part, same_four, page_there, part_in}
+use Rattle.array_shape.specs.Places.{page_count}
 use Rattle.btree_pages.proofs.write.cut_page.Goals as goal
 
 pub returns-clause-acts : goal.returns-clause-acts
@@ -16,16 +17,16 @@ returns-clause-acts g c =
     let O = g.S.EawStore.opens (V c.args.pages.now.store).shape in
     let v0 = pages_of (V c.args.pages.now.store) c.args.pages.now in
     let v1 = pages_of (V c.act_all.new.pages.store) c.act_all.new.pages in
-    let front = c.args.front.now in
+    let taken = c.args.taken.now in
     let node = c.args.node.now in
     let lower : c.whole_page.result.bytes.now ≡ written_page node.level 0 (take 15 node.pairs.items) =
     c.whole_page.ensures.bytes ∙ c.write_page.ensures ∙ ap (λ (ps : List Pair). written_page node.level 0 (take 15 ps)) c.as_slice-pairs.ensures.value in
     let upper : c.whole_page-2.result.bytes.now ≡ written_page node.level 0 (drop 15 node.pairs.items) =
     c.whole_page-2.ensures.bytes ∙ c.write_page-2.ensures ∙ ap (λ (ps : List Pair). written_page node.level 0 ps) (all_behind c.as_slice-pairs.result.now 15) ∙ ap (λ (ps : List Pair). written_page node.level 0 (drop 15 ps)) c.as_slice-pairs.ensures.value in
-    let named : c.whole_page-3.result.bytes.now ≡ written_page (node.level + 1) 0 (inserted c.args.parent.pairs.items (key_at node.pairs.items 15) front.next_page) =
-    c.whole_page-3.ensures.bytes ∙ c.write_page-3.ensures ∙ ap (λ (ps : List Pair). written_page (node.level + 1) 0 ps) (c.as_slice.ensures.value ∙ c.with_pair-above.ensures ∙ ap (λ (k : ℕ). inserted c.args.parent.pairs.items k front.next_page) c.middle_of.ensures) in
-    let counts = c.front_part.ensures.bytes ∙ c.write_super_counts.ensures in
-    subst (λ (ps : List ℕ). Acts T O c.args.tid ps (cutting_parts front node.page node.level node.pairs.items c.args.parent.page c.args.parent.pairs.items) v0 v1 c.act_all.result)
+    let named : c.whole_page-3.result.bytes.now ≡ written_page (node.level + 1) 0 (inserted c.args.parent.pairs.items (key_at node.pairs.items 15) taken.number) =
+    c.whole_page-3.ensures.bytes ∙ c.write_page-3.ensures ∙ ap (λ (ps : List Pair). written_page (node.level + 1) 0 ps) (c.as_slice.ensures.value ∙ c.with_pair-above.ensures ∙ ap (λ (k : ℕ). inserted c.args.parent.pairs.items k taken.number) c.middle_of.ensures) in
+    let counts = c.front_part.ensures.bytes ∙ c.write_super_part.ensures in
+    subst (λ (ps : List ℕ). Acts T O c.args.tid ps (cutting_parts taken.front node.page node.level node.pairs.items taken.number c.args.parent.page c.args.parent.pairs.items) v0 v1 c.act_all.result)
     (same_four _ _ _ _ _ _ _ _ c.whole_page.ensures.page c.whole_page-2.ensures.page c.whole_page-3.ensures.page c.front_part.ensures.page)
     (subst (λ (l : List Part). Acts T O c.args.tid (c.whole_page.result.page ∷ c.whole_page-2.result.page ∷ c.whole_page-3.result.page ∷ c.front_part.result.page ∷ []) l v0 v1 c.act_all.result)
     (same_four _ _ _ _ _ _ _ _
@@ -38,9 +39,9 @@ returns-clause-acts g c =
 pub act_all-requires : goal.act_all-requires
 act_all-requires g c =
     let p0 = part_in (g.S.EawStore.view c.args.pages.now.store) (c.args.node.now.page) (0) 512 c.write_page.new.out c.whole_page.result.page c.whole_page.result.at c.whole_page.result.bytes.now c.whole_page.ensures.page c.whole_page.ensures.at c.whole_page.ensures.bytes c.write_page.array_long (omega arith) (omega arith) (page_there (g.S.EawStore.view c.args.pages.now.store).shape _ c.requires.node.inside) in
-    let p1 = part_in (g.S.EawStore.view c.args.pages.now.store) (c.args.front.now.next_page) (0) 512 c.write_page-2.new.out c.whole_page-2.result.page c.whole_page-2.result.at c.whole_page-2.result.bytes.now c.whole_page-2.ensures.page c.whole_page-2.ensures.at c.whole_page-2.ensures.bytes c.write_page-2.array_long (omega arith) (omega arith) (page_there (g.S.EawStore.view c.args.pages.now.store).shape _ c.requires.next) in
+    let p1 = part_in (g.S.EawStore.view c.args.pages.now.store) (c.args.taken.now.number) (0) 512 c.write_page-2.new.out c.whole_page-2.result.page c.whole_page-2.result.at c.whole_page-2.result.bytes.now c.whole_page-2.ensures.page c.whole_page-2.ensures.at c.whole_page-2.ensures.bytes c.write_page-2.array_long (omega arith) (omega arith) (page_there (g.S.EawStore.view c.args.pages.now.store).shape _ c.requires.taken) in
     let p2 = part_in (g.S.EawStore.view c.args.pages.now.store) (c.args.parent.page) (0) 512 c.write_page-3.new.out c.whole_page-3.result.page c.whole_page-3.result.at c.whole_page-3.result.bytes.now c.whole_page-3.ensures.page c.whole_page-3.ensures.at c.whole_page-3.ensures.bytes c.write_page-3.array_long (omega arith) (omega arith) (page_there (g.S.EawStore.view c.args.pages.now.store).shape _ c.requires.parent.inside) in
-    let pf = part_in (g.S.EawStore.view c.args.pages.now.store) (0) (8) 8 c.write_super_counts.new.out c.front_part.result.page c.front_part.result.at c.front_part.result.bytes.now c.front_part.ensures.page c.front_part.ensures.at c.front_part.ensures.bytes c.write_super_counts.array_long (omega arith) (omega arith) (super_there (g.S.EawStore.view c.args.pages.now.store).shape c.args.front.now c.requires.front) in
+    let pf = part_in (g.S.EawStore.view c.args.pages.now.store) (0) (8) 280 c.write_super_part.new.out c.front_part.result.page c.front_part.result.at c.front_part.result.bytes.now c.front_part.ensures.page c.front_part.ensures.at c.front_part.ensures.bytes c.write_super_part.array_long (omega arith) (omega arith) (let some : 0 < page_count (g.S.EawStore.view c.args.pages.now.store).shape = omega (arith, c.requires.taken) in some) in
     record { tid = c.requires.tid; closed = c.requires.closed; few = omega arith; inside = (p0.0, p0.1, (p1.0, p1.1, (p2.0, p2.1, (pf.0, pf.1, tt)))) }
 
 pub returns-clause-dead : goal.returns-clause-dead

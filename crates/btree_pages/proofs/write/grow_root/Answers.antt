@@ -1,20 +1,20 @@
-use Rattle.std.proofs.Common.{◌≡◌, ◌+◌, ℕ, List, [], ◌∷◌, take, drop, ◌∙◌, ap, subst, arith}
+use Rattle.std.proofs.Common.{◌≡◌, ◌+◌, ◌<◌, ℕ, List, [], ◌∷◌, take, drop, ◌∙◌, ap, subst, arith}
 use Rattle.array_shape.specs.Logged.{Part}
-use Rattle.record_slots.specs.Super.{count_bytes}
+use Rattle.array_shape.specs.Places.{page_count}
 use Rattle.page_store.specs.Pairs.{Pair}
 use Rattle.page_store.specs.Shown.{pages_of, address}
 use Rattle.index_pages.specs.Acts.{Acts}
 use Rattle.index_pages.specs.Keys.{key_at}
 use Rattle.index_pages.specs.Written.{written_page}
-use Rattle.index_pages.proofs.Parting.{all_behind, page_there, super_there, next_less, part_in}
+use Rattle.index_pages.proofs.Parting.{all_behind, page_there, part_in}
 use Rattle.btree_pages.proofs.write.grow_root.Goals as goal
 
 pub act_all-requires : goal.act_all-requires
 act_all-requires g c =
-    let p0 = part_in (g.S.EawStore.view c.args.pages.now.store) (c.args.front.now.next_page) (0) 512 c.write_page.new.out c.whole_page.result.page c.whole_page.result.at c.whole_page.result.bytes.now c.whole_page.ensures.page c.whole_page.ensures.at c.whole_page.ensures.bytes c.write_page.array_long (omega arith) (omega arith) (page_there (g.S.EawStore.view c.args.pages.now.store).shape _ (next_less _ _ c.requires.next)) in
-    let p1 = part_in (g.S.EawStore.view c.args.pages.now.store) (c.args.front.now.next_page + 1) (0) 512 c.write_page-2.new.out c.whole_page-2.result.page c.whole_page-2.result.at c.whole_page-2.result.bytes.now c.whole_page-2.ensures.page c.whole_page-2.ensures.at c.whole_page-2.ensures.bytes c.write_page-2.array_long (omega arith) (omega arith) (page_there (g.S.EawStore.view c.args.pages.now.store).shape _ c.requires.next) in
-    let p2 = part_in (g.S.EawStore.view c.args.pages.now.store) (1) (0) 512 c.write_page-3.new.out c.whole_page-3.result.page c.whole_page-3.result.at c.whole_page-3.result.bytes.now c.whole_page-3.ensures.page c.whole_page-3.ensures.at c.whole_page-3.ensures.bytes c.write_page-3.array_long (omega arith) (omega arith) (page_there (g.S.EawStore.view c.args.pages.now.store).shape _ c.requires.root.inside) in
-    let pf = part_in (g.S.EawStore.view c.args.pages.now.store) (0) (8) 8 c.write_super_counts.new.out c.front_part.result.page c.front_part.result.at c.front_part.result.bytes.now c.front_part.ensures.page c.front_part.ensures.at c.front_part.ensures.bytes c.write_super_counts.array_long (omega arith) (omega arith) (super_there (g.S.EawStore.view c.args.pages.now.store).shape c.args.front.now c.requires.front) in
+    let p0 = part_in (g.S.EawStore.view c.args.pages.now.store) (c.args.left) (0) 512 c.write_page.new.out c.whole_page.result.page c.whole_page.result.at c.whole_page.result.bytes.now c.whole_page.ensures.page c.whole_page.ensures.at c.whole_page.ensures.bytes c.write_page.array_long (omega arith) (omega arith) (page_there (g.S.EawStore.view c.args.pages.now.store).shape _ c.requires.left) in
+    let p1 = part_in (g.S.EawStore.view c.args.pages.now.store) (c.args.right.now.number) (0) 512 c.write_page-2.new.out c.whole_page-2.result.page c.whole_page-2.result.at c.whole_page-2.result.bytes.now c.whole_page-2.ensures.page c.whole_page-2.ensures.at c.whole_page-2.ensures.bytes c.write_page-2.array_long (omega arith) (omega arith) (page_there (g.S.EawStore.view c.args.pages.now.store).shape _ c.requires.right) in
+    let p2 = part_in (g.S.EawStore.view c.args.pages.now.store) (c.args.root.now.page) (0) 512 c.write_page-3.new.out c.whole_page-3.result.page c.whole_page-3.result.at c.whole_page-3.result.bytes.now c.whole_page-3.ensures.page c.whole_page-3.ensures.at c.whole_page-3.ensures.bytes c.write_page-3.array_long (omega arith) (omega arith) (page_there (g.S.EawStore.view c.args.pages.now.store).shape _ c.requires.root.inside) in
+    let pf = part_in (g.S.EawStore.view c.args.pages.now.store) (0) (8) 280 c.write_super_part.new.out c.front_part.result.page c.front_part.result.at c.front_part.result.bytes.now c.front_part.ensures.page c.front_part.ensures.at c.front_part.ensures.bytes c.write_super_part.array_long (omega arith) (omega arith) (let some : 0 < page_count (g.S.EawStore.view c.args.pages.now.store).shape = omega (arith, c.requires.left) in some) in
     record { tid = c.requires.tid; closed = c.requires.closed; few = omega arith; inside = (p0.0, p0.1, (p1.0, p1.1, (p2.0, p2.1, (pf.0, pf.1, tt)))) }
 
 pub returns : goal.returns
@@ -23,16 +23,13 @@ returns g c =
     let O = g.S.EawStore.opens (V c.args.pages.now.store).shape in
     let v0 = pages_of (V c.args.pages.now.store) c.args.pages.now in
     let v1 = pages_of (V c.act_all.new.pages.store) c.act_all.new.pages in
-    let next = c.args.front.now.next_page in
-    let pairs = c.args.root.now.items in
-    let lower : c.whole_page.result.bytes.now ≡ written_page c.args.level 0 (take 15 c.args.root.now.items) =
-    c.whole_page.ensures.bytes ∙ c.write_page.ensures ∙ ap (λ (ps : List Pair). written_page c.args.level 0 (take 15 ps)) c.as_slice-pairs.ensures.value in
-    let upper : c.whole_page-2.result.bytes.now ≡ written_page c.args.level 0 (drop 15 c.args.root.now.items) =
-    c.whole_page-2.ensures.bytes ∙ c.write_page-2.ensures ∙ ap (λ (ps : List Pair). written_page c.args.level 0 ps) (all_behind c.as_slice-pairs.result.now 15) ∙ ap (λ (ps : List Pair). written_page c.args.level 0 (drop 15 ps)) c.as_slice-pairs.ensures.value in
-    let named : c.whole_page-3.result.bytes.now ≡ written_page (c.args.level + 1) 0 ((0, c.args.front.now.next_page) ∷ (key_at c.args.root.now.items 15, c.args.front.now.next_page + 1) ∷ []) =
-    c.whole_page-3.ensures.bytes ∙ c.write_page-3.ensures ∙ (λ i. written_page (c.args.level + 1) 0 ((0, c.from.ensures i) ∷ (c.middle_of.ensures i, c.from-2.ensures i) ∷ [])) in
-    let more : c.args.front.now.next_page + 1 + 1 ≡ c.args.front.now.next_page + 2 = omega arith in
-    let counts : c.front_part.result.bytes.now ≡ count_bytes c.args.front.now.next_slot (c.args.front.now.next_page + 2) = c.front_part.ensures.bytes ∙ c.write_super_counts.ensures ∙ ap (count_bytes c.args.front.now.next_slot) more in
+    let lower : c.whole_page.result.bytes.now ≡ written_page c.args.root.now.level 0 (take 15 c.args.root.now.pairs.items) =
+    c.whole_page.ensures.bytes ∙ c.write_page.ensures ∙ ap (λ (ps : List Pair). written_page c.args.root.now.level 0 (take 15 ps)) c.as_slice-pairs.ensures.value in
+    let upper : c.whole_page-2.result.bytes.now ≡ written_page c.args.root.now.level 0 (drop 15 c.args.root.now.pairs.items) =
+    c.whole_page-2.ensures.bytes ∙ c.write_page-2.ensures ∙ ap (λ (ps : List Pair). written_page c.args.root.now.level 0 ps) (all_behind c.as_slice-pairs.result.now 15) ∙ ap (λ (ps : List Pair). written_page c.args.root.now.level 0 (drop 15 ps)) c.as_slice-pairs.ensures.value in
+    let named : c.whole_page-3.result.bytes.now ≡ written_page (c.args.root.now.level + 1) 0 ((0, c.args.left) ∷ (key_at c.args.root.now.pairs.items 15, c.args.right.now.number) ∷ []) =
+    c.whole_page-3.ensures.bytes ∙ c.write_page-3.ensures ∙ (λ i. written_page (c.args.root.now.level + 1) 0 ((0, c.from.ensures i) ∷ (c.middle_of.ensures i, c.from-2.ensures i) ∷ [])) in
+    let counts = c.front_part.ensures.bytes ∙ c.write_super_part.ensures in
     record {
       acts = subst (λ (x : List ℕ × List Part). Acts g.S.EawStore.tells O c.args.tid x.0 x.1 v0 v1 c.act_all.result) (λ i. (
         c.whole_page.ensures.page i ∷ c.whole_page-2.ensures.page i ∷ c.whole_page-3.ensures.page i ∷ c.front_part.ensures.page i ∷ [],

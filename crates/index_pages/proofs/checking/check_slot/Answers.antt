@@ -8,7 +8,7 @@ pub returns-then-is_of_key-clause-cause : goal.returns-then-is_of_key-clause-cau
 returns-then-is_of_key-clause-cause g c = λ told slots.
     let b = (g.S.EawStore.view c.args.pages.now.store).state.bytes in (
       omega (arith, c.if-pair-from.false, c.from.ensures, slots),
-      carries_said b c.args.pair.0 c.args.pair.1 c.in-Ok.said (c.in-Ok.ensures.said told) (c.is_of_key.ensures.0 c.if-is_of_key.true),
+      carries_said b c.args.table c.args.pair.0 c.args.pair.1 c.in-Ok.said (c.in-Ok.ensures.said told) (c.is_of_key.ensures.0 c.if-is_of_key.true),
     )
 
 pub returns-else-is_of_key-clause-cause : goal.returns-else-is_of_key-clause-cause
@@ -17,7 +17,7 @@ returns-else-is_of_key-clause-cause g c = λ told slots.
     inr (
       omega (arith, c.if-pair-from.false, c.from.ensures, slots),
       (
-        carries_not view.state.bytes c.args.pair.0 c.args.pair.1 c.in-Ok.said (c.in-Ok.ensures.said told) (λ is. false≢true (sym c.if-is_of_key.false ∙ c.is_of_key.ensures.1 is)),
+        carries_not view.state.bytes c.args.table c.args.pair.0 c.args.pair.1 c.in-Ok.said (c.in-Ok.ensures.said told) (λ is. false≢true (sym c.if-is_of_key.false ∙ c.is_of_key.ensures.1 is)),
         sym (slot_page_is view.shape view.state.bytes (g.met.S.EawStore.long c.args.pages.now.store told) c.index_page_count-count.result c.args.pair.1 c.index_page_count-count.ensures.all),
       ),
     )

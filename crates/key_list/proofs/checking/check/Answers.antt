@@ -1,210 +1,76 @@
-use Rattle.std.proofs.Common.{◌≡◌, ◌+◌, ◌-◌, ℕ, suc, false, Option, Ok, Err, Result, IsTrue, refl, sym, ◌∙◌, ap, subst, arith}
+use Rattle.std.proofs.Common.{◌≡◌, ◌∙◌, false, Ok, Err, Result, None, refl, sym, ap, subst}
+use Rattle.array_shape.specs.declared.shape.Shape.{Shape}
 use Rattle.eaw_face.specs.State.{State}
-use Rattle.eaw_face.specs.Causes.{IsAlive}
-use Rattle.record_slots.specs.Places.{next_slot, next_page, page_bytes}
+use Rattle.mars_base.specs.Check.{both}
+use Rattle.record_slots.specs.Places.{page_bytes, tables_of, IsSuper}
+use Rattle.record_slots.specs.Super.{SaysSuper}
+use Rattle.record_slots.specs.declared.super_page.Super.{Super}
 use Rattle.page_store.specs.Shown.{pages_of}
 use Rattle.page_store.specs.declared.index_fault.CheckFault.{CheckFault}
-use Rattle.index_pages.specs.Page.{pairs_said, link_said}
+use Rattle.index_pages.specs.Fetched.{IsFront}
+use Rattle.index_pages.specs.Slots.{IsVerdict, slots_check, pages_check, tables_check}
 use Rattle.index_pages.proofs.Looking.{looks_next}
-use Rattle.index_pages.specs.Slots.{IsVerdict}
-use Rattle.key_list.specs.Chain.{pairs_check}
-use Rattle.key_list.specs.Checked.{low_of}
-use Rattle.key_list.proofs.Testing.{ChainLeft, chain_all, chain_none, head_fails, pairs_fail, link_fails, link_ends, link_on, checked_err}
+use Rattle.key_list.specs.Chain.{chain_check}
+use Rattle.key_list.specs.Index.{chain}
+use Rattle.index_pages.proofs.Tests.{check_looks, dead_told, super_fails, lists_fail, tables_tell}
 use Rattle.key_list.proofs.checking.check.Goals as goal
 
-pub returns-in_default-clause-cause : goal.returns-in_default-clause-cause
-returns-in_default-clause-cause g c =
-    let T = g.S.EawStore.tells in
-    let V = g.S.EawStore.view in
-    let E = g.S.EawStore.opens in
-    let view = V c.args.pages.now.store in
-    let b = view.state.bytes in
-    let inv = c.loop-step.invariant in
-    let still = inv.looks.still refl in
-    let alive : IsAlive view = sym still.dead ∙ inv.alive in
-    let n = c.in-Ok.front.next_page - suc c.loop-step._step in
-    let left = λ (told : IsTrue g.S.EawStore.tells). subst (λ (m : ℕ). ChainLeft b c.loop-step.page (low_of c.loop-step.last) m)
-    (let e : c.in-Ok.front.next_page - c.loop-step._step ≡ suc (c.in-Ok.front.next_page - suc c.loop-step._step) = omega (arith, c.loop-step-test.true) in e) (inv.left told) in
-    let buf = λ (told : IsTrue g.S.EawStore.tells). c.in-Ok-fetch_page.ensures.bytes told ∙ ap (λ (s : State). page_bytes s.bytes c.loop-step.page) (still.state told) in
-    (alive, λ told. head_fails b c.fetch_page.new.bytes c.loop-step.page (low_of c.loop-step.last) n (buf told) (left told) c.in_default.ensures.other)
+pub returns-in-Err-clause-looks : goal.returns-in-Err-clause-looks
+returns-in-Err-clause-looks g c = check_looks Super g.S.EawStore.tells (g.S.EawStore.opens (g.S.EawStore.view c.args.pages.now.store).shape) (pages_of (g.S.EawStore.view c.args.pages.now.store) c.args.pages.now) (pages_of (g.S.EawStore.view c.check_super.new.pages.store) c.check_super.new.pages) c.in-Err.fault c.check_fault.result c.check_fault.ensures c.in-Err.ensures.looks
 
-pub returns-in-Err-check_pairs-clause-cause : goal.returns-in-Err-check_pairs-clause-cause
-returns-in-Err-check_pairs-clause-cause g c =
-    let T = g.S.EawStore.tells in
-    let V = g.S.EawStore.view in
-    let E = g.S.EawStore.opens in
-    let view = V c.args.pages.now.store in
-    let b = view.state.bytes in
-    let inv = c.loop-step.invariant in
-    let still = inv.looks.still refl in
-    let alive : IsAlive view = sym still.dead ∙ inv.alive in
-    let n = c.in-Ok.front.next_page - suc c.loop-step._step in
-    let left = λ (told : IsTrue g.S.EawStore.tells). subst (λ (m : ℕ). ChainLeft b c.loop-step.page (low_of c.loop-step.last) m)
-    (let e : c.in-Ok.front.next_page - c.loop-step._step ≡ suc (c.in-Ok.front.next_page - suc c.loop-step._step) = omega (arith, c.loop-step-test.true) in e) (inv.left told) in
-    let buf = λ (told : IsTrue g.S.EawStore.tells). c.in-Ok-fetch_page.ensures.bytes told ∙ ap (λ (s : State). page_bytes s.bytes c.loop-step.page) (still.state told) in
-    let looks2 = looks_next T E false (pages_of view c.args.pages.now) (pages_of (V c.loop-step.pages.store) c.loop-step.pages) (pages_of (V c.fetch_page.new.pages.store) c.fetch_page.new.pages) inv.looks c.in-Ok-fetch_page.ensures.looks in
-    let same2 = λ (told : IsTrue g.S.EawStore.tells). (looks2.still refl).state told in
-    let slots = λ (told : IsTrue g.S.EawStore.tells). (c.in-Ok.ensures.says told).next_slot ∙ ap (λ (s : State). next_slot s.bytes) (sym (same2 told)) in
-    checked_err T view c.in-Err-check_pairs.fault alive c.in-Err-check_pairs.ensures.dead (λ told bad e.
-    (let r : Result (Option ℕ) CheckFault = Err c.in-Err-check_pairs.fault in
-    pairs_fail b c.fetch_page.new.bytes c.loop-step.page (low_of c.loop-step.last) n (buf told) (left told) c.in-Some.ensures.head c.in-Err-check_pairs.fault bad e
-    (subst (λ (s : State). IsVerdict (pairs_check s.bytes c.loop-step.page (low_of c.loop-step.last) (pairs_said c.fetch_page.new.bytes)) r) (same2 told) (c.in-Err-check_pairs.ensures.cause told (slots told)))))
+pub returns-in-Err-clause-cause : goal.returns-in-Err-clause-cause
+returns-in-Err-clause-cause g c = super_fails chain 0 chain_check (λ b c. c) (λ b bad c. c) g.S.EawStore.tells (g.S.EawStore.view c.args.pages.now.store) c.in-Err.fault c.check_fault.result c.check_fault.ensures c.in-Err.ensures.cause
 
-pub returns-then-head-eq0-clause-cause : goal.returns-then-head-eq0-clause-cause
-returns-then-head-eq0-clause-cause g c =
-    let T = g.S.EawStore.tells in
-    let V = g.S.EawStore.view in
-    let E = g.S.EawStore.opens in
-    let view = V c.args.pages.now.store in
-    let b = view.state.bytes in
-    let inv = c.loop-step.invariant in
-    let still = inv.looks.still refl in
-    let alive : IsAlive view = sym still.dead ∙ inv.alive in
-    let n = c.in-Ok.front.next_page - suc c.loop-step._step in
-    let left = λ (told : IsTrue g.S.EawStore.tells). subst (λ (m : ℕ). ChainLeft b c.loop-step.page (low_of c.loop-step.last) m)
-    (let e : c.in-Ok.front.next_page - c.loop-step._step ≡ suc (c.in-Ok.front.next_page - suc c.loop-step._step) = omega (arith, c.loop-step-test.true) in e) (inv.left told) in
-    let buf = λ (told : IsTrue g.S.EawStore.tells). c.in-Ok-fetch_page.ensures.bytes told ∙ ap (λ (s : State). page_bytes s.bytes c.loop-step.page) (still.state told) in
-    let looks2 = looks_next T E false (pages_of view c.args.pages.now) (pages_of (V c.loop-step.pages.store) c.loop-step.pages) (pages_of (V c.fetch_page.new.pages.store) c.fetch_page.new.pages) inv.looks c.in-Ok-fetch_page.ensures.looks in
-    let same2 = λ (told : IsTrue g.S.EawStore.tells). (looks2.still refl).state told in
-    let slots = λ (told : IsTrue g.S.EawStore.tells). (c.in-Ok.ensures.says told).next_slot ∙ ap (λ (s : State). next_slot s.bytes) (sym (same2 told)) in
-    let well = λ (told : IsTrue g.S.EawStore.tells).
-    (let r : Result (Option ℕ) CheckFault = Ok c.in-Ok-check_pairs.last in
-    subst (λ (s : State). IsVerdict (pairs_check s.bytes c.loop-step.page (low_of c.loop-step.last) (pairs_said c.fetch_page.new.bytes)) r) (same2 told) (c.in-Ok-check_pairs.ensures.cause told (slots told))) in
-    (alive, λ told. link_ends b c.fetch_page.new.bytes c.loop-step.page (low_of c.loop-step.last) n (buf told) (left told) c.in-Some.ensures.head (well told) (sym c.in-Some.ensures.says.link ∙ c.if-head-eq0.true))
+pub returns-in-Err-clause-dead : goal.returns-in-Err-clause-dead
+returns-in-Err-clause-dead g c = λ told. c.in-Err.ensures.dead (ap Err (dead_told Super _ _ _ (g.S.EawStore.view c.args.pages.now.store) c.in-Err.fault c.check_fault.result c.in-Err.ensures.cause c.check_fault.ensures told))
 
-pub returns-then-head-lt2-clause-cause : goal.returns-then-head-lt2-clause-cause
-returns-then-head-lt2-clause-cause g c =
-    let T = g.S.EawStore.tells in
-    let V = g.S.EawStore.view in
-    let E = g.S.EawStore.opens in
-    let view = V c.args.pages.now.store in
-    let b = view.state.bytes in
-    let inv = c.loop-step.invariant in
-    let still = inv.looks.still refl in
-    let alive : IsAlive view = sym still.dead ∙ inv.alive in
-    let n = c.in-Ok.front.next_page - suc c.loop-step._step in
-    let left = λ (told : IsTrue g.S.EawStore.tells). subst (λ (m : ℕ). ChainLeft b c.loop-step.page (low_of c.loop-step.last) m)
-    (let e : c.in-Ok.front.next_page - c.loop-step._step ≡ suc (c.in-Ok.front.next_page - suc c.loop-step._step) = omega (arith, c.loop-step-test.true) in e) (inv.left told) in
-    let buf = λ (told : IsTrue g.S.EawStore.tells). c.in-Ok-fetch_page.ensures.bytes told ∙ ap (λ (s : State). page_bytes s.bytes c.loop-step.page) (still.state told) in
-    let looks2 = looks_next T E false (pages_of view c.args.pages.now) (pages_of (V c.loop-step.pages.store) c.loop-step.pages) (pages_of (V c.fetch_page.new.pages.store) c.fetch_page.new.pages) inv.looks c.in-Ok-fetch_page.ensures.looks in
-    let same2 = λ (told : IsTrue g.S.EawStore.tells). (looks2.still refl).state told in
-    let slots = λ (told : IsTrue g.S.EawStore.tells). (c.in-Ok.ensures.says told).next_slot ∙ ap (λ (s : State). next_slot s.bytes) (sym (same2 told)) in
-    let well = λ (told : IsTrue g.S.EawStore.tells).
-    (let r : Result (Option ℕ) CheckFault = Ok c.in-Ok-check_pairs.last in
-    subst (λ (s : State). IsVerdict (pairs_check s.bytes c.loop-step.page (low_of c.loop-step.last) (pairs_said c.fetch_page.new.bytes)) r) (same2 told) (c.in-Ok-check_pairs.ensures.cause told (slots told))) in (
-      alive,
-      λ told. link_fails b c.fetch_page.new.bytes c.loop-step.page (low_of c.loop-step.last) n (buf told) (left told) c.in-Some.ensures.head (well told)
-          (λ e. c.if-head-eq0.false (c.in-Some.ensures.says.link ∙ e)) (λ to. omega (arith, to.0, c.if-head-lt2.true, c.in-Some.ensures.says.link)),
-    )
+pub check_lists-requires : goal.check_lists-requires
+check_lists-requires g c = record {
+  alive = (c.in-Ok.ensures.looks.still refl).dead ∙ c.in-Ok.ensures.cause;
+  front = subst (λ (sh : Shape). IsFront sh c.in-Ok.front) (sym c.in-Ok.ensures.looks.shape) c.in-Ok.ensures.front;
+}
 
-pub returns-then-head-front-clause-cause : goal.returns-then-head-front-clause-cause
-returns-then-head-front-clause-cause g c =
-    let T = g.S.EawStore.tells in
-    let V = g.S.EawStore.view in
-    let E = g.S.EawStore.opens in
-    let view = V c.args.pages.now.store in
-    let b = view.state.bytes in
-    let inv = c.loop-step.invariant in
-    let still = inv.looks.still refl in
-    let alive : IsAlive view = sym still.dead ∙ inv.alive in
-    let n = c.in-Ok.front.next_page - suc c.loop-step._step in
-    let left = λ (told : IsTrue g.S.EawStore.tells). subst (λ (m : ℕ). ChainLeft b c.loop-step.page (low_of c.loop-step.last) m)
-    (let e : c.in-Ok.front.next_page - c.loop-step._step ≡ suc (c.in-Ok.front.next_page - suc c.loop-step._step) = omega (arith, c.loop-step-test.true) in e) (inv.left told) in
-    let buf = λ (told : IsTrue g.S.EawStore.tells). c.in-Ok-fetch_page.ensures.bytes told ∙ ap (λ (s : State). page_bytes s.bytes c.loop-step.page) (still.state told) in
-    let looks2 = looks_next T E false (pages_of view c.args.pages.now) (pages_of (V c.loop-step.pages.store) c.loop-step.pages) (pages_of (V c.fetch_page.new.pages.store) c.fetch_page.new.pages) inv.looks c.in-Ok-fetch_page.ensures.looks in
-    let same2 = λ (told : IsTrue g.S.EawStore.tells). (looks2.still refl).state told in
-    let slots = λ (told : IsTrue g.S.EawStore.tells). (c.in-Ok.ensures.says told).next_slot ∙ ap (λ (s : State). next_slot s.bytes) (sym (same2 told)) in
-    let well = λ (told : IsTrue g.S.EawStore.tells).
-    (let r : Result (Option ℕ) CheckFault = Ok c.in-Ok-check_pairs.last in
-    subst (λ (s : State). IsVerdict (pairs_check s.bytes c.loop-step.page (low_of c.loop-step.last) (pairs_said c.fetch_page.new.bytes)) r) (same2 told) (c.in-Ok-check_pairs.ensures.cause told (slots told))) in (
-      alive,
-      λ told. link_fails b c.fetch_page.new.bytes c.loop-step.page (low_of c.loop-step.last) n (buf told) (left told) c.in-Some.ensures.head (well told)
-          (λ e. c.if-head-eq0.false (c.in-Some.ensures.says.link ∙ e)) (λ to. omega (arith, to.1, c.if-head-front.true, c.in-Some.ensures.says.link, (c.in-Ok.ensures.says told).next_page)),
-    )
+pub returns-in-Err-check_lists-clause-looks : goal.returns-in-Err-check_lists-clause-looks
+returns-in-Err-check_lists-clause-looks g c = looks_next g.S.EawStore.tells g.S.EawStore.opens _ (pages_of (g.S.EawStore.view c.args.pages.now.store) c.args.pages.now) (pages_of (g.S.EawStore.view c.check_super.new.pages.store) c.check_super.new.pages) (pages_of (g.S.EawStore.view c.check_lists.new.pages.store) c.check_lists.new.pages) c.in-Ok.ensures.looks c.in-Err-check_lists.ensures.looks
 
-pub loop-step-preserved : goal.loop-step-preserved
-loop-step-preserved g c =
-    let T = g.S.EawStore.tells in
-    let V = g.S.EawStore.view in
-    let E = g.S.EawStore.opens in
-    let view = V c.args.pages.now.store in
-    let b = view.state.bytes in
-    let inv = c.loop-step.invariant in
-    let still = inv.looks.still refl in
-    let alive : IsAlive view = sym still.dead ∙ inv.alive in
-    let n = c.in-Ok.front.next_page - suc c.loop-step._step in
-    let left = λ (told : IsTrue g.S.EawStore.tells). subst (λ (m : ℕ). ChainLeft b c.loop-step.page (low_of c.loop-step.last) m)
-    (let e : c.in-Ok.front.next_page - c.loop-step._step ≡ suc (c.in-Ok.front.next_page - suc c.loop-step._step) = omega (arith, c.loop-step-test.true) in e) (inv.left told) in
-    let buf = λ (told : IsTrue g.S.EawStore.tells). c.in-Ok-fetch_page.ensures.bytes told ∙ ap (λ (s : State). page_bytes s.bytes c.loop-step.page) (still.state told) in
-    let looks2 = looks_next T E false (pages_of view c.args.pages.now) (pages_of (V c.loop-step.pages.store) c.loop-step.pages) (pages_of (V c.fetch_page.new.pages.store) c.fetch_page.new.pages) inv.looks c.in-Ok-fetch_page.ensures.looks in
-    let same2 = λ (told : IsTrue g.S.EawStore.tells). (looks2.still refl).state told in
-    let slots = λ (told : IsTrue g.S.EawStore.tells). (c.in-Ok.ensures.says told).next_slot ∙ ap (λ (s : State). next_slot s.bytes) (sym (same2 told)) in
-    let well = λ (told : IsTrue g.S.EawStore.tells).
-    (let r : Result (Option ℕ) CheckFault = Ok c.in-Ok-check_pairs.last in
-    subst (λ (s : State). IsVerdict (pairs_check s.bytes c.loop-step.page (low_of c.loop-step.last) (pairs_said c.fetch_page.new.bytes)) r) (same2 told) (c.in-Ok-check_pairs.ensures.cause told (slots told))) in
-    let looks3 = looks_next T E false (pages_of view c.args.pages.now) (pages_of (V c.fetch_page.new.pages.store) c.fetch_page.new.pages) (pages_of (V c.check_pairs.new.pages.store) c.check_pairs.new.pages) looks2 c.in-Ok-check_pairs.ensures.looks in
-    record {
-      inside = omega (arith, c.if-head-front.false, c.in-Ok.ensures.front.pages);
-      looks = looks3;
-      alive = (looks3.still refl).dead ∙ alive;
-      low = c.in-Ok-check_pairs.ensures.low;
-      left = λ told.
-          let next = link_on b c.fetch_page.new.bytes c.loop-step.page (low_of c.loop-step.last) n (buf told) (left told) c.in-Some.ensures.head (well told) (λ e. c.if-head-eq0.false (c.in-Some.ensures.says.link ∙ e)) c.in-Ok-check_pairs.last c.in-Ok-check_pairs.ensures.behind
-          (omega (arith, c.if-head-lt2.false, c.in-Some.ensures.says.link), omega (arith, c.if-head-front.false, c.in-Some.ensures.says.link, (c.in-Ok.ensures.says told).next_page)) in
-          subst (λ (x : ℕ). ChainLeft b x (low_of c.in-Ok-check_pairs.last) (c.in-Ok.front.next_page - (c.loop-step._step + 1))) (sym c.in-Some.ensures.says.link)
-          (subst (λ (m : ℕ). ChainLeft b (link_said c.fetch_page.new.bytes) (low_of c.in-Ok-check_pairs.last) (c.in-Ok.front.next_page - m)) (let e : suc c.loop-step._step ≡ c.loop-step._step + 1 = omega arith in e) next);
-    }
+pub returns-in-Err-check_lists-clause-cause : goal.returns-in-Err-check_lists-clause-cause
+returns-in-Err-check_lists-clause-cause g c =
+    let r : Result (Unit {0}) CheckFault = Err c.in-Err-check_lists.fault in
+    lists_fail chain 0 chain_check (λ b c. c) (λ b bad c. c) g.S.EawStore.tells (g.S.EawStore.view c.args.pages.now.store) c.in-Ok.ensures.cause (λ told. c.in-Ok.ensures.sound told) c.in-Err-check_lists.fault
+    (λ told.
+    let same = (c.in-Ok.ensures.looks.still refl).state told in
+    subst (λ (s : State). IsVerdict (both (slots_check s.bytes) (pages_check s.bytes)) r) same
+    (c.in-Err-check_lists.ensures.cause told (subst (λ (s : State). SaysSuper (page_bytes s.bytes 0) c.in-Ok.front) (sym same) (c.in-Ok.ensures.says told))))
+    c.in-Err-check_lists.ensures.dead
+
+pub returns-in-Err-check_lists-clause-dead : goal.returns-in-Err-check_lists-clause-dead
+returns-in-Err-check_lists-clause-dead g c = λ told. absurd (c.in-Err-check_lists.ensures.dead told)
+
+pub check_tables-requires : goal.check_tables-requires
+check_tables-requires g c = record {
+  alive = (c.in-Ok-check_lists.ensures.looks.still refl).dead ∙ (c.in-Ok.ensures.looks.still refl).dead ∙ c.in-Ok.ensures.cause;
+  front = subst (λ (sh : Shape). IsFront sh c.in-Ok.front) (sym (c.in-Ok-check_lists.ensures.looks.shape ∙ c.in-Ok.ensures.looks.shape)) c.in-Ok.ensures.front;
+  sound = λ told.
+      subst (λ (s : State). IsSuper 0 s.bytes) (sym ((c.in-Ok-check_lists.ensures.looks.still refl).state told ∙ (c.in-Ok.ensures.looks.still refl).state told)) (c.in-Ok.ensures.sound told);
+}
+
+pub returns-clause-looks : goal.returns-clause-looks
+returns-clause-looks g c = looks_next g.S.EawStore.tells g.S.EawStore.opens _ (pages_of (g.S.EawStore.view c.args.pages.now.store) c.args.pages.now) (pages_of (g.S.EawStore.view c.check_lists.new.pages.store) c.check_lists.new.pages) (pages_of (g.S.EawStore.view c.check_tables.new.pages.store) c.check_tables.new.pages) (looks_next g.S.EawStore.tells g.S.EawStore.opens false (pages_of (g.S.EawStore.view c.args.pages.now.store) c.args.pages.now) (pages_of (g.S.EawStore.view c.check_super.new.pages.store) c.check_super.new.pages) (pages_of (g.S.EawStore.view c.check_lists.new.pages.store) c.check_lists.new.pages) c.in-Ok.ensures.looks c.in-Ok-check_lists.ensures.looks) c.check_tables.ensures.looks
 
 pub returns-clause-cause : goal.returns-clause-cause
 returns-clause-cause g c =
-    let T = g.S.EawStore.tells in
-    let V = g.S.EawStore.view in
-    let E = g.S.EawStore.opens in
-    let view = V c.args.pages.now.store in
-    let b = view.state.bytes in
-    let inv = c.loop-step.invariant in
-    let still = inv.looks.still refl in
-    let alive : IsAlive view = sym still.dead ∙ inv.alive in
-    (alive, λ told. chain_none b c.loop-step.page (low_of c.loop-step.last) (c.in-Ok.front.next_page - c.loop-step._step) (omega (arith, c.loop-step-test.false)) (inv.left told))
-
-pub loop-step-init : goal.loop-step-init
-loop-step-init g c =
-    let view = g.S.EawStore.view c.args.pages.now.store in
-    record {
-      inside = omega (arith, c.in-Ok.ensures.front.some, c.in-Ok.ensures.front.pages);
-      looks = c.in-Ok.ensures.looks;
-      alive = (c.in-Ok.ensures.looks.still refl).dead ∙ c.in-Ok.ensures.cause;
-      low = omega arith;
-      left = λ told. subst (λ (m : ℕ). ChainLeft view.state.bytes 1 0 m) (let e : next_page view.state.bytes ≡ c.in-Ok.front.next_page - 0 = omega (arith, (c.in-Ok.ensures.says told).next_page) in e)
-          (chain_all view.state.bytes (c.in-Ok.ensures.sound told));
-    }
-
-pub returns-in_default-clause-looks : goal.returns-in_default-clause-looks
-returns-in_default-clause-looks g c = looks_next g.S.EawStore.tells g.S.EawStore.opens false (pages_of (g.S.EawStore.view c.args.pages.now.store) c.args.pages.now) (pages_of (g.S.EawStore.view c.loop-step.pages.store) c.loop-step.pages) (pages_of (g.S.EawStore.view c.fetch_page.new.pages.store) c.fetch_page.new.pages) c.loop-step.invariant.looks c.in-Ok-fetch_page.ensures.looks
-
-pub returns-in_default-clause-dead : goal.returns-in_default-clause-dead
-returns-in_default-clause-dead g c = λ is. cc
-
-pub returns-then-head-eq0-clause-looks : goal.returns-then-head-eq0-clause-looks
-returns-then-head-eq0-clause-looks g c = looks_next g.S.EawStore.tells g.S.EawStore.opens false (pages_of (g.S.EawStore.view c.args.pages.now.store) c.args.pages.now) (pages_of (g.S.EawStore.view c.fetch_page.new.pages.store) c.fetch_page.new.pages) (pages_of (g.S.EawStore.view c.check_pairs.new.pages.store) c.check_pairs.new.pages) (looks_next g.S.EawStore.tells g.S.EawStore.opens false (pages_of (g.S.EawStore.view c.args.pages.now.store) c.args.pages.now) (pages_of (g.S.EawStore.view c.loop-step.pages.store) c.loop-step.pages) (pages_of (g.S.EawStore.view c.fetch_page.new.pages.store) c.fetch_page.new.pages) c.loop-step.invariant.looks c.in-Ok-fetch_page.ensures.looks) c.in-Ok-check_pairs.ensures.looks
-
-pub returns-then-head-eq0-clause-dead : goal.returns-then-head-eq0-clause-dead
-returns-then-head-eq0-clause-dead g c = λ is. cc
-
-pub returns-then-head-lt2-clause-looks : goal.returns-then-head-lt2-clause-looks
-returns-then-head-lt2-clause-looks g c = looks_next g.S.EawStore.tells g.S.EawStore.opens false (pages_of (g.S.EawStore.view c.args.pages.now.store) c.args.pages.now) (pages_of (g.S.EawStore.view c.fetch_page.new.pages.store) c.fetch_page.new.pages) (pages_of (g.S.EawStore.view c.check_pairs.new.pages.store) c.check_pairs.new.pages) (looks_next g.S.EawStore.tells g.S.EawStore.opens false (pages_of (g.S.EawStore.view c.args.pages.now.store) c.args.pages.now) (pages_of (g.S.EawStore.view c.loop-step.pages.store) c.loop-step.pages) (pages_of (g.S.EawStore.view c.fetch_page.new.pages.store) c.fetch_page.new.pages) c.loop-step.invariant.looks c.in-Ok-fetch_page.ensures.looks) c.in-Ok-check_pairs.ensures.looks
-
-pub returns-then-head-lt2-clause-dead : goal.returns-then-head-lt2-clause-dead
-returns-then-head-lt2-clause-dead g c = λ is. cc
-
-pub returns-then-head-front-clause-looks : goal.returns-then-head-front-clause-looks
-returns-then-head-front-clause-looks g c = looks_next g.S.EawStore.tells g.S.EawStore.opens false (pages_of (g.S.EawStore.view c.args.pages.now.store) c.args.pages.now) (pages_of (g.S.EawStore.view c.fetch_page.new.pages.store) c.fetch_page.new.pages) (pages_of (g.S.EawStore.view c.check_pairs.new.pages.store) c.check_pairs.new.pages) (looks_next g.S.EawStore.tells g.S.EawStore.opens false (pages_of (g.S.EawStore.view c.args.pages.now.store) c.args.pages.now) (pages_of (g.S.EawStore.view c.loop-step.pages.store) c.loop-step.pages) (pages_of (g.S.EawStore.view c.fetch_page.new.pages.store) c.fetch_page.new.pages) c.loop-step.invariant.looks c.in-Ok-fetch_page.ensures.looks) c.in-Ok-check_pairs.ensures.looks
-
-pub returns-then-head-front-clause-dead : goal.returns-then-head-front-clause-dead
-returns-then-head-front-clause-dead g c = λ is. cc
-
-pub returns-clause-looks : goal.returns-clause-looks
-returns-clause-looks g c = c.loop-step.invariant.looks
+    let r : Result (Unit {0}) CheckFault = Ok tt in
+    tables_tell chain 0 chain_check (λ b c. c) (λ b bad c. c) g.S.EawStore.tells (g.S.EawStore.view c.args.pages.now.store) c.in-Ok.ensures.cause (λ told. c.in-Ok.ensures.sound told)
+    (λ told.
+    let same = (c.in-Ok.ensures.looks.still refl).state told in
+    subst (λ (s : State). IsVerdict (both (slots_check s.bytes) (pages_check s.bytes)) r) same
+    (c.in-Ok-check_lists.ensures.cause told (subst (λ (s : State). SaysSuper (page_bytes s.bytes 0) c.in-Ok.front) (sym same) (c.in-Ok.ensures.says told))))
+    c.check_tables.result
+    (λ told.
+    let same = (c.in-Ok-check_lists.ensures.looks.still refl).state told ∙ (c.in-Ok.ensures.looks.still refl).state told in
+    subst (λ (s : State). IsVerdict (tables_check (chain_check s.bytes) 0 (tables_of s.bytes)) c.check_tables.result) same
+    (c.check_tables.ensures.cause told (subst (λ (s : State). SaysSuper (page_bytes s.bytes 0) c.in-Ok.front) (sym same) (c.in-Ok.ensures.says told))))
+    c.check_tables.ensures.dead
 
 pub returns-clause-dead : goal.returns-clause-dead
-returns-clause-dead g c = λ is. cc
+returns-clause-dead g c = λ told. absurd (c.check_tables.ensures.dead told)

@@ -4,4 +4,4 @@ use Rattle.key_list.proofs.checking.check_pair.Goals as goal
 
 pub returns-clause-cause : goal.returns-clause-cause
 returns-clause-cause g c = λ told slots.
-    pair_told (g.S.EawStore.view c.args.pages.now.store).state.bytes c.args.page (low_of c.args.last) c.args.pair (c.is_above.ensures.0 c.if-not-is_above.false) c.check_slot.result (c.check_slot.ensures.cause told slots)
+    pair_told (g.S.EawStore.view c.args.pages.now.store).state.bytes c.args.table c.args.page (low_of c.args.last) c.args.pair (c.is_above.ensures.0 c.if-not-is_above.false) c.check_slot.result (c.check_slot.ensures.cause told slots)

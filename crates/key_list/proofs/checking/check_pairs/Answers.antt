@@ -22,7 +22,7 @@ loop-i-init g c =
       looks = looks_none g.S.EawStore.tells (g.S.EawStore.opens view.shape) (pages_of view c.args.pages.now);
       alive = c.requires.alive;
       low = c.requires.low;
-      left = λ told slots. subst (λ (ps : List Pair). PairsLeft view.state.bytes c.args.page (low_of c.args.last) (pairs_said c.args.bytes.now) (low_of c.args.last) ps) all
+      left = λ told slots. subst (λ (ps : List Pair). PairsLeft view.state.bytes c.args.table c.args.page (low_of c.args.last) (pairs_said c.args.bytes.now) (low_of c.args.last) ps) all
           (λ verdict told. told);
       ends = ap (λ (ps : List Pair). behind (low_of c.args.last) ps) (sym all);
     }
@@ -34,13 +34,13 @@ returns-in-Err-clause-cause g c = λ told slots.
     let same = (c.loop-i.invariant.looks.still refl).state told in
     let rest = pairs_from c.args.bytes.now (suc c.loop-i.i) (c.args.count - suc c.loop-i.i) in
     let e : Result (Unit {0}) CheckFault = Err c.in-Err.fault in
-    let left = subst (λ (ps : List Pair). PairsLeft view.state.bytes c.args.page (low_of c.args.last) (pairs_said c.args.bytes.now) (low_of c.loop-i.last) ps)
+    let left = subst (λ (ps : List Pair). PairsLeft view.state.bytes c.args.table c.args.page (low_of c.args.last) (pairs_said c.args.bytes.now) (low_of c.loop-i.last) ps)
     (from_step c.args.bytes.now c.loop-i.i c.args.count c.loop-i-test.true) (c.loop-i.invariant.left told slots) in
-    let cause : IsVerdict (pair_check mid.state.bytes c.args.page (low_of c.loop-i.last) c.read_pair-key.result) e = c.in-Err.ensures.cause told (slots ∙ ap (λ (s : State). next_slot s.bytes) (sym same)) in
-    let cause' : IsVerdict (pair_check view.state.bytes c.args.page (low_of c.loop-i.last) (pair_said c.args.bytes.now c.loop-i.i)) e =
-    subst (λ (p : Pair). IsVerdict (pair_check view.state.bytes c.args.page (low_of c.loop-i.last) p) e) c.read_pair-key.ensures.pair
-    (subst (λ (s : State). IsVerdict (pair_check s.bytes c.args.page (low_of c.loop-i.last) c.read_pair-key.result) e) same cause) in
-    left_fails view.state.bytes c.args.page (low_of c.args.last) (pairs_said c.args.bytes.now) (low_of c.loop-i.last) (pair_said c.args.bytes.now c.loop-i.i) rest left c.in-Err.fault cause'
+    let cause : IsVerdict (pair_check mid.state.bytes c.args.table c.args.page (low_of c.loop-i.last) c.read_pair-key.result) e = c.in-Err.ensures.cause told (slots ∙ ap (λ (s : State). next_slot s.bytes) (sym same)) in
+    let cause' : IsVerdict (pair_check view.state.bytes c.args.table c.args.page (low_of c.loop-i.last) (pair_said c.args.bytes.now c.loop-i.i)) e =
+    subst (λ (p : Pair). IsVerdict (pair_check view.state.bytes c.args.table c.args.page (low_of c.loop-i.last) p) e) c.read_pair-key.ensures.pair
+    (subst (λ (s : State). IsVerdict (pair_check s.bytes c.args.table c.args.page (low_of c.loop-i.last) c.read_pair-key.result) e) same cause) in
+    left_fails view.state.bytes c.args.table c.args.page (low_of c.args.last) (pairs_said c.args.bytes.now) (low_of c.loop-i.last) (pair_said c.args.bytes.now c.loop-i.i) rest left c.in-Err.fault cause'
 
 pub loop-i-preserved : goal.loop-i-preserved
 loop-i-preserved g c =
@@ -60,22 +60,22 @@ loop-i-preserved g c =
           let same = (c.loop-i.invariant.looks.still refl).state told in
           let rest = pairs_from c.args.bytes.now (suc c.loop-i.i) (c.args.count - suc c.loop-i.i) in
           let r : Result (Unit {0}) CheckFault = Ok tt in
-          let left = subst (λ (ps : List Pair). PairsLeft view.state.bytes c.args.page (low_of c.args.last) (pairs_said c.args.bytes.now) (low_of c.loop-i.last) ps)
+          let left = subst (λ (ps : List Pair). PairsLeft view.state.bytes c.args.table c.args.page (low_of c.args.last) (pairs_said c.args.bytes.now) (low_of c.loop-i.last) ps)
           (from_step c.args.bytes.now c.loop-i.i c.args.count c.loop-i-test.true) (c.loop-i.invariant.left told slots) in
-          let cause : IsVerdict (pair_check mid.state.bytes c.args.page (low_of c.loop-i.last) c.read_pair-key.result) r = c.in-Ok.ensures.cause told (slots ∙ ap (λ (s : State). next_slot s.bytes) (sym same)) in
-          let cause' : IsVerdict (pair_check view.state.bytes c.args.page (low_of c.loop-i.last) (pair_said c.args.bytes.now c.loop-i.i)) r =
-          subst (λ (p : Pair). IsVerdict (pair_check view.state.bytes c.args.page (low_of c.loop-i.last) p) r) c.read_pair-key.ensures.pair
-          (subst (λ (s : State). IsVerdict (pair_check s.bytes c.args.page (low_of c.loop-i.last) c.read_pair-key.result) r) same cause) in
-          let next = left_step view.state.bytes c.args.page (low_of c.args.last) (pairs_said c.args.bytes.now) (low_of c.loop-i.last) (pair_said c.args.bytes.now c.loop-i.i) rest left cause' in
+          let cause : IsVerdict (pair_check mid.state.bytes c.args.table c.args.page (low_of c.loop-i.last) c.read_pair-key.result) r = c.in-Ok.ensures.cause told (slots ∙ ap (λ (s : State). next_slot s.bytes) (sym same)) in
+          let cause' : IsVerdict (pair_check view.state.bytes c.args.table c.args.page (low_of c.loop-i.last) (pair_said c.args.bytes.now c.loop-i.i)) r =
+          subst (λ (p : Pair). IsVerdict (pair_check view.state.bytes c.args.table c.args.page (low_of c.loop-i.last) p) r) c.read_pair-key.ensures.pair
+          (subst (λ (s : State). IsVerdict (pair_check s.bytes c.args.table c.args.page (low_of c.loop-i.last) c.read_pair-key.result) r) same cause) in
+          let next = left_step view.state.bytes c.args.table c.args.page (low_of c.args.last) (pairs_said c.args.bytes.now) (low_of c.loop-i.last) (pair_said c.args.bytes.now c.loop-i.i) rest left cause' in
           let on : suc c.loop-i.i ≡ c.loop-i.i + 1 = omega arith in
-          subst (λ (p : Pair). PairsLeft view.state.bytes c.args.page (low_of c.args.last) (pairs_said c.args.bytes.now) (suc p.0) (pairs_from c.args.bytes.now (c.loop-i.i + 1) (c.args.count - (c.loop-i.i + 1)))) (sym c.read_pair-key.ensures.pair)
-          (subst (λ (n : ℕ). PairsLeft view.state.bytes c.args.page (low_of c.args.last) (pairs_said c.args.bytes.now) (suc (pair_said c.args.bytes.now c.loop-i.i).0) (pairs_from c.args.bytes.now n (c.args.count - n))) on next);
+          subst (λ (p : Pair). PairsLeft view.state.bytes c.args.table c.args.page (low_of c.args.last) (pairs_said c.args.bytes.now) (suc p.0) (pairs_from c.args.bytes.now (c.loop-i.i + 1) (c.args.count - (c.loop-i.i + 1)))) (sym c.read_pair-key.ensures.pair)
+          (subst (λ (n : ℕ). PairsLeft view.state.bytes c.args.table c.args.page (low_of c.args.last) (pairs_said c.args.bytes.now) (suc (pair_said c.args.bytes.now c.loop-i.i).0) (pairs_from c.args.bytes.now n (c.args.count - n))) on next);
     }
 
 pub returns-clause-cause : goal.returns-clause-cause
 returns-clause-cause g c = λ told slots.
     let view = g.S.EawStore.view c.args.pages.now.store in
-    let left = subst (λ (ps : List Pair). PairsLeft view.state.bytes c.args.page (low_of c.args.last) (pairs_said c.args.bytes.now) (low_of c.loop-i.last) ps)
+    let left = subst (λ (ps : List Pair). PairsLeft view.state.bytes c.args.table c.args.page (low_of c.args.last) (pairs_said c.args.bytes.now) (low_of c.loop-i.last) ps)
     (from_end c.args.bytes.now c.loop-i.i c.args.count c.loop-i-test.false) (c.loop-i.invariant.left told slots) in
     left None c.loop-i.invariant.low
 

@@ -18,5 +18,5 @@ invariant-loop-i g l = record {
   alive : IsAlive (g.S.EawStore.view l.pages.store);
   low : low_of l.last ≤ key_end;
   ends : behind (low_of l.last) (pairs_from l.bytes l.i (l.count - l.i)) ≡ behind (low_of l.fn.last) (pairs_said l.bytes);
-  left : IsTrue g.S.EawStore.tells → l.slots ≡ next_slot (g.S.EawStore.view l.fn.pages.store).state.bytes → PairsLeft (g.S.EawStore.view l.fn.pages.store).state.bytes l.page (low_of l.fn.last) (pairs_said l.bytes) (low_of l.last) (pairs_from l.bytes l.i (l.count - l.i));
+  left : IsTrue g.S.EawStore.tells → l.slots ≡ next_slot (g.S.EawStore.view l.fn.pages.store).state.bytes → PairsLeft (g.S.EawStore.view l.fn.pages.store).state.bytes l.table l.page (low_of l.fn.last) (pairs_said l.bytes) (low_of l.last) (pairs_from l.bytes l.i (l.count - l.i));
 }

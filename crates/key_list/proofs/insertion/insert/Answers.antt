@@ -1,238 +1,160 @@
-use Rattle.std.proofs.Common.{◌≡◌, ◌^◌, ◌<◌, ℕ, Option, Result, Err, length, IsTrue, sym, ◌∙◌, ap, subst, arith}
+use Rattle.std.proofs.Common.{◌≡◌, ◌+◌, ◌*◌, ◌^◌, ◌<◌, ◌≤◌, ℕ, List, Option, Result, Err, length, None, false, IsTrue, refl, sym, ◌∙◌, ap, subst, arith}
+use Rattle.std.proofs.lemmas.Bool.{false≢true}
+use Rattle.array_shape.specs.declared.shape.Shape.{Shape}
+use Rattle.eaw_face.specs.Causes.{IsAlive}
+use Rattle.page_store.specs.Index.{IsTable, slots_of}
 use Rattle.page_store.specs.Inserts.{Inserts}
+use Rattle.page_store.specs.Pairs.{found}
 use Rattle.page_store.specs.Shown.{pages_of}
 use Rattle.page_store.specs.declared.index_fault.IndexFault.{IndexFault}
+use Rattle.index_pages.proofs.Faulting.{look_of_index, dead_fault, not_slots, room_for, full_with}
+use Rattle.key_list.specs.Chain.{IsSoundChain, pairs_of_chain}
 use Rattle.key_list.specs.Index.{chain}
-use Rattle.key_list.proofs.Whole.{added_done, added_err, pages_full, cut_err, sound2, located_err, closed3, damaged_slot, damaged_page, halved_done, halved_err}
+use Rattle.key_list.specs.Located.{IsLocated, Locates}
+use Rattle.key_list.specs.declared.place.Located.{Located}
+use Rattle.key_list.proofs.Whole.{look_err, slots_full, alive_yet, yet, looked_cut, looked_here}
 use Rattle.key_list.proofs.insertion.insert.Goals as goal
 
-pub add_pair-requires-clause-closed : goal.add_pair-requires-clause-closed
-add_pair-requires-clause-closed g c =
-    λ living. ap (λ (f : ℕ → Option ℕ). f c.args.tid) c.in-Ok.ensures.looks.tops ∙ c.requires.closed c.in-Ok.ensures.cause
-
-pub returns-in-Ok-add_pair-clause-inserts : goal.returns-in-Ok-add_pair-clause-inserts
-returns-in-Ok-add_pair-clause-inserts g c =
+pub returns-in-Err-clause-inserts : goal.returns-in-Err-clause-inserts
+returns-in-Err-clause-inserts g c =
     let T = g.S.EawStore.tells in
     let V = g.S.EawStore.view in
     let E = g.S.EawStore.opens in
     let t = c.args.tid in
+    let root = c.args.root in
+    let table = c.args.table in
     let key = c.args.key in
     let v0 = pages_of (V c.args.pages.now.store) c.args.pages.now in
     let v1 = pages_of (V c.locate.new.pages.store) c.locate.new.pages in
-    let n = c.index_page_count-count.ensures in
-    let at = c.in-Ok.at in
-    let small : c.args.key < 2 ^ 64 = omega arith in
-    let long = λ (told : IsTrue g.S.EawStore.tells). g.met.S.EawStore.long c.args.pages.now.store told in
-    let room : length c.in-Ok.at.pairs.items < 30 = omega (arith, c.len.ensures.value, c.if-len-lt-PAIRS_MAX.true) in
-    let v2 = pages_of (V c.add_pair.new.pages.store) c.add_pair.new.pages in
-    added_done T E t key v0 v1 c.index_page_count-count.result n.count n.all n.most small c.requires.sound c.requires.absent long c.in-Ok.ensures.looks c.in-Ok.ensures.cause at.front at.page at.link at.pairs.items c.in-Ok.ensures.located c.in-Ok.ensures.said c.if-slot-count.false room v2 c.in-Ok-add_pair.ensures.acts
+    subst (λ (f : IndexFault). (let r : Result ℕ IndexFault = Err f in Inserts T (E v0.store.shape) chain t root table key v0 v1 r)) (sym c.index_fault.ensures)
+    (look_err T E t root table key v0 c.requires.sound Located v1 c.in-Err.fault (c.in-Err.ensures.looks, c.in-Err.ensures.cause))
 
-pub returns-in-Err-add_pair-clause-inserts : goal.returns-in-Err-add_pair-clause-inserts
-returns-in-Err-add_pair-clause-inserts g c =
+pub returns-in-Err-clause-dead : goal.returns-in-Err-clause-dead
+returns-in-Err-clause-dead g c =
+    λ told. c.in-Err.ensures.dead (ap Err (dead_fault c.in-Err.fault c.index_fault.result (look_of_index Located g.S.EawStore.tells (g.S.EawStore.view c.args.pages.now.store) c.in-Err.fault c.in-Err.ensures.cause) c.index_fault.ensures told))
+
+pub has_slot-requires : goal.has_slot-requires
+has_slot-requires g c =
+    let slots_is : 8 * c.index_page_count-slots.result ≡ slots_of (g.S.EawStore.view c.args.pages.now.store).shape = omega (arith, c.index_page_count-slots.ensures.all, ap slots_of c.in-Ok.ensures.looks.shape) in
+    omega (arith, slots_is, c.in-Ok.ensures.located.front_is.slots)
+
+pub returns-then-not-has_slot-clause-inserts : goal.returns-then-not-has_slot-clause-inserts
+returns-then-not-has_slot-clause-inserts g c =
     let T = g.S.EawStore.tells in
     let V = g.S.EawStore.view in
     let E = g.S.EawStore.opens in
     let t = c.args.tid in
+    let root = c.args.root in
+    let table = c.args.table in
     let key = c.args.key in
     let v0 = pages_of (V c.args.pages.now.store) c.args.pages.now in
     let v1 = pages_of (V c.locate.new.pages.store) c.locate.new.pages in
-    let n = c.index_page_count-count.ensures in
     let at = c.in-Ok.at in
-    let small : c.args.key < 2 ^ 64 = omega arith in
-    let long = λ (told : IsTrue g.S.EawStore.tells). g.met.S.EawStore.long c.args.pages.now.store told in
-    let room : length c.in-Ok.at.pairs.items < 30 = omega (arith, c.len.ensures.value, c.if-len-lt-PAIRS_MAX.true) in
-    let v2 = pages_of (V c.add_pair.new.pages.store) c.add_pair.new.pages in
-    subst (λ (f : IndexFault). (let s : Result ℕ IndexFault = Err f in Inserts T (E v0.store.shape) chain t key v0 v2 s)) (sym c.index_fault-in-Err-add_pair.ensures)
-    (added_err T E t key v0 v1 c.index_page_count-count.result n.count n.all n.most small c.requires.sound c.requires.absent long c.in-Ok.ensures.looks c.in-Ok.ensures.cause at.front at.page at.link at.pairs.items c.in-Ok.ensures.located c.in-Ok.ensures.said c.if-slot-count.false room v2 c.in-Err-add_pair.fault c.in-Err-add_pair.ensures.acts)
+    let looks = c.in-Ok.ensures.looks in
+    let alive = c.in-Ok.ensures.cause in
+    let slots_is : 8 * c.index_page_count-slots.result ≡ slots_of (g.S.EawStore.view c.args.pages.now.store).shape = omega (arith, c.index_page_count-slots.ensures.all, ap slots_of c.in-Ok.ensures.looks.shape) in
+    slots_full T E t root table key v0 v1 c.requires.sound looks alive (8 * c.index_page_count-slots.result) slots_is at.front at.page at.link at.pairs.items c.in-Ok.ensures.located c.in-Ok.ensures.said (λ has. false≢true (c.if-not-has_slot.ensures.1 has))
 
-pub returns-then-at-count-clause-inserts : goal.returns-then-at-count-clause-inserts
-returns-then-at-count-clause-inserts g c =
+pub returns-then-not-has_slot-clause-dead : goal.returns-then-not-has_slot-clause-dead
+returns-then-not-has_slot-clause-dead g c =
+    λ told. not_slots _ told
+
+pub insert_here-requires : goal.insert_here-requires
+insert_here-requires g c =
     let T = g.S.EawStore.tells in
     let V = g.S.EawStore.view in
     let E = g.S.EawStore.opens in
     let t = c.args.tid in
+    let root = c.args.root in
+    let table = c.args.table in
     let key = c.args.key in
     let v0 = pages_of (V c.args.pages.now.store) c.args.pages.now in
     let v1 = pages_of (V c.locate.new.pages.store) c.locate.new.pages in
-    let n = c.index_page_count-count.ensures in
     let at = c.in-Ok.at in
-    let small : c.args.key < 2 ^ 64 = omega arith in
-    let long = λ (told : IsTrue g.S.EawStore.tells). g.met.S.EawStore.long c.args.pages.now.store told in
-    let full : length c.in-Ok.at.pairs.items ≡ 30 = omega (arith, c.len.ensures.value, c.if-len-lt-PAIRS_MAX.false, c.in-Ok.ensures.located.most) in
-    pages_full T E t key v0 v1 c.index_page_count-count.result n.count n.all n.most small c.requires.sound c.requires.absent long c.in-Ok.ensures.looks c.in-Ok.ensures.cause at.front at.page at.link at.pairs.items c.in-Ok.ensures.located c.in-Ok.ensures.said c.if-slot-count.false full c.if-at-count.true
+    let looks = c.in-Ok.ensures.looks in
+    let alive = c.in-Ok.ensures.cause in
+    let slots_is : 8 * c.index_page_count-slots.result ≡ slots_of (g.S.EawStore.view c.args.pages.now.store).shape = omega (arith, c.index_page_count-slots.ensures.all, ap slots_of c.in-Ok.ensures.looks.shape) in
+    record {
+      tid = subst (λ (sh : Shape). c.args.tid < sh.numbers) (sym looks.shape) c.requires.tid;
+      table = c.requires.table;
+      closed = ap (λ (f : ℕ → Option ℕ). f c.args.tid) looks.tops ∙ c.requires.closed alive;
+      alive = alive_yet T E t root table key v0 v1 c.requires.sound looks alive;
+      sound = yet T E t root table key v0 v1 c.requires.sound looks alive IsSoundChain c.requires.sound;
+      named = yet T E t root table key v0 v1 c.requires.sound looks alive (λ (b : List ℕ). IsTable b c.args.table c.args.root) c.requires.named;
+      absent = yet T E t root table key v0 v1 c.requires.sound looks alive (λ (b : List ℕ). found (pairs_of_chain b c.args.root) c.args.key ≡ None) c.requires.absent;
+      located = subst (λ (sh : Shape). IsLocated sh c.in-Ok.at.front c.in-Ok.at.page c.in-Ok.at.link c.in-Ok.at.pairs.items) (sym looks.shape) c.in-Ok.ensures.located;
+      said = yet T E t root table key v0 v1 c.requires.sound looks alive (λ (b : List ℕ). Locates b c.args.root c.args.key c.in-Ok.at.front c.in-Ok.at.page c.in-Ok.at.link c.in-Ok.at.pairs.items) (λ told living. c.in-Ok.ensures.said told);
+      slot = λ none. subst (λ (n : ℕ). c.in-Ok.at.front.next_slot < n) (slots_is ∙ ap slots_of (sym looks.shape)) (c.if-not-has_slot.ensures.0 refl none);
+      room = room_for c.in-Ok.at.pairs.items c.len.result c.len.ensures.value c.if-len-lt-PAIRS_MAX.true;
+    }
 
-pub cut_page-requires-clause-closed : goal.cut_page-requires-clause-closed
-cut_page-requires-clause-closed g c =
-    λ living. ap (λ (f : ℕ → Option ℕ). f c.args.tid) c.in-Ok.ensures.looks.tops ∙ c.requires.closed c.in-Ok.ensures.cause
-
-pub returns-in-Err-cut_page-clause-inserts : goal.returns-in-Err-cut_page-clause-inserts
-returns-in-Err-cut_page-clause-inserts g c =
+pub returns-then-len-lt-PAIRS_MAX-clause-inserts : goal.returns-then-len-lt-PAIRS_MAX-clause-inserts
+returns-then-len-lt-PAIRS_MAX-clause-inserts g c =
     let T = g.S.EawStore.tells in
     let V = g.S.EawStore.view in
     let E = g.S.EawStore.opens in
     let t = c.args.tid in
+    let root = c.args.root in
+    let table = c.args.table in
     let key = c.args.key in
     let v0 = pages_of (V c.args.pages.now.store) c.args.pages.now in
     let v1 = pages_of (V c.locate.new.pages.store) c.locate.new.pages in
-    let n = c.index_page_count-count.ensures in
     let at = c.in-Ok.at in
-    let small : c.args.key < 2 ^ 64 = omega arith in
-    let long = λ (told : IsTrue g.S.EawStore.tells). g.met.S.EawStore.long c.args.pages.now.store told in
-    let full : length c.in-Ok.at.pairs.items ≡ 30 = omega (arith, c.len.ensures.value, c.if-len-lt-PAIRS_MAX.false, c.in-Ok.ensures.located.most) in
-    let v2 = pages_of (V c.cut_page.new.pages.store) c.cut_page.new.pages in
-    subst (λ (f : IndexFault). (let s : Result ℕ IndexFault = Err f in Inserts T (E v0.store.shape) chain t key v0 v2 s)) (sym c.index_fault-in-Err-cut_page.ensures)
-    (cut_err T E t key v0 v1 c.index_page_count-count.result n.count n.all n.most small c.requires.sound c.requires.absent long c.in-Ok.ensures.looks c.in-Ok.ensures.cause at.front at.page at.link at.pairs.items c.in-Ok.ensures.located c.in-Ok.ensures.said c.if-slot-count.false full c.if-at-count.false v2 c.in-Err-cut_page.fault c.in-Err-cut_page.ensures.acts)
+    let looks = c.in-Ok.ensures.looks in
+    let alive = c.in-Ok.ensures.cause in
+    let v2 = pages_of (V c.insert_here.new.pages.store) c.insert_here.new.pages in
+    looked_here T E t root table key v0 v1 c.requires.sound looks alive at.front.next_page (λ told. (c.in-Ok.ensures.said told).front_says.next_page) v2 c.insert_here.result c.insert_here.ensures.inserts
 
-pub locate-requires-2 : goal.locate-requires-2
-locate-requires-2 g c =
+pub returns-then-len-lt-PAIRS_MAX-clause-dead : goal.returns-then-len-lt-PAIRS_MAX-clause-dead
+returns-then-len-lt-PAIRS_MAX-clause-dead g c =
+    λ told. absurd (c.insert_here.ensures.dead told)
+
+pub insert_cut-requires : goal.insert_cut-requires
+insert_cut-requires g c =
     let T = g.S.EawStore.tells in
     let V = g.S.EawStore.view in
     let E = g.S.EawStore.opens in
     let t = c.args.tid in
+    let root = c.args.root in
+    let table = c.args.table in
     let key = c.args.key in
     let v0 = pages_of (V c.args.pages.now.store) c.args.pages.now in
     let v1 = pages_of (V c.locate.new.pages.store) c.locate.new.pages in
-    let n = c.index_page_count-count.ensures in
     let at = c.in-Ok.at in
-    let small : c.args.key < 2 ^ 64 = omega arith in
-    let long = λ (told : IsTrue g.S.EawStore.tells). g.met.S.EawStore.long c.args.pages.now.store told in
-    let full : length c.in-Ok.at.pairs.items ≡ 30 = omega (arith, c.len.ensures.value, c.if-len-lt-PAIRS_MAX.false, c.in-Ok.ensures.located.most) in
-    let v2 = pages_of (V c.cut_page.new.pages.store) c.cut_page.new.pages in
-    λ told living. sound2 T E t key v0 v1 c.index_page_count-count.result n.count n.all n.most small c.requires.sound c.requires.absent long c.in-Ok.ensures.looks c.in-Ok.ensures.cause at.front at.page at.link at.pairs.items c.in-Ok.ensures.located c.in-Ok.ensures.said c.if-slot-count.false full c.if-at-count.false v2 c.in-Ok-cut_page.ensures.acts told
+    let looks = c.in-Ok.ensures.looks in
+    let alive = c.in-Ok.ensures.cause in
+    let slots_is : 8 * c.index_page_count-slots.result ≡ slots_of (g.S.EawStore.view c.args.pages.now.store).shape = omega (arith, c.index_page_count-slots.ensures.all, ap slots_of c.in-Ok.ensures.looks.shape) in
+    record {
+      tid = subst (λ (sh : Shape). c.args.tid < sh.numbers) (sym looks.shape) c.requires.tid;
+      table = c.requires.table;
+      closed = ap (λ (f : ℕ → Option ℕ). f c.args.tid) looks.tops ∙ c.requires.closed alive;
+      alive = alive_yet T E t root table key v0 v1 c.requires.sound looks alive;
+      sound = yet T E t root table key v0 v1 c.requires.sound looks alive IsSoundChain c.requires.sound;
+      named = yet T E t root table key v0 v1 c.requires.sound looks alive (λ (b : List ℕ). IsTable b c.args.table c.args.root) c.requires.named;
+      absent = yet T E t root table key v0 v1 c.requires.sound looks alive (λ (b : List ℕ). found (pairs_of_chain b c.args.root) c.args.key ≡ None) c.requires.absent;
+      located = subst (λ (sh : Shape). IsLocated sh c.in-Ok.at.front c.in-Ok.at.page c.in-Ok.at.link c.in-Ok.at.pairs.items) (sym looks.shape) c.in-Ok.ensures.located;
+      said = yet T E t root table key v0 v1 c.requires.sound looks alive (λ (b : List ℕ). Locates b c.args.root c.args.key c.in-Ok.at.front c.in-Ok.at.page c.in-Ok.at.link c.in-Ok.at.pairs.items) (λ told living. c.in-Ok.ensures.said told);
+      slot = λ none. subst (λ (n : ℕ). c.in-Ok.at.front.next_slot < n) (slots_is ∙ ap slots_of (sym looks.shape)) (c.if-not-has_slot.ensures.0 refl none);
+      full = full_with c.in-Ok.at.pairs.items c.len.result c.len.ensures.value c.if-len-lt-PAIRS_MAX.false c.in-Ok.ensures.located.most;
+    }
 
-pub returns-in-Err-locate-clause-inserts : goal.returns-in-Err-locate-clause-inserts
-returns-in-Err-locate-clause-inserts g c =
+pub returns-clause-inserts : goal.returns-clause-inserts
+returns-clause-inserts g c =
     let T = g.S.EawStore.tells in
     let V = g.S.EawStore.view in
     let E = g.S.EawStore.opens in
     let t = c.args.tid in
+    let root = c.args.root in
+    let table = c.args.table in
     let key = c.args.key in
     let v0 = pages_of (V c.args.pages.now.store) c.args.pages.now in
     let v1 = pages_of (V c.locate.new.pages.store) c.locate.new.pages in
-    let n = c.index_page_count-count.ensures in
     let at = c.in-Ok.at in
-    let small : c.args.key < 2 ^ 64 = omega arith in
-    let long = λ (told : IsTrue g.S.EawStore.tells). g.met.S.EawStore.long c.args.pages.now.store told in
-    let full : length c.in-Ok.at.pairs.items ≡ 30 = omega (arith, c.len.ensures.value, c.if-len-lt-PAIRS_MAX.false, c.in-Ok.ensures.located.most) in
-    let v2 = pages_of (V c.cut_page.new.pages.store) c.cut_page.new.pages in
-    let v3 = pages_of (V c.locate-2.new.pages.store) c.locate-2.new.pages in
-    subst (λ (f : IndexFault). (let s : Result ℕ IndexFault = Err f in Inserts T (E v0.store.shape) chain t key v0 v3 s)) (sym c.index_fault-in-Err-locate.ensures)
-    (located_err T E t key v0 v1 c.index_page_count-count.result n.count n.all n.most small c.requires.sound c.requires.absent long c.in-Ok.ensures.looks c.in-Ok.ensures.cause at.front at.page at.link at.pairs.items c.in-Ok.ensures.located c.in-Ok.ensures.said c.if-slot-count.false full c.if-at-count.false v2 c.in-Ok-cut_page.ensures.acts v3 c.in-Err-locate.fault (c.in-Err-locate.ensures.looks, c.in-Err-locate.ensures.cause))
+    let looks = c.in-Ok.ensures.looks in
+    let alive = c.in-Ok.ensures.cause in
+    let v2 = pages_of (V c.insert_cut.new.pages.store) c.insert_cut.new.pages in
+    looked_cut T E t root table key v0 v1 c.requires.sound looks alive v2 c.insert_cut.result c.insert_cut.ensures.inserts
 
-pub returns-then-half-slot-clause-inserts : goal.returns-then-half-slot-clause-inserts
-returns-then-half-slot-clause-inserts g c =
-    let T = g.S.EawStore.tells in
-    let V = g.S.EawStore.view in
-    let E = g.S.EawStore.opens in
-    let t = c.args.tid in
-    let key = c.args.key in
-    let v0 = pages_of (V c.args.pages.now.store) c.args.pages.now in
-    let v1 = pages_of (V c.locate.new.pages.store) c.locate.new.pages in
-    let n = c.index_page_count-count.ensures in
-    let at = c.in-Ok.at in
-    let small : c.args.key < 2 ^ 64 = omega arith in
-    let long = λ (told : IsTrue g.S.EawStore.tells). g.met.S.EawStore.long c.args.pages.now.store told in
-    let full : length c.in-Ok.at.pairs.items ≡ 30 = omega (arith, c.len.ensures.value, c.if-len-lt-PAIRS_MAX.false, c.in-Ok.ensures.located.most) in
-    let v2 = pages_of (V c.cut_page.new.pages.store) c.cut_page.new.pages in
-    let v3 = pages_of (V c.locate-2.new.pages.store) c.locate-2.new.pages in
-    let h = c.in-Ok-locate.half in
-    damaged_slot T E t key v0 v1 c.index_page_count-count.result n.count n.all n.most small c.requires.sound c.requires.absent long c.in-Ok.ensures.looks c.in-Ok.ensures.cause at.front at.page at.link at.pairs.items c.in-Ok.ensures.located c.in-Ok.ensures.said c.if-slot-count.false full c.if-at-count.false v2 c.in-Ok-cut_page.ensures.acts v3 c.in-Ok-locate.ensures.looks h.front h.page h.link h.pairs.items c.in-Ok-locate.ensures.located c.in-Ok-locate.ensures.said c.if-half-slot.true
-
-pub returns-then-len-ge-PAIRS_MAX-clause-inserts : goal.returns-then-len-ge-PAIRS_MAX-clause-inserts
-returns-then-len-ge-PAIRS_MAX-clause-inserts g c =
-    let T = g.S.EawStore.tells in
-    let V = g.S.EawStore.view in
-    let E = g.S.EawStore.opens in
-    let t = c.args.tid in
-    let key = c.args.key in
-    let v0 = pages_of (V c.args.pages.now.store) c.args.pages.now in
-    let v1 = pages_of (V c.locate.new.pages.store) c.locate.new.pages in
-    let n = c.index_page_count-count.ensures in
-    let at = c.in-Ok.at in
-    let small : c.args.key < 2 ^ 64 = omega arith in
-    let long = λ (told : IsTrue g.S.EawStore.tells). g.met.S.EawStore.long c.args.pages.now.store told in
-    let full : length c.in-Ok.at.pairs.items ≡ 30 = omega (arith, c.len.ensures.value, c.if-len-lt-PAIRS_MAX.false, c.in-Ok.ensures.located.most) in
-    let v2 = pages_of (V c.cut_page.new.pages.store) c.cut_page.new.pages in
-    let v3 = pages_of (V c.locate-2.new.pages.store) c.locate-2.new.pages in
-    let h = c.in-Ok-locate.half in
-    damaged_page T E t key v0 v1 c.index_page_count-count.result n.count n.all n.most small c.requires.sound c.requires.absent long c.in-Ok.ensures.looks c.in-Ok.ensures.cause at.front at.page at.link at.pairs.items c.in-Ok.ensures.located c.in-Ok.ensures.said c.if-slot-count.false full c.if-at-count.false v2 c.in-Ok-cut_page.ensures.acts v3 c.in-Ok-locate.ensures.looks h.front h.page h.link h.pairs.items c.in-Ok-locate.ensures.located c.in-Ok-locate.ensures.said (omega (arith, c.len-2.ensures.value, c.if-len-ge-PAIRS_MAX.true))
-
-pub add_pair-requires-2-clause-closed : goal.add_pair-requires-2-clause-closed
-add_pair-requires-2-clause-closed g c =
-    let T = g.S.EawStore.tells in
-    let V = g.S.EawStore.view in
-    let E = g.S.EawStore.opens in
-    let t = c.args.tid in
-    let key = c.args.key in
-    let v0 = pages_of (V c.args.pages.now.store) c.args.pages.now in
-    let v1 = pages_of (V c.locate.new.pages.store) c.locate.new.pages in
-    let n = c.index_page_count-count.ensures in
-    let at = c.in-Ok.at in
-    let small : c.args.key < 2 ^ 64 = omega arith in
-    let long = λ (told : IsTrue g.S.EawStore.tells). g.met.S.EawStore.long c.args.pages.now.store told in
-    let full : length c.in-Ok.at.pairs.items ≡ 30 = omega (arith, c.len.ensures.value, c.if-len-lt-PAIRS_MAX.false, c.in-Ok.ensures.located.most) in
-    let v2 = pages_of (V c.cut_page.new.pages.store) c.cut_page.new.pages in
-    let v3 = pages_of (V c.locate-2.new.pages.store) c.locate-2.new.pages in
-    let h = c.in-Ok-locate.half in
-    λ living. closed3 T E t key v0 v1 c.index_page_count-count.result n.count n.all n.most small c.requires.sound c.requires.absent long c.in-Ok.ensures.looks c.in-Ok.ensures.cause at.front at.page at.link at.pairs.items c.in-Ok.ensures.located c.in-Ok.ensures.said c.if-slot-count.false full c.if-at-count.false v2 c.in-Ok-cut_page.ensures.acts v3 c.in-Ok-locate.ensures.looks h.front h.page h.link h.pairs.items c.in-Ok-locate.ensures.located c.in-Ok-locate.ensures.said (c.requires.closed c.in-Ok.ensures.cause)
-
-pub returns-in-Ok-add_pair-2-clause-inserts : goal.returns-in-Ok-add_pair-2-clause-inserts
-returns-in-Ok-add_pair-2-clause-inserts g c =
-    let T = g.S.EawStore.tells in
-    let V = g.S.EawStore.view in
-    let E = g.S.EawStore.opens in
-    let t = c.args.tid in
-    let key = c.args.key in
-    let v0 = pages_of (V c.args.pages.now.store) c.args.pages.now in
-    let v1 = pages_of (V c.locate.new.pages.store) c.locate.new.pages in
-    let n = c.index_page_count-count.ensures in
-    let at = c.in-Ok.at in
-    let small : c.args.key < 2 ^ 64 = omega arith in
-    let long = λ (told : IsTrue g.S.EawStore.tells). g.met.S.EawStore.long c.args.pages.now.store told in
-    let full : length c.in-Ok.at.pairs.items ≡ 30 = omega (arith, c.len.ensures.value, c.if-len-lt-PAIRS_MAX.false, c.in-Ok.ensures.located.most) in
-    let v2 = pages_of (V c.cut_page.new.pages.store) c.cut_page.new.pages in
-    let v3 = pages_of (V c.locate-2.new.pages.store) c.locate-2.new.pages in
-    let h = c.in-Ok-locate.half in
-    let v4 = pages_of (V c.add_pair-2.new.pages.store) c.add_pair-2.new.pages in
-    let hroom : length c.in-Ok-locate.half.pairs.items < 30 = omega (arith, c.len-2.ensures.value, c.if-len-ge-PAIRS_MAX.false) in
-    halved_done T E t key v0 v1 c.index_page_count-count.result n.count n.all n.most small c.requires.sound c.requires.absent long c.in-Ok.ensures.looks c.in-Ok.ensures.cause at.front at.page at.link at.pairs.items c.in-Ok.ensures.located c.in-Ok.ensures.said c.if-slot-count.false full c.if-at-count.false v2 c.in-Ok-cut_page.ensures.acts v3 c.in-Ok-locate.ensures.looks h.front h.page h.link h.pairs.items c.in-Ok-locate.ensures.located c.in-Ok-locate.ensures.said hroom c.if-half-slot.false v4 c.in-Ok-add_pair-2.ensures.acts
-
-pub returns-in-Err-add_pair-2-clause-inserts : goal.returns-in-Err-add_pair-2-clause-inserts
-returns-in-Err-add_pair-2-clause-inserts g c =
-    let T = g.S.EawStore.tells in
-    let V = g.S.EawStore.view in
-    let E = g.S.EawStore.opens in
-    let t = c.args.tid in
-    let key = c.args.key in
-    let v0 = pages_of (V c.args.pages.now.store) c.args.pages.now in
-    let v1 = pages_of (V c.locate.new.pages.store) c.locate.new.pages in
-    let n = c.index_page_count-count.ensures in
-    let at = c.in-Ok.at in
-    let small : c.args.key < 2 ^ 64 = omega arith in
-    let long = λ (told : IsTrue g.S.EawStore.tells). g.met.S.EawStore.long c.args.pages.now.store told in
-    let full : length c.in-Ok.at.pairs.items ≡ 30 = omega (arith, c.len.ensures.value, c.if-len-lt-PAIRS_MAX.false, c.in-Ok.ensures.located.most) in
-    let v2 = pages_of (V c.cut_page.new.pages.store) c.cut_page.new.pages in
-    let v3 = pages_of (V c.locate-2.new.pages.store) c.locate-2.new.pages in
-    let h = c.in-Ok-locate.half in
-    let v4 = pages_of (V c.add_pair-2.new.pages.store) c.add_pair-2.new.pages in
-    let hroom : length c.in-Ok-locate.half.pairs.items < 30 = omega (arith, c.len-2.ensures.value, c.if-len-ge-PAIRS_MAX.false) in
-    subst (λ (f : IndexFault). (let s : Result ℕ IndexFault = Err f in Inserts T (E v0.store.shape) chain t key v0 v4 s)) (sym c.index_fault-in-Err-add_pair-2.ensures)
-    (halved_err T E t key v0 v1 c.index_page_count-count.result n.count n.all n.most small c.requires.sound c.requires.absent long c.in-Ok.ensures.looks c.in-Ok.ensures.cause at.front at.page at.link at.pairs.items c.in-Ok.ensures.located c.in-Ok.ensures.said c.if-slot-count.false full c.if-at-count.false v2 c.in-Ok-cut_page.ensures.acts v3 c.in-Ok-locate.ensures.looks h.front h.page h.link h.pairs.items c.in-Ok-locate.ensures.located c.in-Ok-locate.ensures.said hroom c.if-half-slot.false v4 c.in-Err-add_pair-2.fault c.in-Err-add_pair-2.ensures.acts)
-
-pub returns-in-Ok-add_pair-clause-dead : goal.returns-in-Ok-add_pair-clause-dead
-returns-in-Ok-add_pair-clause-dead g c = λ is. cc
-
-pub returns-in-Ok-add_pair-2-clause-dead : goal.returns-in-Ok-add_pair-2-clause-dead
-returns-in-Ok-add_pair-2-clause-dead g c = λ is. cc
-
-pub returns-then-at-count-clause-dead : goal.returns-then-at-count-clause-dead
-returns-then-at-count-clause-dead g c = λ is. cc
-
-pub returns-then-half-slot-clause-dead : goal.returns-then-half-slot-clause-dead
-returns-then-half-slot-clause-dead g c = λ is. cc
-
-pub returns-then-len-ge-PAIRS_MAX-clause-dead : goal.returns-then-len-ge-PAIRS_MAX-clause-dead
-returns-then-len-ge-PAIRS_MAX-clause-dead g c = λ is. cc
-
-pub returns-then-slot-count-clause-dead : goal.returns-then-slot-count-clause-dead
-returns-then-slot-count-clause-dead g c = λ is. cc
+pub returns-clause-dead : goal.returns-clause-dead
+returns-clause-dead g c =
+    λ told. absurd (c.insert_cut.ensures.dead told)

@@ -9,16 +9,17 @@ use Rattle.index_pages.proofs.Looking.{looks_none, looks_next}
 use Rattle.index_pages.proofs.Sizes.{slots_are, index_pages_are}
 use Rattle.page_store.specs.Index.{index_pages_of}
 use Rattle.page_store.specs.Shown.{pages_of}
+use Rattle.key_list.specs.Resting.{sound_table}
 use Rattle.key_list.proofs.Walking.{Next, next_first, next_step, next_here, next_slot_given}
 use Rattle.key_list.proofs.look.next.Goals as goal
 
 pub loop-step-init : goal.loop-step-init
 loop-step-init g c = record {
-  inside = omega (arith, c.index_page_count-count.ensures.count, c.index_page_count-count.ensures.some);
+  inside = c.requires.root;
   looks = looks_none g.S.EawStore.tells (g.S.EawStore.opens (g.S.EawStore.view c.args.pages.now.store).shape) (pages_of (g.S.EawStore.view c.args.pages.now.store) c.args.pages.now);
   alive = λ some. absurd (omega arith);
   dead = λ dead. refl;
-  chain = λ told alive. next_first (g.S.EawStore.view c.args.pages.now.store).state.bytes c.args.from (c.requires told alive);
+  chain = λ told alive. (let b = (g.S.EawStore.view c.args.pages.now.store).state.bytes in next_first b c.args.root c.args.table c.args.from (omega (arith, (c.requires.sound told alive).0.some_pages)) (sound_table b c.args.table c.args.root (c.requires.sound told alive) (c.requires.named told alive)));
 }
 
 pub returns-then-slot-from-clause-cause : goal.returns-then-slot-from-clause-cause
@@ -32,8 +33,8 @@ returns-then-slot-from-clause-cause g c =
           let buf = c.in-Ok.ensures.bytes told ∙ ap (λ (s : State). page_bytes s.bytes c.loop-step.page) (still.state told) in
           let some : next (page_pairs bytes c.loop-step.page) c.args.from ≡ Some (c.in-Some.key, c.in-Some.slot) =
           ap (λ (b : List ℕ). next (pairs_said b) c.args.from) (sym buf) ∙ sym c.next_pair.ensures ∙ c.in-Some.is in
-          let given = next_slot_given bytes c.args.from c.loop-step._step c.loop-step.page (c.in-Some.key, c.in-Some.slot) (c.loop-step.invariant.chain told alive) some in
-          omega (arith, given, (c.requires told alive).0.slots, slots_are view.shape bytes (g.met.S.EawStore.long c.args.pages.now.store told), c.index_page_count-count.ensures.all),
+          let given = next_slot_given bytes c.args.root c.args.table c.args.from c.loop-step._step c.loop-step.page (c.in-Some.key, c.in-Some.slot) (c.loop-step.invariant.chain told alive) some in
+          omega (arith, given, (c.requires.sound told alive).0.slots, slots_are view.shape bytes (g.met.S.EawStore.long c.args.pages.now.store told), c.index_page_count-count.ensures.all),
     )
 
 pub returns-in-Some-clause-next : goal.returns-in-Some-clause-next
@@ -45,7 +46,7 @@ returns-in-Some-clause-next g c = λ told.
     let buf = c.in-Ok.ensures.bytes told ∙ ap (λ (s : State). page_bytes s.bytes c.loop-step.page) (still.state told) in
     let some : next (page_pairs bytes c.loop-step.page) c.args.from ≡ Some (c.in-Some.key, c.in-Some.slot) =
     ap (λ (b : List ℕ). next (pairs_said b) c.args.from) (sym buf) ∙ sym c.next_pair.ensures ∙ c.in-Some.is in
-    sym (next_here bytes c.args.from c.loop-step._step c.loop-step.page (c.in-Some.key, c.in-Some.slot) (c.loop-step.invariant.chain told alive) some)
+    sym (next_here bytes c.args.root c.args.table c.args.from c.loop-step._step c.loop-step.page (c.in-Some.key, c.in-Some.slot) (c.loop-step.invariant.chain told alive) some)
 
 pub loop-step-preserved : goal.loop-step-preserved
 loop-step-preserved g c =
@@ -56,7 +57,7 @@ loop-step-preserved g c =
     let alive : IsAlive view = sym still.dead ∙ c.in-Ok.ensures.cause in
     let alive' : IsAlive (g.S.EawStore.view c.read_page.new.pages.store) = (looks.still refl).dead ∙ alive in
     record {
-      inside = omega (arith, c.in-Ok.ensures.link, ap index_pages_of (c.loop-step.invariant.looks.shape));
+      inside = (let e : index_pages_of (g.S.EawStore.view c.loop-step.pages.store).shape ≡ index_pages_of view.shape = ap index_pages_of (c.loop-step.invariant.looks.shape) in omega (arith, c.in-Ok.ensures.link, e));
       looks = looks;
       alive = λ some. alive';
       dead = λ dead. absurd (false≢true (sym alive' ∙ dead));
@@ -66,8 +67,8 @@ loop-step-preserved g c =
           let none : next (page_pairs bytes c.loop-step.page) c.args.from ≡ None =
           ap (λ (b : List ℕ). next (pairs_said b) c.args.from) (sym buf) ∙ sym c.next_pair.ensures ∙ c.in_default.is in
           let link : c.in-Ok.head.link ≡ link_of bytes c.loop-step.page = c.in-Ok.ensures.head.link ∙ ap link_said buf in
-          subst (λ (n : ℕ). Next bytes c.args.from (c.loop-step._step + 1) n) (sym link)
-          (next_step bytes c.args.from c.loop-step._step c.loop-step.page (c.loop-step.invariant.chain told alive) (λ e. c.if-head-eq0.false (link ∙ e)) none);
+          subst (λ (n : ℕ). Next bytes c.args.root c.args.table c.args.from (c.loop-step._step + 1) n) (sym link)
+          (next_step bytes c.args.root c.args.table c.args.from c.loop-step._step c.loop-step.page (c.loop-step.invariant.chain told alive) (λ e. c.if-head-eq0.false (link ∙ e)) none);
     }
 
 pub returns-clause-cause : goal.returns-clause-cause
@@ -78,7 +79,7 @@ returns-clause-cause g c =
       alive,
       λ told.
           let at = c.loop-step.invariant.chain told alive in
-          omega (arith, at.left, (c.requires told alive).0.pages, index_pages_are view.shape view.state.bytes (g.met.S.EawStore.long c.args.pages.now.store told), c.index_page_count-count.ensures.count, c.loop-step-test.false),
+          omega (arith, at.left, (c.requires.sound told alive).0.pages, index_pages_are view.shape view.state.bytes (g.met.S.EawStore.long c.args.pages.now.store told), c.index_page_count-count.ensures.count, c.loop-step-test.false),
     )
 
 pub returns-then-slot-from-clause-looks : goal.returns-then-slot-from-clause-looks

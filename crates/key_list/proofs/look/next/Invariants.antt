@@ -1,6 +1,6 @@
 use Rattle.std.proofs.Common.{◌≡◌, ◌<◌, true, false, IsTrue}
 use Rattle.eaw_face.specs.Causes.{IsAlive}
-use Rattle.page_store.specs.Index.{index_pages_of}
+use Rattle.array_shape.specs.Places.{page_count}
 use Rattle.page_store.specs.Looks.{Looks}
 use Rattle.page_store.specs.Shown.{pages_of}
 use Rattle.key_list.proofs.Walking.{Next}
@@ -9,10 +9,10 @@ use Rattle.key_list.proofs.look.next.Given as goal
 -- the data is as it was, and the chain from the page on answers
 abbrev pub invariant-loop-step : goal.invariant-loop-step
 invariant-loop-step g l = record {
-  inside : l.page < index_pages_of (g.S.EawStore.view l.fn.pages.store).shape;
+  inside : l.page < page_count (g.S.EawStore.view l.fn.pages.store).shape;
   looks : Looks g.S.EawStore.tells (g.S.EawStore.opens (g.S.EawStore.view l.fn.pages.store).shape) false
       (pages_of (g.S.EawStore.view l.fn.pages.store) l.fn.pages) (pages_of (g.S.EawStore.view l.pages.store) l.pages);
   alive : 0 < l._step → IsAlive (g.S.EawStore.view l.pages.store);
   dead : (g.S.EawStore.view l.pages.store).is_dead ≡ true → l.pages ≡ l.fn.pages;
-  chain : IsTrue g.S.EawStore.tells → IsAlive (g.S.EawStore.view l.fn.pages.store) → Next (g.S.EawStore.view l.fn.pages.store).state.bytes l.from l._step l.page;
+  chain : IsTrue g.S.EawStore.tells → IsAlive (g.S.EawStore.view l.fn.pages.store) → Next (g.S.EawStore.view l.fn.pages.store).state.bytes l.root l.table l.from l._step l.page;
 }

@@ -1,19 +1,20 @@
-use Rattle.std.proofs.Common.{◌≡◌, ◌+◌, ℕ, List, [], ◌∷◌, take, drop, ◌∙◌, ap, subst, arith}
+use Rattle.std.proofs.Common.{◌≡◌, ◌+◌, ◌<◌, ℕ, List, [], ◌∷◌, take, drop, ◌∙◌, ap, subst, arith}
 use Rattle.array_shape.specs.Logged.{Part}
-use Rattle.record_slots.specs.Super.{count_bytes}
+use Rattle.array_shape.specs.Places.{page_count}
+use Rattle.record_slots.specs.Super.{part_bytes}
 use Rattle.page_store.specs.Pairs.{Pair}
 use Rattle.page_store.specs.Shown.{pages_of, address}
 use Rattle.index_pages.specs.Acts.{Acts}
 use Rattle.index_pages.specs.Written.{written_page}
-use Rattle.index_pages.proofs.Parting.{page_there, super_there, part_in, all_behind}
+use Rattle.index_pages.proofs.Parting.{page_there, part_in, all_behind}
 use Rattle.key_list.proofs.write.cut_page.Goals as goal
 
 pub act_all-requires : goal.act_all-requires
 act_all-requires g c =
-    let at = c.args.at.now in
-    let p0 = part_in (g.S.EawStore.view c.args.pages.now.store) at.page 0 512 c.write_page.new.out c.whole_page.result.page c.whole_page.result.at c.whole_page.result.bytes.now c.whole_page.ensures.page c.whole_page.ensures.at c.whole_page.ensures.bytes c.write_page.array_long (omega arith) (omega arith) (page_there (g.S.EawStore.view c.args.pages.now.store).shape _ c.requires.located.inside) in
-    let p1 = part_in (g.S.EawStore.view c.args.pages.now.store) at.front.next_page 0 512 c.write_page-2.new.out c.whole_page-2.result.page c.whole_page-2.result.at c.whole_page-2.result.bytes.now c.whole_page-2.ensures.page c.whole_page-2.ensures.at c.whole_page-2.ensures.bytes c.write_page-2.array_long (omega arith) (omega arith) (page_there (g.S.EawStore.view c.args.pages.now.store).shape _ c.requires.next) in
-    let pf = part_in (g.S.EawStore.view c.args.pages.now.store) 0 8 8 c.write_super_counts.new.out c.front_part.result.page c.front_part.result.at c.front_part.result.bytes.now c.front_part.ensures.page c.front_part.ensures.at c.front_part.ensures.bytes c.write_super_counts.array_long (omega arith) (omega arith) (super_there (g.S.EawStore.view c.args.pages.now.store).shape c.args.at.now.front c.requires.located.front_is) in
+    let s = g.S.EawStore.view c.args.pages.now.store in
+    let p0 = part_in (g.S.EawStore.view c.args.pages.now.store) c.args.at.now.page 0 512 c.write_page.new.out c.whole_page.result.page c.whole_page.result.at c.whole_page.result.bytes.now c.whole_page.ensures.page c.whole_page.ensures.at c.whole_page.ensures.bytes c.write_page.array_long (omega arith) (omega arith) (page_there s.shape _ c.requires.located.inside) in
+    let p1 = part_in (g.S.EawStore.view c.args.pages.now.store) c.args.taken.now.number 0 512 c.write_page-2.new.out c.whole_page-2.result.page c.whole_page-2.result.at c.whole_page-2.result.bytes.now c.whole_page-2.ensures.page c.whole_page-2.ensures.at c.whole_page-2.ensures.bytes c.write_page-2.array_long (omega arith) (omega arith) (page_there s.shape _ c.requires.next) in
+    let pf = part_in (g.S.EawStore.view c.args.pages.now.store) 0 8 280 c.write_super_part.new.out c.front_part.result.page c.front_part.result.at c.front_part.result.bytes.now c.front_part.ensures.page c.front_part.ensures.at c.front_part.ensures.bytes c.write_super_part.array_long (omega arith) (omega arith) (let some : 0 < page_count (g.S.EawStore.view c.args.pages.now.store).shape = omega (arith, c.requires.next) in some) in
     record { tid = c.requires.tid; closed = c.requires.closed; few = omega arith; inside = (p0.0, p0.1, (p1.0, p1.1, (pf.0, pf.1, tt))) }
 
 pub returns : goal.returns
@@ -22,15 +23,15 @@ returns g c =
     let O = g.S.EawStore.opens (V c.args.pages.now.store).shape in
     let v0 = pages_of (V c.args.pages.now.store) c.args.pages.now in
     let v1 = pages_of (V c.act_all.new.pages.store) c.act_all.new.pages in
-    let lower : c.whole_page.result.bytes.now ≡ written_page 0 c.args.at.now.front.next_page (take 15 c.args.at.now.pairs.items) =
-    c.whole_page.ensures.bytes ∙ c.write_page.ensures ∙ ap (λ (ps : List Pair). written_page 0 c.args.at.now.front.next_page (take 15 ps)) c.as_slice-pairs.ensures.value in
+    let lower : c.whole_page.result.bytes.now ≡ written_page 0 c.args.taken.now.number (take 15 c.args.at.now.pairs.items) =
+    c.whole_page.ensures.bytes ∙ c.write_page.ensures ∙ ap (λ (ps : List Pair). written_page 0 c.args.taken.now.number (take 15 ps)) c.as_slice-pairs.ensures.value in
     let upper : c.whole_page-2.result.bytes.now ≡ written_page 0 c.args.at.now.link (drop 15 c.args.at.now.pairs.items) =
     c.whole_page-2.ensures.bytes ∙ c.write_page-2.ensures ∙ ap (λ (ps : List Pair). written_page 0 c.args.at.now.link ps) (all_behind c.as_slice-pairs.result.now 15) ∙ ap (λ (ps : List Pair). written_page 0 c.args.at.now.link (drop 15 ps)) c.as_slice-pairs.ensures.value in
-    let counts : c.front_part.result.bytes.now ≡ count_bytes c.args.at.now.front.next_slot (c.args.at.now.front.next_page + 1) = c.front_part.ensures.bytes ∙ c.write_super_counts.ensures in
+    let part : c.front_part.result.bytes.now ≡ part_bytes c.args.taken.now.front = c.front_part.ensures.bytes ∙ c.write_super_part.ensures in
     record {
       acts = subst (λ (x : List ℕ × List Part). Acts g.S.EawStore.tells O c.args.tid x.0 x.1 v0 v1 c.act_all.result) (λ i. (
         c.whole_page.ensures.page i ∷ c.whole_page-2.ensures.page i ∷ c.front_part.ensures.page i ∷ [],
-        (address (c.whole_page.ensures.page i) (c.whole_page.ensures.at i), lower i) ∷ (address (c.whole_page-2.ensures.page i) (c.whole_page-2.ensures.at i), upper i) ∷ (address (c.front_part.ensures.page i) (c.front_part.ensures.at i), counts i) ∷ [],
+        (address (c.whole_page.ensures.page i) (c.whole_page.ensures.at i), lower i) ∷ (address (c.whole_page-2.ensures.page i) (c.whole_page-2.ensures.at i), upper i) ∷ (address (c.front_part.ensures.page i) (c.front_part.ensures.at i), part i) ∷ [],
       )) c.act_all.ensures.acts;
       dead = c.act_all.ensures.dead;
     }

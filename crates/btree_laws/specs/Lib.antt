@@ -1,0 +1,10 @@
+pub mod Tree
+pub mod Descent
+pub mod Changes
+pub mod Removed
+pub mod Removals
+-- lemmas that the laws of the index cite
+pub mod Sound
+pub mod TreeFacts
+pub mod Frames
+pub mod Resting

@@ -1,0 +1,57 @@
+use Rattle.std.proofs.Common.{◌≡◌, ◌∙◌, ◌≤◌, false, inl, inr, Err, Result, refl, sym, ap, subst, arith}
+use Rattle.array_shape.specs.declared.shape.Shape.{Shape}
+use Rattle.eaw_face.specs.State.{State}
+use Rattle.record_slots.specs.Places.{page_bytes}
+use Rattle.page_store.specs.Shown.{pages_of}
+use Rattle.page_store.specs.declared.index_fault.CheckFault.{CheckFault}
+use Rattle.index_pages.specs.Fetched.{IsFront}
+use Rattle.index_pages.specs.Keys.{key_end}
+use Rattle.index_pages.specs.Page.{level_of, level_said}
+use Rattle.index_pages.specs.Slots.{IsVerdict}
+use Rattle.index_pages.proofs.Looking.{looks_next}
+use Rattle.btree_laws.specs.Tree.{tree_check, tree_from}
+use Rattle.btree_pages.specs.Checked.{IsFrontOf}
+use Rattle.btree_pages.proofs.Checks.{level_fails, level_passes}
+use Rattle.index_pages.proofs.Tests.{not_damaged, told_looks, told_verdict, told_dead}
+use Rattle.btree_pages.proofs.checking.check_tree.Goals as goal
+
+pub returns-in-Err-clause-looks : goal.returns-in-Err-clause-looks
+returns-in-Err-clause-looks g c = told_looks g.S.EawStore.tells (g.S.EawStore.opens (g.S.EawStore.view c.args.pages.now.store).shape) (pages_of (g.S.EawStore.view c.args.pages.now.store) c.args.pages.now) (pages_of (g.S.EawStore.view c.fetch_page.new.pages.store) c.fetch_page.new.pages) c.requires.alive c.in-Err.fault c.in-Err.ensures.cause c.check_fault.result c.check_fault.ensures c.in-Err.ensures.looks
+
+pub returns-in-Err-clause-cause : goal.returns-in-Err-clause-cause
+returns-in-Err-clause-cause g c = λ told front. told_verdict g.S.EawStore.tells (g.S.EawStore.opens (g.S.EawStore.view c.args.pages.now.store).shape) (pages_of (g.S.EawStore.view c.args.pages.now.store) c.args.pages.now) (pages_of (g.S.EawStore.view c.fetch_page.new.pages.store) c.fetch_page.new.pages) c.requires.alive c.in-Err.fault c.in-Err.ensures.cause c.check_fault.result c.check_fault.ensures (tree_check c.args.root (g.S.EawStore.view c.args.pages.now.store).state.bytes)
+
+pub returns-in-Err-clause-dead : goal.returns-in-Err-clause-dead
+returns-in-Err-clause-dead g c = λ told. told_dead g.S.EawStore.tells (g.S.EawStore.opens (g.S.EawStore.view c.args.pages.now.store).shape) (pages_of (g.S.EawStore.view c.args.pages.now.store) c.args.pages.now) (pages_of (g.S.EawStore.view c.fetch_page.new.pages.store) c.fetch_page.new.pages) c.requires.alive c.in-Err.fault c.in-Err.ensures.cause c.check_fault.result c.check_fault.ensures told
+
+pub returns-then-level-gt-LEVEL_MAX-clause-looks : goal.returns-then-level-gt-LEVEL_MAX-clause-looks
+returns-then-level-gt-LEVEL_MAX-clause-looks g c = c.in-Ok.ensures.looks
+
+pub returns-then-level-gt-LEVEL_MAX-clause-cause : goal.returns-then-level-gt-LEVEL_MAX-clause-cause
+returns-then-level-gt-LEVEL_MAX-clause-cause g c = λ told front.
+    level_fails c.args.root (g.S.EawStore.view c.args.pages.now.store).state.bytes c.level_in-level.result (c.level_in-level.ensures ∙ ap level_said (c.in-Ok.ensures.bytes told)) c.if-level-gt-LEVEL_MAX.true
+
+pub returns-then-level-gt-LEVEL_MAX-clause-dead : goal.returns-then-level-gt-LEVEL_MAX-clause-dead
+returns-then-level-gt-LEVEL_MAX-clause-dead g c = λ told. not_damaged _ told
+
+pub check_page-requires : goal.check_page-requires
+check_page-requires g c = record {
+  alive = (c.in-Ok.ensures.looks.still refl).dead ∙ c.requires.alive;
+  front = subst (λ (sh : Shape). IsFront sh c.args.front.now) (sym c.in-Ok.ensures.looks.shape) c.requires.front;
+  level = c.if-level-gt-LEVEL_MAX.false;
+}
+
+pub returns-clause-looks : goal.returns-clause-looks
+returns-clause-looks g c = looks_next g.S.EawStore.tells g.S.EawStore.opens _ (pages_of (g.S.EawStore.view c.args.pages.now.store) c.args.pages.now) (pages_of (g.S.EawStore.view c.fetch_page.new.pages.store) c.fetch_page.new.pages) (pages_of (g.S.EawStore.view c.check_page.new.pages.store) c.check_page.new.pages) c.in-Ok.ensures.looks c.check_page.ensures.looks
+
+pub returns-clause-cause : goal.returns-clause-cause
+returns-clause-cause g c = λ told front.
+    let same = (c.in-Ok.ensures.looks.still refl).state told in
+    let level = c.level_in-level.ensures ∙ ap level_said (c.in-Ok.ensures.bytes told) in
+    level_passes c.args.root (g.S.EawStore.view c.args.pages.now.store).state.bytes c.level_in-level.result level c.if-level-gt-LEVEL_MAX.false c.check_page.result
+    (subst (λ (s : State). IsVerdict (tree_from c.args.root c.level_in-level.result s.bytes c.args.root.page 0 key_end) c.check_page.result) same
+    (c.check_page.ensures.cause told (subst (λ (s : State). IsFrontOf s.bytes c.args.front.now) (sym same) front)
+    (subst (λ (s : State). c.fetch_page.new.bytes ≡ page_bytes s.bytes c.args.root.page) (sym same) (c.in-Ok.ensures.bytes told))))
+
+pub returns-clause-dead : goal.returns-clause-dead
+returns-clause-dead g c = c.check_page.ensures.dead

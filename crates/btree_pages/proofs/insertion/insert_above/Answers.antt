@@ -1,0 +1,348 @@
+use Rattle.std.proofs.Common.{◌≡◌, ◌+◌, ◌-◌, ◌^◌, ◌<◌, ◌≤◌, ℕ, List, Option, None, Result, Ok, Err, length, false, IsTrue, refl, sym, ◌∙◌, ap, subst, arith}
+use Rattle.std.proofs.lemmas.Bool.{false≢true}
+use Rattle.array_shape.specs.declared.shape.Shape.{Shape}
+use Rattle.eaw_face.specs.State.{State}
+use Rattle.record_slots.specs.Places.{free_page_of}
+use Rattle.page_store.specs.Index.{slots_of, index_pages_of}
+use Rattle.page_store.specs.Inserts.{Inserts}
+use Rattle.page_store.specs.Shown.{pages_of}
+use Rattle.page_store.specs.declared.fault.PageFault.{PageFault}
+use Rattle.page_store.specs.declared.index_fault.IndexFault.{IndexFault}
+use Rattle.index_pages.specs.Acts.{Acts}
+use Rattle.index_pages.specs.Adding.{TakesPage}
+use Rattle.index_pages.specs.Fetched.{IsFront}
+use Rattle.index_pages.specs.Slots.{list_check}
+use Rattle.index_pages.specs.declared.taking.Claim.{Claim}
+use Rattle.index_pages.proofs.Looking.{looks_none, looks_next}
+use Rattle.btree_pages.specs.Index.{tree}
+use Rattle.btree_pages.specs.Writes.{IsRead, growing_pages, growing_parts}
+use Rattle.index_pages.proofs.Claims.{free_pages_pass, next_pass}
+use Rattle.btree_pages.specs.Trees.{whole_of}
+use Rattle.btree_pages.proofs.Below.{half_read}
+use Rattle.index_pages.proofs.Faulting.{look_of_index, act_of_index, dead_fault, dead_act, not_full, two_some}
+use Rattle.btree_pages.proofs.Rooted.{below_most, half_some, half_room, read_half, take_err}
+use Rattle.btree_pages.proofs.Whole.{root_high, root_full, grow_err, going3, living3, sound3, named3, absent3, says3, reached3, grown_then}
+use Rattle.btree_pages.proofs.insertion.insert_above.Goals as goal
+
+pub returns-then-top-eq-LEVEL_MAX-clause-inserts : goal.returns-then-top-eq-LEVEL_MAX-clause-inserts
+returns-then-top-eq-LEVEL_MAX-clause-inserts g c =
+    let T = g.S.EawStore.tells in
+    let V = g.S.EawStore.view in
+    let E = g.S.EawStore.opens in
+    let t = c.args.tid in
+    let root = c.args.root in
+    let key = c.args.key in
+    let v0 = pages_of (V c.args.pages.now.store) c.args.pages.now in
+    let n = c.index_page_count-count.ensures in
+    let front = c.args.front in
+    let top = c.args.top in
+    let small : c.args.key < 2 ^ 64 = omega arith in
+    let long = λ (told : IsTrue g.S.EawStore.tells). g.met.S.EawStore.long c.args.pages.now.store told in
+    let read = subst (λ (p : ℕ). IsRead (g.S.EawStore.view c.args.pages.now.store).shape p c.args.top.level c.args.top.pairs.items) c.requires.page c.requires.read in
+    root_high T E t root key v0 c.index_page_count-count.result n.count n.all n.most n.some small c.requires.sound c.requires.named c.requires.absent long c.requires.alive front c.requires.front c.requires.slot c.requires.says top.level top.pairs.items read c.requires.level c.requires.pairs c.requires.full c.if-top-eq-LEVEL_MAX.true
+
+pub returns-then-top-eq-LEVEL_MAX-clause-dead : goal.returns-then-top-eq-LEVEL_MAX-clause-dead
+returns-then-top-eq-LEVEL_MAX-clause-dead g c =
+    λ told. not_full _ told
+
+pub are_pages_left-requires : goal.are_pages_left-requires
+are_pages_left-requires g c =
+    subst (λ (k : ℕ). c.args.front.next_page ≤ k) (sym c.index_page_count-count.ensures.count) c.requires.front.pages
+
+pub returns-then-not-are_pages_left-clause-inserts : goal.returns-then-not-are_pages_left-clause-inserts
+returns-then-not-are_pages_left-clause-inserts g c =
+    let T = g.S.EawStore.tells in
+    let V = g.S.EawStore.view in
+    let E = g.S.EawStore.opens in
+    let t = c.args.tid in
+    let root = c.args.root in
+    let key = c.args.key in
+    let v0 = pages_of (V c.args.pages.now.store) c.args.pages.now in
+    let n = c.index_page_count-count.ensures in
+    let front = c.args.front in
+    let top = c.args.top in
+    let small : c.args.key < 2 ^ 64 = omega arith in
+    let long = λ (told : IsTrue g.S.EawStore.tells). g.met.S.EawStore.long c.args.pages.now.store told in
+    let read = subst (λ (p : ℕ). IsRead (g.S.EawStore.view c.args.pages.now.store).shape p c.args.top.level c.args.top.pairs.items) c.requires.page c.requires.read in
+    root_full T E t root key v0 c.index_page_count-count.result n.count n.all n.most n.some small c.requires.sound c.requires.named c.requires.absent long c.requires.alive front c.requires.front c.requires.slot c.requires.says top.level top.pairs.items read c.requires.level c.requires.pairs c.requires.full c.if-top-eq-LEVEL_MAX.false (λ le. false≢true (c.if-not-are_pages_left.ensures.1 le))
+
+pub returns-then-not-are_pages_left-clause-dead : goal.returns-then-not-are_pages_left-clause-dead
+returns-then-not-are_pages_left-clause-dead g c =
+    λ told. not_full _ told
+
+pub take_page-requires : goal.take_page-requires
+take_page-requires g c =
+    let T = g.S.EawStore.tells in
+    let V = g.S.EawStore.view in
+    let E = g.S.EawStore.opens in
+    let t = c.args.tid in
+    let root = c.args.root in
+    let key = c.args.key in
+    let v0 = pages_of (V c.args.pages.now.store) c.args.pages.now in
+    let n = c.index_page_count-count.ensures in
+    let front = c.args.front in
+    let top = c.args.top in
+    let small : c.args.key < 2 ^ 64 = omega arith in
+    let long = λ (told : IsTrue g.S.EawStore.tells). g.met.S.EawStore.long c.args.pages.now.store told in
+    let read = subst (λ (p : ℕ). IsRead (g.S.EawStore.view c.args.pages.now.store).shape p c.args.top.level c.args.top.pairs.items) c.requires.page c.requires.read in
+    let two : 2 ≤ c.args.front.free_pages + (c.index_page_count-count.result - c.args.front.next_page) = c.if-not-are_pages_left.ensures.0 refl in
+    record {
+      alive = c.requires.alive;
+      front = c.requires.front;
+      left = λ none. omega (arith, two, none, n.count);
+      sound = λ told. free_pages_pass v0.store.state.bytes c.args.front (whole_of v0.store.state.bytes (c.requires.sound told)).pages (c.requires.says told);
+    }
+
+pub returns-in-Err-clause-inserts : goal.returns-in-Err-clause-inserts
+returns-in-Err-clause-inserts g c =
+    let T = g.S.EawStore.tells in
+    let V = g.S.EawStore.view in
+    let E = g.S.EawStore.opens in
+    let t = c.args.tid in
+    let root = c.args.root in
+    let key = c.args.key in
+    let v0 = pages_of (V c.args.pages.now.store) c.args.pages.now in
+    let n = c.index_page_count-count.ensures in
+    let front = c.args.front in
+    let top = c.args.top in
+    let small : c.args.key < 2 ^ 64 = omega arith in
+    let long = λ (told : IsTrue g.S.EawStore.tells). g.met.S.EawStore.long c.args.pages.now.store told in
+    let read = subst (λ (p : ℕ). IsRead (g.S.EawStore.view c.args.pages.now.store).shape p c.args.top.level c.args.top.pairs.items) c.requires.page c.requires.read in
+    let v1 = pages_of (V c.take_page.new.pages.store) c.take_page.new.pages in
+    subst (λ (f : IndexFault). (let r : Result ℕ IndexFault = Err f in Inserts T (E v0.store.shape) tree t root.page root.table key v0 v1 r)) (sym c.index_fault.ensures)
+    (take_err T E t root key v0 c.requires.sound v0 (looks_none T (E v0.store.shape) v0) v1 c.in-Err.fault (c.in-Err.ensures.looks, c.in-Err.ensures.cause))
+
+pub returns-in-Err-clause-dead : goal.returns-in-Err-clause-dead
+returns-in-Err-clause-dead g c =
+    λ told. c.in-Err.ensures.dead (ap Err (dead_fault c.in-Err.fault c.index_fault.result (look_of_index Claim g.S.EawStore.tells (g.S.EawStore.view c.args.pages.now.store) c.in-Err.fault c.in-Err.ensures.cause) c.index_fault.ensures told))
+
+pub take_page-requires-2 : goal.take_page-requires-2
+take_page-requires-2 g c =
+    let T = g.S.EawStore.tells in
+    let V = g.S.EawStore.view in
+    let E = g.S.EawStore.opens in
+    let t = c.args.tid in
+    let root = c.args.root in
+    let key = c.args.key in
+    let v0 = pages_of (V c.args.pages.now.store) c.args.pages.now in
+    let n = c.index_page_count-count.ensures in
+    let front = c.args.front in
+    let top = c.args.top in
+    let small : c.args.key < 2 ^ 64 = omega arith in
+    let long = λ (told : IsTrue g.S.EawStore.tells). g.met.S.EawStore.long c.args.pages.now.store told in
+    let read = subst (λ (p : ℕ). IsRead (g.S.EawStore.view c.args.pages.now.store).shape p c.args.top.level c.args.top.pairs.items) c.requires.page c.requires.read in
+    let v1 = pages_of (V c.take_page.new.pages.store) c.take_page.new.pages in
+    let left = c.in-Ok.left in
+    let two : 2 ≤ c.args.front.free_pages + (c.index_page_count-count.result - c.args.front.next_page) = c.if-not-are_pages_left.ensures.0 refl in
+    let counts = c.in-Ok.ensures.pages in
+    record {
+      alive = (c.in-Ok.ensures.looks.still refl).dead ∙ c.requires.alive;
+      front = subst (λ (sh : Shape). IsFront sh c.in-Ok.left.front) (sym c.in-Ok.ensures.looks.shape) c.in-Ok.ensures.front;
+      left = λ none. subst (λ (sh : Shape). c.in-Ok.left.front.next_page < index_pages_of sh) (sym c.in-Ok.ensures.looks.shape) (omega (arith, two, none, n.count, counts, c.requires.front.pages));
+      sound = λ told. subst (λ (st : State). list_check (free_page_of st.bytes) (λ page. page) 2 c.in-Ok.left.front.next_page c.in-Ok.left.front.free_pages c.in-Ok.left.front.free_page 0 None) (sym ((c.in-Ok.ensures.looks.still refl).state told))
+          (next_pass v0.store.state.bytes c.args.front c.in-Ok.left.number c.in-Ok.left.front (whole_of v0.store.state.bytes (c.requires.sound told)).pages (c.requires.says told) (c.in-Ok.ensures.takes told));
+    }
+
+pub returns-in-Err-take_page-clause-inserts : goal.returns-in-Err-take_page-clause-inserts
+returns-in-Err-take_page-clause-inserts g c =
+    let T = g.S.EawStore.tells in
+    let V = g.S.EawStore.view in
+    let E = g.S.EawStore.opens in
+    let t = c.args.tid in
+    let root = c.args.root in
+    let key = c.args.key in
+    let v0 = pages_of (V c.args.pages.now.store) c.args.pages.now in
+    let n = c.index_page_count-count.ensures in
+    let front = c.args.front in
+    let top = c.args.top in
+    let small : c.args.key < 2 ^ 64 = omega arith in
+    let long = λ (told : IsTrue g.S.EawStore.tells). g.met.S.EawStore.long c.args.pages.now.store told in
+    let read = subst (λ (p : ℕ). IsRead (g.S.EawStore.view c.args.pages.now.store).shape p c.args.top.level c.args.top.pairs.items) c.requires.page c.requires.read in
+    let v1 = pages_of (V c.take_page.new.pages.store) c.take_page.new.pages in
+    let left = c.in-Ok.left in
+    let v2 = pages_of (V c.take_page-2.new.pages.store) c.take_page-2.new.pages in
+    subst (λ (f : IndexFault). (let r : Result ℕ IndexFault = Err f in Inserts T (E v0.store.shape) tree t root.page root.table key v0 v2 r)) (sym c.index_fault-in-Err-take_page.ensures)
+    (take_err T E t root key v0 c.requires.sound v1 c.in-Ok.ensures.looks v2 c.in-Err-take_page.fault (c.in-Err-take_page.ensures.looks, c.in-Err-take_page.ensures.cause))
+
+pub returns-in-Err-take_page-clause-dead : goal.returns-in-Err-take_page-clause-dead
+returns-in-Err-take_page-clause-dead g c =
+    λ told. c.in-Err-take_page.ensures.dead (ap Err (dead_fault c.in-Err-take_page.fault c.index_fault-in-Err-take_page.result (look_of_index Claim g.S.EawStore.tells (g.S.EawStore.view c.take_page.new.pages.store) c.in-Err-take_page.fault c.in-Err-take_page.ensures.cause) c.index_fault-in-Err-take_page.ensures told))
+
+pub grow_root-requires : goal.grow_root-requires
+grow_root-requires g c =
+    let T = g.S.EawStore.tells in
+    let V = g.S.EawStore.view in
+    let E = g.S.EawStore.opens in
+    let t = c.args.tid in
+    let root = c.args.root in
+    let key = c.args.key in
+    let v0 = pages_of (V c.args.pages.now.store) c.args.pages.now in
+    let n = c.index_page_count-count.ensures in
+    let front = c.args.front in
+    let top = c.args.top in
+    let small : c.args.key < 2 ^ 64 = omega arith in
+    let long = λ (told : IsTrue g.S.EawStore.tells). g.met.S.EawStore.long c.args.pages.now.store told in
+    let read = subst (λ (p : ℕ). IsRead (g.S.EawStore.view c.args.pages.now.store).shape p c.args.top.level c.args.top.pairs.items) c.requires.page c.requires.read in
+    let v1 = pages_of (V c.take_page.new.pages.store) c.take_page.new.pages in
+    let left = c.in-Ok.left in
+    let v2 = pages_of (V c.take_page-2.new.pages.store) c.take_page-2.new.pages in
+    let right = c.in-Ok-take_page.right in
+    let looks = looks_next T E false v0 v1 v2 c.in-Ok.ensures.looks c.in-Ok-take_page.ensures.looks in
+    let one = λ (told : IsTrue g.S.EawStore.tells). subst (λ (st : State). TakesPage st.bytes c.args.front c.in-Ok.left.number c.in-Ok.left.front) (sym ((c.in-Ok.ensures.looks.still refl).state told) ∙ sym ((c.in-Ok-take_page.ensures.looks.still refl).state told)) (c.in-Ok.ensures.takes told) in
+    let other = λ (told : IsTrue g.S.EawStore.tells). subst (λ (st : State). TakesPage st.bytes c.in-Ok.left.front c.in-Ok-take_page.right.number c.in-Ok-take_page.right.front) (sym ((c.in-Ok-take_page.ensures.looks.still refl).state told)) (c.in-Ok-take_page.ensures.takes told) in
+    record {
+      tid = subst (λ (sh : Shape). c.args.tid < sh.numbers) (sym looks.shape) c.requires.tid;
+      closed = λ running. ap (λ (f : ℕ → Option ℕ). f c.args.tid) (c.in-Ok-take_page.ensures.looks.tops ∙ c.in-Ok.ensures.looks.tops) ∙ c.requires.closed;
+      root = subst (λ (sh : Shape). IsRead sh c.args.top.page c.args.top.level c.args.top.pairs.items) (sym looks.shape) c.requires.read;
+      level = below_most c.args.top.level c.if-top-eq-LEVEL_MAX.false c.requires.read.level_most;
+      full = c.requires.full;
+      left = subst (λ (sh : Shape). c.in-Ok.left.number < index_pages_of sh) (sym looks.shape) c.in-Ok.ensures.inside.1;
+      right = subst (λ (sh : Shape). c.in-Ok-take_page.right.number < index_pages_of sh) (sym c.in-Ok-take_page.ensures.looks.shape) c.in-Ok-take_page.ensures.inside.1;
+    }
+
+pub returns-in-Err-grow_root-clause-inserts : goal.returns-in-Err-grow_root-clause-inserts
+returns-in-Err-grow_root-clause-inserts g c =
+    let T = g.S.EawStore.tells in
+    let V = g.S.EawStore.view in
+    let E = g.S.EawStore.opens in
+    let t = c.args.tid in
+    let root = c.args.root in
+    let key = c.args.key in
+    let v0 = pages_of (V c.args.pages.now.store) c.args.pages.now in
+    let n = c.index_page_count-count.ensures in
+    let front = c.args.front in
+    let top = c.args.top in
+    let small : c.args.key < 2 ^ 64 = omega arith in
+    let long = λ (told : IsTrue g.S.EawStore.tells). g.met.S.EawStore.long c.args.pages.now.store told in
+    let read = subst (λ (p : ℕ). IsRead (g.S.EawStore.view c.args.pages.now.store).shape p c.args.top.level c.args.top.pairs.items) c.requires.page c.requires.read in
+    let v1 = pages_of (V c.take_page.new.pages.store) c.take_page.new.pages in
+    let left = c.in-Ok.left in
+    let v2 = pages_of (V c.take_page-2.new.pages.store) c.take_page-2.new.pages in
+    let right = c.in-Ok-take_page.right in
+    let looks = looks_next T E false v0 v1 v2 c.in-Ok.ensures.looks c.in-Ok-take_page.ensures.looks in
+    let one = λ (told : IsTrue g.S.EawStore.tells). subst (λ (st : State). TakesPage st.bytes c.args.front c.in-Ok.left.number c.in-Ok.left.front) (sym ((c.in-Ok.ensures.looks.still refl).state told) ∙ sym ((c.in-Ok-take_page.ensures.looks.still refl).state told)) (c.in-Ok.ensures.takes told) in
+    let other = λ (told : IsTrue g.S.EawStore.tells). subst (λ (st : State). TakesPage st.bytes c.in-Ok.left.front c.in-Ok-take_page.right.number c.in-Ok-take_page.right.front) (sym ((c.in-Ok-take_page.ensures.looks.still refl).state told)) (c.in-Ok-take_page.ensures.takes told) in
+    let v3 = pages_of (V c.grow_root.new.pages.store) c.grow_root.new.pages in
+    let acts = λ (r : Result (Unit {0}) PageFault) (a : Acts g.S.EawStore.tells (g.S.EawStore.opens (g.S.EawStore.view c.take_page-2.new.pages.store).shape) c.args.tid (growing_pages c.in-Ok.left.number c.in-Ok-take_page.right.number c.args.top.page) (growing_parts c.in-Ok-take_page.right.front c.in-Ok.left.number c.in-Ok-take_page.right.number c.args.top.page c.args.top.level c.args.top.pairs.items)
+    (pages_of (g.S.EawStore.view c.take_page-2.new.pages.store) c.take_page-2.new.pages) (pages_of (g.S.EawStore.view c.grow_root.new.pages.store) c.grow_root.new.pages) r).
+    subst (λ (p : ℕ). Acts g.S.EawStore.tells (g.S.EawStore.opens (g.S.EawStore.view c.take_page-2.new.pages.store).shape) c.args.tid (growing_pages c.in-Ok.left.number c.in-Ok-take_page.right.number p) (growing_parts c.in-Ok-take_page.right.front c.in-Ok.left.number c.in-Ok-take_page.right.number p c.args.top.level c.args.top.pairs.items)
+    (pages_of (g.S.EawStore.view c.take_page-2.new.pages.store) c.take_page-2.new.pages) (pages_of (g.S.EawStore.view c.grow_root.new.pages.store) c.grow_root.new.pages) r) c.requires.page a in
+    subst (λ (f : IndexFault). (let r : Result ℕ IndexFault = Err f in Inserts T (E v0.store.shape) tree t root.page root.table key v0 v3 r)) (sym c.index_fault-in-Err-grow_root.ensures)
+    (grow_err T E t root key v0 c.index_page_count-count.result n.count n.all n.most n.some small c.requires.sound c.requires.named c.requires.absent long c.requires.alive front c.requires.front c.requires.slot c.requires.says top.level top.pairs.items read c.requires.level c.requires.pairs c.requires.full c.if-top-eq-LEVEL_MAX.false (c.if-not-are_pages_left.ensures.0 refl) v2 looks left.number right.number left.front right.front one other v3 c.in-Err-grow_root.fault (acts (Err c.in-Err-grow_root.fault) c.in-Err-grow_root.ensures.acts))
+
+pub returns-in-Err-grow_root-clause-dead : goal.returns-in-Err-grow_root-clause-dead
+returns-in-Err-grow_root-clause-dead g c =
+    let T = g.S.EawStore.tells in
+    let V = g.S.EawStore.view in
+    let E = g.S.EawStore.opens in
+    let t = c.args.tid in
+    let root = c.args.root in
+    let key = c.args.key in
+    let v0 = pages_of (V c.args.pages.now.store) c.args.pages.now in
+    let n = c.index_page_count-count.ensures in
+    let front = c.args.front in
+    let top = c.args.top in
+    let small : c.args.key < 2 ^ 64 = omega arith in
+    let long = λ (told : IsTrue g.S.EawStore.tells). g.met.S.EawStore.long c.args.pages.now.store told in
+    let read = subst (λ (p : ℕ). IsRead (g.S.EawStore.view c.args.pages.now.store).shape p c.args.top.level c.args.top.pairs.items) c.requires.page c.requires.read in
+    let v1 = pages_of (V c.take_page.new.pages.store) c.take_page.new.pages in
+    let left = c.in-Ok.left in
+    let v2 = pages_of (V c.take_page-2.new.pages.store) c.take_page-2.new.pages in
+    let right = c.in-Ok-take_page.right in
+    let looks = looks_next T E false v0 v1 v2 c.in-Ok.ensures.looks c.in-Ok-take_page.ensures.looks in
+    let one = λ (told : IsTrue g.S.EawStore.tells). subst (λ (st : State). TakesPage st.bytes c.args.front c.in-Ok.left.number c.in-Ok.left.front) (sym ((c.in-Ok.ensures.looks.still refl).state told) ∙ sym ((c.in-Ok-take_page.ensures.looks.still refl).state told)) (c.in-Ok.ensures.takes told) in
+    let other = λ (told : IsTrue g.S.EawStore.tells). subst (λ (st : State). TakesPage st.bytes c.in-Ok.left.front c.in-Ok-take_page.right.number c.in-Ok-take_page.right.front) (sym ((c.in-Ok-take_page.ensures.looks.still refl).state told)) (c.in-Ok-take_page.ensures.takes told) in
+    let ps = growing_pages c.in-Ok.left.number c.in-Ok-take_page.right.number c.args.top.page in
+    λ told. dead_act v2.store t ps c.in-Err-grow_root.fault ((looks.still refl).dead ∙ c.requires.alive)
+    (dead_fault c.in-Err-grow_root.fault c.index_fault-in-Err-grow_root.result (act_of_index v2.store t ps c.in-Err-grow_root.fault c.in-Err-grow_root.ensures.acts.cause) c.index_fault-in-Err-grow_root.ensures told) c.in-Err-grow_root.ensures.acts.cause
+
+pub half_of-half-requires : goal.half_of-half-requires
+half_of-half-requires g c =
+    c.requires.full
+
+pub insert_below-requires : goal.insert_below-requires
+insert_below-requires g c =
+    let T = g.S.EawStore.tells in
+    let V = g.S.EawStore.view in
+    let E = g.S.EawStore.opens in
+    let t = c.args.tid in
+    let root = c.args.root in
+    let key = c.args.key in
+    let v0 = pages_of (V c.args.pages.now.store) c.args.pages.now in
+    let n = c.index_page_count-count.ensures in
+    let front = c.args.front in
+    let top = c.args.top in
+    let small : c.args.key < 2 ^ 64 = omega arith in
+    let long = λ (told : IsTrue g.S.EawStore.tells). g.met.S.EawStore.long c.args.pages.now.store told in
+    let read = subst (λ (p : ℕ). IsRead (g.S.EawStore.view c.args.pages.now.store).shape p c.args.top.level c.args.top.pairs.items) c.requires.page c.requires.read in
+    let v1 = pages_of (V c.take_page.new.pages.store) c.take_page.new.pages in
+    let left = c.in-Ok.left in
+    let v2 = pages_of (V c.take_page-2.new.pages.store) c.take_page-2.new.pages in
+    let right = c.in-Ok-take_page.right in
+    let looks = looks_next T E false v0 v1 v2 c.in-Ok.ensures.looks c.in-Ok-take_page.ensures.looks in
+    let one = λ (told : IsTrue g.S.EawStore.tells). subst (λ (st : State). TakesPage st.bytes c.args.front c.in-Ok.left.number c.in-Ok.left.front) (sym ((c.in-Ok.ensures.looks.still refl).state told) ∙ sym ((c.in-Ok-take_page.ensures.looks.still refl).state told)) (c.in-Ok.ensures.takes told) in
+    let other = λ (told : IsTrue g.S.EawStore.tells). subst (λ (st : State). TakesPage st.bytes c.in-Ok.left.front c.in-Ok-take_page.right.number c.in-Ok-take_page.right.front) (sym ((c.in-Ok-take_page.ensures.looks.still refl).state told)) (c.in-Ok-take_page.ensures.takes told) in
+    let v3 = pages_of (V c.grow_root.new.pages.store) c.grow_root.new.pages in
+    let acts = λ (r : Result (Unit {0}) PageFault) (a : Acts g.S.EawStore.tells (g.S.EawStore.opens (g.S.EawStore.view c.take_page-2.new.pages.store).shape) c.args.tid (growing_pages c.in-Ok.left.number c.in-Ok-take_page.right.number c.args.top.page) (growing_parts c.in-Ok-take_page.right.front c.in-Ok.left.number c.in-Ok-take_page.right.number c.args.top.page c.args.top.level c.args.top.pairs.items)
+    (pages_of (g.S.EawStore.view c.take_page-2.new.pages.store) c.take_page-2.new.pages) (pages_of (g.S.EawStore.view c.grow_root.new.pages.store) c.grow_root.new.pages) r).
+    subst (λ (p : ℕ). Acts g.S.EawStore.tells (g.S.EawStore.opens (g.S.EawStore.view c.take_page-2.new.pages.store).shape) c.args.tid (growing_pages c.in-Ok.left.number c.in-Ok-take_page.right.number p) (growing_parts c.in-Ok-take_page.right.front c.in-Ok.left.number c.in-Ok-take_page.right.number p c.args.top.level c.args.top.pairs.items)
+    (pages_of (g.S.EawStore.view c.take_page-2.new.pages.store) c.take_page-2.new.pages) (pages_of (g.S.EawStore.view c.grow_root.new.pages.store) c.grow_root.new.pages) r) c.requires.page a in
+    let half = c.half_of-half in
+    let shape3 = c.in-Ok-grow_root.ensures.acts.shape ∙ looks.shape in
+    let left_in = c.in-Ok.ensures.inside in
+    let right_in = subst (λ (sh : Shape). c.in-Ok-take_page.right.number < index_pages_of sh) c.in-Ok.ensures.looks.shape c.in-Ok-take_page.ensures.inside.1 in
+    let half_is = half_read v0.store.shape top.pairs.items left.number right.number key half.result.page half.result.pairs.items c.requires.full read.small (two_some left.number left_in.0) left_in.1 (two_some right.number c.in-Ok-take_page.ensures.inside.0) right_in half.ensures.page half.ensures.pairs in
+    let slots = c.in-Ok.ensures.slots in
+    let slots2 = c.in-Ok-take_page.ensures.slots in
+    record {
+      tid = subst (λ (sh : Shape). c.args.tid < sh.numbers) (sym shape3) c.requires.tid;
+      table = c.requires.table;
+      closed = ap (λ (f : ℕ → Option ℕ). f c.args.tid) (going3 T E t root key v0 c.index_page_count-count.result n.count n.all n.most n.some small c.requires.sound c.requires.named c.requires.absent long c.requires.alive front c.requires.front c.requires.slot c.requires.says top.level top.pairs.items read c.requires.level c.requires.pairs c.requires.full c.if-top-eq-LEVEL_MAX.false (c.if-not-are_pages_left.ensures.0 refl) v2 looks left.number right.number left.front right.front one other v3 (acts (Ok tt) c.in-Ok-grow_root.ensures.acts)).logs.tops ∙ c.requires.closed;
+      alive = living3 T E t root key v0 c.index_page_count-count.result n.count n.all n.most n.some small c.requires.sound c.requires.named c.requires.absent long c.requires.alive front c.requires.front c.requires.slot c.requires.says top.level top.pairs.items read c.requires.level c.requires.pairs c.requires.full c.if-top-eq-LEVEL_MAX.false (c.if-not-are_pages_left.ensures.0 refl) v2 looks left.number right.number left.front right.front one other v3 (acts (Ok tt) c.in-Ok-grow_root.ensures.acts);
+      sound = sound3 T E t root key v0 c.index_page_count-count.result n.count n.all n.most n.some small c.requires.sound c.requires.named c.requires.absent long c.requires.alive front c.requires.front c.requires.slot c.requires.says top.level top.pairs.items read c.requires.level c.requires.pairs c.requires.full c.if-top-eq-LEVEL_MAX.false (c.if-not-are_pages_left.ensures.0 refl) v2 looks left.number right.number left.front right.front one other v3 (acts (Ok tt) c.in-Ok-grow_root.ensures.acts);
+      named = named3 T E t root key v0 c.index_page_count-count.result n.count n.all n.most n.some small c.requires.sound c.requires.named c.requires.absent long c.requires.alive front c.requires.front c.requires.slot c.requires.says top.level top.pairs.items read c.requires.level c.requires.pairs c.requires.full c.if-top-eq-LEVEL_MAX.false (c.if-not-are_pages_left.ensures.0 refl) v2 looks left.number right.number left.front right.front one other v3 (acts (Ok tt) c.in-Ok-grow_root.ensures.acts);
+      absent = absent3 T E t root key v0 c.index_page_count-count.result n.count n.all n.most n.some small c.requires.sound c.requires.named c.requires.absent long c.requires.alive front c.requires.front c.requires.slot c.requires.says top.level top.pairs.items read c.requires.level c.requires.pairs c.requires.full c.if-top-eq-LEVEL_MAX.false (c.if-not-are_pages_left.ensures.0 refl) v2 looks left.number right.number left.front right.front one other v3 (acts (Ok tt) c.in-Ok-grow_root.ensures.acts);
+      front = subst (λ (sh : Shape). IsFront sh c.in-Ok-take_page.right.front) (sym (c.in-Ok-grow_root.ensures.acts.shape ∙ c.in-Ok-take_page.ensures.looks.shape)) c.in-Ok-take_page.ensures.front;
+      slot = λ none. subst (λ (sh : Shape). c.in-Ok-take_page.right.front.next_slot < slots_of sh) (sym shape3)
+          (subst (λ (k : ℕ). k < slots_of (g.S.EawStore.view c.args.pages.now.store).shape) (sym (slots2.0 ∙ slots.0)) (c.requires.slot (sym (slots2.1 ∙ slots.1) ∙ none)));
+      says = says3 T E t root key v0 c.index_page_count-count.result n.count n.all n.most n.some small c.requires.sound c.requires.named c.requires.absent long c.requires.alive front c.requires.front c.requires.slot c.requires.says top.level top.pairs.items read c.requires.level c.requires.pairs c.requires.full c.if-top-eq-LEVEL_MAX.false (c.if-not-are_pages_left.ensures.0 refl) v2 looks left.number right.number left.front right.front one other v3 (acts (Ok tt) c.in-Ok-grow_root.ensures.acts);
+      read = subst (λ (sh : Shape). IsRead sh half.result.page half.result.level half.result.pairs.items) (sym shape3) (read_half v0.store.shape top.level root.page half.result.page half.result.level top.pairs.items half.result.pairs.items read half_is half.ensures.level);
+      some = λ inner. half_some half.result.pairs.items half_is.many;
+      room = half_room half.result.pairs.items half_is.many;
+      reached = reached3 T E t root key v0 c.index_page_count-count.result n.count n.all n.most n.some small c.requires.sound c.requires.named c.requires.absent long c.requires.alive front c.requires.front c.requires.slot c.requires.says top.level top.pairs.items read c.requires.level c.requires.pairs c.requires.full c.if-top-eq-LEVEL_MAX.false (c.if-not-are_pages_left.ensures.0 refl) v2 looks left.number right.number left.front right.front one other v3 (acts (Ok tt) c.in-Ok-grow_root.ensures.acts) half.result.page half.result.pairs.items half.ensures.page half.ensures.pairs half.result.level half.ensures.level;
+    }
+
+pub returns-clause-inserts : goal.returns-clause-inserts
+returns-clause-inserts g c =
+    let T = g.S.EawStore.tells in
+    let V = g.S.EawStore.view in
+    let E = g.S.EawStore.opens in
+    let t = c.args.tid in
+    let root = c.args.root in
+    let key = c.args.key in
+    let v0 = pages_of (V c.args.pages.now.store) c.args.pages.now in
+    let n = c.index_page_count-count.ensures in
+    let front = c.args.front in
+    let top = c.args.top in
+    let small : c.args.key < 2 ^ 64 = omega arith in
+    let long = λ (told : IsTrue g.S.EawStore.tells). g.met.S.EawStore.long c.args.pages.now.store told in
+    let read = subst (λ (p : ℕ). IsRead (g.S.EawStore.view c.args.pages.now.store).shape p c.args.top.level c.args.top.pairs.items) c.requires.page c.requires.read in
+    let v1 = pages_of (V c.take_page.new.pages.store) c.take_page.new.pages in
+    let left = c.in-Ok.left in
+    let v2 = pages_of (V c.take_page-2.new.pages.store) c.take_page-2.new.pages in
+    let right = c.in-Ok-take_page.right in
+    let looks = looks_next T E false v0 v1 v2 c.in-Ok.ensures.looks c.in-Ok-take_page.ensures.looks in
+    let one = λ (told : IsTrue g.S.EawStore.tells). subst (λ (st : State). TakesPage st.bytes c.args.front c.in-Ok.left.number c.in-Ok.left.front) (sym ((c.in-Ok.ensures.looks.still refl).state told) ∙ sym ((c.in-Ok-take_page.ensures.looks.still refl).state told)) (c.in-Ok.ensures.takes told) in
+    let other = λ (told : IsTrue g.S.EawStore.tells). subst (λ (st : State). TakesPage st.bytes c.in-Ok.left.front c.in-Ok-take_page.right.number c.in-Ok-take_page.right.front) (sym ((c.in-Ok-take_page.ensures.looks.still refl).state told)) (c.in-Ok-take_page.ensures.takes told) in
+    let v3 = pages_of (V c.grow_root.new.pages.store) c.grow_root.new.pages in
+    let acts = λ (r : Result (Unit {0}) PageFault) (a : Acts g.S.EawStore.tells (g.S.EawStore.opens (g.S.EawStore.view c.take_page-2.new.pages.store).shape) c.args.tid (growing_pages c.in-Ok.left.number c.in-Ok-take_page.right.number c.args.top.page) (growing_parts c.in-Ok-take_page.right.front c.in-Ok.left.number c.in-Ok-take_page.right.number c.args.top.page c.args.top.level c.args.top.pairs.items)
+    (pages_of (g.S.EawStore.view c.take_page-2.new.pages.store) c.take_page-2.new.pages) (pages_of (g.S.EawStore.view c.grow_root.new.pages.store) c.grow_root.new.pages) r).
+    subst (λ (p : ℕ). Acts g.S.EawStore.tells (g.S.EawStore.opens (g.S.EawStore.view c.take_page-2.new.pages.store).shape) c.args.tid (growing_pages c.in-Ok.left.number c.in-Ok-take_page.right.number p) (growing_parts c.in-Ok-take_page.right.front c.in-Ok.left.number c.in-Ok-take_page.right.number p c.args.top.level c.args.top.pairs.items)
+    (pages_of (g.S.EawStore.view c.take_page-2.new.pages.store) c.take_page-2.new.pages) (pages_of (g.S.EawStore.view c.grow_root.new.pages.store) c.grow_root.new.pages) r) c.requires.page a in
+    let half = c.half_of-half in
+    let v4 = pages_of (V c.insert_below.new.pages.store) c.insert_below.new.pages in
+    grown_then T E t root key v0 c.index_page_count-count.result n.count n.all n.most n.some small c.requires.sound c.requires.named c.requires.absent long c.requires.alive front c.requires.front c.requires.slot c.requires.says top.level top.pairs.items read c.requires.level c.requires.pairs c.requires.full c.if-top-eq-LEVEL_MAX.false (c.if-not-are_pages_left.ensures.0 refl) v2 looks left.number right.number left.front right.front one other v3 (acts (Ok tt) c.in-Ok-grow_root.ensures.acts) half.result.page half.result.pairs.items half.ensures.page half.ensures.pairs half.result.level half.ensures.level v4 c.insert_below.result c.insert_below.ensures.inserts
+
+pub returns-clause-dead : goal.returns-clause-dead
+returns-clause-dead g c =
+    λ told. absurd (c.insert_below.ensures.dead told)

@@ -1,5 +1,0 @@
-use Rattle.btree_pages.proofs.Fresh.{fresh_tree}
-use Rattle.btree_pages.proofs.laws.fresh_is_sound.Goals as goal
-
-pub returns : goal.returns
-returns c = fresh_tree

@@ -1,0 +1,75 @@
+-- The trees of all tables together: what is known of sound data, and what writes to slots leave.
+use Rattle.std.proofs.Common.{◌≡◌, ℕ, ◌<◌, List, arith}
+use Rattle.mars_base.specs.Check.{IsSingle}
+use Rattle.mars_base.proofs.Checks.{excludes, one_bad}
+use Rattle.record_slots.specs.Places.{page_bytes, next_page, AreGiven}
+use Rattle.page_store.specs.Index.{IsTable, HasCounts, KeepsIndex}
+use Rattle.page_store.specs.Pairs.{Rise}
+use Rattle.index_pages.specs.Keys.{key_end}
+use Rattle.index_pages.specs.Page.{level_of}
+use Rattle.index_pages.specs.Slots.{index_check}
+use Rattle.index_pages.proofs.Joining.{named_kept}
+use Rattle.index_pages.proofs.Tabled.{IsWhole, whole_seen, whole_passes, whole_counts, table_own, front_rests, index_single}
+use Rattle.btree_laws.specs.Resting.{sound_tree_rests, sound_tree_given}
+use Rattle.btree_laws.specs.Sound.{IsSoundTree, sound_seen, sound_passes, tree_single}
+use Rattle.btree_laws.specs.Tree.{pairs_of_tree, IsPageOfTree}
+use Rattle.btree_laws.specs.TreeFacts.{sound_tree_rises, under_own}
+use Rattle.btree_laws.specs.declared.root.Root.{Root}
+use Rattle.btree_pages.specs.Index.{tree_of, AreSoundTrees, IsFirstDamagedOfTrees}
+
+-- what sound data is made of
+pub whole_of : (bytes : List ℕ) → AreSoundTrees bytes → IsWhole 1 tree_of bytes
+whole_of bytes sound = whole_seen 1 tree_of bytes sound
+
+-- the tree of a table is sound
+pub table_sound : (bytes : List ℕ) (root : Root) → AreSoundTrees bytes → IsTable bytes root.table root.page → IsSoundTree root bytes
+table_sound bytes root sound named =
+    let w = whole_seen 1 tree_of bytes sound in
+    sound_seen root bytes (table_own 1 bytes root.table root.page w.front named) (w.tables root.table root.page named)
+
+pub page_given : (bytes : List ℕ) (root : Root) (x : ℕ) → IsSoundTree root bytes → IsPageOfTree bytes root.page x → x < next_page bytes
+page_given bytes root x sound u = (under_own root (level_of bytes root.page) bytes x root.page 0 key_end sound.0 sound.2 u).1
+
+pub trees_rise : (bytes : List ℕ) (table root : ℕ) → AreSoundTrees bytes → IsTable bytes table root → Rise 0 key_end (pairs_of_tree bytes root)
+trees_rise bytes table root sound named = (let r : Root = record { page = root; table = table } in sound_tree_rises r bytes (table_sound bytes r sound named))
+
+pub trees_given : (bytes : List ℕ) (table root : ℕ) → AreSoundTrees bytes → IsTable bytes table root → AreGiven bytes table (pairs_of_tree bytes root)
+trees_given bytes table root sound named = (let r : Root = record { page = root; table = table } in sound_tree_given r bytes (table_sound bytes r sound named))
+
+pub trees_count : (bytes : List ℕ) → AreSoundTrees bytes → HasCounts bytes
+trees_count bytes sound = whole_counts 1 tree_of bytes (whole_of bytes sound)
+
+module _ (old new : List ℕ) (sound : AreSoundTrees old) (keeps : KeepsIndex old new) where
+  -- writes to slots leave the tree of each table as it is
+  table_rests : (table root : ℕ) → IsTable old table root
+      → IsSoundTree (record { page = root; table = table }) new × (pairs_of_tree new root ≡ pairs_of_tree old root) × (level_of new root ≡ level_of old root)
+  table_rests table root named =
+      let r : Root = record { page = root; table = table } in
+      let w = whole_of old sound in
+      let f = front_rests 1 tree_of old new w keeps in
+      let t = table_sound old (record { page = root; table = table }) sound named in
+      sound_tree_rests (record { page = root; table = table }) old new t f.keeps
+      (λ x u. keeps.pages x (omega (arith, page_given old (record { page = root; table = table }) x t u, w.front.pages)))
+
+  pub trees_rest : AreSoundTrees new × ((table root : ℕ) → IsTable old table root → (pairs_of_tree new root ≡ pairs_of_tree old root) × (level_of new root ≡ level_of old root))
+  trees_rest =
+      let w = whole_of old sound in
+      let f = front_rests 1 tree_of old new w keeps in (
+        whole_passes 1 tree_of new (record {
+          front = f.front;
+          slots = f.slots;
+          pages = f.pages;
+          tables = λ table root named. sound_passes (record { page = root; table = table }) new (table_rests table root (named_kept old new f.tables table root named)).0;
+        }),
+        λ table root named. let r = table_rests table root named in (r.1, r.2),
+      )
+
+trees_single : (bytes : List ℕ) → IsSingle (index_check 1 tree_of bytes)
+trees_single bytes = index_single 1 tree_of bytes (λ root table. tree_single (record { page = root; table = table }) bytes)
+
+-- no page of sound data fails, and at most one is the first that does
+pub trees_excluded : (bytes : List ℕ) (bad : ℕ) → IsFirstDamagedOfTrees bytes bad → AreSoundTrees bytes → ⊥
+trees_excluded bytes bad fails sound = excludes (index_check 1 tree_of bytes) (trees_single bytes) bad fails sound
+
+pub trees_first : (bytes : List ℕ) (bad other : ℕ) → IsFirstDamagedOfTrees bytes bad → IsFirstDamagedOfTrees bytes other → bad ≡ other
+trees_first bytes bad other fails fails' = one_bad (index_check 1 tree_of bytes) (trees_single bytes) bad other fails fails'

@@ -1,0 +1,19 @@
+use Rattle.std.proofs.Common.{ℕ, ◌≡◌, ◌-◌, false, IsTrue, Option}
+use Rattle.eaw_face.specs.Causes.{IsAlive}
+use Rattle.record_slots.specs.Places.{page_bytes, slot_page, free_slot_of}
+use Rattle.record_slots.specs.Super.{SaysSuper}
+use Rattle.page_store.specs.Looks.{Looks}
+use Rattle.page_store.specs.Shown.{pages_of}
+use Rattle.index_pages.specs.Slots.{list_check, slots_check}
+use Rattle.index_pages.proofs.checking.check_free_slots.Given as goal
+
+-- the data is as it was, and what becomes of the members that are left becomes of all
+abbrev pub invariant-loop-done : goal.invariant-loop-done
+invariant-loop-done g l = record {
+  looks : Looks g.S.EawStore.tells (g.S.EawStore.opens (g.S.EawStore.view l.fn.pages.store).shape) false
+      (pages_of (g.S.EawStore.view l.fn.pages.store) l.fn.pages) (pages_of (g.S.EawStore.view l.pages.store) l.pages);
+  alive : IsAlive (g.S.EawStore.view l.pages.store);
+  left : IsTrue g.S.EawStore.tells → SaysSuper (page_bytes (g.S.EawStore.view l.fn.pages.store).state.bytes 0) l.front → (verdict : Option ℕ)
+      → list_check (free_slot_of (g.S.EawStore.view l.fn.pages.store).state.bytes) (slot_page (g.S.EawStore.view l.fn.pages.store).state.bytes) 0 l.front.next_slot (l.front.free_slots - l.done) l.named l.page verdict
+      → slots_check (g.S.EawStore.view l.fn.pages.store).state.bytes verdict;
+}

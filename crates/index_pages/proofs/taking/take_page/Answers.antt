@@ -1,0 +1,26 @@
+use Rattle.std.proofs.Common.{◌≡◌, ◌-◌, ℕ, IsTrue, Option, None, sym, ◌∙◌, subst, arith}
+use Rattle.record_slots.specs.Places.{free_page_of}
+use Rattle.record_slots.specs.declared.free.Free.{Free}
+use Rattle.index_pages.specs.Slots.{Names, HasRank}
+use Rattle.index_pages.proofs.Members.{first_member}
+use Rattle.index_pages.proofs.taking.take_page.Goals as goal
+
+pub returns-then-front-le2-clause-cause : goal.returns-then-front-le2-clause-cause
+returns-then-front-le2-clause-cause g c =
+    let b = (g.S.EawStore.view c.args.pages.now.store).state.bytes in
+    let front = c.args.front.now in
+    (c.requires.alive, λ told. let h = first_member (free_page_of b) (λ (p : ℕ). p) 2 front.next_page front.free_pages front.free_page 0 c.if-front-eq0.false (c.requires.sound told) in omega (arith, h.0.0, c.if-front-le2.true))
+
+pub returns-then-front-clause-cause : goal.returns-then-front-clause-cause
+returns-then-front-clause-cause g c =
+    let b = (g.S.EawStore.view c.args.pages.now.store).state.bytes in
+    let front = c.args.front.now in
+    (c.requires.alive, λ told. let h = first_member (free_page_of b) (λ (p : ℕ). p) 2 front.next_page front.free_pages front.free_page 0 c.if-front-eq0.false (c.requires.sound told) in omega (arith, h.0.1, c.if-front.true))
+
+pub returns-in_default-clause-cause : goal.returns-in_default-clause-cause
+returns-in_default-clause-cause g c =
+    let b = (g.S.EawStore.view c.args.pages.now.store).state.bytes in
+    let front = c.args.front.now in
+    (c.requires.alive, λ told.
+    let h = first_member (free_page_of b) (λ (p : ℕ). p) 2 front.next_page front.free_pages front.free_page 0 c.if-front-eq0.false (c.requires.sound told) in
+    c.in_default.ensures.none (subst (λ (o : Option Free). HasRank front.free_pages o) (sym (c.in-Ok.ensures.said told)) h.1))

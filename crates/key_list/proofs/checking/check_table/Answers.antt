@@ -1,0 +1,207 @@
+use Rattle.std.proofs.Common.{◌≡◌, ◌+◌, ◌-◌, ℕ, suc, false, Option, Ok, Err, Result, IsTrue, refl, sym, ◌∙◌, ap, subst, arith}
+use Rattle.eaw_face.specs.State.{State}
+use Rattle.eaw_face.specs.Causes.{IsAlive}
+use Rattle.record_slots.specs.Places.{next_slot, next_page, page_bytes}
+use Rattle.record_slots.specs.Super.{SaysSuper}
+use Rattle.page_store.specs.Shown.{pages_of}
+use Rattle.page_store.specs.declared.index_fault.CheckFault.{CheckFault}
+use Rattle.index_pages.specs.Page.{pairs_said, link_said}
+use Rattle.index_pages.proofs.Looking.{looks_none, looks_next}
+use Rattle.index_pages.specs.Slots.{IsVerdict}
+use Rattle.key_list.specs.Chain.{pairs_check}
+use Rattle.key_list.specs.Checked.{low_of}
+use Rattle.key_list.proofs.Testing.{ChainLeft, chain_none, head_fails, pairs_fail, link_fails, link_ends, link_on, table_err}
+use Rattle.key_list.proofs.checking.check_table.Goals as goal
+
+pub returns-in_default-clause-cause : goal.returns-in_default-clause-cause
+returns-in_default-clause-cause g c =
+    let T = g.S.EawStore.tells in
+    let V = g.S.EawStore.view in
+    let E = g.S.EawStore.opens in
+    let view = V c.args.pages.now.store in
+    let b = view.state.bytes in
+    let inv = c.loop-step.invariant in
+    let still = inv.looks.still refl in
+    let alive : IsAlive view = sym still.dead ∙ inv.alive in
+    let n = c.args.front.now.next_page - suc c.loop-step._step in
+    let left = λ (told : IsTrue g.S.EawStore.tells) (says : SaysSuper (page_bytes b 0) c.args.front.now). subst (λ (m : ℕ). ChainLeft b c.args.root c.args.table c.loop-step.page (low_of c.loop-step.last) m)
+    (let e : c.args.front.now.next_page - c.loop-step._step ≡ suc (c.args.front.now.next_page - suc c.loop-step._step) = omega (arith, c.loop-step-test.true) in e) (inv.left told says) in
+    let buf = λ (told : IsTrue g.S.EawStore.tells). c.in-Ok.ensures.bytes told ∙ ap (λ (s : State). page_bytes s.bytes c.loop-step.page) (still.state told) in
+    (λ told says. head_fails b c.fetch_page.new.bytes c.args.root c.args.table c.loop-step.page (low_of c.loop-step.last) n (buf told) (left told says) c.in_default.ensures.other)
+
+pub returns-in-Err-check_pairs-clause-cause : goal.returns-in-Err-check_pairs-clause-cause
+returns-in-Err-check_pairs-clause-cause g c =
+    let T = g.S.EawStore.tells in
+    let V = g.S.EawStore.view in
+    let E = g.S.EawStore.opens in
+    let view = V c.args.pages.now.store in
+    let b = view.state.bytes in
+    let inv = c.loop-step.invariant in
+    let still = inv.looks.still refl in
+    let alive : IsAlive view = sym still.dead ∙ inv.alive in
+    let n = c.args.front.now.next_page - suc c.loop-step._step in
+    let left = λ (told : IsTrue g.S.EawStore.tells) (says : SaysSuper (page_bytes b 0) c.args.front.now). subst (λ (m : ℕ). ChainLeft b c.args.root c.args.table c.loop-step.page (low_of c.loop-step.last) m)
+    (let e : c.args.front.now.next_page - c.loop-step._step ≡ suc (c.args.front.now.next_page - suc c.loop-step._step) = omega (arith, c.loop-step-test.true) in e) (inv.left told says) in
+    let buf = λ (told : IsTrue g.S.EawStore.tells). c.in-Ok.ensures.bytes told ∙ ap (λ (s : State). page_bytes s.bytes c.loop-step.page) (still.state told) in
+    let looks2 = looks_next T E false (pages_of view c.args.pages.now) (pages_of (V c.loop-step.pages.store) c.loop-step.pages) (pages_of (V c.fetch_page.new.pages.store) c.fetch_page.new.pages) inv.looks c.in-Ok.ensures.looks in
+    let same2 = λ (told : IsTrue g.S.EawStore.tells). (looks2.still refl).state told in
+    let slots = λ (told : IsTrue g.S.EawStore.tells) (says : SaysSuper (page_bytes b 0) c.args.front.now). says.next_slot ∙ ap (λ (s : State). next_slot s.bytes) (sym (same2 told)) in
+    λ told says. table_err b c.args.root c.args.table c.in-Err-check_pairs.fault (λ bad e.
+    (let r : Result (Option ℕ) CheckFault = Err c.in-Err-check_pairs.fault in
+    pairs_fail b c.fetch_page.new.bytes c.args.root c.args.table c.loop-step.page (low_of c.loop-step.last) n (buf told) (left told says) c.in-Some.ensures.head c.in-Err-check_pairs.fault bad e
+    (subst (λ (s : State). IsVerdict (pairs_check s.bytes c.args.table c.loop-step.page (low_of c.loop-step.last) (pairs_said c.fetch_page.new.bytes)) r) (same2 told) (c.in-Err-check_pairs.ensures.cause told (slots told says)))))
+
+pub returns-then-head-eq0-clause-cause : goal.returns-then-head-eq0-clause-cause
+returns-then-head-eq0-clause-cause g c =
+    let T = g.S.EawStore.tells in
+    let V = g.S.EawStore.view in
+    let E = g.S.EawStore.opens in
+    let view = V c.args.pages.now.store in
+    let b = view.state.bytes in
+    let inv = c.loop-step.invariant in
+    let still = inv.looks.still refl in
+    let alive : IsAlive view = sym still.dead ∙ inv.alive in
+    let n = c.args.front.now.next_page - suc c.loop-step._step in
+    let left = λ (told : IsTrue g.S.EawStore.tells) (says : SaysSuper (page_bytes b 0) c.args.front.now). subst (λ (m : ℕ). ChainLeft b c.args.root c.args.table c.loop-step.page (low_of c.loop-step.last) m)
+    (let e : c.args.front.now.next_page - c.loop-step._step ≡ suc (c.args.front.now.next_page - suc c.loop-step._step) = omega (arith, c.loop-step-test.true) in e) (inv.left told says) in
+    let buf = λ (told : IsTrue g.S.EawStore.tells). c.in-Ok.ensures.bytes told ∙ ap (λ (s : State). page_bytes s.bytes c.loop-step.page) (still.state told) in
+    let looks2 = looks_next T E false (pages_of view c.args.pages.now) (pages_of (V c.loop-step.pages.store) c.loop-step.pages) (pages_of (V c.fetch_page.new.pages.store) c.fetch_page.new.pages) inv.looks c.in-Ok.ensures.looks in
+    let same2 = λ (told : IsTrue g.S.EawStore.tells). (looks2.still refl).state told in
+    let slots = λ (told : IsTrue g.S.EawStore.tells) (says : SaysSuper (page_bytes b 0) c.args.front.now). says.next_slot ∙ ap (λ (s : State). next_slot s.bytes) (sym (same2 told)) in
+    let well = λ (told : IsTrue g.S.EawStore.tells) (says : SaysSuper (page_bytes b 0) c.args.front.now).
+    (let r : Result (Option ℕ) CheckFault = Ok c.in-Ok-check_pairs.last in
+    subst (λ (s : State). IsVerdict (pairs_check s.bytes c.args.table c.loop-step.page (low_of c.loop-step.last) (pairs_said c.fetch_page.new.bytes)) r) (same2 told) (c.in-Ok-check_pairs.ensures.cause told (slots told says))) in
+    (λ told says. link_ends b c.fetch_page.new.bytes c.args.root c.args.table c.loop-step.page (low_of c.loop-step.last) n (buf told) (left told says) c.in-Some.ensures.head (well told says) (sym c.in-Some.ensures.says.link ∙ c.if-head-eq0.true))
+
+pub returns-then-head-lt2-clause-cause : goal.returns-then-head-lt2-clause-cause
+returns-then-head-lt2-clause-cause g c =
+    let T = g.S.EawStore.tells in
+    let V = g.S.EawStore.view in
+    let E = g.S.EawStore.opens in
+    let view = V c.args.pages.now.store in
+    let b = view.state.bytes in
+    let inv = c.loop-step.invariant in
+    let still = inv.looks.still refl in
+    let alive : IsAlive view = sym still.dead ∙ inv.alive in
+    let n = c.args.front.now.next_page - suc c.loop-step._step in
+    let left = λ (told : IsTrue g.S.EawStore.tells) (says : SaysSuper (page_bytes b 0) c.args.front.now). subst (λ (m : ℕ). ChainLeft b c.args.root c.args.table c.loop-step.page (low_of c.loop-step.last) m)
+    (let e : c.args.front.now.next_page - c.loop-step._step ≡ suc (c.args.front.now.next_page - suc c.loop-step._step) = omega (arith, c.loop-step-test.true) in e) (inv.left told says) in
+    let buf = λ (told : IsTrue g.S.EawStore.tells). c.in-Ok.ensures.bytes told ∙ ap (λ (s : State). page_bytes s.bytes c.loop-step.page) (still.state told) in
+    let looks2 = looks_next T E false (pages_of view c.args.pages.now) (pages_of (V c.loop-step.pages.store) c.loop-step.pages) (pages_of (V c.fetch_page.new.pages.store) c.fetch_page.new.pages) inv.looks c.in-Ok.ensures.looks in
+    let same2 = λ (told : IsTrue g.S.EawStore.tells). (looks2.still refl).state told in
+    let slots = λ (told : IsTrue g.S.EawStore.tells) (says : SaysSuper (page_bytes b 0) c.args.front.now). says.next_slot ∙ ap (λ (s : State). next_slot s.bytes) (sym (same2 told)) in
+    let well = λ (told : IsTrue g.S.EawStore.tells) (says : SaysSuper (page_bytes b 0) c.args.front.now).
+    (let r : Result (Option ℕ) CheckFault = Ok c.in-Ok-check_pairs.last in
+    subst (λ (s : State). IsVerdict (pairs_check s.bytes c.args.table c.loop-step.page (low_of c.loop-step.last) (pairs_said c.fetch_page.new.bytes)) r) (same2 told) (c.in-Ok-check_pairs.ensures.cause told (slots told says))) in
+    (λ told says. link_fails b c.fetch_page.new.bytes c.args.root c.args.table c.loop-step.page (low_of c.loop-step.last) n (buf told) (left told says) c.in-Some.ensures.head (well told says)
+    (λ e. c.if-head-eq0.false (c.in-Some.ensures.says.link ∙ e)) (λ to. omega (arith, to.0, c.if-head-lt2.true, c.in-Some.ensures.says.link)))
+
+pub returns-then-head-front-clause-cause : goal.returns-then-head-front-clause-cause
+returns-then-head-front-clause-cause g c =
+    let T = g.S.EawStore.tells in
+    let V = g.S.EawStore.view in
+    let E = g.S.EawStore.opens in
+    let view = V c.args.pages.now.store in
+    let b = view.state.bytes in
+    let inv = c.loop-step.invariant in
+    let still = inv.looks.still refl in
+    let alive : IsAlive view = sym still.dead ∙ inv.alive in
+    let n = c.args.front.now.next_page - suc c.loop-step._step in
+    let left = λ (told : IsTrue g.S.EawStore.tells) (says : SaysSuper (page_bytes b 0) c.args.front.now). subst (λ (m : ℕ). ChainLeft b c.args.root c.args.table c.loop-step.page (low_of c.loop-step.last) m)
+    (let e : c.args.front.now.next_page - c.loop-step._step ≡ suc (c.args.front.now.next_page - suc c.loop-step._step) = omega (arith, c.loop-step-test.true) in e) (inv.left told says) in
+    let buf = λ (told : IsTrue g.S.EawStore.tells). c.in-Ok.ensures.bytes told ∙ ap (λ (s : State). page_bytes s.bytes c.loop-step.page) (still.state told) in
+    let looks2 = looks_next T E false (pages_of view c.args.pages.now) (pages_of (V c.loop-step.pages.store) c.loop-step.pages) (pages_of (V c.fetch_page.new.pages.store) c.fetch_page.new.pages) inv.looks c.in-Ok.ensures.looks in
+    let same2 = λ (told : IsTrue g.S.EawStore.tells). (looks2.still refl).state told in
+    let slots = λ (told : IsTrue g.S.EawStore.tells) (says : SaysSuper (page_bytes b 0) c.args.front.now). says.next_slot ∙ ap (λ (s : State). next_slot s.bytes) (sym (same2 told)) in
+    let well = λ (told : IsTrue g.S.EawStore.tells) (says : SaysSuper (page_bytes b 0) c.args.front.now).
+    (let r : Result (Option ℕ) CheckFault = Ok c.in-Ok-check_pairs.last in
+    subst (λ (s : State). IsVerdict (pairs_check s.bytes c.args.table c.loop-step.page (low_of c.loop-step.last) (pairs_said c.fetch_page.new.bytes)) r) (same2 told) (c.in-Ok-check_pairs.ensures.cause told (slots told says))) in
+    (λ told says. link_fails b c.fetch_page.new.bytes c.args.root c.args.table c.loop-step.page (low_of c.loop-step.last) n (buf told) (left told says) c.in-Some.ensures.head (well told says)
+    (λ e. c.if-head-eq0.false (c.in-Some.ensures.says.link ∙ e)) (λ to. omega (arith, to.1, c.if-head-front.true, c.in-Some.ensures.says.link, says.next_page)))
+
+pub loop-step-preserved : goal.loop-step-preserved
+loop-step-preserved g c =
+    let T = g.S.EawStore.tells in
+    let V = g.S.EawStore.view in
+    let E = g.S.EawStore.opens in
+    let view = V c.args.pages.now.store in
+    let b = view.state.bytes in
+    let inv = c.loop-step.invariant in
+    let still = inv.looks.still refl in
+    let alive : IsAlive view = sym still.dead ∙ inv.alive in
+    let n = c.args.front.now.next_page - suc c.loop-step._step in
+    let left = λ (told : IsTrue g.S.EawStore.tells) (says : SaysSuper (page_bytes b 0) c.args.front.now). subst (λ (m : ℕ). ChainLeft b c.args.root c.args.table c.loop-step.page (low_of c.loop-step.last) m)
+    (let e : c.args.front.now.next_page - c.loop-step._step ≡ suc (c.args.front.now.next_page - suc c.loop-step._step) = omega (arith, c.loop-step-test.true) in e) (inv.left told says) in
+    let buf = λ (told : IsTrue g.S.EawStore.tells). c.in-Ok.ensures.bytes told ∙ ap (λ (s : State). page_bytes s.bytes c.loop-step.page) (still.state told) in
+    let looks2 = looks_next T E false (pages_of view c.args.pages.now) (pages_of (V c.loop-step.pages.store) c.loop-step.pages) (pages_of (V c.fetch_page.new.pages.store) c.fetch_page.new.pages) inv.looks c.in-Ok.ensures.looks in
+    let same2 = λ (told : IsTrue g.S.EawStore.tells). (looks2.still refl).state told in
+    let slots = λ (told : IsTrue g.S.EawStore.tells) (says : SaysSuper (page_bytes b 0) c.args.front.now). says.next_slot ∙ ap (λ (s : State). next_slot s.bytes) (sym (same2 told)) in
+    let well = λ (told : IsTrue g.S.EawStore.tells) (says : SaysSuper (page_bytes b 0) c.args.front.now).
+    (let r : Result (Option ℕ) CheckFault = Ok c.in-Ok-check_pairs.last in
+    subst (λ (s : State). IsVerdict (pairs_check s.bytes c.args.table c.loop-step.page (low_of c.loop-step.last) (pairs_said c.fetch_page.new.bytes)) r) (same2 told) (c.in-Ok-check_pairs.ensures.cause told (slots told says))) in
+    let looks3 = looks_next T E false (pages_of view c.args.pages.now) (pages_of (V c.fetch_page.new.pages.store) c.fetch_page.new.pages) (pages_of (V c.check_pairs.new.pages.store) c.check_pairs.new.pages) looks2 c.in-Ok-check_pairs.ensures.looks in
+    record {
+      inside = omega (arith, c.if-head-front.false, c.requires.front.pages);
+      looks = looks3;
+      alive = (looks3.still refl).dead ∙ alive;
+      low = c.in-Ok-check_pairs.ensures.low;
+      left = λ told says.
+          let next = link_on b c.fetch_page.new.bytes c.args.root c.args.table c.loop-step.page (low_of c.loop-step.last) n (buf told) (left told says) c.in-Some.ensures.head (well told says) (λ e. c.if-head-eq0.false (c.in-Some.ensures.says.link ∙ e)) c.in-Ok-check_pairs.last c.in-Ok-check_pairs.ensures.behind
+          (omega (arith, c.if-head-lt2.false, c.in-Some.ensures.says.link), omega (arith, c.if-head-front.false, c.in-Some.ensures.says.link, says.next_page)) in
+          subst (λ (x : ℕ). ChainLeft b c.args.root c.args.table x (low_of c.in-Ok-check_pairs.last) (c.args.front.now.next_page - (c.loop-step._step + 1))) (sym c.in-Some.ensures.says.link)
+          (subst (λ (m : ℕ). ChainLeft b c.args.root c.args.table (link_said c.fetch_page.new.bytes) (low_of c.in-Ok-check_pairs.last) (c.args.front.now.next_page - m)) (let e : suc c.loop-step._step ≡ c.loop-step._step + 1 = omega arith in e) next);
+    }
+
+pub returns-clause-cause : goal.returns-clause-cause
+returns-clause-cause g c =
+    let T = g.S.EawStore.tells in
+    let V = g.S.EawStore.view in
+    let E = g.S.EawStore.opens in
+    let view = V c.args.pages.now.store in
+    let b = view.state.bytes in
+    let inv = c.loop-step.invariant in
+    let still = inv.looks.still refl in
+    let alive : IsAlive view = sym still.dead ∙ inv.alive in
+    (λ told says. chain_none b c.args.root c.args.table c.loop-step.page (low_of c.loop-step.last) (c.args.front.now.next_page - c.loop-step._step) (omega (arith, c.loop-step-test.false)) (inv.left told says))
+
+pub loop-step-init : goal.loop-step-init
+loop-step-init g c =
+    let view = g.S.EawStore.view c.args.pages.now.store in
+    record {
+      inside = c.requires.root;
+      looks = looks_none g.S.EawStore.tells (g.S.EawStore.opens view.shape) (pages_of view c.args.pages.now);
+      alive = c.requires.alive;
+      low = omega arith;
+      left = λ told says. subst (λ (m : ℕ). ChainLeft view.state.bytes c.args.root c.args.table c.args.root 0 m) (let e : next_page view.state.bytes ≡ c.args.front.now.next_page - 0 = omega (arith, says.next_page) in e)
+          (λ verdict rest. rest);
+    }
+
+pub returns-in_default-clause-looks : goal.returns-in_default-clause-looks
+returns-in_default-clause-looks g c = looks_next g.S.EawStore.tells g.S.EawStore.opens false (pages_of (g.S.EawStore.view c.args.pages.now.store) c.args.pages.now) (pages_of (g.S.EawStore.view c.loop-step.pages.store) c.loop-step.pages) (pages_of (g.S.EawStore.view c.fetch_page.new.pages.store) c.fetch_page.new.pages) c.loop-step.invariant.looks c.in-Ok.ensures.looks
+
+pub returns-in_default-clause-dead : goal.returns-in_default-clause-dead
+returns-in_default-clause-dead g c = λ is. cc
+
+pub returns-then-head-eq0-clause-looks : goal.returns-then-head-eq0-clause-looks
+returns-then-head-eq0-clause-looks g c = looks_next g.S.EawStore.tells g.S.EawStore.opens false (pages_of (g.S.EawStore.view c.args.pages.now.store) c.args.pages.now) (pages_of (g.S.EawStore.view c.fetch_page.new.pages.store) c.fetch_page.new.pages) (pages_of (g.S.EawStore.view c.check_pairs.new.pages.store) c.check_pairs.new.pages) (looks_next g.S.EawStore.tells g.S.EawStore.opens false (pages_of (g.S.EawStore.view c.args.pages.now.store) c.args.pages.now) (pages_of (g.S.EawStore.view c.loop-step.pages.store) c.loop-step.pages) (pages_of (g.S.EawStore.view c.fetch_page.new.pages.store) c.fetch_page.new.pages) c.loop-step.invariant.looks c.in-Ok.ensures.looks) c.in-Ok-check_pairs.ensures.looks
+
+pub returns-then-head-eq0-clause-dead : goal.returns-then-head-eq0-clause-dead
+returns-then-head-eq0-clause-dead g c = λ is. cc
+
+pub returns-then-head-lt2-clause-looks : goal.returns-then-head-lt2-clause-looks
+returns-then-head-lt2-clause-looks g c = looks_next g.S.EawStore.tells g.S.EawStore.opens false (pages_of (g.S.EawStore.view c.args.pages.now.store) c.args.pages.now) (pages_of (g.S.EawStore.view c.fetch_page.new.pages.store) c.fetch_page.new.pages) (pages_of (g.S.EawStore.view c.check_pairs.new.pages.store) c.check_pairs.new.pages) (looks_next g.S.EawStore.tells g.S.EawStore.opens false (pages_of (g.S.EawStore.view c.args.pages.now.store) c.args.pages.now) (pages_of (g.S.EawStore.view c.loop-step.pages.store) c.loop-step.pages) (pages_of (g.S.EawStore.view c.fetch_page.new.pages.store) c.fetch_page.new.pages) c.loop-step.invariant.looks c.in-Ok.ensures.looks) c.in-Ok-check_pairs.ensures.looks
+
+pub returns-then-head-lt2-clause-dead : goal.returns-then-head-lt2-clause-dead
+returns-then-head-lt2-clause-dead g c = λ is. cc
+
+pub returns-then-head-front-clause-looks : goal.returns-then-head-front-clause-looks
+returns-then-head-front-clause-looks g c = looks_next g.S.EawStore.tells g.S.EawStore.opens false (pages_of (g.S.EawStore.view c.args.pages.now.store) c.args.pages.now) (pages_of (g.S.EawStore.view c.fetch_page.new.pages.store) c.fetch_page.new.pages) (pages_of (g.S.EawStore.view c.check_pairs.new.pages.store) c.check_pairs.new.pages) (looks_next g.S.EawStore.tells g.S.EawStore.opens false (pages_of (g.S.EawStore.view c.args.pages.now.store) c.args.pages.now) (pages_of (g.S.EawStore.view c.loop-step.pages.store) c.loop-step.pages) (pages_of (g.S.EawStore.view c.fetch_page.new.pages.store) c.fetch_page.new.pages) c.loop-step.invariant.looks c.in-Ok.ensures.looks) c.in-Ok-check_pairs.ensures.looks
+
+pub returns-then-head-front-clause-dead : goal.returns-then-head-front-clause-dead
+returns-then-head-front-clause-dead g c = λ is. cc
+
+pub returns-clause-looks : goal.returns-clause-looks
+returns-clause-looks g c = c.loop-step.invariant.looks
+
+pub returns-clause-dead : goal.returns-clause-dead
+returns-clause-dead g c = λ is. cc

@@ -1,0 +1,89 @@
+use Rattle.std.proofs.Common.{◌≡◌, ◌+◌, ◌≤◌, ℕ, false, Some, None, Ok, Err, Result, refl, sym, ◌∙◌, ap, subst, arith}
+use Rattle.array_shape.specs.declared.shape.Shape.{Shape}
+use Rattle.eaw_face.specs.State.{State}
+use Rattle.record_slots.specs.Places.{page_bytes, tables_of}
+use Rattle.record_slots.specs.Super.{SaysSuper}
+use Rattle.page_store.specs.Shown.{pages_of}
+use Rattle.page_store.specs.declared.index_fault.CheckFault.{CheckFault}
+use Rattle.index_pages.specs.Fetched.{IsFront}
+use Rattle.index_pages.specs.Slots.{IsVerdict}
+use Rattle.index_pages.proofs.Looking.{looks_none, looks_next}
+use Rattle.index_pages.proofs.Tabled.{table_own}
+use Rattle.index_pages.proofs.Tables.{all_left, tables_none, tables_step, tables_fail, root_says, tables_end}
+use Rattle.index_pages.proofs.Tests.{not_damaged, not_passed}
+use Rattle.key_list.specs.Chain.{chain_check}
+use Rattle.key_list.proofs.checking.check_tables.Goals as goal
+
+pub loop-table-init : goal.loop-table-init
+loop-table-init g c = record {
+  looks = looks_none g.S.EawStore.tells (g.S.EawStore.opens (g.S.EawStore.view c.args.pages.now.store).shape) (pages_of (g.S.EawStore.view c.args.pages.now.store) c.args.pages.now);
+  alive = c.requires.alive;
+  left = λ told says. all_left (chain_check (g.S.EawStore.view c.args.pages.now.store).state.bytes) (tables_of (g.S.EawStore.view c.args.pages.now.store).state.bytes);
+}
+
+pub returns-in_default-clause-cause : goal.returns-in_default-clause-cause
+returns-in_default-clause-cause g c = λ told says.
+    tables_none (chain_check (g.S.EawStore.view c.args.pages.now.store).state.bytes) (tables_of (g.S.EawStore.view c.args.pages.now.store).state.bytes) c.loop-table.table (c.loop-table.invariant.left told says)
+    (root_says (g.S.EawStore.view c.args.pages.now.store).state.bytes c.args.front.now c.loop-table.table says ∙ sym c.table_root.ensures ∙ c.in_default.is)
+
+pub returns-then-root-front-clause-cause : goal.returns-then-root-front-clause-cause
+returns-then-root-front-clause-cause g c = λ told says.
+    let own = table_own 0 (g.S.EawStore.view c.args.pages.now.store).state.bytes c.loop-table.table c.in-Some.root (c.requires.sound told) (root_says (g.S.EawStore.view c.args.pages.now.store).state.bytes c.args.front.now c.loop-table.table says ∙ sym c.table_root.ensures ∙ c.in-Some.is) in
+    absurd (omega (arith, own.1, says.next_page, c.if-root-front.true))
+
+pub check_table-requires : goal.check_table-requires
+check_table-requires g c =
+    let shape = c.loop-table.invariant.looks.shape in
+    let front = subst (λ (s : Shape). IsFront s c.args.front.now) (sym shape) c.requires.front in
+    record { alive = c.loop-table.invariant.alive; front = front; root = omega (arith, c.if-root-front.false, front.pages) }
+
+pub returns-in-Err-clause-cause : goal.returns-in-Err-clause-cause
+returns-in-Err-clause-cause g c = λ told says.
+    let same = (c.loop-table.invariant.looks.still refl).state told in
+    let e : Result (Unit {0}) CheckFault = Err c.in-Err.fault in
+    let cause = c.in-Err.ensures.cause told (subst (λ (s : State). SaysSuper (page_bytes s.bytes 0) c.args.front.now) (sym same) says) in
+    tables_fail (chain_check (g.S.EawStore.view c.args.pages.now.store).state.bytes) (tables_of (g.S.EawStore.view c.args.pages.now.store).state.bytes) c.loop-table.table (c.loop-table.invariant.left told says) c.in-Some.root
+    (root_says (g.S.EawStore.view c.args.pages.now.store).state.bytes c.args.front.now c.loop-table.table says ∙ sym c.table_root.ensures ∙ c.in-Some.is) c.in-Err.fault
+    (subst (λ (s : State). IsVerdict (chain_check s.bytes c.in-Some.root c.loop-table.table) e) same cause)
+
+pub loop-table-preserved : goal.loop-table-preserved
+loop-table-preserved g c =
+    record {
+      looks = looks_next g.S.EawStore.tells g.S.EawStore.opens false (pages_of (g.S.EawStore.view c.args.pages.now.store) c.args.pages.now) (pages_of (g.S.EawStore.view c.loop-table.pages.store) c.loop-table.pages) (pages_of (g.S.EawStore.view c.check_table.new.pages.store) c.check_table.new.pages) c.loop-table.invariant.looks c.in-Ok.ensures.looks;
+      alive = (c.in-Ok.ensures.looks.still refl).dead ∙ c.loop-table.invariant.alive;
+      left = λ told says.
+          let same = (c.loop-table.invariant.looks.still refl).state told in
+          let r : Result (Unit {0}) CheckFault = Ok tt in
+          let cause = c.in-Ok.ensures.cause told (subst (λ (s : State). SaysSuper (page_bytes s.bytes 0) c.args.front.now) (sym same) says) in
+          tables_step (chain_check (g.S.EawStore.view c.args.pages.now.store).state.bytes) (tables_of (g.S.EawStore.view c.args.pages.now.store).state.bytes) c.loop-table.table (c.loop-table.invariant.left told says) c.in-Some.root
+          (root_says (g.S.EawStore.view c.args.pages.now.store).state.bytes c.args.front.now c.loop-table.table says ∙ sym c.table_root.ensures ∙ c.in-Some.is)
+          (subst (λ (s : State). IsVerdict (chain_check s.bytes c.in-Some.root c.loop-table.table) r) same cause);
+    }
+
+pub returns-clause-cause : goal.returns-clause-cause
+returns-clause-cause g c = λ told says.
+    tables_end (chain_check (g.S.EawStore.view c.args.pages.now.store).state.bytes) (g.S.EawStore.view c.args.pages.now.store).state.bytes c.loop-table.table (omega (arith, c.loop-table-test.false)) (c.loop-table.invariant.left told says)
+
+pub returns-in-Err-clause-looks : goal.returns-in-Err-clause-looks
+returns-in-Err-clause-looks g c = looks_next g.S.EawStore.tells g.S.EawStore.opens _ (pages_of (g.S.EawStore.view c.args.pages.now.store) c.args.pages.now) (pages_of (g.S.EawStore.view c.loop-table.pages.store) c.loop-table.pages) (pages_of (g.S.EawStore.view c.check_table.new.pages.store) c.check_table.new.pages) c.loop-table.invariant.looks c.in-Err.ensures.looks
+
+pub returns-in-Err-clause-dead : goal.returns-in-Err-clause-dead
+returns-in-Err-clause-dead g c = c.in-Err.ensures.dead
+
+pub returns-in_default-clause-looks : goal.returns-in_default-clause-looks
+returns-in_default-clause-looks g c = c.loop-table.invariant.looks
+
+pub returns-in_default-clause-dead : goal.returns-in_default-clause-dead
+returns-in_default-clause-dead g c = λ told. not_passed told
+
+pub returns-then-root-front-clause-looks : goal.returns-then-root-front-clause-looks
+returns-then-root-front-clause-looks g c = c.loop-table.invariant.looks
+
+pub returns-then-root-front-clause-dead : goal.returns-then-root-front-clause-dead
+returns-then-root-front-clause-dead g c = λ told. not_damaged _ told
+
+pub returns-clause-looks : goal.returns-clause-looks
+returns-clause-looks g c = c.loop-table.invariant.looks
+
+pub returns-clause-dead : goal.returns-clause-dead
+returns-clause-dead g c = λ told. not_passed told

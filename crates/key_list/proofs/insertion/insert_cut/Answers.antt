@@ -1,0 +1,166 @@
+use Rattle.std.proofs.Common.{◌≡◌, ◌^◌, ◌<◌, ◌≤◌, ℕ, Option, Result, Err, false, IsTrue, refl, sym, ◌∙◌, ap, subst, arith}
+use Rattle.std.proofs.lemmas.Bool.{false≢true}
+use Rattle.array_shape.specs.declared.shape.Shape.{Shape}
+use Rattle.page_store.specs.Index.{index_pages_of}
+use Rattle.page_store.specs.Inserts.{Inserts}
+use Rattle.page_store.specs.Shown.{pages_of}
+use Rattle.page_store.specs.declared.index_fault.IndexFault.{IndexFault}
+use Rattle.index_pages.specs.declared.taking.Claim.{Claim}
+use Rattle.index_pages.proofs.Claims.{free_pages_pass}
+use Rattle.index_pages.proofs.Faulting.{look_of_index, act_of_index, dead_fault, dead_act, not_full}
+use Rattle.key_list.specs.Index.{chain}
+use Rattle.key_list.specs.Located.{IsLocated, cutting_pages}
+use Rattle.key_list.proofs.Others.{whole_of}
+use Rattle.key_list.proofs.Whole.{pages_full, page_err, cut_err, going3, living3, sound3, named3, absent3, located3, room3, slot3, said3, cut_then}
+use Rattle.key_list.proofs.insertion.insert_cut.Goals as goal
+
+pub has_page-requires : goal.has_page-requires
+has_page-requires g c =
+    subst (λ (k : ℕ). c.args.at.front.next_page ≤ k) (sym c.index_page_count-count.ensures.count) c.requires.located.front_is.pages
+
+pub returns-then-not-has_page-clause-inserts : goal.returns-then-not-has_page-clause-inserts
+returns-then-not-has_page-clause-inserts g c =
+    let T = g.S.EawStore.tells in
+    let V = g.S.EawStore.view in
+    let E = g.S.EawStore.opens in
+    let t = c.args.tid in
+    let root = c.args.root in
+    let table = c.args.table in
+    let key = c.args.key in
+    let v0 = pages_of (V c.args.pages.now.store) c.args.pages.now in
+    let n = c.index_page_count-count.ensures in
+    let at = c.args.at in
+    let small : c.args.key < 2 ^ 64 = omega arith in
+    let long = λ (told : IsTrue g.S.EawStore.tells). g.met.S.EawStore.long c.args.pages.now.store told in
+    pages_full T E t root table key v0 c.index_page_count-count.result n.count n.all n.most small c.requires.table c.requires.sound c.requires.named c.requires.absent long c.requires.alive at.front at.page at.link at.pairs.items c.requires.located c.requires.said c.requires.slot c.requires.full (λ has. false≢true (c.if-not-has_page.ensures.1 has))
+
+pub returns-then-not-has_page-clause-dead : goal.returns-then-not-has_page-clause-dead
+returns-then-not-has_page-clause-dead g c =
+    λ told. not_full _ told
+
+pub take_page-requires : goal.take_page-requires
+take_page-requires g c =
+    record {
+      alive = c.requires.alive;
+      front = c.requires.located.front_is;
+      left = λ none. subst (λ (k : ℕ). c.args.at.front.next_page < k) c.index_page_count-count.ensures.count (c.if-not-has_page.ensures.0 refl none);
+      sound = λ told. free_pages_pass (g.S.EawStore.view c.args.pages.now.store).state.bytes c.args.at.front (whole_of (g.S.EawStore.view c.args.pages.now.store).state.bytes (c.requires.sound told)).pages (c.requires.said told).front_says;
+    }
+
+pub returns-in-Err-clause-inserts : goal.returns-in-Err-clause-inserts
+returns-in-Err-clause-inserts g c =
+    let T = g.S.EawStore.tells in
+    let V = g.S.EawStore.view in
+    let E = g.S.EawStore.opens in
+    let t = c.args.tid in
+    let root = c.args.root in
+    let table = c.args.table in
+    let key = c.args.key in
+    let v0 = pages_of (V c.args.pages.now.store) c.args.pages.now in
+    let n = c.index_page_count-count.ensures in
+    let at = c.args.at in
+    let small : c.args.key < 2 ^ 64 = omega arith in
+    let long = λ (told : IsTrue g.S.EawStore.tells). g.met.S.EawStore.long c.args.pages.now.store told in
+    let v1 = pages_of (V c.take_page.new.pages.store) c.take_page.new.pages in
+    subst (λ (f : IndexFault). (let r : Result ℕ IndexFault = Err f in Inserts T (E v0.store.shape) chain t root table key v0 v1 r)) (sym c.index_fault.ensures)
+    (page_err T E t root table key v0 c.index_page_count-count.result n.count n.all n.most small c.requires.table c.requires.sound c.requires.named c.requires.absent long c.requires.alive at.front at.page at.link at.pairs.items c.requires.located c.requires.said c.requires.slot c.requires.full Claim v1 c.in-Err.fault (c.in-Err.ensures.looks, c.in-Err.ensures.cause))
+
+pub returns-in-Err-clause-dead : goal.returns-in-Err-clause-dead
+returns-in-Err-clause-dead g c =
+    λ told. c.in-Err.ensures.dead (ap Err (dead_fault c.in-Err.fault c.index_fault.result (look_of_index Claim g.S.EawStore.tells (g.S.EawStore.view c.args.pages.now.store) c.in-Err.fault c.in-Err.ensures.cause) c.index_fault.ensures told))
+
+pub cut_page-requires : goal.cut_page-requires
+cut_page-requires g c =
+    let looks = c.in-Ok.ensures.looks in
+    record {
+      tid = subst (λ (sh : Shape). c.args.tid < sh.numbers) (sym looks.shape) c.requires.tid;
+      closed = λ running. ap (λ (f : ℕ → Option ℕ). f c.args.tid) looks.tops ∙ c.requires.closed;
+      located = subst (λ (sh : Shape). IsLocated sh c.args.at.front c.args.at.page c.args.at.link c.args.at.pairs.items) (sym looks.shape) c.requires.located;
+      full = c.requires.full;
+      next = subst (λ (sh : Shape). c.in-Ok.taken.number < index_pages_of sh) (sym looks.shape) c.in-Ok.ensures.inside.1;
+    }
+
+pub returns-in-Err-cut_page-clause-inserts : goal.returns-in-Err-cut_page-clause-inserts
+returns-in-Err-cut_page-clause-inserts g c =
+    let T = g.S.EawStore.tells in
+    let V = g.S.EawStore.view in
+    let E = g.S.EawStore.opens in
+    let t = c.args.tid in
+    let root = c.args.root in
+    let table = c.args.table in
+    let key = c.args.key in
+    let v0 = pages_of (V c.args.pages.now.store) c.args.pages.now in
+    let n = c.index_page_count-count.ensures in
+    let at = c.args.at in
+    let small : c.args.key < 2 ^ 64 = omega arith in
+    let long = λ (told : IsTrue g.S.EawStore.tells). g.met.S.EawStore.long c.args.pages.now.store told in
+    let v1 = pages_of (V c.take_page.new.pages.store) c.take_page.new.pages in
+    let taken = c.in-Ok.taken in
+    let v2 = pages_of (V c.cut_page.new.pages.store) c.cut_page.new.pages in
+    subst (λ (f : IndexFault). (let r : Result ℕ IndexFault = Err f in Inserts T (E v0.store.shape) chain t root table key v0 v2 r)) (sym c.index_fault-in-Err-cut_page.ensures)
+    (cut_err T E t root table key v0 c.index_page_count-count.result n.count n.all n.most small c.requires.table c.requires.sound c.requires.named c.requires.absent long c.requires.alive at.front at.page at.link at.pairs.items c.requires.located c.requires.said c.requires.slot c.requires.full (c.if-not-has_page.ensures.0 refl) v1 c.in-Ok.ensures.looks taken.front taken.number c.in-Ok.ensures.takes c.in-Ok.ensures.inside c.in-Ok.ensures.front c.in-Ok.ensures.slots v2 c.in-Err-cut_page.fault c.in-Err-cut_page.ensures.acts)
+
+pub returns-in-Err-cut_page-clause-dead : goal.returns-in-Err-cut_page-clause-dead
+returns-in-Err-cut_page-clause-dead g c =
+    let V = g.S.EawStore.view in
+    let v1 = pages_of (V c.take_page.new.pages.store) c.take_page.new.pages in
+    let ps = cutting_pages c.in-Ok.taken.number c.args.at.page in
+    λ told. dead_act v1.store c.args.tid ps c.in-Err-cut_page.fault ((c.in-Ok.ensures.looks.still refl).dead ∙ c.requires.alive)
+    (dead_fault c.in-Err-cut_page.fault c.index_fault-in-Err-cut_page.result (act_of_index v1.store c.args.tid ps c.in-Err-cut_page.fault c.in-Err-cut_page.ensures.acts.cause) c.index_fault-in-Err-cut_page.ensures told) c.in-Err-cut_page.ensures.acts.cause
+
+pub insert_here-requires : goal.insert_here-requires
+insert_here-requires g c =
+    let T = g.S.EawStore.tells in
+    let V = g.S.EawStore.view in
+    let E = g.S.EawStore.opens in
+    let t = c.args.tid in
+    let root = c.args.root in
+    let table = c.args.table in
+    let key = c.args.key in
+    let v0 = pages_of (V c.args.pages.now.store) c.args.pages.now in
+    let n = c.index_page_count-count.ensures in
+    let at = c.args.at in
+    let small : c.args.key < 2 ^ 64 = omega arith in
+    let long = λ (told : IsTrue g.S.EawStore.tells). g.met.S.EawStore.long c.args.pages.now.store told in
+    let v1 = pages_of (V c.take_page.new.pages.store) c.take_page.new.pages in
+    let taken = c.in-Ok.taken in
+    let v2 = pages_of (V c.cut_page.new.pages.store) c.cut_page.new.pages in
+    let half = c.half_of-half in
+    record {
+      tid = subst (λ (sh : Shape). c.args.tid < sh.numbers) (sym (going3 T E t root table key v0 c.index_page_count-count.result n.count n.all n.most small c.requires.table c.requires.sound c.requires.named c.requires.absent long c.requires.alive at.front at.page at.link at.pairs.items c.requires.located c.requires.said c.requires.slot c.requires.full (c.if-not-has_page.ensures.0 refl) v1 c.in-Ok.ensures.looks taken.front taken.number c.in-Ok.ensures.takes c.in-Ok.ensures.inside c.in-Ok.ensures.front c.in-Ok.ensures.slots v2 c.in-Ok-cut_page.ensures.acts).shape) c.requires.tid;
+      table = c.requires.table;
+      closed = ap (λ (f : ℕ → Option ℕ). f c.args.tid) (going3 T E t root table key v0 c.index_page_count-count.result n.count n.all n.most small c.requires.table c.requires.sound c.requires.named c.requires.absent long c.requires.alive at.front at.page at.link at.pairs.items c.requires.located c.requires.said c.requires.slot c.requires.full (c.if-not-has_page.ensures.0 refl) v1 c.in-Ok.ensures.looks taken.front taken.number c.in-Ok.ensures.takes c.in-Ok.ensures.inside c.in-Ok.ensures.front c.in-Ok.ensures.slots v2 c.in-Ok-cut_page.ensures.acts).logs.tops ∙ c.requires.closed;
+      alive = living3 T E t root table key v0 c.index_page_count-count.result n.count n.all n.most small c.requires.table c.requires.sound c.requires.named c.requires.absent long c.requires.alive at.front at.page at.link at.pairs.items c.requires.located c.requires.said c.requires.slot c.requires.full (c.if-not-has_page.ensures.0 refl) v1 c.in-Ok.ensures.looks taken.front taken.number c.in-Ok.ensures.takes c.in-Ok.ensures.inside c.in-Ok.ensures.front c.in-Ok.ensures.slots v2 c.in-Ok-cut_page.ensures.acts;
+      sound = sound3 T E t root table key v0 c.index_page_count-count.result n.count n.all n.most small c.requires.table c.requires.sound c.requires.named c.requires.absent long c.requires.alive at.front at.page at.link at.pairs.items c.requires.located c.requires.said c.requires.slot c.requires.full (c.if-not-has_page.ensures.0 refl) v1 c.in-Ok.ensures.looks taken.front taken.number c.in-Ok.ensures.takes c.in-Ok.ensures.inside c.in-Ok.ensures.front c.in-Ok.ensures.slots v2 c.in-Ok-cut_page.ensures.acts;
+      named = named3 T E t root table key v0 c.index_page_count-count.result n.count n.all n.most small c.requires.table c.requires.sound c.requires.named c.requires.absent long c.requires.alive at.front at.page at.link at.pairs.items c.requires.located c.requires.said c.requires.slot c.requires.full (c.if-not-has_page.ensures.0 refl) v1 c.in-Ok.ensures.looks taken.front taken.number c.in-Ok.ensures.takes c.in-Ok.ensures.inside c.in-Ok.ensures.front c.in-Ok.ensures.slots v2 c.in-Ok-cut_page.ensures.acts;
+      absent = absent3 T E t root table key v0 c.index_page_count-count.result n.count n.all n.most small c.requires.table c.requires.sound c.requires.named c.requires.absent long c.requires.alive at.front at.page at.link at.pairs.items c.requires.located c.requires.said c.requires.slot c.requires.full (c.if-not-has_page.ensures.0 refl) v1 c.in-Ok.ensures.looks taken.front taken.number c.in-Ok.ensures.takes c.in-Ok.ensures.inside c.in-Ok.ensures.front c.in-Ok.ensures.slots v2 c.in-Ok-cut_page.ensures.acts;
+      located = located3 T E t root table key v0 c.index_page_count-count.result n.count n.all n.most small c.requires.table c.requires.sound c.requires.named c.requires.absent long c.requires.alive at.front at.page at.link at.pairs.items c.requires.located c.requires.said c.requires.slot c.requires.full (c.if-not-has_page.ensures.0 refl) v1 c.in-Ok.ensures.looks taken.front taken.number c.in-Ok.ensures.takes c.in-Ok.ensures.inside c.in-Ok.ensures.front c.in-Ok.ensures.slots v2 c.in-Ok-cut_page.ensures.acts half.result.front half.result.page half.result.link half.result.pairs.items half.ensures.front half.ensures.page half.ensures.link half.ensures.pairs;
+      said = said3 T E t root table key v0 c.index_page_count-count.result n.count n.all n.most small c.requires.table c.requires.sound c.requires.named c.requires.absent long c.requires.alive at.front at.page at.link at.pairs.items c.requires.located c.requires.said c.requires.slot c.requires.full (c.if-not-has_page.ensures.0 refl) v1 c.in-Ok.ensures.looks taken.front taken.number c.in-Ok.ensures.takes c.in-Ok.ensures.inside c.in-Ok.ensures.front c.in-Ok.ensures.slots v2 c.in-Ok-cut_page.ensures.acts half.result.front half.result.page half.result.link half.result.pairs.items half.ensures.front half.ensures.page half.ensures.link half.ensures.pairs;
+      slot = slot3 T E t root table key v0 c.index_page_count-count.result n.count n.all n.most small c.requires.table c.requires.sound c.requires.named c.requires.absent long c.requires.alive at.front at.page at.link at.pairs.items c.requires.located c.requires.said c.requires.slot c.requires.full (c.if-not-has_page.ensures.0 refl) v1 c.in-Ok.ensures.looks taken.front taken.number c.in-Ok.ensures.takes c.in-Ok.ensures.inside c.in-Ok.ensures.front c.in-Ok.ensures.slots v2 c.in-Ok-cut_page.ensures.acts half.result.front half.result.page half.result.link half.result.pairs.items half.ensures.front half.ensures.page half.ensures.link half.ensures.pairs;
+      room = room3 T E t root table key v0 c.index_page_count-count.result n.count n.all n.most small c.requires.table c.requires.sound c.requires.named c.requires.absent long c.requires.alive at.front at.page at.link at.pairs.items c.requires.located c.requires.said c.requires.slot c.requires.full (c.if-not-has_page.ensures.0 refl) v1 c.in-Ok.ensures.looks taken.front taken.number c.in-Ok.ensures.takes c.in-Ok.ensures.inside c.in-Ok.ensures.front c.in-Ok.ensures.slots v2 c.in-Ok-cut_page.ensures.acts half.result.front half.result.page half.result.link half.result.pairs.items half.ensures.front half.ensures.page half.ensures.link half.ensures.pairs;
+    }
+
+pub returns-clause-inserts : goal.returns-clause-inserts
+returns-clause-inserts g c =
+    let T = g.S.EawStore.tells in
+    let V = g.S.EawStore.view in
+    let E = g.S.EawStore.opens in
+    let t = c.args.tid in
+    let root = c.args.root in
+    let table = c.args.table in
+    let key = c.args.key in
+    let v0 = pages_of (V c.args.pages.now.store) c.args.pages.now in
+    let n = c.index_page_count-count.ensures in
+    let at = c.args.at in
+    let small : c.args.key < 2 ^ 64 = omega arith in
+    let long = λ (told : IsTrue g.S.EawStore.tells). g.met.S.EawStore.long c.args.pages.now.store told in
+    let v1 = pages_of (V c.take_page.new.pages.store) c.take_page.new.pages in
+    let taken = c.in-Ok.taken in
+    let v2 = pages_of (V c.cut_page.new.pages.store) c.cut_page.new.pages in
+    let half = c.half_of-half in
+    let v3 = pages_of (V c.insert_here.new.pages.store) c.insert_here.new.pages in
+    cut_then T E t root table key v0 c.index_page_count-count.result n.count n.all n.most small c.requires.table c.requires.sound c.requires.named c.requires.absent long c.requires.alive at.front at.page at.link at.pairs.items c.requires.located c.requires.said c.requires.slot c.requires.full (c.if-not-has_page.ensures.0 refl) v1 c.in-Ok.ensures.looks taken.front taken.number c.in-Ok.ensures.takes c.in-Ok.ensures.inside c.in-Ok.ensures.front c.in-Ok.ensures.slots v2 c.in-Ok-cut_page.ensures.acts half.result.front half.result.page half.result.link half.result.pairs.items half.ensures.front half.ensures.page half.ensures.link half.ensures.pairs v3 c.insert_here.result c.insert_here.ensures.inserts
+
+pub returns-clause-dead : goal.returns-clause-dead
+returns-clause-dead g c =
+    λ told. absurd (c.insert_here.ensures.dead told)

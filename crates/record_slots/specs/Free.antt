@@ -1,0 +1,22 @@
+-- Slots and pages that were given back: each says the one that follows it in their list, and its rank.
+use Rattle.std.specs.Prelude.{ℕ, zero, suc, ◌-◌, nat_eq, if◌then◌else◌, List, Option, Some, None, slice_index}
+use Rattle.byteorder.specs.Endian.{little_from}
+use Rattle.record_slots.specs.declared.free.Free.{Free}
+
+-- a free slot: byte 0 is f0, bytes 2 to 5 are the next one plus 1, bytes 6 to 9 the rank
+unfoldable pub free_slot_said : List ℕ → Option Free
+free_slot_said bytes = if nat_eq (slice_index bytes 0) 0xF0 then Some (record { next = little_from 2 4 bytes; rank = little_from 6 4 bytes }) else None
+
+-- a free page: byte 0 is ff, bytes 4 to 7 are the next one plus 1, bytes 8 to 11 the rank
+unfoldable pub free_page_said : List ℕ → Option Free
+free_page_said bytes = if nat_eq (slice_index bytes 0) 0xFF then Some (record { next = little_from 4 4 bytes; rank = little_from 8 4 bytes }) else None
+
+-- the one that follows, by its number plus 1; 0 for none
+abbrev pub next_of : Option Free → ℕ
+next_of None = 0
+next_of (Some free) = free.next
+
+-- member n of a list, counted from 0, whose first one is named by its number plus 1; it is named so too
+abbrev pub member_at : (ℕ → Option Free) → ℕ → ℕ → ℕ
+member_at said named zero = named
+member_at said named (suc n) = member_at said (next_of (said (named - 1))) n
