@@ -35,26 +35,31 @@ pub record Joins (root : Root) (old new : List ℕ) (key : ℕ) (es es' : List P
 taken_leaf : (root : Root) (old new : List ℕ) → Keeps old new → (c r low mid high : ℕ) → IsLeafWith new c (page_pairs old r) → r ≢ root.page → low ≤ mid → IsTree root 0 old r mid high → IsTree root 0 new c low high
 taken_leaf root old new keeps c r low mid high is other le t =
     let count : count_of new c ≡ count_of old r = sym (length-page_pairs new c) ∙ ap (λ (ps : List Pair). length ps) is.pairs_are ∙ length-page_pairs old r in
-    let some : 1 ≤ count_of old r = t.0.some other in (record {
-      kind = is.kind;
-      level = is.level;
-      link = is.link;
-      most = omega (arith, t.0.most);
-      some = λ away. omega arith;
-      rises = subst (λ (ps : List Pair). Rise low high ps) (sym is.pairs_are) (rise_from_less mid low high (page_pairs old r) le t.0.rises);
-    },
-    subst (λ (ps : List Pair). AreGiven new root.table ps) (sym is.pairs_are) (given_kept old new keeps root.table (page_pairs old r) t.1))
+    let some : 1 ≤ count_of old r = t.0.some other in (
+      record {
+        kind = is.kind;
+        level = is.level;
+        link = is.link;
+        most = omega (arith, t.0.most);
+        some = λ away. omega arith;
+        rises = subst (λ (ps : List Pair). Rise low high ps) (sym is.pairs_are) (rise_from_less mid low high (page_pairs old r) le t.0.rises);
+      },
+      subst (λ (ps : List Pair). AreGiven new root.table ps) (sym is.pairs_are) (given_kept old new keeps root.table (page_pairs old r) t.1),
+    )
 
 -- a leaf whose range grows to the right
 wide_leaf : (root : Root) (bytes : List ℕ) (q low mid high : ℕ) → mid ≤ high → IsTree root 0 bytes q low mid → IsTree root 0 bytes q low high
-wide_leaf root bytes q low mid high le t = (record {
-  kind = t.0.kind;
-  level = t.0.level;
-  link = t.0.link;
-  most = t.0.most;
-  some = t.0.some;
-  rises = rise_to_more low mid high (page_pairs bytes q) le t.0.rises;
-}, t.1)
+wide_leaf root bytes q low mid high le t = (
+  record {
+    kind = t.0.kind;
+    level = t.0.level;
+    link = t.0.link;
+    most = t.0.most;
+    some = t.0.some;
+    rises = rise_to_more low mid high (page_pairs bytes q) le t.0.rises;
+  },
+  t.1,
+)
 
 module _ (root : Root) (old new : List ℕ) (keeps : Keeps old new) (c key : ℕ) (alone : removed (page_pairs old c) key ≡ []) where
   -- the key's child takes the pairs of the page to its right

@@ -23,17 +23,18 @@ leaf_loses root old new keeps leaf key low high loses t =
     let count : count_of new leaf ≡ length (removed (page_pairs old leaf) key) =
     sym (length-page_pairs new leaf) ∙ ap (λ (ps : List Pair). length ps) loses.leaf_is.pairs_are in
     let sizes = length-removed key (page_pairs old leaf) in
-    let before = length-page_pairs old leaf in
-    (record {
-      kind = loses.leaf_is.kind;
-      level = loses.leaf_is.level;
-      link = loses.leaf_is.link;
-      most = omega (arith, t.0.most, sizes.1);
-      some = λ other. omega (arith, loses.more other, sizes.0);
-      rises = subst (λ (ps : List Pair). Rise low high ps) (sym loses.leaf_is.pairs_are) (removed-rises low high key (page_pairs old leaf) t.0.rises);
-    },
-    subst (λ (ps : List Pair). AreGiven new root.table ps) (sym loses.leaf_is.pairs_are)
-          (given_removed new root.table key (page_pairs old leaf) (given_kept old new keeps root.table (page_pairs old leaf) t.1)))
+    let before = length-page_pairs old leaf in (
+      record {
+        kind = loses.leaf_is.kind;
+        level = loses.leaf_is.level;
+        link = loses.leaf_is.link;
+        most = omega (arith, t.0.most, sizes.1);
+        some = λ other. omega (arith, loses.more other, sizes.0);
+        rises = subst (λ (ps : List Pair). Rise low high ps) (sym loses.leaf_is.pairs_are) (removed-rises low high key (page_pairs old leaf) t.0.rises);
+      },
+      subst (λ (ps : List Pair). AreGiven new root.table ps) (sym loses.leaf_is.pairs_are)
+          (given_removed new root.table key (page_pairs old leaf) (given_kept old new keeps root.table (page_pairs old leaf) t.1)),
+    )
 
 -- a pair that its leaf loses is taken out of the whole tree
 pub tree_loses : (root : Root) (old new : List ℕ) → Keeps old new → (l key low high : ℕ) → IsTree root l old root.page low high → low ≤ key → key < high

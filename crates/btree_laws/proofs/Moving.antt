@@ -20,14 +20,17 @@ module _ (root : Root) (old new : List ℕ) (pages : next_page old ≤ next_page
   children_moved (e ∷ es) are = (are.0, omega (arith, are.1, pages), children_moved es are.2)
 
   leaf_moved : (page low high : ℕ) → page_bytes new page ≡ page_bytes old page → AreGiven new root.table (page_pairs old page) → IsTree root 0 old page low high → IsTree root 0 new page low high
-  leaf_moved page low high e given t = (record {
-    kind = ap kind_said e ∙ t.0.kind;
-    level = ap level_said e ∙ t.0.level;
-    link = ap link_said e ∙ t.0.link;
-    most = subst (λ (b : List ℕ). count_said b ≤ 30) (sym e) t.0.most;
-    some = λ other. subst (λ (b : List ℕ). 1 ≤ count_said b) (sym e) (t.0.some other);
-    rises = subst (λ (b : List ℕ). Rise low high (pairs_said b)) (sym e) t.0.rises;
-  }, subst (λ (b : List ℕ). AreGiven new root.table (pairs_said b)) (sym e) given)
+  leaf_moved page low high e given t = (
+    record {
+      kind = ap kind_said e ∙ t.0.kind;
+      level = ap level_said e ∙ t.0.level;
+      link = ap link_said e ∙ t.0.link;
+      most = subst (λ (b : List ℕ). count_said b ≤ 30) (sym e) t.0.most;
+      some = λ other. subst (λ (b : List ℕ). 1 ≤ count_said b) (sym e) (t.0.some other);
+      rises = subst (λ (b : List ℕ). Rise low high (pairs_said b)) (sym e) t.0.rises;
+    },
+    subst (λ (b : List ℕ). AreGiven new root.table (pairs_said b)) (sym e) given,
+  )
 
   inner_moved : (level page low : ℕ) → page_bytes new page ≡ page_bytes old page → IsUpper root.page old level page low → IsUpper root.page new level page low
   inner_moved level page low e t = record {

@@ -310,7 +310,7 @@ sound_tree_splits root old new d l key right sound keeps lt e splits kept =
     (λ x u a b. kept x (subst (λ (n : ℕ). IsUnder n old x root.page) (sym e) (way_under root d (suc l) old key root.page 0 key_end x t (omega arith) lt u)) a b))
     d root.page 0 key_end t (omega arith) lt (omega arith) refl
     (λ x u out.
-        let w = way_of root d (suc l) old key root.page 0 key_end t (omega arith) lt in
+    let w = way_of root d (suc l) old key root.page 0 key_end t (omega arith) lt in
     kept x (subst (λ (n : ℕ). IsUnder n old x root.page) (sym e) u)
     (λ same. out (subst (λ (y : ℕ). IsUnder (suc l) old y (page_for d old root.page key)) (sym same) (under_self (suc l) old (page_for d old root.page key))))
     (λ same. out (inr (subst (λ (y : ℕ). IsUnderSome (IsUnder l old y) (page_pairs old (page_for d old root.page key))) (sym same)

@@ -55,11 +55,7 @@ impl<M: Media> Eaw<M, AtOnce> {
 
 impl<M: Media> Eaw<M, Late> {
     /// The same, for a device on which at most `depth` commits may wait for their write-back after they were answered.
-    pub fn attach_late(
-        alloc: Global,
-        media: M,
-        depth: u8,
-    ) -> Result<Eaw<M, Late>, (AttachFault, M)>
+    pub fn attach_late(alloc: Global, media: M, depth: u8) -> Result<Eaw<M, Late>, (AttachFault, M)>
         requires some { 0 < depth }
         requires most { depth ≤ 64 }
         ensures opens { IfOk result (λ eaw. Attached M.tells (M.view media) (view_of (M.view eaw.media) eaw.shape eaw.logs.items eaw.is_dead)) }

@@ -51,9 +51,20 @@ module _ (front : Super) where
   unfolding part_bytes
   length-part_bytes long =
       omega (
-        arith, long, four front.next_slot, four front.next_page, four front.free_slot, four front.free_page, four front.free_slots, four front.free_pages,
-        length-append (little_bytes 4 front.next_slot) P1, length-append (little_bytes 4 front.next_page) P2, length-append front.entries P3,
-        length-append (little_bytes 4 front.free_slot) P4, length-append (little_bytes 4 front.free_page) P5, length-append (little_bytes 4 front.free_slots) P6,
+        arith,
+        long,
+        four front.next_slot,
+        four front.next_page,
+        four front.free_slot,
+        four front.free_page,
+        four front.free_slots,
+        four front.free_pages,
+        length-append (little_bytes 4 front.next_slot) P1,
+        length-append (little_bytes 4 front.next_page) P2,
+        length-append front.entries P3,
+        length-append (little_bytes 4 front.free_slot) P4,
+        length-append (little_bytes 4 front.free_page) P5,
+        length-append (little_bytes 4 front.free_slots) P6,
       )
 
   behind1 : drop 4 (part_bytes front) ≡ P1

@@ -157,8 +157,7 @@ module _ (bytes : List ℕ) (list : FreePages bytes) (n : ℕ) where
   due_free less =
       let b : nat_lt n (free_pages bytes) ≡ true = grind (arith, nat_tests, less) in
       let is : page_due bytes n ≡ member_at (free_page_of bytes) (free_page bytes) n - 1 = (rw b refl) in
-      let m = member_is (free_page_of bytes) 2 (next_page bytes) (free_pages bytes) n (free_page bytes) list less in
-      (
+      let m = member_is (free_page_of bytes) 2 (next_page bytes) (free_pages bytes) n (free_page bytes) list less in (
         is,
         omega (arith, is, m.0.0),
         omega (arith, is, m.0.0, m.0.1),

@@ -11,9 +11,7 @@ ghost use Rattle.index_pages.specs.Fetched.{IsFront};
 ghost use Rattle.index_pages.specs.Slots.{slot_check, slots_check, pages_check, IsVerdict};
 
 use crate::fault::check_fault;
-use crate::fetch::{
-    SLOTS_IN_PAGE, fetch_free_page, fetch_free_slot, fetch_slot, index_page_count,
-};
+use crate::fetch::{SLOTS_IN_PAGE, fetch_free_page, fetch_free_slot, fetch_slot, index_page_count};
 use crate::taking::ranked;
 use eaw_face::EawStore;
 use page_store::{CheckFault, Pages};
@@ -63,12 +61,19 @@ fn is_of_key(said: &Option<Slot>, table: u8, key: u64) -> bool
 {
     match said {
         None => false,
-        Some(Slot::Absent { table: of, key: other }) => *of == table && *other == key,
-        Some(Slot::Present {
-            table: of,
-            key: other,
-            ..
-        }) => *of == table && *other == key,
+        Some(
+            Slot::Absent {
+                table: of,
+                key: other,
+            },
+        ) => *of == table && *other == key,
+        Some(
+            Slot::Present {
+                table: of,
+                key: other,
+                ..
+            },
+        ) => *of == table && *other == key,
     }
 }
 

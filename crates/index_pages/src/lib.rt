@@ -20,8 +20,8 @@ pub use checking::{check_lists, check_slot};
 pub use cut::{copy_of, middle_of};
 pub use fault::{check_fault, index_fault};
 pub use fetch::{
-    SLOTS_IN_PAGE, check_super, fetch_free_page, fetch_free_slot, fetch_page, fetch_slot, fetch_super,
-    index_page_count,
+    SLOTS_IN_PAGE, check_super, fetch_free_page, fetch_free_slot, fetch_page, fetch_slot,
+    fetch_super, index_page_count,
 };
 pub use laws::{insertion_adds, pieces_answer};
 pub use page::{

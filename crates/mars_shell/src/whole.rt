@@ -78,7 +78,14 @@ pub fn run<
         }
         Ok(Words::Eaw) => run_commands(rt.alloc(), source, sink, media),
         Ok(Words::Dump) => {
-            over_records(rt.alloc(), source, sink, media, Writing::AtOnce, &RecordDump)
+            over_records(
+                rt.alloc(),
+                source,
+                sink,
+                media,
+                Writing::AtOnce,
+                &RecordDump,
+            )
         }
         Ok(Words::Drill(numbers)) => {
             let work = DrawnScript { numbers };

@@ -57,7 +57,7 @@ halves : (n : ℕ) → n % 2 ≡ 0 → 2 * (n / 2) ≡ n
 halves n even = omega arith
 
 odd_halves : (n : ℕ) → (n % 2 ≡ 0 → ⊥) → 2 * (n / 2) + 1 ≡ n
-odd_halves n odd = elim (cases_eq (n % 2) 0) [ | inl even ↦ absurd (odd even) | inr other ↦ omega arith ]
+odd_halves n odd = elim (cases_eq (n % 2) 0) [ inl even ↦ absurd (odd even) | inr other ↦ omega arith ]
 
 absent_back : (bytes : List ℕ) → IsPlain bytes → state_said bytes % 2 ≡ 0 → slot_bytes (Absent (state_said bytes / 2) (key_said bytes)) ≡ bytes
 unfolding slot_bytes

@@ -161,7 +161,12 @@ impl<S: EawStore, K: KeyIndex> Records<S, K> {
         if place.value.is_none() {
             return Ok(false);
         }
-        match write_as(&mut self.pages, tid, place.slot, &Slot::Absent { table: TABLE, key }) {
+        match write_as(
+            &mut self.pages,
+            tid,
+            place.slot,
+            &Slot::Absent { table: TABLE, key },
+        ) {
             Ok(()) => Ok(true),
             Err(fault) => Err(TableFault::from(fault)),
         }

@@ -1,5 +1,6 @@
 //! A caller on a thread, beside others over the same records.
 #![tactic(auto)]
+
 ghost use Rattle.std.specs.Prelude.{◌≡◌};
 
 use caller_steps::Core;

@@ -20,7 +20,9 @@ returns-then-front-clause-cause g c =
 pub returns-in_default-clause-cause : goal.returns-in_default-clause-cause
 returns-in_default-clause-cause g c =
     let b = (g.S.EawStore.view c.args.pages.now.store).state.bytes in
-    let front = c.args.front.now in
-    (c.requires.alive, λ told.
-    let h = first_member (free_page_of b) (λ (p : ℕ). p) 2 front.next_page front.free_pages front.free_page 0 c.if-front-eq0.false (c.requires.sound told) in
-    c.in_default.ensures.none (subst (λ (o : Option Free). HasRank front.free_pages o) (sym (c.in-Ok.ensures.said told)) h.1))
+    let front = c.args.front.now in (
+      c.requires.alive,
+      λ told.
+          let h = first_member (free_page_of b) (λ (p : ℕ). p) 2 front.next_page front.free_pages front.free_page 0 c.if-front-eq0.false (c.requires.sound told) in
+          c.in_default.ensures.none (subst (λ (o : Option Free). HasRank front.free_pages o) (sym (c.in-Ok.ensures.said told)) h.1),
+    )

@@ -20,7 +20,9 @@ returns-then-front-clause-cause g c =
 pub returns-in_default-clause-cause : goal.returns-in_default-clause-cause
 returns-in_default-clause-cause g c =
     let b = (g.S.EawStore.view c.args.pages.now.store).state.bytes in
-    let front = c.args.front.now in
-    (c.requires.alive, λ told.
-    let h = first_member (free_slot_of b) (slot_page b) 0 front.next_slot front.free_slots front.free_slot 0 c.if-front-eq0.false (c.requires.sound told) in
-    c.in_default.ensures.none (subst (λ (o : Option Free). HasRank front.free_slots o) (sym (c.in-Ok.ensures.said told)) h.1))
+    let front = c.args.front.now in (
+      c.requires.alive,
+      λ told.
+          let h = first_member (free_slot_of b) (slot_page b) 0 front.next_slot front.free_slots front.free_slot 0 c.if-front-eq0.false (c.requires.sound told) in
+          c.in_default.ensures.none (subst (λ (o : Option Free). HasRank front.free_slots o) (sym (c.in-Ok.ensures.said told)) h.1),
+    )
