@@ -15,7 +15,8 @@ use Rattle.array_image.proofs.Data.{length-data_of, all_fit, all_placed, joined_
 use Rattle.array_image.proofs.Joined.{joined_none, joined_same, joined_first}
 use Rattle.array_image.proofs.Orders.{applied_any_order, parts_at-joined, parts_at-append}
 use Rattle.array_image.specs.Image.{row_of}
-use Rattle.row_bytes.specs.Ballots.{ballot_of, has}
+use Rattle.array_shape.specs.NumberSet.{has}
+use Rattle.row_bytes.specs.Ballots.{ballot_of}
 use Rattle.array_image.specs.Decided.{decided, decided_as, decided_parts, order_parts, all_decided, orders}
 use Rattle.array_image.specs.Standing.{IsLawful, IsSettled}
 use Rattle.array_image.specs.Votes.{dropped, votes_of}

@@ -1,3 +1,4 @@
 pub mod Cutting
 pub mod WriteParts
 pub mod Apart
+pub mod Sets

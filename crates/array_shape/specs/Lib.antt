@@ -3,3 +3,4 @@ pub mod Places
 pub mod Parts
 pub mod Logged
 pub mod Areas
+pub mod NumberSet

@@ -6,6 +6,7 @@
 
 mod bad_shape;
 mod laws;
+mod number_set;
 mod part;
 mod parts;
 mod place;
@@ -13,6 +14,7 @@ mod shape;
 
 pub use bad_shape::{BadShape, ShapeNumber};
 pub use laws::{addresses_are_apart, areas_are_apart, parts_are_the_write};
+pub use number_set::{Members, NumberSet};
 pub use part::Part;
 pub use parts::Parts;
 pub use place::Place;

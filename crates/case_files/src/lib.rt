@@ -58,6 +58,7 @@
 //! | `len` | how many parts T has logged |
 //! | `save`, `back N` | T saves; T goes back to save N |
 //! | `top`, `endtop` | a top action of T begins, and ends |
+//! | `group N ..` | the numbers N .. are committed at once, whatever T is |
 //! | `commit`, `abort` | T ends |
 //! | `fits PAGE ..` | whether a part more of T in each of these pages has room |
 #![tactic(auto)]

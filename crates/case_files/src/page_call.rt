@@ -1,6 +1,7 @@
 // Calls of pages.
 use crate::fault::LineFault;
 use crate::fields::{numbers, small, two_words, word_and_rest};
+use array_shape::{NUMBERS_MAX, NumberSet};
 use std::alloc::Global;
 
 /// A call for a number, and its answer where the case says one.
@@ -22,6 +23,7 @@ pub enum PageCall {
     TopBegin,
     TopEnd,
     End { commits: bool },
+    EndGroup { tids: NumberSet },
     Fits { pages: Vec<u32> },
 }
 
@@ -65,11 +67,26 @@ impl PageCall {
             "fits" => Ok(PageCall::Fits {
                 pages: numbers(alloc, rest)?,
             }),
+            "group" => Ok(PageCall::EndGroup {
+                tids: number_set(&numbers(alloc, rest)?)?,
+            }),
             "see" | "read" => read_range(word, &numbers(alloc, rest)?),
             "back" => Ok(PageCall::Back { n: small(rest)? }),
             _ => read_bare(word),
         }
     }
+}
+
+// The set of these transaction numbers.
+fn number_set(numbers: &[u32]) -> Result<NumberSet, LineFault> {
+    let mut set = NumberSet::empty();
+    for number in numbers {
+        if *number >= u32::from(NUMBERS_MAX) {
+            return Err(LineFault::Number);
+        }
+        set = set.with(*number as u8);
+    }
+    Ok(set)
 }
 
 // The calls that are one word.

@@ -1,6 +1,11 @@
 // What calls of pages answer.
-ghost use Rattle.std.specs.Prelude.{◌<◌};
+ghost use Rattle.std.specs.Prelude.{◌≡◌, ◌<◌, ℕ, true, None};
+ghost use Rattle.std.specs.Bool.{OnFalse};
+ghost use Rattle.array_shape.specs.NumberSet.{members};
+ghost use Rattle.eaw_face.specs.State.{is_one_of};
+ghost use Rattle.page_store.specs.Shown.{top_in};
 
+use array_shape::NumberSet;
 use case_files::{CaseFault, PageCall};
 use eaw_face::EawStore;
 use page_store::{PageFault, Pages};
@@ -62,6 +67,7 @@ pub fn perform<S: EawStore>(
         PageCall::Fits { pages: named } if named.len() < 65_536 => Ok(done(pages.fits(tid, named))),
         PageCall::Fits { pages: _ } => Ok(Answer::NotNow),
         PageCall::TopEnd => Ok(end_top(pages, tid)),
+        PageCall::EndGroup { tids } => Ok(end_group(pages, *tids)),
         PageCall::Save
         | PageCall::Back { n: _ }
         | PageCall::TopBegin
@@ -83,6 +89,28 @@ fn perform_closed<S: EawStore>(pages: &mut Pages<S>, tid: u8, call: &PageCall) -
         PageCall::End { commits } => done(pages.end(tid, *commits)),
         _ => Answer::NotNow,
     }
+}
+
+fn end_group<S: EawStore>(pages: &mut Pages<S>, tids: NumberSet) -> Answer {
+    if has_open_top(pages, tids) {
+        return Answer::NotNow;
+    }
+    done(pages.end_group(tids))
+}
+
+// Whether a top action of a number of the set is open.
+fn has_open_top<S: EawStore>(pages: &Pages<S>, tids: NumberSet) -> bool
+    ensures { OnFalse result ((t : ℕ) → t < (S.view pages.now.store).shape.numbers → is_one_of (members tids) t ≡ true → top_in pages.now.marks t ≡ None) }
+{
+    let numbers = pages.shape().numbers;
+    for tid in tids.members() {
+        if tid < numbers {
+            if pages.open_top(tid).is_some() {
+                return true;
+            }
+        }
+    }
+    false
 }
 
 fn end_top<S: EawStore>(pages: &mut Pages<S>, tid: u8) -> Answer

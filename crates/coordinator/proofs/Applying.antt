@@ -8,7 +8,8 @@ use Rattle.array_shape.specs.declared.shape.Shape.{Shape}
 use Rattle.array_shape.specs.Places.{media_len}
 use Rattle.array_shape.specs.Logged.{Part, applied, AllOwned, AllPlaced, places_of}
 use Rattle.row_bytes.specs.declared.ballot.Ballot.{Ballot}
-use Rattle.row_bytes.specs.Ballots.{has, has_row}
+use Rattle.array_shape.specs.NumberSet.{has}
+use Rattle.row_bytes.specs.Ballots.{has_row}
 use Rattle.array_image.specs.Image.{data_of, parts_from, IsGoodCell}
 use Rattle.array_image.specs.Joined.{joined}
 use Rattle.array_image.specs.Standing.{SameCells}

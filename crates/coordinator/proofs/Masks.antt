@@ -6,7 +6,7 @@ use Rattle.std.specs.Int.RustNames.{bit_or}
 use Rattle.std.proofs.lemmas.Nat.{or_lt, pow_below, one_shl}
 use Rattle.std.proofs.lemmas.Nat.Bits.{bit_at_set_same, bit_at_set_other, bit_at_above, bit_at-zero}
 use Rattle.std.proofs.lemmas.Bool.{cases_eq, eq-eqb, ne_eqb}
-use Rattle.row_bytes.specs.Ballots.{has}
+use Rattle.array_shape.specs.NumberSet.{has}
 use Rattle.coordinator.specs.Commits.{IsMaskOf}
 
 module _ (test : ℕ → Bool) where

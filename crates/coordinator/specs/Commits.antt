@@ -4,7 +4,8 @@ use Rattle.array_shape.specs.declared.shape.Shape.{Shape}
 use Rattle.array_shape.specs.Logged.{Part}
 use Rattle.row_bytes.specs.declared.ballot.Ballot.{Ballot}
 use Rattle.row_bytes.specs.declared.row.Row.{Row}
-use Rattle.row_bytes.specs.Ballots.{has, ballot_of, has_row}
+use Rattle.array_shape.specs.NumberSet.{has}
+use Rattle.row_bytes.specs.Ballots.{ballot_of, has_row}
 use Rattle.array_image.specs.Joined.{joined}
 use Rattle.array_image.specs.Image.{cell_of, IsGoodCell}
 use Rattle.commit_queue.specs.Queue.{Commit, Each, named_at, named_parts, some_has}

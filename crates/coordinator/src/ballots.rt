@@ -1,6 +1,6 @@
 // The ballot of a commit.
 ghost use Rattle.std.specs.Prelude.{◌≡◌, ◌<◌, ◌&&◌, nat_lt};
-ghost use Rattle.row_bytes.specs.Ballots.{has};
+ghost use Rattle.array_shape.specs.NumberSet.{has};
 ghost use Rattle.coordinator.specs.Commits.{IsMaskOf, cells_in, takes_part};
 
 use crate::cells::{Cells, cells_in};

@@ -11,7 +11,7 @@ use Rattle.std.proofs.Math.Pow.{pow-lt}
 use Rattle.array_shape.specs.declared.shape.Shape.{Shape}
 use Rattle.array_shape.specs.Places.{media_len, data_len}
 use Rattle.array_shape.specs.Logged.{Part, applied, AllPlaced, parts_at}
-use Rattle.row_bytes.specs.Ballots.{has}
+use Rattle.array_shape.specs.NumberSet.{has}
 use Rattle.array_image.specs.Joined.{joined}
 use Rattle.array_image.specs.Image.{cell_of, parts_from, IsGoodCell}
 use Rattle.array_image.proofs.Joined.{joined_one}
@@ -42,10 +42,10 @@ own_small shape t lt = subst (λ (k : ℕ). k < 2 ^ shape.numbers) (sym (own_bit
 only_own : (t u : ℕ) → has (2 ^ t) u ≡ true → u ≡ t
 only_own t u so = elim (cases_eq u t) [ inl is ↦ is | inr ne ↦ absurd (false≢true (sym (has_other t u ne) ∙ so)) ]
 
-abbrev one_if : Bool → ℕ
+abbrev pub one_if : Bool → ℕ
 one_if b = cond b 1 0
 
-some_or_none : (n : ℕ) → cond (nat_lt 0 n) 1 0 ≡ min n 1
+pub some_or_none : (n : ℕ) → cond (nat_lt 0 n) 1 0 ≡ min n 1
 some_or_none zero = refl
 some_or_none (suc n) = ap (λ (b : Bool). cond b 1 0) (lt-ltb 0 (suc n) (omega arith)) ∙ omega arith
 

@@ -33,7 +33,7 @@ given_up {A} logs t log free = λ i u. one u i
 -- only the medium can make a commit of a live number fail
 pub commit_fails : (store : StoreView) (t faults : ℕ) (r : Result (Unit {0}) EawFault) → Cause store (commit t) faults r → IsAlive store → IsLive store t → IfErr r (λ fault. fault ≡ Media)
 commit_fails store t faults (Ok x) cause alive live = tt
-commit_fails store t faults (Err (UnknownTid u)) cause alive live = absurd (cause.2 live)
+commit_fails store t faults (Err (UnknownTid u)) cause alive live = absurd (cause.1.0 live)
 commit_fails store t faults (Err (LogFull g h n)) cause alive live = absurd cause.2
 commit_fails store t faults (Err Media) cause alive live = refl
 commit_fails store t faults (Err Dead) cause alive live = absurd (false≢true (sym alive ∙ cause))
@@ -102,7 +102,7 @@ module _ (tells : Bool) (Opens : Shape → List ℕ → List ℕ → Type 0) (ol
     others = λ u other. second.others u other ∙ first.others u other;
     time = time (Ok x) second;
   }
-  atomic (Err (UnknownTid u)) second = absurd (second.cause.2 mid_live)
+  atomic (Err (UnknownTid u)) second = absurd (second.cause.1.0 mid_live)
   atomic (Err (LogFull g h n)) second = absurd second.cause.2
   atomic (Err Media) second = record {
     shape = second.shape ∙ first.shape;
@@ -147,7 +147,7 @@ write_fails tells Opens old new t addr bytes free small fault does = record {
     same is = cc
 
     because : (fault : EawFault) → (let r : Result ℕ EawFault = Err fault in Cause old (log_write t addr bytes) new.faults r) → (let r : Result (Unit {0}) EawFault = Err fault in Cause old (atomic_write t addr bytes) new.faults r)
-    because (UnknownTid u) cause = absurd (cause.2 small)
+    because (UnknownTid u) cause = absurd (cause.1.0 small)
     because (LogFull g h n) cause = (cause.0, tt, subst (λ rs. fit old.shape rs (ranges_of (parts_of_write addr bytes)) (Some (g, h, n))) none cause.2)
     because Media cause = (cause.0, tt, subst (λ rs. fit old.shape rs (ranges_of (parts_of_write addr bytes)) None) none cause.2, cause.3)
     because Dead cause = cause

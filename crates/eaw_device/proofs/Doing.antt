@@ -8,21 +8,21 @@ use Rattle.pcm_media.specs.View.{View}
 use Rattle.array_shape.specs.declared.shape.Shape.{Shape}
 use Rattle.eaw_face.specs.State.{Logs}
 use Rattle.eaw_face.specs.StoreView.{StoreView, IsLive, LeavesOnly}
-use Rattle.eaw_face.specs.Command.{Command, after}
-use Rattle.eaw_face.specs.Causes.{IsAlive, Knows, IsNumberOf, room_for, Cause}
+use Rattle.eaw_face.specs.Command.{commit_group, Command, after}
+use Rattle.eaw_face.specs.Causes.{IsAlive, known, IsNumberOf, room_for, Cause}
 use Rattle.eaw_face.proofs.Others.{others_after}
 use Rattle.eaw_face.specs.Does.{Becomes, IsEither, Does}
 use Rattle.eaw_face.specs.declared.fault.EawFault.{EawFault}
 use Rattle.eaw_face.specs.declared.fault.EawFault.TheVariants.{UnknownTid, LogFull, Media, Dead}
 use Rattle.eaw_device.specs.declared.log.Log.{Log}
 use Rattle.eaw_device.specs.Logs.{IsKept, IsHeld}
-use Rattle.eaw_device.specs.Sound.{IsSound, IsTold, LacksLog, view_of}
+use Rattle.eaw_device.specs.Sound.{IsSound, IsTold, LacksLog, LacksGroup, view_of}
 use Rattle.eaw_device.proofs.Tables.{found_log, live_there}
 
 module _ (tells : Bool) (Opens : List ℕ → List ℕ → Type 0) (command : Command) (old new : StoreView) (shape : new.shape ≡ old.shape) (later : old.faults ≤ new.faults)
     (time : IsTrue tells → old.is_dead ≡ false → LeavesOnly (IsEither Opens old.state.bytes (after command old.state).bytes) old new) where
   -- a command that is done
-  pub done : {T : Type 0} (x : T) → new.faults ≡ old.faults → IsAlive old → Knows old command → room_for old command None → Becomes tells command old new → (let r : Result T EawFault = Ok x in Does tells Opens command old new r)
+  pub done : {T : Type 0} (x : T) → new.faults ≡ old.faults → IsAlive old → known old command None → room_for old command None → Becomes tells command old new → (let r : Result T EawFault = Ok x in Does tells Opens command old new r)
   done x kept alive knows room becomes = record {
     shape = shape;
     later = later;
@@ -35,7 +35,7 @@ module _ (tells : Bool) (Opens : List ℕ → List ℕ → Type 0) (command : Co
   }
 
   -- a command in which the medium failed
-  pub failed : {T : Type 0} → IsAlive old → Knows old command → room_for old command None → Rose old.faults new.faults → new.is_dead ≡ true → ((u : ℕ) → (IsNumberOf command u → ⊥) → new.ranges u ≡ old.ranges u) → (let r : Result T EawFault = Err Media in Does tells Opens command old new r)
+  pub failed : {T : Type 0} → IsAlive old → known old command None → room_for old command None → Rose old.faults new.faults → new.is_dead ≡ true → ((u : ℕ) → (IsNumberOf command u → ⊥) → new.ranges u ≡ old.ranges u) → (let r : Result T EawFault = Err Media in Does tells Opens command old new r)
   failed alive knows room rose dead others = record {
     shape = shape;
     later = later;
@@ -66,12 +66,12 @@ refused {T} tells Opens command store fault cause other (Err e) is = record {
     same dead = cc
 
 -- a command on a number that has no log
-pub lacking : {T : Type 0} (tells : Bool) (Opens : List ℕ → List ℕ → Type 0) (command : Command) (store : StoreView) (t : ℕ) → ((u : ℕ) → u ≡ t → IsNumberOf command u) → (Knows store command → IsLive store t)
+pub lacking : {T : Type 0} (tells : Bool) (Opens : List ℕ → List ℕ → Type 0) (command : Command) (store : StoreView) (t : ℕ) → ((u : ℕ) → (IsLive store t → ⊥) → u ≡ t → known store command (Some u))
     → (fault : EawFault) → LacksLog store t fault → (let r : Result T EawFault = Err fault in Does tells Opens command store store r)
-lacking {T} tells Opens command store t number live (UnknownTid u) lacks = refused {T = T} tells Opens command store (UnknownTid u) (lacks.0, number u lacks.1, λ knows. lacks.2 (live knows)) (λ is. cc) (Err (UnknownTid u)) refl
-lacking {T} tells Opens command store t number live Dead lacks = refused {T = T} tells Opens command store Dead lacks (λ is. cc) (Err Dead) refl
-lacking {T} tells Opens command store t number live Media lacks = absurd lacks
-lacking {T} tells Opens command store t number live (LogFull g h n) lacks = absurd lacks
+lacking {T} tells Opens command store t unknown (UnknownTid u) lacks = refused {T = T} tells Opens command store (UnknownTid u) (lacks.0, unknown u lacks.1 lacks.2) (λ is. cc) (Err (UnknownTid u)) refl
+lacking {T} tells Opens command store t unknown Dead lacks = refused {T = T} tells Opens command store Dead lacks (λ is. cc) (Err Dead) refl
+lacking {T} tells Opens command store t unknown Media lacks = absurd lacks
+lacking {T} tells Opens command store t unknown (LogFull g h n) lacks = absurd lacks
 
 pub lacking_other : (store : StoreView) (t : ℕ) (fault : EawFault) → LacksLog store t fault → fault ≡ Media → ⊥
 lacking_other store t (UnknownTid u) lacks is = cc
@@ -114,3 +114,16 @@ one_log logs t a b one two = by (sym one ∙ two)
   where
     by : Some a ≡ Some b → a ≡ b
     by is = cc
+
+-- a commit of numbers of which one has no log
+pub lacking_group : {T : Type 0} (tells : Bool) (Opens : List ℕ → List ℕ → Type 0) (store : StoreView) (ts : List ℕ) (fault : EawFault) → LacksGroup store ts fault → (let r : Result T EawFault = Err fault in Does tells Opens (commit_group ts) store store r)
+lacking_group {T} tells Opens store ts (UnknownTid u) lacks = refused {T = T} tells Opens (commit_group ts) store (UnknownTid u) lacks (λ is. cc) (Err (UnknownTid u)) refl
+lacking_group {T} tells Opens store ts Dead lacks = refused {T = T} tells Opens (commit_group ts) store Dead lacks (λ is. cc) (Err Dead) refl
+lacking_group {T} tells Opens store ts Media lacks = absurd lacks
+lacking_group {T} tells Opens store ts (LogFull g h n) lacks = absurd lacks
+
+pub lacking_group_other : (store : StoreView) (ts : List ℕ) (fault : EawFault) → LacksGroup store ts fault → fault ≡ Media → ⊥
+lacking_group_other store ts (UnknownTid u) lacks is = cc
+lacking_group_other store ts Dead lacks is = cc
+lacking_group_other store ts Media lacks is = lacks
+lacking_group_other store ts (LogFull g h n) lacks is = lacks

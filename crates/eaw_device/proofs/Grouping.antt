@@ -10,7 +10,8 @@ use Rattle.array_shape.specs.declared.shape.Shape.{Shape}
 use Rattle.array_shape.specs.Places.{media_len, data_len}
 use Rattle.array_shape.specs.Logged.{Part, applied, AllOwned, AllPlaced, parts_at}
 use Rattle.row_bytes.specs.declared.ballot.Ballot.{Ballot}
-use Rattle.row_bytes.specs.Ballots.{has, has_row}
+use Rattle.array_shape.specs.NumberSet.{has}
+use Rattle.row_bytes.specs.Ballots.{has_row}
 use Rattle.array_image.specs.Joined.{joined}
 use Rattle.array_image.specs.Image.{parts_from}
 use Rattle.array_image.proofs.Data.{all_placed, joined_placed}
@@ -25,7 +26,7 @@ use Rattle.coordinator.specs.Costs.{total, decide_calls, write_back_calls, commi
 use Rattle.eaw_device.specs.Groups.{cell_parts, group_parts, HaveCells, HaveParts, group_rows, group_count, group_calls}
 
 -- sums over the numbers below one
-total_more : (f : ℕ → ℕ) (n : ℕ) → total f (suc n) ≡ total f n + f n
+pub total_more : (f : ℕ → ℕ) (n : ℕ) → total f (suc n) ≡ total f n + f n
 total_more f n =
     let one : suc n ≡ n + 1 = omega arith in
     ap (total f) one ∙ sum_by-map-range_with_len_more (λ (k : ℕ). k) f 0 n n (omega arith)

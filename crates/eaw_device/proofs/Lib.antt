@@ -12,6 +12,7 @@ pub mod Costing
 pub mod Keeping
 pub mod LogParts
 pub mod Alone
+pub mod Members
 pub mod Behind
 pub mod Naming
 pub mod Staged
@@ -21,7 +22,10 @@ pub mod Tables
 pub mod Sure
 pub mod Doing
 pub mod Cutting
+pub mod Clearing
+pub mod Gathering
 pub mod Commits
+pub mod GroupCommits
 pub mod Writes
 pub mod Atomic
 pub mod Looks

@@ -185,7 +185,7 @@ module _ (tells : Bool) (old : View) (shape : Shape) (logs : List Log) (is_dead 
 -- a refused write
 pub write_refused : (tells : Bool) (old : View) (shape : Shape) (logs : List Log) (is_dead : Bool) → IsSound tells old shape logs is_dead → (t addr : ℕ) (bytes : List ℕ) → addr + length bytes ≤ data_len shape → (fault : EawFault)
     → RefusesWrite shape logs is_dead t addr (length bytes) fault → (r : Result ℕ EawFault) → IsErrAnd r (λ e. e ≡ fault) → face.Does tells (Opens shape) (log_write t addr bytes) (view_of old shape logs is_dead) (view_of old shape logs is_dead) r
-write_refused tells old shape logs is_dead sound t addr bytes inside (UnknownTid u) said = refused tells (Opens shape) (log_write t addr bytes) (view_of old shape logs is_dead) (UnknownTid u) said (λ is. cc)
+write_refused tells old shape logs is_dead sound t addr bytes inside (UnknownTid u) said = refused tells (Opens shape) (log_write t addr bytes) (view_of old shape logs is_dead) (UnknownTid u) (said.0, (said.1, said.2)) (λ is. cc)
 write_refused tells old shape logs is_dead sound t addr bytes inside (LogFull g h n) said =
     refused tells (Opens shape) (log_write t addr bytes) (view_of old shape logs is_dead) (LogFull g h n)
     (said.0, said.1, first_full tells old shape logs is_dead sound said.0 t said.1 said.2.log said.2.there addr bytes inside g h n said.2.says) (λ is. cc)

@@ -1,12 +1,12 @@
 -- How many calls of its medium each command of a device makes.
-use Rattle.std.specs.Prelude.{ℕ, ◌+◌, ◌*◌, min, nat_eq, if◌then◌else◌, List, length, drop}
+use Rattle.std.specs.Prelude.{ℕ, ◌+◌, ◌*◌, min, nat_eq, nat_lt, filter, if◌then◌else◌, List, length, drop}
 use Rattle.array_shape.specs.declared.shape.Shape.{Shape}
 use Rattle.array_shape.specs.Parts.{parts_of, parts_of_write}
 use Rattle.array_shape.specs.Logged.{ranges_of}
 use Rattle.coordinator.specs.Costs.{total}
-use Rattle.eaw_face.specs.State.{listed, count_on}
+use Rattle.eaw_face.specs.State.{Logs, listed, group_log, count_on}
 use Rattle.eaw_face.specs.StoreView.{StoreView}
-use Rattle.eaw_face.specs.Command.{Command, log_write, log_edit, commit, abort, nested_top, partial_abort, atomic_write, log_read, read}
+use Rattle.eaw_face.specs.Command.{Command, log_write, log_edit, commit, commit_group, abort, nested_top, partial_abort, atomic_write, log_read, read}
 
 -- how many loggers have one of these ranges
 abbrev pub loggers_with : Shape → List (ℕ × ℕ) → ℕ
@@ -17,12 +17,17 @@ loggers_with shape ranges = total (λ g. min (count_on shape g ranges) 1) shape.
 abbrev pub commit_cost : Shape → ℕ → List (ℕ × ℕ) → ℕ
 commit_cost shape numbers ranges = if nat_eq (length ranges) 0 then 0 else 3 * (numbers * loggers_with shape ranges) + 2 * length ranges + 4
 
+-- how many of these numbers have logged anything
+abbrev pub numbers_with : Logs (ℕ × ℕ) → List ℕ → ℕ
+numbers_with ranges ts = length (filter (λ t. nat_lt 0 (length (listed (ranges t)))) ts)
+
 -- One for each part of a write into a log, one for a part that is edited or read, one for each part of a read of data. A commit
 -- costs what its parts cost at their loggers, and an abort nothing.
 abbrev pub calls_of : Command → StoreView → ℕ
 calls_of (log_write t addr bytes) store = length (parts_of_write addr bytes)
 calls_of (log_edit t pos at bytes) store = 1
 calls_of (commit t) store = commit_cost store.shape 1 (listed (store.ranges t))
+calls_of (commit_group ts) store = commit_cost store.shape (numbers_with store.ranges ts) (group_log store.ranges ts)
 calls_of (abort t) store = 0
 calls_of (nested_top t offset) store = commit_cost store.shape 1 (drop offset (listed (store.ranges t)))
 calls_of (partial_abort t offset) store = 0

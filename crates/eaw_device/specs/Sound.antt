@@ -1,6 +1,6 @@
 -- What a device keeps true, and what it shows.
-use Rattle.std.specs.Prelude.{ℕ, ◌≡◌, Bool, true, false, IsTrue, List, [], length, slice_get}
-use Rattle.std.specs.Option.{option_map, ForSome}
+use Rattle.std.specs.Prelude.{ℕ, ◌≡◌, Bool, true, false, IsTrue, List, [], length, slice_get, Some}
+use Rattle.std.specs.Option.{ForSome}
 use Rattle.pcm_media.specs.Images.{Content, MayLeave}
 use Rattle.pcm_media.specs.View.{View}
 use Rattle.array_shape.specs.declared.shape.Shape.{Shape}
@@ -9,11 +9,13 @@ use Rattle.row_bytes.specs.Header.{SaysShape}
 use Rattle.array_image.specs.Image.{data_of}
 use Rattle.commit_queue.specs.Between.{IsAtRest}
 use Rattle.eaw_face.specs.StoreView.{StoreView, IsLive}
+use Rattle.eaw_face.specs.Command.{commit_group}
+use Rattle.eaw_face.specs.Causes.{known}
 use Rattle.eaw_face.specs.declared.fault.EawFault.{EawFault}
 use Rattle.eaw_face.specs.declared.fault.EawFault.TheVariants.{UnknownTid, Dead}
 use Rattle.eaw_device.specs.declared.log.Log.{Log}
 use Rattle.eaw_device.specs.Opens.{header_of}
-use Rattle.eaw_device.specs.Logs.{ranges_in, parts_in, IsKept, IsHeld, entries_at}
+use Rattle.eaw_device.specs.Logs.{ranges_logged, parts_logged, IsKept, IsHeld}
 
 -- no commit waits for its write-back, no row is voted, and the data is what a read gives, in every image that may be left
 abbrev pub IsClean : Shape → Content → Type 0
@@ -42,16 +44,22 @@ pub record IsSound (tells : Bool) (media : View) (shape : Shape) (logs : List Lo
 abbrev pub view_of : View → Shape → List Log → Bool → StoreView
 view_of media shape logs is_dead = record {
   shape = shape;
-  state = record { bytes = data_of shape media.content.bytes; logs = λ t. option_map (parts_in shape media.content.bytes t) (entries_at logs t) };
-  ranges = λ t. option_map ranges_in (entries_at logs t);
+  state = record { bytes = data_of shape media.content.bytes; logs = parts_logged shape media.content.bytes logs };
+  ranges = ranges_logged logs;
   is_dead = is_dead;
   faults = media.faults;
   moment = media.moment;
   left_since = media.left_since;
 }
 
+-- why a commit of these numbers has no logs to work on
+abbrev pub LacksGroup : StoreView → List ℕ → EawFault → Type 0
+LacksGroup store ts (UnknownTid u) = (store.is_dead ≡ false) × known store (commit_group ts) (Some u)
+LacksGroup store ts Dead = store.is_dead ≡ true
+LacksGroup store ts _ = ⊥
+
 -- why a number has no log to work on
 abbrev pub LacksLog : StoreView → ℕ → EawFault → Type 0
-LacksLog store t (UnknownTid u) = (store.is_dead ≡ false) × (u ≡ t) × (IsLive store t → ⊥)
+LacksLog store t (UnknownTid u) = (store.is_dead ≡ false) × (IsLive store t → ⊥) × (u ≡ t)
 LacksLog store t Dead = store.is_dead ≡ true
 LacksLog store t _ = ⊥

@@ -34,7 +34,7 @@ pub record LogLacksCells (shape : Shape) (logs : List Log) (t addr len : ℕ) (f
 
 -- why a write into number t is refused
 abbrev pub RefusesWrite : Shape → List Log → Bool → ℕ → ℕ → ℕ → EawFault → Type 0
-RefusesWrite shape logs is_dead t addr len (UnknownTid u) = (is_dead ≡ false) × (u ≡ t) × (t < shape.numbers → ⊥)
+RefusesWrite shape logs is_dead t addr len (UnknownTid u) = (is_dead ≡ false) × (t < shape.numbers → ⊥) × (u ≡ t)
 RefusesWrite shape logs is_dead t addr len (LogFull g h n) = (is_dead ≡ false) × (t < shape.numbers) × LogLacksCells shape logs t addr len (LogFull g h n)
 RefusesWrite shape logs is_dead t addr len Media = ⊥
 RefusesWrite shape logs is_dead t addr len Dead = is_dead ≡ true

@@ -1,21 +1,23 @@
 // Commits of what logs have from positions on.
-ghost use Rattle.std.specs.Prelude.{◌≡◌, ◌≢◌, ◌+◌, ◌-◌, ◌^◌, ◌≤◌, ◌<◌, ℕ, true, Ok, drop, take, length, slice_index, IsTrue, OnOk, OnErr};
+ghost use Rattle.std.specs.Prelude.{◌≡◌, ◌≢◌, ◌+◌, ◌-◌, ◌^◌, ◌≤◌, ◌<◌, ℕ, true, false, ◌&&◌, nat_lt, Ok, drop, take, length, slice_index, slice_get, IsTrue, OnOk, OnErr};
+ghost use Rattle.std.specs.Option.{ForSome};
 ghost use Rattle.mars_base.specs.Costs.{Costs};
 ghost use Rattle.pcm_media.specs.View.{LeavesOnly};
 ghost use Rattle.array_shape.specs.Places.{media_len};
 ghost use Rattle.array_shape.specs.Logged.{applied};
-ghost use Rattle.row_bytes.specs.Ballots.{has};
+ghost use Rattle.array_shape.specs.NumberSet.{has, members};
 ghost use Rattle.array_image.specs.Image.{data_of};
 ghost use Rattle.array_image.specs.Standing.{IsEither, SameCells};
 ghost use Rattle.coordinator.specs.Commits.{cells_in};
-ghost use Rattle.eaw_device.specs.Logs.{ranges_in, parts_in, cells_on, IsKept, IsHeld};
+ghost use Rattle.eaw_face.specs.State.{listed, group_log, count_on};
+ghost use Rattle.eaw_device.specs.Logs.{ranges_in, parts_in, cells_on, IsKept, IsHeld, ranges_logged, parts_logged};
 ghost use Rattle.eaw_device.specs.Sound.{IsClean};
 ghost use Rattle.eaw_device.specs.Steps.{WritesBehind};
-ghost use Rattle.eaw_device.specs.Costs.{commit_cost};
+ghost use Rattle.eaw_device.specs.Costs.{numbers_with, commit_cost};
 ghost use Rattle.eaw_device.specs.Groups.{group_parts, group_calls, HaveCells, HaveParts};
 
 use crate::log::Log;
-use array_shape::Shape;
+use array_shape::{NumberSet, Shape};
 use coordinator::{Cells, ballot_for, commit};
 use mars_base::Failed;
 use pcm_media::Media;
@@ -49,6 +51,60 @@ pub(crate) fn commit_log<M: Media>(
     let mut cells = [Cells::NONE; 512];
     name_cells(&mut cells, shape, tid, log, offset);
     commit_cells(media, shape, 1 << tid, &cells)
+}
+
+/// Commits what the numbers of a set have logged, all at once. The logs themselves stay as they are.
+pub(crate) fn commit_logs<M: Media>(
+    media: &mut M,
+    shape: &Shape,
+    logs: &[Log],
+    tids: NumberSet,
+) -> Result<(), Failed>
+    requires many { length logs.now ≡ shape.now.numbers }
+    requires kept { (t : ℕ) → ForSome (slice_get logs.now t) (IsKept shape.now) }
+    requires size { (M.view media.old).size ≡ media_len shape.now }
+    requires clean { IsTrue M.tells → IsClean shape.now (M.view media.old).content }
+    requires held { IsTrue M.tells → (t : ℕ) → ForSome (slice_get logs.now t) (IsHeld shape.now (M.view media.old).content.bytes t) }
+    ensures any_moment { IsTrue M.tells → (let before = data_of shape.now (M.view media.old).content.bytes in
+        let parts = group_log (parts_logged shape.now (M.view media.old).content.bytes logs.now) (members tids) in
+        LeavesOnly (IsEither shape.now before (applied parts before)) (M.view media.old) (M.view media.new)) }
+    ensures clean { IsTrue M.tells → OnOk result (IsClean shape.now (M.view media.new).content) }
+    ensures committed { IsTrue M.tells → OnOk result (data_of shape.now (M.view media.new).content.bytes ≡
+        applied (group_log (parts_logged shape.now (M.view media.old).content.bytes logs.now) (members tids)) (data_of shape.now (M.view media.old).content.bytes)) }
+    ensures cells { IsTrue M.tells → SameCells shape.now (M.view media.old).content.bytes (M.view media.new).content.bytes }
+    ensures does { WritesBehind M.tells (M.view media.old) (M.view media.new) result }
+    ensures costs { Costs M.tells (commit_cost shape.now (numbers_with (ranges_logged logs.now) (members tids)) (group_log (ranges_logged logs.now) (members tids)))
+        (M.view media.old).moment (M.view media.new).moment result }
+    ensures due { OnErr result (0 < length (group_log (ranges_logged logs.now) (members tids))) }
+    ensures idle { length (group_log (ranges_logged logs.now) (members tids)) ≡ 0 → media.new ≡ media.old }
+{
+    let mut cells = [Cells::NONE; 512];
+    let group = name_group(&mut cells, shape, logs, tids);
+    commit_cells(media, shape, group.bits, &cells)
+}
+
+// Puts the cells of the numbers of a set into their places. Returns those numbers that have logged anything.
+fn name_group(cells: &mut [Cells; 512], shape: &Shape, logs: &[Log], tids: NumberSet) -> NumberSet
+    requires many { length logs.now ≡ shape.now.numbers }
+    requires kept { (t : ℕ) → ForSome (slice_get logs.now t) (IsKept shape.now) }
+    ensures numbers { (t : ℕ) → t < shape.now.numbers → has result.bits t ≡ (has tids.bits t && nat_lt 0 (length (listed (ranges_logged logs.now t)))) }
+    ensures beyond { (t : ℕ) → shape.now.numbers ≤ t → has result.bits t ≡ false }
+    ensures first { (g t : ℕ) → g < shape.now.loggers → t < shape.now.numbers → has result.bits t ≡ true → (cells_in cells.new g t).first ≡ 0 }
+    ensures count { (g t : ℕ) → g < shape.now.loggers → t < shape.now.numbers → has result.bits t ≡ true → (cells_in cells.new g t).count ≡ count_on shape.now g (listed (ranges_logged logs.now t)) }
+{
+    let mut group = NumberSet::empty();
+    for tid in 0..shape.numbers {
+        if !tids.contains(tid) {
+            continue;
+        }
+        let log = &logs[usize::from(tid)];
+        if log.entries.is_empty() {
+            continue;
+        }
+        name_cells(cells, shape, tid, log, 0);
+        group = group.with(tid);
+    }
+    group
 }
 
 // Puts the cells that a log has from position `offset` on into the places of its number: eight for each number, one for each logger.

@@ -1,18 +1,21 @@
 // The commands, over all loggers.
-ghost use Rattle.std.specs.Prelude.{◌≡◌, ◌≢◌, ◌+◌, ◌≤◌, ◌<◌, false, IsTrue, IfOk, IfErr, OnOk};
+ghost use Rattle.std.specs.Prelude.{◌≡◌, ◌≢◌, ◌+◌, ◌≤◌, ◌<◌, false, None, IsTrue, IfOk, IfErr, OnOk};
+ghost use Rattle.array_shape.specs.NumberSet.{members};
 ghost use Rattle.array_shape.specs.Places.{data_len};
 ghost use Rattle.eaw_face.specs.StoreView.{IsLive};
+ghost use Rattle.eaw_face.specs.Command.{commit_group};
+ghost use Rattle.eaw_face.specs.Causes.{known};
 ghost use Rattle.eaw_device.specs.Opens.{Attached, FindsData, AttachCause, AttachLeaves, KeepsData, OpensWithin, IsBehind};
 ghost use Rattle.eaw_device.specs.Steps.{LogHasCells, RefusesWrite};
-ghost use Rattle.eaw_device.specs.Sound.{IsSound, LacksLog, view_of};
+ghost use Rattle.eaw_device.specs.Sound.{IsSound, LacksLog, LacksGroup, view_of};
 
-use crate::committing::commit_log;
+use crate::committing::{commit_log, commit_logs};
 use crate::fault::AttachFault;
-use crate::log::Log;
+use crate::log::{Log, clear_logs};
 use crate::opening::open_array;
 use crate::reading::read_data;
 use crate::staging::{check_room, stage_all};
-use array_shape::Shape;
+use array_shape::{NumberSet, Shape};
 use eaw_face::{EawFault, EawStore};
 use logger::Logger;
 use pcm_media::Media;
@@ -85,6 +88,21 @@ impl<M: Media> Eaw<M> {
         Ok(at)
     }
 
+    // Whether each number of a set has a log.
+    fn find_group(&self, tids: NumberSet) -> Result<(), EawFault>
+        ensures alive { OnOk result (self.now.is_dead ≡ false) }
+        ensures live { OnOk result (known (view_of (M.view self.now.media) self.now.shape self.now.logs.items self.now.is_dead) (commit_group (members tids)) None) }
+        ensures cause { IfErr result (LacksGroup (view_of (M.view self.now.media) self.now.shape self.now.logs.items self.now.is_dead) (members tids)) }
+    {
+        if self.is_dead {
+            return Err(EawFault::Dead);
+        }
+        for tid in tids.members() {
+            self.find_live(tid)?;
+        }
+        Ok(())
+    }
+
     // Where the log of a number is in the table, if it has room for a write.
     fn find_room(&self, tid: u8, addr: u64, len: u64) -> Result<usize, EawFault>
         requires { addr + len ≤ data_len self.now.shape }
@@ -119,7 +137,7 @@ impl<M: Media> EawStore for Eaw<M> {
 
     ghost opens = { Opens };
 
-    ghost calls = { calls_of };
+    ghost calls = { λ s command. calls_of command (view_of (M.view s.media) s.shape s.logs.items s.is_dead) };
 
     ghost shaped = { λ s. s.sound.shaped };
 
@@ -162,6 +180,16 @@ impl<M: Media> EawStore for Eaw<M> {
             return Err(EawFault::Media);
         }
         self.logs[at].clear(&self.shape);
+        Ok(())
+    }
+
+    fn commit_group(&mut self, tids: NumberSet) -> Result<(), EawFault> {
+        self.find_group(tids)?;
+        if commit_logs(&mut self.media, &self.shape, &self.logs, tids).is_err() {
+            self.is_dead = true;
+            return Err(EawFault::Media);
+        }
+        clear_logs(&mut self.logs, &self.shape, tids);
         Ok(())
     }
 

@@ -1,10 +1,13 @@
 // What each transaction number has logged, as the device keeps it in memory.
-ghost use Rattle.std.specs.Prelude.{◌≡◌, ◌+◌, ◌*◌, ◌≤◌, ◌<◌, [], ◌∷◌, ◌++◌, ℕ, true, false, take, map, length, slice_index, slice_set, vec_capacity, IfOk};
+ghost use Rattle.std.specs.Prelude.{◌≡◌, ◌+◌, ◌*◌, ◌≤◌, ◌<◌, [], ◌∷◌, ◌++◌, ℕ, true, false, take, map, length, slice_index, slice_set, slice_get, vec_capacity, IfOk};
+ghost use Rattle.std.specs.Option.{ForSome};
+ghost use Rattle.array_shape.specs.NumberSet.{members};
 ghost use Rattle.array_shape.specs.Places.{data_len};
+ghost use Rattle.eaw_face.specs.State.{is_one_of};
 ghost use Rattle.array_shape.specs.Parts.{parts_of, parts_on, IsPartOf};
-ghost use Rattle.eaw_device.specs.Logs.{ranges_in, cells_on, IsKept, Adds};
+ghost use Rattle.eaw_device.specs.Logs.{ranges_in, cells_on, IsKept, IsCleared, Adds};
 
-use array_shape::{LOGGERS_MAX, Part, Shape};
+use array_shape::{LOGGERS_MAX, NumberSet, Part, Shape};
 use std::alloc::{AllocError, Global};
 
 // How many loggers a log counts for.
@@ -114,5 +117,20 @@ impl Log {
     {
         self.truncate(shape, 0);
         self.is_live = false;
+    }
+}
+
+/// Frees the numbers of a set.
+pub(crate) fn clear_logs(logs: &mut [Log], shape: &Shape, tids: NumberSet)
+    requires there { (t : ℕ) → is_one_of (members tids) t ≡ true → t < length logs.old }
+    requires kept { (t : ℕ) → ForSome (slice_get logs.old t) (IsKept shape.now) }
+    ensures many { length logs.new ≡ length logs.old }
+    ensures kept { (t : ℕ) → ForSome (slice_get logs.new t) (IsKept shape.now) }
+    ensures freed { (t : ℕ) → is_one_of (members tids) t ≡ true → ForSome (slice_get logs.new t) IsCleared }
+    ensures others { (t : ℕ) → is_one_of (members tids) t ≡ false → slice_get logs.new t ≡ slice_get logs.old t }
+{
+    for tid in tids.members() {
+        let at = usize::from(tid);
+        logs[at].clear(shape);
     }
 }

@@ -1,5 +1,6 @@
 -- The model of a store: plain data, and the parts that each live number has logged.
-use Rattle.std.specs.Prelude.{ℕ, zero, suc, nat_eq, if◌then◌else◌, List, [], ◌∷◌, length, filter, slice_index_or, Bool, Option, Some, None}
+use Rattle.std.specs.Prelude.{ℕ, zero, suc, nat_eq, if◌then◌else◌, List, [], ◌∷◌, length, filter, flat_map, slice_index_or, Bool, Option, Some, None}
+use Rattle.std.specs.List.{list_any}
 use Rattle.mars_base.specs.Bytes.{put}
 use Rattle.array_shape.specs.declared.shape.Shape.{Shape}
 use Rattle.array_shape.specs.Places.{logger_of}
@@ -22,6 +23,18 @@ listed (Some log) = log
 -- the logs with this one for number t, or with t free
 abbrev pub with_log : {A : Type 0} → Logs A → ℕ → Option (List A) → Logs A
 with_log logs t log u = if nat_eq u t then log else logs u
+
+-- number u is one of these
+abbrev pub is_one_of : List ℕ → ℕ → Bool
+is_one_of ts u = list_any (nat_eq u) ts
+
+-- this for each of these numbers, and what it was for the others
+abbrev pub with_each : {A : Type 0} → (ℕ → A) → List ℕ → A → ℕ → A
+with_each f ts x u = if is_one_of ts u then x else f u
+
+-- what these numbers have logged, one list after another
+abbrev pub group_log : {A : Type 0} → Logs A → List ℕ → List A
+group_log logs ts = flat_map (λ t. listed (logs t)) ts
 
 -- the parts with bytes replaced within the one at a position
 abbrev pub edited : ℕ → ℕ → List ℕ → List Part → List Part

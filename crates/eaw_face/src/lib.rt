@@ -1,6 +1,6 @@
 //! The commands of an array of editable atomic writes, as a model: plain bytes, and for each number a list of logged parts.
 //!
-//! Read first `specs/State` and `specs/Command`: nine commands, a line each. `store.rt` is the trait `EawStore` over them; `specs/Causes`
+//! Read first `specs/State` and `specs/Command`: ten commands, a line each. `store.rt` is the trait `EawStore` over them; `specs/Causes`
 //! says when each refusal comes and `specs/Does` what a command does, also at the moments within it.
 #![tactic(auto)]
 

@@ -6,13 +6,14 @@ ghost use Rattle.mars_base.specs.Costs.{Costs};
 ghost use Rattle.array_shape.specs.declared.shape.Shape.{Shape};
 ghost use Rattle.array_shape.specs.Places.{data_len, IsShape};
 ghost use Rattle.array_shape.specs.Logged.{ranges_of};
-ghost use Rattle.eaw_face.specs.State.{listed, range_at, part_at, count_on};
-ghost use Rattle.eaw_face.specs.Command.{Command, log_write, log_edit, commit, abort, nested_top, partial_abort, atomic_write, log_read, read};
+ghost use Rattle.array_shape.specs.NumberSet.{members};
+ghost use Rattle.eaw_face.specs.State.{listed, group_log, range_at, part_at, count_on};
+ghost use Rattle.eaw_face.specs.Command.{Command, log_write, log_edit, commit, commit_group, abort, nested_top, partial_abort, atomic_write, log_read, read};
 ghost use Rattle.eaw_face.specs.StoreView.{StoreView, IsLive, ArePlaced, LeavesSome, log_len};
 ghost use Rattle.eaw_face.specs.Does.{Does};
 
 use crate::fault::EawFault;
-use array_shape::Shape;
+use array_shape::{NumberSet, Shape};
 
 /// An array of editable atomic writes (SOSP 2013). A write is logged under a transaction number, cut into parts at the
 /// multiples of 512, and changes the data when that number commits. Until then its log can be read and edited.
@@ -29,8 +30,8 @@ pub trait EawStore {
     /// Whether an image that a loss of power left opens as an array of this shape, with this data.
     ghost opens: { Shape → List ℕ → List ℕ → Type 0 };
 
-    /// How many calls of its medium a command costs if it is done. Otherwise it makes at most this many.
-    ghost calls: { Command → StoreView → ℕ };
+    /// How many calls of its medium a command costs now if it is done. Otherwise it makes at most this many.
+    ghost calls: { Self → Command → ℕ };
 
     fn shape(&self) -> Shape
         ensures { result ≡ (view self.now).shape };
@@ -42,7 +43,7 @@ pub trait EawStore {
         requires inside { addr + length bytes.now ≤ data_len (view self.old).shape }
         ensures does { Does tells (opens (view self.old).shape) (log_write tid addr bytes.now) (view self.old) (view self.new) result }
         ensures len { IfOk result (λ n. n ≡ log_len (view self.new) tid) }
-        ensures costs { Costs tells (calls (log_write tid addr bytes.now) (view self.old)) (view self.old).moment (view self.new).moment result }
+        ensures costs { Costs tells (calls self.old (log_write tid addr bytes.now)) (view self.old).moment (view self.new).moment result }
         ensures refused { IfErr result (λ fault. fault ≢ EawFault.Media → self.new ≡ self.old) };
 
     /// Commit: writes all that the number has logged into the data at once, and frees the number.
@@ -50,7 +51,17 @@ pub trait EawStore {
         ensures does { Does tells (opens (view self.old).shape) (commit tid) (view self.old) (view self.new) result }
         ensures due { IsErrOf result EawFault.Media → 0 < log_len (view self.old) tid }
         ensures idle { log_len (view self.old) tid ≡ 0 → (view self.new).moment ≡ (view self.old).moment }
-        ensures costs { Costs tells (calls (commit tid) (view self.old)) (view self.old).moment (view self.new).moment result }
+        ensures costs { Costs tells (calls self.old (commit tid)) (view self.old).moment (view self.new).moment result }
+        ensures refused { IfErr result (λ fault. fault ≢ EawFault.Media → self.new ≡ self.old) };
+
+    /// CommitGroup: commits several numbers at once. All that they have logged is written into the data, that of the lowest number first,
+    /// and the numbers are free. The refusal of a number that is not live names the lowest such one. A set with no number in it is done
+    /// with no call of the medium.
+    fn commit_group(&mut self, tids: NumberSet) -> Result<(), EawFault>
+        ensures does { Does tells (opens (view self.old).shape) (commit_group (members tids)) (view self.old) (view self.new) result }
+        ensures due { IsErrOf result EawFault.Media → 0 < length (group_log (view self.old).ranges (members tids)) }
+        ensures idle { length (group_log (view self.old).ranges (members tids)) ≡ 0 → (view self.new).moment ≡ (view self.old).moment }
+        ensures costs { Costs tells (calls self.old (commit_group (members tids))) (view self.old).moment (view self.new).moment result }
         ensures refused { IfErr result (λ fault. fault ≢ EawFault.Media → self.new ≡ self.old) };
 
     /// Abort: drops all that the number has logged, and frees the number.
@@ -58,7 +69,7 @@ pub trait EawStore {
         ensures does { Does tells (opens (view self.old).shape) (abort tid) (view self.old) (view self.new) result }
         ensures due { IsErrOf result EawFault.Media → ⊥ }
         ensures idle { (view self.new).moment ≡ (view self.old).moment }
-        ensures costs { Costs tells (calls (abort tid) (view self.old)) (view self.old).moment (view self.new).moment result }
+        ensures costs { Costs tells (calls self.old (abort tid)) (view self.old).moment (view self.new).moment result }
         ensures refused { OnErr result (self.new ≡ self.old) };
 
     /// NestedTopAction: commits the parts from `offset` of the log on, which then stay whatever becomes of the rest. The
@@ -68,7 +79,7 @@ pub trait EawStore {
         ensures does { Does tells (opens (view self.old).shape) (nested_top tid offset) (view self.old) (view self.new) result }
         ensures due { IsErrOf result EawFault.Media → offset < log_len (view self.old) tid }
         ensures idle { log_len (view self.old) tid ≡ offset → (view self.new).moment ≡ (view self.old).moment }
-        ensures costs { Costs tells (calls (nested_top tid offset) (view self.old)) (view self.old).moment (view self.new).moment result }
+        ensures costs { Costs tells (calls self.old (nested_top tid offset)) (view self.old).moment (view self.new).moment result }
         ensures refused { IfErr result (λ fault. fault ≢ EawFault.Media → self.new ≡ self.old) };
 
     /// PartialAbort: drops the parts from `offset` of the log on. The number stays live.
@@ -77,7 +88,7 @@ pub trait EawStore {
         ensures does { Does tells (opens (view self.old).shape) (partial_abort tid offset) (view self.old) (view self.new) result }
         ensures due { IsErrOf result EawFault.Media → ⊥ }
         ensures idle { (view self.new).moment ≡ (view self.old).moment }
-        ensures costs { Costs tells (calls (partial_abort tid offset) (view self.old)) (view self.old).moment (view self.new).moment result }
+        ensures costs { Costs tells (calls self.old (partial_abort tid offset)) (view self.old).moment (view self.new).moment result }
         ensures refused { OnErr result (self.new ≡ self.old) };
 
     /// AtomicWrite: a transaction of one write, under a number that is free before it and after it.
@@ -87,7 +98,7 @@ pub trait EawStore {
         requires tid { tid < (view self.old).shape.numbers }
         requires free { (view self.old).ranges tid ≡ None }
         ensures does { Does tells (opens (view self.old).shape) (atomic_write tid addr bytes.now) (view self.old) (view self.new) result }
-        ensures costs { Costs tells (calls (atomic_write tid addr bytes.now) (view self.old)) (view self.old).moment (view self.new).moment result }
+        ensures costs { Costs tells (calls self.old (atomic_write tid addr bytes.now)) (view self.old).moment (view self.new).moment result }
         ensures refused { IfErr result (λ fault. fault ≢ EawFault.Media → self.new ≡ self.old) };
 
     /// Reads the part at position `pos` of the log into the front of the buffer. Returns its address and its length in bytes.
@@ -96,7 +107,7 @@ pub trait EawStore {
         ensures does { Does tells (opens (view self.old).shape) (log_read tid) (view self.old) (view self.new) result }
         ensures part { IfOk result (λ part. part ≡ range_at (listed ((view self.old).ranges tid)) pos) }
         ensures bytes { IsTrue tells → IfOk result (λ part. take part.1 buf.new ≡ (part_at (listed ((view self.old).state.logs tid)) pos).1) }
-        ensures costs { Costs tells (calls (log_read tid) (view self.old)) (view self.old).moment (view self.new).moment result }
+        ensures costs { Costs tells (calls self.old (log_read tid)) (view self.old).moment (view self.new).moment result }
         ensures refused { IfErr result (λ fault. fault ≢ EawFault.Media → self.new ≡ self.old) }
         ensures unread { IfErr result (λ fault. fault ≢ EawFault.Media → buf.new ≡ buf.old) };
 
@@ -105,7 +116,7 @@ pub trait EawStore {
         requires pos { IsLive (view self.old) tid → pos < log_len (view self.old) tid }
         requires within { IsLive (view self.old) tid → at + length bytes.now ≤ (range_at (listed ((view self.old).ranges tid)) pos).1 }
         ensures does { Does tells (opens (view self.old).shape) (log_edit tid pos at bytes.now) (view self.old) (view self.new) result }
-        ensures costs { Costs tells (calls (log_edit tid pos at bytes.now) (view self.old)) (view self.old).moment (view self.new).moment result }
+        ensures costs { Costs tells (calls self.old (log_edit tid pos at bytes.now)) (view self.old).moment (view self.new).moment result }
         ensures refused { IfErr result (λ fault. fault ≢ EawFault.Media → self.new ≡ self.old) };
 
     /// Fills the buffer with committed data from `addr` on.
@@ -113,7 +124,7 @@ pub trait EawStore {
         requires { addr + length buf.old ≤ data_len (view self.old).shape }
         ensures does { Does tells (opens (view self.old).shape) (read addr (length buf.old)) (view self.old) (view self.new) result }
         ensures bytes { IsTrue tells → OnOk result (buf.new ≡ range (view self.old).state.bytes addr (length buf.old)) }
-        ensures costs { Costs tells (calls (read addr (length buf.old)) (view self.old)) (view self.old).moment (view self.new).moment result }
+        ensures costs { Costs tells (calls self.old (read addr (length buf.old))) (view self.old).moment (view self.new).moment result }
         ensures refused { IfErr result (λ fault. fault ≢ EawFault.Media → self.new ≡ self.old) }
         ensures unread { IfErr result (λ fault. fault ≢ EawFault.Media → buf.new ≡ buf.old) };
 

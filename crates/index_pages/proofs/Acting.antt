@@ -70,9 +70,6 @@ listed-take : (n : ℕ) (o : Option (List (ℕ × ℕ))) → listed (option_map 
 listed-take n None = sym (take-none n)
 listed-take n (Some rs) = refl
 
-same_number : {u v : ℕ} → Some u ≡ Some v → u ≡ v
-same_number e = cc
-
 module _ (tells : Bool) (Opens : List ℕ → List ℕ → Type 0) (t : ℕ) where
   -- Within a top action that has begun: these parts were written, and in these pages a part each is still to be written.
   pub record Acting (old now : PagesView) (parts : List Part) (left : List ℕ) : Type 0 where
@@ -149,7 +146,7 @@ module _ (tells : Bool) (Opens : List ℕ → List ℕ → Type 0) (t : ℕ) whe
           faults = does.kept ∙ acting.faults;
           saves = ap (λ (x : Outline). x.counts) out ∙ acting.saves;
           tops = ap (λ (x : Outline). x.top) out ∙ acting.tops;
-          others = λ u ne. does.others u (λ e. ne (sym (same_number e))) ∙ acting.others u ne;
+          others = λ u ne. does.others u ne ∙ acting.others u ne;
           front = ap (take (length (listed (old.store.ranges t)))) ranges ∙ front_behind o (length (listed (old.store.ranges t))) rs acting.longer ∙ acting.front;
           longer = subst (λ (l : List (ℕ × ℕ)). length (listed (old.store.ranges t)) ≤ length l) (sym ranges) (longer_behind o (length (listed (old.store.ranges t))) rs acting.longer);
           room = λ g lt. subst (λ (l : List (ℕ × ℕ)). count_on old.store.shape g l + length (filter (is_page_on old.store.shape.loggers g) left) ≤ old.store.shape.entries) (sym ranges) (room_behind o rs g (acting.room g lt));
@@ -165,7 +162,7 @@ module _ (tells : Bool) (Opens : List ℕ → List ℕ → Type 0) (t : ℕ) whe
       shape = does.shape ∙ acting.shape;
       cause = alive;
       saves = does.marks.0 ∙ acting.saves;
-      others = λ u ne. does.others u (λ e. ne (sym (same_number e))) ∙ acting.others u ne;
+      others = λ u ne. does.others u ne ∙ acting.others u ne;
       kept = λ well. absurd (false≢true (sym well));
       made = λ told living. tt;
       dies = λ failed. (does.dies refl, subst (λ (n : ℕ). Rose n new.store.faults) acting.faults does.cause.2);
@@ -221,13 +218,13 @@ module _ (tells : Bool) (Opens : List ℕ → List ℕ → Type 0) (t : ℕ) whe
           | inl same ↦ subst (λ (x : ℕ). listed (new.store.ranges x) ≡ listed (old.store.ranges x)) (sym same.1)
               (ap (λ (o : Outline). listed (o.ranges t)) out ∙ ap listed (with_here now.store.ranges t (option_map (take mark) (now.store.ranges t)))
               ∙ listed-take mark (now.store.ranges t) ∙ ap (λ (n : ℕ). take n (listed (now.store.ranges t))) mark_is ∙ acting.front)
-          | inr other ↦ ap listed (does.others u (λ e. other.1 (sym (same_number e))) ∙ acting.others u other.1)
+          | inr other ↦ ap listed (does.others u other.1 ∙ acting.others u other.1)
         ] in
         record {
           shape = does.shape ∙ acting.shape;
           cause = (alive, fits);
           saves = ap (λ (o : Outline). o.counts) out ∙ acting.saves;
-          others = λ u ne. does.others u (λ e. ne (sym (same_number e))) ∙ acting.others u ne;
+          others = λ u ne. does.others u ne ∙ acting.others u ne;
           kept = λ well. record {
             dead = does.done.alive ∙ sym alive;
             faults = does.kept ∙ acting.faults;
@@ -243,7 +240,7 @@ module _ (tells : Bool) (Opens : List ℕ → List ℕ → Type 0) (t : ℕ) whe
       shape = does.shape ∙ acting.shape;
       cause = alive;
       saves = does.marks.0 ∙ acting.saves;
-      others = λ u ne. does.others u (λ e. ne (sym (same_number e))) ∙ acting.others u ne;
+      others = λ u ne. does.others u ne ∙ acting.others u ne;
       kept = λ well. absurd (false≢true (sym well));
       made = λ told living. tt;
       dies = λ failed. (does.dies refl, subst (λ (n : ℕ). Rose n new.store.faults) acting.faults does.cause.2);

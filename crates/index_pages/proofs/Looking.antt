@@ -66,7 +66,7 @@ module _ (tells : Bool) (Opens : List ℕ → List ℕ → Type 0) where
   looks_read old new (Err Media) does same = (
     record {
       shape = does.shape;
-      ranges = λ i u. does.others u (λ e. cc) i;
+      ranges = λ i u. does.others u (λ e. e) i;
       saves = does.marks.0;
       tops = does.marks.1;
       still = λ well. absurd (false≢true (sym well));

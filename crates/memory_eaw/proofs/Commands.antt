@@ -21,11 +21,11 @@ use Rattle.memory_eaw.proofs.Doing.{answer, done, does_done, becomes_written, be
 use Rattle.memory_eaw.proofs.Counting.{counts_done, counts_idle}
 
 -- what a commit of parts leaves alone
-same-committed : (ps : List Part) (old : Plain) → ((committed ps old).shape ≡ old.shape) × ((committed ps old).is_dead ≡ old.is_dead) × ((committed ps old).kept.faults ≡ old.kept.faults)
+pub same-committed : (ps : List Part) (old : Plain) → ((committed ps old).shape ≡ old.shape) × ((committed ps old).is_dead ≡ old.is_dead) × ((committed ps old).kept.faults ≡ old.kept.faults)
 same-committed [] old = (refl, refl, refl)
 same-committed (p ∷ ps) old = (refl, refl, refl)
 
-moment-committed : (ps : List Part) (old : Plain) → length ps ≡ 0 → (committed ps old).kept ≡ old.kept
+pub moment-committed : (ps : List Part) (old : Plain) → length ps ≡ 0 → (committed ps old).kept ≡ old.kept
 moment-committed [] old none = refl
 moment-committed (p ∷ ps) old none = absurd (omega arith)
 
@@ -33,6 +33,12 @@ moment-committed (p ∷ ps) old none = absurd (omega arith)
 pub calls-committed : (ps : List Part) (old : Plain) → (committed ps old).kept.moment ≡ old.kept.moment + min (length ps) 1
 calls-committed [] old = omega arith
 calls-committed (p ∷ ps) old = omega arith
+
+-- what is kept of a command that committed these parts
+pub counts_parts : (old : Plain) (command : Command) (ps : List Part) (kept : Kept) → (0 < length ps → IsCounted (view_of old) command) → (length ps ≡ 0 → IsCounted (view_of old) command → ⊥) → (0 < length ps → FailsAs (is_change command) old.kept → ⊥)
+    → changed old.bytes old.kept ≡ kept_after (is_change command) done old.bytes old.kept → kept ≡ (committed ps old).kept → Counts command (view_of old) old.kept kept done
+counts_parts old command [] kept some none fine is same = counts_idle (tt {0}) (view_of old) command old.kept kept (none refl) same
+counts_parts old command (p ∷ ps) kept some none fine is same = counts_done (tt {0}) (view_of old) command old.kept kept (some (omega arith)) (fine (omega arith)) (same ∙ is)
 
 module _ (old : Plain) (sound : IsSound old) (t : ℕ) (lt : t < old.shape.numbers) (alive : IsAlive (view_of old)) where
   pub is_live : IsLive (view_of old) t → (log_at old.logs t).is_live ≡ true
@@ -112,22 +118,17 @@ module _ (old : Plain) (sound : IsSound old) (t : ℕ) (lt : t < old.shape.numbe
         pub moment_stays : length ps ≡ 0 → mid.kept.moment ≡ old.kept.moment
         moment_stays none = ap (λ (p : Plain). p.kept.moment) first ∙ ap (λ (k : Kept). k.moment) (moment-committed ps old none)
 
-  counts_parts : (command : Command) (ps : List Part) (kept : Kept) → (0 < length ps → IsCounted (view_of old) command) → (length ps ≡ 0 → IsCounted (view_of old) command → ⊥) → (0 < length ps → FailsAs (is_change command) old.kept → ⊥)
-      → changed old.bytes old.kept ≡ kept_after (is_change command) done old.bytes old.kept → kept ≡ (committed ps old).kept → Counts command (view_of old) old.kept kept done
-  counts_parts command [] kept some none fine is same = counts_idle (tt {0}) (view_of old) command old.kept kept (none refl) same
-  counts_parts command (p ∷ ps) kept some none fine is same = counts_done (tt {0}) (view_of old) command old.kept kept (some (omega arith)) (fine (omega arith)) (same ∙ is)
-
   module _ (known : IsLive (view_of old) t) (kept : Kept) where
     pub counts_committed : (0 < length (log_at old.logs t).parts → MustFailChange old.kept → ⊥) → kept ≡ (committed (log_at old.logs t).parts old).kept → Counts (commit t) (view_of old) old.kept kept done
     counts_committed fine same =
-        counts_parts (commit t) (log_at old.logs t).parts kept
+        counts_parts old (commit t) (log_at old.logs t).parts kept
         (λ some. record { alive = alive; knows = known; room = tt; work = omega (arith, some, log_len_is old sound t lt) })
         (λ none counted. omega (arith, none, counted.work, log_len_is old sound t lt)) fine refl same
 
     pub counts_nested : (offset : ℕ) → (offset < length (log_at old.logs t).parts → MustFailChange old.kept → ⊥) → kept ≡ (committed (drop offset (log_at old.logs t).parts) old).kept → Counts (nested_top t offset) (view_of old) old.kept kept done
     counts_nested offset fine same =
         let left = length-drop offset (log_at old.logs t).parts in
-        counts_parts (nested_top t offset) (drop offset (log_at old.logs t).parts) kept
+        counts_parts old (nested_top t offset) (drop offset (log_at old.logs t).parts) kept
         (λ some. record { alive = alive; knows = known; room = tt; work = omega (arith, some, left, log_len_is old sound t lt) })
         (λ none counted. omega (arith, none, counted.work, left, log_len_is old sound t lt)) (λ some. fine (omega (arith, some, left))) refl same
 

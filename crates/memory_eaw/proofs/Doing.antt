@@ -7,7 +7,7 @@ use Rattle.array_shape.specs.Logged.{Part, ranges_of}
 use Rattle.eaw_face.specs.State.{Logs, State, listed, with_log, edited, range_at}
 use Rattle.eaw_face.specs.StoreView.{StoreView, LeavesOnly, log_len}
 use Rattle.eaw_face.specs.Command.{Command, log_write, log_edit, after, ranges_after}
-use Rattle.eaw_face.specs.Causes.{IsAlive, Knows, room_for}
+use Rattle.eaw_face.specs.Causes.{IsAlive, known, room_for}
 use Rattle.eaw_face.specs.Does.{Becomes, Does, IsEither}
 use Rattle.eaw_face.specs.declared.fault.EawFault.{EawFault}
 use Rattle.eaw_face.proofs.Others.{others_after}
@@ -26,7 +26,7 @@ done = Ok tt
 
 -- a command may be done
 abbrev pub May : StoreView → Command → Type 0
-May store command = IsAlive store × Knows store command × room_for store command None
+May store command = IsAlive store × known store command None × room_for store command None
 
 pub does_done : {T : Type 0} (x : T) (old new : Plain) (command : Command) → May (view_of old) command → new.shape ≡ old.shape → new.kept.faults ≡ old.kept.faults → Becomes true command (view_of old) (view_of new)
     → LeavesOnly (IsEither IsData old.bytes (after command (view_of old).state).bytes) (view_of old) (view_of new) → Does true IsData command (view_of old) (view_of new) (answer x)

@@ -10,3 +10,4 @@ pub mod Doing
 pub mod Room
 pub mod Counting
 pub mod Commands
+pub mod Groups

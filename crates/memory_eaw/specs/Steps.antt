@@ -2,7 +2,8 @@
 use Rattle.std.specs.Prelude.{Some, ℕ, ◌≡◌, ◌⊎◌, Bool, true, false, List, [], ◌∷◌, get_or, slice_set}
 use Rattle.array_shape.specs.Logged.{Part, applied}
 use Rattle.eaw_face.specs.StoreView.{StoreView}
-use Rattle.eaw_face.specs.Causes.{IsAlive, fit}
+use Rattle.eaw_face.specs.Causes.{IsAlive, fit, known}
+use Rattle.eaw_face.specs.Command.{commit_group}
 use Rattle.eaw_face.specs.declared.fault.EawFault.{EawFault}
 use Rattle.eaw_face.specs.declared.fault.EawFault.TheVariants.{UnknownTid, LogFull, Dead}
 use Rattle.memory_eaw.specs.Kept.{failed, called, changed}
@@ -37,6 +38,10 @@ committed (p ∷ ps) plain = changed_plain (applied (p ∷ ps) plain.bytes) plai
 -- the fault says that the store is dead, or that the number lacks what it needs
 abbrev pub IsUnknown : StoreView → Type 0 → ℕ → EawFault → Type 0
 IsUnknown store Known t fault = ((fault ≡ Dead) × (store.is_dead ≡ true)) ⊎ ((fault ≡ UnknownTid t) × IsAlive store × (Known → ⊥))
+
+-- the fault says that the store is dead, or names the first of these numbers that is not live
+abbrev pub IsUnknownIn : StoreView → List ℕ → EawFault → Type 0
+IsUnknownIn store ts fault = ((fault ≡ Dead) × (store.is_dead ≡ true)) ⊎ ((u : ℕ) × (fault ≡ UnknownTid u) × IsAlive store × known store (commit_group ts) (Some u))
 
 -- the fault names the first logger that has no room for its share of `needed` besides its share of `held`
 pub record IsFullBy (store : StoreView) (held needed : List (ℕ × ℕ)) (fault : EawFault) : Type 0 where

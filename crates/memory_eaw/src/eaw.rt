@@ -1,26 +1,28 @@
 // An array in memory.
-ghost use Rattle.std.specs.Prelude.{ℕ, ◌≡◌, ◌≢◌, ◌+◌, ◌*◌, ◌^◌, ◌≤◌, ◌<◌, true, false, [], ◌∷◌, ◌++◌, length, take, drop, replicate, IfOk, IfErr, OnOk, OnErr, IsErrOf, None, vec_capacity};
+ghost use Rattle.std.specs.Prelude.{◌≡◌, ◌≢◌, ◌+◌, ◌*◌, ◌^◌, ◌≤◌, ◌<◌, true, false, [], ◌∷◌, ◌++◌, length, take, drop, replicate, IfOk, IfErr, OnOk, OnErr, IsErrOf, None, ◌↔◌, ℕ, IsTrue, vec_capacity};
 ghost use Rattle.mars_base.specs.Bytes.{put, range};
 ghost use Rattle.mars_base.specs.Costs.{Costs};
+ghost use Rattle.array_shape.specs.NumberSet.{members};
 ghost use Rattle.array_shape.specs.Places.{data_len};
 ghost use Rattle.array_shape.specs.Parts.{parts_of_write};
 ghost use Rattle.array_shape.specs.Logged.{applied, ranges_of};
-ghost use Rattle.eaw_face.specs.State.{listed, edited, range_at, part_at};
+ghost use Rattle.eaw_face.specs.State.{listed, group_log, with_each, edited, range_at, part_at};
 ghost use Rattle.eaw_face.specs.StoreView.{IsLive, log_len};
-ghost use Rattle.eaw_face.specs.Command.{log_write, log_edit, commit, abort, nested_top, partial_abort, atomic_write, log_read, read};
+ghost use Rattle.eaw_face.specs.Command.{log_write, log_edit, commit, commit_group, abort, nested_top, partial_abort, atomic_write, log_read, read};
 ghost use Rattle.eaw_face.specs.Does.{Does};
-ghost use Rattle.eaw_face.specs.Causes.{fit};
+ghost use Rattle.eaw_face.specs.Causes.{fit, known};
 ghost use Rattle.memory_eaw.specs.Kept.{fresh_kept, MustFail, MustFailChange};
 ghost use Rattle.memory_eaw.specs.Plain.{IsSound, SameStore};
 ghost use Rattle.memory_eaw.specs.Fresh.{IsFresh};
+ghost use Rattle.memory_eaw.specs.Log.{logged};
 ghost use Rattle.memory_eaw.specs.Plain.{IsData};
 ghost use Rattle.memory_eaw.specs.Calls.{Counts, plain_calls};
-ghost use Rattle.memory_eaw.specs.Steps.{log_at, relogged, called_plain, changed_plain, failed_plain, committed, IsUnknown, IsFullBy};
+ghost use Rattle.memory_eaw.specs.Steps.{log_at, relogged, called_plain, changed_plain, failed_plain, committed, IsUnknown, IsUnknownIn, IsFullBy};
 
 use crate::journal::Journal;
 use crate::log::{PlainLog, count_range};
 use crate::part::overwrite;
-use array_shape::Shape;
+use array_shape::{NumberSet, Shape};
 use eaw_face::{EawFault, EawStore};
 use mars_base::NoMemory;
 use std::alloc::Global;
@@ -118,6 +120,31 @@ impl MemoryEaw {
         Ok(())
     }
 
+    // Whether each number of a set is live.
+    fn check_group(&self, tids: NumberSet) -> Result<(), EawFault>
+        ensures live { OnOk result ((self.now.is_dead ≡ false) × known (shown self.now) (commit_group (members tids)) None) }
+        ensures refused { IfErr result (IsUnknownIn (shown self.now) (members tids)) }
+    {
+        self.check_alive()?;
+        for tid in tids.members() {
+            self.check_live(tid)?;
+        }
+        Ok(())
+    }
+
+    // Whether a number of a set has logged anything.
+    fn has_logged(&self, tids: NumberSet) -> bool
+        requires { known (shown self.now) (commit_group (members tids)) None }
+        ensures { IsTrue result ↔ (0 < length (group_log (logged (plain_of self.now).logs) (members tids))) }
+    {
+        for tid in tids.members() {
+            if self.logs[usize::from(tid)].len() > 0 {
+                return true;
+            }
+        }
+        false
+    }
+
     // Whether each logger has room for its share of a write besides what the number has logged.
     fn check_room(&self, tid: u8, addr: u64, bytes: &[u8]) -> Result<(), EawFault>
         requires tid { tid < self.now.shape.numbers }
@@ -196,6 +223,35 @@ impl MemoryEaw {
         self.logs[at].apply_from(offset, &mut self.bytes);
     }
 
+    // Writes the parts that the numbers of a set have logged into the data. If there is none, no call is counted.
+    fn commit_all(&mut self, tids: NumberSet) -> Result<(), EawFault>
+        requires { known (shown self.old) (commit_group (members tids)) None }
+        ensures done { OnOk result
+            ((0 < length (group_log (logged (plain_of self.old).logs) (members tids)) → MustFailChange (kept_of self.old) → ⊥)
+            × (plain_of self.new ≡ committed (group_log (logged (plain_of self.old).logs) (members tids)) (plain_of self.old))) }
+        ensures failed { IfErr result (λ fault.
+            (fault ≡ EawFault.Media) × (0 < length (group_log (logged (plain_of self.old).logs) (members tids)))
+            × MustFailChange (kept_of self.old) × (plain_of self.new ≡ failed_plain (plain_of self.old))) }
+    {
+        if !self.has_logged(tids) {
+            return Ok(());
+        }
+        self.change()?;
+        self.apply_all(tids);
+        Ok(())
+    }
+
+    // Writes the parts of these logs into the data, those of the lowest number first.
+    fn apply_all(&mut self, tids: NumberSet)
+        requires { known (shown self.old) (commit_group (members tids)) None }
+        ensures { plain_of self.new ≡ record (plain_of self.old)
+            { bytes = applied (group_log (logged (plain_of self.old).logs) (members tids)) (plain_of self.old).bytes } }
+    {
+        for tid in tids.members() {
+            self.apply_from(usize::from(tid), 0);
+        }
+    }
+
     // Puts bytes into the data.
     fn put(&mut self, addr: u64, bytes: &[u8])
         requires { addr + length bytes.now ≤ data_len self.old.shape }
@@ -246,6 +302,17 @@ impl MemoryEaw {
         self.logs[usize::from(tid)].free();
     }
 
+    // Drops all that the numbers of a set have logged, and frees them.
+    fn free_all(&mut self, tids: NumberSet)
+        requires { known (shown self.old) (commit_group (members tids)) None }
+        ensures logs { logged (plain_of self.new).logs ≡ with_each (logged (plain_of self.old).logs) (members tids) None }
+        ensures same { plain_of self.new ≡ record (plain_of self.old) { logs = (plain_of self.new).logs } }
+    {
+        for tid in tids.members() {
+            self.free(tid);
+        }
+    }
+
     // Reads a logged part.
     fn read_part(&self, tid: u8, pos: usize, buf: &mut [u8; 512]) -> (u64, u16)
         requires tid { tid < self.now.shape.numbers }
@@ -280,7 +347,7 @@ impl EawStore for MemoryEaw {
 
     ghost opens = { λ shape. IsData };
 
-    ghost calls = { plain_calls };
+    ghost calls = { λ s command. plain_calls command (shown s) };
 
     ghost shaped = { λ s. s.shape.in_range };
 
@@ -330,6 +397,20 @@ impl EawStore for MemoryEaw {
         self.check_live(tid)?;
         self.commit_from(tid, 0)?;
         self.free(tid);
+        Ok(())
+    }
+
+    fn commit_group(&mut self, tids: NumberSet) -> Result<(), EawFault>
+        ensures does { Does true IsData (commit_group (members tids)) (shown self.old) (shown self.new) result }
+        ensures due { IsErrOf result EawFault.Media → 0 < length (group_log (shown self.old).ranges (members tids)) }
+        ensures idle { length (group_log (shown self.old).ranges (members tids)) ≡ 0 → (shown self.new).moment ≡ (shown self.old).moment }
+        ensures costs { Costs true (plain_calls (commit_group (members tids)) (shown self.old)) (shown self.old).moment (shown self.new).moment result }
+        ensures refused { IfErr result (λ fault. fault ≢ EawFault.Media → self.new ≡ self.old) }
+        ensures calls { Counts (commit_group (members tids)) (shown self.old) (kept_of self.old) (kept_of self.new) result }
+    {
+        self.check_group(tids)?;
+        self.commit_all(tids)?;
+        self.free_all(tids);
         Ok(())
     }
 

@@ -1,16 +1,17 @@
 -- Each command of pages makes of the store what one command of the store makes, or nothing.
 use Rattle.std.proofs.Common.{◌≡◌, ℕ, ◌-◌, Bool, true, false, cond, List, [], ◌∷◌, ◌++◌, length, take, drop, refl, sym, ◌∙◌, ap, arith}
-use Rattle.std.specs.Prelude.{map, is_some, Option, Some, None}
+use Rattle.std.specs.Prelude.{map, is_some, filter, Option, Some, None}
 use Rattle.std.specs.Option.{option_map}
 use Rattle.array_shape.specs.declared.shape.Shape.{Shape}
 use Rattle.array_shape.specs.Places.{IsPlaced}
 use Rattle.array_shape.specs.Logged.{Part, applied, ranges_of}
 use Rattle.array_shape.proofs.WriteParts.{one_write_part}
 use Rattle.eaw_face.specs.State.{Logs, State, listed, with_log}
-use Rattle.eaw_face.specs.Command.{Command, commit, abort, nested_top, partial_abort, ranges_after}
+use Rattle.eaw_face.specs.Command.{Command, commit, commit_group, abort, nested_top, partial_abort, ranges_after}
+use Rattle.eaw_face.proofs.Groups.{group_live, each_live}
 use Rattle.page_store.specs.Edit.{edit_pos, written_at}
 use Rattle.page_store.specs.State.{PagesState, log_of, save_at, floor_of}
-use Rattle.page_store.specs.Command.{PageCommand, write_as, save, back, top_begin, top_end, end, read_as, read, after}
+use Rattle.page_store.specs.Command.{PageCommand, write_as, save, back, top_begin, top_end, end, end_group, read_as, read, after}
 use Rattle.page_store.specs.Device.{write_of, device, done, ranges_done}
 use Rattle.page_store.specs.Outline.{Outline, outline, count_at, floor_in, outline_after}
 use Rattle.page_store.proofs.Outline.{floors, counted, listed-ranges, length-lengths}
@@ -26,6 +27,7 @@ device_in (back t n) s = option_map (λ log. partial_abort t (length (save_at (s
 device_in (top_begin t) s = None
 device_in (top_end t mark) s = option_map (λ log. nested_top t mark) (s.store.logs t)
 device_in (end t commits) s = option_map (λ log. cond commits (commit t) (abort t)) (s.store.logs t)
+device_in (end_group ts) s = Some (commit_group (filter (λ t. is_some (s.store.logs t)) ts))
 device_in (read_as t) s = None
 device_in read s = None
 
@@ -67,6 +69,7 @@ does shape (back t n) s kept allowed = back_done s.store t (save_at (s.saved t) 
 does shape (top_begin t) s kept allowed = refl
 does shape (top_end t mark) s kept allowed = top_done s.store t mark (s.store.logs t) refl
 does shape (end t commits) s kept allowed = end_done s.store t commits (s.store.logs t) refl
+does shape (end_group ts) s kept allowed = λ i. record { bytes = applied (sym (group_live s.store.logs ts) i) s.store.bytes; logs = sym (each_live s.store.logs ts) i }
 does shape (read_as t) s kept allowed = refl
 does shape read s kept allowed = refl
 
@@ -74,6 +77,10 @@ does shape read s kept allowed = refl
 seen_live : (o : Option (List Part)) (command : Command) → option_map (λ ranges. command) (option_map ranges_of o) ≡ option_map (λ log. command) o
 seen_live None command = refl
 seen_live (Some log) command = refl
+
+is_some_map : (o : Option (List Part)) → is_some (option_map ranges_of o) ≡ is_some o
+is_some_map None = refl
+is_some_map (Some log) = refl
 
 -- what the outline makes of a command is what the state makes of it
 device_seen : (c : PageCommand) (s : PagesState) → device c (outline s) ≡ device_in c s
@@ -84,6 +91,7 @@ device_seen (back t n) s = seen_live (s.store.logs t) (partial_abort t (count_at
 device_seen (top_begin t) s = refl
 device_seen (top_end t mark) s = seen_live (s.store.logs t) (nested_top t mark)
 device_seen (end t commits) s = seen_live (s.store.logs t) (cond commits (commit t) (abort t))
+device_seen (end_group ts) s = ap (λ (p : ℕ → Bool). Some (commit_group (filter p ts))) (λ i t. is_some_map (s.store.logs t) i)
 device_seen (read_as t) s = refl
 device_seen read s = refl
 
@@ -115,5 +123,6 @@ device_does_ranges shape (top_begin t) o allowed = refl
 device_does_ranges shape (top_end t mark) o allowed = ranges_map o.ranges t (take mark) (nested_top t mark) refl (o.ranges t) refl
 device_does_ranges shape (end t true) o allowed = ranges_end o.ranges t (commit t) refl (o.ranges t) refl
 device_does_ranges shape (end t false) o allowed = ranges_end o.ranges t (abort t) refl (o.ranges t) refl
+device_does_ranges shape (end_group ts) o allowed = sym (each_live o.ranges ts)
 device_does_ranges shape (read_as t) o allowed = refl
 device_does_ranges shape read o allowed = refl

@@ -6,12 +6,13 @@ use Rattle.std.proofs.lemmas.Bool.{cases_lt}
 use Rattle.std.proofs.lemmas.List.{get_or_append_left, get_or_push, get_or_past, get_or-take, length-append, length-take, length-take-le, take_all, take-take}
 use Rattle.array_shape.specs.declared.shape.Shape.{Shape}
 use Rattle.array_shape.specs.Places.{IsPlaced}
-use Rattle.array_shape.specs.Logged.{Part, AllPlaced}
+use Rattle.array_shape.specs.Logged.{Part, AllPlaced, AllFit}
 use Rattle.array_image.proofs.Applied.{length-applied}
-use Rattle.eaw_face.specs.State.{listed}
+use Rattle.eaw_face.specs.State.{listed, group_log}
+use Rattle.eaw_face.proofs.Groups.{with_each_two}
 use Rattle.page_store.specs.Edit.{with_write}
 use Rattle.page_store.specs.State.{PagesState, log_of, save_at, floor_of}
-use Rattle.page_store.specs.Command.{PageCommand, write_as, save, back, top_begin, top_end, end, read_as, read, after}
+use Rattle.page_store.specs.Command.{PageCommand, write_as, save, back, top_begin, top_end, end, end_group, read_as, read, after}
 use Rattle.page_store.specs.Kept.{IsFront, IsKeptOf, IsKept, IsAllowed}
 use Rattle.page_store.proofs.Writes.{take-none, write_front, write_placed, write_longer}
 use Rattle.page_store.specs.Outline.{outline}
@@ -143,7 +144,15 @@ kept_none shape top none = record {
   placed = tt;
 }
 
+fit-append : (n : ℕ) (ps qs : List Part) → AllFit n ps → AllFit n qs → AllFit n (ps ++ qs)
+fit-append n [] qs fit more = more
+fit-append n (p ∷ ps) qs fit more = (fit.0, fit-append n ps qs fit.1 more)
+
 module _ (shape : Shape) (s : PagesState) (kept : IsKept shape s) where
+  group_fits : (ts : List ℕ) → AllFit (length s.store.bytes) (group_log s.store.logs ts)
+  group_fits [] = tt
+  group_fits (t ∷ ts) = fit-append (length s.store.bytes) (log_of s t) (group_log s.store.logs ts) (log_fits shape s kept t) (group_fits ts)
+
   pub kept_after : (c : PageCommand) → IsAllowed shape c (outline s) → IsKept shape (after c s)
   unfolding last
   kept_after (write_as t addr bytes) placed = record {
@@ -176,6 +185,10 @@ module _ (shape : Shape) (s : PagesState) (kept : IsKept shape s) where
   kept_after (end t false) none = record {
     long = kept.long;
     each = with_two (λ u o saved. IsKeptOf shape saved (s.top u) (listed o)) s.store.logs s.saved t None [] (kept_none shape (s.top t) none) kept.each;
+  }
+  kept_after (end_group ts) allowed = record {
+    long = length-applied (group_log s.store.logs ts) s.store.bytes (group_fits ts) ∙ kept.long;
+    each = with_each_two (λ u o saved. IsKeptOf shape saved (s.top u) (listed o)) s.store.logs s.saved ts None [] (λ u is. kept_none shape (s.top u) (allowed u is)) kept.each;
   }
   kept_after (read_as t) allowed = kept
   kept_after read allowed = kept

@@ -15,6 +15,7 @@ pub mod Others
 pub mod Ordered
 pub mod Shown
 pub mod Lifting
+pub mod Grouping
 pub mod Editing
 pub mod Marking
 pub mod Writing

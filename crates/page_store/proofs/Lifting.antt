@@ -22,7 +22,7 @@ use Rattle.page_store.specs.Command.{PageCommand, after}
 use Rattle.page_store.specs.Device.{device, done, ranges_done, if_live}
 use Rattle.page_store.specs.Outline.{Outline, outline_after}
 use Rattle.page_store.specs.Kept.{IsOrdered, IsAllowed}
-use Rattle.page_store.specs.Does.{Does, Becomes, Cause, HasRoom, IsFull, named_by}
+use Rattle.page_store.specs.Does.{Does, Becomes, Cause, HasRoom, IsFull, Names}
 use Rattle.page_store.specs.Shown.{PagesView, outline_of, state_of}
 use Rattle.page_store.specs.Told.{IsKnown, told_as, TellsAs, DoesWhereLive}
 use Rattle.page_store.specs.declared.fault.PageFault.{PageFault}
@@ -43,7 +43,7 @@ pub record Makes (tells : Bool) (c : PageCommand) (d : Command) (old : PagesView
   pub told : IsTrue tells → old.store.is_dead ≡ false → IsTold old.store
   pub room : causes.room_for old.store d None → HasRoom old c
   pub full : (g h n : ℕ) → causes.room_for old.store d (Some (g, h, n)) → IsFull old c g h n
-  pub number : (u : ℕ) → (named_by c ≡ Some u → ⊥) → causes.IsNumberOf d u → ⊥
+  pub number : (u : ℕ) → (Names c u → ⊥) → causes.IsNumberOf d u → ⊥
 
 module _ (tells : Bool) (Opens : List ℕ → List ℕ → Type 0) (c : PageCommand) (d : Command) (old new : PagesView) (makes : Makes tells c d old) where
   -- the data after it
@@ -207,7 +207,7 @@ module _ (tells : Bool) (Opens : List ℕ → List ℕ → Type 0) (c : PageComm
     (device_is : device c (outline_of old) ≡ if_live (outline_of old) t d)
     (alive : old.store.is_dead ≡ false) (allowed : IsAllowed old.store.shape c (outline_of old)) (ordered : IsOrdered (outline_of old)) (told : IsTrue tells → IsTold old.store)
     (room : HasRoom old c) (full : (g h n : ℕ) → causes.room_for old.store d (Some (g, h, n)) → IsFull old c g h n)
-    (number : (u : ℕ) → (named_by c ≡ Some u → ⊥) → causes.IsNumberOf d u → ⊥) where
+    (number : (u : ℕ) → (Names c u → ⊥) → causes.IsNumberOf d u → ⊥) where
   makes_live : (log : List (ℕ × ℕ)) → old.store.ranges t ≡ Some log → Makes tells c d old
   makes_live log is = record {
     device_is = device_is ∙ ap (option_map (λ ranges. d)) is;

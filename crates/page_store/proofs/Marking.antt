@@ -1,8 +1,10 @@
 -- What is kept of numbers, after a change of one.
-use Rattle.std.proofs.Common.{◌≡◌, ℕ, zero, suc, ◌<◌, ◌≤◌, inl, inr, List, [], ◌∷◌, length, get_or, refl, sym, ◌∙◌, ap, set, arith}
+use Rattle.std.proofs.Common.{◌≡◌, ℕ, zero, suc, ◌<◌, ◌≤◌, inl, inr, List, [], ◌∷◌, ◌++◌, length, get_or, take, drop, refl, sym, ◌∙◌, ap, set, arith}
 use Rattle.std.specs.Prelude.{Option, Some, None, slice_get}
 use Rattle.std.specs.Option.{option_map, option_and_then, unwrap_or}
 use Rattle.std.proofs.lemmas.Bool.{cases_eq}
+use Rattle.std.proofs.lemmas.List.{take-append-le, take_all}
+use Rattle.std.proofs.lemmas.Option.{slice_get_past}
 use Rattle.page_store.specs.State.{with_one}
 use Rattle.page_store.specs.Marked.{Marked}
 use Rattle.page_store.specs.Shown.{counts_in, top_in}
@@ -74,3 +76,15 @@ module _ (marks : List Marked) (t k : ℕ) (k_is : k ≡ t) (there : t < length 
 
     pub top_stay : m'.top ≡ m.top → top_in (set marks k m') ≡ top_in marks
     top_stay is = top_become (top_in marks t) (is ∙ sym was.1) ∙ with_same (top_in marks) t (top_in marks t) refl
+
+-- a number beyond the array's has saved nothing
+pub counts_past : (marks : List Marked) (t : ℕ) → length marks ≤ t → counts_in marks t ≡ []
+counts_past marks t past = ap (λ (o : Option Marked). unwrap_or (option_map (λ x. x.counts) o) []) (slice_get_past marks t past)
+
+-- nor begun a top action
+pub top_past : (marks : List Marked) (t : ℕ) → length marks ≤ t → top_in marks t ≡ None
+top_past marks t past = ap (λ (o : Option Marked). option_and_then (λ x. x.top) o) (slice_get_past marks t past)
+
+-- a list that is written over a list of its length
+pub written_over : (n : ℕ) (items new : List Marked) → n ≡ length items → length new ≡ length items → take n (new ++ drop (length new) items) ≡ new
+written_over n items new is same = take-append-le n new (drop (length new) items) (omega arith) ∙ take_all n new (omega arith)

@@ -6,9 +6,10 @@ use Rattle.std.proofs.lemmas.List.{take-map}
 use Rattle.array_shape.specs.declared.shape.Shape.{Shape}
 use Rattle.array_shape.specs.Logged.{Part, ranges_of}
 use Rattle.eaw_face.specs.State.{listed}
+use Rattle.eaw_face.proofs.Groups.{with_each_over}
 use Rattle.page_store.specs.Edit.{with_write, with_range}
 use Rattle.page_store.specs.State.{PagesState, log_of, with_one, save_at, floor_of}
-use Rattle.page_store.specs.Command.{PageCommand, write_as, save, back, top_begin, top_end, end, read_as, read, after}
+use Rattle.page_store.specs.Command.{PageCommand, write_as, save, back, top_begin, top_end, end, end_group, read_as, read, after}
 use Rattle.page_store.specs.Kept.{IsFront, IsKept, IsAllowed}
 use Rattle.page_store.specs.Outline.{outline, count_at, floor_in, outline_after}
 use Rattle.page_store.proofs.Exact.{write_ranges}
@@ -97,6 +98,11 @@ outline_does shape (top_end t mark) s kept allowed = λ i. record {
 outline_does shape (end t commits) s kept allowed = λ i. record {
   ranges = over (option_map ranges_of) s.store.logs t None None refl i;
   counts = over (map length) s.saved t [] [] refl i;
+  top = s.top;
+}
+outline_does shape (end_group ts) s kept allowed = λ i. record {
+  ranges = with_each_over (option_map ranges_of) s.store.logs ts None None refl i;
+  counts = with_each_over (map length) s.saved ts [] [] refl i;
   top = s.top;
 }
 outline_does shape (read_as t) s kept allowed = refl

@@ -16,7 +16,7 @@ use Rattle.eaw_face.specs.declared.fault.EawFault.TheVariants as fault
 use Rattle.page_store.specs.State.{PagesState}
 use Rattle.page_store.specs.Command.{PageCommand, after}
 use Rattle.page_store.specs.Outline.{Outline, outline_after}
-use Rattle.page_store.specs.Does.{Does, Cause, HasRoom, Becomes, named_by}
+use Rattle.page_store.specs.Does.{Does, Cause, HasRoom, Becomes, Names}
 use Rattle.page_store.specs.Reads.{Reads, IsRead, ReadCause}
 use Rattle.page_store.specs.Shown.{PagesView, outline_of, state_of}
 use Rattle.page_store.specs.Told.{IsKnown, told_as, TellsAs}
@@ -30,10 +30,10 @@ NotMedia _ = Unit {0}
 -- a command of the store that reads, of a number that is live
 module _ (tells : Bool) (Opens : List ℕ → List ℕ → Type 0) (t : ℕ) (d : Command) (old new : StoreView)
     (same : (s : State) → model.after d s ≡ s) (same_ranges : (rs : Logs (ℕ × ℕ)) → model.ranges_after d rs ≡ rs)
-    (knows : causes.Knows old d) (room : (g h n : ℕ) → causes.room_for old d (Some (g, h, n)) → ⊥) where
+    (unknown : (u : ℕ) → causes.known old d (Some u) → ⊥) (room : (g h n : ℕ) → causes.room_for old d (Some (g, h, n)) → ⊥) where
   cause_of : {T : Type 0} (r : Result T EawFault) → causes.Cause old d new.faults r → ReadCause old new.faults r
   cause_of (Ok x) cause = cause.0
-  cause_of (Err (fault.UnknownTid t)) cause = absurd (cause.2 knows)
+  cause_of (Err (fault.UnknownTid u)) cause = absurd (unknown u cause.1)
   cause_of (Err (fault.LogFull g h n)) cause = absurd (room g h n cause.2)
   cause_of (Err fault.Media) cause = (cause.0, cause.3)
   cause_of (Err fault.Dead) cause = cause
@@ -148,7 +148,7 @@ reads_none tells Opens t old x alive = record {
 -- As a command of pages that changes nothing.
 module _ (tells : Bool) (Opens : List ℕ → List ℕ → Type 0) (t : ℕ) (c : PageCommand) (old new : PagesView)
     (same : (s : PagesState) → after c s ≡ s) (same_outline : (o : Outline) → outline_after c o ≡ o) (room : HasRoom old c)
-    (counts : new.counts ≡ old.counts) (top : new.top ≡ old.top) (number : (u : ℕ) → (named_by c ≡ Some u → ⊥) → new.store.ranges u ≡ old.store.ranges u) where
+    (counts : new.counts ≡ old.counts) (top : new.top ≡ old.top) (number : (u : ℕ) → (Names c u → ⊥) → new.store.ranges u ≡ old.store.ranges u) where
   page_cause : {T U : Type 0} (r : Result T EawFault) (s : Result U PageFault) → TellsAs r s → ReadCause old.store new.store.faults r → Cause old c new.store.faults s
   page_cause (Ok x) (Ok y) as_told cause = (cause, room)
   page_cause (Ok x) (Err p) as_told cause = absurd as_told

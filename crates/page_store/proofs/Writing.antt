@@ -57,7 +57,7 @@ module _ (tells : Bool) (old : PagesView) (t addr : ℕ) (bytes : List ℕ) (pla
     told = told;
     room = λ has none. absurd (subst IsThere (sym is ∙ none) tt);
     full = λ g h n no. absurd no;
-    number = λ u ne same. ne (ap Some (sym same));
+    number = λ u ne same. ne same;
   }
 
   pub makes_write : edits_at old t addr (length bytes) ≡ None → Makes tells (write_as t addr bytes) (log_write t addr bytes) old
@@ -70,7 +70,7 @@ module _ (tells : Bool) (old : PagesView) (t addr : ℕ) (bytes : List ℕ) (pla
         told = told;
         room = λ fits none'. subst (λ (rs : List (ℕ × ℕ)). causes.fit old.store.shape (listed (old.store.ranges t)) rs None) one fits;
         full = λ g h n full. (none, subst (λ (rs : List (ℕ × ℕ)). causes.fit old.store.shape (listed (old.store.ranges t)) rs (Some (g, h, n))) one full);
-        number = λ u ne same. ne (ap Some (sym same));
+        number = λ u ne same. ne same;
       }
 
   -- where an edited part lies, and that it exists

@@ -1,11 +1,11 @@
 -- The command of the store that a command of pages makes, if it makes one. Apart from reads, none makes two. It follows from
 -- where parts lie and how many were saved.
-use Rattle.std.specs.Prelude.{ℕ, if◌then◌else◌, List, length, Option, Some, None}
+use Rattle.std.specs.Prelude.{ℕ, if◌then◌else◌, List, length, filter, is_some, Option, Some, None}
 use Rattle.std.specs.Option.{option_map}
 use Rattle.eaw_face.specs.State.{Logs, State, listed}
-use Rattle.eaw_face.specs.Command.{Command, log_write, log_edit, commit, abort, nested_top, partial_abort, after, ranges_after}
+use Rattle.eaw_face.specs.Command.{Command, log_write, log_edit, commit, commit_group, abort, nested_top, partial_abort, after, ranges_after}
 use Rattle.page_store.specs.Edit.{edit_pos}
-use Rattle.page_store.specs.Command.{PageCommand, write_as, save, back, top_begin, top_end, end, read_as, read}
+use Rattle.page_store.specs.Command.{PageCommand, write_as, save, back, top_begin, top_end, end, end_group, read_as, read}
 use Rattle.page_store.specs.Outline.{Outline, count_at, floor_in}
 
 -- an edit of the part at this position, or a write
@@ -24,6 +24,7 @@ device (back t n) o = if_live o t (partial_abort t (count_at (o.counts t) n))
 device (top_begin t) o = None
 device (top_end t mark) o = if_live o t (nested_top t mark)
 device (end t commits) o = if_live o t (if commits then commit t else abort t)
+device (end_group ts) o = Some (commit_group (filter (λ t. is_some (o.ranges t)) ts))
 device (read_as t) o = None
 device read o = None
 

@@ -7,7 +7,7 @@ use Rattle.eaw_face.specs.Causes.{IsAlive, fit}
 use Rattle.eaw_face.specs.Does.{IsEither}
 use Rattle.page_store.specs.Edit.{edit_pos}
 use Rattle.page_store.specs.Outline.{outline_after, floor_in}
-use Rattle.page_store.specs.Command.{PageCommand, write_as, save, read_as, after, number_of}
+use Rattle.page_store.specs.Command.{PageCommand, write_as, save, read_as, after, WorksFor}
 use Rattle.page_store.specs.Shown.{PagesView, outline_of, state_of}
 use Rattle.page_store.specs.declared.fault.PageFault.{PageFault}
 use Rattle.page_store.specs.declared.fault.PageFault.TheVariants.{LogFull, SavesFull, Media, Dead, Damaged}
@@ -47,10 +47,10 @@ pub record Becomes (tells : Bool) (command : PageCommand) (old new : PagesView) 
   pub outline : outline_of new ≡ outline_after command (outline_of old)
   pub state : IsTrue tells → state_of new ≡ after command (state_of old)
 
--- the number that a command names
-abbrev pub named_by : PageCommand → Option ℕ
-named_by (read_as t) = Some t
-named_by command = number_of command
+-- u is a number that a command names
+abbrev pub Names : PageCommand → ℕ → Type 0
+Names (read_as t) u = u ≡ t
+Names command u = WorksFor command u
 
 -- A call of pages over a store, where `Opens` says which data an image opens with. Each answer has its cause. An Ok is the model's
 -- command, and hides no fault. A refusal leaves saves and open top actions. A fault of the medium leaves the store dead. Whatever the
@@ -63,5 +63,5 @@ pub record Does {T : Type 0} (tells : Bool) (Opens : List ℕ → List ℕ → T
   pub done : OnOk result (Becomes tells command old new)
   pub marks : OnErr result ((new.counts ≡ old.counts) × (new.top ≡ old.top))
   pub dies : IsErrOf result Media → new.store.is_dead ≡ true
-  pub others : (u : ℕ) → (named_by command ≡ Some u → ⊥) → new.store.ranges u ≡ old.store.ranges u
+  pub others : (u : ℕ) → (Names command u → ⊥) → new.store.ranges u ≡ old.store.ranges u
   pub time : IsTrue tells → old.store.is_dead ≡ false → LeavesOnly (IsEither Opens old.store.state.bytes (after command (state_of old)).store.bytes) old.store new.store

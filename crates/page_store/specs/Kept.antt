@@ -1,13 +1,13 @@
 -- What holds of pages between any two commands, and when a command may be given.
-use Rattle.std.specs.Prelude.{ℕ, ◌≡◌, ◌<◌, ◌≤◌, List, [], length, take, slice_index_or, Option, Some, None}
+use Rattle.std.specs.Prelude.{ℕ, ◌≡◌, ◌<◌, ◌≤◌, true, false, List, [], length, take, slice_index_or, Option, Some, None}
 use Rattle.std.specs.Option.{unwrap_or}
 use Rattle.array_shape.specs.declared.shape.Shape.{Shape}
 use Rattle.array_shape.specs.Places.{data_len, IsPlaced}
 use Rattle.array_shape.specs.Logged.{Part, AllPlaced}
-use Rattle.eaw_face.specs.State.{listed}
+use Rattle.eaw_face.specs.State.{listed, is_one_of}
 use Rattle.page_store.specs.State.{PagesState, log_of}
 use Rattle.page_store.specs.Outline.{Outline}
-use Rattle.page_store.specs.Command.{PageCommand, write_as, save, back, top_begin, top_end, end, read_as, read}
+use Rattle.page_store.specs.Command.{PageCommand, write_as, save, back, top_begin, top_end, end, end_group, read_as, read}
 
 -- a list is the first parts of a log
 abbrev pub IsFront : List Part → List Part → Type 0
@@ -46,6 +46,7 @@ IsAllowed shape (back t n) o = (0 < n) × (n ≤ length (o.counts t)) × (o.top 
 IsAllowed shape (top_begin t) o = o.top t ≡ None
 IsAllowed shape (top_end t mark) o = o.top t ≡ Some mark
 IsAllowed shape (end t commits) o = o.top t ≡ None
+IsAllowed shape (end_group ts) o = (t : ℕ) → is_one_of ts t ≡ true → o.top t ≡ None
 IsAllowed shape (read_as t) o = Unit {0}
 IsAllowed shape read o = Unit {0}
 
@@ -57,5 +58,6 @@ Spares (back u m) t n = u ≡ t → n ≤ m
 Spares (top_begin u) t n = Unit {0}
 Spares (top_end u mark) t n = Unit {0}
 Spares (end u commits) t n = u ≡ t → ⊥
+Spares (end_group us) t n = is_one_of us t ≡ false
 Spares (read_as u) t n = Unit {0}
 Spares read t n = Unit {0}

@@ -6,7 +6,7 @@ ghost use Rattle.array_shape.specs.Logged.{Part, AllFit, AllPlaced, applied, ran
 ghost use Rattle.eaw_face.specs.State.{part_at};
 ghost use Rattle.page_store.specs.Edit.{meet, AreApart, edit_pos, IsEdited};
 ghost use Rattle.page_store.specs.State.{PagesState, log_of, view_of};
-ghost use Rattle.page_store.specs.Command.{PageCommand, write_as, save, back, top_end, after, number_of, IsQuiet};
+ghost use Rattle.page_store.specs.Command.{PageCommand, write_as, save, back, top_end, after, WorksFor, IsQuiet};
 ghost use Rattle.page_store.specs.Device.{device, done, ranges_done};
 ghost use Rattle.page_store.specs.Ready.{IsReady};
 ghost use Rattle.page_store.specs.Outline.{Outline, outline, outline_after};
@@ -66,9 +66,9 @@ pub fn parts_are_read()
 
 /// A command leaves the parts, the saves and the mark of every number that it does not work for, and the data if it is quiet.
 pub fn others_stay()
-    ensures parts { (c : PageCommand) (s : PagesState) (u : ℕ) → (number_of c ≡ Some u → ⊥) → log_of (after c s) u ≡ log_of s u }
-    ensures saves { (c : PageCommand) (s : PagesState) (u : ℕ) → (number_of c ≡ Some u → ⊥) → (after c s).saved u ≡ s.saved u }
-    ensures mark { (c : PageCommand) (s : PagesState) (u : ℕ) → (number_of c ≡ Some u → ⊥) → (after c s).top u ≡ s.top u }
+    ensures parts { (c : PageCommand) (s : PagesState) (u : ℕ) → (WorksFor c u → ⊥) → log_of (after c s) u ≡ log_of s u }
+    ensures saves { (c : PageCommand) (s : PagesState) (u : ℕ) → (WorksFor c u → ⊥) → (after c s).saved u ≡ s.saved u }
+    ensures mark { (c : PageCommand) (s : PagesState) (u : ℕ) → (WorksFor c u → ⊥) → (after c s).top u ≡ s.top u }
     ensures committed { (c : PageCommand) (s : PagesState) → IsQuiet c → (after c s).store.bytes ≡ s.store.bytes }
 {}
 

@@ -1,13 +1,14 @@
 // Pages over a store of editable atomic writes.
-ghost use Rattle.std.specs.Prelude.{◌≡◌, ◌≢◌, ◌↔◌, ◌+◌, ◌^◌, ◌<◌, ◌≤◌, ℕ, List, None, Some, is_some, filter, if◌then◌else◌, IsTrue, IsOk, IfOk, IfErr, OnErr, OnOk, IsErrOf, length};
+ghost use Rattle.std.specs.Prelude.{◌≡◌, ◌≢◌, ◌↔◌, ◌+◌, ◌^◌, ◌<◌, ◌≤◌, ℕ, [], true, List, None, Some, is_some, filter, if◌then◌else◌, IsTrue, IsOk, IfOk, IfErr, OnErr, OnOk, IsErrOf, length};
 ghost use Rattle.mars_base.specs.Bytes.{put, range};
+ghost use Rattle.array_shape.specs.NumberSet.{members};
 ghost use Rattle.array_shape.specs.Places.{data_len};
 ghost use Rattle.array_shape.specs.Logged.{applied};
 ghost use Rattle.eaw_face.specs.Causes.{IsAlive};
 ghost use Rattle.eaw_face.specs.Command.{commit, abort, nested_top, partial_abort};
-ghost use Rattle.eaw_face.specs.State.{listed, part_at};
+ghost use Rattle.eaw_face.specs.State.{listed, group_log, is_one_of, with_each, part_at};
 ghost use Rattle.eaw_face.specs.StoreView.{log_len};
-ghost use Rattle.page_store.specs.Command.{write_as, save, back, top_begin, top_end, end, read_as, read};
+ghost use Rattle.page_store.specs.Command.{write_as, save, back, top_begin, top_end, end, end_group, read_as, read};
 ghost use Rattle.page_store.specs.Does.{Becomes, Does};
 ghost use Rattle.page_store.specs.Edit.{edit_pos, meet};
 ghost use Rattle.page_store.specs.Fits.{FitAll, LacksRoom, is_page_on};
@@ -20,7 +21,7 @@ ghost use Rattle.page_store.specs.State.{view_of};
 use crate::fault::PageFault;
 use crate::marks::Marks;
 use crate::room::SaveRoom;
-use array_shape::Shape;
+use array_shape::{NumberSet, Shape};
 use eaw_face::{EawFault, EawStore};
 use mars_base::NoMemory;
 use std::alloc::Global;
@@ -259,6 +260,26 @@ impl<S: EawStore> Pages<S> {
         Ok(())
     }
 
+    /// Commits the live numbers of a set, all at once, and forgets the saves of all its numbers. They are then free. What the lowest
+    /// number has written goes into the data first.
+    pub fn end_group(&mut self, tids: NumberSet) -> Result<(), PageFault>
+        requires closed { IsAlive (S.view self.old.store) → (t : ℕ) → t < (S.view self.old.store).shape.numbers → is_one_of (members tids) t ≡ true → top_in self.old.marks t ≡ None }
+        ensures does { Does S.tells (S.opens (S.view self.old.store).shape) (end_group (members tids))
+            (pages_of (S.view self.old.store) self.old) (pages_of (S.view self.new.store) self.new) result }
+        ensures refused { IfErr result (λ fault. fault ≢ PageFault.Media → self.new ≡ self.old) }
+        // A commit of nothing uses no medium.
+        ensures due { IsErrOf result PageFault.Media → 0 < length (group_log (S.view self.old.store).ranges (members tids)) }
+        ensures idle { length (group_log (S.view self.old.store).ranges (members tids)) ≡ 0 → (S.view self.new.store).moment ≡ (S.view self.old.store).moment }
+    {
+        if self.store.is_dead() {
+            return Err(PageFault::Dead);
+        }
+        let live = live_among(&self.store, tids);
+        told(self.store.commit_group(live))?;
+        forget_saves(&mut self.marks, tids);
+        Ok(())
+    }
+
     /// Whether there is room for one more part of the number in each of these pages. A page that is named twice counts twice.
     pub fn fits(&self, tid: u8, pages: &[u32]) -> Result<(), PageFault>
         requires tid { tid < (S.view self.now.store).shape.numbers }
@@ -464,6 +485,33 @@ fn end_number<S: EawStore>(store: &mut S, tid: u8, commits: bool) -> Result<(), 
         told(store.commit(tid))
     } else {
         told(store.abort(tid))
+    }
+}
+
+// The live numbers of a set.
+fn live_among<S: EawStore>(store: &S, tids: NumberSet) -> NumberSet
+    ensures { members result ≡ filter (λ t. is_some ((S.view store.now).ranges t)) (members tids) }
+{
+    let mut live = NumberSet::empty();
+    for tid in 0..store.shape().numbers {
+        if tids.contains(tid) && store.is_live(tid) {
+            live = live.with(tid);
+        }
+    }
+    live
+}
+
+// Forgets the saves of the numbers of a set, as far as they are the array's.
+fn forget_saves(marks: &mut [Marks], tids: NumberSet)
+    ensures many { length marks.new ≡ length marks.old }
+    ensures counts { counts_in marks.new ≡ with_each (counts_in marks.old) (members tids) [] }
+    ensures top { top_in marks.new ≡ top_in marks.old }
+{
+    for tid in tids.members() {
+        let at = usize::from(tid);
+        if at < marks.len() {
+            marks[at].cut(0);
+        }
     }
 }
 

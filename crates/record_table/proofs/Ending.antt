@@ -51,17 +51,14 @@ media_told (Err fault.SavesFull) s is e = absurd (cc)
 media_told (Err (fault.LogFull g h n)) s is e = absurd (cc)
 media_told (Err (fault.Damaged page)) s is e = absurd (cc)
 
-same_number : (a b : ℕ) → Some a ≡ Some b → a ≡ b
-same_number a b e = cc
-
 -- parts that stand for no writes
-no_parts : (index : Index) (log : List Part) (bytes : List ℕ) → writes_of log ≡ [] → applied log bytes ≡ bytes
+pub no_parts : (index : Index) (log : List Part) (bytes : List ℕ) → writes_of log ≡ [] → applied log bytes ≡ bytes
 no_parts index [] bytes none = refl
 no_parts index (p ∷ ps) bytes none = absurd (cc)
 
 -- A call of pages that is one of records: it does to the state of pages what that does to the state of records.
 pub record IsCall (tells : Bool) (index : Index) (pc : PageCommand) (t : ℕ) (c : Call) (old : PagesView) : Type 0 where
-  pub named : page_does.named_by pc ≡ Some t
+  pub named : (u : ℕ) → page_does.Names pc u → u ≡ t
   pub sound : IsTrue tells → index.sound (page.after pc (pages.state_of old)).store.bytes
   pub parts : IsTrue tells → (u : ℕ) → AreSlotParts index (page.after pc (pages.state_of old)).store.bytes (log_of (page.after pc (pages.state_of old)) u)
   pub shown : IsTrue tells → (reply : Reply) → shown_by index (page.after pc (pages.state_of old)) ≡ after t c reply (state_of index old)
@@ -104,7 +101,7 @@ module _ (tells : Bool) (Opens : List ℕ → List ℕ → Type 0) (index : Inde
           quiet = λ told _ still. ap (λ (s : PagesState). s.store.bytes) (now told) ∙ is.quiet told still;
           saves = ap (λ (o : Outline). length (o.counts t)) out ∙ is.saves;
           same_saves = tt;
-          others = λ u ne. (does.others u (λ e. ne (sym (same_number t u (sym is.named ∙ e)))), ap (λ (o : Outline). o.counts u) out ∙ is.other_saves u ne);
+          others = λ u ne. (does.others u (λ e. ne (is.named u e)), ap (λ (o : Outline). o.counts u) out ∙ is.other_saves u ne);
           time = λ told _. time_of (let r : Result T PageFault = Ok answer in r) alive does told;
         },
         λ living. record {
@@ -130,7 +127,7 @@ module _ (tells : Bool) (Opens : List ℕ → List ℕ → Type 0) (index : Inde
           quiet = λ told well. absurd (false≢true (sym well));
           saves = tt;
           same_saves = does.marks.0;
-          others = λ u ne. (does.others u (λ e. ne (sym (same_number t u (sym is.named ∙ e)))), ap (λ (f : ℕ → List ℕ). f u) does.marks.0);
+          others = λ u ne. (does.others u (λ e. ne (is.named u e)), ap (λ (f : ℕ → List ℕ). f u) does.marks.0);
           time = λ told _. time_of (let r : Result T PageFault = Err fault.Media in r) alive does told;
         },
         holds_dead tells Opens index t c old new (does.dies refl),
@@ -192,7 +189,7 @@ back_right index old t n some there = (
 module _ (tells : Bool) (index : Index) (laws : Laws index) (old : PagesView) (rests : Rests tells index old) (t : ℕ) where
   pub save_is : IsCall tells index (page.save t) t Save old
   save_is = record {
-    named = refl;
+    named = λ u is. is;
     sound = λ told. (rests.tied told).sound;
     parts = λ told. (rests.tied told).parts;
     shown = λ told reply. shown_save index laws (pages.state_of old) t reply;
@@ -212,7 +209,7 @@ module _ (tells : Bool) (index : Index) (laws : Laws index) (old : PagesView) (r
   back_is n some there ordered told_by =
       let front = λ (told : IsTrue tells). ((kept old (told_by told) ordered).each t).fronts (n - 1) (omega (arith, length-map (old.counts t) (λ count. take count (listed (old.store.state.logs t))))) in
       record {
-        named = refl;
+        named = λ u is. is;
         sound = λ told. (rests.tied told).sound;
         parts = λ told. parts_back index laws (pages.state_of old) t (rests.tied told).sound (rests.tied told).parts n (front told);
         shown = λ told reply. shown_back index laws (pages.state_of old) t n reply (has_save_is ((state_of index old).logs t).saved n some (subst (λ (k : ℕ). n ≤ k) (sym (length-saves index old t)) there)) (front told);
@@ -230,7 +227,7 @@ module _ (tells : Bool) (index : Index) (laws : Laws index) (old : PagesView) (r
 
   pub abort_is : IsCall tells index (page.end t false) t Abort old
   abort_is = record {
-    named = refl;
+    named = λ u is. is;
     sound = λ told. (rests.tied told).sound;
     parts = λ told. parts_abort index laws (pages.state_of old) t (rests.tied told).sound (rests.tied told).parts;
     shown = λ told reply. shown_abort index laws (pages.state_of old) t reply;
@@ -250,7 +247,7 @@ module _ (tells : Bool) (index : Index) (laws : Laws index) (old : PagesView) (r
   commit_is =
       let w = λ (told : IsTrue tells). applied_parts index laws (listed (old.store.state.logs t)) old.store.state.bytes (rests.tied told).sound ((rests.tied told).parts t) in
       record {
-        named = refl;
+        named = λ u is. is;
         sound = λ told. (w told).sound;
         parts = λ told. parts_commit index laws (pages.state_of old) t (rests.tied told).sound (rests.tied told).parts;
         shown = λ told reply. shown_commit index laws (pages.state_of old) t reply (rests.tied told).sound ((rests.tied told).parts t);

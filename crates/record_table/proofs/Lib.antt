@@ -8,6 +8,7 @@ pub mod Moving
 pub mod Wrote
 pub mod Doing
 pub mod Ending
+pub mod Grouping
 pub mod Putting
 pub mod RowsOf
 pub mod Gathering

@@ -16,9 +16,6 @@ use Rattle.page_store.specs.declared.fault.PageFault.{PageFault}
 use Rattle.page_store.specs.declared.fault.PageFault.TheVariants.{LogFull, SavesFull, Media, Dead, Damaged}
 use Rattle.record_table.specs.Sought.{LooksAs}
 
-same_number : (a b : ℕ) → Some a ≡ Some b → a ≡ b
-same_number a b e = cc
-
 module _ (tells : Bool) (Opens : List ℕ → List ℕ → Type 0) (t : ℕ) where
   pub looks_as : (failed : Bool) (old new : PagesView) → Looks tells Opens failed old new → LooksAs tells Opens t failed old new
   looks_as failed old new looks = record {
@@ -87,7 +84,7 @@ module _ (tells : Bool) (Opens : List ℕ → List ℕ → Type 0) (t : ℕ) whe
         shape = does.shape;
         saves = does.marks.0;
         tops = does.marks.1;
-        others = λ u ne. does.others u (λ e. ne (sym (same_number t u e)));
+        others = λ u ne. does.others u ne;
         same = λ well. absurd (false≢true (sym well));
         dies = λ failed. (does.dies refl, does.cause.2);
         time = λ told alive. weaker (λ image either. elim either [ inl before ↦ before | inr behind ↦ behind ]) (does.time told alive);

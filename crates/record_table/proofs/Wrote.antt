@@ -49,9 +49,6 @@ pub record Wrote (tells : Bool) (Opens : List ℕ → List ℕ → Type 0) (inde
   pub room : IsTrue tells → HasRoom index t old key slot
   pub time : IsTrue tells → LeavesOnly (λ image. OpensWith Opens index image (state_of index old).table) old.store new.store
 
-same_number : (a b : ℕ) → Some a ≡ Some b → a ≡ b
-same_number a b e = cc
-
 pub none_is : {A : Type 0} (o : Option A) → is_some o ≡ false → o ≡ None
 none_is None e = refl
 none_is (Some k) e = absurd (false≢true (sym e))
@@ -112,7 +109,7 @@ module _ (tells : Bool) (Opens : List ℕ → List ℕ → Type 0) (index : Inde
         faults = does.kept;
         counts = ap (λ (o : Outline). o.counts) out;
         tops = ap (λ (o : Outline). o.top) out;
-        others = λ u ne. does.others u (λ e. ne (sym (same_number t u e)));
+        others = λ u ne. does.others u ne;
         bytes = λ told. ap (λ (s : PagesState). s.store.bytes) (now told);
         state = λ told.
             ap (shown_by index) (now told)
@@ -133,7 +130,7 @@ module _ (tells : Bool) (Opens : List ℕ → List ℕ → Type 0) (index : Inde
     shape = does.shape;
     dies = (does.dies refl, does.cause.2);
     counts = does.marks.0;
-    others = λ u ne. does.others u (λ e. ne (sym (same_number t u e)));
+    others = λ u ne. does.others u ne;
     time = write_time (let r : Result T PageFault = Err Media in r) does;
   }
 

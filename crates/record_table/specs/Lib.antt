@@ -3,6 +3,7 @@ pub mod Calls
 pub mod Shown
 pub mod Causes
 pub mod Does
+pub mod Groups
 pub mod Invariant
 pub mod Attached
 pub mod Sought

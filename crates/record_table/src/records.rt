@@ -1,5 +1,6 @@
 // Records over pages, under an index.
 ghost use Rattle.std.specs.Prelude.{◌≡◌, ◌<◌, ◌≤◌, ℕ, [], None, IfOk, IfErr, OnErr, IsErrOf, IsTrue, if◌then◌else◌, filter, length};
+ghost use Rattle.array_shape.specs.NumberSet.{members};
 ghost use Rattle.eaw_face.specs.Causes.{IsAlive};
 ghost use Rattle.eaw_face.specs.State.{listed};
 ghost use Rattle.page_store.specs.Looks.{Looks};
@@ -8,6 +9,7 @@ ghost use Rattle.history.specs.Table.{found};
 ghost use Rattle.history.specs.declared.call.Call.TheVariants.{Get, Put, Del, Scan, Save, Back, Commit, Abort};
 ghost use Rattle.history.specs.declared.call.Reply.TheVariants.{Fine, Absent, Listed, Saved, Committed};
 ghost use Rattle.record_table.specs.Attached.{Attached, AttachCause, is_refused_by_media};
+ghost use Rattle.record_table.specs.Groups.{CommitsGroup, group_writes};
 ghost use Rattle.record_table.specs.Does.{Does, replied, is_failed};
 ghost use Rattle.record_table.specs.Shown.{state_of, held_on, is_write_on, AreNamed};
 ghost use Rattle.record_table.specs.Sought.{LooksAs};
@@ -16,7 +18,7 @@ use crate::fault::{AttachRecords, TableFault};
 use crate::scanning::gather;
 use crate::slots::{seek, value_at, write_as};
 use crate::told::told;
-use array_shape::Shape;
+use array_shape::{NumberSet, Shape};
 use eaw_face::EawStore;
 use history::Rows;
 use page_store::{CheckFault, KeyIndex, Pages};
@@ -220,6 +222,19 @@ impl<S: EawStore, K: KeyIndex> Records<S, K> {
         ensures dead { IsErrOf result TableFault.Dead → self.new ≡ self.old }
     {
         told(self.pages.end(tid, true))
+    }
+
+    /// Makes what the numbers of a set have written part of the table, all at once, that of the lowest number first, and forgets their
+    /// saves. A number that has written nothing adds nothing.
+    pub fn commit_group(&mut self, tids: NumberSet) -> Result<(), TableFault>
+        ensures does { CommitsGroup S.tells (S.opens (S.view self.old.store).shape) K.index (members tids)
+            (pages_of (S.view self.old.store) self.old) (pages_of (S.view self.new.store) self.new) result }
+        // A commit of nothing uses no medium.
+        ensures due { IsTrue S.tells → IsAlive (S.view self.old.store) → IsErrOf result TableFault.Media
+            → 0 < length (group_writes (state_of K.index (pages_of (S.view self.old.store) self.old)) (members tids)) }
+        ensures dead { IsErrOf result TableFault.Dead → self.new ≡ self.old }
+    {
+        told(self.pages.end_group(tids))
     }
 
     /// Discards what the number has written, and its saves.

@@ -1,12 +1,8 @@
 -- What the rows of a commit are voted with.
 use Rattle.std.specs.Prelude.{ℕ, ◌^◌, Bool, ◌&&◌, nat_eq, if◌then◌else◌}
-use Rattle.std.specs.Int.{bit_at}
+use Rattle.array_shape.specs.NumberSet.{has}
 use Rattle.row_bytes.specs.declared.ballot.Ballot.{Ballot}
 use Rattle.row_bytes.specs.declared.row.Row.{Row}
-
--- a mask has a logger, or a group has a number
-abbrev pub has : ℕ → ℕ → Bool
-has bits n = nat_eq (bit_at bits n) 1
 
 -- what the row of number t is voted with: group 0 stands for t alone
 abbrev pub ballot_of : ℕ → Row → Ballot

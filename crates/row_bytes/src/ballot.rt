@@ -1,6 +1,6 @@
 // What the rows of a commit are voted with.
 ghost use Rattle.std.specs.Prelude.{◌≡◌, ◌<◌};
-ghost use Rattle.row_bytes.specs.Ballots as ballots;
+ghost use Rattle.array_shape.specs.NumberSet as numbers;
 
 use crate::row::Row;
 
@@ -17,6 +17,7 @@ pub struct Ballot {
 
 impl Ballot {
     ghost use Rattle.std.specs.Prelude.{◌≡◌, ◌<◌, true};
+    ghost use Rattle.array_shape.specs.NumberSet as numbers;
     ghost use Rattle.row_bytes.specs.Ballots as ballots;
 
     /// That of a row of number `tid`.
@@ -44,7 +45,7 @@ impl Ballot {
     /// Whether the commit has a transaction number.
     pub fn has_number(self, tid: u8) -> bool
         requires { tid < 64 }
-        ensures { result ≡ ballots.has self.group tid }
+        ensures { result ≡ numbers.has self.group tid }
     {
         has(self.group, tid)
     }
@@ -52,7 +53,7 @@ impl Ballot {
     /// The row of number `tid` that names `count` cells from `first` on. The group of one number alone is written as 0.
     pub fn row(self, tid: u8, first: u16, count: u16) -> Row
         requires tid { tid < 64 }
-        requires has { ballots.has self.group tid ≡ true }
+        requires has { numbers.has self.group tid ≡ true }
         ensures ballot { ballots.ballot_of tid result ≡ self }
         ensures first { result.first ≡ first }
         ensures count { result.count ≡ count }
@@ -77,7 +78,7 @@ impl Ballot {
 // Whether a mask has a logger, or a group a number.
 fn has(bits: u64, n: u8) -> bool
     requires { n < 64 }
-    ensures { result ≡ ballots.has bits n }
+    ensures { result ≡ numbers.has bits n }
 {
     (bits >> n) & 1 == 1
 }

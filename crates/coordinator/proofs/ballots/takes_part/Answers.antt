@@ -1,6 +1,6 @@
 use Rattle.std.proofs.Common.{◌&&◌, true, sym, ◌∙◌, arith}
 use Rattle.std.specs.Prelude.{nat_lt}
-use Rattle.row_bytes.specs.Ballots.{has}
+use Rattle.array_shape.specs.NumberSet.{has}
 use Rattle.commit_queue.proofs.Counting.{any_from, any_none}
 use Rattle.coordinator.specs.Commits.{cells_in}
 use Rattle.coordinator.proofs.ballots.takes_part.Goals as goal

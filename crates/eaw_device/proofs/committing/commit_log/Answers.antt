@@ -8,7 +8,7 @@ use Rattle.array_shape.specs.Logged.{applied}
 use Rattle.array_image.specs.Image.{data_of}
 use Rattle.array_image.specs.Standing.{IsEither}
 use Rattle.array_image.proofs.Data.{length-data_of}
-use Rattle.row_bytes.specs.Ballots.{has}
+use Rattle.array_shape.specs.NumberSet.{has}
 use Rattle.eaw_device.specs.Logs.{parts_in}
 use Rattle.eaw_device.specs.Groups.{HaveCells, HaveParts, group_parts, group_calls}
 use Rattle.eaw_device.proofs.Alone.{own_bit, own_small, alone_fits, alone_good, alone_applied, alone_calls, alone_none}

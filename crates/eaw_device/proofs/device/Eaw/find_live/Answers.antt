@@ -28,7 +28,6 @@ returns-clause-cause g c = tt
 pub returns-then-tid-self-clause-cause : goal.returns-then-tid-self-clause-cause
 returns-then-tid-self-clause-cause g c = (
   c.if-self.false,
-  refl,
   λ live. elim c.then-tid-self.branch [
     | then-tid-self-via-then-tid-self w ↦ omega (arith, w.if-tid-self.true, live.small)
     | then-tid-self-via-else-tid-self+then-not-index w ↦
@@ -36,6 +35,7 @@ returns-then-tid-self-clause-cause g c = (
         let there = found_log s.logs.items c.from-at.result c.args.tid w.index.result.now c.from-at.ensures (omega (arith, live.small, s.sound.many)) w.index.ensures in
         false≢true (sym w.if-not-index.true ∙ live_there s.logs.items c.args.tid w.index.result.now there live.live)
   ],
+  refl,
 )
 
 pub returns-clause-live : goal.returns-clause-live

@@ -18,7 +18,7 @@ returns-in_err-number g c =
     let cause = c.in_err-number.ensures.cause in
     let p = err_from_is_err_and c.from_residual.result c.from_residual.ensures.1 in
     rw (p.1, p.2) (record {
-      does = lacking m.tells (Opens s.shape) (log_edit c.args.tid c.args.pos c.args.at c.args.bytes.now) store c.args.tid (λ u is. is) (λ live. live) fault cause;
+      does = lacking m.tells (Opens s.shape) (log_edit c.args.tid c.args.pos c.args.at c.args.bytes.now) store c.args.tid (λ u lacks is. (lacks, is)) fault cause;
       costs = record { done = λ exact. tt; most = omega arith };
       refused = λ ne. refl;
     })

@@ -24,7 +24,7 @@ returns-in_err-at g c =
     let cause = c.in_err-at.ensures.cause in
     let p = err_from_is_err_and c.from_residual.result c.from_residual.ensures.1 in
     rw (p.1, p.2) (record {
-      does = lacking m.tells (Opens s.shape) (log_read c.args.tid) store c.args.tid (λ u is. is) (λ live. live) fault cause;
+      does = lacking m.tells (Opens s.shape) (log_read c.args.tid) store c.args.tid (λ u lacks is. (lacks, is)) fault cause;
       part = tt;
       bytes = λ told. tt;
       costs = record { done = λ exact. tt; most = omega arith };

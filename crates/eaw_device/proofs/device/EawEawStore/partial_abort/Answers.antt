@@ -17,7 +17,7 @@ returns-in_err-at g c =
     let cause = c.in_err-at.ensures.cause in
     let p = err_from_is_err_and c.from_residual.result c.from_residual.ensures.1 in
     rw (p.1, p.2) (record {
-      does = lacking m.tells (Opens s.shape) (partial_abort c.args.tid c.args.offset) store c.args.tid (λ u is. is) (λ live. live) fault cause;
+      does = lacking m.tells (Opens s.shape) (partial_abort c.args.tid c.args.offset) store c.args.tid (λ u lacks is. (lacks, is)) fault cause;
       due = λ is. absurd (lacking_other store c.args.tid fault cause (let same : fault ≡ Media = cc in same));
       idle = refl;
       costs = record { done = λ exact. tt; most = omega arith };

@@ -52,7 +52,7 @@ done_does g c =
     let count : c.at_save-count.result ≡ count_at (counts_in marks t) c.args.n = c.at_save-count.ensures ∙ ap (λ (ns : List ℕ). get_or ns (c.args.n - 1) 0) (sym saved.0) in
     live_does g.S.EawStore.tells (g.S.EawStore.opens store.shape) (back c.args.tid c.args.n) (partial_abort c.args.tid c.at_save-count.result) t old new
     (ap (λ (k : ℕ). if_live (outline_of old) t (partial_abort t k)) (sym count))
-    alive (c.requires.some, enough, closed) (c.self.invariant.ordered alive) told tt (λ j h n no. no) (λ u ne is. ne (ap Some (sym is))) (let r : Result (Unit {0}) PageFault = Ok tt in r)
+    alive (c.requires.some, enough, closed) (c.self.invariant.ordered alive) told tt (λ j h n no. no) (λ u ne is. ne is) (let r : Result (Unit {0}) PageFault = Ok tt in r)
     c.in_ok-drop_from.ensures.does (λ same. ap view same)
     (counts_become marks t c.from-2.result c.from-2.ensures there m m c.index_mut.ensures.value c.cut.new.self _ (ap (λ x. x.counts) c.cut.ensures ∙ ap (take c.args.n) (sym kept.0)), top_stay marks t c.from-2.result c.from-2.ensures there m m c.index_mut.ensures.value c.cut.new.self (ap (λ x. x.top) c.cut.ensures)) tt
 

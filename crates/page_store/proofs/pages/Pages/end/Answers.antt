@@ -60,7 +60,7 @@ done_does g c =
     let closed : top_in marks c.args.tid ≡ None = rw (← c.self.view_is) at c.requires.closed alive in
     live_does g.S.EawStore.tells (g.S.EawStore.opens store.shape) (end c.args.tid c.args.commits) (ended c.args.commits c.args.tid) t old new
     (refl)
-    alive closed (c.self.invariant.ordered alive) told tt (λ j h n full. absurd (never_full store c.args.commits t j h n full)) (λ u ne is. ne (ap Some (sym (names c.args.commits t u is)))) (let r : Result (Unit {0}) PageFault = Ok tt in r)
+    alive closed (c.self.invariant.ordered alive) told tt (λ j h n full. absurd (never_full store c.args.commits t j h n full)) (λ u ne is. ne (names c.args.commits t u is)) (let r : Result (Unit {0}) PageFault = Ok tt in r)
     c.in_ok-end_number.ensures.does (λ same. ap view same)
     (counts_become marks t c.from.result c.from.ensures there m m c.index_mut.ensures.value c.cut.new.self [] (ap (λ x. x.counts) c.cut.ensures), top_stay marks t c.from.result c.from.ensures there m m c.index_mut.ensures.value c.cut.new.self (ap (λ x. x.top) c.cut.ensures)) tt
 

@@ -48,7 +48,7 @@ done_does g c =
     let open_is : top_in marks c.args.tid ≡ Some c.args.mark = rw (← c.self.view_is) at c.requires.open alive in
     live_does g.S.EawStore.tells (g.S.EawStore.opens store.shape) (top_end c.args.tid c.args.mark) (nested_top c.args.tid c.args.mark) t old new
     (refl)
-    alive open_is (c.self.invariant.ordered alive) told tt (λ j h n no. no) (λ u ne is. ne (ap Some (sym is))) (let r : Result (Unit {0}) PageFault = Ok tt in r)
+    alive open_is (c.self.invariant.ordered alive) told tt (λ j h n no. no) (λ u ne is. ne is) (let r : Result (Unit {0}) PageFault = Ok tt in r)
     c.in_ok-commit_from.ensures.does (λ same. ap view same)
     (counts_stay marks t c.from.result c.from.ensures there m m c.index_mut.ensures.value c.end_top.new.self (ap (λ x. x.counts) c.end_top.ensures), top_become marks t c.from.result c.from.ensures there m m c.index_mut.ensures.value c.end_top.new.self None (ap (λ x. x.top) c.end_top.ensures)) tt
 

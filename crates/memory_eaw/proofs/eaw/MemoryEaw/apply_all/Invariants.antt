@@ -1,0 +1,7 @@
+use Rattle.array_shape.specs.NumberSet.{members}
+use Rattle.memory_eaw.specs.Shown.{plain_of}
+use Rattle.memory_eaw.proofs.Groups.{Applies}
+use Rattle.memory_eaw.proofs.eaw.MemoryEaw.apply_all.Given as goal
+
+abbrev pub invariant-loop-tid : goal.invariant-loop-tid
+invariant-loop-tid l = Applies (plain_of l.fn.self) (plain_of l.self) (members l.fn.tids) l.tid-iterator
