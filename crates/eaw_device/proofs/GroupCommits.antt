@@ -18,7 +18,7 @@ use Rattle.eaw_face.specs.declared.fault.EawFault.TheVariants.{Media}
 use Rattle.eaw_device.specs.declared.log.Log.{Log}
 use Rattle.eaw_device.specs.Opens.{Opens}
 use Rattle.eaw_device.specs.Logs.{IsKept, IsCleared, parts_logged}
-use Rattle.eaw_device.specs.Steps.{WritesBehind}
+use Rattle.late_commits.specs.Steps.{WritesBehind}
 use Rattle.eaw_device.specs.Sound.{IsSound, IsClean, view_of}
 use Rattle.eaw_device.proofs.Clearing.{group_sound, group_ranges, group_parts_logged}
 use Rattle.eaw_device.proofs.Doing.{done, failed}

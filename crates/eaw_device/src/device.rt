@@ -7,7 +7,7 @@ ghost use Rattle.eaw_face.specs.Command.{commit_group};
 ghost use Rattle.eaw_face.specs.Causes.{known};
 ghost use Rattle.eaw_device.specs.Opens.{Attached, FindsData, AttachCause, AttachLeaves, KeepsData, OpensWithin, IsBehind};
 ghost use Rattle.eaw_device.specs.Steps.{LogHasCells, RefusesWrite};
-ghost use Rattle.eaw_device.specs.Sound.{IsSound, LacksLog, LacksGroup, view_of};
+ghost use Rattle.eaw_device.specs.Sound.{IsAtOnce, IsSound, LacksLog, LacksGroup, view_of};
 
 use crate::committing::{commit_log, commit_logs};
 use crate::fault::AttachFault;
@@ -17,6 +17,7 @@ use crate::reading::read_data;
 use crate::staging::{check_room, stage_all};
 use array_shape::{NumberSet, Shape};
 use eaw_face::{EawFault, EawStore};
+use late_commits::LateCommits;
 use logger::Logger;
 use pcm_media::Media;
 use std::alloc::Global;
@@ -27,8 +28,10 @@ pub struct Eaw<M: Media> {
     media: M,
     shape: Shape,
     logs: Vec<Log>,
+    late: LateCommits,
     is_dead: bool,
     ghost sound: { IsSound M.tells (M.view media) shape logs.items is_dead },
+    ghost at_once: { IsAtOnce shape late },
 }
 
 impl<M: Media> Eaw<M> {
@@ -48,10 +51,11 @@ impl<M: Media> Eaw<M> {
         ensures early { IfErr result (λ e. e.0 ≡ AttachFault.NoMemory → (M.view e.1).moment ≡ (M.view media).moment + 1) }
     {
         match open_array(alloc, &mut media) {
-            Ok((shape, logs)) => Ok(Eaw {
+            Ok((shape, logs, late)) => Ok(Eaw {
                 media,
                 shape,
                 logs,
+                late,
                 is_dead: false,
             }),
             Err(fault) => Err((fault, media)),
@@ -66,6 +70,7 @@ impl<M: Media> Eaw<M> {
             media,
             shape: _,
             logs: _,
+            late: _,
             is_dead: _,
         } = self;
         media
@@ -175,7 +180,16 @@ impl<M: Media> EawStore for Eaw<M> {
 
     fn commit(&mut self, tid: u8) -> Result<(), EawFault> {
         let at = self.find_live(tid)?;
-        if commit_log(&mut self.media, &self.shape, tid, &self.logs[at], 0).is_err() {
+        if commit_log(
+            &mut self.media,
+            &self.shape,
+            &mut self.late,
+            tid,
+            &self.logs[at],
+            0,
+        )
+        .is_err()
+        {
             self.is_dead = true;
             return Err(EawFault::Media);
         }
@@ -185,7 +199,15 @@ impl<M: Media> EawStore for Eaw<M> {
 
     fn commit_group(&mut self, tids: NumberSet) -> Result<(), EawFault> {
         self.find_group(tids)?;
-        if commit_logs(&mut self.media, &self.shape, &self.logs, tids).is_err() {
+        if commit_logs(
+            &mut self.media,
+            &self.shape,
+            &mut self.late,
+            &self.logs,
+            tids,
+        )
+        .is_err()
+        {
             self.is_dead = true;
             return Err(EawFault::Media);
         }
@@ -202,7 +224,16 @@ impl<M: Media> EawStore for Eaw<M> {
     fn nested_top(&mut self, tid: u8, offset: u32) -> Result<(), EawFault> {
         let at = self.find_live(tid)?;
         let from = offset as usize;
-        if commit_log(&mut self.media, &self.shape, tid, &self.logs[at], from).is_err() {
+        if commit_log(
+            &mut self.media,
+            &self.shape,
+            &mut self.late,
+            tid,
+            &self.logs[at],
+            from,
+        )
+        .is_err()
+        {
             self.is_dead = true;
             return Err(EawFault::Media);
         }

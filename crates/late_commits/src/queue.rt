@@ -3,7 +3,7 @@ ghost use Rattle.std.specs.Prelude.{◌≡◌, ◌+◌, ◌-◌, ◌*◌, ◌^�
 ghost use Rattle.pcm_media.specs.Images.{Content};
 ghost use Rattle.array_shape.specs.declared.shape.Shape.{Shape};
 ghost use Rattle.array_shape.specs.Places.{media_len};
-ghost use Rattle.row_bytes.specs.Ballots.{has};
+ghost use Rattle.array_shape.specs.NumberSet.{has};
 ghost use Rattle.coordinator.specs.Commits.{AreGood, AreThere, cells_in};
 ghost use Rattle.late_commits.specs.Orders.{shares};
 
