@@ -1,5 +1,5 @@
 -- A number that the ballot does not have: it has no row and no part, and costs nothing.
-use Rattle.std.proofs.Common.{◌≡◌, ℕ, zero, suc, ◌+◌, ◌<◌, Bool, false, cond, List, [], refl, ◌∙◌, ap, arith}
+use Rattle.std.proofs.Common.{◌≡◌, ℕ, zero, suc, ◌+◌, Bool, false, cond, List, [], refl, ◌∙◌, ap, arith}
 use Rattle.array_shape.specs.declared.shape.Shape.{Shape}
 use Rattle.std.proofs.lemmas.Bool.{and_right}
 use Rattle.row_bytes.specs.declared.ballot.Ballot.{Ballot}

@@ -1,5 +1,5 @@
 -- The commit of a group, from the commit of its logs and their clearing.
-use Rattle.std.proofs.Common.{◌≡◌, ℕ, Bool, true, false, List, length, Result, Ok, Err, refl, ◌∙◌}
+use Rattle.std.proofs.Common.{◌≡◌, ℕ, Bool, true, false, List, length, Result, Ok, Err, refl}
 use Rattle.std.specs.Prelude.{IsTrue, slice_get, None}
 use Rattle.std.specs.Option.{ForSome}
 use Rattle.mars_base.specs.Causes.{Rose}

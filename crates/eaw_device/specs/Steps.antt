@@ -1,5 +1,5 @@
 -- What the steps of a command do to the medium, and why a write is refused.
-use Rattle.std.specs.Prelude.{ℕ, ◌≡◌, ◌<◌, Bool, true, false, List, length, Some, None, slice_get, slice_index, Result}
+use Rattle.std.specs.Prelude.{ℕ, ◌≡◌, ◌<◌, Bool, true, false, List, length, Some, None, slice_get, slice_index}
 use Rattle.std.specs.Option.{ForSome}
 use Rattle.mars_base.specs.Check.{Check}
 use Rattle.mars_base.specs.Room.{room}

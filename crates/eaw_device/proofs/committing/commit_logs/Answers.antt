@@ -1,10 +1,10 @@
-use Rattle.std.proofs.Common.{◌≡◌, ℕ, ◌<◌, ◌≤◌, inl, inr, Result, Ok, Err, List, length, sym, ◌∙◌, ap, subst, arith}
+use Rattle.std.proofs.Common.{◌≡◌, ℕ, ◌<◌, inl, inr, Result, Ok, Err, List, length, ◌∙◌, subst, arith}
 use Rattle.std.specs.Prelude.{OnOk, OnErr, IsTrue}
 use Rattle.std.proofs.lemmas.Bool.{cases_lt}
 use Rattle.mars_base.specs.declared.Failed.{Failed}
 use Rattle.mars_base.specs.Costs.{Costs}
 use Rattle.pcm_media.specs.View.{LeavesOnly}
-use Rattle.array_shape.specs.Logged.{Part, applied}
+use Rattle.array_shape.specs.Logged.{applied}
 use Rattle.array_shape.specs.NumberSet.{members}
 use Rattle.array_shape.proofs.Sets.{small_from_bits}
 use Rattle.array_image.specs.Image.{data_of}

@@ -1,12 +1,12 @@
-use Rattle.std.proofs.Common.{◌≡◌, ◌≢◌, ℕ, ◌+◌, ◌-◌, ◌<◌, ◌≤◌, Bool, true, false, ◌&&◌, inl, inr, List, [], length, sym, ◌∙◌, ap, subst, arith}
-use Rattle.std.specs.Prelude.{nat_lt, slice_get, slice_index, Some}
+use Rattle.std.proofs.Common.{◌≡◌, ◌≢◌, ℕ, ◌+◌, ◌-◌, ◌<◌, Bool, true, false, ◌&&◌, inl, inr, length, sym, ◌∙◌, ap, arith}
+use Rattle.std.specs.Prelude.{nat_lt, slice_index}
 use Rattle.std.proofs.lemmas.Bool.{cases_eq, eqb-true, eqb-false, lt-ltb, le-ltb, false≢true}
 use Rattle.array_shape.specs.NumberSet.{has}
 use Rattle.array_shape.proofs.Sets.{passed_first, passed_with, passed_skip, passed_past, passed_at}
 use Rattle.coordinator.specs.declared.cells.Cells.{Cells}
 use Rattle.coordinator.specs.Commits.{cells_in}
 use Rattle.eaw_face.specs.State.{listed, count_on}
-use Rattle.eaw_device.specs.Logs.{ranges_in, IsKept, ranges_logged}
+use Rattle.eaw_device.specs.Logs.{ranges_in, ranges_logged}
 use Rattle.eaw_device.proofs.Entries.{length-ranges_in}
 use Rattle.eaw_device.proofs.Gathering.{held_is}
 use Rattle.eaw_device.proofs.Tables.{found_log, ranges_there}

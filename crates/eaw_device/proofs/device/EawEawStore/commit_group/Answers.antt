@@ -1,8 +1,7 @@
 use Rattle.std.proofs.Common.{◌≡◌, List, length, ◌∙◌, sym, refl, ap, arith}
-use Rattle.std.specs.Prelude.{None, slice_get}
+use Rattle.std.specs.Prelude.{slice_get}
 use Rattle.std.proofs.lemmas.Result.{err_from_is_err_and}
 use Rattle.array_shape.specs.NumberSet.{members}
-use Rattle.eaw_face.specs.Command.{commit_group}
 use Rattle.eaw_face.specs.declared.fault.EawFault.TheVariants.{Media}
 use Rattle.eaw_face.proofs.Groups.{known_one}
 use Rattle.eaw_device.specs.declared.log.Log.{Log}
