@@ -1,0 +1,5 @@
+pub mod Entries
+pub mod Turns
+pub mod Kept
+pub mod Shown
+pub mod Reading
