@@ -49,6 +49,13 @@ impl LateCommits {
         self.ballots.len()
     }
 
+    /// The ballots of those that wait, the oldest first.
+    pub fn ballots(&self) -> &[Ballot]
+        ensures { result.now ≡ self.now.ballots.items }
+    {
+        &self.ballots
+    }
+
     /// The cells that numbers have, at each logger.
     pub fn cells(&self) -> &[Cells; 512]
         ensures { result.now ≡ self.now.cells }
@@ -136,8 +143,8 @@ impl LateCommits {
         self.write_back_first(media, shape, due)
     }
 
-    // How many wait up to the last one that has a number of the group, with it.
-    fn due_for(&self, group: u64) -> usize
+    /// How many wait up to the last one that has a number of the group, with it.
+    pub fn due_for(&self, group: u64) -> usize
         ensures { result ≡ due_for group self.now.ballots.items }
     {
         let mut due = 0;
@@ -216,8 +223,8 @@ impl LateCommits {
         self.write_back_first(media, shape, due)
     }
 
-    // How many make place for one more.
-    fn due_for_place(&self) -> usize
+    /// How many are written back to make place for one more.
+    pub fn due_for_place(&self) -> usize
         ensures { result ≡ due_for_place self.now.depth self.now.ballots.items }
     {
         if self.last_order() == u16::MAX {
