@@ -1,5 +1,5 @@
 -- A commit from its phases: what it does, whatever phase it comes to.
-use Rattle.std.proofs.Common.{◌≡◌, ℕ, ◌+◌, ◌<◌, ◌^◌, Bool, true, false, cond, ⊎_elim, List, [], ◌∷◌, ◌++◌, length, Result, Ok, Err, refl, sym, ◌∙◌, ap, subst, arith}
+use Rattle.std.proofs.Common.{◌≡◌, ℕ, ◌<◌, ◌^◌, Bool, true, false, cond, ⊎_elim, List, [], ◌∷◌, ◌++◌, length, Result, Ok, Err, refl, sym, ◌∙◌, ap, subst, arith}
 use Rattle.std.specs.Prelude.{IsTrue, IsOk, IsErr}
 use Rattle.std.proofs.lemmas.Bool.{cases_Bool}
 use Rattle.pcm_media.specs.Images.{Content, MayLeave, IsOutside, Touched, partly}

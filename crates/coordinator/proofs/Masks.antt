@@ -1,12 +1,14 @@
 -- A mask that gains a logger.
-use Rattle.std.proofs.Common.{◌≡◌, ℕ, ◌+◌, ◌*◌, ◌%◌, ◌^◌, ◌<◌, ⊎_elim, Bool, true, false, sym, ◌∙◌, ap, arith, w8}
+use Rattle.std.proofs.Common.{◌≡◌, ℕ, suc, ◌+◌, ◌*◌, ◌%◌, ◌^◌, ◌<◌, ⊎_elim, inl, inr, Bool, true, false, not, ◌&&◌, ◌||◌, max, refl, sym, ◌∙◌, ap, arith, w8}
 use Rattle.std.specs.Prelude.{nat_eq}
 use Rattle.std.specs.Int.{bit_at}
 use Rattle.std.specs.Int.RustNames.{bit_or}
 use Rattle.std.proofs.lemmas.Nat.{or_lt, pow_below, one_shl}
-use Rattle.std.proofs.lemmas.Nat.Bits.{bit_at_set_same, bit_at_set_other, bit_at_above, bit_at-zero}
-use Rattle.std.proofs.lemmas.Bool.{cases_eq, eq-eqb, ne_eqb}
+use Rattle.std.proofs.lemmas.Nat.Bits.{bit_at_set_same, bit_at_set_other, bit_at_above, bit_at_or, bit_at-lt, bit_at-zero}
+use Rattle.std.proofs.lemmas.Bool.{cases_eq, eq-eqb, ne_eqb, or_left}
 use Rattle.array_shape.specs.NumberSet.{has}
+use Rattle.array_image.specs.Decided.{all_below}
+use Rattle.commit_queue.specs.Deferred.{any_below}
 use Rattle.coordinator.specs.Commits.{IsMaskOf}
 
 module _ (test : ℕ → Bool) where
@@ -34,3 +36,26 @@ module _ (test : ℕ → Bool) where
   -- an empty mask is that of a test that takes none
   pub mask_none : (n : ℕ) → IsMaskOf n test 0 → (g : ℕ) → g < n → test g ≡ false
   mask_none n mask_is g lt = sym (mask_is.is g lt) ∙ ne_eqb (bit_at 0 g) 1 (λ one. omega (arith, one, bit_at-zero g))
+
+-- what two masks have
+pub mask_joined : (n : ℕ) (a b c : ℕ → Bool) (mask more : ℕ) → IsMaskOf n a mask → IsMaskOf n b more → ((g : ℕ) → g < n → c g ≡ (a g || b g)) → IsMaskOf n c (bit_or mask more)
+mask_joined n a b c mask more first second both = record {
+  small = or_lt n mask more first.small second.small;
+  is = λ g lt. ap (λ (k : ℕ). nat_eq k 1) (bit_at_or mask more g) ∙ by (bit_at mask g) (bit_at more g) (bit_at-lt mask g) (bit_at-lt more g) ∙ (λ i. first.is g lt i || second.is g lt i) ∙ sym (both g lt);
+}
+  where
+    by : (x y : ℕ) → x < 2 → y < 2 → nat_eq (max x y) 1 ≡ (nat_eq x 1 || nat_eq y 1)
+    by x y lt lt' = elim (cases_eq x 1) [
+      | inl is ↦ eq-eqb (max x y) 1 (omega arith) ∙ sym (or_left (nat_eq x 1) (nat_eq y 1) (eq-eqb x 1 is))
+      | inr ne ↦ (let none : x ≡ 0 = omega arith in let same : max x y ≡ y = omega arith in ap (λ (k : ℕ). nat_eq k 1) same ∙ ap (λ (p : Bool). p || nat_eq y 1) (sym (ne_eqb x 1 ne)))
+    ]
+
+-- one more number
+pub any_more : (n : ℕ) (p : ℕ → Bool) → any_below (n + 1) p ≡ (any_below n p || p n)
+any_more n p = let next : n + 1 ≡ suc n = omega arith in ap (λ (k : ℕ). any_below k p) next ∙ by (p n) (all_below n (λ i. not (p i)))
+  where
+    by : (b a : Bool) → not (not b && a) ≡ (not a || b)
+    by true true = refl
+    by true false = refl
+    by false true = refl
+    by false false = refl

@@ -10,7 +10,7 @@ use Rattle.array_shape.specs.declared.shape.Shape.{Shape}
 use Rattle.array_shape.specs.Places.{data_len, logger_of}
 use Rattle.array_shape.specs.Logged.{Part, AllFit, AllPlaced, applied, ranges_of}
 use Rattle.row_bytes.specs.declared.ballot.Ballot.{Ballot}
-use Rattle.row_bytes.specs.Ballots.{has}
+use Rattle.array_shape.specs.NumberSet.{has}
 use Rattle.array_image.specs.Joined.{joined}
 use Rattle.array_image.proofs.Applied.{applied-append, length-applied}
 use Rattle.array_image.proofs.Joined.{joined_more}

@@ -11,7 +11,7 @@ use Rattle.std.proofs.Math.Nat.{mul-le-mul, mul-suc}
 use Rattle.std.proofs.lemmas.List.Folds.{list_any-append}
 use Rattle.array_shape.specs.declared.shape.Shape.{Shape}
 use Rattle.array_shape.specs.Places.{IsShape, page_count}
-use Rattle.row_bytes.specs.Ballots.{has}
+use Rattle.array_shape.specs.NumberSet.{has}
 use Rattle.deferred_parts.specs.declared.entry.Entry.{Entry}
 use Rattle.deferred_parts.specs.declared.deferred.NumberParts.{NumberParts}
 use Rattle.deferred_parts.specs.Entries.{IsEntry}

@@ -8,7 +8,7 @@ use Rattle.std.proofs.lemmas.Bool.{cases_eq, eq-eqb, ne_eqb}
 use Rattle.std.proofs.lemmas.List.{get_or-set_same, get_or-set_other}
 use Rattle.std.proofs.lemmas.List.Folds.{list_any_more}
 use Rattle.std.proofs.lemmas.Nat.Bits.{bit_at_set_same, bit_at_set_other, bit_at_clear_same, bit_at_clear_other, bit_at_and, bit_at-lt, bit_at-zero}
-use Rattle.row_bytes.specs.Ballots.{has}
+use Rattle.array_shape.specs.NumberSet.{has}
 use Rattle.deferred_parts.specs.declared.entry.Entry.{Entry}
 use Rattle.deferred_parts.specs.Kept.{lies_on}
 

@@ -6,7 +6,8 @@ use Rattle.std.proofs.lemmas.Bool.{cases_Bool, and_right}
 use Rattle.array_shape.specs.declared.shape.Shape.{Shape}
 use Rattle.array_shape.specs.Places.{data_len, media_len}
 use Rattle.array_shape.specs.Logged.{AllFit, AllPlaced, applied, parts_at}
-use Rattle.row_bytes.specs.Ballots.{has, has_row}
+use Rattle.array_shape.specs.NumberSet.{has}
+use Rattle.row_bytes.specs.Ballots.{has_row}
 use Rattle.array_image.specs.Image.{parts_from}
 use Rattle.array_image.proofs.Applied.{applied-append, length-applied}
 use Rattle.array_image.proofs.Data.{all_fit}

@@ -6,7 +6,7 @@ use Rattle.std.proofs.lemmas.List.Elements.{All-append, All-nil}
 use Rattle.std.proofs.lemmas.List.Sums.{sum_by-append}
 use Rattle.array_shape.specs.declared.shape.Shape.{Shape}
 use Rattle.row_bytes.specs.declared.ballot.Ballot.{Ballot}
-use Rattle.row_bytes.specs.Ballots.{has}
+use Rattle.array_shape.specs.NumberSet.{has}
 use Rattle.array_image.specs.Joined.{joined}
 use Rattle.array_image.proofs.Joined.{joined_more, joined_same}
 use Rattle.deferred_parts.specs.declared.entry.Entry.{Entry}

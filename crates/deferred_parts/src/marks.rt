@@ -1,6 +1,6 @@
 // The masks of pages: for each page the numbers that have a deferred part on it, one bit each.
 ghost use Rattle.std.specs.Prelude.{◌≡◌, ◌/◌, ◌<◌, ◌&&◌, ◌||◌, ℕ, All, length, nat_eq, not, slice_index};
-ghost use Rattle.row_bytes.specs.Ballots.{has};
+ghost use Rattle.array_shape.specs.NumberSet.{has};
 ghost use Rattle.deferred_parts.specs.Kept.{lies_on};
 
 use crate::entry::Entry;

@@ -16,7 +16,7 @@ impl DeferredParts {
     ghost use Rattle.array_shape.specs.Parts.{IsPartOf};
     ghost use Rattle.array_shape.specs.Logged.{applied};
     ghost use Rattle.array_image.specs.Image.{data_of};
-    ghost use Rattle.row_bytes.specs.Ballots.{has};
+    ghost use Rattle.array_shape.specs.NumberSet.{has};
     ghost use Rattle.deferred_parts.specs.Kept.{lies_on};
     ghost use Rattle.deferred_parts.specs.Entries.{AreHeld, parts_in};
     ghost use Rattle.deferred_parts.specs.Turns.{in_turn, of_group, group_parts, parts_in_turn};

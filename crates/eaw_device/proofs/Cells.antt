@@ -1,5 +1,5 @@
 -- Writes into cells alone: no commit waits before them, and none after; the data stays.
-use Rattle.std.proofs.Common.{◌≡◌, ℕ, ◌+◌, ◌<◌, ◌≤◌, false, true, List, [], length, refl, sym, subst, arith}
+use Rattle.std.proofs.Common.{◌≡◌, ℕ, ◌+◌, ◌<◌, ◌≤◌, false, List, [], length, refl, sym, subst, arith}
 use Rattle.std.proofs.lemmas.Bool.{false≢true}
 use Rattle.pcm_media.specs.Images.{Content, MayLeave, SameOutside, IsOutside, Touched, partly}
 use Rattle.array_shape.specs.declared.shape.Shape.{Shape}

@@ -19,7 +19,7 @@ use Rattle.eaw_face.specs.declared.fault.EawFault.TheVariants.{Media}
 use Rattle.eaw_device.specs.declared.log.Log.{Log}
 use Rattle.eaw_device.specs.Opens.{Opens}
 use Rattle.eaw_device.specs.Logs.{parts_in, IsKept, entries_at}
-use Rattle.eaw_device.specs.Steps.{WritesBehind}
+use Rattle.late_commits.specs.Steps.{WritesBehind}
 use Rattle.eaw_device.specs.Sound.{IsSound, IsClean, view_of}
 use Rattle.eaw_device.proofs.Entries.{length-ranges_in}
 use Rattle.eaw_device.proofs.Tables.{ranges_there, parts_there}

@@ -1,18 +1,17 @@
 -- What the logs of a set of numbers have, as it is named for a commit.
-use Rattle.std.proofs.Common.{◌≡◌, ℕ, zero, suc, ◌+◌, ◌-◌, ◌<◌, ◌≤◌, Bool, true, false, ◌&&◌, List, [], ◌∷◌, length, take, drop, refl, sym, ◌∙◌, ap, subst, arith}
+use Rattle.std.proofs.Common.{◌≡◌, ℕ, zero, suc, ◌-◌, ◌<◌, ◌≤◌, true, ◌&&◌, List, [], ◌∷◌, length, refl, sym, ◌∙◌, ap, subst, arith}
 use Rattle.std.specs.Prelude.{nat_lt, slice_get, slice_index, flat_map, Option, Some, None}
 use Rattle.std.specs.Option.{option_map, option_and_then, ForSome}
 use Rattle.std.proofs.lemmas.List.{nil_from_length}
 use Rattle.std.proofs.lemmas.Option.{slice_get_past}
 use Rattle.array_shape.specs.declared.shape.Shape.{Shape}
 use Rattle.array_shape.specs.Places.{media_len, data_len}
-use Rattle.array_shape.specs.Logged.{Part, applied, AllPlaced, parts_at}
+use Rattle.array_shape.specs.Logged.{applied, AllPlaced, parts_at}
 use Rattle.array_shape.specs.NumberSet.{has, numbers_in}
-use Rattle.array_image.specs.Image.{parts_from, cell_of, IsGoodCell}
+use Rattle.array_image.specs.Image.{parts_from}
 use Rattle.coordinator.specs.declared.cells.Cells.{Cells}
 use Rattle.coordinator.specs.Commits.{cells_in}
 use Rattle.eaw_face.specs.State.{listed, count_on}
-use Rattle.eaw_device.specs.declared.log.Entry.{Entry}
 use Rattle.eaw_device.specs.declared.log.Log.{Log}
 use Rattle.eaw_device.specs.Logs.{ranges_in, parts_in, IsKept, IsHeld, entries_of, ranges_logged, parts_logged}
 use Rattle.eaw_device.specs.Groups.{group_parts, HaveCells, HaveParts}

@@ -1,5 +1,5 @@
 -- The commit of a group, from the commit of its logs and their clearing.
-use Rattle.std.proofs.Common.{◌≡◌, ℕ, Bool, true, false, List, length, Result, Ok, Err, refl, ◌∙◌}
+use Rattle.std.proofs.Common.{◌≡◌, ℕ, Bool, true, false, List, length, Result, Ok, Err, refl}
 use Rattle.std.specs.Prelude.{IsTrue, slice_get, None}
 use Rattle.std.specs.Option.{ForSome}
 use Rattle.mars_base.specs.Causes.{Rose}
@@ -18,7 +18,7 @@ use Rattle.eaw_face.specs.declared.fault.EawFault.TheVariants.{Media}
 use Rattle.eaw_device.specs.declared.log.Log.{Log}
 use Rattle.eaw_device.specs.Opens.{Opens}
 use Rattle.eaw_device.specs.Logs.{IsKept, IsCleared, parts_logged}
-use Rattle.eaw_device.specs.Steps.{WritesBehind}
+use Rattle.late_commits.specs.Steps.{WritesBehind}
 use Rattle.eaw_device.specs.Sound.{IsSound, IsClean, view_of}
 use Rattle.eaw_device.proofs.Clearing.{group_sound, group_ranges, group_parts_logged}
 use Rattle.eaw_device.proofs.Doing.{done, failed}

@@ -13,8 +13,6 @@ pub mod Keeping
 pub mod LogParts
 pub mod Alone
 pub mod Members
-pub mod Behind
-pub mod Naming
 pub mod Staged
 pub mod StagedCalls
 pub mod ReadParts
@@ -31,3 +29,4 @@ pub mod Atomic
 pub mod Looks
 pub mod Edits
 pub mod OpenedLemmas
+pub mod AtOnce

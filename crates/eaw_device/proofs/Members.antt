@@ -1,13 +1,12 @@
 -- The commit of several logs at once: what it writes, and what it costs.
-use Rattle.std.proofs.Common.{◌≡◌, ◌≢◌, ℕ, zero, suc, ◌+◌, ◌*◌, ◌-◌, ◌<◌, ◌≤◌, min, Bool, true, false, cond, ◌&&◌, nat_eq, inl, inr, List, [], ◌∷◌, ◌++◌, length, refl, sym, ◌∙◌, ap, subst, arith}
+use Rattle.std.proofs.Common.{◌≡◌, ℕ, zero, suc, ◌+◌, ◌*◌, ◌-◌, ◌<◌, ◌≤◌, min, Bool, true, false, cond, ◌&&◌, nat_eq, inl, inr, List, [], ◌∷◌, ◌++◌, length, refl, sym, ◌∙◌, ap, arith}
 use Rattle.std.specs.Prelude.{nat_lt, flat_map, filter}
-use Rattle.std.specs.List.{range_with_len}
-use Rattle.std.proofs.lemmas.Bool.{cases_Bool, cases_eq, lt-ltb, le-ltb, false≢true}
+use Rattle.std.proofs.lemmas.Bool.{cases_Bool, cases_eq, lt-ltb, false≢true}
 use Rattle.std.proofs.lemmas.List.{length-append, nil_from_length}
 use Rattle.std.proofs.lemmas.List.Elements.{filter-append}
 use Rattle.std.proofs.Math.Nat.{add-mul}
 use Rattle.array_shape.specs.declared.shape.Shape.{Shape}
-use Rattle.array_shape.specs.Places.{media_len, data_len, IsShape}
+use Rattle.array_shape.specs.Places.{media_len, data_len}
 use Rattle.array_shape.specs.Logged.{Part, applied, AllPlaced, parts_at}
 use Rattle.array_shape.specs.NumberSet.{has, numbers_from, numbers_in}
 use Rattle.array_image.specs.Joined.{joined}
@@ -18,7 +17,7 @@ use Rattle.coordinator.specs.Commits.{cells_in, takes_part}
 use Rattle.coordinator.specs.Costs.{total}
 use Rattle.eaw_face.specs.State.{is_range_on, count_on}
 use Rattle.eaw_device.specs.Costs.{loggers_with, commit_cost}
-use Rattle.eaw_device.specs.Groups.{cell_parts, group_parts, HaveCells, HaveParts, group_rows, group_count, group_calls}
+use Rattle.eaw_device.specs.Groups.{group_parts, HaveCells, HaveParts, group_rows, group_count, group_calls}
 use Rattle.eaw_device.proofs.Alone.{one_if, some_or_none}
 use Rattle.eaw_device.proofs.Costing.{ranges_counted}
 use Rattle.eaw_device.proofs.Grouping.{total_more, total_same, total_zero, total_none, any_none, none_at, lists_in_turn}

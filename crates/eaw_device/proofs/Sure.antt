@@ -21,7 +21,7 @@ use Rattle.array_image.proofs.Headers.{AreBehind}
 use Rattle.eaw_device.proofs.Cells.{AreInCells, staging_clean, staging_left}
 use Rattle.eaw_face.specs.Does as face
 use Rattle.eaw_device.specs.Opens.{header_of, Opens}
-use Rattle.eaw_device.specs.Steps.{WritesBehind}
+use Rattle.late_commits.specs.Steps.{WritesBehind}
 use Rattle.eaw_device.specs.Sound.{IsSure, IsClean}
 
 -- an image that is left during writes behind the header has a header that was left before them

@@ -8,6 +8,8 @@ use Rattle.array_shape.specs.Places.{media_len, IsShape}
 use Rattle.row_bytes.specs.Header.{SaysShape}
 use Rattle.array_image.specs.Image.{data_of}
 use Rattle.commit_queue.specs.Between.{IsAtRest}
+use Rattle.late_commits.specs.declared.queue.LateCommits.{LateCommits}
+use Rattle.late_commits.specs.Waiting.{IsFit}
 use Rattle.eaw_face.specs.StoreView.{StoreView, IsLive}
 use Rattle.eaw_face.specs.Command.{commit_group}
 use Rattle.eaw_face.specs.Causes.{known}
@@ -39,6 +41,11 @@ pub record IsSound (tells : Bool) (media : View) (shape : Shape) (logs : List Lo
   pub many : length logs ≡ shape.numbers
   pub kept : (t : ℕ) → ForSome (slice_get logs t) (IsKept shape)
   pub told : IsTrue tells → is_dead ≡ false → IsTold shape media.content logs
+
+-- Of the queue's commits none may wait: each is written back at once.
+pub record IsAtOnce (shape : Shape) (late : LateCommits) : Type 0 where
+  pub fit : IsFit shape late
+  pub none_waits : late.depth ≡ 0
 
 -- what a device shows
 abbrev pub view_of : View → Shape → List Log → Bool → StoreView

@@ -1,10 +1,8 @@
 -- What the steps of a command do to the medium, and why a write is refused.
-use Rattle.std.specs.Prelude.{ℕ, ◌≡◌, ◌<◌, Bool, true, false, List, length, Some, None, slice_get, slice_index, Result}
+use Rattle.std.specs.Prelude.{ℕ, ◌≡◌, ◌<◌, Bool, true, false, List, length, Some, None, slice_get, slice_index}
 use Rattle.std.specs.Option.{ForSome}
 use Rattle.mars_base.specs.Check.{Check}
 use Rattle.mars_base.specs.Room.{room}
-use Rattle.pcm_media.specs.Images.{IsOutside}
-use Rattle.pcm_media.specs.View.{View, Writes}
 use Rattle.array_shape.specs.declared.shape.Shape.{Shape}
 use Rattle.array_shape.specs.Parts.{parts_on, write_parts_on}
 use Rattle.array_image.specs.Joined.{joined}
@@ -42,9 +40,3 @@ RefusesWrite shape logs is_dead t addr len Dead = is_dead ≡ true
 -- the cells of number t, after the held ones, that a write takes at all loggers
 abbrev pub staged_places : Shape → ℕ → List ℕ → ℕ → List ℕ → List (ℕ × ℕ)
 staged_places shape t held addr bytes = joined (λ g. cell_ranges shape g t (slice_index held g) (length (write_parts_on shape g addr bytes))) 0 shape.loggers
-
--- calls that write behind the header alone
-pub record WritesBehind {T E : Type 0} (tells : Bool) (old new : View) (result : Result T E) : Type 0 where
-  pub places : List (ℕ × ℕ)
-  pub behind : (i : ℕ) → i < 512 → IsOutside places i
-  pub does : Writes tells places old new result

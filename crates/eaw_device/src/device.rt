@@ -7,7 +7,7 @@ ghost use Rattle.eaw_face.specs.Command.{commit_group};
 ghost use Rattle.eaw_face.specs.Causes.{known};
 ghost use Rattle.eaw_device.specs.Opens.{Attached, FindsData, AttachCause, AttachLeaves, KeepsData, OpensWithin, IsBehind};
 ghost use Rattle.eaw_device.specs.Steps.{LogHasCells, RefusesWrite};
-ghost use Rattle.eaw_device.specs.Sound.{IsSound, LacksLog, LacksGroup, view_of};
+ghost use Rattle.eaw_device.specs.Sound.{IsAtOnce, IsSound, LacksLog, LacksGroup, view_of};
 
 use crate::committing::{commit_log, commit_logs};
 use crate::fault::AttachFault;
@@ -18,6 +18,7 @@ use crate::staging::{check_room, stage_all};
 use crate::write_back::{AtOnce, Late, WriteBack};
 use array_shape::{NumberSet, Shape};
 use eaw_face::{EawFault, EawStore};
+use late_commits::LateCommits;
 use logger::Logger;
 use pcm_media::Media;
 use std::alloc::Global;
@@ -29,8 +30,10 @@ pub struct Eaw<M: Media, W: WriteBack = AtOnce> {
     media: M,
     shape: Shape,
     logs: Vec<Log>,
+    late: LateCommits,
     is_dead: bool,
     ghost sound: { IsSound M.tells (M.view media) shape logs.items is_dead },
+    ghost at_once: { IsAtOnce shape late },
 }
 
 impl<M: Media> Eaw<M, AtOnce> {
@@ -94,11 +97,12 @@ impl<M: Media, W: WriteBack> Eaw<M, W> {
         ensures early { IfErr result (λ e. e.0 ≡ AttachFault.NoMemory → (M.view e.1).moment ≡ (M.view media).moment + 1) }
     {
         match open_array(alloc, &mut media) {
-            Ok((shape, logs)) => Ok(Eaw {
+            Ok((shape, logs, late)) => Ok(Eaw {
                 write_back,
                 media,
                 shape,
                 logs,
+                late,
                 is_dead: false,
             }),
             Err(fault) => Err((fault, media)),
@@ -114,6 +118,7 @@ impl<M: Media, W: WriteBack> Eaw<M, W> {
             media,
             shape: _,
             logs: _,
+            late: _,
             is_dead: _,
         } = self;
         media
@@ -223,7 +228,16 @@ impl<M: Media, W: WriteBack> EawStore for Eaw<M, W> {
 
     fn commit(&mut self, tid: u8) -> Result<(), EawFault> {
         let at = self.find_live(tid)?;
-        if commit_log(&mut self.media, &self.shape, tid, &self.logs[at], 0).is_err() {
+        if commit_log(
+            &mut self.media,
+            &self.shape,
+            &mut self.late,
+            tid,
+            &self.logs[at],
+            0,
+        )
+        .is_err()
+        {
             self.is_dead = true;
             return Err(EawFault::Media);
         }
@@ -233,7 +247,15 @@ impl<M: Media, W: WriteBack> EawStore for Eaw<M, W> {
 
     fn commit_group(&mut self, tids: NumberSet) -> Result<(), EawFault> {
         self.find_group(tids)?;
-        if commit_logs(&mut self.media, &self.shape, &self.logs, tids).is_err() {
+        if commit_logs(
+            &mut self.media,
+            &self.shape,
+            &mut self.late,
+            &self.logs,
+            tids,
+        )
+        .is_err()
+        {
             self.is_dead = true;
             return Err(EawFault::Media);
         }
@@ -250,7 +272,16 @@ impl<M: Media, W: WriteBack> EawStore for Eaw<M, W> {
     fn nested_top(&mut self, tid: u8, offset: u32) -> Result<(), EawFault> {
         let at = self.find_live(tid)?;
         let from = offset as usize;
-        if commit_log(&mut self.media, &self.shape, tid, &self.logs[at], from).is_err() {
+        if commit_log(
+            &mut self.media,
+            &self.shape,
+            &mut self.late,
+            tid,
+            &self.logs[at],
+            from,
+        )
+        .is_err()
+        {
             self.is_dead = true;
             return Err(EawFault::Media);
         }

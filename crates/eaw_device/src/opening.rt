@@ -2,23 +2,26 @@
 ghost use Rattle.std.specs.Prelude.{◌≡◌, ◌≢◌, ◌+◌, ◌≤◌, IsTrue, IfOk, IfErr, OnErr, vec_capacity};
 ghost use Rattle.eaw_device.specs.Opens.{AttachCause, AttachLeaves, KeepsData, OpensWithin};
 ghost use Rattle.eaw_device.specs.Opening.{AreFree, Settled};
+ghost use Rattle.eaw_device.specs.Sound.{IsAtOnce};
 
 use crate::attach::{read_header, settle};
 use crate::fault::AttachFault;
 use crate::log::Log;
 use array_shape::Shape;
+use late_commits::LateCommits;
 use mars_base::NoMemory;
 use pcm_media::Media;
 use std::alloc::Global;
 
-/// Settles the array on the medium, and returns its shape and a free log for each number.
+/// Settles the array on the medium, and returns its shape, a free log for each number, and a queue of which no commit may wait.
 pub(crate) fn open_array<M: Media>(
     alloc: Global,
     media: &mut M,
-) -> Result<(Shape, Vec<Log>), AttachFault>
+) -> Result<(Shape, Vec<Log>, LateCommits), AttachFault>
     ensures settled { IfOk result (λ opened. Settled M.tells (M.view media.old) opened.0 (M.view media.new)) }
     ensures free { IfOk result (λ opened. AreFree opened.0 opened.1.items) }
     ensures room { IfOk result (λ opened. vec_capacity opened.1 ≡ opened.0.numbers) }
+    ensures at_once { IfOk result (λ opened. IsAtOnce opened.0 opened.2) }
     ensures cause { IfErr result (AttachCause M.tells (M.view media.old) (M.view media.new).faults) }
     ensures unwritten { IfErr result (AttachLeaves M.tells (M.view media.old) (M.view media.new)) }
     ensures keeps { KeepsData M.tells (M.view media.old) (M.view media.new).moment (M.view media.new).left_since }
@@ -28,14 +31,24 @@ pub(crate) fn open_array<M: Media>(
     ensures early { IfErr result (λ fault. fault ≡ AttachFault.NoMemory → (M.view media.new).moment ≡ (M.view media.old).moment + 1) }
 {
     let shape = read_header(media)?;
-    let logs = match free_logs(alloc, &shape) {
-        Ok(logs) => logs,
+    let (logs, late) = match free_tables(alloc, &shape) {
+        Ok(tables) => tables,
         Err(_) => return Err(AttachFault::NoMemory),
     };
     match settle(media, &shape) {
-        Ok(()) => Ok((shape, logs)),
+        Ok(()) => Ok((shape, logs, late)),
         Err(fault) => Err(fault),
     }
+}
+
+// A free log for each number, and the queue.
+fn free_tables(alloc: Global, shape: &Shape) -> Result<(Vec<Log>, LateCommits), NoMemory>
+    ensures free { IfOk result (λ tables. AreFree shape.now tables.0.items) }
+    ensures room { IfOk result (λ tables. vec_capacity tables.0 ≡ shape.now.numbers) }
+    ensures at_once { IfOk result (λ tables. IsAtOnce shape.now tables.1) }
+{
+    let logs = free_logs(alloc, shape)?;
+    Ok((logs, LateCommits::new(alloc, 0)?))
 }
 
 fn free_logs(alloc: Global, shape: &Shape) -> Result<Vec<Log>, NoMemory>

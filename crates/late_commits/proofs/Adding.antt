@@ -13,7 +13,7 @@ use Rattle.pcm_media.proofs.Left.{left_as_read}
 use Rattle.array_shape.specs.declared.shape.Shape.{Shape}
 use Rattle.array_shape.specs.Logged.{Part, applied}
 use Rattle.row_bytes.specs.declared.ballot.Ballot.{Ballot}
-use Rattle.row_bytes.specs.Ballots.{has}
+use Rattle.array_shape.specs.NumberSet.{has}
 use Rattle.array_image.specs.Image.{data_of}
 use Rattle.array_image.specs.Standing.{IsEither, SameCells}
 use Rattle.array_image.proofs.Applied.{applied-append}

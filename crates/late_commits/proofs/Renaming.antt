@@ -6,7 +6,8 @@ use Rattle.pcm_media.specs.Images.{Content}
 use Rattle.array_shape.specs.declared.shape.Shape.{Shape}
 use Rattle.array_shape.specs.Logged.{Part, applied}
 use Rattle.row_bytes.specs.declared.ballot.Ballot.{Ballot}
-use Rattle.row_bytes.specs.Ballots.{has, has_row}
+use Rattle.array_shape.specs.NumberSet.{has}
+use Rattle.row_bytes.specs.Ballots.{has_row}
 use Rattle.array_image.specs.Image.{data_of}
 use Rattle.commit_queue.specs.Queue.{AreAlike, SaysTheSame}
 use Rattle.commit_queue.proofs.Alike.{named_alike, parts_alike, rests_alike}

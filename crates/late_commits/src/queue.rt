@@ -3,7 +3,7 @@ ghost use Rattle.std.specs.Prelude.{◌≡◌, ◌+◌, ◌-◌, ◌*◌, ◌^�
 ghost use Rattle.pcm_media.specs.Images.{Content};
 ghost use Rattle.array_shape.specs.declared.shape.Shape.{Shape};
 ghost use Rattle.array_shape.specs.Places.{media_len};
-ghost use Rattle.row_bytes.specs.Ballots.{has};
+ghost use Rattle.array_shape.specs.NumberSet.{has};
 ghost use Rattle.coordinator.specs.Commits.{AreGood, AreThere, cells_in};
 ghost use Rattle.late_commits.specs.Orders.{shares};
 
@@ -47,6 +47,13 @@ impl LateCommits {
         ensures { result ≡ length self.now.ballots.items }
     {
         self.ballots.len()
+    }
+
+    /// The ballots of those that wait, the oldest first.
+    pub fn ballots(&self) -> &[Ballot]
+        ensures { result.now ≡ self.now.ballots.items }
+    {
+        &self.ballots
     }
 
     /// The cells that numbers have, at each logger.
@@ -136,8 +143,8 @@ impl LateCommits {
         self.write_back_first(media, shape, due)
     }
 
-    // How many wait up to the last one that has a number of the group, with it.
-    fn due_for(&self, group: u64) -> usize
+    /// How many wait up to the last one that has a number of the group, with it.
+    pub fn due_for(&self, group: u64) -> usize
         ensures { result ≡ due_for group self.now.ballots.items }
     {
         let mut due = 0;
@@ -216,8 +223,8 @@ impl LateCommits {
         self.write_back_first(media, shape, due)
     }
 
-    // How many make place for one more.
-    fn due_for_place(&self) -> usize
+    /// How many are written back to make place for one more.
+    pub fn due_for_place(&self) -> usize
         ensures { result ≡ due_for_place self.now.depth self.now.ballots.items }
     {
         if self.last_order() == u16::MAX {

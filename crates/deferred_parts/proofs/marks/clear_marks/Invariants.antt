@@ -1,6 +1,6 @@
 use Rattle.std.proofs.Common.{◌≡◌, ℕ, ◌<◌, not, ◌&&◌, nat_eq, take}
 use Rattle.std.specs.Prelude.{slice_index}
-use Rattle.row_bytes.specs.Ballots.{has}
+use Rattle.array_shape.specs.NumberSet.{has}
 use Rattle.deferred_parts.specs.Kept.{lies_on}
 use Rattle.deferred_parts.proofs.marks.clear_marks.Given as goal
 

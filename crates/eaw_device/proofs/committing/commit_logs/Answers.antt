@@ -1,10 +1,10 @@
-use Rattle.std.proofs.Common.{◌≡◌, ℕ, ◌<◌, ◌≤◌, inl, inr, Result, Ok, Err, List, length, sym, ◌∙◌, ap, subst, arith}
+use Rattle.std.proofs.Common.{◌≡◌, ℕ, ◌<◌, inl, inr, Result, Ok, Err, List, length, ◌∙◌, subst, arith}
 use Rattle.std.specs.Prelude.{OnOk, OnErr, IsTrue}
 use Rattle.std.proofs.lemmas.Bool.{cases_lt}
 use Rattle.mars_base.specs.declared.Failed.{Failed}
 use Rattle.mars_base.specs.Costs.{Costs}
 use Rattle.pcm_media.specs.View.{LeavesOnly}
-use Rattle.array_shape.specs.Logged.{Part, applied}
+use Rattle.array_shape.specs.Logged.{applied}
 use Rattle.array_shape.specs.NumberSet.{members}
 use Rattle.array_shape.proofs.Sets.{small_from_bits}
 use Rattle.array_image.specs.Image.{data_of}
@@ -23,29 +23,29 @@ commit_cells-requires-clause-group g c = small_from_bits c.args.shape.now.number
 
 pub commit_cells-requires-clause-there : goal.commit_cells-requires-clause-there
 commit_cells-requires-clause-there g c =
-    gathered_fit c.args.shape.now c.args.logs.now c.requires.many c.requires.kept c.args.tids.bits c.name_group-group.result.bits c.name_group-group.new.cells c.name_group-group.ensures.numbers c.name_group-group.ensures.first c.name_group-group.ensures.count
+    gathered_fit c.args.shape.now c.args.logs.now c.requires.many c.requires.kept c.args.tids.bits c.name_group-group.result.bits c.name_group-group.new.late.cells c.name_group-group.ensures.numbers c.name_group-group.ensures.first c.name_group-group.ensures.count
 
 pub commit_cells-requires-clause-good : goal.commit_cells-requires-clause-good
 commit_cells-requires-clause-good g c = λ told.
-    gathered_good c.args.shape.now c.args.logs.now c.requires.many c.requires.kept c.args.tids.bits c.name_group-group.result.bits c.name_group-group.new.cells c.name_group-group.ensures.numbers c.name_group-group.ensures.first c.name_group-group.ensures.count
+    gathered_good c.args.shape.now c.args.logs.now c.requires.many c.requires.kept c.args.tids.bits c.name_group-group.result.bits c.name_group-group.new.late.cells c.name_group-group.ensures.numbers c.name_group-group.ensures.first c.name_group-group.ensures.count
     (g.M.Media.view c.args.media.now).content.bytes (c.requires.held told)
 
 module _ (g : Over) (c : goal.After-commit_cells g) where
   -- what is named for the commit is what the numbers have logged
   written : IsTrue g.M.Media.tells → (let shape = c.args.shape.now in let old = g.M.Media.view c.args.media.now in let before = data_of shape old.content.bytes in
-      applied (group_parts shape old.content.bytes c.name_group-group.result.bits c.name_group-group.new.cells) before ≡ applied (group_log (parts_logged shape old.content.bytes c.args.logs.now) (members c.args.tids)) before)
+      applied (group_parts shape old.content.bytes c.name_group-group.result.bits c.name_group-group.new.late.cells) before ≡ applied (group_log (parts_logged shape old.content.bytes c.args.logs.now) (members c.args.tids)) before)
   written told =
       let shape = c.args.shape.now in
       let old = g.M.Media.view c.args.media.now in
       let before = data_of shape old.content.bytes in
-      logs_applied shape c.args.logs.now c.requires.many c.requires.kept c.args.tids.bits c.name_group-group.result.bits c.name_group-group.new.cells c.name_group-group.ensures.numbers c.name_group-group.ensures.first c.name_group-group.ensures.count
+      logs_applied shape c.args.logs.now c.requires.many c.requires.kept c.args.tids.bits c.name_group-group.result.bits c.name_group-group.new.late.cells c.name_group-group.ensures.numbers c.name_group-group.ensures.first c.name_group-group.ensures.count
       old.content.bytes (c.requires.held told) before (g.met.M.Media.long c.args.media.now told ∙ c.requires.size) (length-data_of shape old.content.bytes)
 
   -- if nothing is logged, no call is made
   none_left : length (group_log (ranges_logged c.args.logs.now) (members c.args.tids)) ≡ 0 → (c.commit_cells.result ≡ Ok tt) × (c.commit_cells.new.media ≡ c.args.media.now)
   none_left none =
       c.commit_cells.ensures.idle (gathered_none c.args.shape.now c.args.tids.bits c.name_group-group.result.bits (λ t. listed (ranges_logged c.args.logs.now t)) c.name_group-group.ensures.numbers (past_ranges c.args.shape.now c.args.logs.now c.requires.many c.requires.kept)
-      c.name_group-group.new.cells c.name_group-group.ensures.count none)
+      c.name_group-group.new.late.cells c.name_group-group.ensures.count none)
 
 due_from : (r : Result (Unit {0}) Failed) (len : ℕ) → (len ≡ 0 → r ≡ Ok tt) → OnErr r (0 < len)
 due_from (Ok x) len none = tt
@@ -73,4 +73,4 @@ pub returns-clause-costs : goal.returns-clause-costs
 returns-clause-costs g c =
     subst (λ (n : ℕ). Costs g.M.Media.tells n (g.M.Media.view c.args.media.now).moment (g.M.Media.view c.commit_cells.new.media).moment c.commit_cells.result)
     (gathered_calls c.args.shape.now c.args.tids.bits c.name_group-group.result.bits (λ t. listed (ranges_logged c.args.logs.now t)) c.name_group-group.ensures.numbers (past_ranges c.args.shape.now c.args.logs.now c.requires.many c.requires.kept)
-    c.name_group-group.new.cells c.name_group-group.ensures.count) c.commit_cells.ensures.costs
+    c.name_group-group.new.late.cells c.name_group-group.ensures.count) c.commit_cells.ensures.costs

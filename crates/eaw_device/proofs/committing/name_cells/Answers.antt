@@ -1,38 +1,43 @@
-use Rattle.std.proofs.Common.{◌-◌, ◌+◌, ◌*◌, ℕ, ◌<◌, inl, inr, length, take, sym, ◌∙◌, ap, arith}
-use Rattle.std.specs.Prelude.{slice_index, slice_set}
+use Rattle.std.proofs.Common.{◌≡◌, ◌-◌, ℕ, ◌<◌, inl, inr, length, take, sym, ◌∙◌, ap, arith}
+use Rattle.std.specs.Prelude.{slice_index}
 use Rattle.std.proofs.lemmas.Bool.{cases_eq}
-use Rattle.std.proofs.lemmas.List.{length-set}
 use Rattle.coordinator.specs.declared.cells.Cells.{Cells}
 use Rattle.coordinator.specs.Commits.{cells_in}
 use Rattle.eaw_device.specs.Logs.{cells_on}
+use Rattle.eaw_device.proofs.AtOnce.{all_free}
 use Rattle.eaw_device.proofs.Keeping.{first_few}
-use Rattle.eaw_device.proofs.Naming.{named_here, named_beside}
 use Rattle.eaw_device.proofs.committing.name_cells.Goals as goal
 
-pub overflow_sub-cells : goal.overflow_sub-cells
-overflow_sub-cells c =
+pub overflow_sub-count : goal.overflow_sub-count
+overflow_sub-count c =
     let log = c.args.log.now in
-    let lt : c.loop-logger.logger < c.args.shape.now.loggers = omega (arith, c.from-logger-end.ensures) in
-    omega (arith, c.counts_of_first-firsts.ensures.counts c.loop-logger.logger lt, first_few c.args.shape.now c.args.offset log.entries.items log.held c.requires.kept.cells c.loop-logger.logger lt)
+    let k = c.loop-logger.logger in
+    let lt : k < c.args.shape.now.loggers = omega arith in
+    let first = ap (λ (i : ℕ). slice_index c.counts_of_first-firsts.result i) c.from-at.ensures in
+    let held = ap (λ (i : ℕ). slice_index log.held i) c.from-at.ensures in
+    omega (arith, first, held, c.counts_of_first-firsts.ensures.counts k lt, first_few c.args.shape.now c.args.offset log.entries.items log.held c.requires.kept.cells k lt)
+
+pub name-requires-clause-apart : goal.name-requires-clause-apart
+name-requires-clause-apart c = all_free c.args.shape.now c.loop-logger.late c.loop-logger.invariant.at_once c.args.tid
 
 pub loop-logger-preserved : goal.loop-logger-preserved
 loop-logger-preserved c =
     let log = c.args.log.now in
     let shape = c.args.shape.now in
     let k = c.loop-logger.logger in
-    let lt : k < shape.loggers = omega (arith, c.from-logger-end.ensures) in
-    let count = c.counts_of_first-firsts.ensures.counts k lt in
-    let x : Cells = record { first = slice_index c.counts_of_first-firsts.result k; count = slice_index log.held k - slice_index c.counts_of_first-firsts.result k } in
-    let few : k < 8 = omega (arith, shape.in_range.most_loggers) in
-    let there : 8 * c.from.result + k < length c.loop-logger.cells = omega (arith, c.loop-logger.invariant.long, c.from.ensures, c.requires.tid, shape.in_range.most_numbers) in
+    let at = c.loop-logger.invariant in
+    let lt : k < shape.loggers = omega arith in
+    let first : slice_index c.counts_of_first-firsts.result c.from-at.result ≡ length (cells_on shape k (take c.args.offset log.entries.items)) =
+    ap (λ (i : ℕ). slice_index c.counts_of_first-firsts.result i) c.from-at.ensures ∙ c.counts_of_first-firsts.ensures.counts k lt in
+    let held : slice_index log.held c.from-at.result ≡ slice_index log.held k = ap (λ (i : ℕ). slice_index log.held i) c.from-at.ensures in
     record {
-      long = length-set c.loop-logger.cells (8 * c.from.result + k) x ∙ c.loop-logger.invariant.long;
+      at_once = record { fit = c.name.ensures.fit shape at.at_once.fit; none_waits = c.name.ensures.depth ∙ at.at_once.none_waits };
       here = λ g below. elim (cases_eq g k) [
-        | inl is ↦ ap (λ (h : ℕ). cells_in (slice_set c.loop-logger.cells (8 * c.from.result + k) x) h c.args.tid) is
-            ∙ named_here c.loop-logger.cells c.from.result c.args.tid k c.from.ensures x there
-            ∙ (λ i. record { first = count i; count = slice_index log.held k - count i })
+        | inl is ↦ ap (λ (h : ℕ). cells_in c.name.new.self.cells h c.args.tid) is
+            ∙ c.name.ensures.here
+            ∙ (λ i. record { first = first i; count = held i - first i })
             ∙ ap (λ (h : ℕ). let first = length (cells_on shape h (take c.args.offset log.entries.items)) in let y : Cells = record { first = first; count = slice_index log.held h - first } in y) (sym is)
-        | inr ne ↦ named_beside c.loop-logger.cells c.from.result c.args.tid k c.from.ensures x g c.args.tid (λ same. ne (omega arith)) ∙ c.loop-logger.invariant.here g (omega arith)
+        | inr ne ↦ c.name.ensures.others g c.args.tid (omega (arith, shape.in_range.most_loggers)) (λ same. ne (omega arith)) ∙ at.here g (omega arith)
       ];
-      others = λ g t small ne. named_beside c.loop-logger.cells c.from.result c.args.tid k c.from.ensures x g t (λ same. ne (omega arith)) ∙ c.loop-logger.invariant.others g t small ne;
+      others = λ g t small ne. c.name.ensures.others g t small (λ same. ne (omega (arith, shape.in_range.most_loggers))) ∙ at.others g t small ne;
     }

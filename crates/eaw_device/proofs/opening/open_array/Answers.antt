@@ -28,6 +28,7 @@ returns-in_err-shape g c =
       settled = tt;
       free = tt;
       room = tt;
+      at_once = tt;
       cause = read.cause;
       unwritten = reading_leaves m.tells old new fault read.does.touched;
       keeps = reading_keeps m.tells old new _ read.does;
@@ -95,6 +96,7 @@ returns-in-Err g c =
       settled = tt;
       free = tt;
       room = tt;
+      at_once = tt;
       cause = λ told. (c.in_ok-shape.shape, read.shape told, read.sized);
       unwritten = read.does.touched;
       keeps = reading_keeps m.tells (m.view c.args.media.now) (m.view c.read_header.new.media) _ read.does;
@@ -145,3 +147,9 @@ returns-in-Ok-settle-clause-room g c = c.in-Ok.ensures.room
 
 pub returns-in-Err-settle-clause-room : goal.returns-in-Err-settle-clause-room
 returns-in-Err-settle-clause-room g c = tt
+
+pub returns-in-Ok-settle-clause-at_once : goal.returns-in-Ok-settle-clause-at_once
+returns-in-Ok-settle-clause-at_once g c = c.in-Ok.ensures.at_once
+
+pub returns-in-Err-settle-clause-at_once : goal.returns-in-Err-settle-clause-at_once
+returns-in-Err-settle-clause-at_once g c = tt

@@ -2,7 +2,7 @@ use Rattle.std.proofs.Common.{◌≡◌, ◌<◌, ℕ, ◌&&◌, not, nat_eq, Li
 use Rattle.std.specs.Prelude.{slice_index, vec_capacity, All}
 use Rattle.std.proofs.Math.ListN.{set}
 use Rattle.std.proofs.lemmas.List.{with_items_is, length-set}
-use Rattle.row_bytes.specs.Ballots.{has}
+use Rattle.array_shape.specs.NumberSet.{has}
 use Rattle.array_shape.specs.Places.{page_count}
 use Rattle.deferred_parts.specs.declared.deferred.NumberParts.{NumberParts}
 use Rattle.deferred_parts.specs.Entries.{IsEntry}

@@ -5,7 +5,7 @@ use Rattle.mars_base.specs.Bytes.{range}
 use Rattle.mars_base.proofs.Costing.{costs_all, costs_err}
 use Rattle.pcm_media.proofs.Left.{same_bytes}
 use Rattle.array_shape.specs.Logged.{Part, applied, ranges_of}
-use Rattle.row_bytes.specs.Ballots.{has}
+use Rattle.array_shape.specs.NumberSet.{has}
 use Rattle.array_image.specs.Joined.{joined}
 use Rattle.array_image.proofs.Calls.{goes_on}
 use Rattle.deferred_parts.specs.declared.entry.Entry.{Entry}

@@ -3,7 +3,7 @@ use Rattle.std.specs.Prelude.{IsTrue, count_by}
 use Rattle.mars_base.specs.Bytes.{range}
 use Rattle.array_shape.specs.Places.{data_len}
 use Rattle.array_shape.specs.Logged.{applied}
-use Rattle.row_bytes.specs.Ballots.{has}
+use Rattle.array_shape.specs.NumberSet.{has}
 use Rattle.array_image.specs.Joined.{joined}
 use Rattle.array_image.proofs.Calls.{SoFar}
 use Rattle.deferred_parts.specs.Entries.{parts_in}

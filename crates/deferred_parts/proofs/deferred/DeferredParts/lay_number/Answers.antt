@@ -4,7 +4,7 @@ use Rattle.std.proofs.lemmas.Bool.{and_cases, and_parts}
 use Rattle.mars_base.specs.Bytes.{range}
 use Rattle.mars_base.specs.Costs.{Costs}
 use Rattle.array_shape.specs.Logged.{applied, ranges_of}
-use Rattle.row_bytes.specs.Ballots.{has}
+use Rattle.array_shape.specs.NumberSet.{has}
 use Rattle.deferred_parts.specs.declared.entry.Entry.{Entry}
 use Rattle.deferred_parts.specs.Entries.{IsEntry, parts_in, ranges_in}
 use Rattle.deferred_parts.specs.Kept.{lies_on}

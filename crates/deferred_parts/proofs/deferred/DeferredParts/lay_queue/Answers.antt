@@ -7,7 +7,7 @@ use Rattle.mars_base.proofs.Costing.{costs_all, costs_err}
 use Rattle.pcm_media.proofs.Left.{same_bytes}
 use Rattle.array_shape.specs.Logged.{applied, ranges_of}
 use Rattle.row_bytes.specs.declared.ballot.Ballot.{Ballot}
-use Rattle.row_bytes.specs.Ballots.{has}
+use Rattle.array_shape.specs.NumberSet.{has}
 use Rattle.array_image.proofs.Calls.{goes_on}
 use Rattle.deferred_parts.specs.Entries.{parts_in, ranges_in}
 use Rattle.deferred_parts.specs.Shown.{entries_of}

@@ -7,7 +7,7 @@ use Rattle.mars_base.proofs.Costing.{costs_all, costs_err, costs_then, once}
 use Rattle.pcm_media.proofs.Left.{same_bytes}
 use Rattle.array_shape.specs.Places.{IsPlaced}
 use Rattle.array_shape.specs.Logged.{applied, ranges_of}
-use Rattle.row_bytes.specs.Ballots.{has}
+use Rattle.array_shape.specs.NumberSet.{has}
 use Rattle.array_image.specs.Image.{data_of}
 use Rattle.array_image.proofs.Calls.{ends_with, goes_on, hands_on, none_yet}
 use Rattle.array_image.proofs.Data.{length-data_of}

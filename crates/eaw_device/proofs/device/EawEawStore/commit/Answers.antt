@@ -77,6 +77,7 @@ invariant_of-self-2 g c =
       sound = commit_sound m.tells (m.view s.media) (m.view c.commit_log.new.media) s.shape s.logs.items s.is_dead s.sound c.in_ok-at.ensures.alive c.args.tid c.in_ok-at.ensures.live c.index.result.now there
           0 c.commit_log.result said.does (λ told. g.met.M.Media.long s.media told ∙ s.sound.sized) said.any_moment
           (λ told. when_ok c.commit_log.result fine (said.clean told)) (λ told. when_ok c.commit_log.result fine (said.committed told)) said.cells c.clear.new.self c.clear.ensures.kept c.clear.ensures.entries c.in_ok-at.at c.in_ok-at.ensures.at;
+      at_once = c.commit_log.ensures.at_once;
     }
 
 pub returns-clause-does : goal.returns-clause-does

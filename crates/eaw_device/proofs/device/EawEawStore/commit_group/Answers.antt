@@ -1,8 +1,7 @@
 use Rattle.std.proofs.Common.{◌≡◌, List, length, ◌∙◌, sym, refl, ap, arith}
-use Rattle.std.specs.Prelude.{None, slice_get}
+use Rattle.std.specs.Prelude.{slice_get}
 use Rattle.std.proofs.lemmas.Result.{err_from_is_err_and}
 use Rattle.array_shape.specs.NumberSet.{members}
-use Rattle.eaw_face.specs.Command.{commit_group}
 use Rattle.eaw_face.specs.declared.fault.EawFault.TheVariants.{Media}
 use Rattle.eaw_face.proofs.Groups.{known_one}
 use Rattle.eaw_device.specs.declared.log.Log.{Log}
@@ -71,8 +70,8 @@ clear_logs-requires-clause-there g c = rw (c.deref_mut.ensures.value) (λ t so.
 pub clear_logs-requires-clause-kept : goal.clear_logs-requires-clause-kept
 clear_logs-requires-clause-kept g c = rw (c.deref_mut.ensures.value) c.args.self.now.sound.kept
 
-pub invariant_of-self-2 : goal.invariant_of-self-2
-invariant_of-self-2 g c =
+pub invariant_of-self-2-clause-sound : goal.invariant_of-self-2-clause-sound
+invariant_of-self-2-clause-sound g c =
     let m = g.M.Media in
     let s = c.args.self.now in
     let said = c.commit_logs.ensures in
@@ -83,11 +82,12 @@ invariant_of-self-2 g c =
     let many = left.many ∙ ap length lent in
     let same = written_over s.logs.len s.logs.items c.clear_logs.new.logs s.logs.ok.0 many in
     let fine = sym c.is_err.ensures.value ∙ c.if-is_err.false in
-    rw (same) (record {
-      sound = group_now_sound m.tells (m.view s.media) (m.view c.commit_logs.new.media) s.shape s.logs.items s.is_dead s.sound c.in_ok-find_group.ensures.alive (members c.args.tids) c.in_ok-find_group.ensures.live
-          c.commit_logs.result said.does (λ told. g.met.M.Media.long s.media told ∙ s.sound.sized) any_moment
-          (λ told. when_ok c.commit_logs.result fine (said.clean told)) (λ told. when_ok c.commit_logs.result fine (committed told)) said.cells c.clear_logs.new.logs many left.kept left.freed (λ t away. left.others t away ∙ ap (λ (ls : List Log). slice_get ls t) lent);
-    })
+    rw (same) (group_now_sound m.tells (m.view s.media) (m.view c.commit_logs.new.media) s.shape s.logs.items s.is_dead s.sound c.in_ok-find_group.ensures.alive (members c.args.tids) c.in_ok-find_group.ensures.live
+    c.commit_logs.result said.does (λ told. g.met.M.Media.long s.media told ∙ s.sound.sized) any_moment
+    (λ told. when_ok c.commit_logs.result fine (said.clean told)) (λ told. when_ok c.commit_logs.result fine (committed told)) said.cells c.clear_logs.new.logs many left.kept left.freed (λ t away. left.others t away ∙ ap (λ (ls : List Log). slice_get ls t) lent))
+
+pub invariant_of-self-2-clause-at_once : goal.invariant_of-self-2-clause-at_once
+invariant_of-self-2-clause-at_once g c = c.commit_logs.ensures.at_once
 
 pub returns-clause-does : goal.returns-clause-does
 returns-clause-does g c =

@@ -75,6 +75,7 @@ invariant_of-self-2 g c =
       sound = write_sound m.tells (m.view s.media) s.shape s.logs.items s.is_dead s.sound c.in_ok-at.ensures.alive c.args.tid c.in_ok-at.ensures.small c.index-log.result.now there c.args.addr c.args.bytes.now c.requires.inside
           (c.in_ok-at.ensures.room c.index-log.result.now there) (m.view c.stage_all.new.media) c.stage_all.result c.stage_all.ensures.does (λ told. g.met.M.Media.long s.media told ∙ s.sound.sized)
           (λ told. when_ok c.stage_all.result fine (c.stage_all.ensures.holds told)) c.add_range.new.self c.add_range.ensures.kept c.add_range.ensures.live (subst (λ (l : Log). Adds l.entries.items c.add_range.new.self.entries.items (map (λ (p : Part). (p.addr, p.len)) (parts_of s.shape c.args.addr (length c.args.bytes.now)))) same c.add_range.ensures.adds) c.in_ok-at.at c.in_ok-at.ensures.at;
+      at_once = c.args.self.now.at_once;
     }
 
 -- the log that is looked up again

@@ -3,7 +3,7 @@ use Rattle.coordinator.specs.declared.cells.Cells.{Cells}
 use Rattle.coordinator.specs.Commits.{AreGood, AreThere}
 use Rattle.std.proofs.lemmas.List.Elements.{All-drop}
 use Rattle.row_bytes.specs.declared.ballot.Ballot.{Ballot}
-use Rattle.row_bytes.specs.Ballots.{has}
+use Rattle.array_shape.specs.NumberSet.{has}
 use Rattle.late_commits.specs.Orders.{IsFree, due_for_place}
 use Rattle.coordinator.proofs.Applying.{good_same}
 use Rattle.late_commits.proofs.Adding.{nothing_added, place_fault, placed_and_decided}
