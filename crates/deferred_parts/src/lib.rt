@@ -13,6 +13,8 @@ mod laws;
 mod marks;
 mod overlay;
 mod reading;
+#[cfg(test)]
+mod tests;
 
 pub use deferred::DeferredParts;
 pub use entry::Entry;
