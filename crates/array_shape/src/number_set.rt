@@ -43,10 +43,7 @@ impl NumberSet {
     pub fn members(self) -> Members
         ensures { result ≡ members self }
     {
-        Members {
-            set: self,
-            next: 0,
-        }
+        Members { set: self, next: 0 }
     }
 }
 

@@ -23,9 +23,15 @@ pub enum Image {
 #[derive(Drop)]
 pub enum Play {
     /// Runs, each over what the one before it left.
-    Runs { is_over_file: bool, runs: Vec<Run> },
+    Runs {
+        is_over_file: bool,
+        runs: Vec<Run>,
+    },
     /// Calls of pages, and bytes that the array has behind them.
-    Pages { lines: Vec<PageLine>, has: Vec<Placed> },
+    Pages {
+        lines: Vec<PageLine>,
+        has: Vec<Placed>,
+    },
 }
 
 #[derive(Drop)]

@@ -79,7 +79,7 @@ kept_one p (t ∷ ts) = one (p t) (kept_one p ts)
 -- The numbers of a set that have logged anything are a group.
 module _ (shape : Shape) (bits group : ℕ) (ranges : ℕ → List (ℕ × ℕ)) (is : (u : ℕ) → u < shape.numbers → has group u ≡ (has bits u && nat_lt 0 (length (ranges u)))) (past : (u : ℕ) → shape.numbers ≤ u → ranges u ≡ []) where
   empty_at : (u : ℕ) → nat_lt 0 (length (ranges u)) ≡ false → ranges u ≡ []
-  empty_at u none = nil_from_length (ranges u) (elim (cases_eq (length (ranges u)) 0) [ | inl zero_len ↦ zero_len | inr some ↦ absurd (false≢true (sym none ∙ lt-ltb 0 (length (ranges u)) (omega arith))) ])
+  empty_at u none = nil_from_length (ranges u) (elim (cases_eq (length (ranges u)) 0) [ inl zero_len ↦ zero_len | inr some ↦ absurd (false≢true (sym none ∙ lt-ltb 0 (length (ranges u)) (omega arith))) ])
 
   -- lists that are empty for numbers that have logged nothing
   pub gathered : {A : Type 0} (f : ℕ → List A) → ((u : ℕ) → ranges u ≡ [] → f u ≡ []) → joined (λ u. cond (has group u) (f u) []) 0 shape.numbers ≡ flat_map f (numbers_in bits)
@@ -150,7 +150,7 @@ module _ (shape : Shape) (bits group : ℕ) (ranges : ℕ → List (ℕ × ℕ))
     none_here g u false so none = refl
 
     zero_here : (g u : ℕ) (b : Bool) → (b && nat_lt 0 (cells_in cells g u).count) ≡ false → cond b (cells_in cells g u).count 0 ≡ 0
-    zero_here g u true none = elim (cases_eq (cells_in cells g u).count 0) [ | inl is ↦ is | inr some ↦ absurd (false≢true (sym none ∙ lt-ltb 0 (cells_in cells g u).count (omega arith))) ]
+    zero_here g u true none = elim (cases_eq (cells_in cells g u).count 0) [ inl is ↦ is | inr some ↦ absurd (false≢true (sym none ∙ lt-ltb 0 (cells_in cells g u).count (omega arith))) ]
     zero_here g u false none = refl
 
     takes : (g : ℕ) → g < shape.loggers → takes_part shape cells group g ≡ nat_lt 0 (count_on shape g all_ranges)

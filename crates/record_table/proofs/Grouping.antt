@@ -203,5 +203,10 @@ pub as_many_in_group : (index : Index) (view : PagesView) (ts : List ℕ) → ((
 as_many_in_group index view [] outlined = refl
 as_many_in_group index view (t ∷ ts) outlined =
     let log = listed (view.store.state.logs t) in
-    omega (arith, as_many_writes index view t (outlined t), as_many_in_group index view ts outlined, length-append (listed (view.store.ranges t)) (group_log view.store.ranges ts),
-        length-append ((state_of index view).logs t).writes (group_writes (state_of index view) ts))
+    omega (
+      arith,
+      as_many_writes index view t (outlined t),
+      as_many_in_group index view ts outlined,
+      length-append (listed (view.store.ranges t)) (group_log view.store.ranges ts),
+      length-append ((state_of index view).logs t).writes (group_writes (state_of index view) ts),
+    )

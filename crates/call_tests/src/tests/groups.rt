@@ -35,9 +35,18 @@ fn a_group_is_refused_for_its_lowest_number_that_is_not_live(rt: HostRuntime) ->
     assert_eq!(rt; store.log_write(1, 0, b"a"), Ok(1));
     assert_eq!(rt; store.log_write(3, 512, b"b"), Ok(1));
     let live = NumberSet::empty().with(1).with(3);
-    assert_eq!(rt; store.commit_group(live.with(0).with(2)), Err(EawFault::UnknownTid { tid: 0 }));
-    assert_eq!(rt; store.commit_group(live.with(2)), Err(EawFault::UnknownTid { tid: 2 }));
-    assert_eq!(rt; store.commit_group(live.with(63)), Err(EawFault::UnknownTid { tid: 63 }));
+    assert_eq!(rt;
+        store.commit_group(live.with(0).with(2)),
+        Err(EawFault::UnknownTid { tid: 0 })
+    );
+    assert_eq!(rt;
+        store.commit_group(live.with(2)),
+        Err(EawFault::UnknownTid { tid: 2 })
+    );
+    assert_eq!(rt;
+        store.commit_group(live.with(63)),
+        Err(EawFault::UnknownTid { tid: 63 })
+    );
     assert!(rt; store.is_live(1) && store.is_live(3));
     assert_eq!(rt; store.commit_group(live), Ok(()));
     let mut byte = [0];
@@ -58,6 +67,9 @@ fn a_dead_array_says_so_before_it_looks_at_numbers(rt: HostRuntime) -> Result<()
     let again = media_of(rt.alloc(), media.bytes()).ok_or("again")?;
     let mut store = opened(rt.alloc(), FusedMedia::wrap(again, passes)).ok_or("opened")?;
     assert_eq!(rt; store.log_write(1, 0, b"a"), Err(EawFault::Media));
-    assert_eq!(rt; store.commit_group(NumberSet::empty().with(2)), Err(EawFault::Dead));
+    assert_eq!(rt;
+        store.commit_group(NumberSet::empty().with(2)),
+        Err(EawFault::Dead)
+    );
     Ok(())
 }
