@@ -1,9 +1,10 @@
 -- A number that the ballot does not have: it has no row and no part, and costs nothing.
-use Rattle.std.proofs.Common.{◌≡◌, ℕ, zero, suc, ◌+◌, ◌<◌, Bool, false, cond, List, [], refl, ◌∙◌, ap, arith}
+use Rattle.std.proofs.Common.{◌≡◌, ℕ, zero, suc, ◌+◌, Bool, false, cond, List, [], refl, ◌∙◌, ap, arith}
 use Rattle.array_shape.specs.declared.shape.Shape.{Shape}
 use Rattle.std.proofs.lemmas.Bool.{and_right}
 use Rattle.row_bytes.specs.declared.ballot.Ballot.{Ballot}
-use Rattle.row_bytes.specs.Ballots.{has, has_row}
+use Rattle.array_shape.specs.NumberSet.{has}
+use Rattle.row_bytes.specs.Ballots.{has_row}
 use Rattle.array_image.specs.Image.{parts_from}
 use Rattle.array_image.proofs.Joined.{joined_none}
 use Rattle.commit_queue.specs.Queue.{named_at}
