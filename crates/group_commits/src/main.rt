@@ -1,6 +1,7 @@
 //! Commits transactions in groups on an array, and says how many: what `bench/run.sh` times. The first word is the image, a file that holds
 //! an array, or `-` for one in memory. The second is how many transactions are committed together, 1 to 64, and the third how many groups.
 #![tactic(auto)]
+ghost use Rattle.std.specs.Prelude.{◌≤◌};
 
 mod groups;
 
@@ -34,7 +35,9 @@ fn main(rt: HostRuntime) -> Result<()> {
 }
 
 // Opens the array on a medium, and commits.
-fn commit_on<M: Media + Drop>(alloc: Global, media: M, size: u8, groups: u32) -> Result<()> {
+fn commit_on<M: Media + Drop>(alloc: Global, media: M, size: u8, groups: u32) -> Result<()>
+    requires { size ≤ 64 }
+{
     match Eaw::attach(alloc, media) {
         Ok(mut store) => Ok(commit_groups(&mut store, size, groups)?),
         Err((fault, _)) => bail!("{fault}"),

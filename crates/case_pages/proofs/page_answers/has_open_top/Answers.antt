@@ -10,8 +10,8 @@ use Rattle.case_pages.proofs.page_answers.has_open_top.Goals as goal
 pub loop-tid-init : goal.loop-tid-init
 loop-tid-init g c = λ t lt so away. absurd (false≢true (sym away ∙ ap (λ (ts : List ℕ). is_one_of ts t) (c.into_iter-tid-iterator.ensures.into_iter_gives ∙ c.members-tid-items.ensures) ∙ so))
 
-pub loop-tid-preserved-then-tid-numbers : goal.loop-tid-preserved-then-tid-numbers
-loop-tid-preserved-then-tid-numbers g c =
+pub loop-tid-preserved-else-is_some : goal.loop-tid-preserved-else-is_some
+loop-tid-preserved-else-is_some g c =
     next_closed (top_in c.args.pages.now.marks) (g.S.EawStore.view c.args.pages.now.store).shape.numbers c.in-Some.tid (members c.args.tids) c.loop-tid.tid-iterator c.next.new.self c.in-Some.ensures.steps
     (λ lt. sym c.open_top.ensures ∙ none_from c.open_top.result (sym c.is_some.ensures ∙ c.if-is_some.false)) c.loop-tid.invariant
 
