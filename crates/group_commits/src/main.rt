@@ -1,12 +1,13 @@
 //! Commits transactions in groups on an array, and says how many: what `bench/run.sh` times. The first word is the image, a file that holds
 //! an array, or `-` for one in memory. The second is how many transactions are committed together, 1 to 64, and the third how many groups.
 #![tactic(auto)]
+
 ghost use Rattle.std.specs.Prelude.{◌≤◌};
 
 mod groups;
 
 use crate::groups::commit_groups;
-use anyhow::{Result, anyhow, bail, ensure};
+use anyhow::{Result, bail, ensure};
 use array_shape::Shape;
 use eaw_device::{Eaw, format};
 use media_file::FileMedia;
