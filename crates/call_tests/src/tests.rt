@@ -7,4 +7,5 @@ mod lists;
 mod opening;
 mod queues;
 mod reply_texts;
+mod retries;
 mod samples;
