@@ -15,7 +15,6 @@ pub mod Unopened
 pub mod Running
 pub mod Composing
 pub mod Completing
-pub mod Waiting
 mod Endings
 pub mod Commanding
 pub mod Statuses
