@@ -1,5 +1,5 @@
 // Refusals of commits of several numbers.
-ghost use Rattle.std.specs.Prelude.{◌≤◌, IfSome};
+ghost use Rattle.std.specs.Prelude.{◌≡◌, ◌≤◌, IfSome};
 ghost use Rattle.array_shape.specs.Places.{data_len};
 
 use super::arrays::{fresh_of, media_of};
@@ -16,9 +16,10 @@ fn array(alloc: Global) -> Option<MemoryMedia> {
     fresh_of(alloc, &Shape::new(2, 4, 8, 4).ok()?)
 }
 
-// The array on a medium, where it has data for the writes of these tests.
+// The array on a medium, where it has the numbers and the data for the writes of these tests.
 fn opened<M: Media + Drop>(alloc: Global, media: M) -> Option<Eaw<M>>
-    ensures { IfSome result (λ eaw. 1024 ≤ data_len (⟦<Eaw<M> as EawStore>⟧.view eaw).shape) }
+    ensures data { IfSome result (λ eaw. 1024 ≤ data_len (⟦<Eaw<M> as EawStore>⟧.view eaw).shape) }
+    ensures numbers { IfSome result (λ eaw. (⟦<Eaw<M> as EawStore>⟧.view eaw).shape.numbers ≡ 4) }
 {
     let store = Eaw::attach(alloc, media).ok()?;
     if store.shape().data_len() >= 1024 && store.shape().numbers == 4 {
