@@ -72,7 +72,7 @@ none_logged f (Some l) is = cc
 
 -- writing the counter is refused only if the medium has failed
 pub write_broken : (old new : StoreView) (n : ℕ) (fault : EawFault) → IsShape old.shape → IsIdle old → (let r : Result ℕ EawFault = Err fault in Cause old (log_write 0 1024 (little_bytes 8 n)) new.faults r) → IsBroken old new fault
-write_broken old new n (UnknownTid u) shaped idle cause = absurd (cause.1 (omega (arith, shaped.some_numbers)))
+write_broken old new n (UnknownTid u) shaped idle cause = absurd (cause.1.0 (omega (arith, shaped.some_numbers)))
 write_broken old new n (LogFull g h k) shaped idle cause =
     let full = cause.2 in
     let none : h ≡ 0 = full.held_is ∙ ap (λ (o : Option (List (ℕ × ℕ))). count_on old.shape g (listed o)) (idle cause.0) in
