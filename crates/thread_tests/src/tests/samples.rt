@@ -38,7 +38,7 @@ fn both_put<C: Core + Drop + Send, R: Threads + Wait + Sync>(
 ) -> (Reply, Reply)
     requires { (one.table ≡ mars.now.table) × (other.table ≡ mars.now.table) }
 {
-    let ((_, first), (_, second)) = join(
+    let ((_one, first), (_other, second)) = join(
         rt,
         move || -> (Pass<C>, Reply)
             requires { one.table ≡ mars.now.table }
