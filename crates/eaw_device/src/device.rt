@@ -15,6 +15,7 @@ use crate::log::{Log, clear_logs};
 use crate::opening::open_array;
 use crate::reading::read_data;
 use crate::staging::{check_room, stage_all};
+use crate::write_back::{AtOnce, Late, WriteBack};
 use array_shape::{NumberSet, Shape};
 use eaw_face::{EawFault, EawStore};
 use late_commits::LateCommits;
@@ -24,7 +25,8 @@ use std::alloc::Global;
 
 /// The array over a medium.
 #[derive(Drop)]
-pub struct Eaw<M: Media> {
+pub struct Eaw<M: Media, W: WriteBack = AtOnce> {
+    write_back: W,
     media: M,
     shape: Shape,
     logs: Vec<Log>,
@@ -34,10 +36,54 @@ pub struct Eaw<M: Media> {
     ghost at_once: { IsAtOnce shape late },
 }
 
-impl<M: Media> Eaw<M> {
+impl<M: Media> Eaw<M, AtOnce> {
     /// Opens the array on the medium: reads its header, takes memory for its tables, and recovers. No number is live then.
     /// On an error the medium is given back.
-    pub fn attach(alloc: Global, mut media: M) -> Result<Eaw<M>, (AttachFault, M)>
+    pub fn attach(alloc: Global, media: M) -> Result<Eaw<M, AtOnce>, (AttachFault, M)>
+        ensures opens { IfOk result (λ eaw. Attached M.tells (M.view media) (view_of (M.view eaw.media) eaw.shape eaw.logs.items eaw.is_dead)) }
+        // An image that opens with some data is opened with that data.
+        ensures found { IfOk result (λ eaw. FindsData M.tells (M.view media) (view_of (M.view eaw.media) eaw.shape eaw.logs.items eaw.is_dead)) }
+        ensures cause { IfErr result (λ e. AttachCause M.tells (M.view media) (M.view e.1).faults e.0) }
+        ensures unwritten { IfErr result (λ e. AttachLeaves M.tells (M.view media) (M.view e.1) e.0) }
+        ensures keeps { IfOk result (λ eaw. KeepsData M.tells (M.view media) (M.view eaw.media).moment (M.view eaw.media).left_since) }
+        ensures keeps_on_err { IfErr result (λ e. KeepsData M.tells (M.view media) (M.view e.1).moment (M.view e.1).left_since) }
+        ensures later { IfErr result (λ e. (M.view media).faults ≤ (M.view e.1).faults) }
+        ensures kept { IfErr result (λ e. e.0 ≢ AttachFault.Media → (M.view e.1).faults ≡ (M.view media).faults) }
+        ensures within { IfErr result (λ e. OpensWithin M.tells (M.view media) (M.view e.1).moment) }
+        ensures early { IfErr result (λ e. e.0 ≡ AttachFault.NoMemory → (M.view e.1).moment ≡ (M.view media).moment + 1) }
+    {
+        Eaw::<M, AtOnce>::attach_with(alloc, media, AtOnce)
+    }
+}
+
+impl<M: Media> Eaw<M, Late> {
+    /// The same, for a device on which at most `depth` commits may wait for their write-back after they were answered.
+    pub fn attach_late(alloc: Global, media: M, depth: u8) -> Result<Eaw<M, Late>, (AttachFault, M)>
+        requires some { 0 < depth }
+        requires most { depth ≤ 64 }
+        ensures opens { IfOk result (λ eaw. Attached M.tells (M.view media) (view_of (M.view eaw.media) eaw.shape eaw.logs.items eaw.is_dead)) }
+        // An image that opens with some data is opened with that data.
+        ensures found { IfOk result (λ eaw. FindsData M.tells (M.view media) (view_of (M.view eaw.media) eaw.shape eaw.logs.items eaw.is_dead)) }
+        ensures cause { IfErr result (λ e. AttachCause M.tells (M.view media) (M.view e.1).faults e.0) }
+        ensures unwritten { IfErr result (λ e. AttachLeaves M.tells (M.view media) (M.view e.1) e.0) }
+        ensures keeps { IfOk result (λ eaw. KeepsData M.tells (M.view media) (M.view eaw.media).moment (M.view eaw.media).left_since) }
+        ensures keeps_on_err { IfErr result (λ e. KeepsData M.tells (M.view media) (M.view e.1).moment (M.view e.1).left_since) }
+        ensures later { IfErr result (λ e. (M.view media).faults ≤ (M.view e.1).faults) }
+        ensures kept { IfErr result (λ e. e.0 ≢ AttachFault.Media → (M.view e.1).faults ≡ (M.view media).faults) }
+        ensures within { IfErr result (λ e. OpensWithin M.tells (M.view media) (M.view e.1).moment) }
+        ensures early { IfErr result (λ e. e.0 ≡ AttachFault.NoMemory → (M.view e.1).moment ≡ (M.view media).moment + 1) }
+    {
+        Eaw::<M, Late>::attach_with(alloc, media, Late::new(depth))
+    }
+}
+
+impl<M: Media, W: WriteBack> Eaw<M, W> {
+    /// The same, for a device that writes the data of a commit to its place when it is told so.
+    pub fn attach_with(
+        alloc: Global,
+        mut media: M,
+        write_back: W,
+    ) -> Result<Eaw<M, W>, (AttachFault, M)>
         ensures opens { IfOk result (λ eaw. Attached M.tells (M.view media) (view_of (M.view eaw.media) eaw.shape eaw.logs.items eaw.is_dead)) }
         // An image that opens with some data is opened with that data.
         ensures found { IfOk result (λ eaw. FindsData M.tells (M.view media) (view_of (M.view eaw.media) eaw.shape eaw.logs.items eaw.is_dead)) }
@@ -52,6 +98,7 @@ impl<M: Media> Eaw<M> {
     {
         match open_array(alloc, &mut media) {
             Ok((shape, logs, late)) => Ok(Eaw {
+                write_back,
                 media,
                 shape,
                 logs,
@@ -64,9 +111,10 @@ impl<M: Media> Eaw<M> {
 
     /// The medium. What live numbers have logged is given up.
     pub fn into_media(self) -> M
-        ensures { IsBehind M.tells (view_of (M.view self.media) self.shape self.logs.items self.is_dead) (M.view result) }
+        ensures { IsBehind M.tells W.defers (view_of (M.view self.media) self.shape self.logs.items self.is_dead) (M.view result) }
     {
         let Eaw {
+            write_back: _,
             media,
             shape: _,
             logs: _,
@@ -129,7 +177,7 @@ impl<M: Media> Eaw<M> {
     }
 }
 
-impl<M: Media> EawStore for Eaw<M> {
+impl<M: Media, W: WriteBack> EawStore for Eaw<M, W> {
     ghost use Rattle.eaw_device.specs.Sound.{view_of};
     ghost use Rattle.eaw_device.specs.Opens.{Opens};
     ghost use Rattle.eaw_device.specs.Costs.{calls_of};

@@ -1,13 +1,12 @@
 use Rattle.std.proofs.Common.{[], false, inl, inr, ⊎_elim, refl, sym, subst, ◌∙◌, arith}
-use Rattle.std.specs.Prelude.{IsTrue}
 use Rattle.std.proofs.lemmas.List.{append-nil}
-use Rattle.mars_shell.specs.Dump.{Spares}
-use Rattle.mars_shell.specs.Run.{TakesTurns, OverRecords}
+use Rattle.mars_shell.specs.Run.{OverRecords}
+use Rattle.mars_shell.specs.Served.{TakesTurnsFor}
 use Rattle.mars_shell.specs.Statuses.{IsEarly, IsRefusal}
 use Rattle.mars_shell.specs.declared.status.Status.{Status}
 use Rattle.mars_shell.proofs.Endings.{served_late, served_refused, served_usage, served_untold, served, input_read}
 use Rattle.mars_shell.proofs.Outcomes.{records_outcome, turns_none}
-use Rattle.mars_shell.proofs.records.over_records.Goals as goal
+use Rattle.mars_shell.proofs.records.over_records_on.Goals as goal
 
 pub returns-in-Err-clause-ran : goal.returns-in-Err-clause-ran
 returns-in-Err-clause-ran g c =
@@ -22,7 +21,7 @@ returns-in-Err-clause-ran g c =
       holds = (
         input,
         (λ asked _. refl),
-        λ told. turns_none 0 (λ ended. g.W.CoreWork.does c.args.work.now input ended false []) old c.in-Err.ended.0 new false [] g.W.CoreWork.spares (c.in-Err.ensures.outcome told),
+        λ told. turns_none 0 g.B.WriteBack.defers (λ ended. g.W.CoreWork.does c.args.work.now input ended false []) old c.in-Err.ended.0 new false [] g.W.CoreWork.spares (c.in-Err.ensures.outcome told),
       );
     }
 
@@ -62,9 +61,9 @@ returns-clause-ran g c =
         input,
         (λ asked. c.in-Ok.ensures.read (c.reads.ensures ∙ asked)),
         λ told.
-            subst (λ (s : Status). OverRecords 0 (λ ended. (taken : TakesTurns (work.does c.args.work.now input ended said.cut said.text) old ended new) × (IsTrue work.spares → Spares taken.shape old new))
+            subst (λ (s : Status). OverRecords 0 (λ ended. TakesTurnsFor work.spares g.B.WriteBack.defers (work.does c.args.work.now input ended said.cut said.text) old ended new)
             old s new said.cut said.text) (sym c.served_status.ensures)
-            (records_outcome media.tells told old (met.only_now c.args.media) _ c.in-Ok.ensures.attached c.in-Ok.ensures.keeps _ new c.into_media.ensures (met.counts_now c.into_media.result)
+            (records_outcome media.tells told old (met.only_now c.args.media) _ c.in-Ok.ensures.attached c.in-Ok.ensures.keeps g.B.WriteBack.defers _ new c.into_media.ensures (met.counts_now c.into_media.result)
             0 (omega arith) work.spares (λ ended. work.does c.args.work.now input ended said.cut said.text)
             c.serve-served.result.0 said.cut said.text (rw c.deref.ensures.value at (said.holds told))),
       );
