@@ -61,13 +61,7 @@ pub fn over_records<S: Source, K: Sink, M: Media + Drop + Send, W: CoreWork>(
 }
 
 // The same on a device of this type.
-fn over_records_on<
-    S: Source,
-    K: Sink,
-    M: Media + Drop + Send,
-    B: WriteBack + Send,
-    W: CoreWork,
->(
+fn over_records_on<S: Source, K: Sink, M: Media + Drop + Send, B: WriteBack + Send, W: CoreWork>(
     alloc: Global,
     source: &mut S,
     sink: &mut K,
