@@ -1,5 +1,6 @@
 #!/usr/bin/env bash
-# Lines a second, growth and peak memory of `mars`. With a folder as argument also transactions a second on a file in it.
+# Lines a second, growth and peak memory of `mars`. With a folder as argument also transactions a second on a file in it, one after another
+# and in groups.
 #
 # Five mixes of lines over the image in memory, of some lines and of ten times as many; keys are below 1,000, values have 16 bytes:
 #   puts   run: a transaction is a begin, a put and a commit
@@ -135,6 +136,24 @@ on_file() {
     awk -v count="$count" -v time="$time" 'BEGIN { printf "file   %d transactions, %d a second\n", count, count * 1e6 / time }'
     calls "$image" 100
     rm -f "$image"
+}
+
+# groups FOLDER: transactions a second that are committed in groups, by calls, on a fresh file; of a program that `rt run` builds
+groups() {
+    local made=$top/crates/group_commits/out/group_commits image=$1/mars-bench.$$ count=200 size start
+    [ -x "$made" ] || {
+        echo "groups: crates/group_commits is not built"
+        return 0
+    }
+    for size in 1 8 64; do
+        "$program" "$image" format --numbers 64 >/dev/null
+        start=${EPOCHREALTIME/[.,]/}
+        "$made" "$image" "$size" "$count" >"$work/answers"
+        awk -v size="$size" -v count="$count" -v time="$((${EPOCHREALTIME/[.,]/} - start))" 'BEGIN {
+            printf "groups of %d: %d transactions, %d a second\n", size, size * count, size * count * 1e6 / time
+        }'
+        rm -f "$image"
+    done
 }
 
 # timed FILE WORD..: milliseconds of a run over the image with this input; what it writes goes to $work/answers
@@ -283,4 +302,7 @@ drills 1 100000
 for callers in 1 2 4; do
     beside "$callers" 100000
 done
-[ $# -eq 0 ] || on_file "$1"
+[ $# -eq 0 ] || {
+    on_file "$1"
+    groups "$1"
+}

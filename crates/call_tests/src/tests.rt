@@ -1,6 +1,7 @@
 mod accounts;
 mod arrays;
 mod counting;
+mod groups;
 mod histories;
 mod lists;
 mod opening;

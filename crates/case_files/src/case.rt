@@ -1,7 +1,7 @@
 use crate::fault::LineFault;
 use crate::fields::{choices, numbers, size, word_and_rest};
 use crate::page_call::{PageLine, take_page_line};
-use crate::run::Run;
+use crate::run::{Placed, Run};
 use std::alloc::Global;
 
 /// What there is before a case is played.
@@ -24,8 +24,8 @@ pub enum Image {
 pub enum Play {
     /// Runs, each over what the one before it left.
     Runs { is_over_file: bool, runs: Vec<Run> },
-    /// Calls of pages.
-    Pages { lines: Vec<PageLine> },
+    /// Calls of pages, and bytes that the array has behind them.
+    Pages { lines: Vec<PageLine>, has: Vec<Placed> },
 }
 
 #[derive(Drop)]
@@ -70,6 +70,7 @@ impl Case {
             "pages" => {
                 self.play = Play::Pages {
                     lines: Vec::new(alloc),
+                    has: Vec::new(alloc),
                 };
             }
             _ => self.play.take(alloc, word, rest)?,
@@ -86,7 +87,11 @@ impl Play {
                 Ok(())
             }
             Play::Runs { runs, .. } => take_run_line(alloc, runs, word, rest),
-            Play::Pages { lines } => take_page_line(alloc, lines, word, rest),
+            Play::Pages { has, .. } if word == "has" => {
+                has.push(Placed::read(alloc, rest)?)?;
+                Ok(())
+            }
+            Play::Pages { lines, .. } => take_page_line(alloc, lines, word, rest),
         }
     }
 }

@@ -17,7 +17,7 @@ pub fn compare(
     report: &mut Report,
 ) -> Result<(), CaseFault> {
     compare_answers(run, nth, ran, report)?;
-    compare_places(&run.left, ran.media.bytes(), report)?;
+    compare_places(&run.left.has, ran.media.bytes(), report)?;
     compare_others(&run.left, before, ran.media.bytes(), report)?;
     compare_calls(alloc, &run.left, &ran.calls, report)
 }
@@ -85,8 +85,13 @@ fn front(text: &[u8], nth: u64) -> &[u8] {
     text
 }
 
-fn compare_places(left: &Left, after: &[u8], report: &mut Report) -> Result<(), CaseFault> {
-    for placed in &left.has {
+/// Compares bytes behind a run with what is wanted of them.
+pub fn compare_places(
+    has: &[Placed],
+    after: &[u8],
+    report: &mut Report,
+) -> Result<(), CaseFault> {
+    for placed in has {
         let end = placed.at.saturating_add(placed.bytes.len());
         let was = match after.get(placed.at..end) {
             Some(was) => was,

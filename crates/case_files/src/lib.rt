@@ -48,7 +48,8 @@
 //! In a case of pages `> T CALL` is a call for the number T, and `< ANSWER` what the call before it answers: `ok`, a number, bytes as
 //! digits, why it is refused, or `not now` where it may not be made. Where nothing is said, it answers what it does over plain memory. The
 //! case is played over plain memory, and then over an array, which has to answer the same; there also with each call of the medium failing
-//! once, and with power lost at each.
+//! once, and with power lost at each. Where that was within a group, its recovery is stopped in the same way at each of its own calls. A
+//! line `has AT HEX` says what the array has behind all calls.
 //!
 //! | call | does |
 //! |---|---|
@@ -80,7 +81,7 @@ mod traced;
 mod traced_media;
 
 pub use case::{Case, Image, Play};
-pub use comparing::{compare, compare_ran};
+pub use comparing::{compare, compare_places, compare_ran};
 pub use draws::Draws;
 pub use fault::{BadLine, LineFault};
 pub use file::read_cases;

@@ -60,6 +60,14 @@ impl PageLine {
 }
 
 impl PageCall {
+    /// Whether it commits several numbers at once.
+    pub fn is_group(&self) -> bool {
+        match self {
+            PageCall::EndGroup { tids: _ } => true,
+            _ => false,
+        }
+    }
+
     fn read(alloc: Global, text: &str) -> Result<PageCall, LineFault> {
         let (word, rest) = word_and_rest(text);
         match word {

@@ -219,7 +219,7 @@ impl Wanted {
 }
 
 impl Placed {
-    fn read(alloc: Global, text: &str) -> Result<Placed, LineFault> {
+    pub(crate) fn read(alloc: Global, text: &str) -> Result<Placed, LineFault> {
         let (at, hex) = two_words(text)?;
         Ok(Placed {
             at: size(at)?,

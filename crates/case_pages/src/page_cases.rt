@@ -1,10 +1,10 @@
 // A case of calls of pages.
 use crate::image::{first_media, media_of};
 use crate::page_steps::{Step, play, steps_of};
-use crate::page_stores::{device_pages, media_below, plain_pages};
+use crate::page_stores::{device, device_pages, media_below, plain_pages};
 use crate::plain::data_in;
 use crate::progress::Progress;
-use case_files::{CaseFault, Image, PageLine};
+use case_files::{CaseFault, Image, PageLine, Placed, compare_places};
 use pcm_media::{Media, MemoryMedia};
 use std::alloc::Global;
 
@@ -12,6 +12,7 @@ use std::alloc::Global;
 #[derive(Drop)]
 struct Played<'a> {
     lines: &'a [PageLine],
+    has: &'a [Placed],
     first: Vec<u8>,
     steps: Vec<Step>,
 }
@@ -32,6 +33,14 @@ impl Played<'_> {
             None => &self.first,
         }
     }
+
+    // Whether a call commits a group.
+    fn is_group(&self, nth: usize) -> bool {
+        match self.lines.get(nth) {
+            Some(line) => line.call.is_group(),
+            None => false,
+        }
+    }
 }
 
 /// Makes the calls over each store, and over the array with each call of the medium failing, and with power lost at each.
@@ -39,11 +48,12 @@ pub fn play_pages(
     alloc: Global,
     image: Image,
     lines: &[PageLine],
+    has: &[Placed],
     progress: &mut Progress,
 ) -> Result<(), CaseFault> {
     let image = first_media(alloc, image)?;
     let image = image.bytes();
-    let played = play_plainly(alloc, lines, image, progress)?;
+    let played = play_plainly(alloc, lines, has, image, progress)?;
     for passes in 0..play_wholly(alloc, &played, image, progress)? {
         let mut failing = media_of(alloc, image)?;
         failing.fail(passes + 1)?;
@@ -56,6 +66,7 @@ pub fn play_pages(
 fn play_plainly<'a>(
     alloc: Global,
     lines: &'a [PageLine],
+    has: &'a [Placed],
     image: &[u8],
     progress: &mut Progress,
 ) -> Result<Played<'a>, CaseFault> {
@@ -65,6 +76,7 @@ fn play_plainly<'a>(
     let steps = steps_of(alloc, lines, &mut pages, &mut progress.report)?;
     Ok(Played {
         lines,
+        has,
         first,
         steps,
     })
@@ -79,7 +91,10 @@ fn play_wholly(
 ) -> Result<u64, CaseFault> {
     let media = media_of(alloc, image)?;
     match play_device(alloc, played, media, u64::MAX, progress)? {
-        (None, media) => Ok(media.moment()),
+        (None, media) => {
+            compare_places(played.has, media.bytes(), &mut progress.report)?;
+            Ok(media.moment())
+        }
         (Some(_), _) => Err(CaseFault::Differs {
             what: "a fault where no call failed",
         }),
@@ -123,7 +138,7 @@ fn play_device(
     }
 }
 
-// What each choice of the bytes that are not sure leaves is the data before the call that failed or behind it.
+// Compares what each choice of the bytes that are not sure leaves. Behind a call that commits a group its recovery is stopped as well.
 fn compare_left(
     alloc: Global,
     played: &Played,
@@ -132,12 +147,54 @@ fn compare_left(
 ) -> Result<(), CaseFault> {
     let choices: [&[u8]; 4] = [&[], &[0], &[0xc3], &[1, 2, 3]];
     for choice in choices {
-        let left = data_in(alloc, media.leave(choice)?)?;
-        if left.as_slice() != played.before(failed) && left.as_slice() != played.after(failed) {
-            return Err(CaseFault::Differs {
-                what: "what a loss of power left",
-            });
+        let left = media.leave(choice)?;
+        if played.is_group(failed) {
+            stop_recovery(alloc, played, failed, left.bytes(), choice)?;
         }
+        compare_data(alloc, played, failed, left)?;
     }
     Ok(())
+}
+
+// More calls than a recovery of the arrays of cases makes.
+const RECOVERY_CALLS: u64 = 10_000;
+
+// Recovers an image with each call of the medium failing, and with power lost at each, and compares what each of that leaves.
+fn stop_recovery(
+    alloc: Global,
+    played: &Played,
+    failed: usize,
+    image: &[u8],
+    choice: &[u8],
+) -> Result<(), CaseFault> {
+    for passes in 0..RECOVERY_CALLS {
+        let Err(media) = device(alloc, media_of(alloc, image)?, passes) else {
+            return Ok(());
+        };
+        compare_data(alloc, played, failed, media.leave(choice)?)?;
+        let mut failing = media_of(alloc, image)?;
+        failing.fail(passes + 1)?;
+        if let Err(media) = device(alloc, failing, u64::MAX) {
+            compare_data(alloc, played, failed, media.leave(choice)?)?;
+        }
+    }
+    Err(CaseFault::Differs {
+        what: "a recovery that ends",
+    })
+}
+
+// What an image opens with is the data before the call that failed or behind it.
+fn compare_data(
+    alloc: Global,
+    played: &Played,
+    failed: usize,
+    image: MemoryMedia,
+) -> Result<(), CaseFault> {
+    let data = data_in(alloc, image)?;
+    if data.as_slice() == played.before(failed) || data.as_slice() == played.after(failed) {
+        return Ok(());
+    }
+    Err(CaseFault::Differs {
+        what: "what a loss of power left",
+    })
 }

@@ -22,9 +22,17 @@ pub fn device_pages(
     media: MemoryMedia,
     passes: u64,
 ) -> Result<Result<Pages<Device>, MemoryMedia>, CaseFault> {
-    match Eaw::attach(alloc, FusedMedia::wrap(media, passes)) {
+    match device(alloc, media, passes) {
         Ok(store) => Ok(Ok(over(alloc, store)?)),
-        Err((_, media)) => Ok(Err(media.into_inner())),
+        Err(media) => Ok(Err(media)),
+    }
+}
+
+/// The array on such a medium, or the medium.
+pub fn device(alloc: Global, media: MemoryMedia, passes: u64) -> Result<Device, MemoryMedia> {
+    match Eaw::attach(alloc, FusedMedia::wrap(media, passes)) {
+        Ok(store) => Ok(store),
+        Err((_, media)) => Err(media.into_inner()),
     }
 }
 

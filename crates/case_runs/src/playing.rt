@@ -27,7 +27,7 @@ pub fn play_case<R: AllocGlobal + Threads + Wait + Sync>(
         Play::Runs { is_over_file, runs } => {
             make_runs(rt, case.image, runs, *is_over_file, progress)
         }
-        Play::Pages { lines } => play_pages(rt.alloc(), case.image, lines, progress),
+        Play::Pages { lines, has } => play_pages(rt.alloc(), case.image, lines, has, progress),
     }
 }
 

@@ -2,7 +2,7 @@
 use Rattle.std.proofs.Common.{◌≡◌, ℕ, ◌^◌, ◌<◌, ◌≤◌, List, ◌∷◌, ◌++◌, refl, sym, ap, subst, ◌∙◌}
 use Rattle.std.specs.Prelude.{codes}
 use Rattle.std.specs.Fmt.{decimal}
-use Rattle.eaw_face.specs.Command.{log_write, log_edit, commit, abort, nested_top, partial_abort, atomic_write, log_read, read}
+use Rattle.eaw_face.specs.Command.{log_write, log_edit, commit, commit_group, abort, nested_top, partial_abort, atomic_write, log_read, read}
 use Rattle.script_text.specs.HexText.{hex_of, IsHex}
 use Rattle.script_text.specs.Eaw.{Raw, does, read_log, log_len, held, IsTextOf}
 
@@ -33,6 +33,7 @@ pub record IsUnread (text : List ℕ) : Type 0 where
 pub no_command : (text : List ℕ) → IsUnread text → (t : ℕ) (raw : Raw) → IsTextOf t raw text → ⊥
 no_command text none t (does (log_write u addr bytes)) is = none.log_write (addr, hex_of bytes) (is.1, (bytes, is.2, refl)) is.3
 no_command text none t (does (commit u)) is = none.commit is.1
+no_command text none t (does (commit_group us)) is = is
 no_command text none t (does (abort u)) is = none.abort is.1
 no_command text none t (does (nested_top u offset)) is = none.nested offset is.1 is.2
 no_command text none t (does (partial_abort u offset)) is = none.partial offset is.1 is.2

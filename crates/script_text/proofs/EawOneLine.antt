@@ -4,7 +4,7 @@ use Rattle.std.specs.Prelude.{codes}
 use Rattle.std.specs.Fmt.{decimal}
 use Rattle.std.proofs.lemmas.Fmt.{decimal_injective}
 use Rattle.std.proofs.lemmas.List.{append_cancel_left}
-use Rattle.eaw_face.specs.Command.{Command, log_write, log_edit, commit, abort, nested_top, partial_abort, atomic_write, log_read, read}
+use Rattle.eaw_face.specs.Command.{Command, log_write, log_edit, commit, commit_group, abort, nested_top, partial_abort, atomic_write, log_read, read}
 use Rattle.script_text.specs.HexText.{hex_of, IsBlock}
 use Rattle.script_text.specs.Eaw.{Raw, does, read_log, log_len, held, IsTextOf}
 use Rattle.script_text.specs.Line.{IsLineOf}
@@ -23,6 +23,7 @@ mark text = get_or text 0 0 + 2 * get_or text 4 0
 letters : Raw → ℕ
 letters (does (log_write u addr bytes)) = 336
 letters (does (commit u)) = 309
+letters (does (commit_group us)) = 0
 letters (does (abort u)) = 329
 letters (does (nested_top u offset)) = 312
 letters (does (partial_abort u offset)) = 322
@@ -38,6 +39,7 @@ mark_of : (t : ℕ) (raw : Raw) (text : List ℕ) → IsTextOf t raw text → ma
 unfolding mark letters
 mark_of t (does (log_write u addr bytes)) text is = ap mark is.3
 mark_of t (does (commit u)) text is = ap mark is.1
+mark_of t (does (commit_group us)) text is = absurd is
 mark_of t (does (abort u)) text is = ap mark is.1
 mark_of t (does (nested_top u offset)) text is = ap mark is.2
 mark_of t (does (partial_abort u offset)) text is = ap mark is.2
@@ -58,6 +60,7 @@ unfolding letters
 does_letters (log_write u addr bytes) = (λ e. omega (arith, e), λ e. omega (arith, e), λ e. omega (arith, e))
 does_letters (log_edit u pos place bytes) = (λ e. omega (arith, e), λ e. omega (arith, e), λ e. omega (arith, e))
 does_letters (commit u) = (λ e. omega (arith, e), λ e. omega (arith, e), λ e. omega (arith, e))
+does_letters (commit_group us) = (λ e. omega (arith, e), λ e. omega (arith, e), λ e. omega (arith, e))
 does_letters (abort u) = (λ e. omega (arith, e), λ e. omega (arith, e), λ e. omega (arith, e))
 does_letters (nested_top u offset) = (λ e. omega (arith, e), λ e. omega (arith, e), λ e. omega (arith, e))
 does_letters (partial_abort u offset) = (λ e. omega (arith, e), λ e. omega (arith, e), λ e. omega (arith, e))
@@ -106,6 +109,7 @@ same_raw t (read_log m) (read_log n) text is js = ap read_log (same_number (code
 same_raw t log_len log_len text is js = refl
 same_raw t (held m) (held n) text is js = ap held (same_number (codes "held ") m n (omega (arith, is.0)) (omega (arith, js.0)) (sym is.1 ∙ js.1))
 same_raw t (does (log_read u)) (does other) text is js = absurd is
+same_raw t (does (commit_group us)) (does other) text is js = absurd is
 same_raw t (does command) (read_log n) text is js = absurd ((does_letters command).0 (same_letters t (does command) (read_log n) text is js))
 same_raw t (does command) log_len text is js = absurd ((does_letters command).1 (same_letters t (does command) log_len text is js))
 same_raw t (does command) (held n) text is js = absurd ((does_letters command).2 (same_letters t (does command) (held n) text is js))

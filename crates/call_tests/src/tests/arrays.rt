@@ -14,10 +14,14 @@ pub const CHOICES: [&[u8]; 4] = [b"", b"\x00", b"\xFF", b"\xC3\x01"];
 
 /// A fresh array of the least numbers; `None` where memory is short.
 pub fn fresh(alloc: Global) -> Option<MemoryMedia> {
-    let shape = Shape::new(1, 1, 8, 4).ok()?;
+    fresh_of(alloc, &Shape::new(1, 1, 8, 4).ok()?)
+}
+
+/// A fresh array of this shape.
+pub fn fresh_of(alloc: Global, shape: &Shape) -> Option<MemoryMedia> {
     let zeros = vec![in alloc; 0; shape.media_len() as usize].ok()?;
     let mut media = media_of(alloc, &zeros)?;
-    match format(&mut media, &shape) {
+    match format(&mut media, shape) {
         Ok(()) => Some(media),
         Err(_) => None,
     }

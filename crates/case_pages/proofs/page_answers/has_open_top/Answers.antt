@@ -4,8 +4,8 @@ use Rattle.array_shape.specs.declared.shape.Shape.{Shape}
 use Rattle.array_shape.specs.NumberSet.{members}
 use Rattle.eaw_face.specs.State.{is_one_of}
 use Rattle.page_store.specs.Shown.{top_in}
-use Rattle.case_runs.proofs.Closed.{none_from, next_closed}
-use Rattle.case_runs.proofs.page_answers.has_open_top.Goals as goal
+use Rattle.case_pages.proofs.Closed.{none_from, next_closed}
+use Rattle.case_pages.proofs.page_answers.has_open_top.Goals as goal
 
 pub loop-tid-init : goal.loop-tid-init
 loop-tid-init g c = λ t lt so away. absurd (false≢true (sym away ∙ ap (λ (ts : List ℕ). is_one_of ts t) (c.into_iter-tid-iterator.ensures.into_iter_gives ∙ c.members-tid-items.ensures) ∙ so))
