@@ -293,10 +293,7 @@ pub returns-in-Ok-Format-clause-dumps : goal.returns-in-Ok-Format-clause-dumps
 returns-in-Ok-Format-clause-dumps g c = words_say (map string_bytes c.args.words.now) c.run_format.result.0 _ _ (Format c.in-Ok-Format.numbers) (no_usage c.in-Ok-Format.numbers _ c.run_format.result.0 _ _ c.run_format.ensures.says) (rw c.in-Ok-Format.field-0-is at c.in-Ok-Format.ensures.asked) (λ is. absurd (no_dump (Format c.in-Ok-Format.numbers) tt is))
 
 pub over_records-requires-clause-depth : goal.over_records-requires-clause-depth
-over_records-requires-clause-depth g c = run_depth (map string_bytes c.args.words.now) c.in-Ok-Run.options (rw c.in-Ok-Run.field-0-is at c.in-Ok-Run.ensures.asked)
+over_records-requires-clause-depth g c = λ κs lives. run_depth (map string_bytes c.args.words.now) c.in-Ok-Run.options (rw c.in-Ok-Run.field-0-is at c.in-Ok-Run.ensures.asked)
 
 pub run_callers-requires-clause-depth : goal.run_callers-requires-clause-depth
-run_callers-requires-clause-depth g c = callers_depth (map string_bytes c.args.words.now) c.in-Ok-Callers.numbers (rw c.in-Ok-Callers.field-0-is at c.in-Ok-Callers.ensures.asked)
-
-pub over_records-in-Ok-Drill-requires-clause-depth : goal.over_records-in-Ok-Drill-requires-clause-depth
-over_records-in-Ok-Drill-requires-clause-depth g c = drill_depth (map string_bytes c.args.words.now) c.in-Ok-Drill.numbers (rw c.in-Ok-Drill.field-0-is at c.in-Ok-Drill.ensures.asked)
+run_callers-requires-clause-depth g c = λ κs lives. callers_depth (map string_bytes c.args.words.now) c.in-Ok-Callers.numbers (rw c.in-Ok-Callers.field-0-is at c.in-Ok-Callers.ensures.asked)
