@@ -29,4 +29,4 @@ pub mod Atomic
 pub mod Looks
 pub mod Edits
 pub mod OpenedLemmas
-pub mod AtOnce
+pub mod NoneWaits

@@ -10,7 +10,7 @@ use Rattle.coordinator.specs.Commits.{IsMaskOf, parts_named, takes_part}
 use Rattle.late_commits.specs.Waiting.{data_with}
 use Rattle.eaw_device.specs.Groups.{group_parts}
 use Rattle.eaw_device.specs.Sound.{IsAtOnce}
-use Rattle.eaw_device.proofs.AtOnce.{all_free, calls_at_once, clean_waiting, data_alone, some_number, waiting_clean}
+use Rattle.eaw_device.proofs.NoneWaits.{all_free, calls_at_once, clean_waiting, data_alone, some_number, waiting_clean}
 use Rattle.eaw_device.proofs.Grouping.{named_same, are_there, are_good, calls_same, none_takes}
 use Rattle.eaw_device.proofs.committing.commit_cells.Given.{Over}
 use Rattle.eaw_device.proofs.committing.commit_cells.Goals as goal
