@@ -18,7 +18,8 @@ use Rattle.array_image.specs.Image.{cell_of, cell_head, cell_part, data_of, IsGo
 use Rattle.array_image.proofs.Places.{cell_fits_in}
 use Rattle.array_image.proofs.Rows.{cell_away, length-cell}
 use Rattle.array_image.proofs.Frames.{AllWithin}
-use Rattle.eaw_device.proofs.Cells.{AreInCells, staged_data}
+use Rattle.eaw_device.proofs.Cells.{AreInCells, AreSpared}
+use Rattle.eaw_device.proofs.NoneWaits.{once_held, once_spared}
 use Rattle.eaw_face.specs.State.{listed, with_log, edited, range_at, part_at}
 use Rattle.eaw_face.specs.StoreView.{IsLive}
 use Rattle.eaw_face.specs.Command.{log_edit}
@@ -27,14 +28,16 @@ use Rattle.eaw_face.specs.declared.fault.EawFault.{EawFault}
 use Rattle.eaw_face.specs.declared.fault.EawFault.TheVariants.{Media}
 use Rattle.eaw_device.specs.declared.log.Entry.{Entry}
 use Rattle.eaw_device.specs.declared.log.Log.{Log}
+use Rattle.late_data.specs.declared.commits.LateData.{LateData}
 use Rattle.eaw_device.specs.Opens.{Opens}
 use Rattle.eaw_device.specs.Logs.{parts_in, cells_on, IsHeld, entries_at}
-use Rattle.eaw_device.specs.Sound.{IsSound, view_of}
+use Rattle.eaw_device.specs.Laws.{alive_shown}
+use Rattle.eaw_device.specs.Sound.{IsAtOnce, IsSound, shown, view_of}
 use Rattle.eaw_device.proofs.Entries.{cells_on_here, cells_on_past}
 use Rattle.eaw_device.proofs.LogParts.{firsts_same, rests_same, part_in, EachCell, EachIn, each_number, each_cell, each_held, parts_in_same}
 use Rattle.eaw_device.proofs.Staged.{cells_apart}
 use Rattle.eaw_device.proofs.Tables.{entries_there, entries_live, parts_there, held_kept, others_kept, sound_media}
-use Rattle.eaw_device.proofs.Sure.{cells_sure, cells_time}
+use Rattle.eaw_device.proofs.Sure.{cells_data, cells_sure, cells_time}
 use Rattle.eaw_device.proofs.Doing.{Found, done, failed, one_log}
 use Rattle.eaw_device.proofs.Looks.{entry_range, entry_part, entry_has, entry_cell, entry_logger, entry_inside}
 
@@ -156,8 +159,8 @@ module _ (shape : Shape) (shaped : IsShape shape) (old new : List ℕ) (t : ℕ)
       let rest = edited_parts xs pos (omega arith) is (numbered_rest shape shaped x xs numbered) same.1 in
       λ i. cell_part (first i) ∷ rest i
 
-module _ (tells : Bool) (old new : View) (shape : Shape) (logs : List Log) (is_dead : Bool) (sound : IsSound tells old shape logs is_dead) (alive : is_dead ≡ false) (t : ℕ) (live : IsLive (view_of old shape logs is_dead) t)
-    (log : Log) (found : Found tells old shape logs is_dead t log) (pos : ℕ) (e : Entry) (lt : pos < length log.entries.items) (is : e ≡ get_or log.entries.items pos e) (at : ℕ) (bytes : List ℕ) (inner : at + length bytes ≤ e.len)
+module _ (tells : Bool) (old new : View) (shape : Shape) (logs : List Log) (late : LateData) (is_dead : Bool) (sound : IsSound tells old shape logs late is_dead) (once : IsAtOnce shape late.queue) (alive : is_dead ≡ false) (t : ℕ) (live : IsLive (view_of old shape logs late is_dead) t)
+    (log : Log) (found : Found tells old shape logs late is_dead t log) (pos : ℕ) (e : Entry) (lt : pos < length log.entries.items) (is : e ≡ get_or log.entries.items pos e) (at : ℕ) (bytes : List ℕ) (inner : at + length bytes ≤ e.len)
     (short : e.len ≤ 512) (its : Shape) (shape_is : its ≡ shape) (n : ℕ) (n_is : n ≡ logger_of shape e.addr) {T E : Type 0} (r : Result T E)
     (call : Writes tells ((cell_at its n t e.cell + 16 + at, length bytes) ∷ []) old new r) (long : IsTrue tells → length old.content.bytes ≡ media_len shape) where
   abbrev g : ℕ
@@ -178,14 +181,17 @@ module _ (tells : Bool) (old new : View) (shape : Shape) (logs : List Log) (is_d
   in_cells : AreInCells shape ranges
   in_cells x none = ((λ from to. none g t e.cell there found.small inside (omega arith) (omega arith)), tt)
 
+  spared : AreSpared shape late.queue.cells ranges late.queue.ballots.items
+  spared = once_spared shape late.queue once ranges
+
   within : AllWithin (media_len shape) ranges
   within = (omega (arith, cell_fits_in shape g t e.cell there found.small inside), tt)
 
-  time : IsTrue tells → is_dead ≡ false → LeavesOnly (face.IsEither (Opens shape) (data_of shape old.content.bytes) (data_of shape old.content.bytes)) old new
-  time told fine = cells_time tells shape ranges in_cells within old new r does told (long told) (found.told told).sure (data_of shape old.content.bytes)
+  time : IsTrue tells → is_dead ≡ false → LeavesOnly (face.IsEither (Opens shape) (shown shape late is_dead old.content.bytes) (shown shape late is_dead old.content.bytes)) old new
+  time told fine = cells_time tells shape ranges in_cells within late spared old new r does told (long told) (found.told told).sure is_dead alive
 
-  pub edit_failed : {U : Type 0} → Rose old.faults new.faults → (let failed : Result U EawFault = Err Media in face.Does tells (Opens shape) (log_edit t pos at bytes) (view_of old shape logs is_dead) (view_of new shape logs true) failed)
-  edit_failed rose = failed tells (Opens shape) (log_edit t pos at bytes) (view_of old shape logs is_dead) (view_of new shape logs true) refl does.cause.later time alive live tt rose refl (λ u other. refl)
+  pub edit_failed : {U : Type 0} → Rose old.faults new.faults → (let failed : Result U EawFault = Err Media in face.Does tells (Opens shape) (log_edit t pos at bytes) (view_of old shape logs late is_dead) (view_of new shape logs late true) failed)
+  edit_failed rose = failed tells (Opens shape) (log_edit t pos at bytes) (view_of old shape logs late is_dead) (view_of new shape logs late true) refl does.cause.later time alive live tt rose refl (λ u other. refl)
 
   -- every other cell
   cell_same : IsTrue tells → (h u f : ℕ) → h < shape.loggers → u < shape.numbers → f < shape.entries → ((h ≡ g) × (u ≡ t) × (f ≡ e.cell) → ⊥) → cell_of shape new.content.bytes h u f ≡ cell_of shape old.content.bytes h u f
@@ -251,9 +257,10 @@ module _ (tells : Bool) (old new : View) (shape : Shape) (logs : List Log) (is_d
         let known = slice_get_within logs u l lies in
         cell_same told h u c below (omega (arith, sound.many)) (omega arith) (λ meets. ne meets.1)
 
-    pub edit_sound : IsSound tells new shape logs is_dead
-    edit_sound = sound_media tells old new shape logs is_dead sound does.size
-        (λ told fine. cells_sure shape ranges in_cells old.content (long told) within (found.told told).sure new.content (does.touched told))
+    pub edit_sound : IsSound tells new shape logs late is_dead
+    edit_sound = sound_media tells old new shape logs late is_dead sound does.size
+        (λ told fine. cells_sure shape ranges in_cells late.queue spared old.content (long told) within (found.told told).sure new.content (does.touched told))
+        (λ told fine. once_held shape late once (sound.in_order fine).tied new.content.bytes)
         (λ told fine u l lies. elim (cases_eq u t) [
           | inl same ↦
               let one = one_log logs t log l found.there (ap (slice_get logs) (sym same) ∙ lies) in
@@ -276,11 +283,11 @@ module _ (tells : Bool) (old new : View) (shape : Shape) (logs : List Log) (is_d
           ∙ sym (ap (λ (b : Bool). cond b (Some (edited pos at bytes (listed (option_map (parts_in shape old.content.bytes t) (entries_at logs t))))) (option_map (parts_in shape old.content.bytes u) (entries_at logs u))) (ne_eqb u t ne))
     ]
 
-    pub edit_done : {U : Type 0} (x : U) → new.faults ≡ old.faults → (let done : Result U EawFault = Ok x in face.Does tells (Opens shape) (log_edit t pos at bytes) (view_of old shape logs is_dead) (view_of new shape logs is_dead) done)
-    edit_done x same' = done tells (Opens shape) (log_edit t pos at bytes) (view_of old shape logs is_dead) (view_of new shape logs is_dead) refl does.cause.later time x same' alive live tt (record {
+    pub edit_done : {U : Type 0} (x : U) → new.faults ≡ old.faults → (let done : Result U EawFault = Ok x in face.Does tells (Opens shape) (log_edit t pos at bytes) (view_of old shape logs late is_dead) (view_of new shape logs late is_dead) done)
+    edit_done x same' = done tells (Opens shape) (log_edit t pos at bytes) (view_of old shape logs late is_dead) (view_of new shape logs late is_dead) refl does.cause.later time x same' alive live tt (record {
       alive = alive;
       ranges = refl;
       state = λ told.
-          let bytes' = staged_data shape ranges in_cells old.content.bytes new.content.bytes (does.touched told).bytes in
+          let bytes' = alive_shown shape late is_dead new.content.bytes alive ∙ cells_data shape ranges in_cells late.queue spared old.content (long told) within (found.told told).sure new.content (does.touched told) ∙ sym (alive_shown shape late is_dead old.content.bytes alive) in
           λ i. record { bytes = bytes' i; logs = λ u. logs_now told u i };
     })

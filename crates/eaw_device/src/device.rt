@@ -7,18 +7,18 @@ ghost use Rattle.eaw_face.specs.Command.{commit_group};
 ghost use Rattle.eaw_face.specs.Causes.{known};
 ghost use Rattle.eaw_device.specs.Opens.{Attached, FindsData, AttachCause, AttachLeaves, KeepsData, OpensWithin, IsBehind};
 ghost use Rattle.eaw_device.specs.Steps.{LogHasCells, RefusesWrite};
+ghost use Rattle.eaw_device.specs.Props.{IsSound-prop};
 ghost use Rattle.eaw_device.specs.Sound.{IsAtOnce, IsSound, LacksLog, LacksGroup, view_of};
 
 use crate::committing::{commit_log, commit_logs};
 use crate::fault::AttachFault;
 use crate::log::{Log, clear_logs};
 use crate::opening::open_array;
-use crate::reading::read_data;
 use crate::staging::{check_room, stage_all};
 use crate::write_back::{AtOnce, Late, WriteBack};
 use array_shape::{NumberSet, Shape};
 use eaw_face::{EawFault, EawStore};
-use late_commits::LateCommits;
+use late_data::LateData;
 use logger::Logger;
 use pcm_media::Media;
 use std::alloc::Global;
@@ -30,19 +30,19 @@ pub struct Eaw<M: Media, W: WriteBack = AtOnce> {
     media: M,
     shape: Shape,
     logs: Vec<Log>,
-    late: LateCommits,
+    late: LateData,
     is_dead: bool,
-    ghost sound: { IsSound M.tells (M.view media) shape logs.items is_dead },
-    ghost at_once: { IsAtOnce shape late },
+    ghost sound: { IsSound M.tells (M.view media) shape logs.items late is_dead } by { IsSound-prop M.tells (M.view media) shape logs.items late is_dead },
+    ghost at_once: { IsAtOnce shape late.queue },
 }
 
 impl<M: Media> Eaw<M, AtOnce> {
     /// Opens the array on the medium: reads its header, takes memory for its tables, and recovers. No number is live then.
     /// On an error the medium is given back.
     pub fn attach(alloc: Global, media: M) -> Result<Eaw<M, AtOnce>, (AttachFault, M)>
-        ensures opens { IfOk result (λ eaw. Attached M.tells (M.view media) (view_of (M.view eaw.media) eaw.shape eaw.logs.items eaw.is_dead)) }
+        ensures opens { IfOk result (λ eaw. Attached M.tells (M.view media) (view_of (M.view eaw.media) eaw.shape eaw.logs.items eaw.late eaw.is_dead)) }
         // An image that opens with some data is opened with that data.
-        ensures found { IfOk result (λ eaw. FindsData M.tells (M.view media) (view_of (M.view eaw.media) eaw.shape eaw.logs.items eaw.is_dead)) }
+        ensures found { IfOk result (λ eaw. FindsData M.tells (M.view media) (view_of (M.view eaw.media) eaw.shape eaw.logs.items eaw.late eaw.is_dead)) }
         ensures cause { IfErr result (λ e. AttachCause M.tells (M.view media) (M.view e.1).faults e.0) }
         ensures unwritten { IfErr result (λ e. AttachLeaves M.tells (M.view media) (M.view e.1) e.0) }
         ensures keeps { IfOk result (λ eaw. KeepsData M.tells (M.view media) (M.view eaw.media).moment (M.view eaw.media).left_since) }
@@ -61,9 +61,9 @@ impl<M: Media> Eaw<M, Late> {
     pub fn attach_late(alloc: Global, media: M, depth: u8) -> Result<Eaw<M, Late>, (AttachFault, M)>
         requires some { 0 < depth }
         requires most { depth ≤ 64 }
-        ensures opens { IfOk result (λ eaw. Attached M.tells (M.view media) (view_of (M.view eaw.media) eaw.shape eaw.logs.items eaw.is_dead)) }
+        ensures opens { IfOk result (λ eaw. Attached M.tells (M.view media) (view_of (M.view eaw.media) eaw.shape eaw.logs.items eaw.late eaw.is_dead)) }
         // An image that opens with some data is opened with that data.
-        ensures found { IfOk result (λ eaw. FindsData M.tells (M.view media) (view_of (M.view eaw.media) eaw.shape eaw.logs.items eaw.is_dead)) }
+        ensures found { IfOk result (λ eaw. FindsData M.tells (M.view media) (view_of (M.view eaw.media) eaw.shape eaw.logs.items eaw.late eaw.is_dead)) }
         ensures cause { IfErr result (λ e. AttachCause M.tells (M.view media) (M.view e.1).faults e.0) }
         ensures unwritten { IfErr result (λ e. AttachLeaves M.tells (M.view media) (M.view e.1) e.0) }
         ensures keeps { IfOk result (λ eaw. KeepsData M.tells (M.view media) (M.view eaw.media).moment (M.view eaw.media).left_since) }
@@ -84,9 +84,9 @@ impl<M: Media, W: WriteBack> Eaw<M, W> {
         mut media: M,
         write_back: W,
     ) -> Result<Eaw<M, W>, (AttachFault, M)>
-        ensures opens { IfOk result (λ eaw. Attached M.tells (M.view media) (view_of (M.view eaw.media) eaw.shape eaw.logs.items eaw.is_dead)) }
+        ensures opens { IfOk result (λ eaw. Attached M.tells (M.view media) (view_of (M.view eaw.media) eaw.shape eaw.logs.items eaw.late eaw.is_dead)) }
         // An image that opens with some data is opened with that data.
-        ensures found { IfOk result (λ eaw. FindsData M.tells (M.view media) (view_of (M.view eaw.media) eaw.shape eaw.logs.items eaw.is_dead)) }
+        ensures found { IfOk result (λ eaw. FindsData M.tells (M.view media) (view_of (M.view eaw.media) eaw.shape eaw.logs.items eaw.late eaw.is_dead)) }
         ensures cause { IfErr result (λ e. AttachCause M.tells (M.view media) (M.view e.1).faults e.0) }
         ensures unwritten { IfErr result (λ e. AttachLeaves M.tells (M.view media) (M.view e.1) e.0) }
         ensures keeps { IfOk result (λ eaw. KeepsData M.tells (M.view media) (M.view eaw.media).moment (M.view eaw.media).left_since) }
@@ -111,7 +111,7 @@ impl<M: Media, W: WriteBack> Eaw<M, W> {
 
     /// The medium. What live numbers have logged is given up.
     pub fn into_media(self) -> M
-        ensures { IsBehind M.tells W.defers (view_of (M.view self.media) self.shape self.logs.items self.is_dead) (M.view result) }
+        ensures { IsBehind M.tells W.defers (view_of (M.view self.media) self.shape self.logs.items self.late self.is_dead) (M.view result) }
     {
         let Eaw {
             write_back: _,
@@ -128,8 +128,8 @@ impl<M: Media, W: WriteBack> Eaw<M, W> {
     fn find_live(&self, tid: u8) -> Result<usize, EawFault>
         ensures at { IfOk result (λ at. at ≡ tid) }
         ensures alive { OnOk result (self.now.is_dead ≡ false) }
-        ensures live { OnOk result (IsLive (view_of (M.view self.now.media) self.now.shape self.now.logs.items self.now.is_dead) tid) }
-        ensures cause { IfErr result (LacksLog (view_of (M.view self.now.media) self.now.shape self.now.logs.items self.now.is_dead) tid) }
+        ensures live { OnOk result (IsLive (view_of (M.view self.now.media) self.now.shape self.now.logs.items self.now.late self.now.is_dead) tid) }
+        ensures cause { IfErr result (LacksLog (view_of (M.view self.now.media) self.now.shape self.now.logs.items self.now.late self.now.is_dead) tid) }
     {
         if self.is_dead {
             return Err(EawFault::Dead);
@@ -144,8 +144,8 @@ impl<M: Media, W: WriteBack> Eaw<M, W> {
     // Whether each number of a set has a log.
     fn find_group(&self, tids: NumberSet) -> Result<(), EawFault>
         ensures alive { OnOk result (self.now.is_dead ≡ false) }
-        ensures live { OnOk result (known (view_of (M.view self.now.media) self.now.shape self.now.logs.items self.now.is_dead) (commit_group (members tids)) None) }
-        ensures cause { IfErr result (LacksGroup (view_of (M.view self.now.media) self.now.shape self.now.logs.items self.now.is_dead) (members tids)) }
+        ensures live { OnOk result (known (view_of (M.view self.now.media) self.now.shape self.now.logs.items self.now.late self.now.is_dead) (commit_group (members tids)) None) }
+        ensures cause { IfErr result (LacksGroup (view_of (M.view self.now.media) self.now.shape self.now.logs.items self.now.late self.now.is_dead) (members tids)) }
     {
         if self.is_dead {
             return Err(EawFault::Dead);
@@ -181,32 +181,31 @@ impl<M: Media, W: WriteBack> EawStore for Eaw<M, W> {
     ghost use Rattle.eaw_device.specs.Sound.{view_of};
     ghost use Rattle.eaw_device.specs.Opens.{Opens};
     ghost use Rattle.eaw_device.specs.Costs.{calls_of};
-    ghost use Rattle.eaw_device.specs.Laws.{outlines, placed, beyond, some_now, only_now, one_data};
-    ghost use Rattle.array_image.proofs.Data.{length-data_of};
+    ghost use Rattle.eaw_device.specs.Laws.{outlines, placed, beyond, some_now, only_now, one_data, length-shown};
 
     ghost tells = { M.tells };
 
-    ghost view = { λ s. view_of (M.view s.media) s.shape s.logs.items s.is_dead };
+    ghost view = { λ s. view_of (M.view s.media) s.shape s.logs.items s.late s.is_dead };
 
     ghost opens = { Opens };
 
-    ghost calls = { λ s command. calls_of command (view_of (M.view s.media) s.shape s.logs.items s.is_dead) };
+    ghost calls = { λ s command. calls_of command s.late (view_of (M.view s.media) s.shape s.logs.items s.late s.is_dead) };
 
     ghost shaped = { λ s. s.sound.shaped };
 
-    ghost long = { λ s told. length-data_of s.shape (M.view s.media).content.bytes };
+    ghost long = { λ s told. length-shown M.tells (M.view s.media) s.shape s.logs.items s.late s.is_dead s.sound told };
 
-    ghost outlines = { λ s t told alive. outlines s.shape (M.view s.media).content s.logs.items t (s.sound.told told alive) };
+    ghost outlines = { λ s t told alive. outlines s.shape s.late (M.view s.media).content s.logs.items t (s.sound.told told alive) };
 
     ghost placed = { λ s t. placed s.shape s.logs.items t (s.sound.kept t) };
 
     ghost beyond = { λ s t past. beyond s.logs.items s.shape t s.sound.many past };
 
-    ghost some_now = { λ s told alive. some_now (M.view s.media) s.shape s.logs.items s.is_dead (λ t image. M.counts_now s.media t image told) };
+    ghost some_now = { λ s told alive. some_now (M.view s.media) s.shape s.logs.items s.late s.is_dead (λ t image. M.counts_now s.media t image told) };
 
     ghost counts_now = { λ s t image told le left. M.counts_now s.media t image told le (M.only_now s.media image told left) };
 
-    ghost only_now = { λ s image told alive left. only_now s.shape (M.view s.media).content image (s.sound.told told alive).sure (M.only_now s.media image told left) };
+    ghost only_now = { λ s image told alive left. only_now M.tells (M.view s.media) s.shape s.logs.items s.late s.is_dead image s.sound told alive (M.only_now s.media image told left) };
 
     ghost one_data = { one_data };
 
@@ -330,7 +329,7 @@ impl<M: Media, W: WriteBack> EawStore for Eaw<M, W> {
         if self.is_dead {
             return Err(EawFault::Dead);
         }
-        match read_data(&mut self.media, &self.shape, addr, buf) {
+        match self.late.read(&mut self.media, &self.shape, addr, buf) {
             Ok(()) => Ok(()),
             Err(_) => {
                 self.is_dead = true;

@@ -43,13 +43,13 @@ pub record Forgets (shape : Shape) (ballots : List Ballot) (old new : ℕ → Li
 
 -- so it is in memory
 abbrev pub IsTied : Shape → LateData → (ℕ → Bool) → Type 0
-IsTied shape kept aside = AreTied shape kept.late.cells (entries_of kept.parts) kept.late.ballots.items aside
+IsTied shape kept aside = AreTied shape kept.queue.cells (entries_of kept.parts) kept.queue.ballots.items aside
 
 -- the queue fits the array, and there is memory for the entries of all commits that may wait
 pub record IsReady (shape : Shape) (kept : LateData) : Type 0 where
-  pub fit : IsFit shape kept.late
+  pub fit : IsFit shape kept.queue
   pub shape_is : shape_of kept.parts ≡ shape
-  pub places : 0 < kept.late.depth → HasPlaces kept.parts
+  pub places : 0 < kept.queue.depth → HasPlaces kept.parts
 
 -- it is ready still, and what the entries say of the cells is so still
 pub record Stays (tells : Bool) (shape : Shape) (old : LateData) (before : View) (new : LateData) (now : View) : Type 0 where

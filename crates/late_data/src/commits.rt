@@ -15,7 +15,7 @@ use std::alloc::{AllocError, Global};
 /// The commits that wait for their write-back, and where their parts lie.
 #[derive(Drop)]
 pub struct LateData {
-    late: LateCommits,
+    queue: LateCommits,
     parts: DeferredParts,
 }
 
@@ -40,27 +40,27 @@ impl LateData {
     pub fn new(alloc: Global, shape: &Shape, depth: u8) -> Result<LateData, AllocError>
         ensures ready { IfOk result (IsReady shape.now) }
         ensures tied { IfOk result (λ kept. IsTied shape.now kept (λ t. false)) }
-        ensures none { IfOk result (λ kept. kept.late.ballots.items ≡ []) }
-        ensures depth { IfOk result (λ kept. kept.late.depth ≡ depth) }
+        ensures none { IfOk result (λ kept. kept.queue.ballots.items ≡ []) }
+        ensures depth { IfOk result (λ kept. kept.queue.depth ≡ depth) }
         ensures unheld { IfOk result (λ kept. (t : ℕ) → entries_of kept.parts t ≡ []) }
     {
-        let late = LateCommits::new(alloc, depth)?;
+        let queue = LateCommits::new(alloc, depth)?;
         let parts = places_for(alloc, shape, depth)?;
-        Ok(LateData { late, parts })
+        Ok(LateData { queue, parts })
     }
 
     /// How many commits wait.
     pub fn len(&self) -> usize
-        ensures { result ≡ length self.now.late.ballots.items }
+        ensures { result ≡ length self.now.queue.ballots.items }
     {
-        self.late.len()
+        self.queue.len()
     }
 
     /// The cells that numbers have, at each logger.
     pub fn cells(&self) -> &[Cells; 512]
-        ensures { result.now ≡ self.now.late.cells }
+        ensures { result.now ≡ self.now.queue.cells }
     {
-        self.late.cells()
+        self.queue.cells()
     }
 
     /// Writes back all up to the last one that has a number of the group, with it: none that waits has one of them then.
@@ -73,15 +73,15 @@ impl LateData {
         requires ready { IsReady shape.now self.old }
         requires tied { IsTied shape.now self.old (λ t. false) }
         requires size { (M.view media.old).size ≡ media_len shape.now }
-        requires waiting { IsTrue M.tells → AreWaiting shape.now self.old.late (M.view media.old).content }
-        ensures back { WritesBack M.tells shape.now (due_for group self.old.late.ballots.items) self.old.late (M.view media.old) self.new.late (M.view media.new) result }
-        ensures apart { OnOk result ((t : ℕ) → has group t ≡ true → IsFree t self.new.late.ballots.items) }
+        requires waiting { IsTrue M.tells → AreWaiting shape.now self.old.queue (M.view media.old).content }
+        ensures back { WritesBack M.tells shape.now (due_for group self.old.queue.ballots.items) self.old.queue (M.view media.old) self.new.queue (M.view media.new) result }
+        ensures apart { OnOk result ((t : ℕ) → has group t ≡ true → IsFree t self.new.queue.ballots.items) }
         ensures stays { Stays M.tells shape.now self.old (M.view media.old) self.new (M.view media.new) }
         ensures tied { OnOk result (IsTied shape.now self.new (λ t. false)) }
     {
-        let due = self.late.due_for(group);
-        forget_first(&mut self.parts, shape, self.late.ballots(), due);
-        self.late.write_back_for(media, shape, group)
+        let due = self.queue.due_for(group);
+        forget_first(&mut self.parts, shape, self.queue.ballots(), due);
+        self.queue.write_back_for(media, shape, group)
     }
 
     /// Names the cells of a number's next commit at a logger. What the number has there is not waiting.
@@ -89,18 +89,18 @@ impl LateData {
         requires logger { logger < 8 }
         requires tid { tid < shape.now.numbers }
         requires ready { IsReady shape.now self.old }
-        requires apart { IsFree tid self.old.late.ballots.items }
+        requires apart { IsFree tid self.old.queue.ballots.items }
         ensures ready { IsReady shape.now self.new }
-        ensures here { cells_in self.new.late.cells logger tid ≡ cells }
-        ensures others { (g t : ℕ) → g < 8 → (8 * t + g ≡ 8 * tid + logger → ⊥) → cells_in self.new.late.cells g t ≡ cells_in self.old.late.cells g t }
-        ensures ballots { self.new.late.ballots ≡ self.old.late.ballots }
-        ensures depth { self.new.late.depth ≡ self.old.late.depth }
+        ensures here { cells_in self.new.queue.cells logger tid ≡ cells }
+        ensures others { (g t : ℕ) → g < 8 → (8 * t + g ≡ 8 * tid + logger → ⊥) → cells_in self.new.queue.cells g t ≡ cells_in self.old.queue.cells g t }
+        ensures ballots { self.new.queue.ballots ≡ self.old.queue.ballots }
+        ensures depth { self.new.queue.depth ≡ self.old.queue.depth }
         ensures parts { self.new.parts ≡ self.old.parts }
         ensures tied { (aside : ℕ → Bool) → IsTied shape.now self.old aside → IsTied shape.now self.new aside }
-        ensures waiting { (now : Content) → AreWaiting shape.now self.old.late now → AreWaiting shape.now self.new.late now }
-        ensures same { (image : List ℕ) → data_with shape.now self.new.late image ≡ data_with shape.now self.old.late image }
+        ensures waiting { (now : Content) → AreWaiting shape.now self.old.queue now → AreWaiting shape.now self.new.queue now }
+        ensures same { (image : List ℕ) → data_with shape.now self.new.queue image ≡ data_with shape.now self.old.queue image }
     {
-        self.late.name(logger, tid, cells);
+        self.queue.name(logger, tid, cells);
     }
 
     /// The entries of a number's next commit come in, which waits from its decision on. If none may wait, none are kept.
@@ -111,12 +111,12 @@ impl LateData {
         requires entries { All (IsEntry shape.now) entries.now }
         requires few { length entries.now ≤ shape.now.loggers * shape.now.entries }
         ensures ready { IsReady shape.now self.new }
-        ensures late { self.new.late ≡ self.old.late }
-        ensures here { 0 < self.old.late.depth → entries_of self.new.parts tid ≡ entries.now }
+        ensures queue { self.new.queue ≡ self.old.queue }
+        ensures here { 0 < self.old.queue.depth → entries_of self.new.parts tid ≡ entries.now }
         ensures others { (t : ℕ) → (t ≡ tid → ⊥) → entries_of self.new.parts t ≡ entries_of self.old.parts t }
-        ensures at_once { self.old.late.depth ≡ 0 → self.new.parts ≡ self.old.parts }
+        ensures at_once { self.old.queue.depth ≡ 0 → self.new.parts ≡ self.old.parts }
     {
-        if self.late.depth() == 0 {
+        if self.queue.depth() == 0 {
             return;
         }
         self.parts.add(tid, entries);
@@ -131,22 +131,22 @@ impl LateData {
         ballot: Ballot,
     ) -> Result<(), Failed>
         requires ready { IsReady shape.now self.old }
-        requires tied { IsTied shape.now self.old (λ t. nat_lt 0 self.old.late.depth && has ballot.group t) }
-        requires named { 0 < self.old.late.depth → HasNamed shape.now self.old.late.cells (entries_of self.old.parts) ballot }
+        requires tied { IsTied shape.now self.old (λ t. nat_lt 0 self.old.queue.depth && has ballot.group t) }
+        requires named { 0 < self.old.queue.depth → HasNamed shape.now self.old.queue.cells (entries_of self.old.parts) ballot }
         requires size { (M.view media.old).size ≡ media_len shape.now }
-        requires waiting { IsTrue M.tells → AreWaiting shape.now self.old.late (M.view media.old).content }
-        requires there { AreThere shape.now ballot self.old.late.cells }
-        requires good { IsTrue M.tells → AreGood shape.now (M.view media.old).content.bytes ballot self.old.late.cells }
+        requires waiting { IsTrue M.tells → AreWaiting shape.now self.old.queue (M.view media.old).content }
+        requires there { AreThere shape.now ballot self.old.queue.cells }
+        requires good { IsTrue M.tells → AreGood shape.now (M.view media.old).content.bytes ballot self.old.queue.cells }
         requires some { 0 < ballot.mask }
         requires numbers { 0 < ballot.group }
-        requires apart { (t : ℕ) → has ballot.group t ≡ true → IsFree t self.old.late.ballots.items }
-        ensures does { CommitsOne M.tells shape.now ballot self.old.late (M.view media.old) self.new.late (M.view media.new) result }
+        requires apart { (t : ℕ) → has ballot.group t ≡ true → IsFree t self.old.queue.ballots.items }
+        ensures does { CommitsOne M.tells shape.now ballot self.old.queue (M.view media.old) self.new.queue (M.view media.new) result }
         ensures stays { Stays M.tells shape.now self.old (M.view media.old) self.new (M.view media.new) }
         ensures tied { OnOk result (IsTied shape.now self.new (λ t. false)) }
     {
-        let due = self.late.due_for_place().min(self.late.len());
-        forget_first(&mut self.parts, shape, self.late.ballots(), due);
-        self.late.commit(media, shape, ballot)
+        let due = self.queue.due_for_place().min(self.queue.len());
+        forget_first(&mut self.parts, shape, self.queue.ballots(), due);
+        self.queue.commit(media, shape, ballot)
     }
 
     /// Fills the buffer with the bytes of the data from `addr` on, with all commits that wait. If the medium fails, nothing is said of the
@@ -162,13 +162,13 @@ impl LateData {
         requires tied { IsTied shape.now self.now (λ t. false) }
         requires size { (M.view media.old).size ≡ media_len shape.now }
         requires range { addr + length buf.old ≤ data_len shape.now }
-        requires waiting { IsTrue M.tells → AreWaiting shape.now self.now.late (M.view media.old).content }
+        requires waiting { IsTrue M.tells → AreWaiting shape.now self.now.queue (M.view media.old).content }
         requires held { IsTrue M.tells → AreHeld shape.now (M.view media.old).content.bytes (entries_of self.now.parts) }
-        ensures bytes { IsTrue M.tells → OnOk result (buf.new ≡ range (data_with shape.now self.now.late (M.view media.old).content.bytes) addr (length buf.old)) }
-        ensures costs { Costs true (read_calls shape.now (entries_of self.now.parts) self.now.late.ballots.items addr (length buf.old)) (M.view media.old).moment (M.view media.new).moment result }
+        ensures bytes { IsTrue M.tells → OnOk result (buf.new ≡ range (data_with shape.now self.now.queue (M.view media.old).content.bytes) addr (length buf.old)) }
+        ensures costs { Costs true (read_calls shape.now (entries_of self.now.parts) self.now.queue.ballots.items addr (length buf.old)) (M.view media.old).moment (M.view media.new).moment result }
         ensures does { Writes M.tells [] (M.view media.old) (M.view media.new) result }
     {
-        self.parts.read(media, self.late.ballots(), addr, buf)
+        self.parts.read(media, self.queue.ballots(), addr, buf)
     }
 }
 

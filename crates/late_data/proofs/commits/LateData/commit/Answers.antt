@@ -27,11 +27,11 @@ pub returns-clause-tied : goal.returns-clause-tied
 returns-clause-tied g c =
     let kept = c.args.self.now in
     let shape = c.args.shape.now in
-    let bs = kept.late.ballots.items in
+    let bs = kept.queue.ballots.items in
     let does = c.commit.ensures.does in
-    let due_is : c.min-due.result ≡ min (due_for_place kept.late.depth bs) (length bs) = c.min-due.ensures ∙ (λ i. min (c.due_for_place.ensures i) (c.len.ensures i)) in
+    let due_is : c.min-due.result ≡ min (due_for_place kept.queue.depth bs) (length bs) = c.min-due.ensures ∙ (λ i. min (c.due_for_place.ensures i) (c.len.ensures i)) in
     let forgets = subst (λ (l : List Ballot). Forgets shape (take c.min-due.result l) (entries_of kept.parts) (entries_of c.forget_first.new.parts)) c.ballots.ensures c.forget_first.ensures.forgets in
     on_ok_weaker c.commit.result
     (λ left. subst (λ (p : List Cells × List Ballot). AreTied shape p.0 (entries_of c.forget_first.new.parts) p.1 (λ t. false)) (λ i. (sym does.table i, sym left i))
-    (committed shape kept.late.cells (entries_of kept.parts) (entries_of c.forget_first.new.parts) kept.late.depth bs c.requires.ready.fit.few c.args.ballot c.requires.some c.min-due.result due_is c.requires.tied c.requires.named c.requires.apart forgets))
+    (committed shape kept.queue.cells (entries_of kept.parts) (entries_of c.forget_first.new.parts) kept.queue.depth bs c.requires.ready.fit.few c.args.ballot c.requires.some c.min-due.result due_is c.requires.tied c.requires.named c.requires.apart forgets))
     does.left_is

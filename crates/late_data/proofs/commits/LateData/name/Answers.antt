@@ -14,11 +14,11 @@ pub returns-clause-tied : goal.returns-clause-tied
 returns-clause-tied c aside tied =
     let shape = c.args.shape.now in
     let kept = c.args.self.now in
-    let bs = kept.late.ballots.items in
+    let bs = kept.queue.ballots.items in
     let free = free_lacks bs c.args.tid c.requires.apart in
     subst (λ (l : List Ballot). AreTied shape c.name.new.self.cells (entries_of kept.parts) l aside) (λ i. (sym c.name.ensures.ballots i).items)
     (record {
-      named = all_named_same shape kept.late.cells c.name.new.self.cells (entries_of kept.parts) (entries_of kept.parts) bs (λ t lt so. refl)
+      named = all_named_same shape kept.queue.cells c.name.new.self.cells (entries_of kept.parts) (entries_of kept.parts) bs (λ t lt so. refl)
           (λ g t lt lt' so. c.name.ensures.others g t (omega (arith, shape.in_range.most_loggers)) (λ same.
           let is : t ≡ c.args.tid = omega (arith, same, c.requires.logger, shape.in_range.most_loggers) in
           false≢true (sym free ∙ ap (has_some bs) (sym is) ∙ so))) tied.named;

@@ -7,7 +7,7 @@ use Rattle.late_data.proofs.Together.{due_few, returned, still_held}
 use Rattle.late_data.proofs.commits.LateData.write_back_for.Goals as goal
 
 pub forget_first-requires-clause-count : goal.forget_first-requires-clause-count
-forget_first-requires-clause-count g c = omega (arith, c.due_for-due.ensures, due_few c.args.group c.args.self.now.late.ballots.items, ap (λ (l : List Ballot). length l) c.ballots.ensures)
+forget_first-requires-clause-count g c = omega (arith, c.due_for-due.ensures, due_few c.args.group c.args.self.now.queue.ballots.items, ap (λ (l : List Ballot). length l) c.ballots.ensures)
 
 pub returns-clause-stays : goal.returns-clause-stays
 returns-clause-stays g c =
@@ -28,6 +28,6 @@ returns-clause-tied g c =
     let kept = c.args.self.now in
     let back = c.write_back_for.ensures.back in
     on_ok_weaker c.write_back_for.result
-    (λ left. returned c.args.shape.now kept.late.cells c.write_back_for.new.self.cells (entries_of kept.parts) (entries_of c.forget_first.new.parts) c.due_for-due.result (due_for c.args.group kept.late.ballots.items)
-    kept.late.ballots.items c.ballots.result.now c.write_back_for.new.self.ballots.items c.due_for-due.ensures c.ballots.ensures left back.table c.requires.tied c.forget_first.ensures.forgets)
+    (λ left. returned c.args.shape.now kept.queue.cells c.write_back_for.new.self.cells (entries_of kept.parts) (entries_of c.forget_first.new.parts) c.due_for-due.result (due_for c.args.group kept.queue.ballots.items)
+    kept.queue.ballots.items c.ballots.result.now c.write_back_for.new.self.ballots.items c.due_for-due.ensures c.ballots.ensures left back.table c.requires.tied c.forget_first.ensures.forgets)
     back.left
