@@ -20,17 +20,12 @@ use Rattle.coordinator.specs.Commits.{cells_in}
 use Rattle.late_commits.specs.declared.queue.LateCommits.{LateCommits}
 use Rattle.late_commits.specs.Waiting.{AreWaiting, commits_of, data_with, queue_of}
 use Rattle.late_commits.proofs.Waiting.{rests_again, stands_again}
+use Rattle.late_data.specs.Spared.{AreSpared}
 use Rattle.eaw_device.specs.Sound.{IsClean}
 
 -- a place that no cell has is outside the ranges
 abbrev pub AreInCells : Shape → List (ℕ × ℕ) → Type 0
 AreInCells shape ranges = (x : ℕ) → ((g t e : ℕ) → g < shape.loggers → t < shape.numbers → e < shape.entries → cell_at shape g t e ≤ x → x < cell_at shape g t e + 528 → ⊥) → IsOutside ranges x
-
--- nothing of the cells that these ballots' rows name lies in the ranges
-abbrev pub AreSpared : Shape → List Cells → List (ℕ × ℕ) → List Ballot → Type 0
-AreSpared shape cells ranges [] = Unit {0}
-AreSpared shape cells ranges (b ∷ bs) = ((g t e i : ℕ) → g < shape.loggers → t < shape.numbers → e < shape.entries → has_row b g t ≡ true → (cells_in cells g t).first ≤ e → e < (cells_in cells g t).first + (cells_in cells g t).count
-    → cell_at shape g t e ≤ i → i < cell_at shape g t e + 528 → IsOutside ranges i) × AreSpared shape cells ranges bs
 
 -- no range at all
 pub none_spared : (shape : Shape) (cells : List Cells) (bs : List Ballot) → AreSpared shape cells [] bs

@@ -1,9 +1,9 @@
 -- Bytes replaced within a logged part.
-use Rattle.std.proofs.Common.{◌≡◌, ◌≢◌, ℕ, zero, suc, ◌+◌, ◌<◌, ◌≤◌, Bool, true, false, cond, inl, inr, List, [], ◌∷◌, length, get_or, take, drop, Result, Ok, Err, refl, sym, ◌∙◌, ap, subst, arith}
+use Rattle.std.proofs.Common.{◌≡◌, ◌≢◌, ℕ, zero, suc, ◌+◌, ◌<◌, ◌≤◌, Bool, true, false, cond, ◌||◌, inl, inr, List, [], ◌∷◌, length, get_or, take, drop, Result, Ok, Err, refl, sym, ◌∙◌, ap, subst, arith}
 use Rattle.std.specs.Prelude.{IsTrue, slice_get, slice_index, Some}
 use Rattle.std.specs.Option.{option_map}
 use Rattle.std.specs.List.{range_with_len}
-use Rattle.std.proofs.lemmas.Bool.{cases_lt, cases_eq, eq-eqb, ne_eqb}
+use Rattle.std.proofs.lemmas.Bool.{and_parts, cases_lt, cases_eq, eq-eqb, ne_eqb}
 use Rattle.std.proofs.lemmas.List.{ext_get_or, get_or-take, get_or-drop, length-take, length-take-le, length-drop, take_min}
 use Rattle.std.proofs.lemmas.Option.{slice_get_within}
 use Rattle.mars_base.specs.Causes.{Rose}
@@ -14,12 +14,11 @@ use Rattle.array_shape.specs.declared.shape.Shape.{Shape}
 use Rattle.array_shape.specs.Places.{media_len, cell_at, logger_of, IsShape}
 use Rattle.row_bytes.proofs.Saying.{head_said-same}
 use Rattle.array_shape.specs.Logged.{Part, ranges_of, IsOwned}
-use Rattle.array_image.specs.Image.{cell_of, cell_head, cell_part, data_of, IsGoodCell}
+use Rattle.array_image.specs.Image.{cell_of, cell_head, cell_part, IsGoodCell}
 use Rattle.array_image.proofs.Places.{cell_fits_in}
 use Rattle.array_image.proofs.Rows.{cell_away, length-cell}
 use Rattle.array_image.proofs.Frames.{AllWithin}
-use Rattle.eaw_device.proofs.Cells.{AreInCells, AreSpared}
-use Rattle.eaw_device.proofs.NoneWaits.{once_held, once_spared}
+use Rattle.eaw_device.proofs.Cells.{AreInCells}
 use Rattle.eaw_face.specs.State.{listed, with_log, edited, range_at, part_at}
 use Rattle.eaw_face.specs.StoreView.{IsLive}
 use Rattle.eaw_face.specs.Command.{log_edit}
@@ -32,7 +31,14 @@ use Rattle.late_data.specs.declared.commits.LateData.{LateData}
 use Rattle.eaw_device.specs.Opens.{Opens}
 use Rattle.eaw_device.specs.Logs.{parts_in, cells_on, IsHeld, entries_at}
 use Rattle.eaw_device.specs.Laws.{alive_shown}
-use Rattle.eaw_device.specs.Sound.{IsAtOnce, IsSound, shown, view_of}
+use Rattle.array_shape.specs.NumberSet.{has}
+use Rattle.row_bytes.specs.declared.ballot.Ballot.{Ballot}
+use Rattle.coordinator.specs.Commits.{cells_in}
+use Rattle.deferred_parts.specs.Turns.{has_some}
+use Rattle.late_data.specs.Spared.{AreSpared}
+use Rattle.late_data.proofs.Sparing.{late_held}
+use Rattle.late_data.proofs.Tying.{or_also}
+use Rattle.eaw_device.specs.Sound.{IsSound, shown, view_of}
 use Rattle.eaw_device.proofs.Entries.{cells_on_here, cells_on_past}
 use Rattle.eaw_device.proofs.LogParts.{firsts_same, rests_same, part_in, EachCell, EachIn, each_number, each_cell, each_held, parts_in_same}
 use Rattle.eaw_device.proofs.Staged.{cells_apart}
@@ -159,7 +165,7 @@ module _ (shape : Shape) (shaped : IsShape shape) (old new : List ℕ) (t : ℕ)
       let rest = edited_parts xs pos (omega arith) is (numbered_rest shape shaped x xs numbered) same.1 in
       λ i. cell_part (first i) ∷ rest i
 
-module _ (tells : Bool) (old new : View) (shape : Shape) (logs : List Log) (late : LateData) (is_dead : Bool) (sound : IsSound tells old shape logs late is_dead) (once : IsAtOnce shape late.queue) (alive : is_dead ≡ false) (t : ℕ) (live : IsLive (view_of old shape logs late is_dead) t)
+module _ (tells : Bool) (old new : View) (shape : Shape) (logs : List Log) (late : LateData) (is_dead : Bool) (sound : IsSound tells old shape logs late is_dead) (alive : is_dead ≡ false) (t : ℕ) (live : IsLive (view_of old shape logs late is_dead) t)
     (log : Log) (found : Found tells old shape logs late is_dead t log) (pos : ℕ) (e : Entry) (lt : pos < length log.entries.items) (is : e ≡ get_or log.entries.items pos e) (at : ℕ) (bytes : List ℕ) (inner : at + length bytes ≤ e.len)
     (short : e.len ≤ 512) (its : Shape) (shape_is : its ≡ shape) (n : ℕ) (n_is : n ≡ logger_of shape e.addr) {T E : Type 0} (r : Result T E)
     (call : Writes tells ((cell_at its n t e.cell + 16 + at, length bytes) ∷ []) old new r) (long : IsTrue tells → length old.content.bytes ≡ media_len shape) where
@@ -182,7 +188,18 @@ module _ (tells : Bool) (old new : View) (shape : Shape) (logs : List Log) (late
   in_cells x none = ((λ from to. none g t e.cell there found.small inside (omega arith) (omega arith)), tt)
 
   spared : AreSpared shape late.queue.cells ranges late.queue.ballots.items
-  spared = once_spared shape late.queue once ranges
+  spared = sparing late.queue.ballots.items ((sound.in_order alive).before t log found.there)
+    where
+      sparing : (bs : List Ballot) → (has_some bs t ≡ true → (h : ℕ) → h < shape.loggers → slice_index log.held h ≤ (cells_in late.queue.cells h t).first) → AreSpared shape late.queue.cells ranges bs
+      sparing [] before = tt
+      sparing (b ∷ bs) before = (
+        (λ h u f i lt' below low row from to at end. ((λ from' to'. cells_apart shape h u f g t e.cell lt' below low there found.small inside (λ meet.
+        let on : has b.group t ≡ true = ap (has b.group) (sym meet.1) ∙ (and_parts (has b.mask h) (has b.group u) row).1 in
+        let first = before (ap (λ (x : Bool). x || has_some bs t) on) g there in
+        let its = ap (λ (p : ℕ × ℕ). (cells_in late.queue.cells p.0 p.1).first) (λ k. (meet.0 k, meet.1 k)) in
+        omega (arith, first, its, from, meet.2, entry_cell shape sound.shaped log found.kept pos e lt is)) i at end (omega arith) (omega arith)), tt)),
+        sparing bs (λ so. before (or_also (has b.group t) (has_some bs t) so)),
+      )
 
   within : AllWithin (media_len shape) ranges
   within = (omega (arith, cell_fits_in shape g t e.cell there found.small inside), tt)
@@ -260,7 +277,7 @@ module _ (tells : Bool) (old new : View) (shape : Shape) (logs : List Log) (late
     pub edit_sound : IsSound tells new shape logs late is_dead
     edit_sound = sound_media tells old new shape logs late is_dead sound does.size
         (λ told fine. cells_sure shape ranges in_cells late.queue spared old.content (long told) within (found.told told).sure new.content (does.touched told))
-        (λ told fine. once_held shape late once (sound.in_order fine).tied new.content.bytes)
+        (λ told fine. late_held shape late sound.ready (sound.in_order fine).tied ranges spared old.content.bytes new.content.bytes (does.touched told).bytes (sound.told told fine).shown)
         (λ told fine u l lies. elim (cases_eq u t) [
           | inl same ↦
               let one = one_log logs t log l found.there (ap (slice_get logs) (sym same) ∙ lies) in

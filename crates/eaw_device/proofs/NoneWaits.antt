@@ -26,7 +26,6 @@ use Rattle.late_data.specs.declared.commits.LateData.{LateData}
 use Rattle.late_data.specs.Tied.{IsTied}
 use Rattle.eaw_device.specs.declared.log.Log.{Log}
 use Rattle.eaw_device.specs.Sound.{IsAtOnce, IsBefore, IsClean}
-use Rattle.eaw_device.proofs.Cells.{AreSpared}
 use Rattle.eaw_device.proofs.Grouping.{none_takes}
 
 module _ (shape : Shape) (late : LateCommits) (once : IsAtOnce shape late) where
@@ -67,8 +66,8 @@ once_held shape late once tied image t lt =
     let none = tied.none t lt refl (ap (λ (bs : List Ballot). has_some bs t) (none_waiting shape late.queue once)) in
     ap (λ (es : List Entry). ranges_of (parts_in shape image t es)) none ∙ sym (ap ranges_in none)
 
-pub once_spared : (shape : Shape) (queue : LateCommits) → IsAtOnce shape queue → (ranges : List (ℕ × ℕ)) → AreSpared shape queue.cells ranges queue.ballots.items
-once_spared shape queue once ranges = subst (AreSpared shape queue.cells ranges) (sym (none_waiting shape queue once)) tt
+pub once_free : (shape : Shape) (queue : LateCommits) → IsAtOnce shape queue → (t : ℕ) → has_some queue.ballots.items t ≡ false
+once_free shape queue once t = ap (λ (bs : List Ballot). has_some bs t) (none_waiting shape queue once)
 
 -- a group of which some logger takes part has a number
 pub some_number : (shape : Shape) (group : ℕ) (cells : List Cells) (ballot : Ballot) → ballot.group ≡ group → IsMaskOf shape.loggers (takes_part shape cells group) ballot.mask → 0 < ballot.mask → 0 < ballot.group

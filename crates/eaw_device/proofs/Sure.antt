@@ -17,12 +17,13 @@ use Rattle.array_image.specs.Standing.{IsEither}
 use Rattle.array_image.proofs.Frames.{AllWithin}
 use Rattle.array_image.proofs.Calls.{both_left}
 use Rattle.array_image.proofs.Headers.{AreBehind}
-use Rattle.eaw_device.proofs.Cells.{AreInCells, AreSpared, staged_data, staging_left, staging_waits}
+use Rattle.eaw_device.proofs.Cells.{AreInCells, staged_data, staging_left, staging_waits}
 use Rattle.eaw_face.specs.Does as face
 use Rattle.eaw_device.specs.Opens.{header_of, Opens}
 use Rattle.late_commits.specs.Steps.{WritesBehind}
 use Rattle.late_commits.specs.declared.queue.LateCommits.{LateCommits}
 use Rattle.late_commits.specs.Waiting.{AreWaiting, data_with}
+use Rattle.late_data.specs.Spared.{AreSpared}
 use Rattle.late_data.specs.declared.commits.LateData.{LateData}
 use Rattle.eaw_device.specs.Laws.{alive_shown}
 use Rattle.eaw_device.specs.Sound.{IsSure, shown}

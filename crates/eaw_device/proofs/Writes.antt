@@ -3,7 +3,7 @@ use Rattle.std.proofs.Common.{◌≡◌, ◌≢◌, ℕ, ◌+◌, ◌-◌, ◌<�
 use Rattle.std.specs.Prelude.{None, IsTrue, IsErrAnd, All, slice_get, slice_set, slice_index, Some}
 use Rattle.std.specs.Option.{option_map}
 use Rattle.std.specs.List.{range_with_len}
-use Rattle.std.proofs.lemmas.Bool.{cases_lt}
+use Rattle.std.proofs.lemmas.Bool.{cases_lt, false≢true}
 use Rattle.std.proofs.lemmas.List.{length-append, length-take-le, length-drop, length-map}
 use Rattle.std.proofs.lemmas.List.Elements.{All-head, All-tail}
 use Rattle.std.proofs.lemmas.List.FromFn.{length-range_with_len}
@@ -17,8 +17,6 @@ use Rattle.array_shape.specs.Parts.{parts_of, parts_on, part_of_write, parts_of_
 use Rattle.array_shape.proofs.Cutting.{parts_of_write-parts, write_parts_on-parts}
 use Rattle.array_shape.specs.Logged.{Part, ranges_of}
 use Rattle.array_image.specs.Image.{cell_of, IsGoodCell}
-use Rattle.eaw_device.proofs.Cells.{AreSpared}
-use Rattle.eaw_device.proofs.NoneWaits.{once_before, once_held, once_spared}
 use Rattle.logger.specs.Cells.{HoldsParts}
 use Rattle.logger.proofs.Staging.{IsWithin, all_within}
 use Rattle.eaw_face.specs.State.{listed, count_on}
@@ -34,12 +32,15 @@ use Rattle.eaw_device.specs.Opens.{Opens}
 use Rattle.eaw_device.specs.Logs.{ranges_in, parts_in, cells_on, IsKept, IsHeld, Adds, entries_at}
 use Rattle.eaw_device.specs.Steps.{cells_fit, RefusesWrite, staged_places}
 use Rattle.eaw_device.specs.Laws.{alive_shown}
-use Rattle.eaw_device.specs.Sound.{IsAtOnce, IsSound, shown, view_of}
+use Rattle.deferred_parts.specs.Turns.{has_some}
+use Rattle.late_data.specs.Spared.{AreSpared}
+use Rattle.late_data.proofs.Sparing.{late_held}
+use Rattle.eaw_device.specs.Sound.{IsBefore, IsSound, shown, view_of}
 use Rattle.eaw_device.proofs.Entries.{numbers_split, ranges_in-append, length-ranges_in, cells_on-append, count_on-ranges_in}
 use Rattle.eaw_device.proofs.Keeping.{length-cells_on_kept}
 use Rattle.eaw_device.proofs.LogParts.{ranges_of-append, count_on-ranges_of, part_in, parts_in-append, parts_from-numbers, same_parts}
-use Rattle.eaw_device.proofs.Staged.{staged_in_cells, staged_within, staged_cell}
-use Rattle.eaw_device.proofs.Tables.{entries_live, ranges_there, parts_there, ranges_set, parts_set, parts_kept, held_kept, others_kept, slice_get-set_same, sound_set}
+use Rattle.eaw_device.proofs.Staged.{staged_spared, staged_in_cells, staged_within, staged_cell}
+use Rattle.eaw_device.proofs.Tables.{each_set, entries_live, ranges_there, parts_there, ranges_set, parts_set, parts_kept, held_kept, others_kept, slice_get-set_same, sound_set}
 use Rattle.eaw_device.proofs.Sure.{cells_data, cells_sure, cells_time}
 use Rattle.eaw_device.proofs.Doing.{done, failed, refused}
 
@@ -83,7 +84,7 @@ module _ (tells : Bool) (old : View) (shape : Shape) (logs : List Log) (late : L
         omega (arith, has, counted k here, needed k);
   }
 
-  module _ (once : IsAtOnce shape late.queue) (room : cells_fit shape log.held addr (length bytes) None) where
+  module _ (apart : has_some late.queue.ballots.items t ≡ false) (room : cells_fit shape log.held addr (length bytes) None) where
     pub fits : fit shape (listed (option_map ranges_in (entries_at logs t))) (ranges_of (parts_of_write addr bytes)) None
     fits g lt = omega (arith, room g lt, counted g lt, needed g)
 
@@ -91,7 +92,7 @@ module _ (tells : Bool) (old : View) (shape : Shape) (logs : List Log) (late : L
     write_parts_fit g lt = omega (arith, room g lt, length-write_parts_on shape g addr bytes)
 
     spared : AreSpared shape late.queue.cells (staged_places shape t log.held addr bytes) late.queue.ballots.items
-    spared = once_spared shape late.queue once (staged_places shape t log.held addr bytes)
+    spared = staged_spared shape t small log.held addr bytes write_parts_fit late.queue.cells late.queue.ballots.items apart
 
     module _ (new : View) {E : Type 0} (r : Result (Unit {0}) E) (does : Writes tells (staged_places shape t log.held addr bytes) old new r) (long : IsTrue tells → length old.content.bytes ≡ media_len shape) where
       time : IsTrue tells → is_dead ≡ false → LeavesOnly (face.IsEither (Opens shape) (shown shape late is_dead old.content.bytes) (shown shape late is_dead old.content.bytes)) old new
@@ -164,10 +165,13 @@ module _ (tells : Bool) (old : View) (shape : Shape) (logs : List Log) (late : L
           pub write_sound : IsSound tells new shape (slice_set logs at now) late is_dead
           write_sound = subst (λ (k : ℕ). IsSound tells new shape (slice_set logs k now) late is_dead) (sym is)
               (sound_set tells old new shape logs late late is_dead sound does.size t now below kept' sound.ready
-              (λ fine. record { tied = (sound.in_order fine).tied; before = λ u l got. once_before shape late.queue once u l })
+              (λ fine. record {
+                tied = (sound.in_order fine).tied;
+                before = each_set logs t now below (IsBefore shape late.queue) (λ so. absurd (false≢true (sym apart ∙ so))) (λ u ne. (sound.in_order fine).before u);
+              })
               (λ told fine. cells_sure shape (staged_places shape t log.held addr bytes) (staged_in_cells shape t small log.held addr bytes write_parts_fit) late.queue spared old.content (long told) (staged_within shape t small log.held addr bytes write_parts_fit)
               (sound.told told alive).sure new.content (does.touched told))
-              (λ told fine. once_held shape late once (sound.in_order fine).tied new.content.bytes)
+              (λ told fine. late_held shape late sound.ready (sound.in_order fine).tied (staged_places shape t log.held addr bytes) spared old.content.bytes new.content.bytes (does.touched told).bytes (sound.told told fine).shown)
               (λ told fine. now_is_held told)
               (λ told fine u ne l lies. held_kept shape old.content.bytes new.content.bytes u l (sound.kept u l lies) (λ g e lt low. same told u l lies g e lt low (inl ne)) ((sound.told told alive).held u l lies)))
 

@@ -1,2 +1,3 @@
 pub mod Tying
 pub mod Together
+pub mod Sparing

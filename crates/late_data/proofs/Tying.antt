@@ -18,7 +18,7 @@ use Rattle.late_commits.specs.Orders.{IsFree}
 use Rattle.late_commits.specs.Waiting.{commits_of}
 use Rattle.late_data.specs.Tied.{AreApart, AreTied, Forgets, HasNamed, HaveNamed}
 
-or_also : (x y : Bool) → y ≡ true → (x || y) ≡ true
+pub or_also : (x y : Bool) → y ≡ true → (x || y) ≡ true
 or_also true y so = refl
 or_also false y so = so
 

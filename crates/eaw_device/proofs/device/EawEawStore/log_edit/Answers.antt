@@ -86,7 +86,7 @@ invariant_of-self g c =
     let page = entry_page s.shape s.sound.shaped c.index.result.now there.kept c.args.pos c.index-entry.result.now lt c.index-entry.ensures in
     let inner : c.args.at + length c.args.bytes.now ≤ e.len = omega (arith, c.requires.within c.in_ok-number.ensures.live, ap (λ (r : ℕ × ℕ). r.1) range) in
     record {
-      sound = edit_sound m.tells (m.view s.media) (m.view c.edit.new.media) s.shape s.logs.items s.late s.is_dead s.sound s.at_once c.in_ok-number.ensures.alive c.args.tid c.in_ok-number.ensures.live
+      sound = edit_sound m.tells (m.view s.media) (m.view c.edit.new.media) s.shape s.logs.items s.late s.is_dead s.sound c.in_ok-number.ensures.alive c.args.tid c.in_ok-number.ensures.live
           c.index.result.now there c.args.pos e lt c.index-entry.ensures c.args.at c.args.bytes.now inner (omega (arith, page.page)) c.new-logger.result.shape c.new-logger.ensures.shape c.new-logger.result.number (c.new-logger.ensures.number ∙ c.place.ensures.logger)
           _ c.in-Ok.ensures.does (λ told. g.met.M.Media.long s.media told ∙ s.sound.sized) c.in-Ok.ensures.cell;
       at_once = c.args.self.now.at_once;
@@ -103,7 +103,7 @@ returns-in-Ok-clause-does g c =
     let range = look_range m.tells (m.view s.media) s.shape s.logs.items s.late s.is_dead s.sound c.args.tid c.in_ok-number.number c.index.result.now c.in_ok-number.ensures.live.small c.in_ok-number.ensures.at c.index.ensures c.args.pos c.index-entry.result.now lt c.index-entry.ensures in
     let page = entry_page s.shape s.sound.shaped c.index.result.now there.kept c.args.pos c.index-entry.result.now lt c.index-entry.ensures in
     let inner : c.args.at + length c.args.bytes.now ≤ e.len = omega (arith, c.requires.within c.in_ok-number.ensures.live, ap (λ (r : ℕ × ℕ). r.1) range) in
-    edit_done m.tells (m.view s.media) (m.view c.edit.new.media) s.shape s.logs.items s.late s.is_dead s.sound s.at_once c.in_ok-number.ensures.alive c.args.tid c.in_ok-number.ensures.live
+    edit_done m.tells (m.view s.media) (m.view c.edit.new.media) s.shape s.logs.items s.late s.is_dead s.sound c.in_ok-number.ensures.alive c.args.tid c.in_ok-number.ensures.live
     c.index.result.now there c.args.pos e lt c.index-entry.ensures c.args.at c.args.bytes.now inner (omega (arith, page.page)) c.new-logger.result.shape c.new-logger.ensures.shape c.new-logger.result.number (c.new-logger.ensures.number ∙ c.place.ensures.logger)
     _ c.in-Ok.ensures.does (λ told. g.met.M.Media.long s.media told ∙ s.sound.sized) c.in-Ok.ensures.cell tt c.in-Ok.ensures.does.cause.kept
 
@@ -118,7 +118,7 @@ returns-in-Err-clause-does g c =
     let range = look_range m.tells (m.view s.media) s.shape s.logs.items s.late s.is_dead s.sound c.args.tid c.in_ok-number.number c.index.result.now c.in_ok-number.ensures.live.small c.in_ok-number.ensures.at c.index.ensures c.args.pos c.index-entry.result.now lt c.index-entry.ensures in
     let page = entry_page s.shape s.sound.shaped c.index.result.now there.kept c.args.pos c.index-entry.result.now lt c.index-entry.ensures in
     let inner : c.args.at + length c.args.bytes.now ≤ e.len = omega (arith, c.requires.within c.in_ok-number.ensures.live, ap (λ (r : ℕ × ℕ). r.1) range) in
-    edit_failed m.tells (m.view s.media) (m.view c.edit.new.media) s.shape s.logs.items s.late s.is_dead s.sound s.at_once c.in_ok-number.ensures.alive c.args.tid c.in_ok-number.ensures.live
+    edit_failed m.tells (m.view s.media) (m.view c.edit.new.media) s.shape s.logs.items s.late s.is_dead s.sound c.in_ok-number.ensures.alive c.args.tid c.in_ok-number.ensures.live
     c.index.result.now there c.args.pos e lt c.index-entry.ensures c.args.at c.args.bytes.now inner (omega (arith, page.page)) c.new-logger.result.shape c.new-logger.ensures.shape c.new-logger.result.number (c.new-logger.ensures.number ∙ c.place.ensures.logger)
     _ c.in-Err.ensures.does (λ told. g.met.M.Media.long s.media told ∙ s.sound.sized) c.in-Err.ensures.does.cause.failed
 
