@@ -66,6 +66,10 @@ pub record IsAtOnce (shape : Shape) (queue : LateCommits) : Type 0 where
   pub fit : IsFit shape queue
   pub none_waits : queue.depth ≡ 0
 
+-- how many commits wait
+abbrev pub deferred_of : LateData → ℕ
+deferred_of late = length late.queue.ballots.items
+
 -- the data that it shows: that of the array with the commits that wait; once it is dead nothing is said of these
 abbrev pub shown : Shape → LateData → Bool → List ℕ → List ℕ
 shown shape late is_dead image = if is_dead then data_of shape image else data_with shape late.queue image

@@ -1,5 +1,5 @@
 // The commands, over all loggers.
-ghost use Rattle.std.specs.Prelude.{◌≡◌, ◌≢◌, ◌+◌, ◌≤◌, ◌<◌, false, None, IsTrue, IfOk, IfErr, OnOk};
+ghost use Rattle.std.specs.Prelude.{◌≡◌, ◌≢◌, ◌+◌, ◌≤◌, ◌<◌, false, None, IsTrue, IfOk, IfErr, OnOk, length};
 ghost use Rattle.array_shape.specs.NumberSet.{members};
 ghost use Rattle.array_shape.specs.Places.{data_len};
 ghost use Rattle.eaw_face.specs.StoreView.{IsLive};
@@ -8,7 +8,8 @@ ghost use Rattle.eaw_face.specs.Causes.{known};
 ghost use Rattle.eaw_device.specs.Opens.{Attached, FindsData, AttachCause, AttachLeaves, KeepsData, OpensWithin, IsBehind};
 ghost use Rattle.eaw_device.specs.Steps.{LogHasCells, RefusesWrite};
 ghost use Rattle.eaw_device.specs.Props.{IsSound-prop};
-ghost use Rattle.eaw_device.specs.Sound.{IsAtOnce, IsSound, LacksLog, LacksGroup, view_of};
+ghost use Rattle.commit_queue.specs.Deferred.{deferred_orders};
+ghost use Rattle.eaw_device.specs.Sound.{IsAtOnce, IsSound, LacksLog, LacksGroup, deferred_of, view_of};
 
 use crate::committing::{commit_log, commit_logs};
 use crate::fault::AttachFault;
@@ -43,6 +44,7 @@ impl<M: Media> Eaw<M, AtOnce> {
         ensures opens { IfOk result (λ eaw. Attached M.tells (M.view media) (view_of (M.view eaw.media) eaw.shape eaw.logs.items eaw.late eaw.is_dead)) }
         // An image that opens with some data is opened with that data.
         ensures found { IfOk result (λ eaw. FindsData M.tells (M.view media) (view_of (M.view eaw.media) eaw.shape eaw.logs.items eaw.late eaw.is_dead)) }
+        ensures none_waits { IfOk result (λ eaw. deferred_of eaw.late ≡ 0) }
         ensures cause { IfErr result (λ e. AttachCause M.tells (M.view media) (M.view e.1).faults e.0) }
         ensures unwritten { IfErr result (λ e. AttachLeaves M.tells (M.view media) (M.view e.1) e.0) }
         ensures keeps { IfOk result (λ eaw. KeepsData M.tells (M.view media) (M.view eaw.media).moment (M.view eaw.media).left_since) }
@@ -64,6 +66,7 @@ impl<M: Media> Eaw<M, Late> {
         ensures opens { IfOk result (λ eaw. Attached M.tells (M.view media) (view_of (M.view eaw.media) eaw.shape eaw.logs.items eaw.late eaw.is_dead)) }
         // An image that opens with some data is opened with that data.
         ensures found { IfOk result (λ eaw. FindsData M.tells (M.view media) (view_of (M.view eaw.media) eaw.shape eaw.logs.items eaw.late eaw.is_dead)) }
+        ensures none_waits { IfOk result (λ eaw. deferred_of eaw.late ≡ 0) }
         ensures cause { IfErr result (λ e. AttachCause M.tells (M.view media) (M.view e.1).faults e.0) }
         ensures unwritten { IfErr result (λ e. AttachLeaves M.tells (M.view media) (M.view e.1) e.0) }
         ensures keeps { IfOk result (λ eaw. KeepsData M.tells (M.view media) (M.view eaw.media).moment (M.view eaw.media).left_since) }
@@ -87,6 +90,7 @@ impl<M: Media, W: WriteBack> Eaw<M, W> {
         ensures opens { IfOk result (λ eaw. Attached M.tells (M.view media) (view_of (M.view eaw.media) eaw.shape eaw.logs.items eaw.late eaw.is_dead)) }
         // An image that opens with some data is opened with that data.
         ensures found { IfOk result (λ eaw. FindsData M.tells (M.view media) (view_of (M.view eaw.media) eaw.shape eaw.logs.items eaw.late eaw.is_dead)) }
+        ensures none_waits { IfOk result (λ eaw. deferred_of eaw.late ≡ 0) }
         ensures cause { IfErr result (λ e. AttachCause M.tells (M.view media) (M.view e.1).faults e.0) }
         ensures unwritten { IfErr result (λ e. AttachLeaves M.tells (M.view media) (M.view e.1) e.0) }
         ensures keeps { IfOk result (λ eaw. KeepsData M.tells (M.view media) (M.view eaw.media).moment (M.view eaw.media).left_since) }
@@ -107,6 +111,15 @@ impl<M: Media, W: WriteBack> Eaw<M, W> {
             }),
             Err(fault) => Err((fault, media)),
         }
+    }
+
+    /// How many commits wait for their write-back: as many as there are different order numbers above 0 among the decided rows.
+    pub fn deferred(&self) -> u8
+        ensures many { result ≡ deferred_of self.now.late }
+        ensures most { result ≤ self.now.late.queue.depth }
+        ensures counted { IsTrue M.tells → self.now.is_dead ≡ false → result ≡ length (deferred_orders self.now.shape (M.view self.now.media).content.bytes) }
+    {
+        self.late.len() as u8
     }
 
     /// The medium. What live numbers have logged is given up.
