@@ -18,7 +18,8 @@ use Rattle.eaw_face.specs.declared.fault.EawFault.TheVariants.{Media}
 use Rattle.eaw_device.specs.declared.log.Log.{Log}
 use Rattle.late_data.specs.declared.commits.LateData.{LateData}
 use Rattle.eaw_device.specs.Opens.{Opens}
-use Rattle.eaw_device.specs.Logs.{parts_in, IsKept, entries_at}
+use Rattle.eaw_device.specs.Logs.{IsKept, entries_at}
+use Rattle.deferred_parts.specs.Entries.{parts_in}
 use Rattle.late_commits.specs.Steps.{WritesBehind}
 use Rattle.deferred_parts.specs.Entries.{AreHeld}
 use Rattle.deferred_parts.specs.Shown.{entries_of as kept_entries}

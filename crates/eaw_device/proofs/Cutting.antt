@@ -9,11 +9,12 @@ use Rattle.array_shape.specs.Logged.{Part, ranges_of}
 use Rattle.array_image.specs.Image.{cell_of}
 use Rattle.array_image.specs.Standing.{SameCells}
 use Rattle.eaw_face.specs.State.{listed, with_log}
-use Rattle.eaw_device.specs.declared.log.Entry.{Entry}
+use Rattle.deferred_parts.specs.declared.entry.Entry.{Entry}
 use Rattle.eaw_device.specs.declared.log.Log.{Log}
 use Rattle.late_commits.specs.declared.queue.LateCommits.{LateCommits}
 use Rattle.late_data.specs.declared.commits.LateData.{LateData}
-use Rattle.eaw_device.specs.Logs.{ranges_in, parts_in, cells_on, IsKept, IsHeld, entries_at}
+use Rattle.eaw_device.specs.Logs.{IsKept, IsHeld, entries_at}
+use Rattle.deferred_parts.specs.Entries.{ranges_in, parts_in, cells_on}
 use Rattle.deferred_parts.specs.Entries.{AreHeld}
 use Rattle.deferred_parts.specs.Shown.{entries_of as kept_entries}
 use Rattle.late_data.specs.Tied.{IsReady}

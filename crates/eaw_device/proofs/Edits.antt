@@ -25,11 +25,12 @@ use Rattle.eaw_face.specs.Command.{log_edit}
 use Rattle.eaw_face.specs.Does as face
 use Rattle.eaw_face.specs.declared.fault.EawFault.{EawFault}
 use Rattle.eaw_face.specs.declared.fault.EawFault.TheVariants.{Media}
-use Rattle.eaw_device.specs.declared.log.Entry.{Entry}
+use Rattle.deferred_parts.specs.declared.entry.Entry.{Entry}
 use Rattle.eaw_device.specs.declared.log.Log.{Log}
 use Rattle.late_data.specs.declared.commits.LateData.{LateData}
 use Rattle.eaw_device.specs.Opens.{Opens}
-use Rattle.eaw_device.specs.Logs.{parts_in, cells_on, IsHeld, entries_at}
+use Rattle.eaw_device.specs.Logs.{IsHeld, entries_at}
+use Rattle.deferred_parts.specs.Entries.{parts_in, cells_on}
 use Rattle.eaw_device.specs.Laws.{alive_shown}
 use Rattle.array_shape.specs.NumberSet.{has}
 use Rattle.row_bytes.specs.declared.ballot.Ballot.{Ballot}

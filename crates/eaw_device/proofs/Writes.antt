@@ -29,7 +29,8 @@ use Rattle.eaw_face.specs.declared.fault.EawFault.TheVariants.{UnknownTid, LogFu
 use Rattle.eaw_device.specs.declared.log.Log.{Log}
 use Rattle.late_data.specs.declared.commits.LateData.{LateData}
 use Rattle.eaw_device.specs.Opens.{Opens}
-use Rattle.eaw_device.specs.Logs.{ranges_in, parts_in, cells_on, IsKept, IsHeld, Adds, entries_at}
+use Rattle.eaw_device.specs.Logs.{IsKept, IsHeld, Adds, entries_at}
+use Rattle.deferred_parts.specs.Entries.{ranges_in, parts_in, cells_on}
 use Rattle.eaw_device.specs.Steps.{cells_fit, RefusesWrite, staged_places}
 use Rattle.eaw_device.specs.Laws.{alive_shown}
 use Rattle.deferred_parts.specs.Turns.{has_some}

@@ -24,7 +24,8 @@ use Rattle.late_commits.specs.Waiting.{AreWaiting, data_with, queue_of}
 use Rattle.late_data.specs.declared.commits.LateData.{LateData}
 use Rattle.eaw_device.specs.declared.log.Log.{Log}
 use Rattle.eaw_device.specs.Opens.{Opens}
-use Rattle.eaw_device.specs.Logs.{ranges_in, parts_in, IsKept, IsHeld, entries_of, entries_at}
+use Rattle.eaw_device.specs.Logs.{IsKept, IsHeld, entries_of, entries_at}
+use Rattle.deferred_parts.specs.Entries.{ranges_in, parts_in}
 use Rattle.eaw_device.specs.Sound.{IsSound, IsSure, IsTold, shown, view_of}
 
 -- ranges that are all placed

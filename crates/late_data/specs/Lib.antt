@@ -1,3 +1,4 @@
 pub mod Tied
 pub mod Props
 pub mod Spared
+pub mod Steps

@@ -10,7 +10,7 @@ use Rattle.late_commits.specs.Waiting.{data_with}
 use Rattle.eaw_device.specs.Laws.{length-waiting}
 use Rattle.eaw_device.proofs.NoneWaits.{clean_waiting, data_alone, waiting_clean}
 use Rattle.array_shape.specs.NumberSet.{has}
-use Rattle.eaw_device.specs.Logs.{parts_in}
+use Rattle.deferred_parts.specs.Entries.{parts_in}
 use Rattle.eaw_device.specs.Groups.{HaveCells, HaveParts, group_parts, group_calls}
 use Rattle.eaw_device.proofs.Alone.{own_bit, own_small, alone_fits, alone_good, alone_applied, alone_calls, alone_none}
 use Rattle.eaw_device.proofs.committing.commit_log.Given.{Over}

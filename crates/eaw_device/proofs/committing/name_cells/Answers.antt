@@ -3,7 +3,7 @@ use Rattle.std.specs.Prelude.{slice_index}
 use Rattle.std.proofs.lemmas.Bool.{cases_eq}
 use Rattle.coordinator.specs.declared.cells.Cells.{Cells}
 use Rattle.coordinator.specs.Commits.{cells_in}
-use Rattle.eaw_device.specs.Logs.{cells_on}
+use Rattle.deferred_parts.specs.Entries.{cells_on}
 use Rattle.eaw_device.proofs.NoneWaits.{all_free}
 use Rattle.eaw_device.proofs.Keeping.{first_few}
 use Rattle.eaw_device.proofs.committing.name_cells.Goals as goal

@@ -1,7 +1,7 @@
 use Rattle.std.proofs.Common.{◌≡◌, ◌≢◌, ◌-◌, ℕ, ◌<◌, length, take, false}
 use Rattle.std.specs.Prelude.{slice_index}
 use Rattle.coordinator.specs.Commits.{cells_in}
-use Rattle.eaw_device.specs.Logs.{cells_on}
+use Rattle.deferred_parts.specs.Entries.{cells_on}
 use Rattle.late_data.specs.Tied.{IsReady, IsTied}
 use Rattle.eaw_device.specs.Sound.{IsAtOnce}
 use Rattle.eaw_device.proofs.committing.name_cells.Given as goal

@@ -6,7 +6,8 @@ use Rattle.array_shape.proofs.Sets.{passed_first, passed_with, passed_skip, pass
 use Rattle.coordinator.specs.declared.cells.Cells.{Cells}
 use Rattle.coordinator.specs.Commits.{cells_in}
 use Rattle.eaw_face.specs.State.{listed, count_on}
-use Rattle.eaw_device.specs.Logs.{ranges_in, ranges_logged}
+use Rattle.eaw_device.specs.Logs.{ranges_logged}
+use Rattle.deferred_parts.specs.Entries.{ranges_in}
 use Rattle.eaw_device.proofs.Entries.{length-ranges_in}
 use Rattle.eaw_device.proofs.Gathering.{held_is}
 use Rattle.eaw_device.proofs.Tables.{found_log, ranges_there}

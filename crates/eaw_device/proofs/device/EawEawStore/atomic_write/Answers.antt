@@ -8,7 +8,8 @@ use Rattle.array_shape.specs.Logged.{ranges_of}
 use Rattle.eaw_device.specs.Costs.{commit_cost}
 use Rattle.eaw_device.specs.Laws.{length-shown}
 use Rattle.eaw_device.specs.Opens.{Opens}
-use Rattle.eaw_device.specs.Logs.{ranges_in, parts_in, entries_at}
+use Rattle.eaw_device.specs.Logs.{entries_at}
+use Rattle.deferred_parts.specs.Entries.{ranges_in, parts_in}
 use Rattle.eaw_device.specs.Sound.{view_of}
 use Rattle.eaw_device.proofs.Atomic.{write_fails, atomic, mid_alive, mid_live, mid_ranges, commit_fails, media_alone, none_ranges}
 use Rattle.eaw_device.proofs.device.EawEawStore.atomic_write.Goals as goal
