@@ -29,3 +29,4 @@ pub mod Edits
 pub mod OpenedLemmas
 pub mod NoneWaits
 pub mod CommitCells
+pub mod Quiet

@@ -13,7 +13,7 @@ use Rattle.pcm_media.proofs.Ranges.{length-range, get_or-range}
 use Rattle.array_shape.specs.declared.shape.Shape.{Shape}
 use Rattle.array_shape.specs.Places.{media_len}
 use Rattle.row_bytes.specs.Header.{SaysShape}
-use Rattle.array_image.specs.Standing.{IsEither}
+use Rattle.array_image.specs.Standing.{IsEither, StandsFor}
 use Rattle.array_image.proofs.Frames.{AllWithin}
 use Rattle.array_image.proofs.Calls.{both_left}
 use Rattle.array_image.proofs.Headers.{AreBehind}
@@ -100,6 +100,9 @@ module _ (tells : Bool) (shape : Shape) (queue : LateCommits) (old new : View) {
   commit_time before after stands =
       weaker (λ image both. ⊎_elim (λ is. inl (record { header = both.1; stands = is })) (λ is. inr (record { header = both.1; stands = is })) both.0)
       (both_left stands (weaker (header_kept shape does.places old.content does.behind (omega (arith, long)) sure.header) (does.does.time told)))
+
+  pub back_time : (data_then : List ℕ) → LeavesOnly (λ (image : List ℕ). StandsFor shape image data_then) old new → LeavesOnly (λ (image : List ℕ). Opens shape image data_then) old new
+  back_time data_then stands = weaker (λ image both. record { header = both.1; stands = both.0 }) (both_left stands (weaker (header_kept shape does.places old.content does.behind (omega (arith, long)) sure.header) (does.does.time told)))
 
   pub commit_sure : (queue' : LateCommits) → AreWaiting shape queue' new.content → IsSure shape queue' new.content
   commit_sure queue' waiting = record {

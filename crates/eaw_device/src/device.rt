@@ -1,12 +1,15 @@
 // The commands, over all loggers.
-ghost use Rattle.std.specs.Prelude.{◌≡◌, ◌≢◌, ◌+◌, ◌≤◌, ◌<◌, false, None, IsTrue, IfOk, IfErr, OnOk, length};
-ghost use Rattle.array_shape.specs.NumberSet.{members};
+ghost use Rattle.std.specs.Prelude.{◌≡◌, ◌≢◌, ◌+◌, ◌≤◌, ◌<◌, ℕ, true, drop, take, false, None, IsTrue, IfOk, IfErr, OnOk, length};
+ghost use Rattle.mars_base.specs.Costs.{Costs};
+ghost use Rattle.array_shape.specs.NumberSet.{has, members};
+ghost use Rattle.late_commits.specs.Costs.{calls_back};
+ghost use Rattle.late_commits.specs.Orders.{IsFree, due_for};
 ghost use Rattle.array_shape.specs.Places.{data_len};
 ghost use Rattle.eaw_face.specs.StoreView.{IsLive};
 ghost use Rattle.eaw_face.specs.Command.{commit_group};
 ghost use Rattle.eaw_face.specs.Causes.{known};
-ghost use Rattle.eaw_device.specs.Opens.{Attached, FindsData, AttachCause, AttachLeaves, KeepsData, OpensWithin, IsBehind};
-ghost use Rattle.eaw_device.specs.Steps.{LogHasCells, RefusesWrite};
+ghost use Rattle.eaw_device.specs.Opens.{Attached, FindsData, AttachCause, AttachLeaves, KeepsData, Opens, OpensWithin, IsBehind};
+ghost use Rattle.eaw_device.specs.Steps.{IsQuiet, LogHasCells, RefusesWrite};
 ghost use Rattle.eaw_device.specs.Props.{IsSound-prop};
 ghost use Rattle.commit_queue.specs.Deferred.{deferred_orders};
 ghost use Rattle.eaw_device.specs.Sound.{IsAtOnce, IsSound, LacksLog, LacksGroup, deferred_of, view_of};
@@ -135,6 +138,29 @@ impl<M: Media, W: WriteBack> Eaw<M, W> {
             is_dead: _,
         } = self;
         media
+    }
+
+    // Writes back what waits of the numbers of a group: none that waits has one of them then.
+    fn settle_for(&mut self, group: u64) -> Result<(), EawFault>
+        requires { self.old.is_dead ≡ false }
+        ensures quiet { IsQuiet M.tells (Opens self.old.shape) (view_of (M.view self.old.media) self.old.shape self.old.logs.items self.old.late self.old.is_dead)
+            (view_of (M.view self.new.media) self.new.shape self.new.logs.items self.new.late self.new.is_dead) result }
+        ensures shape { self.new.shape ≡ self.old.shape }
+        ensures logs { self.new.logs ≡ self.old.logs }
+        ensures free { OnOk result ((t : ℕ) → has group t ≡ true → IsFree t self.new.late.queue.ballots.items) }
+        ensures left { OnOk result (self.new.late.queue.ballots.items ≡ drop (due_for group self.old.late.queue.ballots.items) self.old.late.queue.ballots.items) }
+        ensures costs { Costs M.tells (calls_back self.old.shape self.old.late.queue.cells (take (due_for group self.old.late.queue.ballots.items) self.old.late.queue.ballots.items)) (M.view self.old.media).moment (M.view self.new.media).moment result }
+    {
+        match self
+            .late
+            .write_back_for(&mut self.media, &self.shape, group)
+        {
+            Ok(()) => Ok(()),
+            Err(_) => {
+                self.is_dead = true;
+                Err(EawFault::Media)
+            }
+        }
     }
 
     // Where the log of a live number is in the table.
