@@ -1,5 +1,5 @@
 -- Writes into cells alone, of which no commit that waits has one: they wait before and after, and the data stays.
-use Rattle.std.proofs.Common.{◌≡◌, ℕ, ◌+◌, ◌<◌, ◌≤◌, true, false, List, [], ◌∷◌, length, refl, sym, subst, arith}
+use Rattle.std.proofs.Common.{◌≡◌, ℕ, ◌+◌, ◌<◌, ◌≤◌, false, List, [], ◌∷◌, length, refl, sym, subst, arith}
 use Rattle.std.proofs.lemmas.Bool.{false≢true}
 use Rattle.pcm_media.specs.Images.{Content, MayLeave, IsOutside, Touched, partly}
 use Rattle.array_shape.specs.declared.shape.Shape.{Shape}
@@ -13,10 +13,8 @@ use Rattle.commit_queue.specs.Between.{AreFree, IsAtRest}
 use Rattle.commit_queue.proofs.Between.{holds_stands}
 use Rattle.commit_queue.proofs.Resting.{free_rests, free_at_rest, rest_by_bytes}
 use Rattle.row_bytes.specs.declared.ballot.Ballot.{Ballot}
-use Rattle.row_bytes.specs.Ballots.{has_row}
 use Rattle.commit_queue.specs.Queue.{Commit, Each, NamesCell}
 use Rattle.coordinator.specs.declared.cells.Cells.{Cells}
-use Rattle.coordinator.specs.Commits.{cells_in}
 use Rattle.late_commits.specs.declared.queue.LateCommits.{LateCommits}
 use Rattle.late_commits.specs.Waiting.{AreWaiting, commits_of, data_with, queue_of}
 use Rattle.late_commits.proofs.Waiting.{rests_again, stands_again}

@@ -194,11 +194,14 @@ module _ (tells : Bool) (old new : View) (shape : Shape) (logs : List Log) (late
       sparing : (bs : List Ballot) → (has_some bs t ≡ true → (h : ℕ) → h < shape.loggers → slice_index log.held h ≤ (cells_in late.queue.cells h t).first) → AreSpared shape late.queue.cells ranges bs
       sparing [] before = tt
       sparing (b ∷ bs) before = (
-        (λ h u f i lt' below low row from to at end. ((λ from' to'. cells_apart shape h u f g t e.cell lt' below low there found.small inside (λ meet.
-        let on : has b.group t ≡ true = ap (has b.group) (sym meet.1) ∙ (and_parts (has b.mask h) (has b.group u) row).1 in
-        let first = before (ap (λ (x : Bool). x || has_some bs t) on) g there in
-        let its = ap (λ (p : ℕ × ℕ). (cells_in late.queue.cells p.0 p.1).first) (λ k. (meet.0 k, meet.1 k)) in
-        omega (arith, first, its, from, meet.2, entry_cell shape sound.shaped log found.kept pos e lt is)) i at end (omega arith) (omega arith)), tt)),
+        (λ h u f i lt' below low row from to at end. (
+          (λ from' to'. cells_apart shape h u f g t e.cell lt' below low there found.small inside (λ meet.
+              let on : has b.group t ≡ true = ap (has b.group) (sym meet.1) ∙ (and_parts (has b.mask h) (has b.group u) row).1 in
+              let first = before (ap (λ (x : Bool). x || has_some bs t) on) g there in
+              let its = ap (λ (p : ℕ × ℕ). (cells_in late.queue.cells p.0 p.1).first) (λ k. (meet.0 k, meet.1 k)) in
+              omega (arith, first, its, from, meet.2, entry_cell shape sound.shaped log found.kept pos e lt is)) i at end (omega arith) (omega arith)),
+          tt,
+        )),
         sparing bs (λ so. before (or_also (has b.group t) (has_some bs t) so)),
       )
 

@@ -1,7 +1,6 @@
 -- A device of which some commits that wait are written back, and a command after that.
-use Rattle.std.proofs.Common.{◌≡◌, ℕ, ◌<◌, ◌≤◌, ◌+◌, Bool, true, false, inl, inr, List, drop, length, get_or, Result, Ok, Err, refl, sym, ◌∙◌, ap, subst, arith}
-use Rattle.std.specs.Prelude.{IsTrue, OnOk, Some, slice_get, slice_index}
-use Rattle.std.specs.Option.{ForSome, option_map}
+use Rattle.std.proofs.Common.{◌≡◌, ℕ, ◌<◌, ◌≤◌, Bool, true, false, inl, inr, List, drop, length, Result, Ok, Err, refl, sym, ◌∙◌, ap, subst, arith}
+use Rattle.std.specs.Prelude.{IsTrue, Some, slice_get, slice_index}
 use Rattle.std.proofs.lemmas.Bool.{cases_Bool, false≢true}
 use Rattle.std.proofs.lemmas.Option.{slice_get_within}
 use Rattle.std.proofs.lemmas.Result.{on_ok_weaker}
@@ -11,27 +10,23 @@ use Rattle.pcm_media.specs.View.{View}
 use Rattle.array_shape.specs.declared.shape.Shape.{Shape}
 use Rattle.array_shape.specs.Places.{media_len}
 use Rattle.array_image.specs.Image.{cell_of}
-use Rattle.array_image.specs.Standing.{SameCells, StandsFor}
 use Rattle.row_bytes.specs.declared.ballot.Ballot.{Ballot}
-use Rattle.deferred_parts.specs.Entries.{AreHeld}
-use Rattle.deferred_parts.specs.Shown.{entries_of as kept_entries}
 use Rattle.deferred_parts.specs.Turns.{has_some}
 use Rattle.late_commits.specs.Steps.{WritesBack}
 use Rattle.late_data.specs.declared.commits.LateData.{LateData}
-use Rattle.late_data.specs.Tied.{IsReady, IsTied, Stays}
+use Rattle.late_data.specs.Tied.{IsTied, Stays}
 use Rattle.late_data.proofs.Tying.{lacks_drop}
 use Rattle.eaw_face.specs.State.{State}
 use Rattle.eaw_face.specs.StoreView.{StoreView, LeavesOnly}
 use Rattle.eaw_face.specs.Command.{Command, after, ranges_after}
 use Rattle.eaw_face.specs.Causes.{Cause}
-use Rattle.eaw_face.specs.Does.{Becomes, Does, IsEither}
+use Rattle.eaw_face.specs.Does.{Does, IsEither}
 use Rattle.eaw_face.specs.declared.fault.EawFault.{EawFault}
 use Rattle.eaw_face.specs.declared.fault.EawFault.TheVariants.{Media}
 use Rattle.eaw_device.specs.declared.log.Log.{Log}
 use Rattle.eaw_device.specs.Laws.{alive_shown}
-use Rattle.eaw_device.specs.Logs.{entries_at, IsHeld, IsKept}
 use Rattle.eaw_device.specs.Opens.{Opens}
-use Rattle.eaw_device.specs.Sound.{IsBefore, IsInOrder, IsSound, IsSure, shown, view_of}
+use Rattle.eaw_device.specs.Sound.{IsSound, shown, view_of}
 use Rattle.eaw_device.specs.Steps.{IsQuiet}
 use Rattle.coordinator.specs.declared.cells.Cells.{Cells}
 use Rattle.coordinator.specs.Commits.{cells_in}

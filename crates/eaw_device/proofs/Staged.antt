@@ -84,11 +84,10 @@ module _ (shape : Shape) (t : ℕ) (small : t < shape.numbers) (held : List ℕ)
   pub staged_spared : (cells : List Cells) (bs : List Ballot) → has_some bs t ≡ false → AreSpared shape cells places bs
   staged_spared cells [] lacks = tt
   staged_spared cells (b ∷ bs) lacks =
-      let both = or_parts (has b.group t) (has_some bs t) lacks in
-      (
+      let both = or_parts (has b.group t) (has_some bs t) lacks in (
         (λ h u k i lt lt' lt'' row from below at to. staged_outside i (λ g e there low high at' to'.
-        let fits = room g there in
-        cells_apart shape h u k g t e lt lt' lt'' there small (omega arith) (λ is. false≢true (sym both.0 ∙ ap (has b.group) (sym is.1) ∙ (and_parts (has b.mask h) (has b.group u) row).1)) i at to at' to')),
+            let fits = room g there in
+            cells_apart shape h u k g t e lt lt' lt'' there small (omega arith) (λ is. false≢true (sym both.0 ∙ ap (has b.group) (sym is.1) ∙ (and_parts (has b.mask h) (has b.group u) row).1)) i at to at' to')),
         staged_spared cells bs both.1,
       )
 

@@ -1,11 +1,11 @@
 -- The log of a number as the device keeps it: its entries, in the order in which they were logged.
-use Rattle.std.specs.Prelude.{ℕ, ◌≡◌, ◌*◌, ◌<◌, ◌≤◌, nat_eq, if◌then◌else◌, false, List, [], ◌∷◌, ◌++◌, length, All, Option, Some, None, slice_get, slice_index, vec_capacity}
+use Rattle.std.specs.Prelude.{ℕ, ◌≡◌, ◌*◌, ◌<◌, ◌≤◌, if◌then◌else◌, false, List, [], ◌++◌, length, All, Option, Some, None, slice_get, slice_index, vec_capacity}
 use Rattle.std.specs.List.{range_with_len}
 use Rattle.std.specs.Option.{option_map, option_and_then}
 use Rattle.array_shape.specs.declared.shape.Shape.{Shape}
-use Rattle.array_shape.specs.Places.{IsPlaced, logger_of}
+use Rattle.array_shape.specs.Places.{IsPlaced}
 use Rattle.array_shape.specs.Logged.{Part, ranges_of}
-use Rattle.array_image.specs.Image.{cell_of, cell_part, IsGoodCell}
+use Rattle.array_image.specs.Image.{cell_of, IsGoodCell}
 use Rattle.deferred_parts.specs.Entries.{cells_on, parts_in, ranges_in}
 use Rattle.eaw_face.specs.State.{Logs}
 use Rattle.deferred_parts.specs.declared.entry.Entry.{Entry}

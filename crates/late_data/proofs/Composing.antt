@@ -1,9 +1,7 @@
 -- A commit behind what was written back for it.
-use Rattle.std.proofs.Common.{◌≡◌, ℕ, ◌+◌, Bool, inl, List, take, Result, Ok, Err, refl, sym, ◌∙◌, ap, subst, arith}
-use Rattle.std.specs.Prelude.{IsErr, IsTrue, OnOk}
-use Rattle.std.proofs.lemmas.Bool.{false≢true}
+use Rattle.std.proofs.Common.{◌≡◌, ℕ, ◌+◌, Bool, inl, List, take, Result, Ok, refl, ◌∙◌, subst, arith}
+use Rattle.std.specs.Prelude.{IsErr, IsTrue}
 use Rattle.std.proofs.lemmas.Result.{on_ok_weaker}
-use Rattle.mars_base.specs.Costs.{Costs}
 use Rattle.mars_base.specs.declared.Failed.{Failed}
 use Rattle.mars_base.proofs.Costing.{costs_err, costs_then}
 use Rattle.mars_base.proofs.Going.{then, weaker}
@@ -16,9 +14,9 @@ use Rattle.coordinator.specs.Commits.{AreThere, parts_named}
 use Rattle.coordinator.proofs.Applying.{all_same}
 use Rattle.late_commits.specs.declared.queue.LateCommits.{LateCommits}
 use Rattle.late_commits.specs.Costs.{calls_back, late_calls}
-use Rattle.late_commits.specs.Steps.{CommitsOne, WritesBack, WritesBehind}
+use Rattle.late_commits.specs.Steps.{CommitsOne, WritesBack}
 use Rattle.late_commits.specs.Waiting.{data_with}
-use Rattle.late_commits.proofs.Steps.{behind_fault, behind_more, off_ok}
+use Rattle.late_commits.proofs.Steps.{behind_more, off_ok}
 use Rattle.late_data.specs.Steps.{Commits}
 
 -- The queue is written back up to `due`, cells are named for the ballot's numbers, and it is committed.

@@ -1,5 +1,5 @@
 -- Writes that spare the cells of all commits that wait: what the entries say of the cells stays.
-use Rattle.std.proofs.Common.{◌≡◌, ℕ, ◌+◌, ◌<◌, ◌≤◌, ◌⊎◌, Bool, true, false, cond, ◌||◌, nat_eq, inl, inr, List, [], ◌∷◌, length, get_or, sym, ◌∙◌, ap, subst, refl, arith}
+use Rattle.std.proofs.Common.{◌≡◌, ℕ, ◌<◌, Bool, true, false, cond, ◌||◌, inl, inr, List, [], ◌∷◌, get_or, sym, ◌∙◌, ap, subst, refl, arith}
 use Rattle.std.specs.Prelude.{All}
 use Rattle.std.specs.List.{range_with_len}
 use Rattle.std.proofs.lemmas.Nat.{mod_below}
@@ -19,7 +19,7 @@ use Rattle.coordinator.specs.declared.cells.Cells.{Cells}
 use Rattle.coordinator.specs.Commits.{cells_in}
 use Rattle.deferred_parts.specs.declared.entry.Entry.{Entry}
 use Rattle.deferred_parts.specs.Entries.{AreHeld, IsEntry, cells_on, parts_in, ranges_in}
-use Rattle.deferred_parts.specs.Shown.{entries_of, shape_of}
+use Rattle.deferred_parts.specs.Shown.{entries_of}
 use Rattle.deferred_parts.specs.Turns.{has_some}
 use Rattle.deferred_parts.proofs.EntryParts.{parts_in_same}
 use Rattle.late_data.specs.declared.commits.LateData.{LateData}

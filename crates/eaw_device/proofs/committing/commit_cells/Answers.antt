@@ -1,4 +1,4 @@
-use Rattle.std.proofs.Common.{◌≡◌, ◌<◌, ℕ, List, Result, Ok, refl, subst, arith}
+use Rattle.std.proofs.Common.{List, Result, Ok, refl, subst, arith}
 use Rattle.mars_base.specs.declared.Failed.{Failed}
 use Rattle.coordinator.specs.declared.cells.Cells.{Cells}
 use Rattle.coordinator.specs.Commits.{IsMaskOf, takes_part}

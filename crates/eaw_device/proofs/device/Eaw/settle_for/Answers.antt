@@ -1,4 +1,4 @@
-use Rattle.std.proofs.Common.{◌∙◌, refl}
+use Rattle.std.proofs.Common.{◌∙◌}
 use Rattle.eaw_device.proofs.Quiet.{back_sound, quiet_done, quiet_failed}
 use Rattle.eaw_device.proofs.Tables.{sound_dead}
 use Rattle.eaw_device.proofs.device.Eaw.settle_for.Goals as goal

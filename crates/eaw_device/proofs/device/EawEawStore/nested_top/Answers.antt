@@ -100,7 +100,7 @@ invariant_of-self-2 g c =
       sound = commit_sound m.tells (m.view s.media) (m.view c.commit_log.new.media) s.shape s.logs.items s.late s.is_dead s.sound c.in_ok-at.ensures.alive c.args.tid c.in_ok-at.ensures.live c.index.result.now there
           c.commit_log.new.late c.args.offset c.commit_log.result said.does (λ told. g.met.M.Media.long s.media told ∙ s.sound.sized) said.any_moment
           said.ready (λ told. when_ok c.commit_log.result fine (said.waiting told)) (λ told. once_held s.shape c.commit_log.new.late said.at_once (when_ok c.commit_log.result fine said.tied) (m.view c.commit_log.new.media).content.bytes)
-    (λ told. when_ok c.commit_log.result fine (said.committed told)) said.cells c.truncate.new.self c.truncate.ensures.kept (c.truncate.ensures.entries ∙ ap (λ (l : Log). take c.args.offset l.entries.items) same) c.in_ok-at.at c.in_ok-at.ensures.at
+          (λ told. when_ok c.commit_log.result fine (said.committed told)) said.cells c.truncate.new.self c.truncate.ensures.kept (c.truncate.ensures.entries ∙ ap (λ (l : Log). take c.args.offset l.entries.items) same) c.in_ok-at.at c.in_ok-at.ensures.at
           (record { tied = when_ok c.commit_log.result fine said.tied; before = λ t l got. once_before s.shape c.commit_log.new.late.queue said.at_once t l });
       at_once = c.commit_log.ensures.at_once;
     }

@@ -1,4 +1,4 @@
-use Rattle.std.proofs.Common.{◌≡◌, ℕ, List, length, min, take, false, sym, ◌∙◌, ap, subst, arith}
+use Rattle.std.proofs.Common.{◌≡◌, List, length, min, take, false, sym, ◌∙◌, subst, arith}
 use Rattle.std.proofs.lemmas.Result.{on_ok_weaker}
 use Rattle.row_bytes.specs.declared.ballot.Ballot.{Ballot}
 use Rattle.coordinator.specs.declared.cells.Cells.{Cells}
@@ -6,7 +6,6 @@ use Rattle.deferred_parts.specs.Shown.{entries_of}
 use Rattle.late_commits.specs.Orders.{due_for_place}
 use Rattle.late_data.specs.Tied.{AreTied, Forgets}
 use Rattle.late_data.proofs.Together.{committed, still_held}
-use Rattle.late_data.proofs.commits.LateData.commit.Given.{Over}
 use Rattle.late_data.proofs.commits.LateData.commit.Goals as goal
 
 pub returns-clause-stays : goal.returns-clause-stays

@@ -1,4 +1,4 @@
-use Rattle.std.proofs.Common.{List, length, take, ◌∙◌, ap, arith}
+use Rattle.std.proofs.Common.{List, length, take, ap, arith}
 use Rattle.std.proofs.lemmas.Result.{on_ok_weaker}
 use Rattle.row_bytes.specs.declared.ballot.Ballot.{Ballot}
 use Rattle.deferred_parts.specs.Shown.{entries_of}
