@@ -1,6 +1,6 @@
 -- A device of which some commits that wait are written back, and a command after that.
 use Rattle.std.proofs.Common.{◌≡◌, ℕ, ◌<◌, ◌≤◌, Bool, true, false, inl, inr, List, drop, length, Result, Ok, Err, refl, sym, ◌∙◌, ap, subst, arith}
-use Rattle.std.specs.Prelude.{IsTrue, Some, slice_get, slice_index}
+use Rattle.std.specs.Prelude.{IsTrue, Some, slice_get, slice_index, None}
 use Rattle.std.proofs.lemmas.Bool.{cases_Bool, false≢true}
 use Rattle.std.proofs.lemmas.Option.{slice_get_within}
 use Rattle.std.proofs.lemmas.Result.{on_ok_weaker}
@@ -19,7 +19,7 @@ use Rattle.late_data.proofs.Tying.{lacks_drop}
 use Rattle.eaw_face.specs.State.{State}
 use Rattle.eaw_face.specs.StoreView.{StoreView, LeavesOnly}
 use Rattle.eaw_face.specs.Command.{Command, after, ranges_after}
-use Rattle.eaw_face.specs.Causes.{Cause}
+use Rattle.eaw_face.specs.Causes.{Cause, IsAlive, known, room_for}
 use Rattle.eaw_face.specs.Does.{Does, IsEither}
 use Rattle.eaw_face.specs.declared.fault.EawFault.{EawFault}
 use Rattle.eaw_face.specs.declared.fault.EawFault.TheVariants.{Media}
@@ -32,6 +32,7 @@ use Rattle.coordinator.specs.declared.cells.Cells.{Cells}
 use Rattle.coordinator.specs.Commits.{cells_in}
 use Rattle.late_commits.specs.Waiting.{AreWaiting, data_with}
 use Rattle.eaw_device.proofs.Sure.{back_time, commit_sure}
+use Rattle.eaw_device.proofs.Doing.{failed}
 use Rattle.eaw_device.proofs.Tables.{held_kept, others_kept}
 
 -- a command after a quiet step is that command, where its cause stood before the step too
@@ -53,6 +54,12 @@ quiet_then tells Opens command old mid new x quiet r cause does = record {
       then (weaker (λ image opens. inl opens) (quiet.time told))
       (subst (λ (s : State). LeavesOnly (IsEither Opens s.bytes (after command s).bytes) mid new) (quiet.state told) (does.time told quiet.alive));
 }
+
+-- a command of which that step fails
+pub quiet_fails : {T : Type 0} (tells : Bool) (Opens : List ℕ → List ℕ → Type 0) (command : Command) (old new : StoreView) (fault : EawFault) → (let bad : Result (Unit {0}) EawFault = Err fault in IsQuiet tells Opens old new bad)
+    → IsAlive old → known old command None → room_for old command None → (let r : Result T EawFault = Err Media in Does tells Opens command old new r)
+quiet_fails {T} tells Opens command old new fault quiet alive knows room = failed tells Opens command old new quiet.shape quiet.later (λ told fine. weaker (λ image opens. inl opens) (quiet.time told)) {T = T}
+    alive knows room quiet.failed.2 quiet.failed.1 (λ u other. ap (λ ranges. ranges u) quiet.ranges)
 
 -- some commits are written back
 module _ (tells : Bool) (old new : View) (shape : Shape) (logs : List Log) (late late' : LateData) (is_dead : Bool) (sound : IsSound tells old shape logs late is_dead) (alive : is_dead ≡ false) {T E : Type 0} (some : ℕ) (r : Result T E)
