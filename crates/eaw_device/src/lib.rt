@@ -11,7 +11,6 @@ mod fault;
 mod fresh;
 mod log;
 mod opening;
-mod reading;
 mod staging;
 mod write_back;
 

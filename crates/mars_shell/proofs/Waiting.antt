@@ -1,6 +1,5 @@
 -- How many commits may wait for their write-back, by what words ask for.
 use Rattle.std.proofs.Common.{ℕ, List, Option, Some, None, arith}
-use Rattle.clap.specs.Words.{Text}
 use Rattle.command_words.specs.Asked.{GivesWriting, AsksFor}
 use Rattle.command_words.specs.declared.words.CallersNumbers.{CallersNumbers}
 use Rattle.command_words.specs.declared.words.DrillNumbers.{DrillNumbers}
@@ -10,7 +9,7 @@ use Rattle.command_words.specs.declared.words.Writing.TheVariants.{AtOnce, Late}
 use Rattle.command_words.specs.declared.words.Words.TheVariants.{Run, Callers, Drill}
 use Rattle.mars_shell.specs.Late.{HasDepth}
 
-given_depth : (first : Option Text) (writing : Writing) → GivesWriting first writing → HasDepth writing
+given_depth : (first : Option (List ℕ)) (writing : Writing) → GivesWriting first writing → HasDepth writing
 given_depth first AtOnce gives = tt
 given_depth None (Late depth) gives = absurd (cc gives)
 given_depth (Some value) (Late depth) gives = (omega (arith, gives.0), gives.1)

@@ -78,14 +78,8 @@ pub fn run<
         }
         Ok(Words::Eaw) => run_commands(rt.alloc(), source, sink, media),
         Ok(Words::Dump) => {
-            over_records(
-                rt.alloc(),
-                source,
-                sink,
-                media,
-                Writing::AtOnce,
-                &RecordDump,
-            )
+            let writing = Writing::AtOnce;
+            over_records(rt.alloc(), source, sink, media, writing, &RecordDump)
         }
         Ok(Words::Drill(numbers)) => {
             let work = DrawnScript { numbers };

@@ -13,6 +13,7 @@ use Rattle.mars_shell.specs.Run.{TakesTurns, Answers}
 use Rattle.mars_shell.specs.Served.{TakesTurnsFor}
 use Rattle.mars_shell.proofs.Completing.{words_say, callers_say, nothing_read, complete_of, complete_records}
 use Rattle.mars_shell.proofs.Outcomes.{turns_only, turns_spared}
+use Rattle.mars_shell.proofs.Waiting.{run_depth, callers_depth, drill_depth}
 use Rattle.mars_shell.proofs.whole.run.Goals as goal
 
 pub returns-in-Err-NoCommand-clause-words : goal.returns-in-Err-NoCommand-clause-words
@@ -290,3 +291,9 @@ returns-in-Ok-Format-clause-formats g c = words_say (map string_bytes c.args.wor
 
 pub returns-in-Ok-Format-clause-dumps : goal.returns-in-Ok-Format-clause-dumps
 returns-in-Ok-Format-clause-dumps g c = words_say (map string_bytes c.args.words.now) c.run_format.result.0 _ _ (Format c.in-Ok-Format.numbers) (no_usage c.in-Ok-Format.numbers _ c.run_format.result.0 _ _ c.run_format.ensures.says) (rw c.in-Ok-Format.field-0-is at c.in-Ok-Format.ensures.asked) (λ is. absurd (no_dump (Format c.in-Ok-Format.numbers) tt is))
+
+pub over_records-requires-clause-depth : goal.over_records-requires-clause-depth
+over_records-requires-clause-depth g c = λ κs lives. run_depth (map string_bytes c.args.words.now) c.in-Ok-Run.options (rw c.in-Ok-Run.field-0-is at c.in-Ok-Run.ensures.asked)
+
+pub run_callers-requires-clause-depth : goal.run_callers-requires-clause-depth
+run_callers-requires-clause-depth g c = λ κs lives. callers_depth (map string_bytes c.args.words.now) c.in-Ok-Callers.numbers (rw c.in-Ok-Callers.field-0-is at c.in-Ok-Callers.ensures.asked)
