@@ -1,17 +1,20 @@
 -- What the values of options say, and what the subcommand says.
-use Rattle.std.proofs.Common.{◌≡◌, ◌<◌, ◌≤◌, ◌^◌, ℕ, List, Option, Some, None, MatchOption, codes, false, option_map, sym, refl, ap, ap₂, ◌∙◌, arith, rules}
+use Rattle.std.proofs.Common.{◌≡◌, ◌<◌, ◌≤◌, ◌^◌, ℕ, List, Option, Some, None, MatchOption, codes, true, false, is_some, option_map, sym, refl, ap, ap₂, ◌∙◌, arith, rules}
 use Rattle.std.specs.Fmt.{decimal}
 use Rattle.std.specs.Str.{bytes_eq}
 use Rattle.std.proofs.lemmas.Slice.Eq.{bytes_eq-Decides}
 use Rattle.std.proofs.lemmas.Fmt.{decimal_injective}
-use Rattle.clap.specs.Words.{Text, Row, subcommand_rows_of}
+use Rattle.clap.specs.Words.{Text, Row, subcommand_rows_of, first_of}
 use Rattle.clap.specs.Matches.{subcommand_name_of}
 use Rattle.clap.specs.declared.parser.ArgMatches.{ArgMatches}
 use Rattle.texts.specs.Reads.{Reads}
-use Rattle.command_words.specs.Asked.{SubcommandAsks, GivesNumbers, GivesDrill, GivesCallers, IsNumber}
+use Rattle.command_words.specs.Asked.{SubcommandAsks, GivesRun, GivesNumbers, GivesDrill, GivesCallers, GivesWriting, IsNumber}
 use Rattle.command_words.specs.declared.words.CallersNumbers.{CallersNumbers}
 use Rattle.command_words.specs.declared.words.DrillNumbers.{DrillNumbers}
 use Rattle.command_words.specs.declared.words.FormatNumbers.{FormatNumbers}
+use Rattle.command_words.specs.declared.words.RunOptions.{RunOptions}
+use Rattle.command_words.specs.declared.words.Writing.{Writing}
+use Rattle.command_words.specs.declared.words.Writing.TheVariants.{AtOnce, Late}
 use Rattle.command_words.specs.declared.words.Words.{Words}
 use Rattle.command_words.specs.declared.words.Words.TheVariants.{Run, Callers, Eaw, Dump, Drill, Format}
 
@@ -61,7 +64,7 @@ one_met met name other options others is also =
 
 -- the name of the subcommand that asks for it
 abbrev name_of : Words → Text
-name_of Run = codes "run"
+name_of (Run given) = codes "run"
 name_of (Callers numbers) = codes "callers"
 name_of Eaw = codes "eaw"
 name_of Dump = codes "dump"
@@ -70,7 +73,7 @@ name_of (Format numbers) = codes "format"
 
 -- whoever says it has that name
 named : (name : Text) (options : List Row) (asked : Words) → SubcommandAsks name options asked → name ≡ name_of asked
-named name options Run says = says
+named name options (Run given) says = says.0
 named name options (Callers numbers) says = says.0
 named name options Eaw says = says
 named name options Dump says = says
@@ -78,6 +81,10 @@ named name options (Drill numbers) says = says.0
 named name options (Format numbers) says = says.0
 
 -- if the numbers are wrong, nothing is asked for
+pub no_run : (options : List Row) → ((given : RunOptions) → GivesRun options given → ⊥) → (asked : Words) → SubcommandAsks (codes "run") options asked → ⊥
+no_run options none (Run given) says = none given says.1
+no_run options none asked says = apart (codes "run") (name_of asked) refl (named (codes "run") options asked says)
+
 pub no_callers : (options : List Row) → ((numbers : CallersNumbers) → GivesCallers options numbers → ⊥) → (asked : Words) → SubcommandAsks (codes "callers") options asked → ⊥
 no_callers options none (Callers numbers) says = none numbers says.1
 no_callers options none asked says = apart (codes "callers") (name_of asked) refl (named (codes "callers") options asked says)
@@ -98,19 +105,31 @@ none_said m word name options is named has none other others asked met says =
     let said : SubcommandAsks word options asked = rw (same.0, same.1, is) at says in
     none asked said
 
+-- a value says one thing of when data is written
+pub one_writing : (first : Option Text) (writing other : Writing) → GivesWriting first writing → GivesWriting first other → writing ≡ other
+one_writing first AtOnce AtOnce is also = refl
+one_writing None AtOnce (Late depth) is also = absurd (some_is_none (sym also))
+one_writing None (Late depth) other is also = absurd (some_is_none (sym is))
+one_writing (Some value) AtOnce other is also = absurd (some_is_none is)
+one_writing (Some value) (Late depth) AtOnce is also = absurd (some_is_none also)
+one_writing (Some value) (Late depth) (Late more) is also = ap Late (one_number 1 64 None (Some value) depth more (omega arith) is also)
+
 -- numbers of the same options are the same
+one_run : (options : List Row) (given other : RunOptions) → GivesRun options given → GivesRun options other → given ≡ other
+one_run options given other is also = ap (λ w. record { writing = w }) (one_writing (first_of (codes "late") options) given.writing other.writing is.writing also.writing)
+
 one_callers : (options : List Row) (numbers other : CallersNumbers) → GivesCallers options numbers → GivesCallers options other → numbers ≡ other
-one_callers options numbers other are also = search (rules, one_number)
+one_callers options numbers other are also = search (rules, one_number, one_writing)
 
 one_drill : (values : List Row) (numbers other : DrillNumbers) → GivesDrill values numbers → GivesDrill values other → numbers ≡ other
-one_drill values numbers other are also = search (rules, one_number)
+one_drill values numbers other are also = search (rules, one_number, one_writing)
 
 one_format : (options : List Row) (numbers other : FormatNumbers) → GivesNumbers options numbers → GivesNumbers options other → numbers ≡ other
 one_format options numbers other are also = search (rules, one_number)
 
 -- a name and options say at most one thing
 pub one_asked : (name : Text) (options : List Row) (asked other : Words) → SubcommandAsks name options asked → SubcommandAsks name options other → asked ≡ other
-one_asked name options Run Run says also = refl
+one_asked name options (Run given) (Run other) says also = ap Run (one_run options given other says.1 also.1)
 one_asked name options (Callers numbers) (Callers other) says also = ap Callers (one_callers options numbers other says.1 also.1)
 one_asked name options Eaw Eaw says also = refl
 one_asked name options Dump Dump says also = refl
@@ -121,9 +140,23 @@ one_asked name options asked other says also = apart (name_of asked) (name_of ot
 -- a word that names no command asks for nothing
 pub none_other : (word : Text) → (word ≡ codes "run" → ⊥) → (word ≡ codes "callers" → ⊥) → (word ≡ codes "eaw" → ⊥) → (word ≡ codes "dump" → ⊥) → (word ≡ codes "drill" → ⊥)
     → (word ≡ codes "format" → ⊥) → (options : List Row) (asked : Words) → SubcommandAsks word options asked → ⊥
-none_other word run callers eaw dump drill format options Run says = run says
+none_other word run callers eaw dump drill format options (Run given) says = run says.0
 none_other word run callers eaw dump drill format options (Callers numbers) says = callers says.0
 none_other word run callers eaw dump drill format options Eaw says = eaw says
 none_other word run callers eaw dump drill format options Dump says = dump says
 none_other word run callers eaw dump drill format options (Drill numbers) says = drill says.0
 none_other word run callers eaw dump drill format options (Format numbers) says = format says.0
+
+-- whether there is a value, by its text
+pub no_text : {X Y : Type 0} (f : X → Y) (found : Option X) → is_some found ≡ false → option_map f found ≡ None
+no_text f None none = refl
+no_text f (Some x) none = absurd (cc none)
+
+pub some_text : {X Y : Type 0} (f : X → Y) (found : Option X) → is_some found ≡ true → option_map f found ≡ None → ⊥
+some_text f None some none = cc some
+some_text f (Some x) some none = cc none
+
+-- if a value spells no depth, the option says nothing
+pub no_writing : (first : Option Text) → (first ≡ None → ⊥) → ((n : ℕ) → IsNumber 1 64 None first n → ⊥) → (writing : Writing) → GivesWriting first writing → ⊥
+no_writing first some none AtOnce gives = some gives
+no_writing first some none (Late depth) gives = none depth gives

@@ -13,13 +13,15 @@ use Rattle.clap.specs.Faults.{turn_fault, walk_fault, step_fault, positional_fau
 use Rattle.clap.specs.Kinds.{Kinds, or_else}
 use Rattle.clap.specs.declared.error.ErrorKind.{ErrorKind}
 use Rattle.clap.specs.declared.error.ErrorKind.TheVariants as kind
-use Rattle.command_words.specs.Usual.{format_words, joined_words, AreSmall, drill_words, AreOfDrill, callers_words, tries_words, AreOfCallers}
+use Rattle.command_words.specs.Usual.{late_words, format_words, joined_words, AreSmall, drill_words, AreOfDrill, callers_words, tries_words, AreOfCallers}
 use Rattle.command_words.specs.declared.words.CallersNumbers.{CallersNumbers}
 use Rattle.command_words.specs.declared.words.DrillNumbers.{DrillNumbers}
 use Rattle.command_words.specs.declared.words.FormatNumbers.{FormatNumbers}
+use Rattle.command_words.specs.declared.words.Writing.{Writing}
+use Rattle.command_words.specs.declared.words.Writing.TheVariants.{AtOnce, Late}
 use Rattle.clap.proofs.OnLiterals.{clap_on_literals}
-use Rattle.command_words.specs.CommandLine.{command_line, format_shape, drill_shape, callers_shape, option_of}
-use Rattle.command_words.specs.Asked.{AsksFor, AskForNothing, IsNumber}
+use Rattle.command_words.specs.CommandLine.{command_line, run_shape, format_shape, drill_shape, callers_shape, option_of}
+use Rattle.command_words.specs.Asked.{AsksFor, AskForNothing, IsNumber, GivesWriting}
 use Rattle.command_words.specs.declared.words.Words.TheVariants.{Run, Callers, Eaw, Dump, Drill, Format}
 
 -- the word is not a flag
@@ -93,8 +95,8 @@ run_taken : IsTaken (codes "run" ∷ []) (codes "run") []
 unfolding clap_on_literals
 run_taken = (refl, refl)
 
-pub run_asks : AsksFor (codes "run" ∷ []) Run
-run_asks = (run_taken.0, codes "run", [], run_taken.1, refl)
+pub run_asks : AsksFor (codes "run" ∷ []) (Run (record { writing = AtOnce }))
+run_asks = (run_taken.0, codes "run", [], run_taken.1, (refl, record { writing = refl }))
 
 eaw_taken : IsTaken (codes "eaw" ∷ []) (codes "eaw") []
 unfolding clap_on_literals
@@ -264,6 +266,51 @@ joined_asks numbers small =
       ),
     )
 
+-- `run` as it is built, and its option
+abbrev run_built : Shape
+run_built = unwrap_or (slice_get (built command_line).subs 0) run_shape
+
+abbrev late_rule : Rule
+late_rule = unwrap_or (arg_by_id run_built.rules (codes "late")) (option_of (codes "late"))
+
+module _ (depth : Text) (plain : IsPlain depth) where
+  abbrev with_depth : Walk
+  with_depth = after_value (walked run_built.rules [] (walk_from nothing_held) (codes "--late")).held 1 (codes "late") late_rule depth
+
+  late_walk : walk run_built.rules [] nothing_held (codes "--late" ∷ depth ∷ []) ≡ with_depth
+  unfolding clap_on_literals
+  late_walk = value_walked run_built.rules [] (walked run_built.rules [] (walk_from nothing_held) (codes "--late")).held 1 (codes "late") late_rule depth refl plain
+
+  late_passes : walk_fault run_built [] (walk_from nothing_held) (codes "--late" ∷ depth ∷ []) ≡ []
+  unfolding clap_on_literals
+  late_passes = value_passes run_built [] (walked run_built.rules [] (walk_from nothing_held) (codes "--late")).held 1 (codes "late") late_rule depth refl plain []
+
+  late_taken : fault_of command_line (codes "run" ∷ codes "--late" ∷ depth ∷ []) ≡ []
+  unfolding clap_on_literals
+  late_taken = ap (λ k. or_else k []) (level_passes run_built (codes "--late" ∷ depth ∷ []) with_depth late_passes late_walk refl)
+
+  late_met : subcommand_of command_line (codes "run" ∷ codes "--late" ∷ depth ∷ []) ≡ Some (codes "run", finished run_built.rules with_depth.held)
+  unfolding clap_on_literals
+  late_met = ap (λ (w : Walk). Some (codes "run", finished run_built.rules w.held)) late_walk
+
+  late_value : first_of (codes "late") (finished run_built.rules with_depth.held) ≡ Some depth
+  unfolding clap_on_literals
+  late_value = refl
+
+pub late_asks : (depth : ℕ) → 1 ≤ depth → depth ≤ 64 → AsksFor (late_words depth) (Run (record { writing = Late depth }))
+late_asks depth some few =
+    let plain = plain_decimal depth (omega (arith, few)) in (
+      late_taken (decimal depth) plain,
+      codes "run",
+      _,
+      late_met (decimal depth) plain,
+      (refl, record { writing = given 1 64 depth None _ (late_value (decimal depth) plain) some few }),
+    )
+
+-- the option `late` is missing
+at_once : (first : Option Text) (writing : Writing) → writing ≡ AtOnce → first ≡ None → GivesWriting first writing
+at_once first writing is missing = rw is missing
+
 -- nothing waits for a value
 abbrev stands : Held → ℕ → Walk
 stands held position = record { held = held; waiting = idle; position = position; is_trailing = false; stopped = None }
@@ -326,8 +373,9 @@ module _ (seed count : Text) (plain_seed : IsPlain seed) (plain_count : IsPlain 
   drill_met = ap (λ (w : Walk). Some (codes "drill", finished drill_built.rules w.held)) drill_walk
 
   drill_values : (first_of (codes "seed") (finished drill_built.rules with_count.held) ≡ Some seed) × (first_of (codes "count") (finished drill_built.rules with_count.held) ≡ Some count)
+      × (first_of (codes "late") (finished drill_built.rules with_count.held) ≡ None)
   unfolding clap_on_literals
-  drill_values = (refl, refl)
+  drill_values = (refl, refl, refl)
 
 pub drill_asks : (numbers : DrillNumbers) → AreOfDrill numbers → AsksFor (drill_words numbers) (Drill numbers)
 drill_asks numbers are =
@@ -343,6 +391,7 @@ drill_asks numbers are =
         record {
           seed = given 0 2147483647 _ None _ found.0 (omega arith) are.seed;
           count = given 1 100000 _ None _ found.1 are.some are.few;
+          writing = at_once _ numbers.writing are.writing found.2;
         },
       ),
     )
@@ -375,8 +424,9 @@ module _ (callers : Text) (plain_callers : IsPlain callers) where
   callers_met = ap (λ (w : Walk). Some (codes "callers", finished callers_built.rules w.held)) callers_walk
 
   callers_values : (first_of (codes "callers") (finished callers_built.rules with_callers.held) ≡ Some callers) × (first_of (codes "tries") (finished callers_built.rules with_callers.held) ≡ None)
+      × (first_of (codes "late") (finished callers_built.rules with_callers.held) ≡ None)
   unfolding clap_on_literals
-  callers_values = (refl, refl)
+  callers_values = (refl, refl, refl)
 
   module _ (tries : Text) (plain_tries : IsPlain tries) where
     abbrev tries_option : List Text
@@ -404,8 +454,9 @@ module _ (callers : Text) (plain_callers : IsPlain callers) where
     tries_met = ap (λ (w : Walk). Some (codes "callers", finished callers_built.rules w.held)) tries_walk
 
     tries_values : (first_of (codes "callers") (finished callers_built.rules with_tries.held) ≡ Some callers) × (first_of (codes "tries") (finished callers_built.rules with_tries.held) ≡ Some tries)
+        × (first_of (codes "late") (finished callers_built.rules with_tries.held) ≡ None)
     unfolding clap_on_literals
-    tries_values = (refl, refl)
+    tries_values = (refl, refl, refl)
 
 left : (least most number : ℕ) (first : Option Text) → first ≡ None → IsNumber least most (Some number) first number
 left least most number first is = rw is refl
@@ -423,6 +474,7 @@ callers_asks numbers are default =
         record {
           callers = given 1 64 _ None _ found.0 are.some are.few;
           tries = rw default (left 1 1000000 100 _ found.1);
+          writing = at_once _ numbers.writing are.writing found.2;
         },
       ),
     )
@@ -441,6 +493,7 @@ tries_asks numbers are =
         record {
           callers = given 1 64 _ None _ found.0 are.some are.few;
           tries = given 1 1000000 _ _ _ found.1 are.once are.bounded;
+          writing = at_once _ numbers.writing are.writing found.2;
         },
       ),
     )

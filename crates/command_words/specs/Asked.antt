@@ -4,6 +4,9 @@ use Rattle.std.specs.Fmt.{decimal}
 use Rattle.clap.specs.Words.{Text, Row, fault_of, subcommand_of, first_of}
 use Rattle.command_words.specs.CommandLine.{command_line}
 use Rattle.command_words.specs.declared.words.FormatNumbers.{FormatNumbers}
+use Rattle.command_words.specs.declared.words.RunOptions.{RunOptions}
+use Rattle.command_words.specs.declared.words.Writing.{Writing}
+use Rattle.command_words.specs.declared.words.Writing.TheVariants.{AtOnce, Late}
 use Rattle.command_words.specs.declared.words.DrillNumbers.{DrillNumbers}
 use Rattle.command_words.specs.declared.words.CallersNumbers.{CallersNumbers}
 use Rattle.command_words.specs.declared.words.Words.{Words}
@@ -14,6 +17,15 @@ abbrev pub IsNumber : ℕ → ℕ → Option ℕ → Option Text → ℕ → Typ
 IsNumber least most default None number = default ≡ Some number
 IsNumber least most default (Some value) number = (least ≤ number) × (number ≤ most) × (value ≡ decimal number)
 
+-- what the value of the option `late` says of when data is written: late if it spells a number from 1 to 64, at once if it is missing
+abbrev pub GivesWriting : Option Text → Writing → Type 0
+GivesWriting first AtOnce = first ≡ None
+GivesWriting first (Late depth) = IsNumber 1 64 None first depth
+
+-- what the option of `run` gives
+pub record GivesRun (options : List Row) (given : RunOptions) : Type 0 where
+  pub writing : GivesWriting (first_of (codes "late") options) given.writing
+
 -- the numbers that the options of `format` give, and those of the default array for the options that are missing
 pub record GivesNumbers (options : List Row) (given : FormatNumbers) : Type 0 where
   pub loggers : IsNumber 0 65535 (Some 4) (first_of (codes "loggers") options) given.loggers
@@ -21,19 +33,21 @@ pub record GivesNumbers (options : List Row) (given : FormatNumbers) : Type 0 wh
   pub entries : IsNumber 0 65535 (Some 16) (first_of (codes "entries") options) given.entries
   pub pages : IsNumber 0 65535 (Some 64) (first_of (codes "pages") options) given.pages
 
--- the numbers that the two values of `drill` give
+-- what the two values and the option of `drill` give
 pub record GivesDrill (values : List Row) (given : DrillNumbers) : Type 0 where
   pub seed : IsNumber 0 2147483647 None (first_of (codes "seed") values) given.seed
   pub count : IsNumber 1 100000 None (first_of (codes "count") values) given.count
+  pub writing : GivesWriting (first_of (codes "late") values) given.writing
 
--- the numbers that the value and the option of `callers` give
+-- what the value and the options of `callers` give
 pub record GivesCallers (options : List Row) (given : CallersNumbers) : Type 0 where
   pub callers : IsNumber 1 64 None (first_of (codes "callers") options) given.callers
   pub tries : IsNumber 1 1000000 (Some 100) (first_of (codes "tries") options) given.tries
+  pub writing : GivesWriting (first_of (codes "late") options) given.writing
 
 -- the subcommand with this name and these options asks for this
 abbrev pub SubcommandAsks : Text → List Row → Words → Type 0
-SubcommandAsks name options Run = name ≡ codes "run"
+SubcommandAsks name options (Run given) = (name ≡ codes "run") × GivesRun options given
 SubcommandAsks name options (Callers numbers) = (name ≡ codes "callers") × GivesCallers options numbers
 SubcommandAsks name options Eaw = name ≡ codes "eaw"
 SubcommandAsks name options Dump = name ≡ codes "dump"

@@ -7,18 +7,22 @@ use Rattle.clap.specs.Simple.{new_shape}
 abbrev pub option_of : Text → Rule
 option_of name = record (new_rule name) { long = Some name }
 
+-- `run` with one option
+abbrev pub run_shape : Shape
+run_shape = record (new_shape (codes "run")) { rules = option_of (codes "late") ∷ [] }
+
 -- `format` with its four options
 abbrev pub format_shape : Shape
 format_shape =
     record (new_shape (codes "format")) { rules = map option_of (codes "loggers" ∷ codes "numbers" ∷ codes "entries" ∷ codes "pages" ∷ []) }
 
--- `drill` with two positional words
+-- `drill` with two positional words and one option
 abbrev pub drill_shape : Shape
-drill_shape = record (new_shape (codes "drill")) { rules = map new_rule (codes "seed" ∷ codes "count" ∷ []) }
+drill_shape = record (new_shape (codes "drill")) { rules = new_rule (codes "seed") ∷ new_rule (codes "count") ∷ option_of (codes "late") ∷ [] }
 
--- `callers` with one positional word and one option
+-- `callers` with one positional word and two options
 abbrev pub callers_shape : Shape
-callers_shape = record (new_shape (codes "callers")) { rules = new_rule (codes "callers") ∷ option_of (codes "tries") ∷ [] }
+callers_shape = record (new_shape (codes "callers")) { rules = new_rule (codes "callers") ∷ option_of (codes "tries") ∷ option_of (codes "late") ∷ [] }
 
 -- the program, which needs a subcommand
 abbrev pub mars_shape : Shape
@@ -28,5 +32,5 @@ mars_shape = record (new_shape (codes "mars")) { is_leaf = false; no_binary_name
 abbrev pub command_line : App
 command_line = record {
   top = record mars_shape { disable_help_flag = true; disable_help_subcommand = true };
-  subs = new_shape (codes "run") ∷ new_shape (codes "eaw") ∷ new_shape (codes "dump") ∷ format_shape ∷ drill_shape ∷ callers_shape ∷ [];
+  subs = run_shape ∷ new_shape (codes "eaw") ∷ new_shape (codes "dump") ∷ format_shape ∷ drill_shape ∷ callers_shape ∷ [];
 }

@@ -1,10 +1,15 @@
 -- Usual ways to write what is asked for.
-use Rattle.std.specs.Prelude.{◌<◌, ◌≤◌, ◌^◌, [], ◌∷◌, ◌++◌, List, codes}
+use Rattle.std.specs.Prelude.{ℕ, ◌≡◌, ◌<◌, ◌≤◌, ◌^◌, [], ◌∷◌, ◌++◌, List, codes}
 use Rattle.std.specs.Fmt.{decimal}
 use Rattle.clap.specs.Words.{Text}
 use Rattle.command_words.specs.declared.words.CallersNumbers.{CallersNumbers}
 use Rattle.command_words.specs.declared.words.DrillNumbers.{DrillNumbers}
 use Rattle.command_words.specs.declared.words.FormatNumbers.{FormatNumbers}
+use Rattle.command_words.specs.declared.words.Writing.TheVariants.{AtOnce}
+
+-- `run` with its option
+abbrev pub late_words : ℕ → List Text
+late_words depth = codes "run" ∷ codes "--late" ∷ decimal depth ∷ []
 
 -- `format` with each of its options as two words
 abbrev pub format_words : FormatNumbers → List Text
@@ -27,11 +32,12 @@ pub record AreSmall (numbers : FormatNumbers) : Type 0 where
 abbrev pub drill_words : DrillNumbers → List Text
 drill_words numbers = codes "drill" ∷ decimal numbers.seed ∷ decimal numbers.count ∷ []
 
--- the values are within their ranges
+-- the values are within their ranges, and data is written at once
 pub record AreOfDrill (numbers : DrillNumbers) : Type 0 where
   pub seed : numbers.seed ≤ 2147483647
   pub some : 1 ≤ numbers.count
   pub few : numbers.count ≤ 100000
+  pub writing : numbers.writing ≡ AtOnce
 
 -- `callers` with its value only
 abbrev pub callers_words : CallersNumbers → List Text
@@ -41,9 +47,10 @@ callers_words numbers = codes "callers" ∷ decimal numbers.callers ∷ []
 abbrev pub tries_words : CallersNumbers → List Text
 tries_words numbers = codes "callers" ∷ decimal numbers.callers ∷ codes "--tries" ∷ decimal numbers.tries ∷ []
 
--- the numbers are within their ranges
+-- the numbers are within their ranges, and data is written at once
 pub record AreOfCallers (numbers : CallersNumbers) : Type 0 where
   pub some : 1 ≤ numbers.callers
   pub few : numbers.callers ≤ 64
   pub once : 1 ≤ numbers.tries
   pub bounded : numbers.tries ≤ 1000000
+  pub writing : numbers.writing ≡ AtOnce

@@ -2,7 +2,7 @@
 ghost use Rattle.std.specs.Prelude.{◌≡◌, IfOk, false};
 ghost use Rattle.clap.specs.Words.{app_of, shape_of, rule_of};
 ghost use Rattle.clap.specs.declared.builder.Command.TheViews.{out-Command};
-ghost use Rattle.command_words.specs.CommandLine.{command_line, format_shape, drill_shape, callers_shape, option_of};
+ghost use Rattle.command_words.specs.CommandLine.{command_line, run_shape, format_shape, drill_shape, callers_shape, option_of};
 
 use clap::{Arg, Command};
 use std::alloc::{AllocError, Global};
@@ -16,12 +16,19 @@ pub fn command_line<'a>(alloc: Global) -> Result<Command<'a>, AllocError>
         .disable_help_flag(true)
         .disable_help_subcommand(true)
         .subcommand_required(true)
-        .subcommand(Command::new(alloc, "run"))?
+        .subcommand(run_command(alloc)?)?
         .subcommand(Command::new(alloc, "eaw"))?
         .subcommand(Command::new(alloc, "dump"))?
         .subcommand(format_command(alloc)?)?
         .subcommand(drill_command(alloc)?)?
         .subcommand(callers_command(alloc)?)
+}
+
+fn run_command<'a>(alloc: Global) -> Result<Command<'a>, AllocError>
+    ensures shape { IfOk result (λ command. shape_of command ≡ run_shape) }
+    ensures local { IfOk result (λ command. (out-Command command).has_globals ≡ false) }
+{
+    Command::new(alloc, "run").arg(option(alloc, "late"))
 }
 
 fn format_command<'a>(alloc: Global) -> Result<Command<'a>, AllocError>
@@ -41,7 +48,8 @@ fn drill_command<'a>(alloc: Global) -> Result<Command<'a>, AllocError>
 {
     Command::new(alloc, "drill")
         .arg(Arg::new(alloc, "seed"))?
-        .arg(Arg::new(alloc, "count"))
+        .arg(Arg::new(alloc, "count"))?
+        .arg(option(alloc, "late"))
 }
 
 fn callers_command<'a>(alloc: Global) -> Result<Command<'a>, AllocError>
@@ -50,7 +58,8 @@ fn callers_command<'a>(alloc: Global) -> Result<Command<'a>, AllocError>
 {
     Command::new(alloc, "callers")
         .arg(Arg::new(alloc, "callers"))?
-        .arg(option(alloc, "tries"))
+        .arg(option(alloc, "tries"))?
+        .arg(option(alloc, "late"))
 }
 
 // An option with one value.

@@ -1,12 +1,13 @@
 // Laws of the words.
-ghost use Rattle.std.specs.Prelude.{◌≡◌, List, [], ◌∷◌, codes};
+ghost use Rattle.std.specs.Prelude.{ℕ, ◌≡◌, ◌≤◌, List, [], ◌∷◌, codes};
 ghost use Rattle.clap.specs.Words.{Text};
 ghost use Rattle.command_words.specs.declared.words.Words.{Words};
 ghost use Rattle.command_words.specs.declared.words.CallersNumbers.{CallersNumbers};
 ghost use Rattle.command_words.specs.declared.words.DrillNumbers.{DrillNumbers};
 ghost use Rattle.command_words.specs.declared.words.FormatNumbers.{FormatNumbers};
+ghost use Rattle.command_words.specs.declared.words.Writing.TheVariants.{AtOnce, Late};
 ghost use Rattle.command_words.specs.Asked.{AsksFor, AskForNothing};
-ghost use Rattle.command_words.specs.Usual.{format_words, joined_words, AreSmall, drill_words, AreOfDrill, callers_words, tries_words, AreOfCallers};
+ghost use Rattle.command_words.specs.Usual.{late_words, format_words, joined_words, AreSmall, drill_words, AreOfDrill, callers_words, tries_words, AreOfCallers};
 
 /// Words ask for at most one thing.
 pub fn one_command()
@@ -15,7 +16,8 @@ pub fn one_command()
 
 /// What usual words ask for. No words, and requests for help or the version, ask for nothing.
 pub fn usual_words()
-    ensures run { AsksFor (codes "run" ∷ []) Words.Run }
+    ensures run { AsksFor (codes "run" ∷ []) (Words.Run (record { writing = AtOnce })) }
+    ensures late { (depth : ℕ) → 1 ≤ depth → depth ≤ 64 → AsksFor (late_words depth) (Words.Run (record { writing = Late depth })) }
     ensures callers { (numbers : CallersNumbers) → AreOfCallers numbers → numbers.tries ≡ 100 → AsksFor (callers_words numbers) (Words.Callers numbers) }
     ensures tries { (numbers : CallersNumbers) → AreOfCallers numbers → AsksFor (tries_words numbers) (Words.Callers numbers) }
     ensures eaw { AsksFor (codes "eaw" ∷ []) Words.Eaw }

@@ -10,4 +10,6 @@ mod number;
 mod words;
 
 pub use laws::{one_command, usual_words};
-pub use words::{CallersNumbers, DrillNumbers, FormatNumbers, Words, WordsFault, read_words};
+pub use words::{
+    CallersNumbers, DrillNumbers, FormatNumbers, RunOptions, Words, WordsFault, Writing, read_words,
+};

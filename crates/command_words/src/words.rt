@@ -1,6 +1,6 @@
-ghost use Rattle.std.specs.Prelude.{◌≡◌, ℕ, List, Some, map, string_bytes, MatchOption, IfOk, IfErr};
+ghost use Rattle.std.specs.Prelude.{◌≡◌, ℕ, List, Some, map, codes, string_bytes, MatchOption, IfOk, IfErr};
 ghost use Rattle.clap.specs.Words.{Text, Row, found_of, rows_of, first_of, subcommand_rows_of};
-ghost use Rattle.command_words.specs.Asked.{AsksFor, AskForNothing, SubcommandAsks, GivesNumbers, GivesDrill, GivesCallers, IsNumber};
+ghost use Rattle.command_words.specs.Asked.{AsksFor, AskForNothing, SubcommandAsks, GivesRun, GivesNumbers, GivesDrill, GivesCallers, GivesWriting, IsNumber};
 
 use crate::command_line::command_line;
 use crate::number::read_within;
@@ -14,7 +14,7 @@ use thiserror::Error;
 #[derive(Clone, Copy, Debug, PartialEq, Eq)]
 pub enum Words {
     /// To answer the lines of callers by turns.
-    Run,
+    Run(RunOptions),
     /// To make callers' transactions on threads, and to write what came of them.
     Callers(CallersNumbers),
     /// To answer raw commands.
@@ -25,6 +25,21 @@ pub enum Words {
     Drill(DrillNumbers),
     /// To make an array of these numbers, whatever was there before.
     Format(FormatNumbers),
+}
+
+/// How callers by turns are answered.
+#[derive(Clone, Copy, Debug, PartialEq, Eq)]
+pub struct RunOptions {
+    pub writing: Writing,
+}
+
+/// When the data of a commit is written to its place.
+#[derive(Clone, Copy, Debug, PartialEq, Eq)]
+pub enum Writing {
+    /// Before the commit is answered.
+    AtOnce,
+    /// Later. At most so many commits wait for it, 1 to 64.
+    Late(u8),
 }
 
 /// The numbers of an array as they are asked for, whether in range or not.
@@ -47,6 +62,7 @@ pub struct DrillNumbers {
     pub seed: u32,
     /// Transactions, 1 to 100,000.
     pub count: u32,
+    pub writing: Writing,
 }
 
 /// How many callers work on threads, and how often they try.
@@ -56,6 +72,7 @@ pub struct CallersNumbers {
     pub callers: u8,
     /// How often a transaction that finds a key locked is tried, 1 to 1,000,000.
     pub tries: u32,
+    pub writing: Writing,
 }
 
 const SHORT_MOST: u32 = 65_535;
@@ -70,6 +87,8 @@ const TRIES_MOST: u32 = 1_000_000;
 
 const TRIES_DEFAULT: u32 = 100;
 
+const DEPTH_MOST: u32 = 64;
+
 /// Why words could not be read.
 #[derive(Clone, Copy, Debug, PartialEq, Eq, Error)]
 pub enum WordsFault {
@@ -81,7 +100,8 @@ pub enum WordsFault {
 }
 
 /// Reads the words after the image's: `run`, `eaw`, `dump`, `callers` with a number and the option `tries`, `drill` with a seed and a
-/// count, or `format` with its options in any order. Each option is given at most once.
+/// count, or `format` with its options in any order. `run`, `callers` and `drill` have the option `late` too. Each option is given at
+/// most once.
 pub fn read_words(alloc: Global, words: &[String]) -> Result<Words, WordsFault>
     ensures asked { IfOk result (AsksFor (map string_bytes words.now)) }
     ensures refused { IfErr result (λ fault. fault ≡ WordsFault.NoCommand → AskForNothing (map string_bytes words.now)) }
@@ -108,7 +128,10 @@ fn asked(matches: &ArgMatches<'_>) -> Option<Words>
 {
     let (name, options) = matches.subcommand()?;
     match name {
-        "run" => Some(Words::Run),
+        "run" => {
+            let writing = read_writing(options)?;
+            Some(Words::Run(RunOptions { writing }))
+        }
         "callers" => {
             let numbers = read_callers(options)?;
             Some(Words::Callers(numbers))
@@ -152,7 +175,12 @@ fn read_drill(values: &ArgMatches<'_>) -> Option<DrillNumbers>
 {
     let seed = number_of(values, "seed", 0, SEED_MOST, None)?;
     let count = number_of(values, "count", 1, COUNT_MOST, None)?;
-    Some(DrillNumbers { seed, count })
+    let writing = read_writing(values)?;
+    Some(DrillNumbers {
+        seed,
+        count,
+        writing,
+    })
 }
 
 // The numbers of `callers`.
@@ -162,10 +190,24 @@ fn read_callers(options: &ArgMatches<'_>) -> Option<CallersNumbers>
 {
     let callers = number_of(options, "callers", 1, CALLERS_MOST, None)?;
     let tries = number_of(options, "tries", 1, TRIES_MOST, Some(TRIES_DEFAULT))?;
+    let writing = read_writing(options)?;
     Some(CallersNumbers {
         callers: callers as u8,
         tries,
+        writing,
     })
+}
+
+// When data is written, by the option `late`.
+fn read_writing(options: &ArgMatches<'_>) -> Option<Writing>
+    ensures { MatchOption result ((writing : Writing) → GivesWriting (first_of (codes "late") (rows_of (found_of options.now))) writing → ⊥)
+        (GivesWriting (first_of (codes "late") (rows_of (found_of options.now)))) }
+{
+    if options.get_str("late").is_none() {
+        return Some(Writing::AtOnce);
+    }
+    let depth = number_of(options, "late", 1, DEPTH_MOST, None)?;
+    Some(Writing::Late(depth as u8))
 }
 
 // The number of an option of `format`, or the default if it is not given.

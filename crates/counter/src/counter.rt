@@ -1,5 +1,5 @@
 // A counter over the data of an array.
-ghost use Rattle.std.specs.Prelude.{◌≡◌, ◌+◌, IfOk, IfErr, OnOk, IsTrue};
+ghost use Rattle.std.specs.Prelude.{◌≡◌, ◌+◌, false, IfOk, IfErr, OnOk, IsTrue};
 ghost use Rattle.eaw_face.specs.Causes.{IsAlive};
 ghost use Rattle.eaw_face.specs.Does.{IsEither};
 ghost use Rattle.eaw_face.specs.StoreView.{LeavesOnly};
@@ -66,7 +66,7 @@ impl<M: Media> Counter<Eaw<M>> {
 
     /// The medium below.
     pub fn into_media(self) -> M
-        ensures { IsBehind M.tells (⟦<Eaw<M> as EawStore>⟧.view self) (M.view result) }
+        ensures { IsBehind M.tells false (⟦<Eaw<M> as EawStore>⟧.view self) (M.view result) }
     {
         let Counter { store } = self;
         store.into_media()

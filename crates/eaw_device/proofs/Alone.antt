@@ -19,7 +19,8 @@ use Rattle.coordinator.specs.declared.cells.Cells.{Cells}
 use Rattle.coordinator.specs.Commits.{cells_in, takes_part}
 use Rattle.eaw_face.specs.State.{count_on}
 use Rattle.eaw_device.specs.declared.log.Log.{Log}
-use Rattle.eaw_device.specs.Logs.{ranges_in, parts_in, cells_on, IsKept, IsHeld}
+use Rattle.eaw_device.specs.Logs.{IsKept, IsHeld}
+use Rattle.deferred_parts.specs.Entries.{ranges_in, parts_in, cells_on}
 use Rattle.eaw_device.specs.Costs.{loggers_with, commit_cost}
 use Rattle.eaw_device.specs.Groups.{cell_parts, group_parts, HaveCells, HaveParts, group_rows, group_count, group_calls}
 use Rattle.eaw_device.proofs.Costing.{behind, ranges_counted}

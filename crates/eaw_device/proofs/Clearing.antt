@@ -11,10 +11,15 @@ use Rattle.array_shape.specs.Logged.{ranges_of}
 use Rattle.array_image.specs.Image.{cell_of}
 use Rattle.array_image.specs.Standing.{SameCells}
 use Rattle.eaw_face.specs.State.{is_one_of, with_each}
-use Rattle.eaw_device.specs.declared.log.Entry.{Entry}
+use Rattle.deferred_parts.specs.declared.entry.Entry.{Entry}
 use Rattle.eaw_device.specs.declared.log.Log.{Log}
-use Rattle.eaw_device.specs.Logs.{ranges_in, parts_in, cells_on, IsKept, IsHeld, IsCleared, entries_of, entries_at, ranges_logged, parts_logged}
-use Rattle.eaw_device.specs.Sound.{IsSure, IsSound}
+use Rattle.late_data.specs.declared.commits.LateData.{LateData}
+use Rattle.eaw_device.specs.Logs.{IsKept, IsHeld, IsCleared, entries_of, entries_at, ranges_logged, parts_logged}
+use Rattle.deferred_parts.specs.Entries.{ranges_in, parts_in, cells_on}
+use Rattle.deferred_parts.specs.Entries.{AreHeld}
+use Rattle.deferred_parts.specs.Shown.{entries_of as kept_entries}
+use Rattle.late_data.specs.Tied.{IsReady}
+use Rattle.eaw_device.specs.Sound.{IsInOrder, IsSure, IsSound}
 use Rattle.eaw_device.proofs.Keeping.{length-cells_on_kept}
 use Rattle.eaw_device.proofs.Tables.{found_log, slice_get-set_same, slice_get-set_other, entries_free, others_kept, held_kept}
 
@@ -93,7 +98,7 @@ cleared_held shape image t log kept cleared = record {
 }
 
 -- The numbers of a group are free now, and the medium's cells are as they were.
-module _ (tells : Bool) (old new : View) (shape : Shape) (logs now : List Log) (is_dead : Bool) (sound : IsSound tells old shape logs is_dead) (ts : List ℕ) (size : new.size ≡ old.size) (cells : IsTrue tells → SameCells shape old.content.bytes new.content.bytes)
+module _ (tells : Bool) (old new : View) (shape : Shape) (logs now : List Log) (late late' : LateData) (is_dead : Bool) (sound : IsSound tells old shape logs late is_dead) (ts : List ℕ) (size : new.size ≡ old.size) (cells : IsTrue tells → SameCells shape old.content.bytes new.content.bytes)
     (many : length now ≡ length logs) (kept : (t : ℕ) → ForSome (slice_get now t) (IsKept shape)) (freed : (t : ℕ) → is_one_of ts t ≡ true → ForSome (slice_get now t) IsCleared) (others : (t : ℕ) → is_one_of ts t ≡ false → slice_get now t ≡ slice_get logs t) where
   same : IsTrue tells → (u : ℕ) (l : Log) → slice_get logs u ≡ Some l → (g e : ℕ) → g < shape.loggers → e < slice_index l.held g → cell_of shape new.content.bytes g u e ≡ cell_of shape old.content.bytes g u e
   same told u l is g e lt below =
@@ -101,14 +106,17 @@ module _ (tells : Bool) (old new : View) (shape : Shape) (logs now : List Log) (
       let small = slice_get_within logs u l is in
       cells told g u e lt (omega (arith, sound.many)) (omega arith)
 
-  pub group_sound : (IsTrue tells → is_dead ≡ false → IsSure shape new.content) → IsSound tells new shape now is_dead
-  group_sound sure = record {
+  pub group_sound : IsReady shape late' → (is_dead ≡ false → IsInOrder shape late' now) → (IsTrue tells → is_dead ≡ false → IsSure shape late'.queue new.content) → (IsTrue tells → is_dead ≡ false → AreHeld shape new.content.bytes (kept_entries late'.parts)) → IsSound tells new shape now late' is_dead
+  group_sound ready in_order sure shown = record {
     shaped = sound.shaped;
     sized = size ∙ sound.sized;
     many = many ∙ sound.many;
     kept = kept;
+    ready = ready;
+    in_order = in_order;
     told = λ told alive. record {
       sure = sure told alive;
+      shown = shown told alive;
       held = λ t log got. elim (cases_Bool (is_one_of ts t)) [
         | inl so ↦ cleared_held shape new.content.bytes t log (kept t log got) (freed t so log got)
         | inr away ↦

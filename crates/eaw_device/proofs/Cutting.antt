@@ -9,14 +9,20 @@ use Rattle.array_shape.specs.Logged.{Part, ranges_of}
 use Rattle.array_image.specs.Image.{cell_of}
 use Rattle.array_image.specs.Standing.{SameCells}
 use Rattle.eaw_face.specs.State.{listed, with_log}
-use Rattle.eaw_device.specs.declared.log.Entry.{Entry}
+use Rattle.deferred_parts.specs.declared.entry.Entry.{Entry}
 use Rattle.eaw_device.specs.declared.log.Log.{Log}
-use Rattle.eaw_device.specs.Logs.{ranges_in, parts_in, cells_on, IsKept, IsHeld, entries_at}
-use Rattle.eaw_device.specs.Sound.{IsSure, IsSound}
+use Rattle.late_commits.specs.declared.queue.LateCommits.{LateCommits}
+use Rattle.late_data.specs.declared.commits.LateData.{LateData}
+use Rattle.eaw_device.specs.Logs.{IsKept, IsHeld, entries_at}
+use Rattle.deferred_parts.specs.Entries.{ranges_in, parts_in, cells_on}
+use Rattle.deferred_parts.specs.Entries.{AreHeld}
+use Rattle.deferred_parts.specs.Shown.{entries_of as kept_entries}
+use Rattle.late_data.specs.Tied.{IsReady}
+use Rattle.eaw_device.specs.Sound.{IsBefore, IsInOrder, IsSure, IsSound}
 use Rattle.eaw_device.proofs.Entries.{ranges_in-take}
 use Rattle.eaw_device.proofs.Keeping.{length-cells_on_kept, first_few}
 use Rattle.eaw_device.proofs.LogParts.{parts_in-take, ranges_of-take}
-use Rattle.eaw_device.proofs.Tables.{entries_live, entries_free, ranges_there, parts_there, ranges_set, parts_set, parts_kept, held_kept, others_kept, sound_set}
+use Rattle.eaw_device.proofs.Tables.{each_set, entries_live, entries_free, ranges_there, parts_there, ranges_set, parts_set, parts_kept, held_kept, others_kept, sound_set}
 use Rattle.eaw_device.proofs.Doing.{Found}
 
 -- the first entries of a log are held in its cells
@@ -30,7 +36,22 @@ held_first shape image t n log now kept kept' items held = record {
       ∙ ap (take n) held.heads ∙ sym (ranges_in-take n log.entries.items) ∙ ap ranges_in (sym items);
 }
 
-module _ (tells : Bool) (old new : View) (shape : Shape) (logs : List Log) (is_dead : Bool) (sound : IsSound tells old shape logs is_dead) (t : ℕ) (log : Log) (found : Found tells old shape logs is_dead t log)
+-- a cut log holds no more cells than it did
+pub before_first : (shape : Shape) (queue : LateCommits) (t n : ℕ) (log now : Log) → IsKept shape log → IsKept shape now → now.entries.items ≡ take n log.entries.items → IsBefore shape queue t log → IsBefore shape queue t now
+before_first shape queue t n log now kept kept' items before so g lt =
+    let count = length-cells_on_kept shape now g kept' lt in
+    let same = ap (λ (es : List Entry). length (cells_on shape g es)) items in
+    let few = first_few shape n log.entries.items log.held kept.cells g lt in
+    omega (arith, before so g lt, count, same, few)
+
+-- one log is cut, and the queue stays
+pub order_first : (shape : Shape) (late : LateData) (logs : List Log) (t n : ℕ) (log now : Log) → slice_get logs t ≡ Some log → t < length logs → IsKept shape log → IsKept shape now → now.entries.items ≡ take n log.entries.items → IsInOrder shape late logs → IsInOrder shape late (slice_set logs t now)
+order_first shape late logs t n log now there lt kept kept' items order = record {
+  tied = order.tied;
+  before = each_set logs t now lt (IsBefore shape late.queue) (before_first shape late.queue t n log now kept kept' items (order.before t log there)) (λ u ne. order.before u);
+}
+
+module _ (tells : Bool) (old new : View) (shape : Shape) (logs : List Log) (late late' : LateData) (is_dead : Bool) (sound : IsSound tells old shape logs late is_dead) (t : ℕ) (log : Log) (found : Found tells old shape logs late is_dead t log)
     (size : new.size ≡ old.size) (cells : IsTrue tells → SameCells shape old.content.bytes new.content.bytes) (now : Log) (kept : IsKept shape now) (n : ℕ) (items : now.entries.items ≡ take n log.entries.items) where
   same : IsTrue tells → (u : ℕ) (l : Log) → slice_get logs u ≡ Some l → (g e : ℕ) → g < shape.loggers → e < slice_index l.held g → cell_of shape new.content.bytes g u e ≡ cell_of shape old.content.bytes g u e
   same told u l is g e lt below =
@@ -38,8 +59,9 @@ module _ (tells : Bool) (old new : View) (shape : Shape) (logs : List Log) (is_d
       let small = slice_get_within logs u l is in
       cells told g u e lt (omega (arith, sound.many)) (omega arith)
 
-  pub cut_sound : (IsTrue tells → is_dead ≡ false → IsSure shape new.content) → IsSound tells new shape (slice_set logs t now) is_dead
-  cut_sound sure = sound_set tells old new shape logs is_dead sound size t now found.below kept sure
+  pub cut_sound : IsReady shape late' → (is_dead ≡ false → IsInOrder shape late' (slice_set logs t now)) → (IsTrue tells → is_dead ≡ false → IsSure shape late'.queue new.content) → (IsTrue tells → is_dead ≡ false → AreHeld shape new.content.bytes (kept_entries late'.parts))
+      → IsSound tells new shape (slice_set logs t now) late' is_dead
+  cut_sound ready in_order sure shown = sound_set tells old new shape logs late late' is_dead sound size t now found.below kept ready in_order sure shown
       (λ told alive. held_first shape new.content.bytes t n log now found.kept kept items (held_kept shape old.content.bytes new.content.bytes t log found.kept (same told t log found.there) (found.held told)))
       (λ told alive u ne l is. held_kept shape old.content.bytes new.content.bytes u l (sound.kept u l is) (same told u l is) ((found.told told).held u l is))
 

@@ -15,6 +15,7 @@ use Rattle.eaw_face.specs.Does.{Becomes, IsEither, Does}
 use Rattle.eaw_face.specs.declared.fault.EawFault.{EawFault}
 use Rattle.eaw_face.specs.declared.fault.EawFault.TheVariants.{UnknownTid, LogFull, Media, Dead}
 use Rattle.eaw_device.specs.declared.log.Log.{Log}
+use Rattle.late_data.specs.declared.commits.LateData.{LateData}
 use Rattle.eaw_device.specs.Logs.{IsKept, IsHeld}
 use Rattle.eaw_device.specs.Sound.{IsSound, IsTold, LacksLog, LacksGroup, view_of}
 use Rattle.eaw_device.proofs.Tables.{found_log, live_there}
@@ -84,18 +85,18 @@ when_err (Ok x) broke p = absurd (false≢true broke)
 when_err (Err e) broke p = p
 
 -- the log of a live number, as it was found
-pub record Found (tells : Bool) (media : View) (shape : Shape) (logs : List Log) (is_dead : Bool) (t : ℕ) (log : Log) : Type 0 where
+pub record Found (tells : Bool) (media : View) (shape : Shape) (logs : List Log) (late : LateData) (is_dead : Bool) (t : ℕ) (log : Log) : Type 0 where
   pub small : t < shape.numbers
   pub below : t < length logs
   pub there : slice_get logs t ≡ Some log
   pub kept : IsKept shape log
   pub live : log.is_live ≡ true
-  pub told : IsTrue tells → IsTold shape media.content logs
+  pub told : IsTrue tells → IsTold shape late media.content logs
   pub held : IsTrue tells → IsHeld shape media.content.bytes t log
 
-pub found : (tells : Bool) (media : View) (shape : Shape) (logs : List Log) (is_dead : Bool) → IsSound tells media shape logs is_dead → is_dead ≡ false → (t at : ℕ) (log : Log) → at ≡ t → IsLive (view_of media shape logs is_dead) t
-    → log ≡ get_or logs at log → Found tells media shape logs is_dead t log
-found tells media shape logs is_dead sound alive t at log is live got =
+pub found : (tells : Bool) (media : View) (shape : Shape) (logs : List Log) (late : LateData) (is_dead : Bool) → IsSound tells media shape logs late is_dead → is_dead ≡ false → (t at : ℕ) (log : Log) → at ≡ t → IsLive (view_of media shape logs late is_dead) t
+    → log ≡ get_or logs at log → Found tells media shape logs late is_dead t log
+found tells media shape logs late is_dead sound alive t at log is live got =
     let below : t < length logs = omega (arith, live.small, sound.many) in
     let there = found_log logs at t log is below got in
     record {

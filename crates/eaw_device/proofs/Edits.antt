@@ -1,9 +1,9 @@
 -- Bytes replaced within a logged part.
-use Rattle.std.proofs.Common.{◌≡◌, ◌≢◌, ℕ, zero, suc, ◌+◌, ◌<◌, ◌≤◌, Bool, true, false, cond, inl, inr, List, [], ◌∷◌, length, get_or, take, drop, Result, Ok, Err, refl, sym, ◌∙◌, ap, subst, arith}
+use Rattle.std.proofs.Common.{◌≡◌, ◌≢◌, ℕ, zero, suc, ◌+◌, ◌<◌, ◌≤◌, Bool, true, false, cond, ◌||◌, inl, inr, List, [], ◌∷◌, length, get_or, take, drop, Result, Ok, Err, refl, sym, ◌∙◌, ap, subst, arith}
 use Rattle.std.specs.Prelude.{IsTrue, slice_get, slice_index, Some}
 use Rattle.std.specs.Option.{option_map}
 use Rattle.std.specs.List.{range_with_len}
-use Rattle.std.proofs.lemmas.Bool.{cases_lt, cases_eq, eq-eqb, ne_eqb}
+use Rattle.std.proofs.lemmas.Bool.{and_parts, cases_lt, cases_eq, eq-eqb, ne_eqb}
 use Rattle.std.proofs.lemmas.List.{ext_get_or, get_or-take, get_or-drop, length-take, length-take-le, length-drop, take_min}
 use Rattle.std.proofs.lemmas.Option.{slice_get_within}
 use Rattle.mars_base.specs.Causes.{Rose}
@@ -14,27 +14,37 @@ use Rattle.array_shape.specs.declared.shape.Shape.{Shape}
 use Rattle.array_shape.specs.Places.{media_len, cell_at, logger_of, IsShape}
 use Rattle.row_bytes.proofs.Saying.{head_said-same}
 use Rattle.array_shape.specs.Logged.{Part, ranges_of, IsOwned}
-use Rattle.array_image.specs.Image.{cell_of, cell_head, cell_part, data_of, IsGoodCell}
+use Rattle.array_image.specs.Image.{cell_of, cell_head, cell_part, IsGoodCell}
 use Rattle.array_image.proofs.Places.{cell_fits_in}
 use Rattle.array_image.proofs.Rows.{cell_away, length-cell}
 use Rattle.array_image.proofs.Frames.{AllWithin}
-use Rattle.eaw_device.proofs.Cells.{AreInCells, staged_data}
+use Rattle.eaw_device.proofs.Cells.{AreInCells}
 use Rattle.eaw_face.specs.State.{listed, with_log, edited, range_at, part_at}
 use Rattle.eaw_face.specs.StoreView.{IsLive}
 use Rattle.eaw_face.specs.Command.{log_edit}
 use Rattle.eaw_face.specs.Does as face
 use Rattle.eaw_face.specs.declared.fault.EawFault.{EawFault}
 use Rattle.eaw_face.specs.declared.fault.EawFault.TheVariants.{Media}
-use Rattle.eaw_device.specs.declared.log.Entry.{Entry}
+use Rattle.deferred_parts.specs.declared.entry.Entry.{Entry}
 use Rattle.eaw_device.specs.declared.log.Log.{Log}
+use Rattle.late_data.specs.declared.commits.LateData.{LateData}
 use Rattle.eaw_device.specs.Opens.{Opens}
-use Rattle.eaw_device.specs.Logs.{parts_in, cells_on, IsHeld, entries_at}
-use Rattle.eaw_device.specs.Sound.{IsSound, view_of}
+use Rattle.eaw_device.specs.Logs.{IsHeld, entries_at}
+use Rattle.deferred_parts.specs.Entries.{parts_in, cells_on}
+use Rattle.eaw_device.specs.Laws.{alive_shown}
+use Rattle.array_shape.specs.NumberSet.{has}
+use Rattle.row_bytes.specs.declared.ballot.Ballot.{Ballot}
+use Rattle.coordinator.specs.Commits.{cells_in}
+use Rattle.deferred_parts.specs.Turns.{has_some}
+use Rattle.late_data.specs.Spared.{AreSpared}
+use Rattle.late_data.proofs.Sparing.{late_held}
+use Rattle.late_data.proofs.Tying.{or_also}
+use Rattle.eaw_device.specs.Sound.{IsSound, shown, view_of}
 use Rattle.eaw_device.proofs.Entries.{cells_on_here, cells_on_past}
 use Rattle.eaw_device.proofs.LogParts.{firsts_same, rests_same, part_in, EachCell, EachIn, each_number, each_cell, each_held, parts_in_same}
 use Rattle.eaw_device.proofs.Staged.{cells_apart}
 use Rattle.eaw_device.proofs.Tables.{entries_there, entries_live, parts_there, held_kept, others_kept, sound_media}
-use Rattle.eaw_device.proofs.Sure.{cells_sure, cells_time}
+use Rattle.eaw_device.proofs.Sure.{cells_data, cells_sure, cells_time}
 use Rattle.eaw_device.proofs.Doing.{Found, done, failed, one_log}
 use Rattle.eaw_device.proofs.Looks.{entry_range, entry_part, entry_has, entry_cell, entry_logger, entry_inside}
 
@@ -156,8 +166,8 @@ module _ (shape : Shape) (shaped : IsShape shape) (old new : List ℕ) (t : ℕ)
       let rest = edited_parts xs pos (omega arith) is (numbered_rest shape shaped x xs numbered) same.1 in
       λ i. cell_part (first i) ∷ rest i
 
-module _ (tells : Bool) (old new : View) (shape : Shape) (logs : List Log) (is_dead : Bool) (sound : IsSound tells old shape logs is_dead) (alive : is_dead ≡ false) (t : ℕ) (live : IsLive (view_of old shape logs is_dead) t)
-    (log : Log) (found : Found tells old shape logs is_dead t log) (pos : ℕ) (e : Entry) (lt : pos < length log.entries.items) (is : e ≡ get_or log.entries.items pos e) (at : ℕ) (bytes : List ℕ) (inner : at + length bytes ≤ e.len)
+module _ (tells : Bool) (old new : View) (shape : Shape) (logs : List Log) (late : LateData) (is_dead : Bool) (sound : IsSound tells old shape logs late is_dead) (alive : is_dead ≡ false) (t : ℕ) (live : IsLive (view_of old shape logs late is_dead) t)
+    (log : Log) (found : Found tells old shape logs late is_dead t log) (pos : ℕ) (e : Entry) (lt : pos < length log.entries.items) (is : e ≡ get_or log.entries.items pos e) (at : ℕ) (bytes : List ℕ) (inner : at + length bytes ≤ e.len)
     (short : e.len ≤ 512) (its : Shape) (shape_is : its ≡ shape) (n : ℕ) (n_is : n ≡ logger_of shape e.addr) {T E : Type 0} (r : Result T E)
     (call : Writes tells ((cell_at its n t e.cell + 16 + at, length bytes) ∷ []) old new r) (long : IsTrue tells → length old.content.bytes ≡ media_len shape) where
   abbrev g : ℕ
@@ -178,14 +188,31 @@ module _ (tells : Bool) (old new : View) (shape : Shape) (logs : List Log) (is_d
   in_cells : AreInCells shape ranges
   in_cells x none = ((λ from to. none g t e.cell there found.small inside (omega arith) (omega arith)), tt)
 
+  spared : AreSpared shape late.queue.cells ranges late.queue.ballots.items
+  spared = sparing late.queue.ballots.items ((sound.in_order alive).before t log found.there)
+    where
+      sparing : (bs : List Ballot) → (has_some bs t ≡ true → (h : ℕ) → h < shape.loggers → slice_index log.held h ≤ (cells_in late.queue.cells h t).first) → AreSpared shape late.queue.cells ranges bs
+      sparing [] before = tt
+      sparing (b ∷ bs) before = (
+        (λ h u f i lt' below low row from to at end. (
+          (λ from' to'. cells_apart shape h u f g t e.cell lt' below low there found.small inside (λ meet.
+              let on : has b.group t ≡ true = ap (has b.group) (sym meet.1) ∙ (and_parts (has b.mask h) (has b.group u) row).1 in
+              let first = before (ap (λ (x : Bool). x || has_some bs t) on) g there in
+              let its = ap (λ (p : ℕ × ℕ). (cells_in late.queue.cells p.0 p.1).first) (λ k. (meet.0 k, meet.1 k)) in
+              omega (arith, first, its, from, meet.2, entry_cell shape sound.shaped log found.kept pos e lt is)) i at end (omega arith) (omega arith)),
+          tt,
+        )),
+        sparing bs (λ so. before (or_also (has b.group t) (has_some bs t) so)),
+      )
+
   within : AllWithin (media_len shape) ranges
   within = (omega (arith, cell_fits_in shape g t e.cell there found.small inside), tt)
 
-  time : IsTrue tells → is_dead ≡ false → LeavesOnly (face.IsEither (Opens shape) (data_of shape old.content.bytes) (data_of shape old.content.bytes)) old new
-  time told fine = cells_time tells shape ranges in_cells within old new r does told (long told) (found.told told).sure (data_of shape old.content.bytes)
+  time : IsTrue tells → is_dead ≡ false → LeavesOnly (face.IsEither (Opens shape) (shown shape late is_dead old.content.bytes) (shown shape late is_dead old.content.bytes)) old new
+  time told fine = cells_time tells shape ranges in_cells within late spared old new r does told (long told) (found.told told).sure is_dead alive
 
-  pub edit_failed : {U : Type 0} → Rose old.faults new.faults → (let failed : Result U EawFault = Err Media in face.Does tells (Opens shape) (log_edit t pos at bytes) (view_of old shape logs is_dead) (view_of new shape logs true) failed)
-  edit_failed rose = failed tells (Opens shape) (log_edit t pos at bytes) (view_of old shape logs is_dead) (view_of new shape logs true) refl does.cause.later time alive live tt rose refl (λ u other. refl)
+  pub edit_failed : {U : Type 0} → Rose old.faults new.faults → (let failed : Result U EawFault = Err Media in face.Does tells (Opens shape) (log_edit t pos at bytes) (view_of old shape logs late is_dead) (view_of new shape logs late true) failed)
+  edit_failed rose = failed tells (Opens shape) (log_edit t pos at bytes) (view_of old shape logs late is_dead) (view_of new shape logs late true) refl does.cause.later time alive live tt rose refl (λ u other. refl)
 
   -- every other cell
   cell_same : IsTrue tells → (h u f : ℕ) → h < shape.loggers → u < shape.numbers → f < shape.entries → ((h ≡ g) × (u ≡ t) × (f ≡ e.cell) → ⊥) → cell_of shape new.content.bytes h u f ≡ cell_of shape old.content.bytes h u f
@@ -251,9 +278,10 @@ module _ (tells : Bool) (old new : View) (shape : Shape) (logs : List Log) (is_d
         let known = slice_get_within logs u l lies in
         cell_same told h u c below (omega (arith, sound.many)) (omega arith) (λ meets. ne meets.1)
 
-    pub edit_sound : IsSound tells new shape logs is_dead
-    edit_sound = sound_media tells old new shape logs is_dead sound does.size
-        (λ told fine. cells_sure shape ranges in_cells old.content (long told) within (found.told told).sure new.content (does.touched told))
+    pub edit_sound : IsSound tells new shape logs late is_dead
+    edit_sound = sound_media tells old new shape logs late is_dead sound does.size
+        (λ told fine. cells_sure shape ranges in_cells late.queue spared old.content (long told) within (found.told told).sure new.content (does.touched told))
+        (λ told fine. late_held shape late sound.ready (sound.in_order fine).tied ranges spared old.content.bytes new.content.bytes (does.touched told).bytes (sound.told told fine).shown)
         (λ told fine u l lies. elim (cases_eq u t) [
           | inl same ↦
               let one = one_log logs t log l found.there (ap (slice_get logs) (sym same) ∙ lies) in
@@ -276,11 +304,11 @@ module _ (tells : Bool) (old new : View) (shape : Shape) (logs : List Log) (is_d
           ∙ sym (ap (λ (b : Bool). cond b (Some (edited pos at bytes (listed (option_map (parts_in shape old.content.bytes t) (entries_at logs t))))) (option_map (parts_in shape old.content.bytes u) (entries_at logs u))) (ne_eqb u t ne))
     ]
 
-    pub edit_done : {U : Type 0} (x : U) → new.faults ≡ old.faults → (let done : Result U EawFault = Ok x in face.Does tells (Opens shape) (log_edit t pos at bytes) (view_of old shape logs is_dead) (view_of new shape logs is_dead) done)
-    edit_done x same' = done tells (Opens shape) (log_edit t pos at bytes) (view_of old shape logs is_dead) (view_of new shape logs is_dead) refl does.cause.later time x same' alive live tt (record {
+    pub edit_done : {U : Type 0} (x : U) → new.faults ≡ old.faults → (let done : Result U EawFault = Ok x in face.Does tells (Opens shape) (log_edit t pos at bytes) (view_of old shape logs late is_dead) (view_of new shape logs late is_dead) done)
+    edit_done x same' = done tells (Opens shape) (log_edit t pos at bytes) (view_of old shape logs late is_dead) (view_of new shape logs late is_dead) refl does.cause.later time x same' alive live tt (record {
       alive = alive;
       ranges = refl;
       state = λ told.
-          let bytes' = staged_data shape ranges in_cells old.content.bytes new.content.bytes (does.touched told).bytes in
+          let bytes' = alive_shown shape late is_dead new.content.bytes alive ∙ cells_data shape ranges in_cells late.queue spared old.content (long told) within (found.told told).sure new.content (does.touched told) ∙ sym (alive_shown shape late is_dead old.content.bytes alive) in
           λ i. record { bytes = bytes' i; logs = λ u. logs_now told u i };
     })

@@ -13,7 +13,8 @@ use Rattle.coordinator.specs.declared.cells.Cells.{Cells}
 use Rattle.coordinator.specs.Commits.{cells_in}
 use Rattle.eaw_face.specs.State.{listed, count_on}
 use Rattle.eaw_device.specs.declared.log.Log.{Log}
-use Rattle.eaw_device.specs.Logs.{ranges_in, parts_in, IsKept, IsHeld, entries_of, ranges_logged, parts_logged}
+use Rattle.eaw_device.specs.Logs.{IsKept, IsHeld, entries_of, ranges_logged, parts_logged}
+use Rattle.deferred_parts.specs.Entries.{ranges_in, parts_in}
 use Rattle.eaw_device.specs.Groups.{group_parts, HaveCells, HaveParts}
 use Rattle.eaw_device.proofs.Costing.{behind}
 use Rattle.eaw_device.proofs.Entries.{length-ranges_in}

@@ -5,7 +5,6 @@ pub mod Spared
 pub mod Cells
 pub mod Grouping
 pub mod OpeningLemmas
-pub mod ReadingLemmas
 pub mod Dealt
 pub mod Entries
 pub mod Costing
@@ -15,7 +14,6 @@ pub mod Alone
 pub mod Members
 pub mod Staged
 pub mod StagedCalls
-pub mod ReadParts
 pub mod Tables
 pub mod Sure
 pub mod Doing
@@ -29,4 +27,6 @@ pub mod Atomic
 pub mod Looks
 pub mod Edits
 pub mod OpenedLemmas
-pub mod AtOnce
+pub mod NoneWaits
+pub mod CommitCells
+pub mod Quiet

@@ -7,18 +7,23 @@ use Rattle.pcm_media.specs.View.{View, Writes, LeavesOnly}
 use Rattle.pcm_media.proofs.Left.{same_bytes}
 use Rattle.array_shape.specs.declared.shape.Shape.{Shape}
 use Rattle.array_shape.specs.Places.{media_len, logger_of, IsPlaced, IsShape}
-use Rattle.array_image.specs.Image.{cell_of, cell_part, data_of}
+use Rattle.array_image.specs.Image.{cell_of, cell_part}
 use Rattle.eaw_face.specs.State.{listed, range_at, part_at, count_on}
 use Rattle.eaw_face.specs.StoreView.{IsLive, log_len}
 use Rattle.eaw_face.specs.Command.{log_read, read}
 use Rattle.eaw_face.specs.Does as face
 use Rattle.eaw_face.specs.declared.fault.EawFault.{EawFault}
 use Rattle.eaw_face.specs.declared.fault.EawFault.TheVariants.{Media}
-use Rattle.eaw_device.specs.declared.log.Entry.{Entry}
+use Rattle.deferred_parts.specs.declared.entry.Entry.{Entry}
 use Rattle.eaw_device.specs.declared.log.Log.{Log}
+use Rattle.late_data.specs.declared.commits.LateData.{LateData}
 use Rattle.eaw_device.specs.Opens.{Opens}
-use Rattle.eaw_device.specs.Logs.{ranges_in, parts_in, IsKept, IsHeld, entries_at}
-use Rattle.eaw_device.specs.Sound.{IsSound, view_of}
+use Rattle.eaw_device.specs.Logs.{IsKept, IsHeld, entries_at}
+use Rattle.deferred_parts.specs.Entries.{ranges_in, parts_in}
+use Rattle.deferred_parts.specs.Entries.{AreHeld}
+use Rattle.deferred_parts.specs.Shown.{entries_of as kept_entries}
+use Rattle.eaw_device.specs.Sound.{IsSound, shown, view_of}
+use Rattle.eaw_device.proofs.Cells.{none_spared}
 use Rattle.eaw_device.proofs.Entries.{logger_small, length-ranges_in, count_on-ranges_in}
 use Rattle.eaw_device.proofs.Keeping.{length-cells_on_kept, entry_placed}
 use Rattle.eaw_device.proofs.LogParts.{EachCell, each_held}
@@ -58,7 +63,7 @@ module _ (shape : Shape) (shaped : IsShape shape) (log : Log) (kept : IsKept sha
   entry_page = subst (λ (y : Entry). IsPlaced shape y.addr y.len) (sym is) (entry_placed shape log.entries.items pos e lt kept.placed)
 
 -- a log that is looked up in a device
-module _ (tells : Bool) (media : View) (shape : Shape) (logs : List Log) (is_dead : Bool) (sound : IsSound tells media shape logs is_dead) (t at : ℕ) (log : Log) (small : t < shape.numbers) (at_is : at ≡ t) (got : log ≡ get_or logs at log) where
+module _ (tells : Bool) (media : View) (shape : Shape) (logs : List Log) (late : LateData) (is_dead : Bool) (sound : IsSound tells media shape logs late is_dead) (t at : ℕ) (log : Log) (small : t < shape.numbers) (at_is : at ≡ t) (got : log ≡ get_or logs at log) where
   pub look_there : slice_get logs t ≡ Some log
   look_there = found_log logs at t log at_is (omega (arith, small, sound.many)) got
 
@@ -68,7 +73,7 @@ module _ (tells : Bool) (media : View) (shape : Shape) (logs : List Log) (is_dea
   pub look_ranges : listed (option_map ranges_in (entries_at logs t)) ≡ ranges_in log.entries.items
   look_ranges = ranges_there shape logs t log look_there look_kept
 
-  pub look_len : log_len (view_of media shape logs is_dead) t ≡ length log.entries.items
+  pub look_len : log_len (view_of media shape logs late is_dead) t ≡ length log.entries.items
   look_len = ap length look_ranges ∙ length-ranges_in log.entries.items
 
   pub look_held : (g : ℕ) → g < shape.loggers → slice_index log.held g ≡ count_on shape g (listed (option_map ranges_in (entries_at logs t)))
@@ -78,31 +83,32 @@ module _ (tells : Bool) (media : View) (shape : Shape) (logs : List Log) (is_dea
   look_range pos e lt is = entry_range log.entries.items pos e lt is ∙ ap (λ (rs : List (ℕ × ℕ)). range_at rs pos) (sym look_ranges)
 
 -- a medium that is only read
-module _ (tells : Bool) (old new : View) (shape : Shape) (logs : List Log) (is_dead : Bool) (sound : IsSound tells old shape logs is_dead) (alive : is_dead ≡ false) {T E : Type 0} (r : Result T E) (does : Writes tells [] old new r)
+module _ (tells : Bool) (old new : View) (shape : Shape) (logs : List Log) (late : LateData) (is_dead : Bool) (sound : IsSound tells old shape logs late is_dead) (alive : is_dead ≡ false) {T E : Type 0} (r : Result T E) (does : Writes tells [] old new r)
     (long : IsTrue tells → length old.content.bytes ≡ media_len shape) where
   same : IsTrue tells → new.content.bytes ≡ old.content.bytes
   same told = same_bytes old.content new.content (does.touched told)
 
-  pub read_sound : IsSound tells new shape logs is_dead
-  read_sound = sound_media tells old new shape logs is_dead sound does.size
-      (λ told fine. cells_sure shape [] (λ x none. tt) old.content (long told) tt (sound.told told fine).sure new.content (does.touched told))
+  pub read_sound : IsSound tells new shape logs late is_dead
+  read_sound = sound_media tells old new shape logs late is_dead sound does.size
+      (λ told fine. cells_sure shape [] (λ x none. tt) late.queue (none_spared shape late.queue.cells late.queue.ballots.items) old.content (long told) tt (sound.told told fine).sure new.content (does.touched told))
+      (λ told fine. subst (λ (bytes : List ℕ). AreHeld shape bytes (kept_entries late.parts)) (sym (same told)) (sound.told told fine).shown)
       (λ told fine u log there. subst (λ (bytes : List ℕ). IsHeld shape bytes u log) (sym (same told)) ((sound.told told fine).held u log there))
 
-  time : IsTrue tells → is_dead ≡ false → LeavesOnly (face.IsEither (Opens shape) (data_of shape old.content.bytes) (data_of shape old.content.bytes)) old new
-  time told fine = cells_time tells shape [] (λ x none. tt) tt old new r does told (long told) (sound.told told alive).sure (data_of shape old.content.bytes)
+  time : IsTrue tells → is_dead ≡ false → LeavesOnly (face.IsEither (Opens shape) (shown shape late is_dead old.content.bytes) (shown shape late is_dead old.content.bytes)) old new
+  time told fine = cells_time tells shape [] (λ x none. tt) tt late (none_spared shape late.queue.cells late.queue.ballots.items) old new r does told (long told) (sound.told told alive).sure is_dead alive
 
-  state : IsTrue tells → (view_of new shape logs is_dead).state ≡ (view_of old shape logs is_dead).state
-  state told = λ i. record { bytes = data_of shape (same told i); logs = λ u. option_map (parts_in shape (same told i) u) (entries_at logs u) }
+  state : IsTrue tells → (view_of new shape logs late is_dead).state ≡ (view_of old shape logs late is_dead).state
+  state told = λ i. record { bytes = shown shape late is_dead (same told i); logs = λ u. option_map (parts_in shape (same told i) u) (entries_at logs u) }
 
-  pub read_done : (at many : ℕ) {U : Type 0} (x : U) → new.faults ≡ old.faults → (let done : Result U EawFault = Ok x in face.Does tells (Opens shape) (read at many) (view_of old shape logs is_dead) (view_of new shape logs is_dead) done)
-  read_done at many x kept = done tells (Opens shape) (read at many) (view_of old shape logs is_dead) (view_of new shape logs is_dead) refl does.cause.later time x kept alive tt tt (record { alive = alive; ranges = refl; state = state })
+  pub read_done : (at many : ℕ) {U : Type 0} (x : U) → new.faults ≡ old.faults → (let done : Result U EawFault = Ok x in face.Does tells (Opens shape) (read at many) (view_of old shape logs late is_dead) (view_of new shape logs late is_dead) done)
+  read_done at many x kept = done tells (Opens shape) (read at many) (view_of old shape logs late is_dead) (view_of new shape logs late is_dead) refl does.cause.later time x kept alive tt tt (record { alive = alive; ranges = refl; state = state })
 
-  pub read_failed : (at many : ℕ) {U : Type 0} → Rose old.faults new.faults → (let failed : Result U EawFault = Err Media in face.Does tells (Opens shape) (read at many) (view_of old shape logs is_dead) (view_of new shape logs true) failed)
-  read_failed at many rose = failed tells (Opens shape) (read at many) (view_of old shape logs is_dead) (view_of new shape logs true) refl does.cause.later time alive tt tt rose refl (λ u other. refl)
+  pub read_failed : (at many : ℕ) {U : Type 0} → Rose old.faults new.faults → (let failed : Result U EawFault = Err Media in face.Does tells (Opens shape) (read at many) (view_of old shape logs late is_dead) (view_of new shape logs late true) failed)
+  read_failed at many rose = failed tells (Opens shape) (read at many) (view_of old shape logs late is_dead) (view_of new shape logs late true) refl does.cause.later time alive tt tt rose refl (λ u other. refl)
 
-  module _ (t : ℕ) (live : IsLive (view_of old shape logs is_dead) t) where
-    pub log_read_done : {U : Type 0} (x : U) → new.faults ≡ old.faults → (let done : Result U EawFault = Ok x in face.Does tells (Opens shape) (log_read t) (view_of old shape logs is_dead) (view_of new shape logs is_dead) done)
-    log_read_done x kept = done tells (Opens shape) (log_read t) (view_of old shape logs is_dead) (view_of new shape logs is_dead) refl does.cause.later time x kept alive live tt (record { alive = alive; ranges = refl; state = state })
+  module _ (t : ℕ) (live : IsLive (view_of old shape logs late is_dead) t) where
+    pub log_read_done : {U : Type 0} (x : U) → new.faults ≡ old.faults → (let done : Result U EawFault = Ok x in face.Does tells (Opens shape) (log_read t) (view_of old shape logs late is_dead) (view_of new shape logs late is_dead) done)
+    log_read_done x kept = done tells (Opens shape) (log_read t) (view_of old shape logs late is_dead) (view_of new shape logs late is_dead) refl does.cause.later time x kept alive live tt (record { alive = alive; ranges = refl; state = state })
 
-    pub log_read_failed : {U : Type 0} → Rose old.faults new.faults → (let failed : Result U EawFault = Err Media in face.Does tells (Opens shape) (log_read t) (view_of old shape logs is_dead) (view_of new shape logs true) failed)
-    log_read_failed rose = failed tells (Opens shape) (log_read t) (view_of old shape logs is_dead) (view_of new shape logs true) refl does.cause.later time alive live tt rose refl (λ u other. refl)
+    pub log_read_failed : {U : Type 0} → Rose old.faults new.faults → (let failed : Result U EawFault = Err Media in face.Does tells (Opens shape) (log_read t) (view_of old shape logs late is_dead) (view_of new shape logs late true) failed)
+    log_read_failed rose = failed tells (Opens shape) (log_read t) (view_of old shape logs late is_dead) (view_of new shape logs late true) refl does.cause.later time alive live tt rose refl (λ u other. refl)

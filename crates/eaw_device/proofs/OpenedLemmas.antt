@@ -8,13 +8,16 @@ use Rattle.row_bytes.proofs.OneShape.{one_shape}
 use Rattle.array_image.specs.Decided.{settled_data}
 use Rattle.array_shape.specs.declared.shape.Shape.{Shape}
 use Rattle.array_shape.specs.Logged.{ranges_of}
-use Rattle.eaw_device.specs.declared.log.Entry.{Entry}
+use Rattle.deferred_parts.specs.declared.entry.Entry.{Entry}
 use Rattle.eaw_device.specs.declared.log.Log.{Log}
-use Rattle.eaw_device.specs.Logs.{ranges_in, parts_in, cells_on, IsHeld, entries_of, entries_at}
-use Rattle.eaw_device.specs.Sound.{IsSound, view_of}
+use Rattle.eaw_device.specs.Logs.{IsHeld, entries_of, entries_at}
+use Rattle.deferred_parts.specs.Entries.{ranges_in, parts_in, cells_on}
+use Rattle.late_data.specs.declared.commits.LateData.{LateData}
+use Rattle.eaw_device.specs.Sound.{IsAtOnce, IsSound, view_of}
 use Rattle.eaw_device.specs.Opens.{header_of, Attached, FindsData}
-use Rattle.eaw_device.specs.Opening.{IsFree, AreFree, Settled}
+use Rattle.eaw_device.specs.Opening.{IsFree, AreFree, IsOpened, Settled}
 use Rattle.eaw_device.proofs.Keeping.{length-cells_on_kept}
+use Rattle.eaw_device.proofs.NoneWaits.{clean_waiting, data_alone, once_before, once_held}
 use Rattle.eaw_device.proofs.Tables.{entries_free, entries_there}
 
 module _ (shape : Shape) (log : Log) (is : IsFree shape log) where
@@ -30,29 +33,35 @@ module _ (shape : Shape) (log : Log) (is : IsFree shape log) where
     heads = ap (λ (es : List Entry). ranges_of (parts_in shape image t es)) none_logged ∙ sym (ap ranges_in none_logged);
   }
 
-module _ (tells : Bool) (old new : View) (shape : Shape) (logs : List Log) (settled : Settled tells old shape new) (free : AreFree shape logs) where
-  pub opened_sound : IsSound tells new shape logs false
+module _ (tells : Bool) (old new : View) (shape : Shape) (logs : List Log) (late : LateData) (settled : Settled tells old shape new) (free : AreFree shape logs) (is : IsOpened shape late) where
+  pub opened_once : IsAtOnce shape late.queue
+  opened_once = record { fit = is.ready.fit; none_waits = is.none_waits }
+
+  pub opened_sound : IsSound tells new shape logs late false
   opened_sound = record {
     shaped = shape.in_range;
     sized = settled.size ∙ settled.sized;
     many = free.many;
     kept = λ t log got. (free.free t log got).kept;
+    ready = is.ready;
+    in_order = λ alive. record { tied = is.tied; before = λ t log got. once_before shape late.queue opened_once t log };
     told = λ told alive. record {
-      sure = settled.sure told;
+      sure = record { waiting = clean_waiting shape late.queue opened_once new.content (settled.clean told); header = settled.header told };
+      shown = once_held shape late opened_once is.tied new.content.bytes;
       held = λ t log got. free_held shape log (free.free t log got) new.content.bytes t;
     };
   }
 
   none_at : (t : ℕ) (o : Option Log) → slice_get logs t ≡ o → entries_at logs t ≡ None
-  none_at t None is = ap (λ (o : Option Log). elim o [ None ↦ (let none : Option (List Entry) = None in none) | Some log ↦ entries_of log ]) is
-  none_at t (Some log) is = entries_there logs t log is ∙ entries_free log (free.free t log is).is_free
+  none_at t None is' = ap (λ (o : Option Log). elim o [ None ↦ (let none : Option (List Entry) = None in none) | Some log ↦ entries_of log ]) is'
+  none_at t (Some log) is' = entries_there logs t log is' ∙ entries_free log (free.free t log is').is_free
 
-  pub opened : Attached tells old (view_of new shape logs false)
+  pub opened : Attached tells old (view_of new shape logs late false)
   opened = record {
     shape_is = settled.shape_is;
     sized = settled.sized;
     good = settled.good;
-    bytes = settled.bytes;
+    bytes = λ told. data_alone shape late.queue opened_once new.content.bytes ∙ settled.bytes told;
     free = λ t. ap (option_map ranges_in) (none_at t (slice_get logs t) refl);
     unlogged = λ t. ap (option_map (parts_in shape new.content.bytes t)) (none_at t (slice_get logs t) refl);
     alive = refl;
@@ -60,7 +69,7 @@ module _ (tells : Bool) (old new : View) (shape : Shape) (logs : List Log) (sett
     calls = settled.calls;
   }
 
-  pub found : FindsData tells old (view_of new shape logs false)
+  pub found : FindsData tells old (view_of new shape logs late false)
   found told said bytes opens =
       let same = one_shape (header_of old.content.bytes) shape said (settled.shape_is told) opens.header in
-      (same, settled.bytes told ∙ ap (λ (s : Shape). settled_data s old.content.bytes) same ∙ opens.stands.gives)
+      (same, data_alone shape late.queue opened_once new.content.bytes ∙ settled.bytes told ∙ ap (λ (s : Shape). settled_data s old.content.bytes) same ∙ opens.stands.gives)

@@ -1,6 +1,7 @@
 -- Writes into cells of one number, at all loggers.
-use Rattle.std.proofs.Common.{◌≡◌, ◌≢◌, ℕ, zero, suc, ◌+◌, ◌<◌, ◌≤◌, ◌⊎◌, inl, inr, List, [], ◌∷◌, ◌++◌, length, sym, ap, subst, ◌∙◌, arith}
+use Rattle.std.proofs.Common.{◌≡◌, ◌≢◌, false, ℕ, zero, suc, ◌+◌, ◌<◌, ◌≤◌, ◌⊎◌, inl, inr, List, [], ◌∷◌, ◌++◌, length, sym, ap, subst, ◌∙◌, arith}
 use Rattle.std.specs.Prelude.{slice_index}
+use Rattle.std.proofs.lemmas.Bool.{and_parts, or_parts, false≢true}
 use Rattle.pcm_media.specs.Images.{SameOutside, IsOutside}
 use Rattle.array_shape.specs.declared.shape.Shape.{Shape}
 use Rattle.array_shape.specs.Places.{media_len, cell_at}
@@ -14,6 +15,11 @@ use Rattle.array_image.proofs.Joined.{outside_joined, outside_at}
 use Rattle.array_image.proofs.Places.{cell_fits_in}
 use Rattle.array_image.proofs.Rows.{cell_away, parts_same}
 use Rattle.array_image.proofs.Frames.{AllWithin}
+use Rattle.array_shape.specs.NumberSet.{has}
+use Rattle.row_bytes.specs.declared.ballot.Ballot.{Ballot}
+use Rattle.coordinator.specs.declared.cells.Cells.{Cells}
+use Rattle.deferred_parts.specs.Turns.{has_some}
+use Rattle.late_data.specs.Spared.{AreSpared}
 use Rattle.eaw_device.proofs.Cells.{AreInCells}
 use Rattle.logger.specs.Cells.{cell_ranges, HoldsParts}
 use Rattle.eaw_device.specs.Steps.{staged_places}
@@ -67,12 +73,23 @@ module _ (shape : Shape) (t : ℕ) (small : t < shape.numbers) (held : List ℕ)
   pub staged_at : (g : ℕ) → g < shape.loggers → (i : ℕ) → IsOutside places i → IsOutside (cell_ranges shape g t (slice_index held g) (length (write_parts_on shape g addr bytes))) i
   staged_at g lt i out = outside_at (λ h. cell_ranges shape h t (slice_index held h) (length (write_parts_on shape h addr bytes))) i 0 shape.loggers out g (omega arith) (omega arith)
 
-  staged_outside : (x : ℕ) → ((g e : ℕ) → g < shape.loggers → slice_index held g ≤ e → e < slice_index held g + length (write_parts_on shape g addr bytes) → cell_at shape g t e ≤ x → x < cell_at shape g t e + 528 → ⊥) → IsOutside places x
+  pub staged_outside : (x : ℕ) → ((g e : ℕ) → g < shape.loggers → slice_index held g ≤ e → e < slice_index held g + length (write_parts_on shape g addr bytes) → cell_at shape g t e ≤ x → x < cell_at shape g t e + 528 → ⊥) → IsOutside places x
   staged_outside x away = outside_joined (λ h. cell_ranges shape h t (slice_index held h) (length (write_parts_on shape h addr bytes))) x 0 shape.loggers (λ g le lt.
       outside_cells shape g t (slice_index held g) (length (write_parts_on shape g addr bytes)) x (λ e low high. away g e (omega arith) low high))
 
   pub staged_in_cells : AreInCells shape places
   staged_in_cells x none = staged_outside x (λ g e lt low high. none g t e lt small (let fits = room g lt in let inside : e < shape.entries = omega arith in inside))
+
+  -- a number that has no commit that waits: its cells are not needed
+  pub staged_spared : (cells : List Cells) (bs : List Ballot) → has_some bs t ≡ false → AreSpared shape cells places bs
+  staged_spared cells [] lacks = tt
+  staged_spared cells (b ∷ bs) lacks =
+      let both = or_parts (has b.group t) (has_some bs t) lacks in (
+        (λ h u k i lt lt' lt'' row from below at to. staged_outside i (λ g e there low high at' to'.
+            let fits = room g there in
+            cells_apart shape h u k g t e lt lt' lt'' there small (omega arith) (λ is. false≢true (sym both.0 ∙ ap (has b.group) (sym is.1) ∙ (and_parts (has b.mask h) (has b.group u) row).1)) i at to at' to')),
+        staged_spared cells bs both.1,
+      )
 
   pub staged_within : AllWithin (media_len shape) places
   staged_within = within-joined (media_len shape) (λ h. cell_ranges shape h t (slice_index held h) (length (write_parts_on shape h addr bytes))) 0 shape.loggers (λ g le lt.

@@ -10,10 +10,15 @@ use Rattle.array_shape.specs.declared.shape.Shape.{Shape}
 use Rattle.array_shape.specs.Logged.{Part, ranges_of}
 use Rattle.array_image.specs.Image.{cell_of, IsGoodCell}
 use Rattle.eaw_face.specs.State.{listed, with_log}
-use Rattle.eaw_device.specs.declared.log.Entry.{Entry}
+use Rattle.deferred_parts.specs.declared.entry.Entry.{Entry}
 use Rattle.eaw_device.specs.declared.log.Log.{Log}
-use Rattle.eaw_device.specs.Logs.{ranges_in, parts_in, IsKept, IsHeld, entries_of, entries_at}
-use Rattle.eaw_device.specs.Sound.{IsSure, IsSound}
+use Rattle.late_data.specs.declared.commits.LateData.{LateData}
+use Rattle.eaw_device.specs.Logs.{IsKept, IsHeld, entries_of, entries_at}
+use Rattle.deferred_parts.specs.Entries.{ranges_in, parts_in}
+use Rattle.deferred_parts.specs.Entries.{AreHeld}
+use Rattle.deferred_parts.specs.Shown.{entries_of as kept_entries}
+use Rattle.late_data.specs.Tied.{IsReady}
+use Rattle.eaw_device.specs.Sound.{IsInOrder, IsSure, IsSound}
 use Rattle.eaw_device.proofs.LogParts.{each_held, parts_in_same}
 
 -- the log that was looked up
@@ -97,6 +102,16 @@ module _ (logs : List Log) (t : ℕ) (log : Log) (lt : t < length logs) where
       → (λ (u : ℕ). option_map (parts_in shape new u) (entries_at (slice_set logs t log) u)) ≡ with_log (λ (u : ℕ). option_map (parts_in shape old u) (entries_at logs u)) t o
   parts_set shape old new o here others = λ i u. one_set (λ v. parts_in shape new v) (λ v. parts_in shape old v) o here others u i
 
+-- what holds of each log, once one is replaced
+pub each_set : (logs : List Log) (t : ℕ) (log : Log) → t < length logs → (P : ℕ → Log → Type 0) → P t log → ((u : ℕ) → u ≢ t → ForSome (slice_get logs u) (P u)) → (u : ℕ) → ForSome (slice_get (slice_set logs t log) u) (P u)
+each_set logs t log lt P here others u l is = elim (cases_eq u t) [
+  | inl same ↦ subst (λ (p : ℕ × Log). P p.0 p.1) (λ i. (sym same i, some_same log l (sym (slice_get-set_same logs t log lt) ∙ ap (slice_get (slice_set logs t log)) (sym same) ∙ is) i)) here
+  | inr ne ↦ others u ne l (sym (slice_get-set_other logs t u log ne) ∙ is)
+]
+  where
+    some_same : (a b : Log) → Some a ≡ Some b → a ≡ b
+    some_same a b is = cc
+
 -- a log in cells that stay
 module _ (shape : Shape) (old new : List ℕ) (u : ℕ) (log : Log) (kept : IsKept shape log)
     (same : (g e : ℕ) → g < shape.loggers → e < slice_index log.held g → cell_of shape new g u e ≡ cell_of shape old g u e) where
@@ -126,39 +141,46 @@ others_kept shape logs old new u kept same = by (slice_get logs u) kept same
         let is = listed_entries shape log (kept log refl) in
         one (entries_of log) (ap (parts_in shape new u) is ∙ parts_kept shape old new u log (kept log refl) (same log refl) ∙ sym (ap (parts_in shape old u) is))
 
--- a device of which one log and the medium changed
-pub sound_set : (tells : Bool) (old new : View) (shape : Shape) (logs : List Log) (is_dead : Bool) → IsSound tells old shape logs is_dead → new.size ≡ old.size → (t : ℕ) (log : Log) → t < length logs → IsKept shape log
-    → (IsTrue tells → is_dead ≡ false → IsSure shape new.content) → (IsTrue tells → is_dead ≡ false → IsHeld shape new.content.bytes t log)
-    → (IsTrue tells → is_dead ≡ false → (u : ℕ) → u ≢ t → ForSome (slice_get logs u) (IsHeld shape new.content.bytes u)) → IsSound tells new shape (slice_set logs t log) is_dead
-sound_set tells old new shape logs is_dead sound size t log lt kept sure held others = record {
+-- a device of which one log, the medium and the queue changed
+pub sound_set : (tells : Bool) (old new : View) (shape : Shape) (logs : List Log) (late late' : LateData) (is_dead : Bool) → IsSound tells old shape logs late is_dead → new.size ≡ old.size → (t : ℕ) (log : Log) → t < length logs → IsKept shape log
+    → IsReady shape late' → (is_dead ≡ false → IsInOrder shape late' (slice_set logs t log)) → (IsTrue tells → is_dead ≡ false → IsSure shape late'.queue new.content) → (IsTrue tells → is_dead ≡ false → AreHeld shape new.content.bytes (kept_entries late'.parts))
+    → (IsTrue tells → is_dead ≡ false → IsHeld shape new.content.bytes t log) → (IsTrue tells → is_dead ≡ false → (u : ℕ) → u ≢ t → ForSome (slice_get logs u) (IsHeld shape new.content.bytes u)) → IsSound tells new shape (slice_set logs t log) late' is_dead
+sound_set tells old new shape logs late late' is_dead sound size t log lt kept ready in_order sure shown held others = record {
   shaped = sound.shaped;
   sized = size ∙ sound.sized;
   many = length-set logs t log ∙ sound.many;
-  kept = λ u l is. elim (cases_eq u t) [
-    | inl same ↦ subst (IsKept shape) (some_same log l (sym (slice_get-set_same logs t log lt) ∙ ap (slice_get (slice_set logs t log)) (sym same) ∙ is)) kept
-    | inr ne ↦ sound.kept u l (sym (slice_get-set_other logs t u log ne) ∙ is)
-  ];
+  kept = each_set logs t log lt (λ u. IsKept shape) kept (λ u ne. sound.kept u);
+  ready = ready;
+  in_order = in_order;
   told = λ told alive. record {
     sure = sure told alive;
-    held = λ u l is. elim (cases_eq u t) [
-      | inl same ↦
-          subst (λ (p : ℕ × Log). IsHeld shape new.content.bytes p.0 p.1)
-          (λ i. (sym same i, some_same log l (sym (slice_get-set_same logs t log lt) ∙ ap (slice_get (slice_set logs t log)) (sym same) ∙ is) i)) (held told alive)
-      | inr ne ↦ others told alive u ne l (sym (slice_get-set_other logs t u log ne) ∙ is)
-    ];
+    shown = shown told alive;
+    held = each_set logs t log lt (IsHeld shape new.content.bytes) (held told alive) (others told alive);
   };
 }
-  where
-    some_same : (a b : Log) → Some a ≡ Some b → a ≡ b
-    some_same a b is = cc
 
 -- a device of which only the medium changed
-pub sound_media : (tells : Bool) (old new : View) (shape : Shape) (logs : List Log) (is_dead : Bool) → IsSound tells old shape logs is_dead → new.size ≡ old.size
-    → (IsTrue tells → is_dead ≡ false → IsSure shape new.content) → (IsTrue tells → is_dead ≡ false → (u : ℕ) → ForSome (slice_get logs u) (IsHeld shape new.content.bytes u)) → IsSound tells new shape logs is_dead
-sound_media tells old new shape logs is_dead sound size sure held = record {
+pub sound_media : (tells : Bool) (old new : View) (shape : Shape) (logs : List Log) (late : LateData) (is_dead : Bool) → IsSound tells old shape logs late is_dead → new.size ≡ old.size
+    → (IsTrue tells → is_dead ≡ false → IsSure shape late.queue new.content) → (IsTrue tells → is_dead ≡ false → AreHeld shape new.content.bytes (kept_entries late.parts))
+    → (IsTrue tells → is_dead ≡ false → (u : ℕ) → ForSome (slice_get logs u) (IsHeld shape new.content.bytes u)) → IsSound tells new shape logs late is_dead
+sound_media tells old new shape logs late is_dead sound size sure shown held = record {
   shaped = sound.shaped;
   sized = size ∙ sound.sized;
   many = sound.many;
   kept = sound.kept;
-  told = λ told alive. record { sure = sure told alive; held = held told alive };
+  ready = sound.ready;
+  in_order = sound.in_order;
+  told = λ told alive. record { sure = sure told alive; shown = shown told alive; held = held told alive };
+}
+
+-- a device that dies: nothing is said of its queue any more
+pub sound_dead : (tells : Bool) (old new : View) (shape : Shape) (logs : List Log) (late late' : LateData) (is_dead : Bool) → IsSound tells old shape logs late is_dead → new.size ≡ old.size → IsReady shape late' → IsSound tells new shape logs late' true
+sound_dead tells old new shape logs late late' is_dead sound size ready = record {
+  shaped = sound.shaped;
+  sized = size ∙ sound.sized;
+  many = sound.many;
+  kept = sound.kept;
+  ready = ready;
+  in_order = λ alive. absurd (false≢true (sym alive));
+  told = λ told alive. absurd (false≢true (sym alive));
 }

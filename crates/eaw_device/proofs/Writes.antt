@@ -3,7 +3,7 @@ use Rattle.std.proofs.Common.{◌≡◌, ◌≢◌, ℕ, ◌+◌, ◌-◌, ◌<�
 use Rattle.std.specs.Prelude.{None, IsTrue, IsErrAnd, All, slice_get, slice_set, slice_index, Some}
 use Rattle.std.specs.Option.{option_map}
 use Rattle.std.specs.List.{range_with_len}
-use Rattle.std.proofs.lemmas.Bool.{cases_lt}
+use Rattle.std.proofs.lemmas.Bool.{cases_lt, false≢true}
 use Rattle.std.proofs.lemmas.List.{length-append, length-take-le, length-drop, length-map}
 use Rattle.std.proofs.lemmas.List.Elements.{All-head, All-tail}
 use Rattle.std.proofs.lemmas.List.FromFn.{length-range_with_len}
@@ -16,8 +16,7 @@ use Rattle.array_shape.specs.Places.{media_len, data_len}
 use Rattle.array_shape.specs.Parts.{parts_of, parts_on, part_of_write, parts_of_write, write_parts_on}
 use Rattle.array_shape.proofs.Cutting.{parts_of_write-parts, write_parts_on-parts}
 use Rattle.array_shape.specs.Logged.{Part, ranges_of}
-use Rattle.array_image.specs.Image.{cell_of, data_of, IsGoodCell}
-use Rattle.eaw_device.proofs.Cells.{staged_data}
+use Rattle.array_image.specs.Image.{cell_of, IsGoodCell}
 use Rattle.logger.specs.Cells.{HoldsParts}
 use Rattle.logger.proofs.Staging.{IsWithin, all_within}
 use Rattle.eaw_face.specs.State.{listed, count_on}
@@ -28,16 +27,22 @@ use Rattle.eaw_face.specs.Does as face
 use Rattle.eaw_face.specs.declared.fault.EawFault.{EawFault}
 use Rattle.eaw_face.specs.declared.fault.EawFault.TheVariants.{UnknownTid, LogFull, Media, Dead}
 use Rattle.eaw_device.specs.declared.log.Log.{Log}
+use Rattle.late_data.specs.declared.commits.LateData.{LateData}
 use Rattle.eaw_device.specs.Opens.{Opens}
-use Rattle.eaw_device.specs.Logs.{ranges_in, parts_in, cells_on, IsKept, IsHeld, Adds, entries_at}
+use Rattle.eaw_device.specs.Logs.{IsKept, IsHeld, Adds, entries_at}
+use Rattle.deferred_parts.specs.Entries.{ranges_in, parts_in, cells_on}
 use Rattle.eaw_device.specs.Steps.{cells_fit, RefusesWrite, staged_places}
-use Rattle.eaw_device.specs.Sound.{IsSound, view_of}
+use Rattle.eaw_device.specs.Laws.{alive_shown}
+use Rattle.deferred_parts.specs.Turns.{has_some}
+use Rattle.late_data.specs.Spared.{AreSpared}
+use Rattle.late_data.proofs.Sparing.{late_held}
+use Rattle.eaw_device.specs.Sound.{IsBefore, IsSound, shown, view_of}
 use Rattle.eaw_device.proofs.Entries.{numbers_split, ranges_in-append, length-ranges_in, cells_on-append, count_on-ranges_in}
 use Rattle.eaw_device.proofs.Keeping.{length-cells_on_kept}
 use Rattle.eaw_device.proofs.LogParts.{ranges_of-append, count_on-ranges_of, part_in, parts_in-append, parts_from-numbers, same_parts}
-use Rattle.eaw_device.proofs.Staged.{staged_in_cells, staged_within, staged_cell}
-use Rattle.eaw_device.proofs.Tables.{entries_live, ranges_there, parts_there, ranges_set, parts_set, parts_kept, held_kept, others_kept, slice_get-set_same, sound_set}
-use Rattle.eaw_device.proofs.Sure.{cells_sure, cells_time}
+use Rattle.eaw_device.proofs.Staged.{staged_spared, staged_in_cells, staged_within, staged_cell}
+use Rattle.eaw_device.proofs.Tables.{each_set, entries_live, ranges_there, parts_there, ranges_set, parts_set, parts_kept, held_kept, others_kept, slice_get-set_same, sound_set}
+use Rattle.eaw_device.proofs.Sure.{cells_data, cells_sure, cells_time}
 use Rattle.eaw_device.proofs.Doing.{done, failed, refused}
 
 -- a write has as many pieces at a logger as its range has parts
@@ -56,7 +61,7 @@ ranges_of-within shape addr bytes (p ∷ ps) within =
 pub ranges_of-pieces : (shape : Shape) (addr : ℕ) (bytes : List ℕ) → addr + length bytes ≤ data_len shape → ranges_of (parts_of_write addr bytes) ≡ map (λ (p : Place). (p.addr, p.len)) (parts_of shape addr (length bytes))
 ranges_of-pieces shape addr bytes fits = ap ranges_of (parts_of_write-parts shape addr bytes) ∙ ranges_of-within shape addr bytes (parts_of shape addr (length bytes)) (all_within shape addr (length bytes) fits)
 
-module _ (tells : Bool) (old : View) (shape : Shape) (logs : List Log) (is_dead : Bool) (sound : IsSound tells old shape logs is_dead) (alive : is_dead ≡ false) (t : ℕ) (small : t < shape.numbers) (log : Log) (there : slice_get logs t ≡ Some log)
+module _ (tells : Bool) (old : View) (shape : Shape) (logs : List Log) (late : LateData) (is_dead : Bool) (sound : IsSound tells old shape logs late is_dead) (alive : is_dead ≡ false) (t : ℕ) (small : t < shape.numbers) (log : Log) (there : slice_get logs t ≡ Some log)
     (addr : ℕ) (bytes : List ℕ) (inside : addr + length bytes ≤ data_len shape) where
   kept : IsKept shape log
   kept = sound.kept t log there
@@ -80,20 +85,23 @@ module _ (tells : Bool) (old : View) (shape : Shape) (logs : List Log) (is_dead 
         omega (arith, has, counted k here, needed k);
   }
 
-  module _ (room : cells_fit shape log.held addr (length bytes) None) where
+  module _ (apart : has_some late.queue.ballots.items t ≡ false) (room : cells_fit shape log.held addr (length bytes) None) where
     pub fits : fit shape (listed (option_map ranges_in (entries_at logs t))) (ranges_of (parts_of_write addr bytes)) None
     fits g lt = omega (arith, room g lt, counted g lt, needed g)
 
     pub write_parts_fit : (g : ℕ) → g < shape.loggers → slice_index log.held g + length (write_parts_on shape g addr bytes) ≤ shape.entries
     write_parts_fit g lt = omega (arith, room g lt, length-write_parts_on shape g addr bytes)
 
-    module _ (new : View) {E : Type 0} (r : Result (Unit {0}) E) (does : Writes tells (staged_places shape t log.held addr bytes) old new r) (long : IsTrue tells → length old.content.bytes ≡ media_len shape) where
-      time : IsTrue tells → is_dead ≡ false → LeavesOnly (face.IsEither (Opens shape) (data_of shape old.content.bytes) (data_of shape old.content.bytes)) old new
-      time told fine = cells_time tells shape (staged_places shape t log.held addr bytes) (staged_in_cells shape t small log.held addr bytes write_parts_fit) (staged_within shape t small log.held addr bytes write_parts_fit)
-          old new r does told (long told) (sound.told told alive).sure (data_of shape old.content.bytes)
+    spared : AreSpared shape late.queue.cells (staged_places shape t log.held addr bytes) late.queue.ballots.items
+    spared = staged_spared shape t small log.held addr bytes write_parts_fit late.queue.cells late.queue.ballots.items apart
 
-      pub write_failed : Rose old.faults new.faults → (let failed : Result ℕ EawFault = Err Media in face.Does tells (Opens shape) (log_write t addr bytes) (view_of old shape logs is_dead) (view_of new shape logs true) failed)
-      write_failed rose = failed tells (Opens shape) (log_write t addr bytes) (view_of old shape logs is_dead) (view_of new shape logs true) refl does.cause.later time alive small fits rose refl (λ u other. refl)
+    module _ (new : View) {E : Type 0} (r : Result (Unit {0}) E) (does : Writes tells (staged_places shape t log.held addr bytes) old new r) (long : IsTrue tells → length old.content.bytes ≡ media_len shape) where
+      time : IsTrue tells → is_dead ≡ false → LeavesOnly (face.IsEither (Opens shape) (shown shape late is_dead old.content.bytes) (shown shape late is_dead old.content.bytes)) old new
+      time told fine = cells_time tells shape (staged_places shape t log.held addr bytes) (staged_in_cells shape t small log.held addr bytes write_parts_fit) (staged_within shape t small log.held addr bytes write_parts_fit) late spared
+          old new r does told (long told) (sound.told told alive).sure is_dead alive
+
+      pub write_failed : Rose old.faults new.faults → (let failed : Result ℕ EawFault = Err Media in face.Does tells (Opens shape) (log_write t addr bytes) (view_of old shape logs late is_dead) (view_of new shape logs late true) failed)
+      write_failed rose = failed tells (Opens shape) (log_write t addr bytes) (view_of old shape logs late is_dead) (view_of new shape logs late true) refl does.cause.later time alive small fits rose refl (λ u other. refl)
 
       module _ (holds : IsTrue tells → (g : ℕ) → g < shape.loggers → HoldsParts shape new.content.bytes g t (slice_index log.held g) (write_parts_on shape g addr bytes))
           (now : Log) (kept' : IsKept shape now) (live : now.is_live ≡ true) (adds : Adds log.entries.items now.entries.items (map (λ (p : Place). (p.addr, p.len)) (parts_of shape addr (length bytes)))) where
@@ -155,27 +163,36 @@ module _ (tells : Bool) (old : View) (shape : Shape) (logs : List Log) (is_dead 
             }
 
         module _ (at : ℕ) (is : at ≡ t) where
-          pub write_sound : IsSound tells new shape (slice_set logs at now) is_dead
-          write_sound = subst (λ (k : ℕ). IsSound tells new shape (slice_set logs k now) is_dead) (sym is)
-              (sound_set tells old new shape logs is_dead sound does.size t now below kept'
-              (λ told fine. cells_sure shape (staged_places shape t log.held addr bytes) (staged_in_cells shape t small log.held addr bytes write_parts_fit) old.content (long told) (staged_within shape t small log.held addr bytes write_parts_fit)
+          pub write_sound : IsSound tells new shape (slice_set logs at now) late is_dead
+          write_sound = subst (λ (k : ℕ). IsSound tells new shape (slice_set logs k now) late is_dead) (sym is)
+              (sound_set tells old new shape logs late late is_dead sound does.size t now below kept' sound.ready
+              (λ fine. record {
+                tied = (sound.in_order fine).tied;
+                before = each_set logs t now below (IsBefore shape late.queue) (λ so. absurd (false≢true (sym apart ∙ so))) (λ u ne. (sound.in_order fine).before u);
+              })
+              (λ told fine. cells_sure shape (staged_places shape t log.held addr bytes) (staged_in_cells shape t small log.held addr bytes write_parts_fit) late.queue spared old.content (long told) (staged_within shape t small log.held addr bytes write_parts_fit)
               (sound.told told alive).sure new.content (does.touched told))
+              (λ told fine. late_held shape late sound.ready (sound.in_order fine).tied (staged_places shape t log.held addr bytes) spared old.content.bytes new.content.bytes (does.touched told).bytes (sound.told told fine).shown)
               (λ told fine. now_is_held told)
               (λ told fine u ne l lies. held_kept shape old.content.bytes new.content.bytes u l (sound.kept u l lies) (λ g e lt low. same told u l lies g e lt low (inl ne)) ((sound.told told alive).held u l lies)))
 
-          pub write_len : log_len (view_of new shape (slice_set logs at now) is_dead) t ≡ length now.entries.items
+          pub write_len : log_len (view_of new shape (slice_set logs at now) late is_dead) t ≡ length now.entries.items
           write_len = ap (λ (k : ℕ). length (listed (option_map ranges_in (entries_at (slice_set logs k now) t)))) is
               ∙ ap length (ranges_there shape (slice_set logs t now) t now (slice_get-set_same logs t now below) kept') ∙ length-ranges_in now.entries.items
 
-          pub write_done : (k : ℕ) → new.faults ≡ old.faults → (let done : Result ℕ EawFault = Ok k in face.Does tells (Opens shape) (log_write t addr bytes) (view_of old shape logs is_dead) (view_of new shape (slice_set logs at now) is_dead) done)
-          write_done k same' = subst (λ (j : ℕ). let done : Result ℕ EawFault = Ok k in face.Does tells (Opens shape) (log_write t addr bytes) (view_of old shape logs is_dead) (view_of new shape (slice_set logs j now) is_dead) done) (sym is)
-              (done tells (Opens shape) (log_write t addr bytes) (view_of old shape logs is_dead) (view_of new shape (slice_set logs t now) is_dead) refl does.cause.later time k same' alive small fits
+          pub write_done : (k : ℕ) → new.faults ≡ old.faults → (let done : Result ℕ EawFault = Ok k in face.Does tells (Opens shape) (log_write t addr bytes) (view_of old shape logs late is_dead) (view_of new shape (slice_set logs at now) late is_dead) done)
+          write_done k same' = subst (λ (j : ℕ). let done : Result ℕ EawFault = Ok k in face.Does tells (Opens shape) (log_write t addr bytes) (view_of old shape logs late is_dead) (view_of new shape (slice_set logs j now) late is_dead) done) (sym is)
+              (done tells (Opens shape) (log_write t addr bytes) (view_of old shape logs late is_dead) (view_of new shape (slice_set logs t now) late is_dead) refl does.cause.later time k same' alive small fits
               (record {
                 alive = alive;
                 ranges = ranges_set logs t now below _ (ap (option_map ranges_in) (entries_live now live)
                     ∙ ap (λ (rs : List (ℕ × ℕ)). Some rs) (now_ranges ∙ ap (λ (rs : List (ℕ × ℕ)). rs ++ ranges_of (parts_of_write addr bytes)) (sym (ranges_there shape logs t log there kept))));
                 state = λ told.
-                    let bytes' = staged_data shape (staged_places shape t log.held addr bytes) (staged_in_cells shape t small log.held addr bytes write_parts_fit) old.content.bytes new.content.bytes (does.touched told).bytes in
+                    let bytes' =
+                    alive_shown shape late is_dead new.content.bytes alive
+                    ∙ cells_data shape (staged_places shape t log.held addr bytes) (staged_in_cells shape t small log.held addr bytes write_parts_fit) late.queue spared old.content (long told) (staged_within shape t small log.held addr bytes write_parts_fit)
+                    (sound.told told alive).sure new.content (does.touched told)
+                    ∙ sym (alive_shown shape late is_dead old.content.bytes alive) in
                     let logs' = parts_set logs t now below shape old.content.bytes new.content.bytes _ (ap (option_map (parts_in shape new.content.bytes t)) (entries_live now live)
                     ∙ ap (λ (ps : List Part). Some ps) (now_parts told ∙ ap (λ (ps : List Part). ps ++ parts_of_write addr bytes) (sym (parts_there shape logs t log there kept old.content.bytes))))
                     (λ u ne. others_kept shape logs old.content.bytes new.content.bytes u (sound.kept u) (λ l lies g e lt low. same told u l lies g e lt low (inl ne))) in
@@ -183,11 +200,11 @@ module _ (tells : Bool) (old : View) (shape : Shape) (logs : List Log) (is_dead 
               }))
 
 -- a refused write
-pub write_refused : (tells : Bool) (old : View) (shape : Shape) (logs : List Log) (is_dead : Bool) → IsSound tells old shape logs is_dead → (t addr : ℕ) (bytes : List ℕ) → addr + length bytes ≤ data_len shape → (fault : EawFault)
-    → RefusesWrite shape logs is_dead t addr (length bytes) fault → (r : Result ℕ EawFault) → IsErrAnd r (λ e. e ≡ fault) → face.Does tells (Opens shape) (log_write t addr bytes) (view_of old shape logs is_dead) (view_of old shape logs is_dead) r
-write_refused tells old shape logs is_dead sound t addr bytes inside (UnknownTid u) said = refused tells (Opens shape) (log_write t addr bytes) (view_of old shape logs is_dead) (UnknownTid u) (said.0, (said.1, said.2)) (λ is. cc)
-write_refused tells old shape logs is_dead sound t addr bytes inside (LogFull g h n) said =
-    refused tells (Opens shape) (log_write t addr bytes) (view_of old shape logs is_dead) (LogFull g h n)
-    (said.0, said.1, first_full tells old shape logs is_dead sound said.0 t said.1 said.2.log said.2.there addr bytes inside g h n said.2.says) (λ is. cc)
-write_refused tells old shape logs is_dead sound t addr bytes inside Media said = absurd said
-write_refused tells old shape logs is_dead sound t addr bytes inside Dead said = refused tells (Opens shape) (log_write t addr bytes) (view_of old shape logs is_dead) Dead said (λ is. cc)
+pub write_refused : (tells : Bool) (old : View) (shape : Shape) (logs : List Log) (late : LateData) (is_dead : Bool) → IsSound tells old shape logs late is_dead → (t addr : ℕ) (bytes : List ℕ) → addr + length bytes ≤ data_len shape → (fault : EawFault)
+    → RefusesWrite shape logs is_dead t addr (length bytes) fault → (r : Result ℕ EawFault) → IsErrAnd r (λ e. e ≡ fault) → face.Does tells (Opens shape) (log_write t addr bytes) (view_of old shape logs late is_dead) (view_of old shape logs late is_dead) r
+write_refused tells old shape logs late is_dead sound t addr bytes inside (UnknownTid u) said = refused tells (Opens shape) (log_write t addr bytes) (view_of old shape logs late is_dead) (UnknownTid u) (said.0, (said.1, said.2)) (λ is. cc)
+write_refused tells old shape logs late is_dead sound t addr bytes inside (LogFull g h n) said =
+    refused tells (Opens shape) (log_write t addr bytes) (view_of old shape logs late is_dead) (LogFull g h n)
+    (said.0, said.1, first_full tells old shape logs late is_dead sound said.0 t said.1 said.2.log said.2.there addr bytes inside g h n said.2.says) (λ is. cc)
+write_refused tells old shape logs late is_dead sound t addr bytes inside Media said = absurd said
+write_refused tells old shape logs late is_dead sound t addr bytes inside Dead said = refused tells (Opens shape) (log_write t addr bytes) (view_of old shape logs late is_dead) Dead said (λ is. cc)

@@ -8,3 +8,4 @@ pub mod Laws
 pub mod Opening
 pub mod Costs
 pub mod Groups
+pub mod Props

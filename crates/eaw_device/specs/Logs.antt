@@ -1,29 +1,15 @@
 -- The log of a number as the device keeps it: its entries, in the order in which they were logged.
-use Rattle.std.specs.Prelude.{ℕ, ◌≡◌, ◌*◌, ◌<◌, ◌≤◌, nat_eq, if◌then◌else◌, false, List, [], ◌∷◌, ◌++◌, length, All, Option, Some, None, slice_get, slice_index, vec_capacity}
+use Rattle.std.specs.Prelude.{ℕ, ◌≡◌, ◌*◌, ◌<◌, ◌≤◌, if◌then◌else◌, false, List, [], ◌++◌, length, All, Option, Some, None, slice_get, slice_index, vec_capacity}
 use Rattle.std.specs.List.{range_with_len}
 use Rattle.std.specs.Option.{option_map, option_and_then}
 use Rattle.array_shape.specs.declared.shape.Shape.{Shape}
-use Rattle.array_shape.specs.Places.{IsPlaced, logger_of}
+use Rattle.array_shape.specs.Places.{IsPlaced}
 use Rattle.array_shape.specs.Logged.{Part, ranges_of}
-use Rattle.array_image.specs.Image.{cell_of, cell_part, IsGoodCell}
+use Rattle.array_image.specs.Image.{cell_of, IsGoodCell}
+use Rattle.deferred_parts.specs.Entries.{cells_on, parts_in, ranges_in}
 use Rattle.eaw_face.specs.State.{Logs}
-use Rattle.eaw_device.specs.declared.log.Entry.{Entry}
+use Rattle.deferred_parts.specs.declared.entry.Entry.{Entry}
 use Rattle.eaw_device.specs.declared.log.Log.{Log}
-
--- where the parts of entries go: the address and length of each
-abbrev pub ranges_in : List Entry → List (ℕ × ℕ)
-ranges_in [] = []
-ranges_in (e ∷ es) = (e.addr, e.len) ∷ ranges_in es
-
--- the parts that number t has in the cells of its entries
-abbrev pub parts_in : Shape → List ℕ → ℕ → List Entry → List Part
-parts_in shape image t [] = []
-parts_in shape image t (e ∷ es) = cell_part (cell_of shape image (logger_of shape e.addr) t e.cell) ∷ parts_in shape image t es
-
--- the cells that entries have at logger g
-abbrev pub cells_on : Shape → ℕ → List Entry → List ℕ
-cells_on shape g [] = []
-cells_on shape g (e ∷ es) = if nat_eq (logger_of shape e.addr) g then e.cell ∷ cells_on shape g es else cells_on shape g es
 
 -- A log with room for all that it may have. It has no entry while its number is free. At each logger its cells are the first ones, in
 -- order, as many as are held. Each part lies within one page of the data.

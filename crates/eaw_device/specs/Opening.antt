@@ -1,5 +1,5 @@
 -- What an opening finds before there is a store.
-use Rattle.std.specs.Prelude.{ℕ, None, ◌≡◌, ◌+◌, ◌*◌, Bool, false, IsTrue, List, length, slice_get, vec_capacity}
+use Rattle.std.specs.Prelude.{ℕ, None, ◌≡◌, ◌+◌, ◌*◌, Bool, false, IsTrue, List, [], length, slice_get, vec_capacity}
 use Rattle.std.specs.Option.{ForSome}
 use Rattle.pcm_media.specs.View.{View}
 use Rattle.array_shape.specs.declared.shape.Shape.{Shape}
@@ -9,7 +9,11 @@ use Rattle.array_image.specs.Image.{data_of}
 use Rattle.array_image.specs.Decided.{settled_data}
 use Rattle.device_recovery.specs.Recovered.{rows_good, HasNoVote}
 use Rattle.eaw_device.specs.Opens.{header_of, opening_calls}
-use Rattle.eaw_device.specs.Sound.{IsSure}
+use Rattle.eaw_device.specs.Attaching.{AllSay}
+use Rattle.eaw_device.specs.Sound.{IsClean}
+use Rattle.deferred_parts.specs.Shown.{entries_of}
+use Rattle.late_data.specs.declared.commits.LateData.{LateData}
+use Rattle.late_data.specs.Tied.{IsReady, IsTied}
 use Rattle.eaw_device.specs.Logs.{IsKept}
 use Rattle.eaw_device.specs.declared.log.Log.{Log}
 
@@ -24,6 +28,14 @@ pub record AreFree (shape : Shape) (logs : List Log) : Type 0 where
   pub many : length logs ≡ shape.numbers
   pub free : (t : ℕ) → ForSome (slice_get logs t) (IsFree shape)
 
+-- no commit waits, and none may
+pub record IsOpened (shape : Shape) (late : LateData) : Type 0 where
+  pub ready : IsReady shape late
+  pub tied : IsTied shape late (λ t. false)
+  pub none : late.queue.ballots.items ≡ []
+  pub no_entry : (t : ℕ) → entries_of late.parts t ≡ []
+  pub none_waits : late.queue.depth ≡ 0
+
 -- From the medium as it was to what it is now: the array of the shape that its header says, settled and durable.
 pub record Settled (tells : Bool) (old : View) (shape : Shape) (new : View) : Type 0 where
   pub shape_is : IsTrue tells → SaysShape (header_of old.content.bytes) shape
@@ -31,6 +43,7 @@ pub record Settled (tells : Bool) (old : View) (shape : Shape) (new : View) : Ty
   pub size : new.size ≡ old.size
   pub good : IsTrue tells → rows_good shape old.content.bytes None
   pub bytes : IsTrue tells → data_of shape new.content.bytes ≡ settled_data shape old.content.bytes
-  pub sure : IsTrue tells → IsSure shape new.content
+  pub clean : IsTrue tells → IsClean shape new.content
+  pub header : IsTrue tells → AllSay shape new.content
   pub faults : new.faults ≡ old.faults
   pub calls : IsTrue tells → HasNoVote shape old.content.bytes → new.moment ≡ old.moment + opening_calls shape

@@ -1,5 +1,5 @@
 -- What an image of an array opens with, and what an opening finds.
-use Rattle.std.specs.Prelude.{ℕ, ◌≡◌, ◌+◌, ◌*◌, ◌≤◌, ◌⊎◌, Bool, false, IsTrue, List, [], Some, None}
+use Rattle.std.specs.Prelude.{ℕ, ◌≡◌, ◌+◌, ◌*◌, ◌≤◌, ◌⊎◌, Bool, false, IsTrue, IsFalse, List, [], Some, None}
 use Rattle.mars_base.specs.Causes.{Rose}
 use Rattle.mars_base.specs.Moments.{Elapses}
 use Rattle.mars_base.specs.Bytes.{range}
@@ -8,7 +8,6 @@ use Rattle.pcm_media.specs.View.{View}
 use Rattle.array_shape.specs.declared.shape.Shape.{Shape}
 use Rattle.array_shape.specs.Places.{media_len}
 use Rattle.row_bytes.specs.Header.{HasMark, SaysShape, IsBadIn}
-use Rattle.array_image.specs.Image.{data_of}
 use Rattle.array_image.specs.Decided.{settled_data}
 use Rattle.array_image.specs.Standing.{StandsFor}
 use Rattle.device_recovery.specs.Recovered.{rows_good, HasNoVote}
@@ -90,11 +89,12 @@ abbrev pub AttachLeaves : Bool → View → View → AttachFault → Type 0
 AttachLeaves tells old new Media = IsTrue tells → Touched [] old.content new.content ⊎ HoldsArray old
 AttachLeaves tells old new _ = IsTrue tells → Touched [] old.content new.content
 
--- The medium behind a store: its data, its moments and faults are the store's; if that was not dead, no row is voted.
-pub record IsBehind (tells : Bool) (store : StoreView) (media : View) : Type 0 where
+-- The medium behind a store: its moments and faults are the store's; if that was not dead, it settles to the store's data, and if no
+-- commit may wait for its write-back, no row is voted.
+pub record IsBehind (tells defers : Bool) (store : StoreView) (media : View) : Type 0 where
   pub size : media.size ≡ media_len store.shape
-  pub bytes : data_of store.shape media.content.bytes ≡ store.state.bytes
-  pub quiet : IsTrue tells → store.is_dead ≡ false → HasNoVote store.shape media.content.bytes
+  pub bytes : IsTrue tells → store.is_dead ≡ false → settled_data store.shape media.content.bytes ≡ store.state.bytes
+  pub quiet : IsTrue tells → store.is_dead ≡ false → IsFalse defers → HasNoVote store.shape media.content.bytes
   pub faults : media.faults ≡ store.faults
   pub moment : media.moment ≡ store.moment
   pub left : (t : ℕ) (image : List ℕ) → media.left_since t image → store.left_since t image

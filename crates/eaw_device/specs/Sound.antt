@@ -1,5 +1,5 @@
 -- What a device keeps true, and what it shows.
-use Rattle.std.specs.Prelude.{ℕ, ◌≡◌, Bool, true, false, IsTrue, List, [], length, slice_get, Some}
+use Rattle.std.specs.Prelude.{ℕ, ◌≡◌, ◌<◌, ◌≤◌, Bool, true, false, IsTrue, if◌then◌else◌, List, [], length, slice_get, slice_index, Some}
 use Rattle.std.specs.Option.{ForSome}
 use Rattle.pcm_media.specs.Images.{Content, MayLeave}
 use Rattle.pcm_media.specs.View.{View}
@@ -9,7 +9,13 @@ use Rattle.row_bytes.specs.Header.{SaysShape}
 use Rattle.array_image.specs.Image.{data_of}
 use Rattle.commit_queue.specs.Between.{IsAtRest}
 use Rattle.late_commits.specs.declared.queue.LateCommits.{LateCommits}
-use Rattle.late_commits.specs.Waiting.{IsFit}
+use Rattle.coordinator.specs.Commits.{cells_in}
+use Rattle.late_commits.specs.Waiting.{AreWaiting, IsFit, data_with}
+use Rattle.deferred_parts.specs.Entries.{AreHeld}
+use Rattle.deferred_parts.specs.Shown.{entries_of}
+use Rattle.deferred_parts.specs.Turns.{has_some}
+use Rattle.late_data.specs.declared.commits.LateData.{LateData}
+use Rattle.late_data.specs.Tied.{IsReady, IsTied}
 use Rattle.eaw_face.specs.StoreView.{StoreView, IsLive}
 use Rattle.eaw_face.specs.Command.{commit_group}
 use Rattle.eaw_face.specs.Causes.{known}
@@ -23,35 +29,56 @@ use Rattle.eaw_device.specs.Logs.{ranges_logged, parts_logged, IsKept, IsHeld}
 abbrev pub IsClean : Shape → Content → Type 0
 IsClean shape content = IsAtRest shape [] (data_of shape content.bytes) content
 
--- Each image that a loss of power may leave has the header of the array, no voted row, and the data that a read gives.
-pub record IsSure (shape : Shape) (content : Content) : Type 0 where
-  pub clean : IsClean shape content
+-- In each image that a loss of power may leave, the commits of the queue wait for their write-back, no other row is voted, and the header is
+-- that of the array.
+pub record IsSure (shape : Shape) (queue : LateCommits) (content : Content) : Type 0 where
+  pub waiting : AreWaiting shape queue content
   pub header : (image : List ℕ) → MayLeave content image → SaysShape (header_of image) shape
 
--- the array is as above, and its cells hold what each number has logged
-pub record IsTold (shape : Shape) (content : Content) (logs : List Log) : Type 0 where
-  pub sure : IsSure shape content
+-- So it is, and the cells hold what memory says of the commits that wait and of the log of each number.
+pub record IsTold (shape : Shape) (late : LateData) (content : Content) (logs : List Log) : Type 0 where
+  pub sure : IsSure shape late.queue content
+  pub shown : AreHeld shape content.bytes (entries_of late.parts)
   pub held : (t : ℕ) → ForSome (slice_get logs t) (IsHeld shape content.bytes t)
 
--- The medium is as long as the array, which has a log for each number. While the device is not dead, what the medium tells is
--- that array with these logs.
-pub record IsSound (tells : Bool) (media : View) (shape : Shape) (logs : List Log) (is_dead : Bool) : Type 0 where
+-- the cells of a number's log come before those of its commit that waits
+abbrev pub IsBefore : Shape → LateCommits → ℕ → Log → Type 0
+IsBefore shape queue t log = has_some queue.ballots.items t ≡ true → (g : ℕ) → g < shape.loggers → slice_index log.held g ≤ (cells_in queue.cells g t).first
+
+-- what memory says of the commits that wait fits together, and with the logs
+pub record IsInOrder (shape : Shape) (late : LateData) (logs : List Log) : Type 0 where
+  pub tied : IsTied shape late (λ t. false)
+  pub before : (t : ℕ) → ForSome (slice_get logs t) (IsBefore shape late.queue t)
+
+-- The medium is as long as the array, which has a log for each number. While the device is not dead, its memory is in order, and what the
+-- medium tells is the array with these logs and these commits that wait.
+pub record IsSound (tells : Bool) (media : View) (shape : Shape) (logs : List Log) (late : LateData) (is_dead : Bool) : Type 0 where
   pub shaped : IsShape shape
   pub sized : media.size ≡ media_len shape
   pub many : length logs ≡ shape.numbers
   pub kept : (t : ℕ) → ForSome (slice_get logs t) (IsKept shape)
-  pub told : IsTrue tells → is_dead ≡ false → IsTold shape media.content logs
+  pub ready : IsReady shape late
+  pub in_order : is_dead ≡ false → IsInOrder shape late logs
+  pub told : IsTrue tells → is_dead ≡ false → IsTold shape late media.content logs
 
 -- Of the queue's commits none may wait: each is written back at once.
-pub record IsAtOnce (shape : Shape) (late : LateCommits) : Type 0 where
-  pub fit : IsFit shape late
-  pub none_waits : late.depth ≡ 0
+pub record IsAtOnce (shape : Shape) (queue : LateCommits) : Type 0 where
+  pub fit : IsFit shape queue
+  pub none_waits : queue.depth ≡ 0
+
+-- how many commits wait
+abbrev pub deferred_of : LateData → ℕ
+deferred_of late = length late.queue.ballots.items
+
+-- the data that it shows: that of the array with the commits that wait; once it is dead nothing is said of these
+abbrev pub shown : Shape → LateData → Bool → List ℕ → List ℕ
+shown shape late is_dead image = if is_dead then data_of shape image else data_with shape late.queue image
 
 -- what a device shows
-abbrev pub view_of : View → Shape → List Log → Bool → StoreView
-view_of media shape logs is_dead = record {
+abbrev pub view_of : View → Shape → List Log → LateData → Bool → StoreView
+view_of media shape logs late is_dead = record {
   shape = shape;
-  state = record { bytes = data_of shape media.content.bytes; logs = parts_logged shape media.content.bytes logs };
+  state = record { bytes = shown shape late is_dead media.content.bytes; logs = parts_logged shape media.content.bytes logs };
   ranges = ranges_logged logs;
   is_dead = is_dead;
   faults = media.faults;

@@ -1,5 +1,7 @@
 -- What the steps of a command do to the medium, and why a write is refused.
-use Rattle.std.specs.Prelude.{ℕ, ◌≡◌, ◌<◌, Bool, true, false, List, length, Some, None, slice_get, slice_index}
+use Rattle.std.specs.Prelude.{ℕ, ◌≡◌, ◌<◌, ◌≤◌, Bool, true, false, IsTrue, List, length, Some, None, Result, IfErr, OnOk, slice_get, slice_index}
+use Rattle.mars_base.specs.Causes.{Rose}
+use Rattle.eaw_face.specs.StoreView.{StoreView, LeavesOnly}
 use Rattle.std.specs.Option.{ForSome}
 use Rattle.mars_base.specs.Check.{Check}
 use Rattle.mars_base.specs.Room.{room}
@@ -40,3 +42,15 @@ RefusesWrite shape logs is_dead t addr len Dead = is_dead ≡ true
 -- the cells of number t, after the held ones, that a write takes at all loggers
 abbrev pub staged_places : Shape → ℕ → List ℕ → ℕ → List ℕ → List (ℕ × ℕ)
 staged_places shape t held addr bytes = joined (λ g. cell_ranges shape g t (slice_index held g) (length (write_parts_on shape g addr bytes))) 0 shape.loggers
+
+-- A write-back changes nothing that a device shows but its moment, and what might have been left opens with its data. If the medium fails, the
+-- device is dead.
+pub record IsQuiet {T : Type 0} (tells : Bool) (Opens : List ℕ → List ℕ → Type 0) (old new : StoreView) (result : Result T EawFault) : Type 0 where
+  pub shape : new.shape ≡ old.shape
+  pub ranges : new.ranges ≡ old.ranges
+  pub later : old.faults ≤ new.faults
+  pub kept : OnOk result (new.faults ≡ old.faults)
+  pub alive : OnOk result (new.is_dead ≡ false)
+  pub state : IsTrue tells → OnOk result (new.state ≡ old.state)
+  pub failed : IfErr result (λ fault. (fault ≡ Media) × (new.is_dead ≡ true) × Rose old.faults new.faults)
+  pub time : IsTrue tells → LeavesOnly (λ image. Opens image old.state.bytes) old new

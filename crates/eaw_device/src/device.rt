@@ -1,46 +1,99 @@
 // The commands, over all loggers.
-ghost use Rattle.std.specs.Prelude.{◌≡◌, ◌≢◌, ◌+◌, ◌≤◌, ◌<◌, false, None, IsTrue, IfOk, IfErr, OnOk};
-ghost use Rattle.array_shape.specs.NumberSet.{members};
+ghost use Rattle.std.specs.Prelude.{◌≡◌, ◌≢◌, ◌+◌, ◌≤◌, ◌<◌, ℕ, true, drop, take, false, None, IsTrue, IfOk, IfErr, OnOk, length};
+ghost use Rattle.mars_base.specs.Costs.{Costs};
+ghost use Rattle.array_shape.specs.NumberSet.{has, members};
+ghost use Rattle.late_commits.specs.Costs.{calls_back};
+ghost use Rattle.late_commits.specs.Orders.{IsFree, due_for};
 ghost use Rattle.array_shape.specs.Places.{data_len};
 ghost use Rattle.eaw_face.specs.StoreView.{IsLive};
 ghost use Rattle.eaw_face.specs.Command.{commit_group};
 ghost use Rattle.eaw_face.specs.Causes.{known};
-ghost use Rattle.eaw_device.specs.Opens.{Attached, FindsData, AttachCause, AttachLeaves, KeepsData, OpensWithin, IsBehind};
-ghost use Rattle.eaw_device.specs.Steps.{LogHasCells, RefusesWrite};
-ghost use Rattle.eaw_device.specs.Sound.{IsAtOnce, IsSound, LacksLog, LacksGroup, view_of};
+ghost use Rattle.eaw_device.specs.Opens.{Attached, FindsData, AttachCause, AttachLeaves, KeepsData, Opens, OpensWithin, IsBehind};
+ghost use Rattle.eaw_device.specs.Steps.{IsQuiet, LogHasCells, RefusesWrite};
+ghost use Rattle.eaw_device.specs.Props.{IsSound-prop};
+ghost use Rattle.commit_queue.specs.Deferred.{deferred_orders};
+ghost use Rattle.eaw_device.specs.Sound.{IsAtOnce, IsSound, LacksLog, LacksGroup, deferred_of, view_of};
 
 use crate::committing::{commit_log, commit_logs};
 use crate::fault::AttachFault;
 use crate::log::{Log, clear_logs};
 use crate::opening::open_array;
-use crate::reading::read_data;
 use crate::staging::{check_room, stage_all};
+use crate::write_back::{AtOnce, Late, WriteBack};
 use array_shape::{NumberSet, Shape};
 use eaw_face::{EawFault, EawStore};
-use late_commits::LateCommits;
+use late_data::LateData;
 use logger::Logger;
 use pcm_media::Media;
 use std::alloc::Global;
 
 /// The array over a medium.
 #[derive(Drop)]
-pub struct Eaw<M: Media> {
+pub struct Eaw<M: Media, W: WriteBack = AtOnce> {
+    write_back: W,
     media: M,
     shape: Shape,
     logs: Vec<Log>,
-    late: LateCommits,
+    late: LateData,
     is_dead: bool,
-    ghost sound: { IsSound M.tells (M.view media) shape logs.items is_dead },
-    ghost at_once: { IsAtOnce shape late },
+    ghost sound: { IsSound M.tells (M.view media) shape logs.items late is_dead } by { IsSound-prop M.tells (M.view media) shape logs.items late is_dead },
+    ghost at_once: { IsAtOnce shape late.queue },
 }
 
-impl<M: Media> Eaw<M> {
+impl<M: Media> Eaw<M, AtOnce> {
     /// Opens the array on the medium: reads its header, takes memory for its tables, and recovers. No number is live then.
     /// On an error the medium is given back.
-    pub fn attach(alloc: Global, mut media: M) -> Result<Eaw<M>, (AttachFault, M)>
-        ensures opens { IfOk result (λ eaw. Attached M.tells (M.view media) (view_of (M.view eaw.media) eaw.shape eaw.logs.items eaw.is_dead)) }
+    pub fn attach(alloc: Global, media: M) -> Result<Eaw<M, AtOnce>, (AttachFault, M)>
+        ensures opens { IfOk result (λ eaw. Attached M.tells (M.view media) (view_of (M.view eaw.media) eaw.shape eaw.logs.items eaw.late eaw.is_dead)) }
         // An image that opens with some data is opened with that data.
-        ensures found { IfOk result (λ eaw. FindsData M.tells (M.view media) (view_of (M.view eaw.media) eaw.shape eaw.logs.items eaw.is_dead)) }
+        ensures found { IfOk result (λ eaw. FindsData M.tells (M.view media) (view_of (M.view eaw.media) eaw.shape eaw.logs.items eaw.late eaw.is_dead)) }
+        ensures none_waits { IfOk result (λ eaw. deferred_of eaw.late ≡ 0) }
+        ensures cause { IfErr result (λ e. AttachCause M.tells (M.view media) (M.view e.1).faults e.0) }
+        ensures unwritten { IfErr result (λ e. AttachLeaves M.tells (M.view media) (M.view e.1) e.0) }
+        ensures keeps { IfOk result (λ eaw. KeepsData M.tells (M.view media) (M.view eaw.media).moment (M.view eaw.media).left_since) }
+        ensures keeps_on_err { IfErr result (λ e. KeepsData M.tells (M.view media) (M.view e.1).moment (M.view e.1).left_since) }
+        ensures later { IfErr result (λ e. (M.view media).faults ≤ (M.view e.1).faults) }
+        ensures kept { IfErr result (λ e. e.0 ≢ AttachFault.Media → (M.view e.1).faults ≡ (M.view media).faults) }
+        ensures within { IfErr result (λ e. OpensWithin M.tells (M.view media) (M.view e.1).moment) }
+        ensures early { IfErr result (λ e. e.0 ≡ AttachFault.NoMemory → (M.view e.1).moment ≡ (M.view media).moment + 1) }
+    {
+        Eaw::<M, AtOnce>::attach_with(alloc, media, AtOnce)
+    }
+}
+
+impl<M: Media> Eaw<M, Late> {
+    /// The same, for a device on which at most `depth` commits may wait for their write-back after they were answered.
+    pub fn attach_late(alloc: Global, media: M, depth: u8) -> Result<Eaw<M, Late>, (AttachFault, M)>
+        requires some { 0 < depth }
+        requires most { depth ≤ 64 }
+        ensures opens { IfOk result (λ eaw. Attached M.tells (M.view media) (view_of (M.view eaw.media) eaw.shape eaw.logs.items eaw.late eaw.is_dead)) }
+        // An image that opens with some data is opened with that data.
+        ensures found { IfOk result (λ eaw. FindsData M.tells (M.view media) (view_of (M.view eaw.media) eaw.shape eaw.logs.items eaw.late eaw.is_dead)) }
+        ensures none_waits { IfOk result (λ eaw. deferred_of eaw.late ≡ 0) }
+        ensures cause { IfErr result (λ e. AttachCause M.tells (M.view media) (M.view e.1).faults e.0) }
+        ensures unwritten { IfErr result (λ e. AttachLeaves M.tells (M.view media) (M.view e.1) e.0) }
+        ensures keeps { IfOk result (λ eaw. KeepsData M.tells (M.view media) (M.view eaw.media).moment (M.view eaw.media).left_since) }
+        ensures keeps_on_err { IfErr result (λ e. KeepsData M.tells (M.view media) (M.view e.1).moment (M.view e.1).left_since) }
+        ensures later { IfErr result (λ e. (M.view media).faults ≤ (M.view e.1).faults) }
+        ensures kept { IfErr result (λ e. e.0 ≢ AttachFault.Media → (M.view e.1).faults ≡ (M.view media).faults) }
+        ensures within { IfErr result (λ e. OpensWithin M.tells (M.view media) (M.view e.1).moment) }
+        ensures early { IfErr result (λ e. e.0 ≡ AttachFault.NoMemory → (M.view e.1).moment ≡ (M.view media).moment + 1) }
+    {
+        Eaw::<M, Late>::attach_with(alloc, media, Late::new(depth))
+    }
+}
+
+impl<M: Media, W: WriteBack> Eaw<M, W> {
+    /// The same, for a device that writes the data of a commit to its place when it is told so.
+    pub fn attach_with(
+        alloc: Global,
+        mut media: M,
+        write_back: W,
+    ) -> Result<Eaw<M, W>, (AttachFault, M)>
+        ensures opens { IfOk result (λ eaw. Attached M.tells (M.view media) (view_of (M.view eaw.media) eaw.shape eaw.logs.items eaw.late eaw.is_dead)) }
+        // An image that opens with some data is opened with that data.
+        ensures found { IfOk result (λ eaw. FindsData M.tells (M.view media) (view_of (M.view eaw.media) eaw.shape eaw.logs.items eaw.late eaw.is_dead)) }
+        ensures none_waits { IfOk result (λ eaw. deferred_of eaw.late ≡ 0) }
         ensures cause { IfErr result (λ e. AttachCause M.tells (M.view media) (M.view e.1).faults e.0) }
         ensures unwritten { IfErr result (λ e. AttachLeaves M.tells (M.view media) (M.view e.1) e.0) }
         ensures keeps { IfOk result (λ eaw. KeepsData M.tells (M.view media) (M.view eaw.media).moment (M.view eaw.media).left_since) }
@@ -52,6 +105,7 @@ impl<M: Media> Eaw<M> {
     {
         match open_array(alloc, &mut media) {
             Ok((shape, logs, late)) => Ok(Eaw {
+                write_back,
                 media,
                 shape,
                 logs,
@@ -62,11 +116,21 @@ impl<M: Media> Eaw<M> {
         }
     }
 
+    /// How many commits wait for their write-back: as many as there are different order numbers above 0 among the decided rows.
+    pub fn deferred(&self) -> u8
+        ensures many { result ≡ deferred_of self.now.late }
+        ensures most { result ≤ self.now.late.queue.depth }
+        ensures counted { IsTrue M.tells → self.now.is_dead ≡ false → result ≡ length (deferred_orders self.now.shape (M.view self.now.media).content.bytes) }
+    {
+        self.late.len() as u8
+    }
+
     /// The medium. What live numbers have logged is given up.
     pub fn into_media(self) -> M
-        ensures { IsBehind M.tells (view_of (M.view self.media) self.shape self.logs.items self.is_dead) (M.view result) }
+        ensures { IsBehind M.tells W.defers (view_of (M.view self.media) self.shape self.logs.items self.late self.is_dead) (M.view result) }
     {
         let Eaw {
+            write_back: _,
             media,
             shape: _,
             logs: _,
@@ -76,12 +140,35 @@ impl<M: Media> Eaw<M> {
         media
     }
 
+    // Writes back what waits of the numbers of a group: none that waits has one of them then.
+    fn settle_for(&mut self, group: u64) -> Result<(), EawFault>
+        requires { self.old.is_dead ≡ false }
+        ensures quiet { IsQuiet M.tells (Opens self.old.shape) (view_of (M.view self.old.media) self.old.shape self.old.logs.items self.old.late self.old.is_dead)
+            (view_of (M.view self.new.media) self.new.shape self.new.logs.items self.new.late self.new.is_dead) result }
+        ensures shape { self.new.shape ≡ self.old.shape }
+        ensures logs { self.new.logs ≡ self.old.logs }
+        ensures free { OnOk result ((t : ℕ) → has group t ≡ true → IsFree t self.new.late.queue.ballots.items) }
+        ensures left { OnOk result (self.new.late.queue.ballots.items ≡ drop (due_for group self.old.late.queue.ballots.items) self.old.late.queue.ballots.items) }
+        ensures costs { Costs M.tells (calls_back self.old.shape self.old.late.queue.cells (take (due_for group self.old.late.queue.ballots.items) self.old.late.queue.ballots.items)) (M.view self.old.media).moment (M.view self.new.media).moment result }
+    {
+        match self
+            .late
+            .write_back_for(&mut self.media, &self.shape, group)
+        {
+            Ok(()) => Ok(()),
+            Err(_) => {
+                self.is_dead = true;
+                Err(EawFault::Media)
+            }
+        }
+    }
+
     // Where the log of a live number is in the table.
     fn find_live(&self, tid: u8) -> Result<usize, EawFault>
         ensures at { IfOk result (λ at. at ≡ tid) }
         ensures alive { OnOk result (self.now.is_dead ≡ false) }
-        ensures live { OnOk result (IsLive (view_of (M.view self.now.media) self.now.shape self.now.logs.items self.now.is_dead) tid) }
-        ensures cause { IfErr result (LacksLog (view_of (M.view self.now.media) self.now.shape self.now.logs.items self.now.is_dead) tid) }
+        ensures live { OnOk result (IsLive (view_of (M.view self.now.media) self.now.shape self.now.logs.items self.now.late self.now.is_dead) tid) }
+        ensures cause { IfErr result (LacksLog (view_of (M.view self.now.media) self.now.shape self.now.logs.items self.now.late self.now.is_dead) tid) }
     {
         if self.is_dead {
             return Err(EawFault::Dead);
@@ -96,8 +183,8 @@ impl<M: Media> Eaw<M> {
     // Whether each number of a set has a log.
     fn find_group(&self, tids: NumberSet) -> Result<(), EawFault>
         ensures alive { OnOk result (self.now.is_dead ≡ false) }
-        ensures live { OnOk result (known (view_of (M.view self.now.media) self.now.shape self.now.logs.items self.now.is_dead) (commit_group (members tids)) None) }
-        ensures cause { IfErr result (LacksGroup (view_of (M.view self.now.media) self.now.shape self.now.logs.items self.now.is_dead) (members tids)) }
+        ensures live { OnOk result (known (view_of (M.view self.now.media) self.now.shape self.now.logs.items self.now.late self.now.is_dead) (commit_group (members tids)) None) }
+        ensures cause { IfErr result (LacksGroup (view_of (M.view self.now.media) self.now.shape self.now.logs.items self.now.late self.now.is_dead) (members tids)) }
     {
         if self.is_dead {
             return Err(EawFault::Dead);
@@ -129,36 +216,35 @@ impl<M: Media> Eaw<M> {
     }
 }
 
-impl<M: Media> EawStore for Eaw<M> {
+impl<M: Media, W: WriteBack> EawStore for Eaw<M, W> {
     ghost use Rattle.eaw_device.specs.Sound.{view_of};
     ghost use Rattle.eaw_device.specs.Opens.{Opens};
     ghost use Rattle.eaw_device.specs.Costs.{calls_of};
-    ghost use Rattle.eaw_device.specs.Laws.{outlines, placed, beyond, some_now, only_now, one_data};
-    ghost use Rattle.array_image.proofs.Data.{length-data_of};
+    ghost use Rattle.eaw_device.specs.Laws.{outlines, placed, beyond, some_now, only_now, one_data, length-shown};
 
     ghost tells = { M.tells };
 
-    ghost view = { λ s. view_of (M.view s.media) s.shape s.logs.items s.is_dead };
+    ghost view = { λ s. view_of (M.view s.media) s.shape s.logs.items s.late s.is_dead };
 
     ghost opens = { Opens };
 
-    ghost calls = { λ s command. calls_of command (view_of (M.view s.media) s.shape s.logs.items s.is_dead) };
+    ghost calls = { λ s command. calls_of command s.late (view_of (M.view s.media) s.shape s.logs.items s.late s.is_dead) };
 
     ghost shaped = { λ s. s.sound.shaped };
 
-    ghost long = { λ s told. length-data_of s.shape (M.view s.media).content.bytes };
+    ghost long = { λ s told. length-shown M.tells (M.view s.media) s.shape s.logs.items s.late s.is_dead s.sound told };
 
-    ghost outlines = { λ s t told alive. outlines s.shape (M.view s.media).content s.logs.items t (s.sound.told told alive) };
+    ghost outlines = { λ s t told alive. outlines s.shape s.late (M.view s.media).content s.logs.items t (s.sound.told told alive) };
 
     ghost placed = { λ s t. placed s.shape s.logs.items t (s.sound.kept t) };
 
     ghost beyond = { λ s t past. beyond s.logs.items s.shape t s.sound.many past };
 
-    ghost some_now = { λ s told alive. some_now (M.view s.media) s.shape s.logs.items s.is_dead (λ t image. M.counts_now s.media t image told) };
+    ghost some_now = { λ s told alive. some_now (M.view s.media) s.shape s.logs.items s.late s.is_dead (λ t image. M.counts_now s.media t image told) };
 
     ghost counts_now = { λ s t image told le left. M.counts_now s.media t image told le (M.only_now s.media image told left) };
 
-    ghost only_now = { λ s image told alive left. only_now s.shape (M.view s.media).content image (s.sound.told told alive).sure (M.only_now s.media image told left) };
+    ghost only_now = { λ s image told alive left. only_now M.tells (M.view s.media) s.shape s.logs.items s.late s.is_dead image s.sound told alive (M.only_now s.media image told left) };
 
     ghost one_data = { one_data };
 
@@ -282,7 +368,7 @@ impl<M: Media> EawStore for Eaw<M> {
         if self.is_dead {
             return Err(EawFault::Dead);
         }
-        match read_data(&mut self.media, &self.shape, addr, buf) {
+        match self.late.read(&mut self.media, &self.shape, addr, buf) {
             Ok(()) => Ok(()),
             Err(_) => {
                 self.is_dead = true;

@@ -11,9 +11,10 @@ mod fault;
 mod fresh;
 mod log;
 mod opening;
-mod reading;
 mod staging;
+mod write_back;
 
 pub use device::Eaw;
 pub use fault::AttachFault;
 pub use fresh::{FormatFault, format};
+pub use write_back::{AtOnce, Late, WriteBack};

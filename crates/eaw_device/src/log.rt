@@ -5,21 +5,15 @@ ghost use Rattle.array_shape.specs.NumberSet.{members};
 ghost use Rattle.array_shape.specs.Places.{data_len};
 ghost use Rattle.eaw_face.specs.State.{is_one_of};
 ghost use Rattle.array_shape.specs.Parts.{parts_of, parts_on, IsPartOf};
-ghost use Rattle.eaw_device.specs.Logs.{ranges_in, cells_on, IsKept, IsCleared, Adds};
+ghost use Rattle.eaw_device.specs.Logs.{IsKept, IsCleared, Adds};
+ghost use Rattle.deferred_parts.specs.Entries.{ranges_in, cells_on};
 
 use array_shape::{LOGGERS_MAX, NumberSet, Part, Shape};
+use deferred_parts::Entry;
 use std::alloc::{AllocError, Global};
 
 // How many loggers a log counts for.
 pub(crate) const LOGGERS: usize = LOGGERS_MAX as usize;
-
-/// A logged part: where it is to go, and the cell of its logger that holds it.
-#[derive(Clone, Copy)]
-pub(crate) struct Entry {
-    pub(crate) addr: u64,
-    pub(crate) len: u16,
-    pub(crate) cell: u16,
-}
 
 /// The log of one number.
 #[derive(Drop)]

@@ -1,14 +1,13 @@
 // An opening: the header, memory for the tables, as much as they need, and recovery.
 ghost use Rattle.std.specs.Prelude.{◌≡◌, ◌≢◌, ◌+◌, ◌≤◌, IsTrue, IfOk, IfErr, OnErr, vec_capacity};
 ghost use Rattle.eaw_device.specs.Opens.{AttachCause, AttachLeaves, KeepsData, OpensWithin};
-ghost use Rattle.eaw_device.specs.Opening.{AreFree, Settled};
-ghost use Rattle.eaw_device.specs.Sound.{IsAtOnce};
+ghost use Rattle.eaw_device.specs.Opening.{AreFree, IsOpened, Settled};
 
 use crate::attach::{read_header, settle};
 use crate::fault::AttachFault;
 use crate::log::Log;
 use array_shape::Shape;
-use late_commits::LateCommits;
+use late_data::LateData;
 use mars_base::NoMemory;
 use pcm_media::Media;
 use std::alloc::Global;
@@ -17,11 +16,11 @@ use std::alloc::Global;
 pub(crate) fn open_array<M: Media>(
     alloc: Global,
     media: &mut M,
-) -> Result<(Shape, Vec<Log>, LateCommits), AttachFault>
+) -> Result<(Shape, Vec<Log>, LateData), AttachFault>
     ensures settled { IfOk result (λ opened. Settled M.tells (M.view media.old) opened.0 (M.view media.new)) }
     ensures free { IfOk result (λ opened. AreFree opened.0 opened.1.items) }
     ensures room { IfOk result (λ opened. vec_capacity opened.1 ≡ opened.0.numbers) }
-    ensures at_once { IfOk result (λ opened. IsAtOnce opened.0 opened.2) }
+    ensures late { IfOk result (λ opened. IsOpened opened.0 opened.2) }
     ensures cause { IfErr result (AttachCause M.tells (M.view media.old) (M.view media.new).faults) }
     ensures unwritten { IfErr result (AttachLeaves M.tells (M.view media.old) (M.view media.new)) }
     ensures keeps { KeepsData M.tells (M.view media.old) (M.view media.new).moment (M.view media.new).left_since }
@@ -42,13 +41,13 @@ pub(crate) fn open_array<M: Media>(
 }
 
 // A free log for each number, and the queue.
-fn free_tables(alloc: Global, shape: &Shape) -> Result<(Vec<Log>, LateCommits), NoMemory>
+fn free_tables(alloc: Global, shape: &Shape) -> Result<(Vec<Log>, LateData), NoMemory>
     ensures free { IfOk result (λ tables. AreFree shape.now tables.0.items) }
     ensures room { IfOk result (λ tables. vec_capacity tables.0 ≡ shape.now.numbers) }
-    ensures at_once { IfOk result (λ tables. IsAtOnce shape.now tables.1) }
+    ensures late { IfOk result (λ tables. IsOpened shape.now tables.1) }
 {
     let logs = free_logs(alloc, shape)?;
-    Ok((logs, LateCommits::new(alloc, 0)?))
+    Ok((logs, LateData::new(alloc, shape, 0)?))
 }
 
 fn free_logs(alloc: Global, shape: &Shape) -> Result<Vec<Log>, NoMemory>

@@ -49,6 +49,13 @@ impl LateCommits {
         self.ballots.len()
     }
 
+    /// How many may wait.
+    pub fn depth(&self) -> u8
+        ensures { result ≡ self.now.depth }
+    {
+        self.depth
+    }
+
     /// The ballots of those that wait, the oldest first.
     pub fn ballots(&self) -> &[Ballot]
         ensures { result.now ≡ self.now.ballots.items }

@@ -1,5 +1,5 @@
 -- What a run leaves is what the next one needs.
-use Rattle.std.proofs.Common.{◌≡◌, ℕ, ◌≤◌, ◌⊎◌, inl, inr, ⊎_elim, List, length, Bool, sym, ap, subst, ◌∙◌}
+use Rattle.std.proofs.Common.{◌≡◌, ℕ, ◌≤◌, ◌⊎◌, inl, inr, ⊎_elim, List, length, Bool, false, sym, ap, subst, ◌∙◌}
 use Rattle.std.specs.Prelude.{IsTrue}
 use Rattle.pcm_media.specs.Images.{MayLeave}
 use Rattle.pcm_media.specs.View.{View}
@@ -25,6 +25,7 @@ use Rattle.mars_shell.specs.Dump.{Dumps, Spares}
 use Rattle.mars_shell.specs.Formats.{IsFormatted, FormatOutcome}
 use Rattle.mars_shell.specs.Forms.{index_of_form, index_in}
 use Rattle.mars_shell.specs.Joint.{JointWork}
+use Rattle.mars_shell.specs.Late.{is_late}
 use Rattle.mars_shell.specs.Next.{AllSound, IsOfRecords, LeavesFresh}
 use Rattle.mars_shell.specs.Outcome.{Idle, OutcomeOf}
 use Rattle.mars_shell.specs.Run.{HoldsRecords, TakesTurns, Answers, IsDamaged, Exceeds, OverRecords}
@@ -110,8 +111,8 @@ module _ (tells : Bool) (told : IsTrue tells) (old new : View) (counts_now : (t 
         (like.2, like.4, subst (λ (b : List ℕ). (index_of_form form).sound b) same first.2)
 
     -- and so are those on which callers took turns
-    turns_sound : (Says : Limits → List Turn → State → Type 0) (ended : Ended) → TakesTurns Says old ended new → AllSound shape form new.content
-    turns_sound Says ended taken image left =
+    turns_sound : (late : Bool) (Says : Limits → List Turn → State → Type 0) (ended : Ended) → TakesTurns late Says old ended new → AllSound shape form new.content
+    turns_sound late Says ended taken image left =
         let same : taken.shape ≡ shape = one_shape (header_of old.content.bytes) taken.shape shape taken.holds.array.header opened.header in
         let now = (taken.prefix_law.now image left).opens in (
           now.bytes,
@@ -126,10 +127,10 @@ module _ (tells : Bool) (told : IsTrue tells) (old new : View) (counts_now : (t 
         (idle_sound cut text) works outcome
 
     pub next_sound : (asked : Words) (status : Status) (input : List ℕ) (cut : Bool) (text : List ℕ) → IsOfRecords asked → OutcomeFor asked old status new input cut text → AllSound shape form new.content
-    next_sound Run status input cut text of outcome = records_sound 0 (λ ended. TakesTurns (Answers input ended cut text) old ended new) status cut text (λ ended taken. turns_sound (Answers input ended cut text) ended taken) outcome
-    next_sound (Callers numbers) status input cut text of outcome = records_sound numbers.callers (λ ended. TakesTurns (JointWork numbers.callers numbers.tries input ended cut text) old ended new) status cut text (λ ended taken. turns_sound (JointWork numbers.callers numbers.tries input ended cut text) ended taken) outcome
-    next_sound Dump status input cut text of outcome = records_sound 0 (λ ended. (taken : TakesTurns (Dumps ended cut text) old ended new) × Spares taken.shape old new) status cut text (λ ended taken. turns_sound (Dumps ended cut text) ended taken.0) outcome
-    next_sound (Drill numbers) status input cut text of outcome = records_sound 0 (λ ended. TakesTurns (Drills numbers ended cut text) old ended new) status cut text (λ ended taken. turns_sound (Drills numbers ended cut text) ended taken) outcome
+    next_sound (Run given) status input cut text of outcome = records_sound 0 (λ ended. TakesTurns (is_late given.writing) (Answers input ended cut text) old ended new) status cut text (λ ended taken. turns_sound (is_late given.writing) (Answers input ended cut text) ended taken) outcome
+    next_sound (Callers numbers) status input cut text of outcome = records_sound numbers.callers (λ ended. TakesTurns (is_late numbers.writing) (JointWork numbers.callers numbers.tries input ended cut text) old ended new) status cut text (λ ended taken. turns_sound (is_late numbers.writing) (JointWork numbers.callers numbers.tries input ended cut text) ended taken) outcome
+    next_sound Dump status input cut text of outcome = records_sound 0 (λ ended. (taken : TakesTurns false (Dumps ended cut text) old ended new) × Spares taken.shape old new) status cut text (λ ended taken. turns_sound false (Dumps ended cut text) ended taken.0) outcome
+    next_sound (Drill numbers) status input cut text of outcome = records_sound 0 (λ ended. TakesTurns (is_late numbers.writing) (Drills numbers ended cut text) old ended new) status cut text (λ ended taken. turns_sound (is_late numbers.writing) (Drills numbers ended cut text) ended taken) outcome
     next_sound Eaw status input cut text of outcome = absurd of
     next_sound (Format numbers) status input cut text of outcome = absurd of
 

@@ -15,6 +15,7 @@ pub mod Unopened
 pub mod Running
 pub mod Composing
 pub mod Completing
+pub mod Waiting
 mod Endings
 pub mod Commanding
 pub mod Statuses

@@ -1,11 +1,11 @@
 -- A run over an array that was opened: its records were read, and its lines answered.
 use Rattle.std.proofs.Common.{◌≡◌, ℕ, ◌≤◌, length, false, inl, inr, ⊎_elim, List, [], Bool, refl, sym, ap, subst, ◌∙◌, arith}
-use Rattle.std.specs.Prelude.{IsTrue, Err}
+use Rattle.std.specs.Prelude.{IsTrue, IsFalse, Err}
 use Rattle.pcm_media.specs.Images.{MayLeave}
 use Rattle.pcm_media.specs.View.{View}
 use Rattle.pcm_media.proofs.Left.{left_as_read}
 use Rattle.array_shape.specs.declared.shape.Shape.{Shape}
-use Rattle.array_image.specs.Image.{data_of}
+use Rattle.array_image.specs.Decided.{settled_data}
 use Rattle.array_image.specs.Standing.{IsLawful}
 use Rattle.row_bytes.proofs.OneShape.{one_shape}
 use Rattle.device_recovery.specs.Recovered.{HasNoVote}
@@ -61,7 +61,7 @@ module _ (tells : Bool) (told : IsTrue tells) (old : View) (only_now : (image : 
   holds : (index_at store.state.bytes).sound store.state.bytes → HoldsRecords store.shape old
   holds sound = record { array = array; sound = subst (λ (b : List ℕ). (index_at b).sound b) (attached.bytes told) sound }
 
-  module _ (later : StoreView) (new : View) (behind : IsBehind tells later new) where
+  module _ (defers : Bool) (later : StoreView) (new : View) (behind : IsBehind tells defers later new) where
     -- the records were read
     looked : LeavesOnly (λ image. Opens store.shape image store.state.bytes) store later → (shape : Shape) → AllOpen shape old.content → (image : List ℕ) → new.left_since old.moment image → OpensLike shape old.content image
     looked time shape all image left = ⊎_elim (at_entry shape all image) (like_data shape all image) (time.only old.moment image (keeps told shape all).later (behind.left old.moment image left))
@@ -103,17 +103,17 @@ module _ (tells : Bool) (told : IsTrue tells) (old : View) (only_now : (image : 
         recovers : (least : ℕ) (image : List ℕ) → opens_of Opens store.shape (index_at store.state.bytes) served.final least image → Recovers store.shape (index_in store.shape old) served.final least image
         recovers least image has = subst (λ (b : List ℕ). Recovers store.shape (index_at b) served.final least image) (attached.bytes told) has
 
-        bytes_now : data_of store.shape new.content.bytes ≡ later.state.bytes
-        bytes_now = ap (λ (s : Shape). data_of s new.content.bytes) (sym served.shape) ∙ behind.bytes
+        bytes_now : later.is_dead ≡ false → settled_data store.shape new.content.bytes ≡ later.state.bytes
+        bytes_now alive = ap (λ (s : Shape). settled_data s new.content.bytes) (sym served.shape) ∙ behind.bytes told alive
 
         -- the data at the end names the index that it is sound under
-        own_all : HasAll (index_at store.state.bytes) later.state.bytes served.final → HasAll (index_at (data_of store.shape new.content.bytes)) (data_of store.shape new.content.bytes) served.final
-        own_all has =
-            subst (λ (b : List ℕ). HasAll (index_at b) b served.final) (sym bytes_now)
+        own_all : later.is_dead ≡ false → HasAll (index_at store.state.bytes) later.state.bytes served.final → HasAll (index_in store.shape new) (settled_data store.shape new.content.bytes) served.final
+        own_all alive has =
+            subst (λ (b : List ℕ). HasAll (index_at b) b served.final) (sym (bytes_now alive))
             (subst (λ (i : Index). HasAll i later.state.bytes served.final) (sym (sound_says store.state.bytes later.state.bytes has.sound)) has)
 
         -- callers took turns
-        takes_turns : TakesTurns Says old ended new
+        takes_turns : TakesTurns defers Says old ended new
         takes_turns = record {
           shape = store.shape;
           holds = holds served.sound;
@@ -128,19 +128,19 @@ module _ (tells : Bool) (told : IsTrue tells) (old : View) (only_now : (image : 
             since = λ all image left. ⊎_elim (λ was. inl (at_entry store.shape all image was)) (λ anew. inr (recovers 0 image anew))
                 (served.since.only old.moment image (keeps told store.shape all).later (behind.left old.moment image left));
           };
-          quiet = λ unfailed. subst (λ (s : Shape). HasNoVote s new.content.bytes) served.shape (behind.quiet told (served.left unfailed).0);
-          left = λ unfailed. own_all (served.left unfailed).1;
-          unwritten = λ unfailed reads. bytes_now ∙ served.unwritten unfailed reads ∙ attached.bytes told;
+          quiet = λ unfailed at_once. subst (λ (s : Shape). HasNoVote s new.content.bytes) served.shape (behind.quiet told (served.left unfailed).0 at_once);
+          left = λ unfailed. let its = served.left unfailed in own_all its.0 its.1;
+          unwritten = λ unfailed reads. bytes_now (served.left unfailed).0 ∙ served.unwritten unfailed reads ∙ attached.bytes told;
         }
 
-        -- and what was opened stays, if the store was spared
-        spared_on : Spared Opens store later → Spares store.shape old new
-        spared_on spared = record {
-          quiet = subst (λ (s : Shape). HasNoVote s new.content.bytes) served.shape (behind.quiet told spared.alive);
+        -- and what was opened stays, if the store was spared and no commit may wait
+        spared_on : IsFalse defers → Spared Opens store later → Spares store.shape old new
+        spared_on at_once spared = record {
+          quiet = subst (λ (s : Shape). HasNoVote s new.content.bytes) served.shape (behind.quiet told spared.alive at_once);
           now = λ image left. subst (λ (b : List ℕ). Opens store.shape image b) (attached.bytes told) (spared.now image (left_now image left));
           since = λ all image left. looked spared.time store.shape all image left;
         }
 
-        pub turns_taken : (taken : TakesTurns Says old ended new) × (IsTrue spares → Spares taken.shape old new)
+        pub turns_taken : (taken : TakesTurns defers Says old ended new) × (IsTrue spares → IsFalse defers → Spares taken.shape old new)
         unfolding takes_turns
-        turns_taken = (takes_turns, λ is. spared_on (served.spared is))
+        turns_taken = (takes_turns, λ is at_once. spared_on at_once (served.spared is))

@@ -1,5 +1,5 @@
 -- What the words of the command line ask for, and what comes of it.
-use Rattle.std.specs.Prelude.{ℕ, ◌≤◌, ◌⊎◌, List, length, Bool, IsTrue}
+use Rattle.std.specs.Prelude.{ℕ, ◌≤◌, ◌⊎◌, List, length, Bool, false, IsTrue}
 use Rattle.pcm_media.specs.View.{View}
 use Rattle.array_shape.specs.declared.shape.Shape.{Shape}
 use Rattle.command_words.specs.Asked.{AsksFor, AskForNothing}
@@ -10,6 +10,7 @@ use Rattle.script_run.specs.Input.{input_limit}
 use Rattle.mars_shell.specs.Commands.{Obeys}
 use Rattle.mars_shell.specs.Formats.{GiveLength, FormatOutcome}
 use Rattle.mars_shell.specs.Joint.{JointWork}
+use Rattle.mars_shell.specs.Late.{is_late}
 use Rattle.mars_shell.specs.Outcome.{OutcomeOf}
 use Rattle.mars_shell.specs.Drill.{Drills}
 use Rattle.mars_shell.specs.Dump.{Dumps, Spares}
@@ -31,7 +32,7 @@ WordsSay words _ Unread Holds = (asked : Words) × AsksFor words asked × Holds 
 
 -- one thing for a command that reads no input, another for one that does
 abbrev pub IfReads : Words → Type 0 → Type 0 → Type 0
-IfReads Run Without Reads = Reads
+IfReads (Run given) Without Reads = Reads
 IfReads (Callers numbers) Without Reads = Reads
 IfReads Eaw Without Reads = Reads
 IfReads _ Without Reads = Without
@@ -39,12 +40,12 @@ IfReads _ Without Reads = Without
 -- What was written and done, by what is asked for. `run`, `callers`, `drill` and `dump` read the records of an array that was opened. `eaw`
 -- does not. Only `callers` need numbers.
 abbrev pub OutcomeFor : Words → View → Status → View → List ℕ → Bool → List ℕ → Type 0
-OutcomeFor Run old status new input cut text = OverRecords 0 (λ ended. TakesTurns (Answers input ended cut text) old ended new) old status new cut text
+OutcomeFor (Run given) old status new input cut text = OverRecords 0 (λ ended. TakesTurns (is_late given.writing) (Answers input ended cut text) old ended new) old status new cut text
 OutcomeFor (Callers numbers) old status new input cut text =
-    OverRecords numbers.callers (λ ended. TakesTurns (JointWork numbers.callers numbers.tries input ended cut text) old ended new) old status new cut text
+    OverRecords numbers.callers (λ ended. TakesTurns (is_late numbers.writing) (JointWork numbers.callers numbers.tries input ended cut text) old ended new) old status new cut text
 OutcomeFor Eaw old status new input cut text = OutcomeOf (λ ended. Obeys old input ended new cut text) (λ page. ⊥) ⊥ ⊥ old status new cut text
-OutcomeFor Dump old status new input cut text = OverRecords 0 (λ ended. (taken : TakesTurns (Dumps ended cut text) old ended new) × Spares taken.shape old new) old status new cut text
-OutcomeFor (Drill numbers) old status new input cut text = OverRecords 0 (λ ended. TakesTurns (Drills numbers ended cut text) old ended new) old status new cut text
+OutcomeFor Dump old status new input cut text = OverRecords 0 (λ ended. (taken : TakesTurns false (Dumps ended cut text) old ended new) × Spares taken.shape old new) old status new cut text
+OutcomeFor (Drill numbers) old status new input cut text = OverRecords 0 (λ ended. TakesTurns (is_late numbers.writing) (Drills numbers ended cut text) old ended new) old status new cut text
 OutcomeFor (Format numbers) old status new input cut text = FormatOutcome numbers old status new cut text
 
 -- an input whose bytes are known and within the limit
@@ -56,7 +57,7 @@ IsShortInput tells input = IsTrue tells × (length input ≤ input_limit)
 -- numbers as there are callers.
 abbrev pub IsFit : Words → Bool → List ℕ → Bool → View → Type 0
 IsFit (Format numbers) source_tells input media_tells media = GiveLength numbers media.size
-IsFit Run source_tells input media_tells media = IsShortInput source_tells input × IsTrue media_tells × ((shape : Shape) × HoldsRecords shape media)
+IsFit (Run given) source_tells input media_tells media = IsShortInput source_tells input × IsTrue media_tells × ((shape : Shape) × HoldsRecords shape media)
 IsFit (Callers numbers) source_tells input media_tells media =
     IsShortInput source_tells input × IsTrue media_tells × ((shape : Shape) × HoldsRecords shape media × (numbers.callers ≤ shape.numbers))
 IsFit Eaw source_tells input media_tells media = IsShortInput source_tells input × IsTrue media_tells × HoldsArray media

@@ -5,7 +5,6 @@ use Rattle.std.specs.List.{concat}
 use Rattle.pcm_media.specs.Images.{MayLeave}
 use Rattle.pcm_media.specs.View.{View}
 use Rattle.array_shape.specs.declared.shape.Shape.{Shape}
-use Rattle.array_image.specs.Image.{data_of}
 use Rattle.device_recovery.specs.Recovered.{HasNoVote}
 use Rattle.eaw_device.specs.Opens.{Opens, AllOpen, OpensLike, IsArray}
 use Rattle.eaw_script.specs.Lines.{raw_script}
@@ -32,4 +31,4 @@ pub record Obeys (old : View) (input : List ℕ) (ended : Ended) (new : View) (c
   pub since : AllOpen shape old.content → (image : List ℕ) → new.left_since old.moment image
       → OpensLike shape old.content image ⊎ ((bytes : List ℕ) × Opens shape image bytes × (MayStand final bytes ⊎ Contains final.past bytes))
   pub quiet : ended ≡ All → HasNoVote shape new.content.bytes
-  pub left : ended ≡ All → data_of shape new.content.bytes ≡ final.state.bytes
+  pub left : ended ≡ All → settled_data shape new.content.bytes ≡ final.state.bytes

@@ -6,6 +6,7 @@ pub mod Outcome
 pub mod Opening
 pub mod OnCore
 pub mod Forms
+pub mod Late
 pub mod PrefixLaw
 pub mod Run
 pub mod Dump

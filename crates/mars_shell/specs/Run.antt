@@ -3,7 +3,6 @@ use Rattle.std.specs.Prelude.{ℕ, ◌≡◌, ◌≢◌, ◌^◌, ◌<◌, ◌�
 use Rattle.std.specs.List.{concat}
 use Rattle.pcm_media.specs.View.{View}
 use Rattle.array_shape.specs.declared.shape.Shape.{Shape}
-use Rattle.array_image.specs.Image.{data_of}
 use Rattle.array_image.specs.Decided.{settled_data}
 use Rattle.device_recovery.specs.Recovered.{HasNoVote}
 use Rattle.eaw_device.specs.Opens.{IsArray, HoldsArray}
@@ -21,7 +20,7 @@ use Rattle.script_run.specs.Transcript.{Answered}
 use Rattle.script_run.specs.declared.ended.Ended.{Ended}
 use Rattle.script_run.specs.declared.ended.Ended.TheVariants.{MediaFault}
 use Rattle.script_text.specs.Replies.{reply_line}
-use Rattle.mars_shell.specs.Forms.{index_at, index_in}
+use Rattle.mars_shell.specs.Forms.{index_in}
 use Rattle.mars_shell.specs.Lines.{call_script}
 use Rattle.mars_shell.specs.Outcome.{OutcomeOf}
 use Rattle.mars_shell.specs.PrefixLaw.{PrefixLaw}
@@ -58,9 +57,10 @@ pub record HasAll (index : Index) (bytes : List ℕ) (state : State) : Type 0 wh
 
 -- Callers took turns over an array whose records are sound: there is a run of steps from the state that was opened to the last one. Says
 -- tells, of the limits of the array, the turns and the last state, what was written. The history, also with what is in doubt, is legal on
--- the base and obeys the prefix law. Unless the medium failed, the data has exactly the records of the history, and if no turn asked to
--- write or to remove a record, it is byte for byte as it was opened.
-pub record TakesTurns (Says : Limits → List Turn → State → Type 0) (old : View) (ended : Ended) (new : View) : Type 0 where
+-- the base and obeys the prefix law. Unless the medium failed, the data that the array settles to at the end has exactly the records of the
+-- history, and if no turn asked to write or to remove a record, it is byte for byte as it was opened. Then also no row is voted, except that
+-- on a late device commits may wait for their write-back.
+pub record TakesTurns (late : Bool) (Says : Limits → List Turn → State → Type 0) (old : View) (ended : Ended) (new : View) : Type 0 where
   pub shape : Shape
   pub holds : HoldsRecords shape old
   pub turns : List Turn
@@ -70,9 +70,9 @@ pub record TakesTurns (Says : Limits → List Turn → State → Type 0) (old : 
   pub base : final.base ≡ table_of (index_in shape old) (settled_data shape old.content.bytes)
   pub legal : IsLegal final.base (final.history ++ final.doubt)
   pub prefix_law : PrefixLaw shape old final new
-  pub quiet : ended ≢ MediaFault → HasNoVote shape new.content.bytes
-  pub left : ended ≢ MediaFault → HasAll (index_at (data_of shape new.content.bytes)) (data_of shape new.content.bytes) final
-  pub unwritten : ended ≢ MediaFault → IsFalse (has_write turns) → data_of shape new.content.bytes ≡ settled_data shape old.content.bytes
+  pub quiet : ended ≢ MediaFault → IsFalse late → HasNoVote shape new.content.bytes
+  pub left : ended ≢ MediaFault → HasAll (index_in shape new) (settled_data shape new.content.bytes) final
+  pub unwritten : ended ≢ MediaFault → IsFalse (has_write turns) → settled_data shape new.content.bytes ≡ settled_data shape old.content.bytes
 
 -- The lines of the input were answered one by one, each call of a caller by the reply of its turn. What was acknowledged as committed is
 -- kept: the history has at least n transactions if an answer is the whole line `c committed n`.

@@ -1,6 +1,7 @@
 -- What is done over a store whose records are read first.
 use Rattle.std.specs.Prelude.{ℕ, ◌≡◌, ◌≢◌, List, [], ◌++◌, length, Bool, true, false, IsTrue, IsFalse, Result, Ok, Err}
 use Rattle.mars_base.specs.Causes.{Rose}
+use Rattle.pcm_media.specs.View.{View}
 use Rattle.array_shape.specs.declared.shape.Shape.{Shape}
 use Rattle.eaw_face.specs.Causes.{IsAlive}
 use Rattle.eaw_face.specs.StoreView.{StoreView, LeavesOnly}
@@ -22,7 +23,8 @@ use Rattle.mars_core.specs.declared.fault.CoreFault.TheVariants.{Media}
 use Rattle.script_run.specs.Counts.{Counts}
 use Rattle.script_run.specs.declared.ended.Ended.{Ended}
 use Rattle.script_run.specs.declared.ended.Ended.TheVariants.{MediaFault}
-use Rattle.mars_shell.specs.Run.{begun_on, HasAll}
+use Rattle.mars_shell.specs.Dump.{Spares}
+use Rattle.mars_shell.specs.Run.{begun_on, HasAll, TakesTurns}
 
 -- The super page of the store's data names this form. Nothing was written, and whatever a loss of power might have left meanwhile opens
 -- with that data.
@@ -79,3 +81,7 @@ abbrev pub ServedCounts : Result Ended CoreFault → ℕ → ℕ → ℕ → ℕ
 ServedCounts (Ok ended) sink sink' media media' = Counts ended sink sink' media media'
 ServedCounts (Err Media) sink sink' media media' = (sink' ≡ sink) × Rose media media'
 ServedCounts (Err fault) sink sink' media media' = (sink' ≡ sink) × (media' ≡ media)
+
+-- The same in terms of the medium: callers took turns, and if the work spares the records and no commit may wait, what was opened stays.
+abbrev pub TakesTurnsFor : (spares late : Bool) → (Limits → List Turn → State → Type 0) → View → Ended → View → Type 0
+TakesTurnsFor spares late Says old ended new = (taken : TakesTurns late Says old ended new) × (IsTrue spares → IsFalse late → Spares taken.shape old new)

@@ -10,7 +10,9 @@ ghost use Rattle.mars_shell.specs.Asked.{OutcomeFor};
 ghost use Rattle.mars_shell.specs.Forms.{index_at};
 ghost use Rattle.mars_shell.specs.Input.{InputSays};
 ghost use Rattle.mars_shell.specs.Joint.{JointWork};
+ghost use Rattle.mars_shell.specs.Late.{HasDepth};
 ghost use Rattle.mars_shell.specs.OnCore.{Works};
+ghost use Rattle.mars_shell.specs.Run.{TakesTurns, OverRecords};
 ghost use Rattle.mars_shell.specs.Served.{Serves, ServedCounts};
 ghost use Rattle.mars_shell.specs.Statuses.{Counts, IsEarly, IsRefusal};
 
@@ -21,7 +23,8 @@ use crate::status::{Status, served_status};
 use btree_pages::BTreePages;
 use caller_plans::{Script, read_script};
 use caller_work::{Gate, work};
-use command_words::CallersNumbers;
+use command_words::{CallersNumbers, Writing};
+use eaw_device::{AtOnce, Late, WriteBack};
 use eaw_face::EawStore;
 use key_list::KeyList;
 use mars_base::NoMemory;
@@ -54,6 +57,7 @@ pub fn run_callers<
 >(alloc: Global, source: &mut S, sink: &mut K, media: M, crew: &Crew<R, G>) -> (Status, M)
     requires some { 0 < crew.now.numbers.callers }
     requires tries { 1 ≤ crew.now.numbers.tries }
+    requires depth { HasDepth crew.now.numbers.writing }
     ensures early { IsEarly result.0 → result.1 ≡ media }
     ensures silent { IsEarly result.0 ⊎ IsRefusal result.0 → sink.new ≡ sink.old }
     ensures counts { Counts result.0 (S.faults source.old) (S.faults source.new) (K.faults sink.old) (K.faults sink.new) (M.view media).faults (M.view result.1).faults }
@@ -63,7 +67,44 @@ pub fn run_callers<
         (λ cut text. (input : List ℕ) × (IsTrue S.tells → S.left source.old ≡ input)
         × (IsTrue M.tells → OutcomeFor (Callers crew.now.numbers) (M.view media) result.0 (M.view result.1) input cut text)) }
 {
-    let (room, input, store) = match open_for(alloc, true, crew.numbers.callers, source, media) {
+    match crew.numbers.writing {
+        Writing::AtOnce => run_callers_on(alloc, source, sink, media, AtOnce, crew),
+        Writing::Late(depth) => {
+            run_callers_on(alloc, source, sink, media, Late::new(depth), crew)
+        }
+    }
+}
+
+// The same on a device of this type.
+fn run_callers_on<
+    R: Threads + Wait + Sync,
+    S: Source,
+    K: Sink,
+    M: Media + Drop + Send,
+    B: WriteBack + Send,
+    G: Gate + Sync,
+>(
+    alloc: Global,
+    source: &mut S,
+    sink: &mut K,
+    media: M,
+    write_back: B,
+    crew: &Crew<R, G>,
+) -> (Status, M)
+    requires some { 0 < crew.now.numbers.callers }
+    requires tries { 1 ≤ crew.now.numbers.tries }
+    ensures early { IsEarly result.0 → result.1 ≡ media }
+    ensures silent { IsEarly result.0 ⊎ IsRefusal result.0 → sink.new ≡ sink.old }
+    ensures counts { Counts result.0 (S.faults source.old) (S.faults source.new) (K.faults sink.old) (K.faults sink.new) (M.view media).faults (M.view result.1).faults }
+    ensures steady { IsTrue (S.steady source.old) → result.0 ≡ Status.ReadFault → ⊥ }
+    ensures input { IsTrue S.tells → InputSays result.0 (S.left source.old) (S.left source.new) }
+    ensures ran { Wrote K.tells (K.written sink.old) (K.written sink.new) (K.faults sink.old) (K.faults sink.new)
+        (λ cut text. (input : List ℕ) × (IsTrue S.tells → S.left source.old ≡ input) × (IsTrue M.tells → OverRecords crew.now.numbers.callers
+        (λ ended. TakesTurns B.defers (JointWork crew.now.numbers.callers crew.now.numbers.tries input ended cut text) (M.view media) ended (M.view result.1))
+        (M.view media) result.0 (M.view result.1) cut text)) }
+{
+    let callers = crew.numbers.callers;
+    let (room, input, store) = match open_for(alloc, true, callers, source, media, write_back) {
         Ok(opened) => opened,
         Err(ended) => return ended,
     };
@@ -165,7 +206,11 @@ fn work_jointly<
     ensures given_back { IfErr result.0 (λ fault. result.1 ≡ core) }
     ensures counts { IfOk result.0 (λ ended. WorkCounts ended (K.faults sink.old) (K.faults sink.new) (S.view core.records.store).faults (S.view result.1.records.store).faults) }
 {
-    let CallersNumbers { callers, tries } = crew.numbers;
+    let CallersNumbers {
+        callers,
+        tries,
+        writing: _,
+    } = crew.numbers;
     let Ok(script) = read_script(alloc, input, callers) else {
         return (Err(NoMemory), core);
     };

@@ -8,6 +8,7 @@ ghost use Rattle.mars_shell.specs.Statuses.{Counts, IsEarly, IsRefusal};
 
 use crate::opening::open;
 use crate::status::{Status, script_status};
+use eaw_device::AtOnce;
 use eaw_script::answer_commands;
 use outside::{Sink, Source};
 use pcm_media::Media;
@@ -29,7 +30,7 @@ pub(crate) fn run_commands<S: Source, K: Sink, M: Media>(
     ensures ran { Wrote K.tells (K.written sink.old) (K.written sink.new) (K.faults sink.old) (K.faults sink.new)
         (λ cut text. (input : List ℕ) × (IsTrue S.tells → S.left source.old ≡ input) × (IsTrue M.tells → OutcomeFor Eaw (M.view media) result.0 (M.view result.1) input cut text)) }
 {
-    let (input, store) = match open(alloc, true, source, media) {
+    let (input, store) = match open(alloc, true, source, media, AtOnce) {
         Ok(opened) => opened,
         Err(ended) => return ended,
     };

@@ -2,11 +2,11 @@
 ghost use Rattle.std.specs.Prelude.{◌≡◌, ◌⊎◌, ℕ, List, None, IsTrue, IsFalse, IfOk, IfErr};
 ghost use Rattle.eaw_face.specs.Causes.{IsAlive};
 ghost use Rattle.texts.specs.Written.{Wrote};
-ghost use Rattle.mars_shell.specs.Dump.{Spares};
 ghost use Rattle.mars_shell.specs.Forms.{index_at};
 ghost use Rattle.mars_shell.specs.Input.{InputSays};
-ghost use Rattle.mars_shell.specs.Run.{TakesTurns, OverRecords};
-ghost use Rattle.mars_shell.specs.Served.{Serves, ServedCounts};
+ghost use Rattle.mars_shell.specs.Late.{is_late, HasDepth};
+ghost use Rattle.mars_shell.specs.Run.{OverRecords};
+ghost use Rattle.mars_shell.specs.Served.{Serves, ServedCounts, TakesTurnsFor};
 ghost use Rattle.mars_shell.specs.Statuses.{Counts, IsEarly, IsRefusal};
 
 use crate::core_work::CoreWork;
@@ -14,6 +14,8 @@ use crate::forms::find_form;
 use crate::opening::open_for;
 use crate::status::{Status, served_status};
 use btree_pages::BTreePages;
+use command_words::Writing;
+use eaw_device::{AtOnce, Late, WriteBack};
 use eaw_face::EawStore;
 use key_list::KeyList;
 use mars_base::NoMemory;
@@ -25,12 +27,46 @@ use record_table::Form;
 use script_run::Ended;
 use std::alloc::Global;
 
-/// Does work over the records of the array that the medium holds, if they are sound.
+/// Does work over the records of the array that the medium holds, if they are sound, on a device that writes the data of commits to its
+/// place when it is told so.
 pub fn over_records<S: Source, K: Sink, M: Media + Drop + Send, W: CoreWork>(
     alloc: Global,
     source: &mut S,
     sink: &mut K,
     media: M,
+    writing: Writing,
+    work: &W,
+) -> (Status, M)
+    requires depth { HasDepth writing }
+    requires set { W.can_be_done work.now }
+    ensures no_usage { result.0 ≡ Status.Usage → ⊥ }
+    ensures early { IsEarly result.0 → IsTrue W.reads × (result.1 ≡ media) }
+    ensures silent { IsEarly result.0 ⊎ IsRefusal result.0 → sink.new ≡ sink.old }
+    ensures untold { IsTrue W.spares → (result.0 ≡ Status.MediaFault) ⊎ (result.0 ≡ Status.NoMemory) → sink.new ≡ sink.old }
+    ensures counts { Counts result.0 (S.faults source.old) (S.faults source.new) (K.faults sink.old) (K.faults sink.new) (M.view media).faults (M.view result.1).faults }
+    ensures steady { IsTrue (S.steady source.old) → result.0 ≡ Status.ReadFault → ⊥ }
+    ensures input { IsTrue W.reads → IsTrue S.tells → InputSays result.0 (S.left source.old) (S.left source.new) }
+    ensures unread { IsFalse W.reads → source.new ≡ source.old }
+    ensures ran { Wrote K.tells (K.written sink.old) (K.written sink.new) (K.faults sink.old) (K.faults sink.new)
+        (λ cut text. (input : List ℕ) × (IsTrue W.reads → IsTrue S.tells → S.left source.old ≡ input) × (IsTrue M.tells → OverRecords 0
+        (λ ended. TakesTurnsFor W.spares (is_late writing) (W.does work.now input ended cut text) (M.view media) ended (M.view result.1))
+        (M.view media) result.0 (M.view result.1) cut text)) }
+{
+    match writing {
+        Writing::AtOnce => over_records_on(alloc, source, sink, media, AtOnce, work),
+        Writing::Late(depth) => {
+            over_records_on(alloc, source, sink, media, Late::new(depth), work)
+        }
+    }
+}
+
+// The same on a device of this type.
+fn over_records_on<S: Source, K: Sink, M: Media + Drop + Send, B: WriteBack + Send, W: CoreWork>(
+    alloc: Global,
+    source: &mut S,
+    sink: &mut K,
+    media: M,
+    write_back: B,
     work: &W,
 ) -> (Status, M)
     requires set { W.can_be_done work.now }
@@ -44,10 +80,10 @@ pub fn over_records<S: Source, K: Sink, M: Media + Drop + Send, W: CoreWork>(
     ensures unread { IsFalse W.reads → source.new ≡ source.old }
     ensures ran { Wrote K.tells (K.written sink.old) (K.written sink.new) (K.faults sink.old) (K.faults sink.new)
         (λ cut text. (input : List ℕ) × (IsTrue W.reads → IsTrue S.tells → S.left source.old ≡ input) × (IsTrue M.tells → OverRecords 0
-        (λ ended. (taken : TakesTurns (W.does work.now input ended cut text) (M.view media) ended (M.view result.1)) × (IsTrue W.spares → Spares taken.shape (M.view media) (M.view result.1)))
+        (λ ended. TakesTurnsFor W.spares B.defers (W.does work.now input ended cut text) (M.view media) ended (M.view result.1))
         (M.view media) result.0 (M.view result.1) cut text)) }
 {
-    let (room, input, store) = match open_for(alloc, work.reads(), 0, source, media) {
+    let (room, input, store) = match open_for(alloc, work.reads(), 0, source, media, write_back) {
         Ok(opened) => opened,
         Err(ended) => return ended,
     };

@@ -19,7 +19,7 @@ use crate::lines::ByTurns;
 use crate::records::over_records;
 use crate::status::Status;
 use caller_work::Gate;
-use command_words::{Words, WordsFault, read_words};
+use command_words::{Words, WordsFault, Writing, read_words};
 use outside::{Sink, Source};
 use pcm_media::Media;
 use std::sync::Wait;
@@ -29,7 +29,8 @@ use std::thread::Threads;
 ///
 /// `run` reads the input, opens and recovers the array, reads its records, and then answers the lines. `callers` does the same, but each
 /// caller's transactions are made by a worker of its own on a thread, which calls the gate between its calls. `eaw` does not read the
-/// records. `drill`, `dump` and `format` read no input. Only `callers` may wait.
+/// records. `drill`, `dump` and `format` read no input. Only `callers` may wait. In `run`, `callers` and `drill` commits may be answered before
+/// their data is written to its place, if the words say so.
 pub fn run<
     R: AllocGlobal + Threads + Wait + Sync,
     S: Source,
@@ -68,15 +69,21 @@ pub fn run<
     match read_words(rt.alloc(), words) {
         Err(WordsFault::NoCommand) => (Status::Usage, media),
         Err(WordsFault::NoMemory) => (Status::NoMemory, media),
-        Ok(Words::Run) => over_records(rt.alloc(), source, sink, media, &ByTurns),
+        Ok(Words::Run(options)) => {
+            over_records(rt.alloc(), source, sink, media, options.writing, &ByTurns)
+        }
         Ok(Words::Callers(numbers)) => {
             let crew = Crew { rt, numbers, gate };
             run_callers(rt.alloc(), source, sink, media, &crew)
         }
         Ok(Words::Eaw) => run_commands(rt.alloc(), source, sink, media),
-        Ok(Words::Dump) => over_records(rt.alloc(), source, sink, media, &RecordDump),
+        Ok(Words::Dump) => {
+            let writing = Writing::AtOnce;
+            over_records(rt.alloc(), source, sink, media, writing, &RecordDump)
+        }
         Ok(Words::Drill(numbers)) => {
-            over_records(rt.alloc(), source, sink, media, &DrawnScript { numbers })
+            let work = DrawnScript { numbers };
+            over_records(rt.alloc(), source, sink, media, numbers.writing, &work)
         }
         Ok(Words::Format(numbers)) => run_format(sink, media, &numbers),
     }

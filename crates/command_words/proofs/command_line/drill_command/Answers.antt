@@ -8,8 +8,11 @@ pub returns : goal.returns
 returns c =
     let one : app_of c.in_ok-arg.field-0 ≡ with_rule (new_app (codes "drill")) (new_rule (codes "seed")) =
     c.in_ok-arg.ensures.shape c.new-2.ensures.optional.1 ∙ ap₂ with_rule c.new.ensures.app c.new-2.ensures.rule in
+    let two : app_of c.in_ok-arg-2.field-0 ≡ with_rule (with_rule (new_app (codes "drill")) (new_rule (codes "seed"))) (new_rule (codes "count")) =
+    c.in_ok-arg-2.ensures.shape c.new-3.ensures.optional.1 ∙ ap₂ with_rule one c.new-3.ensures.rule in
     let local_one : (out-Command c.in_ok-arg.field-0).has_globals ≡ false = c.in_ok-arg.ensures.globals ∙ ap₂ (λ a b. a || b) c.new.ensures.local c.new-2.ensures.optional.1 in
+    let local_two : (out-Command c.in_ok-arg-2.field-0).has_globals ≡ false = c.in_ok-arg-2.ensures.globals ∙ ap₂ (λ a b. a || b) local_one c.new-3.ensures.optional.1 in
     record {
-      shape = IfOk-weaker c.arg-2.result _ _ (λ command adds. ap (λ (a : App). a.top) (adds.shape c.new-3.ensures.optional.1 ∙ ap₂ with_rule one c.new-3.ensures.rule)) c.arg-2.ensures;
-      local = IfOk-weaker c.arg-2.result _ _ (λ command adds. adds.globals ∙ ap₂ (λ a b. a || b) local_one c.new-3.ensures.optional.1) c.arg-2.ensures;
+      shape = IfOk-weaker c.arg-3.result _ _ (λ command adds. ap (λ (a : App). a.top) (adds.shape c.option.ensures.local ∙ ap₂ with_rule two c.option.ensures.rule)) c.arg-3.ensures;
+      local = IfOk-weaker c.arg-3.result _ _ (λ command adds. adds.globals ∙ ap₂ (λ a b. a || b) local_two c.option.ensures.local) c.arg-3.ensures;
     }

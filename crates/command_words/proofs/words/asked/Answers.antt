@@ -1,7 +1,12 @@
 use Rattle.std.proofs.Common.{codes, refl, sym}
 use Rattle.clap.specs.Words.{found_of, rows_of}
-use Rattle.command_words.proofs.AskedLemmas.{met_is, some_is_none, none_other, none_said, no_callers, no_drill, no_format}
+use Rattle.command_words.proofs.AskedLemmas.{met_is, some_is_none, none_other, none_said, no_run, no_callers, no_drill, no_format}
 use Rattle.command_words.proofs.words.asked.Goals as goal
+
+pub returns-in_err-writing-in-run : goal.returns-in_err-writing-in-run
+returns-in_err-writing-in-run c =
+    rw c.from_residual-in_err-writing-in-run.ensures (none_said c.args.matches.now (codes "run") c.in_ok-name.name.now (rows_of (found_of c.in_ok-name.options.now))
+    c.in-run.is c.in_ok-name.ensures.name c.in_ok-name.ensures.rows (no_run (rows_of (found_of c.in_ok-name.options.now)) (λ given gives. c.in_err-writing-in-run.ensures given.writing gives.writing)))
 
 pub returns-in_err-numbers-in-callers : goal.returns-in_err-numbers-in-callers
 returns-in_err-numbers-in-callers c =
@@ -18,8 +23,8 @@ returns-in_err-numbers-in-format c =
     rw c.from_residual-in_err-numbers-in-format.ensures (none_said c.args.matches.now (codes "format") c.in_ok-name.name.now (rows_of (found_of c.in_ok-name.options.now))
     c.in-format.is c.in_ok-name.ensures.name c.in_ok-name.ensures.rows (no_format (rows_of (found_of c.in_ok-name.options.now)) c.in_err-numbers-in-format.ensures))
 
-pub returns-in-run : goal.returns-in-run
-returns-in-run c = (c.in_ok-name.name.now, rows_of (found_of c.in_ok-name.options.now), met_is c.args.matches.now c.in_ok-name.name.now (rows_of (found_of c.in_ok-name.options.now)) c.in_ok-name.ensures.name c.in_ok-name.ensures.rows, c.in-run.is)
+pub returns-in_ok-writing-in-run : goal.returns-in_ok-writing-in-run
+returns-in_ok-writing-in-run c = (c.in_ok-name.name.now, rows_of (found_of c.in_ok-name.options.now), met_is c.args.matches.now c.in_ok-name.name.now (rows_of (found_of c.in_ok-name.options.now)) c.in_ok-name.ensures.name c.in_ok-name.ensures.rows, (c.in-run.is, record { writing = c.in_ok-writing-in-run.ensures }))
 
 pub returns-in-eaw : goal.returns-in-eaw
 returns-in-eaw c = (c.in_ok-name.name.now, rows_of (found_of c.in_ok-name.options.now), met_is c.args.matches.now c.in_ok-name.name.now (rows_of (found_of c.in_ok-name.options.now)) c.in_ok-name.ensures.name c.in_ok-name.ensures.rows, c.in-eaw.is)

@@ -1,89 +1,94 @@
-use Rattle.std.proofs.Common.{◌≡◌, ℕ, List, sym, ◌∙◌, subst}
-use Rattle.std.proofs.lemmas.Result.{on_ok_weaker}
-use Rattle.mars_base.specs.Costs.{Costs}
-use Rattle.pcm_media.specs.View.{LeavesOnly}
-use Rattle.array_shape.specs.Logged.{Part, applied}
-use Rattle.array_image.specs.Image.{data_of}
-use Rattle.array_image.specs.Standing.{IsEither}
+use Rattle.std.proofs.Common.{List, Result, Ok, refl, subst, arith}
+use Rattle.mars_base.specs.declared.Failed.{Failed}
 use Rattle.coordinator.specs.declared.cells.Cells.{Cells}
-use Rattle.coordinator.specs.Commits.{IsMaskOf, parts_named, takes_part}
-use Rattle.late_commits.specs.Waiting.{data_with}
-use Rattle.eaw_device.specs.Groups.{group_parts}
-use Rattle.eaw_device.specs.Sound.{IsAtOnce}
-use Rattle.eaw_device.proofs.AtOnce.{all_free, calls_at_once, clean_waiting, data_alone, some_number, waiting_clean}
-use Rattle.eaw_device.proofs.Grouping.{named_same, are_there, are_good, calls_same, none_takes}
+use Rattle.coordinator.specs.Commits.{IsMaskOf, takes_part}
+use Rattle.late_commits.specs.Steps.{CommitsOne}
+use Rattle.late_commits.proofs.Adding.{nothing_added}
+use Rattle.eaw_device.proofs.NoneWaits.{all_free, some_number}
+use Rattle.eaw_device.proofs.Grouping.{are_there, are_good, none_takes}
+use Rattle.eaw_device.proofs.CommitCells.{cells_committed, cells_cost, cells_moments, once_more}
 use Rattle.eaw_device.proofs.committing.commit_cells.Given.{Over}
 use Rattle.eaw_device.proofs.committing.commit_cells.Goals as goal
 
-pub commit-requires-clause-waiting : goal.commit-requires-clause-waiting
-commit-requires-clause-waiting g c = λ told. clean_waiting c.args.shape.now c.args.late.now c.requires.at_once (g.M.Media.view c.args.media.now).content (c.requires.clean told)
+pub returns-then-ballot-eq0 : goal.returns-then-ballot-eq0
+returns-then-ballot-eq0 g c =
+    let shape = c.args.shape.now in
+    let late = c.args.late.now in
+    let ballot = c.ballot_for-ballot.result in
+    let old = g.M.Media.view c.args.media.now in
+    let its_mask = subst (λ (cells : List Cells). IsMaskOf shape.loggers (takes_part shape cells c.args.group) ballot.mask) c.cells.ensures c.ballot_for-ballot.ensures.mask in
+    let its_cells = are_there shape c.args.group late.queue.cells ballot c.ballot_for-ballot.ensures.group its_mask c.requires.group c.requires.there in
+    let does : (let ok : Result (Unit {0}) Failed = Ok tt in CommitsOne g.M.Media.tells shape ballot late.queue old late.queue old ok) =
+    nothing_added g.M.Media.tells shape ballot late.queue old c.if-ballot-eq0.true c.requires.ready.fit its_cells c.requires.waiting in
+    record {
+      any_moment = cells_moments g.M.Media.tells shape c.args.group late late ballot c.ballot_for-ballot.ensures.group its_mask c.requires.at_once old old (Ok tt) does;
+      waiting = does.waiting;
+      committed = cells_committed g.M.Media.tells shape c.args.group late late ballot c.ballot_for-ballot.ensures.group its_mask c.requires.at_once old old (Ok tt) does;
+      cells = does.cells;
+      at_once = c.requires.at_once;
+      ready = c.requires.ready;
+      tied = c.requires.tied;
+      does = does.does;
+      costs = cells_cost g.M.Media.tells shape c.args.group late late ballot c.ballot_for-ballot.ensures.group its_mask c.requires.at_once old old (Ok tt) does;
+      idle = λ none. (refl, refl);
+    }
+
+pub commit-requires-clause-tied : goal.commit-requires-clause-tied
+commit-requires-clause-tied g c = record { named = c.requires.tied.named; apart = c.requires.tied.apart; none = λ t lt beside lacks. c.requires.tied.none t lt refl lacks }
+
+pub commit-requires-clause-named : goal.commit-requires-clause-named
+commit-requires-clause-named g c = λ some. absurd (omega (arith, some, c.requires.at_once.none_waits))
 
 pub commit-requires-clause-there : goal.commit-requires-clause-there
 commit-requires-clause-there g c =
     let shape = c.args.shape.now in
     let ballot = c.ballot_for-ballot.result in
     let mask = subst (λ (cells : List Cells). IsMaskOf shape.loggers (takes_part shape cells c.args.group) ballot.mask) c.cells.ensures c.ballot_for-ballot.ensures.mask in
-    are_there shape c.args.group c.args.late.now.cells ballot c.ballot_for-ballot.ensures.group mask c.requires.group c.requires.there
+    are_there shape c.args.group c.args.late.now.queue.cells ballot c.ballot_for-ballot.ensures.group mask c.requires.group c.requires.there
 
 pub commit-requires-clause-good : goal.commit-requires-clause-good
 commit-requires-clause-good g c = λ told.
     let shape = c.args.shape.now in
     let ballot = c.ballot_for-ballot.result in
     let mask = subst (λ (cells : List Cells). IsMaskOf shape.loggers (takes_part shape cells c.args.group) ballot.mask) c.cells.ensures c.ballot_for-ballot.ensures.mask in
-    are_good shape c.args.group c.args.late.now.cells ballot c.ballot_for-ballot.ensures.group mask (g.M.Media.view c.args.media.now).content.bytes (c.requires.good told)
+    are_good shape c.args.group c.args.late.now.queue.cells ballot c.ballot_for-ballot.ensures.group mask (g.M.Media.view c.args.media.now).content.bytes (c.requires.good told)
 
 pub commit-requires-clause-some : goal.commit-requires-clause-some
-commit-requires-clause-some g c = λ some.
+commit-requires-clause-some g c = omega (arith)
+
+pub commit-requires-clause-numbers : goal.commit-requires-clause-numbers
+commit-requires-clause-numbers g c =
     let shape = c.args.shape.now in
     let ballot = c.ballot_for-ballot.result in
     let mask = subst (λ (cells : List Cells). IsMaskOf shape.loggers (takes_part shape cells c.args.group) ballot.mask) c.cells.ensures c.ballot_for-ballot.ensures.mask in
-    some_number shape c.args.group c.args.late.now.cells ballot c.ballot_for-ballot.ensures.group mask some
+    some_number shape c.args.group c.args.late.now.queue.cells ballot c.ballot_for-ballot.ensures.group mask (omega (arith))
 
 pub commit-requires-clause-apart : goal.commit-requires-clause-apart
-commit-requires-clause-apart g c = λ t so. all_free c.args.shape.now c.args.late.now c.requires.at_once t
+commit-requires-clause-apart g c = λ t so. all_free c.args.shape.now c.args.late.now.queue c.requires.at_once t
 
 module _ (g : Over) (c : goal.After-commit g) where
-  mask : IsMaskOf c.args.shape.now.loggers (takes_part c.args.shape.now c.args.late.now.cells c.args.group) c.ballot_for-ballot.result.mask
-  mask = subst (λ (cells : List Cells). IsMaskOf c.args.shape.now.loggers (takes_part c.args.shape.now cells c.args.group) c.ballot_for-ballot.result.mask) c.cells.ensures c.ballot_for-ballot.ensures.mask
+  its : IsMaskOf c.args.shape.now.loggers (takes_part c.args.shape.now c.args.late.now.queue.cells c.args.group) c.ballot_for-ballot.result.mask
+  its = subst (λ (cells : List Cells). IsMaskOf c.args.shape.now.loggers (takes_part c.args.shape.now cells c.args.group) c.ballot_for-ballot.result.mask) c.cells.ensures c.ballot_for-ballot.ensures.mask
 
-  -- what is named for the commit is what the group's numbers have
-  named : parts_named c.args.shape.now (g.M.Media.view c.args.media.now).content.bytes c.ballot_for-ballot.result c.args.late.now.cells ≡ group_parts c.args.shape.now (g.M.Media.view c.args.media.now).content.bytes c.args.group c.args.late.now.cells
-  named = named_same c.args.shape.now c.args.group c.args.late.now.cells c.ballot_for-ballot.result c.ballot_for-ballot.ensures.group mask (g.M.Media.view c.args.media.now).content.bytes
-
-  once_more : IsAtOnce c.args.shape.now c.commit.new.self
-  once_more = record { fit = c.commit.ensures.does.fit; none_waits = c.commit.ensures.does.depth ∙ c.requires.at_once.none_waits }
-
-  both : ◌≡◌ {A = List ℕ × List Part} (data_with c.args.shape.now c.args.late.now (g.M.Media.view c.args.media.now).content.bytes, parts_named c.args.shape.now (g.M.Media.view c.args.media.now).content.bytes c.ballot_for-ballot.result c.args.late.now.cells)
-      (data_of c.args.shape.now (g.M.Media.view c.args.media.now).content.bytes, group_parts c.args.shape.now (g.M.Media.view c.args.media.now).content.bytes c.args.group c.args.late.now.cells)
-  both = (λ i. (data_alone c.args.shape.now c.args.late.now c.requires.at_once (g.M.Media.view c.args.media.now).content.bytes i, named i))
-
-pub returns-clause-any_moment : goal.returns-clause-any_moment
-returns-clause-any_moment g c = λ told.
-    subst (λ (p : List ℕ × List Part). LeavesOnly (IsEither c.args.shape.now p.0 (applied p.1 p.0)) (g.M.Media.view c.args.media.now) (g.M.Media.view c.commit.new.media)) (both g c) (c.commit.ensures.does.any_moment told)
-
-pub returns-clause-committed : goal.returns-clause-committed
-returns-clause-committed g c = λ told.
-    on_ok_weaker c.commit.result (λ is. sym (data_alone c.args.shape.now c.commit.new.self (once_more g c) (g.M.Media.view c.commit.new.media).content.bytes) ∙ is ∙ (λ i. applied (both g c i).1 (both g c i).0)) (c.commit.ensures.does.committed told)
-
-pub returns-clause-clean : goal.returns-clause-clean
-returns-clause-clean g c = λ told.
-    on_ok_weaker c.commit.result (waiting_clean c.args.shape.now c.commit.new.self (once_more g c) (g.M.Media.view c.commit.new.media).content) (c.commit.ensures.does.waiting told)
-
-pub returns-clause-cells : goal.returns-clause-cells
-returns-clause-cells g c = c.commit.ensures.does.cells
-
-pub returns-clause-at_once : goal.returns-clause-at_once
-returns-clause-at_once g c = once_more g c
-
-pub returns-clause-does : goal.returns-clause-does
-returns-clause-does g c = c.commit.ensures.does.does
-
-pub returns-clause-costs : goal.returns-clause-costs
-returns-clause-costs g c =
-    subst (λ (n : ℕ). Costs g.M.Media.tells n (g.M.Media.view c.args.media.now).moment (g.M.Media.view c.commit.new.media).moment c.commit.result)
-    (calls_at_once c.args.shape.now c.args.late.now c.requires.at_once c.ballot_for-ballot.result ∙ calls_same c.args.shape.now c.args.group c.args.late.now.cells c.ballot_for-ballot.result c.ballot_for-ballot.ensures.group (mask g c)) c.commit.ensures.does.costs
-
-pub returns-clause-idle : goal.returns-clause-idle
-returns-clause-idle g c = λ none.
-    let same = c.commit.ensures.idle (none_takes c.args.shape.now c.args.group c.args.late.now.cells c.ballot_for-ballot.result c.ballot_for-ballot.ensures.group (mask g c) none) in
-    (same.0, same.1)
+pub returns : goal.returns
+returns g c =
+    let shape = c.args.shape.now in
+    let late = c.args.late.now in
+    let late' = c.commit.new.self in
+    let ballot = c.ballot_for-ballot.result in
+    let group = c.ballot_for-ballot.ensures.group in
+    let old = g.M.Media.view c.args.media.now in
+    let new = g.M.Media.view c.commit.new.media in
+    let does = c.commit.ensures.does in
+    record {
+      any_moment = cells_moments g.M.Media.tells shape c.args.group late late' ballot group (its g c) c.requires.at_once old new c.commit.result does;
+      waiting = does.waiting;
+      committed = cells_committed g.M.Media.tells shape c.args.group late late' ballot group (its g c) c.requires.at_once old new c.commit.result does;
+      cells = does.cells;
+      at_once = once_more g.M.Media.tells shape c.args.group late late' ballot group (its g c) c.requires.at_once old new c.commit.result does;
+      ready = c.commit.ensures.stays.ready;
+      tied = c.commit.ensures.tied;
+      does = does.does;
+      costs = cells_cost g.M.Media.tells shape c.args.group late late' ballot group (its g c) c.requires.at_once old new c.commit.result does;
+      idle = λ none. let zero = none_takes shape c.args.group late.queue.cells ballot group (its g c) none in absurd (omega (arith, zero));
+    }

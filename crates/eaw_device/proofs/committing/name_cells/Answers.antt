@@ -1,10 +1,10 @@
-use Rattle.std.proofs.Common.{◌≡◌, ◌-◌, ℕ, ◌<◌, inl, inr, length, take, sym, ◌∙◌, ap, arith}
+use Rattle.std.proofs.Common.{◌≡◌, ◌-◌, ℕ, false, ◌<◌, inl, inr, length, take, sym, ◌∙◌, ap, arith}
 use Rattle.std.specs.Prelude.{slice_index}
 use Rattle.std.proofs.lemmas.Bool.{cases_eq}
 use Rattle.coordinator.specs.declared.cells.Cells.{Cells}
 use Rattle.coordinator.specs.Commits.{cells_in}
-use Rattle.eaw_device.specs.Logs.{cells_on}
-use Rattle.eaw_device.proofs.AtOnce.{all_free}
+use Rattle.deferred_parts.specs.Entries.{cells_on}
+use Rattle.eaw_device.proofs.NoneWaits.{all_free}
 use Rattle.eaw_device.proofs.Keeping.{first_few}
 use Rattle.eaw_device.proofs.committing.name_cells.Goals as goal
 
@@ -18,7 +18,7 @@ overflow_sub-count c =
     omega (arith, first, held, c.counts_of_first-firsts.ensures.counts k lt, first_few c.args.shape.now c.args.offset log.entries.items log.held c.requires.kept.cells k lt)
 
 pub name-requires-clause-apart : goal.name-requires-clause-apart
-name-requires-clause-apart c = all_free c.args.shape.now c.loop-logger.late c.loop-logger.invariant.at_once c.args.tid
+name-requires-clause-apart c = all_free c.args.shape.now c.loop-logger.late.queue c.loop-logger.invariant.at_once c.args.tid
 
 pub loop-logger-preserved : goal.loop-logger-preserved
 loop-logger-preserved c =
@@ -31,9 +31,11 @@ loop-logger-preserved c =
     ap (λ (i : ℕ). slice_index c.counts_of_first-firsts.result i) c.from-at.ensures ∙ c.counts_of_first-firsts.ensures.counts k lt in
     let held : slice_index log.held c.from-at.result ≡ slice_index log.held k = ap (λ (i : ℕ). slice_index log.held i) c.from-at.ensures in
     record {
-      at_once = record { fit = c.name.ensures.fit shape at.at_once.fit; none_waits = c.name.ensures.depth ∙ at.at_once.none_waits };
+      at_once = record { fit = c.name.ensures.ready.fit; none_waits = c.name.ensures.depth ∙ at.at_once.none_waits };
+      ready = c.name.ensures.ready;
+      tied = c.name.ensures.tied (λ t. false) at.tied;
       here = λ g below. elim (cases_eq g k) [
-        | inl is ↦ ap (λ (h : ℕ). cells_in c.name.new.self.cells h c.args.tid) is
+        | inl is ↦ ap (λ (h : ℕ). cells_in c.name.new.self.queue.cells h c.args.tid) is
             ∙ c.name.ensures.here
             ∙ (λ i. record { first = first i; count = held i - first i })
             ∙ ap (λ (h : ℕ). let first = length (cells_on shape h (take c.args.offset log.entries.items)) in let y : Cells = record { first = first; count = slice_index log.held h - first } in y) (sym is)

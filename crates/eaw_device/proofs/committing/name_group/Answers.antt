@@ -6,7 +6,8 @@ use Rattle.array_shape.proofs.Sets.{passed_first, passed_with, passed_skip, pass
 use Rattle.coordinator.specs.declared.cells.Cells.{Cells}
 use Rattle.coordinator.specs.Commits.{cells_in}
 use Rattle.eaw_face.specs.State.{listed, count_on}
-use Rattle.eaw_device.specs.Logs.{ranges_in, ranges_logged}
+use Rattle.eaw_device.specs.Logs.{ranges_logged}
+use Rattle.deferred_parts.specs.Entries.{ranges_in}
 use Rattle.eaw_device.proofs.Entries.{length-ranges_in}
 use Rattle.eaw_device.proofs.Gathering.{held_is}
 use Rattle.eaw_device.proofs.Tables.{found_log, ranges_there}
@@ -22,6 +23,8 @@ with_none group n P none before t lt so = elim (cases_eq t n) [
 pub loop-tid-init : goal.loop-tid-init
 loop-tid-init c = record {
   at_once = c.requires.at_once;
+  ready = c.requires.ready;
+  tied = c.requires.tied;
   numbers = passed_first c.args.tids.bits (λ t. nat_lt 0 (length (listed (ranges_logged c.args.logs.now t)))) c.empty-group.result.bits c.empty-group.ensures.lacks;
   first = λ g t lt below so. absurd (omega arith);
   count = λ g t lt below so. absurd (omega arith);
@@ -34,9 +37,11 @@ loop-tid-preserved-then-not-contains c =
     let none = passed_past c.args.tids.bits some c.loop-tid.tid c.loop-tid.group.bits at.numbers c.loop-tid.tid (omega arith) in
     record {
       at_once = at.at_once;
+      ready = at.ready;
+      tied = at.tied;
       numbers = passed_skip c.args.tids.bits some c.loop-tid.tid c.loop-tid.group.bits at.numbers (ap (λ (b : Bool). b && some c.loop-tid.tid) (sym c.contains.ensures ∙ c.if-not-contains.true));
-      first = λ g t lt below so. with_none c.loop-tid.group.bits c.loop-tid.tid (λ u. (cells_in c.loop-tid.late.cells g u).first ≡ 0) none (λ u lt' so'. at.first g u lt lt' so') t below so;
-      count = λ g t lt below so. with_none c.loop-tid.group.bits c.loop-tid.tid (λ u. (cells_in c.loop-tid.late.cells g u).count ≡ count_on c.args.shape.now g (listed (ranges_logged c.args.logs.now u))) none (λ u lt' so'. at.count g u lt lt' so') t below so;
+      first = λ g t lt below so. with_none c.loop-tid.group.bits c.loop-tid.tid (λ u. (cells_in c.loop-tid.late.queue.cells g u).first ≡ 0) none (λ u lt' so'. at.first g u lt lt' so') t below so;
+      count = λ g t lt below so. with_none c.loop-tid.group.bits c.loop-tid.tid (λ u. (cells_in c.loop-tid.late.queue.cells g u).count ≡ count_on c.args.shape.now g (listed (ranges_logged c.args.logs.now u))) none (λ u lt' so'. at.count g u lt lt' so') t below so;
     }
 
 pub loop-tid-preserved-then-is_empty : goal.loop-tid-preserved-then-is_empty
@@ -53,9 +58,11 @@ loop-tid-preserved-then-is_empty c =
     omega (arith, its_len, length-ranges_in log.entries.items, eqb-true log.entries.len 0 (sym c.is_empty.ensures ∙ c.if-is_empty.true), log.entries.ok.0) in
     record {
       at_once = at.at_once;
+      ready = at.ready;
+      tied = at.tied;
       numbers = passed_skip c.args.tids.bits some t c.loop-tid.group.bits at.numbers ((λ i. (sym c.contains.ensures ∙ c.if-not-contains.false) i && le-ltb 0 (length (listed (ranges_logged logs t))) (omega (arith, empty)) i));
-      first = λ g u lt below so. with_none c.loop-tid.group.bits t (λ v. (cells_in c.loop-tid.late.cells g v).first ≡ 0) none (λ v lt' so'. at.first g v lt lt' so') u below so;
-      count = λ g u lt below so. with_none c.loop-tid.group.bits t (λ v. (cells_in c.loop-tid.late.cells g v).count ≡ count_on c.args.shape.now g (listed (ranges_logged logs v))) none (λ v lt' so'. at.count g v lt lt' so') u below so;
+      first = λ g u lt below so. with_none c.loop-tid.group.bits t (λ v. (cells_in c.loop-tid.late.queue.cells g v).first ≡ 0) none (λ v lt' so'. at.first g v lt lt' so') u below so;
+      count = λ g u lt below so. with_none c.loop-tid.group.bits t (λ v. (cells_in c.loop-tid.late.queue.cells g v).count ≡ count_on c.args.shape.now g (listed (ranges_logged logs v))) none (λ v lt' so'. at.count g v lt lt' so') u below so;
     }
 
 pub name_cells-requires-clause-kept : goal.name_cells-requires-clause-kept
@@ -79,10 +86,12 @@ loop-tid-preserved c =
     let logged : 0 < length (listed (ranges_logged logs t)) =
     omega (arith, its_len, length-ranges_in log.entries.items, filled, log.entries.ok.0) in
     let small : (g : ℕ) → g < shape.loggers → g < 8 = λ g lt. omega (arith, shape.in_range.most_loggers) in
-    let cells = c.name_cells.new.late.cells in
+    let cells = c.name_cells.new.late.queue.cells in
     let older : (u : ℕ) → u ≢ t → has c.with-group.result.bits u ≡ true → has c.loop-tid.group.bits u ≡ true = λ u ne so. sym (c.with-group.ensures.others u ne) ∙ so in
     record {
       at_once = c.name_cells.ensures.at_once;
+      ready = c.name_cells.ensures.ready;
+      tied = c.name_cells.ensures.tied;
       numbers = passed_with c.args.tids.bits some t c.loop-tid.group.bits c.with-group.result.bits at.numbers (λ i. (sym c.contains.ensures ∙ c.if-not-contains.false) i && lt-ltb 0 (length (listed (ranges_logged logs t))) logged i) c.with-group.ensures.here c.with-group.ensures.others;
       first = λ g u lt below so. elim (cases_eq u t) [
         | inl is ↦ ap (λ (v : ℕ). (cells_in cells g v).first) is ∙ ap (λ (x : Cells). x.first) (c.name_cells.ensures.here g lt)

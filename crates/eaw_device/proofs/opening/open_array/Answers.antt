@@ -28,7 +28,7 @@ returns-in_err-shape g c =
       settled = tt;
       free = tt;
       room = tt;
-      at_once = tt;
+      late = tt;
       cause = read.cause;
       unwritten = reading_leaves m.tells old new fault read.does.touched;
       keeps = reading_keeps m.tells old new _ read.does;
@@ -49,7 +49,8 @@ returns-in-Ok-settle-clause-settled g c =
       size = done.size ∙ read.size;
       good = λ told. subst (λ b. rows_good shape b None) (same_bytes _ _ (read.touched told)) (done.good told);
       bytes = λ told. done.settled told ∙ ap (λ (b : List ℕ). settled_data shape b) (same_bytes _ _ (read.touched told));
-      sure = λ told. record { clean = done.clean told; header = done.header told };
+      clean = done.clean;
+      header = done.header;
       faults = done.faults ∙ c.in_ok-shape.ensures.does.cause.kept;
       calls = λ told none. let settled = (done.costs told (subst (λ b. HasNoVote shape b) (sym (same_bytes _ _ (read.touched told))) none)).done refl in let one = c.in_ok-shape.ensures.costs.done refl in omega (arith, settled, one);
     }
@@ -96,7 +97,7 @@ returns-in-Err g c =
       settled = tt;
       free = tt;
       room = tt;
-      at_once = tt;
+      late = tt;
       cause = λ told. (c.in_ok-shape.shape, read.shape told, read.sized);
       unwritten = read.does.touched;
       keeps = reading_keeps m.tells (m.view c.args.media.now) (m.view c.read_header.new.media) _ read.does;
@@ -148,8 +149,8 @@ returns-in-Ok-settle-clause-room g c = c.in-Ok.ensures.room
 pub returns-in-Err-settle-clause-room : goal.returns-in-Err-settle-clause-room
 returns-in-Err-settle-clause-room g c = tt
 
-pub returns-in-Ok-settle-clause-at_once : goal.returns-in-Ok-settle-clause-at_once
-returns-in-Ok-settle-clause-at_once g c = c.in-Ok.ensures.at_once
+pub returns-in-Ok-settle-clause-late : goal.returns-in-Ok-settle-clause-late
+returns-in-Ok-settle-clause-late g c = c.in-Ok.ensures.late
 
-pub returns-in-Err-settle-clause-at_once : goal.returns-in-Err-settle-clause-at_once
-returns-in-Err-settle-clause-at_once g c = tt
+pub returns-in-Err-settle-clause-late : goal.returns-in-Err-settle-clause-late
+returns-in-Err-settle-clause-late g c = tt

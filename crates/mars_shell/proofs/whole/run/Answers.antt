@@ -4,13 +4,16 @@ use Rattle.std.proofs.lemmas.Bool.{false≢true}
 use Rattle.command_words.specs.declared.words.Words.TheVariants.{Run, Callers, Eaw, Dump, Drill, Format}
 use Rattle.mars_shell.specs.Commands.{Obeys}
 use Rattle.mars_shell.specs.Drill.{Drills}
-use Rattle.mars_shell.specs.Dump.{Dumps, Spares}
+use Rattle.mars_shell.specs.Dump.{Dumps}
 use Rattle.mars_shell.proofs.Endings.{is_early, silent_of, counts_unread, read_fault_early, no_dump, format_late}
 use Rattle.mars_shell.proofs.FormatLemmas.{no_usage}
 use Rattle.mars_shell.specs.Joint.{JointWork}
+use Rattle.mars_shell.specs.Late.{is_late}
 use Rattle.mars_shell.specs.Run.{TakesTurns, Answers}
+use Rattle.mars_shell.specs.Served.{TakesTurnsFor}
 use Rattle.mars_shell.proofs.Completing.{words_say, callers_say, nothing_read, complete_of, complete_records}
 use Rattle.mars_shell.proofs.Outcomes.{turns_only, turns_spared}
+use Rattle.mars_shell.proofs.Waiting.{run_depth, callers_depth, drill_depth}
 use Rattle.mars_shell.proofs.whole.run.Goals as goal
 
 pub returns-in-Err-NoCommand-clause-words : goal.returns-in-Err-NoCommand-clause-words
@@ -32,10 +35,10 @@ pub returns-in-Err-NoCommand-clause-complete : goal.returns-in-Err-NoCommand-cla
 returns-in-Err-NoCommand-clause-complete g c = inl (c.in-Err-NoCommand.ensures.refused c.in-Err-NoCommand.field-0-is)
 
 pub returns-in-Ok-Run-clause-words : goal.returns-in-Ok-Run-clause-words
-returns-in-Ok-Run-clause-words g c = words_say (map string_bytes c.args.words.now) c.over_records.result.0 _ _ Run c.over_records.ensures.no_usage (rw c.in-Ok-Run.field-0-is at c.in-Ok-Run.ensures.asked) tt
+returns-in-Ok-Run-clause-words g c = words_say (map string_bytes c.args.words.now) c.over_records.result.0 _ _ (Run c.in-Ok-Run.options) c.over_records.ensures.no_usage (rw c.in-Ok-Run.field-0-is at c.in-Ok-Run.ensures.asked) tt
 
 pub returns-in-Ok-Run-clause-usage : goal.returns-in-Ok-Run-clause-usage
-returns-in-Ok-Run-clause-usage g c = λ nothing. absurd (nothing Run (rw c.in-Ok-Run.field-0-is at c.in-Ok-Run.ensures.asked))
+returns-in-Ok-Run-clause-usage g c = λ nothing. absurd (nothing (Run c.in-Ok-Run.options) (rw c.in-Ok-Run.field-0-is at c.in-Ok-Run.ensures.asked))
 
 pub returns-in-Ok-Run-clause-early : goal.returns-in-Ok-Run-clause-early
 returns-in-Ok-Run-clause-early g c = λ either. (c.over_records.ensures.early (is_early c.over_records.result.0 either)).1
@@ -50,21 +53,21 @@ pub returns-in-Ok-Run-clause-steady : goal.returns-in-Ok-Run-clause-steady
 returns-in-Ok-Run-clause-steady g c = c.over_records.ensures.steady
 
 pub returns-in-Ok-Run-clause-input : goal.returns-in-Ok-Run-clause-input
-returns-in-Ok-Run-clause-input g c = words_say (map string_bytes c.args.words.now) c.over_records.result.0 _ _ Run c.over_records.ensures.no_usage (rw c.in-Ok-Run.field-0-is at c.in-Ok-Run.ensures.asked) (c.over_records.ensures.input refl)
+returns-in-Ok-Run-clause-input g c = words_say (map string_bytes c.args.words.now) c.over_records.result.0 _ _ (Run c.in-Ok-Run.options) c.over_records.ensures.no_usage (rw c.in-Ok-Run.field-0-is at c.in-Ok-Run.ensures.asked) (c.over_records.ensures.input refl)
 
 pub returns-in-Ok-Run-clause-formats : goal.returns-in-Ok-Run-clause-formats
-returns-in-Ok-Run-clause-formats g c = words_say (map string_bytes c.args.words.now) c.over_records.result.0 _ _ Run c.over_records.ensures.no_usage (rw c.in-Ok-Run.field-0-is at c.in-Ok-Run.ensures.asked) (λ numbers is. absurd (let no : ⊥ = cc is in no))
+returns-in-Ok-Run-clause-formats g c = words_say (map string_bytes c.args.words.now) c.over_records.result.0 _ _ (Run c.in-Ok-Run.options) c.over_records.ensures.no_usage (rw c.in-Ok-Run.field-0-is at c.in-Ok-Run.ensures.asked) (λ numbers is. absurd (let no : ⊥ = cc is in no))
 
 pub returns-in-Ok-Run-clause-dumps : goal.returns-in-Ok-Run-clause-dumps
-returns-in-Ok-Run-clause-dumps g c = words_say (map string_bytes c.args.words.now) c.over_records.result.0 _ _ Run c.over_records.ensures.no_usage (rw c.in-Ok-Run.field-0-is at c.in-Ok-Run.ensures.asked) (λ is. absurd (no_dump Run tt is))
+returns-in-Ok-Run-clause-dumps g c = words_say (map string_bytes c.args.words.now) c.over_records.result.0 _ _ (Run c.in-Ok-Run.options) c.over_records.ensures.no_usage (rw c.in-Ok-Run.field-0-is at c.in-Ok-Run.ensures.asked) (λ is. absurd (no_dump (Run c.in-Ok-Run.options) tt is))
 
 pub returns-in-Ok-Run-clause-ran : goal.returns-in-Ok-Run-clause-ran
 returns-in-Ok-Run-clause-ran g c =
     let old = g.M.Media.view c.args.media in
     let new = g.M.Media.view c.over_records.result.1 in
     let ran = c.over_records.ensures.ran in
-    words_say (map string_bytes c.args.words.now) c.over_records.result.0 _ _ Run c.over_records.ensures.no_usage (rw c.in-Ok-Run.field-0-is at c.in-Ok-Run.ensures.asked)
-    (record { cut = ran.cut; text = ran.text; wrote = ran.wrote; counts = ran.counts; holds = (ran.holds.0, ran.holds.1 refl, λ told. turns_only 0 (λ ended. Answers ran.holds.0 ended ran.cut ran.text) old c.over_records.result.0 new ran.cut ran.text (ran.holds.2 told)) })
+    words_say (map string_bytes c.args.words.now) c.over_records.result.0 _ _ (Run c.in-Ok-Run.options) c.over_records.ensures.no_usage (rw c.in-Ok-Run.field-0-is at c.in-Ok-Run.ensures.asked)
+    (record { cut = ran.cut; text = ran.text; wrote = ran.wrote; counts = ran.counts; holds = (ran.holds.0, ran.holds.1 refl, λ told. turns_only 0 (is_late c.in-Ok-Run.options.writing) (λ ended. Answers ran.holds.0 ended ran.cut ran.text) old c.over_records.result.0 new ran.cut ran.text (ran.holds.2 told)) })
 
 pub returns-in-Ok-Run-clause-complete : goal.returns-in-Ok-Run-clause-complete
 returns-in-Ok-Run-clause-complete g c =
@@ -73,9 +76,9 @@ returns-in-Ok-Run-clause-complete g c =
     let given = g.S.Source.left c.args.source.now in
     let said = c.over_records.ensures in
     let ran = said.ran in
-    words_say (map string_bytes c.args.words.now) c.over_records.result.0 (Unit {0}) _ Run c.over_records.ensures.no_usage (rw c.in-Ok-Run.field-0-is at c.in-Ok-Run.ensures.asked)
+    words_say (map string_bytes c.args.words.now) c.over_records.result.0 (Unit {0}) _ (Run c.in-Ok-Run.options) c.over_records.ensures.no_usage (rw c.in-Ok-Run.field-0-is at c.in-Ok-Run.ensures.asked)
     (λ fit no_source no_sink no_media.
-    complete_records 0 (λ ended. (taken : TakesTurns (Answers ran.holds.0 ended ran.cut ran.text) old ended new) × (IsTrue false → Spares taken.shape old new)) old c.over_records.result.0 new ran.cut ran.text given _ _ _ _ _ _ _ fit.0.1 fit.2.0 fit.2.1 (omega arith) no_source no_sink no_media said.counts (said.input refl fit.0.0) (ran.holds.2 fit.1))
+    complete_records 0 (λ ended. TakesTurnsFor false (is_late c.in-Ok-Run.options.writing) (Answers ran.holds.0 ended ran.cut ran.text) old ended new) old c.over_records.result.0 new ran.cut ran.text given _ _ _ _ _ _ _ fit.0.1 fit.2.0 fit.2.1 (omega arith) no_source no_sink no_media said.counts (said.input refl fit.0.0) (ran.holds.2 fit.1))
 
 pub returns-in-Ok-Callers-clause-words : goal.returns-in-Ok-Callers-clause-words
 returns-in-Ok-Callers-clause-words g c = callers_say (map string_bytes c.args.words.now) c.run_callers.result.0 _ _ c.in-Ok-Callers.numbers (rw c.in-Ok-Callers.field-0-is at c.in-Ok-Callers.ensures.asked) tt
@@ -117,7 +120,7 @@ returns-in-Ok-Callers-clause-complete g c =
     let ran = said.ran in
     callers_say (map string_bytes c.args.words.now) c.run_callers.result.0 (Unit {0}) _ c.in-Ok-Callers.numbers (rw c.in-Ok-Callers.field-0-is at c.in-Ok-Callers.ensures.asked)
     (λ fit no_source no_sink no_media.
-    complete_records numbers.callers (λ ended. TakesTurns (JointWork numbers.callers numbers.tries ran.holds.0 ended ran.cut ran.text) old ended new) old c.run_callers.result.0 new ran.cut ran.text given _ _ _ _ _ _ _ fit.0.1 fit.2.0 fit.2.1 fit.2.2 no_source no_sink no_media said.counts (said.input fit.0.0) (ran.holds.2 fit.1))
+    complete_records numbers.callers (λ ended. TakesTurns (is_late numbers.writing) (JointWork numbers.callers numbers.tries ran.holds.0 ended ran.cut ran.text) old ended new) old c.run_callers.result.0 new ran.cut ran.text given _ _ _ _ _ _ _ fit.0.1 fit.2.0 fit.2.1 fit.2.2 no_source no_sink no_media said.counts (said.input fit.0.0) (ran.holds.2 fit.1))
 
 pub returns-in-Ok-Dump-clause-words : goal.returns-in-Ok-Dump-clause-words
 returns-in-Ok-Dump-clause-words g c = words_say (map string_bytes c.args.words.now) c.over_records-in-Ok-Dump.result.0 _ _ Dump c.over_records-in-Ok-Dump.ensures.no_usage (rw c.in-Ok-Dump.field-0-is at c.in-Ok-Dump.ensures.asked) tt
@@ -152,7 +155,7 @@ returns-in-Ok-Dump-clause-ran g c =
     let new = g.M.Media.view c.over_records-in-Ok-Dump.result.1 in
     let ran = c.over_records-in-Ok-Dump.ensures.ran in
     words_say (map string_bytes c.args.words.now) c.over_records-in-Ok-Dump.result.0 _ _ Dump c.over_records-in-Ok-Dump.ensures.no_usage (rw c.in-Ok-Dump.field-0-is at c.in-Ok-Dump.ensures.asked)
-    (record { cut = ran.cut; text = ran.text; wrote = ran.wrote; counts = ran.counts; holds = (g.S.Source.left c.args.source.now, (λ _. refl), λ told. turns_spared 0 (λ ended. Dumps ended ran.cut ran.text) old c.over_records-in-Ok-Dump.result.0 new ran.cut ran.text (ran.holds.2 told)) })
+    (record { cut = ran.cut; text = ran.text; wrote = ran.wrote; counts = ran.counts; holds = (g.S.Source.left c.args.source.now, (λ _. refl), λ told. turns_spared 0 false (λ ended. Dumps ended ran.cut ran.text) old c.over_records-in-Ok-Dump.result.0 new ran.cut ran.text refl (ran.holds.2 told)) })
 
 pub returns-in-Ok-Dump-clause-complete : goal.returns-in-Ok-Dump-clause-complete
 returns-in-Ok-Dump-clause-complete g c =
@@ -163,7 +166,7 @@ returns-in-Ok-Dump-clause-complete g c =
     let ran = said.ran in
     words_say (map string_bytes c.args.words.now) c.over_records-in-Ok-Dump.result.0 (Unit {0}) _ Dump c.over_records-in-Ok-Dump.ensures.no_usage (rw c.in-Ok-Dump.field-0-is at c.in-Ok-Dump.ensures.asked)
     (λ fit no_source no_sink no_media.
-    complete_records 0 (λ ended. (taken : TakesTurns (Dumps ended ran.cut ran.text) old ended new) × (IsTrue true → Spares taken.shape old new)) old c.over_records-in-Ok-Dump.result.0 new ran.cut ran.text [] [] _ _ _ _ _ _ (omega arith) fit.1.0 fit.1.1 (omega arith) no_source no_sink no_media said.counts (nothing_read c.over_records-in-Ok-Dump.result.0 (λ early. absurd (false≢true (said.early early).0))) (ran.holds.2 fit.0))
+    complete_records 0 (λ ended. TakesTurnsFor true false (Dumps ended ran.cut ran.text) old ended new) old c.over_records-in-Ok-Dump.result.0 new ran.cut ran.text [] [] _ _ _ _ _ _ (omega arith) fit.1.0 fit.1.1 (omega arith) no_source no_sink no_media said.counts (nothing_read c.over_records-in-Ok-Dump.result.0 (λ early. absurd (false≢true (said.early early).0))) (ran.holds.2 fit.0))
 
 pub returns-in-Ok-Drill-clause-words : goal.returns-in-Ok-Drill-clause-words
 returns-in-Ok-Drill-clause-words g c = words_say (map string_bytes c.args.words.now) c.over_records-in-Ok-Drill.result.0 _ _ (Drill c.in-Ok-Drill.numbers) c.over_records-in-Ok-Drill.ensures.no_usage (rw c.in-Ok-Drill.field-0-is at c.in-Ok-Drill.ensures.asked) tt
@@ -199,7 +202,7 @@ returns-in-Ok-Drill-clause-ran g c =
     let numbers = c.in-Ok-Drill.numbers in
     let ran = c.over_records-in-Ok-Drill.ensures.ran in
     words_say (map string_bytes c.args.words.now) c.over_records-in-Ok-Drill.result.0 _ _ (Drill c.in-Ok-Drill.numbers) c.over_records-in-Ok-Drill.ensures.no_usage (rw c.in-Ok-Drill.field-0-is at c.in-Ok-Drill.ensures.asked)
-    (record { cut = ran.cut; text = ran.text; wrote = ran.wrote; counts = ran.counts; holds = (g.S.Source.left c.args.source.now, (λ _. refl), λ told. turns_only 0 (λ ended. Drills numbers ended ran.cut ran.text) old c.over_records-in-Ok-Drill.result.0 new ran.cut ran.text (ran.holds.2 told)) })
+    (record { cut = ran.cut; text = ran.text; wrote = ran.wrote; counts = ran.counts; holds = (g.S.Source.left c.args.source.now, (λ _. refl), λ told. turns_only 0 (is_late numbers.writing) (λ ended. Drills numbers ended ran.cut ran.text) old c.over_records-in-Ok-Drill.result.0 new ran.cut ran.text (ran.holds.2 told)) })
 
 pub returns-in-Ok-Drill-clause-complete : goal.returns-in-Ok-Drill-clause-complete
 returns-in-Ok-Drill-clause-complete g c =
@@ -211,7 +214,7 @@ returns-in-Ok-Drill-clause-complete g c =
     let ran = said.ran in
     words_say (map string_bytes c.args.words.now) c.over_records-in-Ok-Drill.result.0 (Unit {0}) _ (Drill c.in-Ok-Drill.numbers) c.over_records-in-Ok-Drill.ensures.no_usage (rw c.in-Ok-Drill.field-0-is at c.in-Ok-Drill.ensures.asked)
     (λ fit no_source no_sink no_media.
-    complete_records 0 (λ ended. (taken : TakesTurns (Drills numbers ended ran.cut ran.text) old ended new) × (IsTrue false → Spares taken.shape old new)) old c.over_records-in-Ok-Drill.result.0 new ran.cut ran.text [] [] _ _ _ _ _ _ (omega arith) fit.1.0 fit.1.1 (omega arith) no_source no_sink no_media said.counts (nothing_read c.over_records-in-Ok-Drill.result.0 (λ early. absurd (false≢true (said.early early).0))) (ran.holds.2 fit.0))
+    complete_records 0 (λ ended. TakesTurnsFor false (is_late numbers.writing) (Drills numbers ended ran.cut ran.text) old ended new) old c.over_records-in-Ok-Drill.result.0 new ran.cut ran.text [] [] _ _ _ _ _ _ (omega arith) fit.1.0 fit.1.1 (omega arith) no_source no_sink no_media said.counts (nothing_read c.over_records-in-Ok-Drill.result.0 (λ early. absurd (false≢true (said.early early).0))) (ran.holds.2 fit.0))
 
 pub returns-in-Ok-Eaw-clause-complete : goal.returns-in-Ok-Eaw-clause-complete
 returns-in-Ok-Eaw-clause-complete g c =
@@ -288,3 +291,9 @@ returns-in-Ok-Format-clause-formats g c = words_say (map string_bytes c.args.wor
 
 pub returns-in-Ok-Format-clause-dumps : goal.returns-in-Ok-Format-clause-dumps
 returns-in-Ok-Format-clause-dumps g c = words_say (map string_bytes c.args.words.now) c.run_format.result.0 _ _ (Format c.in-Ok-Format.numbers) (no_usage c.in-Ok-Format.numbers _ c.run_format.result.0 _ _ c.run_format.ensures.says) (rw c.in-Ok-Format.field-0-is at c.in-Ok-Format.ensures.asked) (λ is. absurd (no_dump (Format c.in-Ok-Format.numbers) tt is))
+
+pub over_records-requires-clause-depth : goal.over_records-requires-clause-depth
+over_records-requires-clause-depth g c = λ κs lives. run_depth (map string_bytes c.args.words.now) c.in-Ok-Run.options (rw c.in-Ok-Run.field-0-is at c.in-Ok-Run.ensures.asked)
+
+pub run_callers-requires-clause-depth : goal.run_callers-requires-clause-depth
+run_callers-requires-clause-depth g c = λ κs lives. callers_depth (map string_bytes c.args.words.now) c.in-Ok-Callers.numbers (rw c.in-Ok-Callers.field-0-is at c.in-Ok-Callers.ensures.asked)

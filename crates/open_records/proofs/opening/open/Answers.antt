@@ -20,5 +20,5 @@ returns-in-Ok-attach-2-clause-opened g c told shape bytes opens =
 pub returns-in-Err-attach-clause-cause : goal.returns-in-Err-attach-clause-cause
 returns-in-Err-attach-clause-cause g c told shape bytes opens =
     let store = c.in-Ok-attach.store in
-    unsound g.M.Media.tells g.K.KeyIndex.index (view_of (g.M.Media.view store.media) store.shape store.logs.items store.is_dead) shape bytes c.in-Err-attach.fault told
+    unsound g.M.Media.tells g.K.KeyIndex.index (view_of (g.M.Media.view store.media) store.shape store.logs.items store.late store.is_dead) shape bytes c.in-Err-attach.fault told
     (c.in-Ok-attach.ensures.found told shape bytes opens).1 c.in-Err-attach.ensures.cause

@@ -12,7 +12,7 @@ pub returns-in_err-at : goal.returns-in_err-at
 returns-in_err-at g c =
     let m = g.M.Media in
     let s = c.args.self.now in
-    let store = view_of (m.view s.media) s.shape s.logs.items s.is_dead in
+    let store = view_of (m.view s.media) s.shape s.logs.items s.late s.is_dead in
     let fault = c.in_err-at.field-0.0 in
     let cause = c.in_err-at.ensures.cause in
     let p = err_from_is_err_and c.from_residual.result c.from_residual.ensures.1 in
@@ -28,15 +28,15 @@ pub clear-requires : goal.clear-requires
 clear-requires g c =
     let m = g.M.Media in
     let s = c.args.self.now in
-    (found m.tells (m.view s.media) s.shape s.logs.items s.is_dead s.sound c.in_ok-at.ensures.alive c.args.tid c.in_ok-at.at c.index_mut.result.now c.in_ok-at.ensures.at c.in_ok-at.ensures.live c.index_mut.ensures.value).kept
+    (found m.tells (m.view s.media) s.shape s.logs.items s.late s.is_dead s.sound c.in_ok-at.ensures.alive c.args.tid c.in_ok-at.at c.index_mut.result.now c.in_ok-at.ensures.at c.in_ok-at.ensures.live c.index_mut.ensures.value).kept
 
 pub invariant_of-self : goal.invariant_of-self
 invariant_of-self g c =
     let m = g.M.Media in
     let s = c.args.self.now in
-    let there = found m.tells (m.view s.media) s.shape s.logs.items s.is_dead s.sound c.in_ok-at.ensures.alive c.args.tid c.in_ok-at.at c.index_mut.result.now c.in_ok-at.ensures.at c.in_ok-at.ensures.live c.index_mut.ensures.value in
+    let there = found m.tells (m.view s.media) s.shape s.logs.items s.late s.is_dead s.sound c.in_ok-at.ensures.alive c.args.tid c.in_ok-at.at c.index_mut.result.now c.in_ok-at.ensures.at c.in_ok-at.ensures.live c.index_mut.ensures.value in
     record {
-      sound = abort_sound m.tells (m.view s.media) s.shape s.logs.items s.is_dead s.sound c.in_ok-at.ensures.alive c.args.tid c.in_ok-at.ensures.live c.index_mut.result.now there
+      sound = abort_sound m.tells (m.view s.media) s.shape s.logs.items s.late s.is_dead s.sound c.in_ok-at.ensures.alive c.args.tid c.in_ok-at.ensures.live c.index_mut.result.now there
           c.clear.new.self c.clear.ensures.kept 0 c.clear.ensures.entries c.in_ok-at.at c.in_ok-at.ensures.at;
       at_once = c.args.self.now.at_once;
     }
@@ -45,8 +45,8 @@ pub returns-clause-does : goal.returns-clause-does
 returns-clause-does g c =
     let m = g.M.Media in
     let s = c.args.self.now in
-    let there = found m.tells (m.view s.media) s.shape s.logs.items s.is_dead s.sound c.in_ok-at.ensures.alive c.args.tid c.in_ok-at.at c.index_mut.result.now c.in_ok-at.ensures.at c.in_ok-at.ensures.live c.index_mut.ensures.value in
-    abort_done m.tells (m.view s.media) s.shape s.logs.items s.is_dead s.sound c.in_ok-at.ensures.alive c.args.tid c.in_ok-at.ensures.live c.index_mut.result.now there
+    let there = found m.tells (m.view s.media) s.shape s.logs.items s.late s.is_dead s.sound c.in_ok-at.ensures.alive c.args.tid c.in_ok-at.at c.index_mut.result.now c.in_ok-at.ensures.at c.in_ok-at.ensures.live c.index_mut.ensures.value in
+    abort_done m.tells (m.view s.media) s.shape s.logs.items s.late s.is_dead s.sound c.in_ok-at.ensures.alive c.args.tid c.in_ok-at.ensures.live c.index_mut.result.now there
     c.clear.new.self c.clear.ensures.kept 0 c.clear.ensures.entries c.in_ok-at.at c.in_ok-at.ensures.at c.clear.ensures.free
 
 pub returns-clause-due : goal.returns-clause-due

@@ -8,7 +8,8 @@ use Rattle.eaw_device.proofs.StagedCalls.{when_ok}
 use Rattle.eaw_device.proofs.Doing.{lacking, lacking_other, Found, found, when_err}
 use Rattle.eaw_device.specs.Costs.{commit_cost}
 use Rattle.eaw_device.proofs.Costing.{costs_done}
-use Rattle.eaw_device.proofs.Tables.{ranges_there}
+use Rattle.eaw_device.proofs.NoneWaits.{once_before, once_held}
+use Rattle.eaw_device.proofs.Tables.{ranges_there, sound_dead}
 use Rattle.eaw_device.proofs.Commits.{its_len, commit_failed, commit_sound, commit_done}
 use Rattle.eaw_device.proofs.device.EawEawStore.commit.Given.{Over}
 use Rattle.eaw_device.proofs.device.EawEawStore.commit.Goals as goal
@@ -17,7 +18,7 @@ pub returns-in_err-at : goal.returns-in_err-at
 returns-in_err-at g c =
     let m = g.M.Media in
     let s = c.args.self.now in
-    let store = view_of (m.view s.media) s.shape s.logs.items s.is_dead in
+    let store = view_of (m.view s.media) s.shape s.logs.items s.late s.is_dead in
     let fault = c.in_err-at.field-0.0 in
     let cause = c.in_err-at.ensures.cause in
     let p = err_from_is_err_and c.from_residual.result c.from_residual.ensures.1 in
@@ -30,10 +31,19 @@ returns-in_err-at g c =
     })
 
 -- the log that is found
-log_found : (g : Over) (c : goal.After-index g) → Found g.M.Media.tells (g.M.Media.view c.args.self.now.media) c.args.self.now.shape c.args.self.now.logs.items c.args.self.now.is_dead c.args.tid c.index.result.now
+log_found : (g : Over) (c : goal.After-index g) → Found g.M.Media.tells (g.M.Media.view c.args.self.now.media) c.args.self.now.shape c.args.self.now.logs.items c.args.self.now.late c.args.self.now.is_dead c.args.tid c.index.result.now
 log_found g c =
     let s = c.args.self.now in
-    found g.M.Media.tells (g.M.Media.view s.media) s.shape s.logs.items s.is_dead s.sound c.in_ok-at.ensures.alive c.args.tid c.in_ok-at.at c.index.result.now c.in_ok-at.ensures.at c.in_ok-at.ensures.live c.index.ensures
+    found g.M.Media.tells (g.M.Media.view s.media) s.shape s.logs.items s.late s.is_dead s.sound c.in_ok-at.ensures.alive c.args.tid c.in_ok-at.at c.index.result.now c.in_ok-at.ensures.at c.in_ok-at.ensures.live c.index.ensures
+
+pub commit_log-requires-clause-ready : goal.commit_log-requires-clause-ready
+commit_log-requires-clause-ready g c = c.args.self.now.sound.ready
+
+pub commit_log-requires-clause-tied : goal.commit_log-requires-clause-tied
+commit_log-requires-clause-tied g c = (c.args.self.now.sound.in_order c.in_ok-at.ensures.alive).tied
+
+pub commit_log-requires-clause-waiting : goal.commit_log-requires-clause-waiting
+commit_log-requires-clause-waiting g c = λ told. (c.args.self.now.sound.told told c.in_ok-at.ensures.alive).sure.waiting
 
 pub commit_log-requires-clause-kept : goal.commit_log-requires-clause-kept
 commit_log-requires-clause-kept g c = (log_found g c).kept
@@ -45,18 +55,18 @@ pub returns-then-is_err-clause-does : goal.returns-then-is_err-clause-does
 returns-then-is_err-clause-does g c =
     let m = g.M.Media in
     let s = c.args.self.now in
-    let there = found m.tells (m.view s.media) s.shape s.logs.items s.is_dead s.sound c.in_ok-at.ensures.alive c.args.tid c.in_ok-at.at c.index.result.now c.in_ok-at.ensures.at c.in_ok-at.ensures.live c.index.ensures in
+    let there = found m.tells (m.view s.media) s.shape s.logs.items s.late s.is_dead s.sound c.in_ok-at.ensures.alive c.args.tid c.in_ok-at.at c.index.result.now c.in_ok-at.ensures.at c.in_ok-at.ensures.live c.index.ensures in
     let said = c.commit_log.ensures in
-    commit_failed m.tells (m.view s.media) (m.view c.commit_log.new.media) s.shape s.logs.items s.is_dead s.sound c.in_ok-at.ensures.alive c.args.tid c.in_ok-at.ensures.live c.index.result.now there
-    0 c.commit_log.result said.does (λ told. g.met.M.Media.long s.media told ∙ s.sound.sized) said.any_moment
+    commit_failed m.tells (m.view s.media) (m.view c.commit_log.new.media) s.shape s.logs.items s.late s.is_dead s.sound c.in_ok-at.ensures.alive c.args.tid c.in_ok-at.ensures.live c.index.result.now there
+    c.commit_log.new.late 0 c.commit_log.result said.does (λ told. g.met.M.Media.long s.media told ∙ s.sound.sized) said.any_moment
     (when_err c.commit_log.result (sym c.is_err.ensures.value ∙ c.if-is_err.true) said.does.does.cause.failed) refl
 
 pub returns-then-is_err-clause-idle : goal.returns-then-is_err-clause-idle
 returns-then-is_err-clause-idle g c = λ none.
     let m = g.M.Media in
     let s = c.args.self.now in
-    let there = found m.tells (m.view s.media) s.shape s.logs.items s.is_dead s.sound c.in_ok-at.ensures.alive c.args.tid c.in_ok-at.at c.index.result.now c.in_ok-at.ensures.at c.in_ok-at.ensures.live c.index.ensures in
-    let len = its_len m.tells (m.view s.media) (m.view c.commit_log.new.media) s.shape s.logs.items s.is_dead s.sound c.in_ok-at.ensures.alive c.args.tid c.in_ok-at.ensures.live c.index.result.now there in
+    let there = found m.tells (m.view s.media) s.shape s.logs.items s.late s.is_dead s.sound c.in_ok-at.ensures.alive c.args.tid c.in_ok-at.at c.index.result.now c.in_ok-at.ensures.at c.in_ok-at.ensures.live c.index.ensures in
+    let len = its_len m.tells (m.view s.media) (m.view c.commit_log.new.media) s.shape s.logs.items s.late s.is_dead s.sound c.in_ok-at.ensures.alive c.args.tid c.in_ok-at.ensures.live c.index.result.now there in
     let same = c.commit_log.ensures.idle (sym len ∙ none) in
     cc
 
@@ -64,19 +74,31 @@ pub clear-requires : goal.clear-requires
 clear-requires g c =
     let m = g.M.Media in
     let s = c.args.self.now in
-    (found m.tells (m.view s.media) s.shape s.logs.items s.is_dead s.sound c.in_ok-at.ensures.alive c.args.tid c.in_ok-at.at c.index_mut.result.now c.in_ok-at.ensures.at c.in_ok-at.ensures.live c.index_mut.ensures.value).kept
+    (found m.tells (m.view s.media) s.shape s.logs.items s.late s.is_dead s.sound c.in_ok-at.ensures.alive c.args.tid c.in_ok-at.at c.index_mut.result.now c.in_ok-at.ensures.at c.in_ok-at.ensures.live c.index_mut.ensures.value).kept
+
+pub invariant_of-self : goal.invariant_of-self
+invariant_of-self g c =
+    let m = g.M.Media in
+    let s = c.args.self.now in
+    let said = c.commit_log.ensures in
+    record {
+      sound = sound_dead m.tells (m.view s.media) (m.view c.commit_log.new.media) s.shape s.logs.items s.late c.commit_log.new.late s.is_dead s.sound said.does.does.size said.ready;
+      at_once = said.at_once;
+    }
 
 pub invariant_of-self-2 : goal.invariant_of-self-2
 invariant_of-self-2 g c =
     let m = g.M.Media in
     let s = c.args.self.now in
-    let there = found m.tells (m.view s.media) s.shape s.logs.items s.is_dead s.sound c.in_ok-at.ensures.alive c.args.tid c.in_ok-at.at c.index.result.now c.in_ok-at.ensures.at c.in_ok-at.ensures.live c.index.ensures in
+    let there = found m.tells (m.view s.media) s.shape s.logs.items s.late s.is_dead s.sound c.in_ok-at.ensures.alive c.args.tid c.in_ok-at.at c.index.result.now c.in_ok-at.ensures.at c.in_ok-at.ensures.live c.index.ensures in
     let said = c.commit_log.ensures in
     let fine = sym c.is_err.ensures.value ∙ c.if-is_err.false in
     record {
-      sound = commit_sound m.tells (m.view s.media) (m.view c.commit_log.new.media) s.shape s.logs.items s.is_dead s.sound c.in_ok-at.ensures.alive c.args.tid c.in_ok-at.ensures.live c.index.result.now there
-          0 c.commit_log.result said.does (λ told. g.met.M.Media.long s.media told ∙ s.sound.sized) said.any_moment
-          (λ told. when_ok c.commit_log.result fine (said.clean told)) (λ told. when_ok c.commit_log.result fine (said.committed told)) said.cells c.clear.new.self c.clear.ensures.kept c.clear.ensures.entries c.in_ok-at.at c.in_ok-at.ensures.at;
+      sound = commit_sound m.tells (m.view s.media) (m.view c.commit_log.new.media) s.shape s.logs.items s.late s.is_dead s.sound c.in_ok-at.ensures.alive c.args.tid c.in_ok-at.ensures.live c.index.result.now there
+          c.commit_log.new.late 0 c.commit_log.result said.does (λ told. g.met.M.Media.long s.media told ∙ s.sound.sized) said.any_moment
+          said.ready (λ told. when_ok c.commit_log.result fine (said.waiting told)) (λ told. once_held s.shape c.commit_log.new.late said.at_once (when_ok c.commit_log.result fine said.tied) (m.view c.commit_log.new.media).content.bytes)
+          (λ told. when_ok c.commit_log.result fine (said.committed told)) said.cells c.clear.new.self c.clear.ensures.kept c.clear.ensures.entries c.in_ok-at.at c.in_ok-at.ensures.at
+          (record { tied = when_ok c.commit_log.result fine said.tied; before = λ t l got. once_before s.shape c.commit_log.new.late.queue said.at_once t l });
       at_once = c.commit_log.ensures.at_once;
     }
 
@@ -84,20 +106,21 @@ pub returns-clause-does : goal.returns-clause-does
 returns-clause-does g c =
     let m = g.M.Media in
     let s = c.args.self.now in
-    let there = found m.tells (m.view s.media) s.shape s.logs.items s.is_dead s.sound c.in_ok-at.ensures.alive c.args.tid c.in_ok-at.at c.index.result.now c.in_ok-at.ensures.at c.in_ok-at.ensures.live c.index.ensures in
+    let there = found m.tells (m.view s.media) s.shape s.logs.items s.late s.is_dead s.sound c.in_ok-at.ensures.alive c.args.tid c.in_ok-at.at c.index.result.now c.in_ok-at.ensures.at c.in_ok-at.ensures.live c.index.ensures in
     let said = c.commit_log.ensures in
     let fine = sym c.is_err.ensures.value ∙ c.if-is_err.false in
-    commit_done m.tells (m.view s.media) (m.view c.commit_log.new.media) s.shape s.logs.items s.is_dead s.sound c.in_ok-at.ensures.alive c.args.tid c.in_ok-at.ensures.live c.index.result.now there
-    0 c.commit_log.result said.does (λ told. g.met.M.Media.long s.media told ∙ s.sound.sized) said.any_moment
-    (λ told. when_ok c.commit_log.result fine (said.clean told)) (λ told. when_ok c.commit_log.result fine (said.committed told)) said.cells c.clear.new.self c.clear.ensures.kept c.clear.ensures.entries c.in_ok-at.at c.in_ok-at.ensures.at
+    commit_done m.tells (m.view s.media) (m.view c.commit_log.new.media) s.shape s.logs.items s.late s.is_dead s.sound c.in_ok-at.ensures.alive c.args.tid c.in_ok-at.ensures.live c.index.result.now there
+    c.commit_log.new.late 0 c.commit_log.result said.does (λ told. g.met.M.Media.long s.media told ∙ s.sound.sized) said.any_moment
+    said.ready (λ told. when_ok c.commit_log.result fine (said.waiting told)) (λ told. once_held s.shape c.commit_log.new.late said.at_once (when_ok c.commit_log.result fine said.tied) (m.view c.commit_log.new.media).content.bytes)
+    (λ told. when_ok c.commit_log.result fine (said.committed told)) said.cells c.clear.new.self c.clear.ensures.kept c.clear.ensures.entries c.in_ok-at.at c.in_ok-at.ensures.at
     (when_ok c.commit_log.result fine said.does.does.cause.kept) refl c.clear.ensures.free
 
 pub returns-clause-idle : goal.returns-clause-idle
 returns-clause-idle g c = λ none.
     let m = g.M.Media in
     let s = c.args.self.now in
-    let there = found m.tells (m.view s.media) s.shape s.logs.items s.is_dead s.sound c.in_ok-at.ensures.alive c.args.tid c.in_ok-at.at c.index.result.now c.in_ok-at.ensures.at c.in_ok-at.ensures.live c.index.ensures in
-    let len = its_len m.tells (m.view s.media) (m.view c.commit_log.new.media) s.shape s.logs.items s.is_dead s.sound c.in_ok-at.ensures.alive c.args.tid c.in_ok-at.ensures.live c.index.result.now there in
+    let there = found m.tells (m.view s.media) s.shape s.logs.items s.late s.is_dead s.sound c.in_ok-at.ensures.alive c.args.tid c.in_ok-at.at c.index.result.now c.in_ok-at.ensures.at c.in_ok-at.ensures.live c.index.ensures in
+    let len = its_len m.tells (m.view s.media) (m.view c.commit_log.new.media) s.shape s.logs.items s.late s.is_dead s.sound c.in_ok-at.ensures.alive c.args.tid c.in_ok-at.ensures.live c.index.result.now there in
     let same = c.commit_log.ensures.idle (sym len ∙ none) in
     cc
 
@@ -105,8 +128,8 @@ pub returns-then-is_err-clause-due : goal.returns-then-is_err-clause-due
 returns-then-is_err-clause-due g c = λ broke.
     let m = g.M.Media in
     let s = c.args.self.now in
-    let there = found m.tells (m.view s.media) s.shape s.logs.items s.is_dead s.sound c.in_ok-at.ensures.alive c.args.tid c.in_ok-at.at c.index.result.now c.in_ok-at.ensures.at c.in_ok-at.ensures.live c.index.ensures in
-    let len = its_len m.tells (m.view s.media) (m.view c.commit_log.new.media) s.shape s.logs.items s.is_dead s.sound c.in_ok-at.ensures.alive c.args.tid c.in_ok-at.ensures.live c.index.result.now there in
+    let there = found m.tells (m.view s.media) s.shape s.logs.items s.late s.is_dead s.sound c.in_ok-at.ensures.alive c.args.tid c.in_ok-at.at c.index.result.now c.in_ok-at.ensures.at c.in_ok-at.ensures.live c.index.ensures in
+    let len = its_len m.tells (m.view s.media) (m.view c.commit_log.new.media) s.shape s.logs.items s.late s.is_dead s.sound c.in_ok-at.ensures.alive c.args.tid c.in_ok-at.ensures.live c.index.result.now there in
     let due = when_err c.commit_log.result (sym c.is_err.ensures.value ∙ c.if-is_err.true) c.commit_log.ensures.due in
     omega (arith, due, len)
 
@@ -114,7 +137,7 @@ pub returns-clause-costs : goal.returns-clause-costs
 returns-clause-costs g c =
     let m = g.M.Media in
     let s = c.args.self.now in
-    let there = found m.tells (m.view s.media) s.shape s.logs.items s.is_dead s.sound c.in_ok-at.ensures.alive c.args.tid c.in_ok-at.at c.index.result.now c.in_ok-at.ensures.at c.in_ok-at.ensures.live c.index.ensures in
+    let there = found m.tells (m.view s.media) s.shape s.logs.items s.late s.is_dead s.sound c.in_ok-at.ensures.alive c.args.tid c.in_ok-at.at c.index.result.now c.in_ok-at.ensures.at c.in_ok-at.ensures.live c.index.ensures in
     let ranges = ranges_there s.shape s.logs.items c.args.tid c.index.result.now there.there there.kept in
     costs_done m.tells _ _ _ _ c.commit_log.result tt (sym c.is_err.ensures.value ∙ c.if-is_err.false)
     (ap (λ (rs : List (ℕ × ℕ)). commit_cost s.shape 1 (drop 0 rs)) (sym ranges)) c.commit_log.ensures.costs
@@ -132,7 +155,7 @@ pub returns-then-is_err-clause-costs : goal.returns-then-is_err-clause-costs
 returns-then-is_err-clause-costs g c =
     let m = g.M.Media in
     let s = c.args.self.now in
-    let there = found m.tells (m.view s.media) s.shape s.logs.items s.is_dead s.sound c.in_ok-at.ensures.alive c.args.tid c.in_ok-at.at c.index.result.now c.in_ok-at.ensures.at c.in_ok-at.ensures.live c.index.ensures in
+    let there = found m.tells (m.view s.media) s.shape s.logs.items s.late s.is_dead s.sound c.in_ok-at.ensures.alive c.args.tid c.in_ok-at.at c.index.result.now c.in_ok-at.ensures.at c.in_ok-at.ensures.live c.index.ensures in
     let ranges = ranges_there s.shape s.logs.items c.args.tid c.index.result.now there.there there.kept in
     let same = ap (λ (rs : List (ℕ × ℕ)). commit_cost s.shape 1 (drop 0 rs)) ranges in
     record { done = λ exact. tt; most = omega (arith, c.commit_log.ensures.costs.most, same) }

@@ -12,13 +12,15 @@ use Rattle.eaw_device.proofs.Costing.{costs_done}
 use Rattle.eaw_device.proofs.Doing.{lacking_group, lacking_group_other, when_err}
 use Rattle.eaw_device.proofs.GroupCommits.{group_failed, group_now_sound, group_done}
 use Rattle.eaw_device.proofs.StagedCalls.{when_ok}
+use Rattle.eaw_device.proofs.NoneWaits.{once_before, once_held}
+use Rattle.eaw_device.proofs.Tables.{sound_dead}
 use Rattle.eaw_device.proofs.device.EawEawStore.commit_group.Goals as goal
 
 pub returns-in_err-find_group : goal.returns-in_err-find_group
 returns-in_err-find_group g c =
     let m = g.M.Media in
     let s = c.args.self.now in
-    let store = view_of (m.view s.media) s.shape s.logs.items s.is_dead in
+    let store = view_of (m.view s.media) s.shape s.logs.items s.late s.is_dead in
     let fault = c.in_err-find_group.field-0.0 in
     let cause = c.in_err-find_group.ensures.cause in
     let p = err_from_is_err_and c.from_residual.result c.from_residual.ensures.1 in
@@ -29,6 +31,15 @@ returns-in_err-find_group g c =
       costs = record { done = λ exact. tt; most = omega arith };
       refused = λ ne. refl;
     })
+
+pub commit_logs-requires-clause-ready : goal.commit_logs-requires-clause-ready
+commit_logs-requires-clause-ready g c = c.args.self.now.sound.ready
+
+pub commit_logs-requires-clause-tied : goal.commit_logs-requires-clause-tied
+commit_logs-requires-clause-tied g c = (c.args.self.now.sound.in_order c.in_ok-find_group.ensures.alive).tied
+
+pub commit_logs-requires-clause-waiting : goal.commit_logs-requires-clause-waiting
+commit_logs-requires-clause-waiting g c = λ told. (c.args.self.now.sound.told told c.in_ok-find_group.ensures.alive).sure.waiting
 
 pub commit_logs-requires-clause-held : goal.commit_logs-requires-clause-held
 commit_logs-requires-clause-held g c = rw (c.deref.ensures.value) (λ told. (c.args.self.now.sound.told told c.in_ok-find_group.ensures.alive).held)
@@ -45,8 +56,8 @@ returns-then-is_err-clause-does g c =
     let s = c.args.self.now in
     let said = c.commit_logs.ensures in
     let any_moment = (rw (c.deref.ensures.value) at said.any_moment) in
-    group_failed m.tells (m.view s.media) (m.view c.commit_logs.new.media) s.shape s.logs.items s.is_dead s.sound c.in_ok-find_group.ensures.alive (members c.args.tids) c.in_ok-find_group.ensures.live
-    c.commit_logs.result said.does (λ told. g.met.M.Media.long s.media told ∙ s.sound.sized) any_moment
+    group_failed m.tells (m.view s.media) (m.view c.commit_logs.new.media) s.shape s.logs.items s.late s.is_dead s.sound c.in_ok-find_group.ensures.alive (members c.args.tids) c.in_ok-find_group.ensures.live
+    c.commit_logs.new.late c.commit_logs.result said.does (λ told. g.met.M.Media.long s.media told ∙ s.sound.sized) any_moment
     (when_err c.commit_logs.result (sym c.is_err.ensures.value ∙ c.if-is_err.true) said.does.does.cause.failed)
 
 pub returns-then-is_err-clause-idle : goal.returns-then-is_err-clause-idle
@@ -64,11 +75,21 @@ returns-then-is_err-clause-costs g c = record { done = λ exact. tt; most = (rw 
 pub clear_logs-requires-clause-there : goal.clear_logs-requires-clause-there
 clear_logs-requires-clause-there g c = rw (c.deref_mut.ensures.value) (λ t so.
     let s = c.args.self.now in
-    let live = known_one (view_of (g.M.Media.view s.media) s.shape s.logs.items s.is_dead) (members c.args.tids) c.in_ok-find_group.ensures.live t so in
+    let live = known_one (view_of (g.M.Media.view s.media) s.shape s.logs.items s.late s.is_dead) (members c.args.tids) c.in_ok-find_group.ensures.live t so in
     omega (arith, live.small, s.sound.many))
 
 pub clear_logs-requires-clause-kept : goal.clear_logs-requires-clause-kept
 clear_logs-requires-clause-kept g c = rw (c.deref_mut.ensures.value) c.args.self.now.sound.kept
+
+pub invariant_of-self : goal.invariant_of-self
+invariant_of-self g c =
+    let m = g.M.Media in
+    let s = c.args.self.now in
+    let said = c.commit_logs.ensures in
+    record {
+      sound = sound_dead m.tells (m.view s.media) (m.view c.commit_logs.new.media) s.shape s.logs.items s.late c.commit_logs.new.late s.is_dead s.sound said.does.does.size said.ready;
+      at_once = said.at_once;
+    }
 
 pub invariant_of-self-2-clause-sound : goal.invariant_of-self-2-clause-sound
 invariant_of-self-2-clause-sound g c =
@@ -82,9 +103,11 @@ invariant_of-self-2-clause-sound g c =
     let many = left.many ∙ ap length lent in
     let same = written_over s.logs.len s.logs.items c.clear_logs.new.logs s.logs.ok.0 many in
     let fine = sym c.is_err.ensures.value ∙ c.if-is_err.false in
-    rw (same) (group_now_sound m.tells (m.view s.media) (m.view c.commit_logs.new.media) s.shape s.logs.items s.is_dead s.sound c.in_ok-find_group.ensures.alive (members c.args.tids) c.in_ok-find_group.ensures.live
-    c.commit_logs.result said.does (λ told. g.met.M.Media.long s.media told ∙ s.sound.sized) any_moment
-    (λ told. when_ok c.commit_logs.result fine (said.clean told)) (λ told. when_ok c.commit_logs.result fine (committed told)) said.cells c.clear_logs.new.logs many left.kept left.freed (λ t away. left.others t away ∙ ap (λ (ls : List Log). slice_get ls t) lent))
+    rw (same) (group_now_sound m.tells (m.view s.media) (m.view c.commit_logs.new.media) s.shape s.logs.items s.late s.is_dead s.sound c.in_ok-find_group.ensures.alive (members c.args.tids) c.in_ok-find_group.ensures.live
+    c.commit_logs.new.late c.commit_logs.result said.does (λ told. g.met.M.Media.long s.media told ∙ s.sound.sized) any_moment
+    said.ready (λ told. when_ok c.commit_logs.result fine (said.waiting told)) (λ told. once_held s.shape c.commit_logs.new.late said.at_once (when_ok c.commit_logs.result fine said.tied) (m.view c.commit_logs.new.media).content.bytes)
+    (λ told. when_ok c.commit_logs.result fine (committed told)) said.cells c.clear_logs.new.logs many left.kept left.freed (λ t away. left.others t away ∙ ap (λ (ls : List Log). slice_get ls t) lent)
+    (record { tied = when_ok c.commit_logs.result fine said.tied; before = λ t l got. once_before s.shape c.commit_logs.new.late.queue said.at_once t l }))
 
 pub invariant_of-self-2-clause-at_once : goal.invariant_of-self-2-clause-at_once
 invariant_of-self-2-clause-at_once g c = c.commit_logs.ensures.at_once
@@ -101,9 +124,10 @@ returns-clause-does g c =
     let many = left.many ∙ ap length lent in
     let same = written_over s.logs.len s.logs.items c.clear_logs.new.logs s.logs.ok.0 many in
     let fine = sym c.is_err.ensures.value ∙ c.if-is_err.false in
-    rw (same) (group_done m.tells (m.view s.media) (m.view c.commit_logs.new.media) s.shape s.logs.items s.is_dead s.sound c.in_ok-find_group.ensures.alive (members c.args.tids) c.in_ok-find_group.ensures.live
-    c.commit_logs.result said.does (λ told. g.met.M.Media.long s.media told ∙ s.sound.sized) any_moment
-    (λ told. when_ok c.commit_logs.result fine (said.clean told)) (λ told. when_ok c.commit_logs.result fine (committed told)) said.cells c.clear_logs.new.logs many left.kept left.freed (λ t away. left.others t away ∙ ap (λ (ls : List Log). slice_get ls t) lent)
+    rw (same) (group_done m.tells (m.view s.media) (m.view c.commit_logs.new.media) s.shape s.logs.items s.late s.is_dead s.sound c.in_ok-find_group.ensures.alive (members c.args.tids) c.in_ok-find_group.ensures.live
+    c.commit_logs.new.late c.commit_logs.result said.does (λ told. g.met.M.Media.long s.media told ∙ s.sound.sized) any_moment
+    said.ready (λ told. when_ok c.commit_logs.result fine (said.waiting told)) (λ told. once_held s.shape c.commit_logs.new.late said.at_once (when_ok c.commit_logs.result fine said.tied) (m.view c.commit_logs.new.media).content.bytes)
+    (λ told. when_ok c.commit_logs.result fine (committed told)) said.cells c.clear_logs.new.logs many left.kept left.freed (λ t away. left.others t away ∙ ap (λ (ls : List Log). slice_get ls t) lent)
     (when_ok c.commit_logs.result fine said.does.does.cause.kept))
 
 pub returns-clause-idle : goal.returns-clause-idle

@@ -13,7 +13,7 @@ pub returns-in_err-number : goal.returns-in_err-number
 returns-in_err-number g c =
     let m = g.M.Media in
     let s = c.args.self.now in
-    let store = view_of (m.view s.media) s.shape s.logs.items s.is_dead in
+    let store = view_of (m.view s.media) s.shape s.logs.items s.late s.is_dead in
     let fault = c.in_err-number.field-0.0 in
     let cause = c.in_err-number.ensures.cause in
     let p = err_from_is_err_and c.from_residual.result c.from_residual.ensures.1 in
@@ -27,15 +27,15 @@ pub index-entry-requires : goal.index-entry-requires
 index-entry-requires g c =
     let m = g.M.Media in
     let s = c.args.self.now in
-    let len = look_len m.tells (m.view s.media) s.shape s.logs.items s.is_dead s.sound c.args.tid c.in_ok-number.number c.index.result.now c.in_ok-number.ensures.live.small c.in_ok-number.ensures.at c.index.ensures in
+    let len = look_len m.tells (m.view s.media) s.shape s.logs.items s.late s.is_dead s.sound c.args.tid c.in_ok-number.number c.index.result.now c.in_ok-number.ensures.live.small c.in_ok-number.ensures.at c.index.ensures in
     omega (arith, c.requires.pos c.in_ok-number.ensures.live, c.index.result.now.entries.ok.0, len)
 
 pub place-requires : goal.place-requires
 place-requires g c =
     let m = g.M.Media in
     let s = c.args.self.now in
-    let len = look_len m.tells (m.view s.media) s.shape s.logs.items s.is_dead s.sound c.args.tid c.in_ok-number.number c.index.result.now c.in_ok-number.ensures.live.small c.in_ok-number.ensures.at c.index.ensures in
-    let kept = look_kept m.tells (m.view s.media) s.shape s.logs.items s.is_dead s.sound c.args.tid c.in_ok-number.number c.index.result.now c.in_ok-number.ensures.live.small c.in_ok-number.ensures.at c.index.ensures in
+    let len = look_len m.tells (m.view s.media) s.shape s.logs.items s.late s.is_dead s.sound c.args.tid c.in_ok-number.number c.index.result.now c.in_ok-number.ensures.live.small c.in_ok-number.ensures.at c.index.ensures in
+    let kept = look_kept m.tells (m.view s.media) s.shape s.logs.items s.late s.is_dead s.sound c.args.tid c.in_ok-number.number c.index.result.now c.in_ok-number.ensures.live.small c.in_ok-number.ensures.at c.index.ensures in
     let page = entry_page s.shape s.sound.shaped c.index.result.now kept c.args.pos c.index-entry.result.now (omega (arith, c.requires.pos c.in_ok-number.ensures.live, len)) c.index-entry.ensures in
     omega (arith, page.inside, page.some)
 
@@ -43,8 +43,8 @@ pub edit-requires-clause-entry : goal.edit-requires-clause-entry
 edit-requires-clause-entry g c =
     let m = g.M.Media in
     let s = c.args.self.now in
-    let len = look_len m.tells (m.view s.media) s.shape s.logs.items s.is_dead s.sound c.args.tid c.in_ok-number.number c.index.result.now c.in_ok-number.ensures.live.small c.in_ok-number.ensures.at c.index.ensures in
-    let kept = look_kept m.tells (m.view s.media) s.shape s.logs.items s.is_dead s.sound c.args.tid c.in_ok-number.number c.index.result.now c.in_ok-number.ensures.live.small c.in_ok-number.ensures.at c.index.ensures in
+    let len = look_len m.tells (m.view s.media) s.shape s.logs.items s.late s.is_dead s.sound c.args.tid c.in_ok-number.number c.index.result.now c.in_ok-number.ensures.live.small c.in_ok-number.ensures.at c.index.ensures in
+    let kept = look_kept m.tells (m.view s.media) s.shape s.logs.items s.late s.is_dead s.sound c.args.tid c.in_ok-number.number c.index.result.now c.in_ok-number.ensures.live.small c.in_ok-number.ensures.at c.index.ensures in
     let inside = entry_inside s.shape s.sound.shaped c.index.result.now kept c.args.pos c.index-entry.result.now (omega (arith, c.requires.pos c.in_ok-number.ensures.live, len)) c.index-entry.ensures in
     omega (arith, inside, ap (λ (shape : Shape). shape.entries) c.new-logger.ensures.shape)
 
@@ -53,10 +53,10 @@ overflow_cast-at g c =
     let m = g.M.Media in
     let s = c.args.self.now in
     let e = c.index-entry.result.now in
-    let there = found m.tells (m.view s.media) s.shape s.logs.items s.is_dead s.sound c.in_ok-number.ensures.alive c.args.tid c.in_ok-number.number c.index.result.now c.in_ok-number.ensures.at c.in_ok-number.ensures.live c.index.ensures in
-    let len = look_len m.tells (m.view s.media) s.shape s.logs.items s.is_dead s.sound c.args.tid c.in_ok-number.number c.index.result.now c.in_ok-number.ensures.live.small c.in_ok-number.ensures.at c.index.ensures in
+    let there = found m.tells (m.view s.media) s.shape s.logs.items s.late s.is_dead s.sound c.in_ok-number.ensures.alive c.args.tid c.in_ok-number.number c.index.result.now c.in_ok-number.ensures.at c.in_ok-number.ensures.live c.index.ensures in
+    let len = look_len m.tells (m.view s.media) s.shape s.logs.items s.late s.is_dead s.sound c.args.tid c.in_ok-number.number c.index.result.now c.in_ok-number.ensures.live.small c.in_ok-number.ensures.at c.index.ensures in
     let lt : c.args.pos < length c.index.result.now.entries.items = omega (arith, c.requires.pos c.in_ok-number.ensures.live, len) in
-    let range = look_range m.tells (m.view s.media) s.shape s.logs.items s.is_dead s.sound c.args.tid c.in_ok-number.number c.index.result.now c.in_ok-number.ensures.live.small c.in_ok-number.ensures.at c.index.ensures c.args.pos c.index-entry.result.now lt c.index-entry.ensures in
+    let range = look_range m.tells (m.view s.media) s.shape s.logs.items s.late s.is_dead s.sound c.args.tid c.in_ok-number.number c.index.result.now c.in_ok-number.ensures.live.small c.in_ok-number.ensures.at c.index.ensures c.args.pos c.index-entry.result.now lt c.index-entry.ensures in
     let page = entry_page s.shape s.sound.shaped c.index.result.now there.kept c.args.pos c.index-entry.result.now lt c.index-entry.ensures in
     let inner : c.args.at + length c.args.bytes.now ≤ e.len = omega (arith, c.requires.within c.in_ok-number.ensures.live, ap (λ (r : ℕ × ℕ). r.1) range) in
     omega (arith, inner, page.page)
@@ -66,10 +66,10 @@ edit-requires-clause-within g c =
     let m = g.M.Media in
     let s = c.args.self.now in
     let e = c.index-entry.result.now in
-    let there = found m.tells (m.view s.media) s.shape s.logs.items s.is_dead s.sound c.in_ok-number.ensures.alive c.args.tid c.in_ok-number.number c.index.result.now c.in_ok-number.ensures.at c.in_ok-number.ensures.live c.index.ensures in
-    let len = look_len m.tells (m.view s.media) s.shape s.logs.items s.is_dead s.sound c.args.tid c.in_ok-number.number c.index.result.now c.in_ok-number.ensures.live.small c.in_ok-number.ensures.at c.index.ensures in
+    let there = found m.tells (m.view s.media) s.shape s.logs.items s.late s.is_dead s.sound c.in_ok-number.ensures.alive c.args.tid c.in_ok-number.number c.index.result.now c.in_ok-number.ensures.at c.in_ok-number.ensures.live c.index.ensures in
+    let len = look_len m.tells (m.view s.media) s.shape s.logs.items s.late s.is_dead s.sound c.args.tid c.in_ok-number.number c.index.result.now c.in_ok-number.ensures.live.small c.in_ok-number.ensures.at c.index.ensures in
     let lt : c.args.pos < length c.index.result.now.entries.items = omega (arith, c.requires.pos c.in_ok-number.ensures.live, len) in
-    let range = look_range m.tells (m.view s.media) s.shape s.logs.items s.is_dead s.sound c.args.tid c.in_ok-number.number c.index.result.now c.in_ok-number.ensures.live.small c.in_ok-number.ensures.at c.index.ensures c.args.pos c.index-entry.result.now lt c.index-entry.ensures in
+    let range = look_range m.tells (m.view s.media) s.shape s.logs.items s.late s.is_dead s.sound c.args.tid c.in_ok-number.number c.index.result.now c.in_ok-number.ensures.live.small c.in_ok-number.ensures.at c.index.ensures c.args.pos c.index-entry.result.now lt c.index-entry.ensures in
     let page = entry_page s.shape s.sound.shaped c.index.result.now there.kept c.args.pos c.index-entry.result.now lt c.index-entry.ensures in
     let inner : c.args.at + length c.args.bytes.now ≤ e.len = omega (arith, c.requires.within c.in_ok-number.ensures.live, ap (λ (r : ℕ × ℕ). r.1) range) in
     omega (arith, inner, page.page)
@@ -79,14 +79,14 @@ invariant_of-self g c =
     let m = g.M.Media in
     let s = c.args.self.now in
     let e = c.index-entry.result.now in
-    let there = found m.tells (m.view s.media) s.shape s.logs.items s.is_dead s.sound c.in_ok-number.ensures.alive c.args.tid c.in_ok-number.number c.index.result.now c.in_ok-number.ensures.at c.in_ok-number.ensures.live c.index.ensures in
-    let len = look_len m.tells (m.view s.media) s.shape s.logs.items s.is_dead s.sound c.args.tid c.in_ok-number.number c.index.result.now c.in_ok-number.ensures.live.small c.in_ok-number.ensures.at c.index.ensures in
+    let there = found m.tells (m.view s.media) s.shape s.logs.items s.late s.is_dead s.sound c.in_ok-number.ensures.alive c.args.tid c.in_ok-number.number c.index.result.now c.in_ok-number.ensures.at c.in_ok-number.ensures.live c.index.ensures in
+    let len = look_len m.tells (m.view s.media) s.shape s.logs.items s.late s.is_dead s.sound c.args.tid c.in_ok-number.number c.index.result.now c.in_ok-number.ensures.live.small c.in_ok-number.ensures.at c.index.ensures in
     let lt : c.args.pos < length c.index.result.now.entries.items = omega (arith, c.requires.pos c.in_ok-number.ensures.live, len) in
-    let range = look_range m.tells (m.view s.media) s.shape s.logs.items s.is_dead s.sound c.args.tid c.in_ok-number.number c.index.result.now c.in_ok-number.ensures.live.small c.in_ok-number.ensures.at c.index.ensures c.args.pos c.index-entry.result.now lt c.index-entry.ensures in
+    let range = look_range m.tells (m.view s.media) s.shape s.logs.items s.late s.is_dead s.sound c.args.tid c.in_ok-number.number c.index.result.now c.in_ok-number.ensures.live.small c.in_ok-number.ensures.at c.index.ensures c.args.pos c.index-entry.result.now lt c.index-entry.ensures in
     let page = entry_page s.shape s.sound.shaped c.index.result.now there.kept c.args.pos c.index-entry.result.now lt c.index-entry.ensures in
     let inner : c.args.at + length c.args.bytes.now ≤ e.len = omega (arith, c.requires.within c.in_ok-number.ensures.live, ap (λ (r : ℕ × ℕ). r.1) range) in
     record {
-      sound = edit_sound m.tells (m.view s.media) (m.view c.edit.new.media) s.shape s.logs.items s.is_dead s.sound c.in_ok-number.ensures.alive c.args.tid c.in_ok-number.ensures.live
+      sound = edit_sound m.tells (m.view s.media) (m.view c.edit.new.media) s.shape s.logs.items s.late s.is_dead s.sound c.in_ok-number.ensures.alive c.args.tid c.in_ok-number.ensures.live
           c.index.result.now there c.args.pos e lt c.index-entry.ensures c.args.at c.args.bytes.now inner (omega (arith, page.page)) c.new-logger.result.shape c.new-logger.ensures.shape c.new-logger.result.number (c.new-logger.ensures.number ∙ c.place.ensures.logger)
           _ c.in-Ok.ensures.does (λ told. g.met.M.Media.long s.media told ∙ s.sound.sized) c.in-Ok.ensures.cell;
       at_once = c.args.self.now.at_once;
@@ -97,13 +97,13 @@ returns-in-Ok-clause-does g c =
     let m = g.M.Media in
     let s = c.args.self.now in
     let e = c.index-entry.result.now in
-    let there = found m.tells (m.view s.media) s.shape s.logs.items s.is_dead s.sound c.in_ok-number.ensures.alive c.args.tid c.in_ok-number.number c.index.result.now c.in_ok-number.ensures.at c.in_ok-number.ensures.live c.index.ensures in
-    let len = look_len m.tells (m.view s.media) s.shape s.logs.items s.is_dead s.sound c.args.tid c.in_ok-number.number c.index.result.now c.in_ok-number.ensures.live.small c.in_ok-number.ensures.at c.index.ensures in
+    let there = found m.tells (m.view s.media) s.shape s.logs.items s.late s.is_dead s.sound c.in_ok-number.ensures.alive c.args.tid c.in_ok-number.number c.index.result.now c.in_ok-number.ensures.at c.in_ok-number.ensures.live c.index.ensures in
+    let len = look_len m.tells (m.view s.media) s.shape s.logs.items s.late s.is_dead s.sound c.args.tid c.in_ok-number.number c.index.result.now c.in_ok-number.ensures.live.small c.in_ok-number.ensures.at c.index.ensures in
     let lt : c.args.pos < length c.index.result.now.entries.items = omega (arith, c.requires.pos c.in_ok-number.ensures.live, len) in
-    let range = look_range m.tells (m.view s.media) s.shape s.logs.items s.is_dead s.sound c.args.tid c.in_ok-number.number c.index.result.now c.in_ok-number.ensures.live.small c.in_ok-number.ensures.at c.index.ensures c.args.pos c.index-entry.result.now lt c.index-entry.ensures in
+    let range = look_range m.tells (m.view s.media) s.shape s.logs.items s.late s.is_dead s.sound c.args.tid c.in_ok-number.number c.index.result.now c.in_ok-number.ensures.live.small c.in_ok-number.ensures.at c.index.ensures c.args.pos c.index-entry.result.now lt c.index-entry.ensures in
     let page = entry_page s.shape s.sound.shaped c.index.result.now there.kept c.args.pos c.index-entry.result.now lt c.index-entry.ensures in
     let inner : c.args.at + length c.args.bytes.now ≤ e.len = omega (arith, c.requires.within c.in_ok-number.ensures.live, ap (λ (r : ℕ × ℕ). r.1) range) in
-    edit_done m.tells (m.view s.media) (m.view c.edit.new.media) s.shape s.logs.items s.is_dead s.sound c.in_ok-number.ensures.alive c.args.tid c.in_ok-number.ensures.live
+    edit_done m.tells (m.view s.media) (m.view c.edit.new.media) s.shape s.logs.items s.late s.is_dead s.sound c.in_ok-number.ensures.alive c.args.tid c.in_ok-number.ensures.live
     c.index.result.now there c.args.pos e lt c.index-entry.ensures c.args.at c.args.bytes.now inner (omega (arith, page.page)) c.new-logger.result.shape c.new-logger.ensures.shape c.new-logger.result.number (c.new-logger.ensures.number ∙ c.place.ensures.logger)
     _ c.in-Ok.ensures.does (λ told. g.met.M.Media.long s.media told ∙ s.sound.sized) c.in-Ok.ensures.cell tt c.in-Ok.ensures.does.cause.kept
 
@@ -112,13 +112,13 @@ returns-in-Err-clause-does g c =
     let m = g.M.Media in
     let s = c.args.self.now in
     let e = c.index-entry.result.now in
-    let there = found m.tells (m.view s.media) s.shape s.logs.items s.is_dead s.sound c.in_ok-number.ensures.alive c.args.tid c.in_ok-number.number c.index.result.now c.in_ok-number.ensures.at c.in_ok-number.ensures.live c.index.ensures in
-    let len = look_len m.tells (m.view s.media) s.shape s.logs.items s.is_dead s.sound c.args.tid c.in_ok-number.number c.index.result.now c.in_ok-number.ensures.live.small c.in_ok-number.ensures.at c.index.ensures in
+    let there = found m.tells (m.view s.media) s.shape s.logs.items s.late s.is_dead s.sound c.in_ok-number.ensures.alive c.args.tid c.in_ok-number.number c.index.result.now c.in_ok-number.ensures.at c.in_ok-number.ensures.live c.index.ensures in
+    let len = look_len m.tells (m.view s.media) s.shape s.logs.items s.late s.is_dead s.sound c.args.tid c.in_ok-number.number c.index.result.now c.in_ok-number.ensures.live.small c.in_ok-number.ensures.at c.index.ensures in
     let lt : c.args.pos < length c.index.result.now.entries.items = omega (arith, c.requires.pos c.in_ok-number.ensures.live, len) in
-    let range = look_range m.tells (m.view s.media) s.shape s.logs.items s.is_dead s.sound c.args.tid c.in_ok-number.number c.index.result.now c.in_ok-number.ensures.live.small c.in_ok-number.ensures.at c.index.ensures c.args.pos c.index-entry.result.now lt c.index-entry.ensures in
+    let range = look_range m.tells (m.view s.media) s.shape s.logs.items s.late s.is_dead s.sound c.args.tid c.in_ok-number.number c.index.result.now c.in_ok-number.ensures.live.small c.in_ok-number.ensures.at c.index.ensures c.args.pos c.index-entry.result.now lt c.index-entry.ensures in
     let page = entry_page s.shape s.sound.shaped c.index.result.now there.kept c.args.pos c.index-entry.result.now lt c.index-entry.ensures in
     let inner : c.args.at + length c.args.bytes.now ≤ e.len = omega (arith, c.requires.within c.in_ok-number.ensures.live, ap (λ (r : ℕ × ℕ). r.1) range) in
-    edit_failed m.tells (m.view s.media) (m.view c.edit.new.media) s.shape s.logs.items s.is_dead s.sound c.in_ok-number.ensures.alive c.args.tid c.in_ok-number.ensures.live
+    edit_failed m.tells (m.view s.media) (m.view c.edit.new.media) s.shape s.logs.items s.late s.is_dead s.sound c.in_ok-number.ensures.alive c.args.tid c.in_ok-number.ensures.live
     c.index.result.now there c.args.pos e lt c.index-entry.ensures c.args.at c.args.bytes.now inner (omega (arith, page.page)) c.new-logger.result.shape c.new-logger.ensures.shape c.new-logger.result.number (c.new-logger.ensures.number ∙ c.place.ensures.logger)
     _ c.in-Err.ensures.does (λ told. g.met.M.Media.long s.media told ∙ s.sound.sized) c.in-Err.ensures.does.cause.failed
 

@@ -8,7 +8,7 @@ use Rattle.std.proofs.lemmas.Result.{err_from_is_err_and}
 use Rattle.eaw_face.specs.Command.{log_read}
 use Rattle.eaw_device.specs.Opens.{Opens}
 use Rattle.eaw_device.specs.Sound.{view_of}
-use Rattle.eaw_device.specs.Logs.{parts_in}
+use Rattle.deferred_parts.specs.Entries.{parts_in}
 use Rattle.eaw_device.proofs.Doing.{lacking, found}
 use Rattle.eaw_device.proofs.Tables.{parts_there}
 use Rattle.eaw_device.proofs.Looks.{look_len, look_range, look_kept, entry_range, entry_part, entry_inside, entry_page, read_sound, log_read_done, log_read_failed}
@@ -19,7 +19,7 @@ pub returns-in_err-at : goal.returns-in_err-at
 returns-in_err-at g c =
     let m = g.M.Media in
     let s = c.args.self.now in
-    let store = view_of (m.view s.media) s.shape s.logs.items s.is_dead in
+    let store = view_of (m.view s.media) s.shape s.logs.items s.late s.is_dead in
     let fault = c.in_err-at.field-0.0 in
     let cause = c.in_err-at.ensures.cause in
     let p = err_from_is_err_and c.from_residual.result c.from_residual.ensures.1 in
@@ -36,15 +36,15 @@ pub index-entry-requires : goal.index-entry-requires
 index-entry-requires g c =
     let m = g.M.Media in
     let s = c.args.self.now in
-    let len = look_len m.tells (m.view s.media) s.shape s.logs.items s.is_dead s.sound c.args.tid c.in_ok-at.at c.index.result.now c.in_ok-at.ensures.live.small c.in_ok-at.ensures.at c.index.ensures in
+    let len = look_len m.tells (m.view s.media) s.shape s.logs.items s.late s.is_dead s.sound c.args.tid c.in_ok-at.at c.index.result.now c.in_ok-at.ensures.live.small c.in_ok-at.ensures.at c.index.ensures in
     omega (arith, c.requires c.in_ok-at.ensures.live, c.index.result.now.entries.ok.0, len)
 
 pub place-requires : goal.place-requires
 place-requires g c =
     let m = g.M.Media in
     let s = c.args.self.now in
-    let len = look_len m.tells (m.view s.media) s.shape s.logs.items s.is_dead s.sound c.args.tid c.in_ok-at.at c.index.result.now c.in_ok-at.ensures.live.small c.in_ok-at.ensures.at c.index.ensures in
-    let kept = look_kept m.tells (m.view s.media) s.shape s.logs.items s.is_dead s.sound c.args.tid c.in_ok-at.at c.index.result.now c.in_ok-at.ensures.live.small c.in_ok-at.ensures.at c.index.ensures in
+    let len = look_len m.tells (m.view s.media) s.shape s.logs.items s.late s.is_dead s.sound c.args.tid c.in_ok-at.at c.index.result.now c.in_ok-at.ensures.live.small c.in_ok-at.ensures.at c.index.ensures in
+    let kept = look_kept m.tells (m.view s.media) s.shape s.logs.items s.late s.is_dead s.sound c.args.tid c.in_ok-at.at c.index.result.now c.in_ok-at.ensures.live.small c.in_ok-at.ensures.at c.index.ensures in
     let page = entry_page s.shape s.sound.shaped c.index.result.now kept c.args.pos c.index-entry.result.now (omega (arith, c.requires c.in_ok-at.ensures.live, len)) c.index-entry.ensures in
     omega (arith, page.inside, page.some)
 
@@ -52,8 +52,8 @@ pub read_entry-requires-clause-entry : goal.read_entry-requires-clause-entry
 read_entry-requires-clause-entry g c =
     let m = g.M.Media in
     let s = c.args.self.now in
-    let len = look_len m.tells (m.view s.media) s.shape s.logs.items s.is_dead s.sound c.args.tid c.in_ok-at.at c.index.result.now c.in_ok-at.ensures.live.small c.in_ok-at.ensures.at c.index.ensures in
-    let kept = look_kept m.tells (m.view s.media) s.shape s.logs.items s.is_dead s.sound c.args.tid c.in_ok-at.at c.index.result.now c.in_ok-at.ensures.live.small c.in_ok-at.ensures.at c.index.ensures in
+    let len = look_len m.tells (m.view s.media) s.shape s.logs.items s.late s.is_dead s.sound c.args.tid c.in_ok-at.at c.index.result.now c.in_ok-at.ensures.live.small c.in_ok-at.ensures.at c.index.ensures in
+    let kept = look_kept m.tells (m.view s.media) s.shape s.logs.items s.late s.is_dead s.sound c.args.tid c.in_ok-at.at c.index.result.now c.in_ok-at.ensures.live.small c.in_ok-at.ensures.at c.index.ensures in
     let inside = entry_inside s.shape s.sound.shaped c.index.result.now kept c.args.pos c.index-entry.result.now (omega (arith, c.requires c.in_ok-at.ensures.live, len)) c.index-entry.ensures in
     omega (arith, inside, ap (λ (shape : Shape). shape.entries) c.new-logger.ensures.shape)
 
@@ -61,21 +61,21 @@ pub invariant_of-self : goal.invariant_of-self
 invariant_of-self g c =
     let m = g.M.Media in
     let s = c.args.self.now in
-    record { sound = read_sound m.tells (m.view s.media) (m.view c.read_entry.new.media) s.shape s.logs.items s.is_dead s.sound c.in_ok-at.ensures.alive _ c.in-Ok.ensures.does (λ told. g.met.M.Media.long s.media told ∙ s.sound.sized); at_once = c.args.self.now.at_once }
+    record { sound = read_sound m.tells (m.view s.media) (m.view c.read_entry.new.media) s.shape s.logs.items s.late s.is_dead s.sound c.in_ok-at.ensures.alive _ c.in-Ok.ensures.does (λ told. g.met.M.Media.long s.media told ∙ s.sound.sized); at_once = c.args.self.now.at_once }
 
 pub returns-in-Ok-clause-does : goal.returns-in-Ok-clause-does
 returns-in-Ok-clause-does g c =
     let m = g.M.Media in
     let s = c.args.self.now in
-    log_read_done m.tells (m.view s.media) (m.view c.read_entry.new.media) s.shape s.logs.items s.is_dead s.sound c.in_ok-at.ensures.alive _ c.in-Ok.ensures.does (λ told. g.met.M.Media.long s.media told ∙ s.sound.sized)
+    log_read_done m.tells (m.view s.media) (m.view c.read_entry.new.media) s.shape s.logs.items s.late s.is_dead s.sound c.in_ok-at.ensures.alive _ c.in-Ok.ensures.does (λ told. g.met.M.Media.long s.media told ∙ s.sound.sized)
     c.args.tid c.in_ok-at.ensures.live (c.index-entry.result.now.addr, c.index-entry.result.now.len) c.in-Ok.ensures.does.cause.kept
 
 pub returns-in-Ok-clause-part : goal.returns-in-Ok-clause-part
 returns-in-Ok-clause-part g c =
     let m = g.M.Media in
     let s = c.args.self.now in
-    let len = look_len m.tells (m.view s.media) s.shape s.logs.items s.is_dead s.sound c.args.tid c.in_ok-at.at c.index.result.now c.in_ok-at.ensures.live.small c.in_ok-at.ensures.at c.index.ensures in
-    look_range m.tells (m.view s.media) s.shape s.logs.items s.is_dead s.sound c.args.tid c.in_ok-at.at c.index.result.now c.in_ok-at.ensures.live.small c.in_ok-at.ensures.at c.index.ensures c.args.pos c.index-entry.result.now
+    let len = look_len m.tells (m.view s.media) s.shape s.logs.items s.late s.is_dead s.sound c.args.tid c.in_ok-at.at c.index.result.now c.in_ok-at.ensures.live.small c.in_ok-at.ensures.at c.index.ensures in
+    look_range m.tells (m.view s.media) s.shape s.logs.items s.late s.is_dead s.sound c.args.tid c.in_ok-at.at c.index.result.now c.in_ok-at.ensures.live.small c.in_ok-at.ensures.at c.index.ensures c.args.pos c.index-entry.result.now
     (omega (arith, c.requires c.in_ok-at.ensures.live, len)) c.index-entry.ensures
 
 pub returns-in-Ok-clause-bytes : goal.returns-in-Ok-clause-bytes
@@ -84,8 +84,8 @@ returns-in-Ok-clause-bytes g c = λ told.
     let s = c.args.self.now in
     let image = (m.view s.media).content.bytes in
     let e = c.index-entry.result.now in
-    let there = found m.tells (m.view s.media) s.shape s.logs.items s.is_dead s.sound c.in_ok-at.ensures.alive c.args.tid c.in_ok-at.at c.index.result.now c.in_ok-at.ensures.at c.in_ok-at.ensures.live c.index.ensures in
-    let len = look_len m.tells (m.view s.media) s.shape s.logs.items s.is_dead s.sound c.args.tid c.in_ok-at.at c.index.result.now c.in_ok-at.ensures.live.small c.in_ok-at.ensures.at c.index.ensures in
+    let there = found m.tells (m.view s.media) s.shape s.logs.items s.late s.is_dead s.sound c.in_ok-at.ensures.alive c.args.tid c.in_ok-at.at c.index.result.now c.in_ok-at.ensures.at c.in_ok-at.ensures.live c.index.ensures in
+    let len = look_len m.tells (m.view s.media) s.shape s.logs.items s.late s.is_dead s.sound c.args.tid c.in_ok-at.at c.index.result.now c.in_ok-at.ensures.live.small c.in_ok-at.ensures.at c.index.ensures in
     let items = c.index.result.now.entries.items in
     let number : c.new-logger.result.number ≡ logger_of s.shape e.addr = c.new-logger.ensures.number ∙ c.place.ensures.logger in
     let cell = cell_of s.shape image (logger_of s.shape e.addr) c.args.tid e.cell in
@@ -101,7 +101,7 @@ pub returns-in-Err-clause-does : goal.returns-in-Err-clause-does
 returns-in-Err-clause-does g c =
     let m = g.M.Media in
     let s = c.args.self.now in
-    log_read_failed m.tells (m.view s.media) (m.view c.read_entry.new.media) s.shape s.logs.items s.is_dead s.sound c.in_ok-at.ensures.alive _ c.in-Err.ensures.does (λ told. g.met.M.Media.long s.media told ∙ s.sound.sized)
+    log_read_failed m.tells (m.view s.media) (m.view c.read_entry.new.media) s.shape s.logs.items s.late s.is_dead s.sound c.in_ok-at.ensures.alive _ c.in-Err.ensures.does (λ told. g.met.M.Media.long s.media told ∙ s.sound.sized)
     c.args.tid c.in_ok-at.ensures.live c.in-Err.ensures.does.cause.failed
 
 pub returns-in-Ok-clause-refused : goal.returns-in-Ok-clause-refused

@@ -6,12 +6,12 @@ pub index-entry-requires : goal.index-entry-requires
 index-entry-requires g c =
     let m = g.M.Media in
     let s = c.args.self.now in
-    omega (arith, c.requires.pos, c.index.result.now.entries.ok.0, look_len m.tells (m.view s.media) s.shape s.logs.items s.is_dead s.sound c.args.tid c.from.result c.index.result.now c.requires.tid c.from.ensures c.index.ensures)
+    omega (arith, c.requires.pos, c.index.result.now.entries.ok.0, look_len m.tells (m.view s.media) s.shape s.logs.items s.late s.is_dead s.sound c.args.tid c.from.result c.index.result.now c.requires.tid c.from.ensures c.index.ensures)
 
 pub returns : goal.returns
 returns g c =
     let m = g.M.Media in
     let s = c.args.self.now in
-    let len = look_len m.tells (m.view s.media) s.shape s.logs.items s.is_dead s.sound c.args.tid c.from.result c.index.result.now c.requires.tid c.from.ensures c.index.ensures in
-    look_range m.tells (m.view s.media) s.shape s.logs.items s.is_dead s.sound c.args.tid c.from.result c.index.result.now c.requires.tid c.from.ensures c.index.ensures c.args.pos c.index-entry.result.now
+    let len = look_len m.tells (m.view s.media) s.shape s.logs.items s.late s.is_dead s.sound c.args.tid c.from.result c.index.result.now c.requires.tid c.from.ensures c.index.ensures in
+    look_range m.tells (m.view s.media) s.shape s.logs.items s.late s.is_dead s.sound c.args.tid c.from.result c.index.result.now c.requires.tid c.from.ensures c.index.ensures c.args.pos c.index-entry.result.now
     (omega (arith, c.requires.pos, len)) c.index-entry.ensures

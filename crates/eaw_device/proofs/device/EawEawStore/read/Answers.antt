@@ -1,4 +1,6 @@
-use Rattle.std.proofs.Common.{refl, length, ◌∙◌, arith}
+use Rattle.std.proofs.Common.{refl, ℕ, List, length, sym, ◌∙◌, ap, arith}
+use Rattle.mars_base.specs.Bytes.{range}
+use Rattle.eaw_device.specs.Laws.{alive_shown}
 use Rattle.eaw_face.specs.Command.{read}
 use Rattle.eaw_face.specs.declared.fault.EawFault.TheVariants.{Dead}
 use Rattle.eaw_device.specs.Opens.{Opens}
@@ -12,33 +14,47 @@ returns-then-self g c =
     let m = g.M.Media in
     let s = c.args.self.now in
     record {
-      does = refused m.tells (Opens s.shape) (read c.args.addr (length c.args.buf.now)) (view_of (m.view s.media) s.shape s.logs.items s.is_dead) Dead c.if-self.true (λ is. cc) _ refl;
+      does = refused m.tells (Opens s.shape) (read c.args.addr (length c.args.buf.now)) (view_of (m.view s.media) s.shape s.logs.items s.late s.is_dead) Dead c.if-self.true (λ is. cc) _ refl;
       bytes = λ told. tt;
       costs = record { done = λ exact. tt; most = omega arith };
       refused = λ ne. refl;
       unread = λ ne. refl;
     }
 
+pub read-requires-clause-ready : goal.read-requires-clause-ready
+read-requires-clause-ready g c = c.args.self.now.sound.ready
+
+pub read-requires-clause-tied : goal.read-requires-clause-tied
+read-requires-clause-tied g c = (c.args.self.now.sound.in_order c.if-self.false).tied
+
+pub read-requires-clause-waiting : goal.read-requires-clause-waiting
+read-requires-clause-waiting g c = λ told. (c.args.self.now.sound.told told c.if-self.false).sure.waiting
+
+pub read-requires-clause-held : goal.read-requires-clause-held
+read-requires-clause-held g c = λ told. (c.args.self.now.sound.told told c.if-self.false).shown
+
 pub invariant_of-self : goal.invariant_of-self
 invariant_of-self g c =
     let m = g.M.Media in
     let s = c.args.self.now in
-    record { sound = read_sound m.tells (m.view s.media) (m.view c.read_data.new.media) s.shape s.logs.items s.is_dead s.sound c.if-self.false _ c.in-Ok.ensures.does (λ told. g.met.M.Media.long s.media told ∙ s.sound.sized); at_once = c.args.self.now.at_once }
+    record { sound = read_sound m.tells (m.view s.media) (m.view c.read.new.media) s.shape s.logs.items s.late s.is_dead s.sound c.if-self.false _ c.in-Ok.ensures.does (λ told. g.met.M.Media.long s.media told ∙ s.sound.sized); at_once = c.args.self.now.at_once }
 
 pub returns-in-Ok-clause-does : goal.returns-in-Ok-clause-does
 returns-in-Ok-clause-does g c =
     let m = g.M.Media in
     let s = c.args.self.now in
-    read_done m.tells (m.view s.media) (m.view c.read_data.new.media) s.shape s.logs.items s.is_dead s.sound c.if-self.false _ c.in-Ok.ensures.does (λ told. g.met.M.Media.long s.media told ∙ s.sound.sized) c.args.addr (length c.args.buf.now) tt c.in-Ok.ensures.does.cause.kept
+    read_done m.tells (m.view s.media) (m.view c.read.new.media) s.shape s.logs.items s.late s.is_dead s.sound c.if-self.false _ c.in-Ok.ensures.does (λ told. g.met.M.Media.long s.media told ∙ s.sound.sized) c.args.addr (length c.args.buf.now) tt c.in-Ok.ensures.does.cause.kept
 
 pub returns-in-Err-clause-does : goal.returns-in-Err-clause-does
 returns-in-Err-clause-does g c =
     let m = g.M.Media in
     let s = c.args.self.now in
-    read_failed m.tells (m.view s.media) (m.view c.read_data.new.media) s.shape s.logs.items s.is_dead s.sound c.if-self.false _ c.in-Err.ensures.does (λ told. g.met.M.Media.long s.media told ∙ s.sound.sized) c.args.addr (length c.args.buf.now) c.in-Err.ensures.does.cause.failed
+    read_failed m.tells (m.view s.media) (m.view c.read.new.media) s.shape s.logs.items s.late s.is_dead s.sound c.if-self.false _ c.in-Err.ensures.does (λ told. g.met.M.Media.long s.media told ∙ s.sound.sized) c.args.addr (length c.args.buf.now) c.in-Err.ensures.does.cause.failed
 
 pub returns-in-Ok-clause-bytes : goal.returns-in-Ok-clause-bytes
-returns-in-Ok-clause-bytes g c = c.in-Ok.ensures.bytes
+returns-in-Ok-clause-bytes g c = λ told.
+    let s = c.args.self.now in
+    c.in-Ok.ensures.bytes told ∙ ap (λ (d : List ℕ). range d c.args.addr (length c.args.buf.now)) (sym (alive_shown s.shape s.late s.is_dead (g.M.Media.view s.media).content.bytes c.if-self.false))
 
 pub returns-in-Ok-clause-refused : goal.returns-in-Ok-clause-refused
 returns-in-Ok-clause-refused g c = tt

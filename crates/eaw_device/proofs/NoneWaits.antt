@@ -17,7 +17,15 @@ use Rattle.late_commits.specs.Costs.{calls_back, late_calls}
 use Rattle.late_commits.specs.Orders.{IsFree, due_for_place}
 use Rattle.late_commits.specs.Waiting.{AreWaiting, commits_of, data_with}
 use Rattle.late_commits.proofs.Waiting.{data_in}
-use Rattle.eaw_device.specs.Sound.{IsAtOnce, IsClean}
+use Rattle.array_shape.specs.Logged.{ranges_of}
+use Rattle.deferred_parts.specs.declared.entry.Entry.{Entry}
+use Rattle.deferred_parts.specs.Entries.{AreHeld, parts_in, ranges_in}
+use Rattle.deferred_parts.specs.Shown.{entries_of}
+use Rattle.deferred_parts.specs.Turns.{has_some}
+use Rattle.late_data.specs.declared.commits.LateData.{LateData}
+use Rattle.late_data.specs.Tied.{IsTied}
+use Rattle.eaw_device.specs.declared.log.Log.{Log}
+use Rattle.eaw_device.specs.Sound.{IsAtOnce, IsBefore, IsClean}
 use Rattle.eaw_device.proofs.Grouping.{none_takes}
 
 module _ (shape : Shape) (late : LateCommits) (once : IsAtOnce shape late) where
@@ -48,6 +56,18 @@ module _ (shape : Shape) (late : LateCommits) (once : IsAtOnce shape late) where
       by : (b : Bool) → nat_eq ballot.mask 0 ≡ b → cond b 0 (commit_calls shape ballot late.cells) ≡ commit_calls shape ballot late.cells
       by true is = sym (ap (λ (b : Bool). cond b 0 (decide_calls shape ballot + write_back_calls shape ballot late.cells)) is)
       by false is = refl
+
+-- the cells of any log come before those of none, and no entry is kept
+pub once_before : (shape : Shape) (queue : LateCommits) → IsAtOnce shape queue → (t : ℕ) (log : Log) → IsBefore shape queue t log
+once_before shape queue once t log so = absurd (false≢true (ap (λ (bs : List Ballot). has_some bs t) (sym (none_waiting shape queue once)) ∙ so))
+
+pub once_held : (shape : Shape) (late : LateData) → IsAtOnce shape late.queue → IsTied shape late (λ t. false) → (image : List ℕ) → AreHeld shape image (entries_of late.parts)
+once_held shape late once tied image t lt =
+    let none = tied.none t lt refl (ap (λ (bs : List Ballot). has_some bs t) (none_waiting shape late.queue once)) in
+    ap (λ (es : List Entry). ranges_of (parts_in shape image t es)) none ∙ sym (ap ranges_in none)
+
+pub once_free : (shape : Shape) (queue : LateCommits) → IsAtOnce shape queue → (t : ℕ) → has_some queue.ballots.items t ≡ false
+once_free shape queue once t = ap (λ (bs : List Ballot). has_some bs t) (none_waiting shape queue once)
 
 -- a group of which some logger takes part has a number
 pub some_number : (shape : Shape) (group : ℕ) (cells : List Cells) (ballot : Ballot) → ballot.group ≡ group → IsMaskOf shape.loggers (takes_part shape cells group) ballot.mask → 0 < ballot.mask → 0 < ballot.group

@@ -1,0 +1,4 @@
+pub mod Tying
+pub mod Together
+pub mod Sparing
+pub mod Composing

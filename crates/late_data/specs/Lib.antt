@@ -1,0 +1,4 @@
+pub mod Tied
+pub mod Props
+pub mod Spared
+pub mod Steps

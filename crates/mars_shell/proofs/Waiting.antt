@@ -1,0 +1,24 @@
+-- How many commits may wait for their write-back, by what words ask for.
+use Rattle.std.proofs.Common.{ℕ, List, Option, Some, None, arith}
+use Rattle.command_words.specs.Asked.{GivesWriting, AsksFor}
+use Rattle.command_words.specs.declared.words.CallersNumbers.{CallersNumbers}
+use Rattle.command_words.specs.declared.words.DrillNumbers.{DrillNumbers}
+use Rattle.command_words.specs.declared.words.RunOptions.{RunOptions}
+use Rattle.command_words.specs.declared.words.Writing.{Writing}
+use Rattle.command_words.specs.declared.words.Writing.TheVariants.{AtOnce, Late}
+use Rattle.command_words.specs.declared.words.Words.TheVariants.{Run, Callers, Drill}
+use Rattle.mars_shell.specs.Late.{HasDepth}
+
+given_depth : (first : Option (List ℕ)) (writing : Writing) → GivesWriting first writing → HasDepth writing
+given_depth first AtOnce gives = tt
+given_depth None (Late depth) gives = absurd (cc gives)
+given_depth (Some value) (Late depth) gives = (omega (arith, gives.0), gives.1)
+
+pub run_depth : (words : List (List ℕ)) (given : RunOptions) → AsksFor words (Run given) → HasDepth given.writing
+run_depth words given asks = given_depth _ given.writing asks.4.1.writing
+
+pub callers_depth : (words : List (List ℕ)) (numbers : CallersNumbers) → AsksFor words (Callers numbers) → HasDepth numbers.writing
+callers_depth words numbers asks = given_depth _ numbers.writing asks.4.1.writing
+
+pub drill_depth : (words : List (List ℕ)) (numbers : DrillNumbers) → AsksFor words (Drill numbers) → HasDepth numbers.writing
+drill_depth words numbers asks = given_depth _ numbers.writing asks.4.1.writing
