@@ -124,8 +124,8 @@ module _ (least size : ℕ) (before measured_past resized_past filled synced_pas
       let zero : ℕ = 0 in
       ap length resized_bytes ∙ length-append (take least before.first.bytes) (replicate (least - length before.first.bytes) zero)
       ∙ (let whole = ap length (take_all least before.first.bytes (omega (arith, size_is, shorter))) in
-         let rest = length-replicate (least - length before.first.bytes) zero in
-         omega (arith, whole, rest, size_is, shorter))
+      let rest = length-replicate (least - length before.first.bytes) zero in
+      omega (arith, whole, rest, size_is, shorter))
 
   filled_bytes : (held filled).bytes ≡ padded least before.first.bytes
   filled_bytes = ext_get_or 0 (held filled).bytes (padded least before.first.bytes) (long ∙ ap length resized_bytes) (λ i lt. elim (cases_lt i size) [

@@ -3,13 +3,12 @@ ghost use Rattle.std.specs.Prelude.{◌≡◌, ◌≤◌, true, IfOk, IfSome, Is
 
 use crate::{CallFault, CallFaults, Calls};
 use mars_base::Failed;
-use std::fs;
 use std::fs::{File, OpenOptions};
-use std::io;
 use std::io::{ErrorKind, Seek, SeekFrom};
 use std::os::unix::fs::FileExt;
 use std::path::Path;
 use std::rt::Files;
+use std::{fs, io};
 
 /// A file of the system, open for reading and writing, and locked until it is dropped. Each call makes one call of the system,
 /// or more if a length or a sync is interrupted. It is not trusted: no contract says what the system answers.
