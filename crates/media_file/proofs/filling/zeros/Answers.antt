@@ -1,4 +1,4 @@
-use Rattle.std.proofs.Common.{◌≡◌, ◌≤◌, ℕ, List, min, replicate, ◌∙◌, ap, arith}
+use Rattle.std.proofs.Common.{◌≡◌, ℕ, min, replicate, ◌∙◌, ap, arith}
 use Rattle.std.proofs.lemmas.List.{take-replicate}
 use Rattle.media_file.proofs.filling.zeros.Goals as goal
 
