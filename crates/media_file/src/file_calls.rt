@@ -1,5 +1,5 @@
 // A file of the system.
-ghost use Rattle.std.specs.Prelude.{◌≡◌, ◌≤◌, true, IfOk, IfSome, IsSome};
+ghost use Rattle.std.specs.Prelude.{◌≡◌, ◌≤◌, true, false, IfOk, IfSome, IsNone, IsSome};
 
 use crate::{CallFault, CallFaults, Calls};
 use mars_base::Failed;
@@ -64,7 +64,7 @@ fn open_or_make<R: AllocGlobal + Files<File = File>>(
     Ok(Some(file))
 }
 
-// The file at this path. A missing one is created if that is asked for; else its folder has to be there.
+// The file at this path.
 fn open_or_create<R: Files<File = File>>(
     rt: &R,
     path: &str,
@@ -73,10 +73,21 @@ fn open_or_create<R: Files<File = File>>(
     ensures there { create ≡ true → IfOk result IsSome }
 {
     match options().open(rt, path) {
-        Ok(file) => return Ok(Some(file)),
-        Err(error) if error.kind() != ErrorKind::NotFound => return Err(error),
-        Err(_) => {}
+        Ok(file) => Ok(Some(file)),
+        Err(error) if error.kind() == ErrorKind::NotFound => create_missing(rt, path, create),
+        Err(error) => Err(error),
     }
+}
+
+// A new empty file, if it is to be created. If not, its folder has to be there.
+fn create_missing<R: Files<File = File>>(
+    rt: &R,
+    path: &str,
+    create: bool,
+) -> io::Result<Option<File>>
+    ensures none { create ≡ false → IfOk result IsNone }
+    ensures there { create ≡ true → IfOk result IsSome }
+{
     if create {
         return Ok(Some(options().create(true).open(rt, path)?));
     }
