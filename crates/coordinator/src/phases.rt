@@ -36,7 +36,7 @@ pub(crate) fn put_rows<M: Media>(
     ensures names { IsTrue M.tells → OnOk result (((M.view media.new).content.unsettled ≡ []) × ((g t : ℕ) → g < shape.now.loggers → t < shape.now.numbers → has_row ballot g t ≡ true
         → Says ballot cells.now g t (row_of shape.now (M.view media.new).content.bytes g t))) }
 {
-    for tid in numbers_of(ballot).members() {
+    for tid in group_of(ballot).members() {
         put_rows_of(media, shape, ballot, cells, tid)?;
     }
     media.barrier()
@@ -59,7 +59,7 @@ fn put_rows_of<M: Media>(
     ensures names { IsTrue M.tells → OnOk result ((g : ℕ) → g < shape.now.loggers → has_row ballot g tid ≡ true
         → Says ballot cells.now g tid (row_of shape.now (M.view media.new).content.bytes g tid)) }
 {
-    for number in loggers_of(ballot).members() {
+    for number in mask_of(ballot).members() {
         let Cells { first, count } = cells_in(cells, number, tid);
         let row = ballot.row(tid, first, count);
         Logger::new(*shape, number).put_row(media, tid, row)?;
@@ -82,7 +82,7 @@ pub(crate) fn set_votes<M: Media>(
     ensures votes { IsTrue M.tells → OnOk result (((M.view media.new).content.unsettled ≡ []) × ((g t : ℕ) → g < shape.now.loggers → t < shape.now.numbers → has_row ballot g t ≡ true
         → (row_of shape.now (M.view media.new).content.bytes g t).voted ≡ voted)) }
 {
-    for tid in numbers_of(ballot).members() {
+    for tid in group_of(ballot).members() {
         set_votes_of(media, shape, ballot, tid, voted)?;
     }
     media.barrier()
@@ -105,7 +105,7 @@ fn set_votes_of<M: Media>(
     ensures votes { IsTrue M.tells → OnOk result ((g : ℕ) → g < shape.now.loggers → has_row ballot g tid ≡ true
         → (row_of shape.now (M.view media.new).content.bytes g tid).voted ≡ voted) }
 {
-    for number in loggers_of(ballot).members() {
+    for number in mask_of(ballot).members() {
         Logger::new(*shape, number).set_vote(media, tid, voted)?;
     }
     Ok(())
@@ -126,7 +126,7 @@ pub(crate) fn install<M: Media>(
     ensures applied { IsTrue M.tells → OnOk result (((M.view media.new).content.unsettled ≡ [])
         × (data_of shape.now (M.view media.new).content.bytes ≡ applied (parts_named shape.now (M.view media.old).content.bytes ballot cells.now) (data_of shape.now (M.view media.old).content.bytes))) }
 {
-    for tid in numbers_of(ballot).members() {
+    for tid in group_of(ballot).members() {
         install_of(media, shape, ballot, cells, tid)?;
     }
     media.barrier()
@@ -150,7 +150,7 @@ fn install_of<M: Media>(
     ensures applied { IsTrue M.tells → OnOk result (data_of shape.now (M.view media.new).content.bytes ≡
         applied (number_parts shape.now (M.view media.old).content.bytes ballot cells.now tid) (data_of shape.now (M.view media.old).content.bytes)) }
 {
-    for number in loggers_of(ballot).members() {
+    for number in mask_of(ballot).members() {
         let Cells { first, count } = cells_in(cells, number, tid);
         Logger::new(*shape, number).apply(media, tid, first, count)?;
     }
@@ -158,16 +158,14 @@ fn install_of<M: Media>(
 }
 
 // The numbers that have rows of a commit.
-fn numbers_of(ballot: Ballot) -> NumberSet
+fn group_of(ballot: Ballot) -> NumberSet
     ensures { result.bits ≡ ballot.group }
 {
-    NumberSet {
-        bits: ballot.group,
-    }
+    NumberSet { bits: ballot.group }
 }
 
 // The loggers that have them.
-fn loggers_of(ballot: Ballot) -> NumberSet
+fn mask_of(ballot: Ballot) -> NumberSet
     ensures { result.bits ≡ ballot.mask }
 {
     NumberSet {
