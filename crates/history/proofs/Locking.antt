@@ -3,7 +3,6 @@ use Rattle.std.proofs.Common.{◌≡◌, ℕ, zero, suc, ◌+◌, ◌-◌, Bool,
 use Rattle.std.proofs.lemmas.Bool.{or_left, or_right, false_from_ne_true, both_ways}
 use Rattle.history.specs.Writes.{Table, set_or_remove, rows_within}
 use Rattle.history.specs.Table.{Granted, Work, begun, found, removed, has_save, Answers, after, worked, IsRightFrom, IsRight, left_by}
-use Rattle.history.specs.declared.locks.Mode.{Mode}
 use Rattle.history.specs.declared.locks.Mode.TheVariants.{Shared, Exclusive}
 use Rattle.history.specs.Locks.{key_stripe, touches, touched, has_touched, has_written, clash, AreApart, Agree, AgreeOff}
 use Rattle.history.specs.declared.call.Call.{Call}
