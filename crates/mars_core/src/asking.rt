@@ -5,7 +5,7 @@ ghost use Rattle.mars_core.specs.TableCall.{call_of};
 ghost use Rattle.mars_core.specs.Works.{Works, HasSaves, IsSaveRefusal, Unmade, Made};
 
 use crate::live::Live;
-use crate::masks::mask_of;
+use crate::masks::Masks;
 use crate::replies::{copy_of, found, removed};
 use crate::seats::Seats;
 use crate::table_call::TableCall;
@@ -101,23 +101,26 @@ pub fn answer<S: EawStore, K: KeyIndex>(
     if let Some(refusal) = refused_save(records.saves(caller), call) {
         return (live, refusal);
     }
-    let mask = live.touched();
+    let masks = live.touched();
     // Room is reserved before the call is made, so that nothing is written that there is no memory to keep.
     let calls = match live.into_calls().with_room() {
         Ok(calls) => calls,
-        Err(calls) => return (Live::of(calls, mask), Reply::NoMemory),
+        Err(calls) => return (Live::of(calls, masks), Reply::NoMemory),
     };
     if let Some(holder) = seats.holder(caller, call) {
-        return (Live::of(calls.into_calls(), mask), Reply::Busy { holder });
+        return (Live::of(calls.into_calls(), masks), Reply::Busy { holder });
     }
     match work(alloc, records, caller, asked) {
         Ok(reply) => match copy_of(&reply) {
             Ok(kept) => {
                 let calls = calls.push(*call, kept);
-                (Live::of(calls, mask | mask_of(call)), reply)
+                (
+                    Live::of(calls, masks.merged(Masks::touched_by(call))),
+                    reply,
+                )
             }
-            Err(_) => (Live::of(calls.into_calls(), mask), Reply::NoMemory),
+            Err(_) => (Live::of(calls.into_calls(), masks), Reply::NoMemory),
         },
-        Err(fault) => (Live::of(calls.into_calls(), mask), Reply::from(fault)),
+        Err(fault) => (Live::of(calls.into_calls(), masks), Reply::from(fault)),
     }
 }

@@ -4,7 +4,9 @@ ghost use Rattle.std.specs.FinMap.{entries};
 ghost use Rattle.eaw_face.specs.Causes.{IsAlive};
 ghost use Rattle.eaw_face.specs.State.{listed};
 ghost use Rattle.page_store.specs.Shown.{pages_of};
+ghost use Rattle.history.specs.Locks.{touched};
 ghost use Rattle.history.specs.declared.call.Call.TheVariants.{Begin, Commit, Abort};
+ghost use Rattle.history.specs.declared.locks.Mode.TheVariants.{Shared, Exclusive};
 ghost use Rattle.caller_steps.specs.Core.{Steps};
 ghost use Rattle.caller_steps.specs.State.{calls_of};
 ghost use Rattle.record_table.specs.Shown.{state_of};
@@ -30,8 +32,8 @@ use record_table::Records;
 use std::alloc::Global;
 use std::marker::Model;
 
-/// Callers that take turns on records over a store, under an index. Each call locks the stripe of its key (of 64), and a scan locks all
-/// stripes, until the transaction ends.
+/// Callers that take turns on records over a store, under an index. Each call locks the stripe of its key (of 64), and a scan all
+/// stripes, until the transaction ends: a get and a scan beside other readers, a put and a removal alone.
 #[derive(Drop)]
 pub struct Core<S: EawStore, K: KeyIndex> {
     alloc: Global,
@@ -106,12 +108,20 @@ impl<S: EawStore, K: KeyIndex> Core<S, K> {
         self.seats.is_live(caller)
     }
 
-    /// A bit for each stripe that the caller's live transaction touched.
-    pub fn touched(&self, caller: u8) -> u64
+    /// A bit for each stripe that the caller's live transaction touched for reading.
+    pub fn touched_read(&self, caller: u8) -> u64
         requires { caller < (S.view self.now.records.store).shape.numbers }
-        ensures { IsMaskOf (calls_of (core_of S.opens K.index (S.view self.now.records.store) self.now).state caller) result }
+        ensures { IsMaskOf Shared (touched (calls_of (core_of S.opens K.index (S.view self.now.records.store) self.now).state caller)) result }
     {
-        self.seats.touched(caller)
+        self.seats.touched(caller).reads
+    }
+
+    /// A bit for each stripe that the caller's live transaction touched for writing.
+    pub fn touched_write(&self, caller: u8) -> u64
+        requires { caller < (S.view self.now.records.store).shape.numbers }
+        ensures { IsMaskOf Exclusive (touched (calls_of (core_of S.opens K.index (S.view self.now.records.store) self.now).state caller)) result }
+    {
+        self.seats.touched(caller).writes
     }
 
     /// The store below. What live transactions have written is still logged in it.
@@ -178,7 +188,7 @@ impl<S: EawStore, K: KeyIndex> Core<S, K> {
         let Some(live) = self.seats.take(caller) else {
             return Reply::NoTransaction;
         };
-        let mask = live.touched();
+        let masks = live.touched();
         // The history takes the transaction first, so that nothing is committed that there is no memory to keep.
         match self.history.push(Done {
             caller,
@@ -187,7 +197,7 @@ impl<S: EawStore, K: KeyIndex> Core<S, K> {
         }) {
             Ok(()) => {}
             Err(failed) => {
-                self.seats.put(caller, Live::of(failed.value.calls, mask));
+                self.seats.put(caller, Live::of(failed.value.calls, masks));
                 return Reply::NoMemory;
             }
         }

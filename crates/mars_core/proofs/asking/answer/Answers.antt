@@ -2,10 +2,11 @@ use Rattle.std.proofs.Common.{ℕ, [], ◌∷◌, ◌++◌, inl, inr, Ok, Err, r
 use Rattle.history.specs.declared.call.Call.{Call}
 use Rattle.page_store.specs.Shown.{pages_of}
 use Rattle.history.specs.Table.{Granted}
-use Rattle.mars_core.specs.Masks.{IsMaskOf}
+use Rattle.history.specs.Locks.{touches, touched}
+use Rattle.mars_core.specs.Masks.{AreMasksOf}
 use Rattle.mars_core.specs.TableCall.{call_of}
 use Rattle.mars_core.specs.Works.{HasSaves, Works}
-use Rattle.mars_core.proofs.Touching.{mask-push}
+use Rattle.mars_core.proofs.Touching.{masks-push}
 use Rattle.mars_core.proofs.asking.answer.Goals as goal
 
 pub work-requires : goal.work-requires
@@ -14,26 +15,26 @@ work-requires g c = record {
   saves = subst (λ (n : ℕ). HasSaves n (call_of c.args.asked)) c.saves.ensures.count (subst (λ (k : Call). HasSaves c.saves.result k) (sym c.requires.said) c.in_default.ensures.has);
 }
 
--- the calls are those of the transaction, and the mask is theirs
+-- the calls are those of the transaction, and the masks are theirs
 pub of-requires : goal.of-requires
-of-requires g c = subst (λ (calls : Granted). IsMaskOf calls c.touched-mask.result) (sym (c.in-Err.ensures.err ∙ c.into_calls.ensures)) c.touched-mask.ensures
+of-requires g c = subst (λ (calls : Granted). AreMasksOf (touched calls) c.touched-masks.result) (sym (c.in-Err.ensures.err ∙ c.into_calls.ensures)) c.touched-masks.ensures
 
 pub of-requires-in-Some-holder : goal.of-requires-in-Some-holder
 of-requires-in-Some-holder g c =
-    subst (λ (calls : Granted). IsMaskOf calls c.touched-mask.result) (sym (c.into_calls-in-Some-holder.ensures ∙ c.in-Ok.ensures.ok ∙ c.into_calls.ensures)) c.touched-mask.ensures
+    subst (λ (calls : Granted). AreMasksOf (touched calls) c.touched-masks.result) (sym (c.into_calls-in-Some-holder.ensures ∙ c.in-Ok.ensures.ok ∙ c.into_calls.ensures)) c.touched-masks.ensures
 
 pub of-requires-in-Ok-copy_of : goal.of-requires-in-Ok-copy_of
 of-requires-in-Ok-copy_of g c =
-    let was : IsMaskOf c.in-Ok.calls c.touched-mask.result = subst (λ (calls : Granted). IsMaskOf calls c.touched-mask.result) (sym (c.in-Ok.ensures.ok ∙ c.into_calls.ensures)) c.touched-mask.ensures in
-    rw (c.push-calls.ensures, c.mask_of.ensures) (mask-push c.in-Ok.calls c.touched-mask.result c.args.call.now c.in-Ok-copy_of.kept was)
+    let was : AreMasksOf (touched c.in-Ok.calls) c.touched-masks.result = subst (λ (calls : Granted). AreMasksOf (touched calls) c.touched-masks.result) (sym (c.in-Ok.ensures.ok ∙ c.into_calls.ensures)) c.touched-masks.ensures in
+    rw c.push-calls.ensures (masks-push c.in-Ok.calls c.merged.result c.args.call.now c.in-Ok-copy_of.kept (c.merged.ensures (touched c.in-Ok.calls) (touches c.args.call.now) was c.touched_by.ensures))
 
 pub of-requires-in-Err-copy_of : goal.of-requires-in-Err-copy_of
 of-requires-in-Err-copy_of g c =
-    subst (λ (calls : Granted). IsMaskOf calls c.touched-mask.result) (sym (c.into_calls-in-Err-copy_of.ensures ∙ c.in-Ok.ensures.ok ∙ c.into_calls.ensures)) c.touched-mask.ensures
+    subst (λ (calls : Granted). AreMasksOf (touched calls) c.touched-masks.result) (sym (c.into_calls-in-Err-copy_of.ensures ∙ c.in-Ok.ensures.ok ∙ c.into_calls.ensures)) c.touched-masks.ensures
 
 pub of-requires-in-Err-work : goal.of-requires-in-Err-work
 of-requires-in-Err-work g c =
-    subst (λ (calls : Granted). IsMaskOf calls c.touched-mask.result) (sym (c.into_calls-in-Err-work.ensures ∙ c.in-Ok.ensures.ok ∙ c.into_calls.ensures)) c.touched-mask.ensures
+    subst (λ (calls : Granted). AreMasksOf (touched calls) c.touched-masks.result) (sym (c.into_calls-in-Err-work.ensures ∙ c.in-Ok.ensures.ok ∙ c.into_calls.ensures)) c.touched-masks.ensures
 
 pub returns-in-Some-holder : goal.returns-in-Some-holder
 returns-in-Some-holder g c = record {
