@@ -4,9 +4,11 @@ ghost use Rattle.history.specs.Table.{Granted};
 ghost use Rattle.caller_steps.specs.Locked.{IsFree, IsBusyWith};
 ghost use Rattle.history.specs.Locks.{touched};
 ghost use Rattle.mars_core.specs.Masks.{AreMasksOf};
+ghost use Rattle.mars_core.specs.declared.locks.Locks.TheVariants.{Held};
 ghost use Rattle.mars_core.specs.Seats.{live_in, calls_at, Seated, bare};
 
 use crate::live::Live;
+use crate::locks::Locks;
 use crate::masks::Masks;
 use history::{Call, Calls};
 use mars_base::NoMemory;
@@ -103,5 +105,18 @@ impl Seats {
             }
         }
         None
+    }
+
+    /// The same where it is not known that there is none.
+    pub fn holder_if(&self, locks: Locks, caller: u8, call: &Call) -> Option<u8>
+        requires few { length self.now ≤ 64 }
+        requires locked { locks ≡ Held → IsFree (bare self.now) caller call.now }
+        ensures busy { IfSome result (IsBusyWith (bare self.now) caller call.now) }
+        ensures free { IfNone result (IsFree (bare self.now) caller call.now) }
+    {
+        match locks {
+            Locks::Asked => self.holder(caller, call),
+            Locks::Held => None,
+        }
     }
 }
