@@ -1,21 +1,21 @@
--- The exchange that adds a transaction keeps the rule of the book.
+-- The exchange that adds a batch keeps the rule of the book.
 use Rattle.std.proofs.Common.{◌≡◌, ℕ, ◌+◌, ◌<◌, ◌==◌, Bool, true, false, List, [], ◌∷◌, ◌++◌, length, refl, ap, sym, subst, arith, inl, length-append, None}
 use Rattle.std.proofs.lemmas.List.{append-nil}
 use Rattle.std.proofs.lemmas.Bool.Decides.{nat_tests}
 use mathlib.Core.List.{IsPrefix}
 use prog.Atomic.{either}
 use Rattle.logbook.specs.Pages.{Cell, cell, keeps, no_nib, step, Moves, Goes}
-use Rattle.history.specs.declared.transaction.Done.{Done}
+use Rattle.snapshot_readers.specs.Batches.{Batch}
 use Rattle.snapshot_readers.specs.Book.{IsKept, Adds}
 use Rattle.snapshot_readers.proofs.Prefixes.{prefix_whole}
 
-abbrev pub shown : List Done → List Done
+abbrev pub shown : List Batch → List Batch
 shown log = []
 
-abbrev pub moved : List Done → List Done → ℕ → Type 0
+abbrev pub moved : List Batch → List Batch → ℕ → Type 0
 moved xs ys n = Unit {0}
 
-pub adds_goes : (log v : List Done) (e : Done) (old new : ℕ) → length v ≡ old → new ≡ old + 1 → IsPrefix v log
+pub adds_goes : (log v : List Batch) (e : Batch) (old new : ℕ) → length v ≡ old → new ≡ old + 1 → IsPrefix v log
     → (b : Bool) → (length log == old) ≡ b
     → Goes IsKept shown moved 0 (v, (no_nib, None)) (λ n. either (n == old) new n) (Adds (step 0 old new e) (v, (no_nib, None))) ((length log, true) ∷ (0, true) ∷ []) log
 adds_goes log v e old new len more pre true is =
@@ -42,8 +42,8 @@ adds_goes log v e old new len more pre false is =
       rw is (ap length all),
     )
 
--- whatever the book is, the exchange adds the transaction to all that was seen, or finds that the list is longer
-pub adds_moves : (v : List Done) (e : Done) (old new : ℕ) → length v ≡ old → new ≡ old + 1
+-- whatever the book is, the exchange adds the batch to all that was seen, or finds that the list is longer
+pub adds_moves : (v : List Batch) (e : Batch) (old new : ℕ) → length v ≡ old → new ≡ old + 1
     → Moves IsKept shown moved 0 (v, (no_nib, None)) (λ n. either (n == old) new n) (Adds (step 0 old new e) (v, (no_nib, None)))
 adds_moves v e old new len more cs log kept pre away =
     let P : List Cell → Type 0 = λ c. (0 < length c) × ((cell c 0).1 ≡ true) × Goes IsKept shown moved 0 (v, (no_nib, None)) (λ n. either (n == old) new n) (Adds (step 0 old new e) (v, (no_nib, None))) c log in

@@ -5,5 +5,6 @@ pub mod Writings
 pub mod Standing
 pub mod Leading
 pub mod Cases
+pub mod Joining
 pub mod Numbering
 pub mod Copies

@@ -4,7 +4,7 @@ use mathlib.Core.Option.{some}
 use lib.ListN.{get_elem?}
 use Rattle.left_right.specs.Register.{Admits, TurnsAt, Forks, Merges}
 use Rattle.atomic_table.proofs.Lists.{at_set, at_snoc}
-use Rattle.history.specs.Legal.{records}
+use Rattle.snapshot_readers.specs.Batches.{records_after}
 use Rattle.history.specs.Writes.{Table}
 use Rattle.snapshot_readers.specs.declared.snapshot.Snapshot.{Snapshot}
 use Rattle.snapshot_readers.specs.declared.snapshot.Known.{Known}
@@ -32,13 +32,13 @@ pub sees : (seat : ℕ) (v : View) (x : Snapshot) → TurnsAt AllStand seat v x 
 sees seat v x views h at = (v, set_stands x x views seat v (λ u t. t) h (h seat v at), (h seat v at, refl))
 
 -- the writer shows more of the same list
-pub shows : (seat : ℕ) (v : View) (x y : Snapshot) → y.list.seen.book ≡ x.list.seen.book → ((base : Table) → x.records ≡ records base (list_of x) → y.records ≡ records base (list_of y)) → TurnsAt AllStand seat v x y (λ v x y w. w ≡ v)
+pub shows : (seat : ℕ) (v : View) (x y : Snapshot) → y.list.seen.book ≡ x.list.seen.book → ((base : Table) → x.records ≡ records_after base (list_of x) → y.records ≡ records_after base (list_of y)) → TurnsAt AllStand seat v x y (λ v x y w. w ≡ v)
 shows seat v x y same right views h at =
     let keeps : (u : View) → Tied u x → Tied u y = λ u t book e. (same ∙ (t book e).0, right (base_known u) (t book e).1) in
     (v, set_stands x y views seat v keeps h (keeps v (h seat v at)), refl)
 
 known_tied : (x : Snapshot) → list_of x ≡ [] → Tied (Some (known_of x)) x
-known_tied x none book e = (cc e, ap (records x.records) (sym none))
+known_tied x none book e = (cc e, ap (records_after x.records) (sym none))
 
 -- the writer comes to know what it shows at the start
 claims : (seat : ℕ) (v : View) (x : Snapshot) → list_of x ≡ [] → TurnsAt AllStand seat v x x (λ v x y w. w ≡ Some (known_of y))

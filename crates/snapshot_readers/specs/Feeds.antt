@@ -3,22 +3,22 @@ use Rattle.std.specs.Prelude.{◌≡◌, List, []}
 use Rattle.left_right.specs.Sides.{view}
 use Rattle.logbook.specs.Pages.{Book}
 use Rattle.history.specs.Writes.{Table}
-use Rattle.history.specs.declared.transaction.Done.{Done}
+use Rattle.snapshot_readers.specs.Batches.{Batch}
 use Rattle.snapshot_readers.specs.Shown.{list_of, base_known}
 use Rattle.snapshot_readers.specs.declared.feed.Feed.{Feed}
 use Rattle.snapshot_readers.specs.declared.feed.Receipt.{Receipt}
 use Rattle.snapshot_readers.specs.declared.reader.Reader.{Reader}
 
--- the transactions after which readers take the records now
-abbrev pub published : Feed → List Done
+-- the batches after which readers take the records now
+abbrev pub published : Feed → List Batch
 published feed = list_of feed.writer.desk.shown.value
 
 -- what was fed, published or pending
-abbrev pub fed : Feed → List Done
+abbrev pub fed : Feed → List Batch
 fed feed = feed.fed.seen.log
 
 -- what each later receipt begins with
-abbrev pub heard : Feed → List Done
+abbrev pub heard : Feed → List Batch
 heard feed = feed.heard.seen.log
 
 -- which list it is, one for each `open_readers`
@@ -26,14 +26,14 @@ abbrev pub fed_book : Feed → Book
 fed_book feed = feed.fed.seen.book
 
 -- all that was published when the receipt was given
-abbrev pub told : Receipt → List Done
+abbrev pub told : Receipt → List Batch
 told receipt = receipt.told.seen.log
 
 abbrev pub told_book : Receipt → Book
 told_book receipt = receipt.told.seen.book
 
 -- all that a reader saw or learnt; after a get, the list after which it read
-abbrev pub read : Reader → List Done
+abbrev pub read : Reader → List Batch
 read reader = reader.read.seen.log
 
 abbrev pub read_book : Reader → Book

@@ -4,9 +4,8 @@ use mathlib.Core.Option.{some}
 use lib.ListN.{get_elem?}
 use Rattle.std.specs.FinMap.{entries, empty}
 use Rattle.logbook.specs.Pages.{Book}
-use Rattle.history.specs.declared.transaction.Done.{Done}
 use Rattle.history.specs.Writes.{Table, all_written}
-use Rattle.history.specs.Legal.{records}
+use Rattle.snapshot_readers.specs.Batches.{Batch, records_after}
 use Rattle.snapshot_readers.specs.declared.prefix.Prefix.{Prefix}
 use Rattle.snapshot_readers.specs.declared.snapshot.Snapshot.{Snapshot}
 use Rattle.snapshot_readers.specs.declared.snapshot.Change.{Change}
@@ -18,7 +17,7 @@ changed shown (Write writes) = record shown { records = all_written shown.record
 changed shown (Tell list) = record shown { list = list }
 
 -- the list that it stands for
-abbrev pub list_of : Snapshot → List Done
+abbrev pub list_of : Snapshot → List Batch
 list_of shown = shown.list.seen.log
 
 -- what a seat knows at the start of a list
@@ -37,7 +36,7 @@ base_known (Some known) = known.base
 
 -- It is of the list that the seat knows, and its records are those after its list.
 abbrev pub Tied : Option Known → Snapshot → Type 0
-Tied v shown = (book : Book) → book_known v ≡ Some book → (shown.list.seen.book ≡ book) × (shown.records ≡ records (base_known v) (list_of shown))
+Tied v shown = (book : Book) → book_known v ≡ Some book → (shown.list.seen.book ≡ book) × (shown.records ≡ records_after (base_known v) (list_of shown))
 
 abbrev pub AllStand : Snapshot → List (Option Known) → Type 0
 AllStand shown views = (seat : ℕ) (v : Option Known) → get_elem? views seat ≡ some v → Tied v shown
@@ -46,4 +45,4 @@ AllStand shown views = (seat : ℕ) (v : Option Known) → get_elem? views seat 
 abbrev pub Leads : Snapshot → List Change → Prefix → Type 0
 Leads shown changes list = (shown.list.seen.book ≡ list.seen.book)
     × (list_of shown ++ drop (length (list_of shown)) list.seen.log ≡ list.seen.log)
-    × (entries (fold changed shown changes).records ≡ entries (records shown.records (drop (length (list_of shown)) list.seen.log)))
+    × (entries (fold changed shown changes).records ≡ entries (records_after shown.records (drop (length (list_of shown)) list.seen.log)))

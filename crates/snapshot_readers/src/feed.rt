@@ -5,7 +5,7 @@ ghost use Rattle.history.specs.Legal.{records};
 ghost use Rattle.std.specs.Global.{Vec};
 ghost use Rattle.snapshot_readers.specs.Book.{word_of};
 ghost use Rattle.snapshot_readers.specs.Shown.{Leads};
-ghost use Rattle.snapshot_readers.specs.Numbers.{AreNumberedFrom};
+ghost use Rattle.snapshot_readers.specs.Batches.{joined, with_batch, AreNumberedFrom};
 ghost use Rattle.snapshot_readers.specs.Waiting.{IsWaiting};
 
 use crate::prefix::{LengthWord, Prefix};
@@ -76,15 +76,15 @@ impl Feed {
 
     /// How many transactions were fed, published or pending.
     pub fn fed(&self) -> u64
-        ensures { result ≡ length (fed self.now) }
+        ensures { result ≡ length (joined (fed self.now)) }
     {
         self.fed.count
     }
 
     // Takes in all of the transactions, which stay pending, or none.
     fn take_in<R: Wait>(self, rt: &R, dones: &[Done]) -> (Feed, Result<(), NoMemory>)
-        requires { AreNumberedFrom (length (fed self) + 1) dones.now }
-        ensures ok { OnOk result.1 (fed result.0 ≡ fed self ++ dones.now) }
+        requires { AreNumberedFrom (length (joined (fed self)) + 1) dones.now }
+        ensures ok { OnOk result.1 (fed result.0 ≡ with_batch (fed self) dones.now) }
         ensures err { OnErr result.1 (fed result.0 ≡ fed self) }
         ensures same { (published result.0 ≡ published self) × (heard result.0 ≡ heard self) × (fed_book result.0 ≡ fed_book self) }
     {
@@ -105,7 +105,7 @@ impl Feed {
             };
             return (feed, Err(NoMemory));
         };
-        let fed = fed.after_all(rt, &word, dones);
+        let fed = fed.after(rt, &word, dones);
         let feed = Feed {
             alloc,
             writer,
@@ -142,10 +142,10 @@ impl Feed {
 
     // `feed`, of a feed by value.
     fn feed_all<R: Wait>(self, rt: &R, dones: &[Done]) -> (Feed, Result<Receipt, NoMemory>)
-        requires { AreNumberedFrom (length (fed self) + 1) dones.now }
-        ensures ok { IfOk result.1 (λ receipt. (told receipt ≡ fed self ++ dones.now) × (told_book receipt ≡ fed_book self) × (fed result.0 ≡ told receipt) × (published result.0 ≡ told receipt)) }
+        requires { AreNumberedFrom (length (joined (fed self)) + 1) dones.now }
+        ensures ok { IfOk result.1 (λ receipt. (told receipt ≡ with_batch (fed self) dones.now) × (told_book receipt ≡ fed_book self) × (fed result.0 ≡ told receipt) × (published result.0 ≡ told receipt)) }
         ensures heard { IfOk result.1 (λ receipt. IsPrefix (heard self) (told receipt)) }
-        ensures err { OnErr result.1 ((published result.0 ≡ published self) × ((fed result.0 ≡ fed self) ⊎ (fed result.0 ≡ fed self ++ dones.now))) }
+        ensures err { OnErr result.1 ((published result.0 ≡ published self) × ((fed result.0 ≡ fed self) ⊎ (fed result.0 ≡ with_batch (fed self) dones.now))) }
         ensures same { (heard result.0 ≡ heard self) × (fed_book result.0 ≡ fed_book self) }
     {
         let (feed, taken) = self.take_in(rt, dones);
@@ -161,16 +161,17 @@ impl Feed {
         (feed, Ok(Receipt { told }))
     }
 
-    /// Takes in the next transactions, and publishes them and all that is pending at once. They are numbered from `fed` plus 1 on. It waits
-    /// for readers that are still in what was published before the last publish.
+    /// Takes in the next transactions as a batch, and publishes them and all that is pending at once. They are numbered from `fed` plus 1
+    /// on. It waits for readers that are still in what was published before the last publish.
     ///
     /// At `NoMemory` nothing is published. Either all of the transactions were taken in, which then stay pending, or none: `fed` says
-    /// which. The next feed that answers Ok publishes what is pending before its own, all at once.
+    /// which. The next feed that answers Ok publishes what is pending before its own, all at once. Without transactions it publishes
+    /// what is pending.
     pub fn feed<R: Wait>(&mut self, rt: &R, dones: &[Done]) -> Result<Receipt, NoMemory>
-        requires { AreNumberedFrom (length (fed self.old) + 1) dones.now }
-        ensures ok { IfOk result (λ receipt. (told receipt ≡ fed self.old ++ dones.now) × (told_book receipt ≡ fed_book self.old) × (fed self.new ≡ told receipt) × (published self.new ≡ told receipt)) }
+        requires { AreNumberedFrom (length (joined (fed self.old)) + 1) dones.now }
+        ensures ok { IfOk result (λ receipt. (told receipt ≡ with_batch (fed self.old) dones.now) × (told_book receipt ≡ fed_book self.old) × (fed self.new ≡ told receipt) × (published self.new ≡ told receipt)) }
         ensures heard { IfOk result (λ receipt. IsPrefix (heard self.old) (told receipt)) }
-        ensures err { OnErr result ((published self.new ≡ published self.old) × ((fed self.new ≡ fed self.old) ⊎ (fed self.new ≡ fed self.old ++ dones.now))) }
+        ensures err { OnErr result ((published self.new ≡ published self.old) × ((fed self.new ≡ fed self.old) ⊎ (fed self.new ≡ with_batch (fed self.old) dones.now))) }
         ensures same { (heard self.new ≡ heard self.old) × (fed_book self.new ≡ fed_book self.old) }
     {
         replace_with(

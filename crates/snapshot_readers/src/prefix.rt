@@ -1,17 +1,17 @@
-// Prefixes of the one list of transactions that a feed was given.
-ghost use Rattle.std.specs.Prelude.{◌≡◌, ◌+◌, ◌++◌, ◌∷◌, ◌⊎◌, [], length, IfSome, MatchBool};
+// Prefixes of the one list of batches that a feed was given.
+ghost use Rattle.std.specs.Prelude.{◌≡◌, ◌+◌, ◌<◌, ◌++◌, ◌∷◌, [], length, IfSome, MatchBool};
 ghost use mathlib.Core.List.{IsPrefix};
 ghost use Rattle.snapshot_readers.specs.Book.{word_of};
-ghost use Rattle.snapshot_readers.specs.Numbers.{AreNumberedFrom};
+ghost use Rattle.snapshot_readers.specs.Batches.{joined, with_batch, AreNumberedFrom};
 
-use history::Done;
+use history::{Done, History};
 use logbook::{Gain, Offer, Plain, Play, Rule, Seen, Start, Word};
 use std::sync::Wait;
 
 /// The rule of the book in which the list is kept: its first word is the length of the list.
 pub struct Law;
 
-impl Rule<Done, u64> for Law {
+impl Rule<History, u64> for Law {
     ghost use Rattle.std.specs.Prelude.{[]};
     ghost use base.Fml.{ftrue};
     ghost use Rattle.snapshot_readers.specs.Book.{IsKept};
@@ -32,38 +32,40 @@ impl Rule<Done, u64> for Law {
 // Callers trade nothing.
 struct Nothing;
 
-impl Gain<Done, u64> for Nothing {
+impl Gain<History, u64> for Nothing {
     ghost use base.Fml.{ftrue};
 
     ghost after = { λ names about answer. ftrue };
 }
 
-// A step that adds a transaction.
+// A step that adds a batch.
 struct Add;
 
-impl Play<Done, u64> for Add {
+impl Play<History, u64> for Add {
     ghost use Rattle.snapshot_readers.specs.Book.{Adds};
 
     ghost then = { Adds };
 }
 
-impl Plain<Done, Done, u64> for Add {
+impl Plain<&[Done], History, u64> for Add {
     ghost use Rattle.std.specs.Prelude.{None};
 
-    ghost ask = { λ done. done };
+    ghost ask = { λ dones. dones.now };
 
-    ghost state = { λ done. None };
+    ghost state = { λ dones. None };
 }
 
 /// The word that is the length of the list.
-pub type LengthWord = Word<Done, u64, Law>;
+pub type LengthWord = Word<History, u64, Law>;
 
-/// The first `count` transactions of the list. The list itself is in no memory: proofs know it.
+/// The first batches of the list, which have `count` transactions. The list itself is in no memory: proofs know it.
 #[derive(Drop)]
 pub struct Prefix {
+    batches: u64,
     pub(crate) count: u64,
-    pub(crate) seen: Seen<Done, u64, Law>,
-    pub ghost counted: { count ≡ length seen.log },
+    pub(crate) seen: Seen<History, u64, Law>,
+    pub ghost as_many: { batches ≡ length seen.log },
+    pub ghost counted: { count ≡ length (joined seen.log) },
 }
 
 impl Prefix {
@@ -72,13 +74,19 @@ impl Prefix {
         ensures { (result.0 ≡ word_of result.1.seen.book) × (result.1.seen.log ≡ []) }
     {
         let (seen, mut first, _second) = Seen::open(Start::alone(), 0, 0);
-        (Word::tracked(0, &mut first), Prefix { count: 0, seen })
+        let list = Prefix {
+            batches: 0,
+            count: 0,
+            seen,
+        };
+        (Word::tracked(0, &mut first), list)
     }
 
     pub(crate) fn again(&self) -> Prefix
         ensures { result ≡ self.now }
     {
         Prefix {
+            batches: self.batches,
             count: self.count,
             seen: self.seen.again(),
         }
@@ -93,7 +101,7 @@ impl Prefix {
     {
         let mut both = self.seen.again();
         both.learn(&other.seen);
-        if self.count < other.count {
+        if self.batches < other.batches {
             other.again()
         } else {
             self.again()
@@ -107,58 +115,53 @@ impl Prefix {
     {
         let mut both = self.seen.again();
         both.learn(&other.seen);
-        other.count <= self.count
+        other.batches <= self.batches
     }
 
-    // The list with one transaction more, or none where it has grown already.
-    fn added(&self, word: &LengthWord, done: &Done) -> Option<Prefix>
+    // The list with one batch more, or none where it has grown already, or has as many batches as a u64 counts.
+    fn added(&self, word: &LengthWord, dones: &[Done]) -> Option<Prefix>
         requires word { word.now ≡ word_of self.now.seen.book }
-        requires next { done.now.at ≡ length self.now.seen.log + 1 }
-        ensures { IfSome result (λ list. (list.seen.book ≡ self.now.seen.book) × (list.seen.log ≡ self.now.seen.log ++ done.now ∷ [])) }
+        requires next { AreNumberedFrom (length (joined self.now.seen.log) + 1) dones.now }
+        requires some { 0 < length dones.now }
+        ensures { IfSome result (λ list. (list.seen.book ≡ self.now.seen.book) × (list.seen.log ≡ self.now.seen.log ++ dones.now ∷ [])) }
     {
+        let count = dones[dones.len() - 1].at;
+        let more = self.batches.checked_add(1)?;
         let mut seen = self.seen.again();
-        let mut offer: Offer<Done, u64, Law, Nothing> = seen.plain::<Nothing, Done, Add>(done);
-        let mut pen = seen.no_pen();
-        let count = self.count;
-        let found = word.compare_exchange::<Add, Nothing>(
-            count, done.at, &mut seen, &mut offer, &mut pen,
+        let mut offer: Offer<History, u64, Law, Nothing> = seen.plain::<Nothing, &[Done], Add>(
+            &dones,
         );
-        if found != count {
+        let mut pen = seen.no_pen();
+        let batches = self.batches;
+        let found = word.compare_exchange::<Add, Nothing>(
+            batches, more, &mut seen, &mut offer, &mut pen,
+        );
+        if found != batches {
             return None;
         }
         Some(Prefix {
-            count: done.at,
+            batches: more,
+            count,
             seen,
         })
     }
 
-    // The list with one transaction more. Only the feed adds to it, so it does not wait.
-    fn after<R: Wait>(&self, rt: &R, word: &LengthWord, done: &Done) -> Prefix
+    /// The list with these transactions as one batch more, if there are some. Only the feed adds to it, so it does not wait.
+    pub(crate) fn after<R: Wait>(&self, rt: &R, word: &LengthWord, dones: &[Done]) -> Prefix
         requires word { word.now ≡ word_of self.now.seen.book }
-        requires next { done.now.at ≡ length self.now.seen.log + 1 }
+        requires next { AreNumberedFrom (length (joined self.now.seen.log) + 1) dones.now }
         ensures book { result.seen.book ≡ self.now.seen.book }
-        ensures log { result.seen.log ≡ self.now.seen.log ++ done.now ∷ [] }
+        ensures log { result.seen.log ≡ with_batch self.now.seen.log dones.now }
     {
+        if dones.is_empty() {
+            return self.again();
+        }
         for _ in rt.forever() {
-            if let Some(list) = self.added(word, done) {
+            if let Some(list) = self.added(word, dones) {
                 return list;
             }
         }
         unreachable!()
-    }
-
-    /// The list with these transactions more.
-    pub(crate) fn after_all<R: Wait>(&self, rt: &R, word: &LengthWord, dones: &[Done]) -> Prefix
-        requires word { word.now ≡ word_of self.now.seen.book }
-        requires next { AreNumberedFrom (length self.now.seen.log + 1) dones.now }
-        ensures book { result.seen.book ≡ self.now.seen.book }
-        ensures log { result.seen.log ≡ self.now.seen.log ++ dones.now }
-    {
-        let mut list = self.again();
-        for done in dones {
-            list = list.after(rt, word, done);
-        }
-        list
     }
 
     /// That the other is a prefix of this one. What the feed has published goes on from all that any reader saw, so it does not wait.

@@ -1,7 +1,7 @@
 ghost use Rattle.std.specs.Prelude.{◌≡◌, length, Some, MatchBool};
 ghost use Rattle.std.specs.FinMap.{get};
 ghost use mathlib.Core.List.{IsPrefix};
-ghost use Rattle.history.specs.Legal.{records};
+ghost use Rattle.snapshot_readers.specs.Batches.{joined, records_after};
 ghost use Rattle.left_right.specs.Sides.{view};
 ghost use Rattle.snapshot_readers.specs.Shown.{book_known, base_known};
 
@@ -30,13 +30,13 @@ pub struct Reader {
 /// The readers of one feed.
 pub type Readers = Listed<Reader>;
 
-// The value of the key in what is published, and its list, which goes on from `least`.
+// The value of the key in what is published, with its list, which goes on from `least`.
 fn look<R: Wait>(inner: Inner, rt: &R, least: &Prefix, key: Key) -> (Inner, Prefix, Option<Value>)
     requires { book_known (view inner.place) ≡ Some least.now.seen.book }
     ensures tied { view result.0.place ≡ view inner.place }
     ensures book { result.1.seen.book ≡ least.now.seen.book }
     ensures on { IsPrefix least.now.seen.log result.1.seen.log }
-    ensures value { result.2 ≡ get (records (base_known (view inner.place)) result.1.seen.log) key }
+    ensures value { result.2 ≡ get (records_after (base_known (view inner.place)) result.1.seen.log) key }
 {
     let mut inner = inner;
     let backoff = Backoff::new();
@@ -66,8 +66,8 @@ impl Reader {
     // `get`, of a reader by value.
     fn got<R: Wait>(self, rt: &R, key: Key) -> (Reader, (u64, Option<Value>))
         ensures on { IsPrefix (read self) (read result.0) }
-        ensures count { result.1.0 ≡ length (read result.0) }
-        ensures value { result.1.1 ≡ get (records (read_base result.0) (read result.0)) key }
+        ensures count { result.1.0 ≡ length (joined (read result.0)) }
+        ensures value { result.1.1 ≡ get (records_after (read_base result.0) (read result.0)) key }
         ensures same { (read_book result.0 ≡ read_book self) × (read_base result.0 ≡ read_base self) }
     {
         let Self { inner, read } = self;
@@ -77,12 +77,12 @@ impl Reader {
     }
 
     /// How many transactions were published, and the value of the key in the records after them. All that this reader saw or learnt before
-    /// is a prefix of those. It takes no memory. It waits for no other reader and for no feed, and tries again only where it finds nothing
-    /// published, or less than it knows of.
+    /// is a prefix of those. It takes no memory. It waits for no other reader and for no feed, and tries again only where the feed was
+    /// closed.
     pub fn get<R: Wait>(&mut self, rt: &R, key: Key) -> (u64, Option<Value>)
         ensures on { IsPrefix (read self.old) (read self.new) }
-        ensures count { result.0 ≡ length (read self.new) }
-        ensures value { result.1 ≡ get (records (read_base self.new) (read self.new)) key }
+        ensures count { result.0 ≡ length (joined (read self.new)) }
+        ensures value { result.1 ≡ get (records_after (read_base self.new) (read self.new)) key }
         ensures same { (read_book self.new ≡ read_book self.old) × (read_base self.new ≡ read_base self.old) }
     {
         replace_with(self, (rt, key), |reader, (rt, key)| reader.got(rt, key))

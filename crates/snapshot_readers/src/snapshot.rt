@@ -5,19 +5,19 @@ use crate::prefix::{Law, Prefix};
 use crate::records::{Records, Write};
 use atomic_table::{Join, Split};
 use crossbeam_utils::rule::{Outcome, Protocol};
-use history::Done;
+use history::History;
 use left_right::Absorb;
 use logbook::Seen;
 use std::alloc::AllocError;
 
-/// The records after a list of transactions, and that list.
+/// The records after some first batches of the list, and these batches.
 #[derive(Drop)]
 pub struct Snapshot {
     pub(crate) records: Records,
     pub(crate) list: Prefix,
 }
 
-/// What the feed does to a copy: it makes the writes of what it was fed at once, or it tells the list that the copy now stands for.
+/// What the feed does to a copy: it makes all writes of a batch, or it tells the list that the copy now stands for.
 #[derive(Drop)]
 pub enum Change {
     Write(Vec<Write>),
@@ -49,7 +49,7 @@ impl Absorb<Change> for Snapshot {
 
 /// What a seat knows: the book of the list, and the records at its start. No value of it is made.
 pub struct Known {
-    pub seen: Seen<Done, u64, Law>,
+    pub seen: Seen<History, u64, Law>,
     pub base: Records,
 }
 

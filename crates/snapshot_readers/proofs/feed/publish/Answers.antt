@@ -1,4 +1,4 @@
-use Rattle.std.proofs.Common.{◌∙◌, drop}
+use Rattle.std.proofs.Common.{drop}
 use Rattle.snapshot_readers.proofs.Leading.{right_next}
 use Rattle.snapshot_readers.proofs.Standing.{shows}
 use Rattle.snapshot_readers.proofs.feed.publish.Goals as goal

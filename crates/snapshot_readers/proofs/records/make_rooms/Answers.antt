@@ -1,4 +1,4 @@
-use Rattle.std.proofs.Common.{◌∙◌, ap, subst, get_or, take}
+use Rattle.std.proofs.Common.{◌∙◌, subst, get_or, take}
 use Rattle.std.proofs.lemmas.List.Elements.{All-more}
 use Rattle.history.specs.Writes.{Write}
 use Rattle.snapshot_readers.specs.Rooms.{HasRoom}

@@ -2,7 +2,7 @@ use Rattle.std.proofs.Common.{sym, subst, Some, None, List}
 use Rattle.history.specs.Table.{after}
 use Rattle.history.specs.Writes.{Write}
 use Rattle.history.specs.declared.call.Call.{Call}
-use Rattle.history.specs.declared.call.Call.TheVariants.{Put, Del, Back}
+use Rattle.history.specs.declared.call.Call.TheVariants.{Put, Del}
 use Rattle.snapshot_readers.specs.Writing.{Writes}
 use Rattle.snapshot_readers.proofs.Writings.{write_more}
 use Rattle.snapshot_readers.proofs.writes.Writing.make.Goals as goal

@@ -1,6 +1,6 @@
 use Rattle.std.proofs.Common.{sym, ap, ◌∙◌, subst, take, ◌++◌, ◌∷◌, []}
 use Rattle.std.proofs.lemmas.List.{take_more}
-use Rattle.history.specs.Writes.{Table, all_written}
+use Rattle.history.specs.Writes.{all_written}
 use Rattle.history.specs.Table.{Work, Granted, begun, worked}
 use Rattle.history.proofs.OneMore.{worked-push}
 use Rattle.snapshot_readers.specs.Writing.{Writes}
