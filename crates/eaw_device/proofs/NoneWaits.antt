@@ -68,13 +68,3 @@ once_held shape late once tied image t lt =
 
 pub once_free : (shape : Shape) (queue : LateCommits) → IsAtOnce shape queue → (t : ℕ) → has_some queue.ballots.items t ≡ false
 once_free shape queue once t = ap (λ (bs : List Ballot). has_some bs t) (none_waiting shape queue once)
-
--- a group of which some logger takes part has a number
-pub some_number : (shape : Shape) (group : ℕ) (cells : List Cells) (ballot : Ballot) → ballot.group ≡ group → IsMaskOf shape.loggers (takes_part shape cells group) ballot.mask → 0 < ballot.mask → 0 < ballot.group
-some_number shape group cells ballot group_is is some = elim (cases_eq group 0) [
-  | inl zero_is ↦ absurd (let none = none_takes shape group cells ballot group_is is (λ g t lt lt' so. absurd (false≢true (sym (none_has t) ∙ ap (λ (k : ℕ). has k t) (sym zero_is) ∙ so))) in omega (arith, none, some))
-  | inr ne ↦ omega (arith, ne, group_is)
-]
-  where
-    none_has : (t : ℕ) → has 0 t ≡ false
-    none_has t = ne_eqb _ 1 (λ one. omega (arith, one, bit_at-zero t))
