@@ -24,25 +24,25 @@ has_or a b u = elim (cases_eq (bit_at a u) 1) [
       ap (λ (k : ℕ). nat_eq k 1) other ∙ sym (ap (λ (x : Bool). x || has b u) (ne_eqb (bit_at a u) 1 ne))
 ]
 
-own : (t u : ℕ) → has (2 ^ t) u ≡ nat_eq u t
-own t u = elim (cases_eq u t) [
+pub has_bit : (t u : ℕ) → has (2 ^ t) u ≡ nat_eq u t
+has_bit t u = elim (cases_eq u t) [
   | inl is ↦ ap (has (2 ^ t)) is ∙ has_own t ∙ sym (eq-eqb u t is)
   | inr ne ↦ has_other t u ne ∙ sym (ne_eqb u t ne)
 ]
 
 pub has_group_of : (ts : List ℕ) (u : ℕ) → has (group_of ts) u ≡ is_one_of ts u
 has_group_of [] u = none_has u
-has_group_of (t ∷ ts) u = has_or (2 ^ t) (group_of ts) u ∙ (λ i. own t u i || has_group_of ts u i)
+has_group_of (t ∷ ts) u = has_or (2 ^ t) (group_of ts) u ∙ (λ i. has_bit t u i || has_group_of ts u i)
 
 -- the same numbers, so the same bits
-same_bits : (a b : ℕ) → ((u : ℕ) → has a u ≡ has b u) → a ≡ b
+pub same_bits : (a b : ℕ) → ((u : ℕ) → has a u ≡ has b u) → a ≡ b
 same_bits a b same = same_from_bits a b (λ u. elim (cases_eq (bit_at a u) 1) [
   | inl one ↦ one ∙ sym (eqb-true (bit_at b u) 1 (sym (same u) ∙ eq-eqb (bit_at a u) 1 one))
   | inr ne ↦ let other = eqb-false (bit_at b u) 1 (sym (same u) ∙ ne_eqb (bit_at a u) 1 ne) in omega (arith, ne, other, bit_at-lt a u, bit_at-lt b u)
 ])
 
 pub group_of_one : (t : ℕ) → group_of (t ∷ []) ≡ 2 ^ t
-group_of_one t = same_bits (group_of (t ∷ [])) (2 ^ t) (λ u. has_group_of (t ∷ []) u ∙ alone (nat_eq u t) ∙ sym (own t u))
+group_of_one t = same_bits (group_of (t ∷ [])) (2 ^ t) (λ u. has_group_of (t ∷ []) u ∙ alone (nat_eq u t) ∙ sym (has_bit t u))
   where
     alone : (b : Bool) → (b || false) ≡ b
     alone true = refl

@@ -1,6 +1,6 @@
 -- What one more commit of a group costs, in words of what waited before it.
 use Rattle.std.proofs.Common.{◌≡◌, ℕ, ◌+◌, ◌*◌, ◌<◌, Bool, true, false, cond, ◌||◌, nat_eq, inl, inr, List, [], ◌∷◌, length, take, drop, refl, sym, ◌∙◌, ap, arith}
-use Rattle.std.proofs.lemmas.Bool.{and_parts, cases_Bool, ne_eqb, false≢true}
+use Rattle.std.proofs.lemmas.Bool.{and_parts, cases_Bool, eq-eqb, ne_eqb, false≢true}
 use Rattle.array_shape.specs.declared.shape.Shape.{Shape}
 use Rattle.array_shape.specs.NumberSet.{has}
 use Rattle.row_bytes.specs.declared.ballot.Ballot.{Ballot}
@@ -81,3 +81,7 @@ pub back_part : (shape : Shape) (queue : LateCommits) (group : ℕ) (ts : List �
 back_part shape queue group ts ranges is some =
     ap (λ (b : Bool). cond b 0 (back_cost shape queue (group_of ts) + joining_cost shape queue (group_of ts) (length ts) ranges)) (ne_eqb (length ranges) 0 (λ none. omega (arith, none, some)))
     ∙ ap (λ (k : ℕ). back_cost shape queue k + joining_cost shape queue k (length ts) ranges) (sym is)
+
+-- no range
+pub no_cost : (shape : Shape) (queue : LateCommits) (ts : List ℕ) (ranges : List (ℕ × ℕ)) → length ranges ≡ 0 → commit_cost shape queue ts ranges ≡ 0
+no_cost shape queue ts ranges none = ap (λ (b : Bool). cond b 0 (back_cost shape queue (group_of ts) + joining_cost shape queue (group_of ts) (length ts) ranges)) (eq-eqb (length ranges) 0 none)

@@ -1,7 +1,7 @@
 -- The commit of several logs at once: what it writes, and what it costs.
 use Rattle.std.proofs.Common.{◌≡◌, ℕ, zero, suc, ◌+◌, ◌*◌, ◌-◌, ◌<◌, ◌≤◌, min, Bool, true, false, cond, ◌&&◌, nat_eq, inl, inr, List, [], ◌∷◌, ◌++◌, length, refl, sym, ◌∙◌, ap, arith}
 use Rattle.std.specs.Prelude.{nat_lt, flat_map, filter}
-use Rattle.std.proofs.lemmas.Bool.{cases_Bool, cases_eq, lt-ltb, false≢true}
+use Rattle.std.proofs.lemmas.Bool.{cases_Bool, cases_eq, cases_lt, lt-ltb, false≢true}
 use Rattle.std.proofs.lemmas.List.{length-append, nil_from_length}
 use Rattle.std.proofs.lemmas.List.Elements.{filter-append}
 use Rattle.std.proofs.Math.Nat.{add-mul}
@@ -19,7 +19,9 @@ use Rattle.eaw_face.specs.State.{is_range_on, count_on}
 use Rattle.eaw_device.specs.Costs.{loggers_with}
 use Rattle.eaw_device.specs.Groups.{group_parts, HaveCells, HaveParts, group_count}
 use Rattle.eaw_device.proofs.Alone.{one_if, some_or_none}
+use Rattle.array_shape.proofs.Sets.{none_has}
 use Rattle.eaw_device.proofs.Costing.{ranges_counted}
+use Rattle.eaw_device.proofs.GroupBits.{same_bits}
 use Rattle.eaw_device.proofs.Grouping.{group_rows, total_more, total_same, total_zero, total_none, any_none, none_at, lists_in_turn}
 
 -- lists of the numbers of a set, joined
@@ -107,6 +109,29 @@ module _ (shape : Shape) (bits group : ℕ) (ranges : ℕ → List (ℕ × ℕ))
       nothing : (k n : ℕ) → joined (λ u. cond (has group u) (f u) []) k n ≡ []
       nothing k zero = refl
       nothing k (suc n) = λ i. cond (no_one k i) (f k) [] ++ nothing (k + 1) n i
+
+  -- if nothing is logged, no number is in the group
+  no_one : ((u : ℕ) → shape.numbers ≤ u → has group u ≡ false) → length (flat_map ranges (numbers_in bits)) ≡ 0 → (u : ℕ) → has group u ≡ false
+  no_one beyond none u = elim (cases_lt u shape.numbers) [
+    | inl lt ↦ elim (cases_Bool (has group u)) [
+      | inl on ↦
+          let its_len : length (ranges u) ≡ 0 = sym (ap (λ (b : Bool). length (cond b (ranges u) [])) on)
+              ∙ total_none (λ v. length (cond (has group v) (ranges v) [])) shape.numbers (total_joined (λ v. cond (has group v) (ranges v) []) shape.numbers ∙ ap length (gathered ranges (λ v empty. empty)) ∙ none) u lt in
+          absurd (false≢true (sym (is u lt ∙ ap (λ (k : ℕ). has bits u && nat_lt 0 k) its_len ∙ off (has bits u)) ∙ on))
+      | inr out ↦ out
+    ]
+    | inr ge ↦ beyond u (omega (arith, ge))
+  ]
+    where
+      off : (b : Bool) → (b && false) ≡ false
+      off true = refl
+      off false = refl
+
+  pub some_gathered : ((u : ℕ) → shape.numbers ≤ u → has group u ≡ false) → (group ≡ 0 → ⊥) → 0 < length (flat_map ranges (numbers_in bits))
+  some_gathered beyond ne = elim (cases_lt 0 (length (flat_map ranges (numbers_in bits)))) [
+    | inl lt ↦ lt
+    | inr ge ↦ absurd (ne (same_bits group 0 (λ u. no_one beyond (omega (arith, ge)) u ∙ sym (none_has u))))
+  ]
 
   -- the parts
   module _ (image : List ℕ) (cells : List Cells) (parts : ℕ → List Part) (placed : (u : ℕ) → u < shape.numbers → AllPlaced shape (parts u)) (none : (u : ℕ) → ranges u ≡ [] → parts u ≡ [])

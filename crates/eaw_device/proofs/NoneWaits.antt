@@ -44,18 +44,16 @@ module _ (shape : Shape) (late : LateCommits) (once : IsAtOnce shape late) where
   pub data_alone : (image : List ℕ) → data_with shape late image ≡ data_of shape image
   data_alone image = ap (λ (bs : List Ballot). data_in shape late.cells bs image) none_waiting
 
-  -- one more costs what a commit costs
-  pub calls_at_once : (ballot : Ballot) → late_calls shape late.depth late.ballots.items ballot late.cells ≡ commit_calls shape ballot late.cells
-  calls_at_once ballot =
-      ap (λ (d : ℕ). cond (nat_eq ballot.mask 0) 0 (cond (nat_eq d 0) (commit_calls shape ballot late.cells) later)) once.none_waits
-      ∙ by (nat_eq ballot.mask 0) refl
-    where
-      later : ℕ
-      later = calls_back shape late.cells (take (due_for_place late.depth late.ballots.items) late.ballots.items) + decide_calls shape ballot
+  -- a commit writes nothing else back, and makes no place
+  once_cost : (ts : List ℕ) (ranges : List (ℕ × ℕ)) → commit_cost shape late ts ranges ≡ cond (nat_eq (length ranges) 0) 0 (3 * (length ts * loggers_with shape ranges) + 2 * length ranges + 4)
+  once_cost ts ranges =
+      let group = group_of ts in
+      let back : back_cost shape late group ≡ 0 = ap (λ (bs : List Ballot). calls_back shape late.cells (take (due_for group bs) bs)) none_waiting in
+      (λ i. cond (nat_eq (length ranges) 0) 0 (back i + cond (nat_eq (once.none_waits i) 0) (3 * (length ts * loggers_with shape ranges) + 2 * length ranges + 4) (place_cost shape late group + (2 * (length ts * loggers_with shape ranges) + 2))))
 
-      by : (b : Bool) → nat_eq ballot.mask 0 ≡ b → cond b 0 (commit_calls shape ballot late.cells) ≡ commit_calls shape ballot late.cells
-      by true is = sym (ap (λ (b : Bool). cond b 0 (decide_calls shape ballot + write_back_calls shape ballot late.cells)) is)
-      by false is = refl
+-- so it is in each such queue
+pub same_cost : (shape : Shape) (a b : LateCommits) → IsAtOnce shape a → IsAtOnce shape b → (ts : List ℕ) (ranges : List (ℕ × ℕ)) → commit_cost shape a ts ranges ≡ commit_cost shape b ts ranges
+same_cost shape a b one two ts ranges = once_cost shape a one ts ranges ∙ sym (once_cost shape b two ts ranges)
 
 -- the cells of any log come before those of none, and no entry is kept
 pub once_before : (shape : Shape) (queue : LateCommits) → IsAtOnce shape queue → (t : ℕ) (log : Log) → IsBefore shape queue t log

@@ -45,7 +45,7 @@ whole_lacks (suc n) [] t first rest = refl
 whole_lacks (suc n) (b ∷ bs) t first rest = let both = or_parts (has b.group t) (has_some (take n bs) t) first in λ i. both.0 i || whole_lacks n bs t both.1 rest i
 
 -- one more at the end
-pushed_lacks : (bs : List Ballot) (b : Ballot) (t : ℕ) → has_some bs t ≡ false → has b.group t ≡ false → has_some (bs ++ b ∷ []) t ≡ false
+pub pushed_lacks : (bs : List Ballot) (b : Ballot) (t : ℕ) → has_some bs t ≡ false → has b.group t ≡ false → has_some (bs ++ b ∷ []) t ≡ false
 pushed_lacks [] b t lacks none = λ i. none i || false
 pushed_lacks (c ∷ bs) b t lacks none = let both = or_parts (has c.group t) (has_some bs t) lacks in λ i. both.0 i || pushed_lacks bs b t both.1 none i
 
