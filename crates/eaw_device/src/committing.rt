@@ -108,7 +108,8 @@ fn logged(shape: &Shape, logs: &[Log], tids: NumberSet) -> NumberSet
         if !tids.contains(tid) {
             continue;
         }
-        if logs[usize::from(tid)].entries.is_empty() {
+        let log = &logs[usize::from(tid)];
+        if log.entries.is_empty() {
             continue;
         }
         group = group.with(tid);

@@ -64,8 +64,8 @@ module _ (shape : Shape) (logs : List Log) (many : length logs ≡ shape.numbers
     its_some : (group ≡ 0 → ⊥) → 0 < group_count shape group cells
     its_some ne = omega (arith, its_count, some ne)
 
-pub returns-then-group-bits-eq0-clause-does : goal.returns-then-group-bits-eq0-clause-does
-returns-then-group-bits-eq0-clause-does g c =
+pub returns-then-group-eq0-clause-does : goal.returns-then-group-eq0-clause-does
+returns-then-group-eq0-clause-does g c =
     let shape = c.args.shape.now in
     let logs = c.args.logs.now in
     let queue = c.args.late.now.queue in
@@ -87,9 +87,7 @@ returns-in_err-write_back_for-clause-does g c =
     (g.M.Media.view c.args.media.now) (g.M.Media.view c.write_back_for.new.media) _ refl (back_part shape queue group ts ranges (its_group c.args.shape.now c.args.logs.now c.requires.many c.requires.kept c.args.tids c.logged-group.result.bits c.logged-group.ensures.numbers c.logged-group.ensures.beyond) (some c.args.shape.now c.args.logs.now c.requires.many c.requires.kept c.args.tids c.logged-group.result.bits c.logged-group.ensures.numbers c.logged-group.ensures.beyond (λ zero_is. absurd (omega (arith, zero_is))))) c.in_err-write_back_for.ensures.back)
 
 pub returns-in_err-write_back_for-clause-due : goal.returns-in_err-write_back_for-clause-due
-returns-in_err-write_back_for-clause-due g c =
-    let p = err_from_is_err_and c.from_residual.result c.from_residual.ensures.1 in
-    rw (p.1, p.2) (some c.args.shape.now c.args.logs.now c.requires.many c.requires.kept c.args.tids c.logged-group.result.bits c.logged-group.ensures.numbers c.logged-group.ensures.beyond (λ zero_is. absurd (omega (arith, zero_is))))
+returns-in_err-write_back_for-clause-due g c = always c.from_residual.result (some c.args.shape.now c.args.logs.now c.requires.many c.requires.kept c.args.tids c.logged-group.result.bits c.logged-group.ensures.numbers c.logged-group.ensures.beyond (λ zero_is. absurd (omega (arith, zero_is))))
 
 pub returns-in_err-write_back_for-clause-idle : goal.returns-in_err-write_back_for-clause-idle
 returns-in_err-write_back_for-clause-idle g c = λ empty. absurd (omega (arith, empty, some c.args.shape.now c.args.logs.now c.requires.many c.requires.kept c.args.tids c.logged-group.result.bits c.logged-group.ensures.numbers c.logged-group.ensures.beyond (λ zero_is. absurd (omega (arith, zero_is)))))
