@@ -1,5 +1,5 @@
 -- A queue of which no commit may wait: what waits is nothing, and one more is written back at once.
-use Rattle.std.proofs.Common.{◌≡◌, ℕ, ◌<◌, Bool, true, false, cond, nat_eq, inl, inr, List, [], length, take, ◌+◌, refl, sym, ◌∙◌, ap, subst, arith}
+use Rattle.std.proofs.Common.{◌≡◌, ℕ, ◌<◌, Bool, true, false, cond, nat_eq, inl, inr, List, [], length, take, ◌+◌, ◌*◌, refl, sym, ◌∙◌, ap, subst, arith}
 use Rattle.std.proofs.lemmas.Bool.{cases_eq, ne_eqb, false≢true}
 use Rattle.std.proofs.lemmas.List.{nil_from_length}
 use Rattle.std.proofs.lemmas.Nat.Bits.{bit_at-zero}
@@ -10,11 +10,9 @@ use Rattle.row_bytes.specs.declared.ballot.Ballot.{Ballot}
 use Rattle.array_image.specs.Image.{data_of}
 use Rattle.commit_queue.specs.Between.{IsAtRest}
 use Rattle.coordinator.specs.declared.cells.Cells.{Cells}
-use Rattle.coordinator.specs.Commits.{IsMaskOf, takes_part}
-use Rattle.coordinator.specs.Costs.{commit_calls, decide_calls, write_back_calls}
 use Rattle.late_commits.specs.declared.queue.LateCommits.{LateCommits}
-use Rattle.late_commits.specs.Costs.{calls_back, late_calls}
-use Rattle.late_commits.specs.Orders.{IsFree, due_for_place}
+use Rattle.late_commits.specs.Costs.{calls_back}
+use Rattle.late_commits.specs.Orders.{due_for}
 use Rattle.late_commits.specs.Waiting.{AreWaiting, commits_of, data_with}
 use Rattle.late_commits.proofs.Waiting.{data_in}
 use Rattle.array_shape.specs.Logged.{ranges_of}
@@ -26,14 +24,11 @@ use Rattle.late_data.specs.declared.commits.LateData.{LateData}
 use Rattle.late_data.specs.Tied.{IsTied}
 use Rattle.eaw_device.specs.declared.log.Log.{Log}
 use Rattle.eaw_device.specs.Sound.{IsAtOnce, IsBefore, IsClean}
-use Rattle.eaw_device.proofs.Grouping.{none_takes}
+use Rattle.eaw_device.specs.Costs.{back_cost, commit_cost, group_of, loggers_with, place_cost}
 
 module _ (shape : Shape) (late : LateCommits) (once : IsAtOnce shape late) where
   pub none_waiting : late.ballots.items ≡ []
   none_waiting = nil_from_length late.ballots.items (omega (arith, once.fit.few, once.none_waits))
-
-  pub all_free : (t : ℕ) → IsFree t late.ballots.items
-  all_free t k b lt = absurd (omega (arith, ap (λ (bs : List Ballot). length bs) none_waiting, lt))
 
   pub clean_waiting : (content : Content) → IsClean shape content → AreWaiting shape late content
   clean_waiting content clean = subst (λ (bs : List Ballot). IsAtRest shape (commits_of shape content.bytes late.cells bs) (data_of shape content.bytes) content) (sym none_waiting) clean
@@ -45,7 +40,7 @@ module _ (shape : Shape) (late : LateCommits) (once : IsAtOnce shape late) where
   data_alone image = ap (λ (bs : List Ballot). data_in shape late.cells bs image) none_waiting
 
   -- a commit writes nothing else back, and makes no place
-  once_cost : (ts : List ℕ) (ranges : List (ℕ × ℕ)) → commit_cost shape late ts ranges ≡ cond (nat_eq (length ranges) 0) 0 (3 * (length ts * loggers_with shape ranges) + 2 * length ranges + 4)
+  once_cost : (ts : List ℕ) (ranges : List (ℕ × ℕ)) → commit_cost shape late ts ranges ≡ cond (nat_eq (length ranges) 0) 0 (0 + (3 * (length ts * loggers_with shape ranges) + 2 * length ranges + 4))
   once_cost ts ranges =
       let group = group_of ts in
       let back : back_cost shape late group ≡ 0 = ap (λ (bs : List Ballot). calls_back shape late.cells (take (due_for group bs) bs)) none_waiting in

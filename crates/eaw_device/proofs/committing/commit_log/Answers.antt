@@ -1,4 +1,4 @@
-use Rattle.std.proofs.Common.{◌≡◌, ℕ, ◌+◌, ◌*◌, ◌^◌, ◌%◌, ◌-◌, ◌<◌, ◌≤◌, true, false, ◌&&◌, nat_lt, List, [], ◌∷◌, length, take, drop, refl, sym, ◌∙◌, ap, subst, arith}
+use Rattle.std.proofs.Common.{◌≡◌, ℕ, ◌*◌, ◌^◌, ◌%◌, ◌-◌, ◌<◌, ◌≤◌, true, false, List, [], ◌∷◌, length, take, drop, refl, sym, ◌∙◌, ap, subst, arith}
 use Rattle.std.specs.Prelude.{IsTrue, slice_index}
 use Rattle.std.proofs.lemmas.Bool.{false≢true}
 use Rattle.std.proofs.lemmas.List.{drop_all, length-drop}
@@ -7,11 +7,10 @@ use Rattle.array_shape.specs.declared.shape.Shape.{Shape}
 use Rattle.array_shape.specs.Logged.{Part, applied}
 use Rattle.array_shape.specs.NumberSet.{has}
 use Rattle.coordinator.specs.declared.cells.Cells.{Cells}
-use Rattle.coordinator.specs.Commits.{AreThere, cells_in, parts_named}
+use Rattle.coordinator.specs.Commits.{cells_in, parts_named}
 use Rattle.deferred_parts.specs.declared.entry.Entry.{Entry}
 use Rattle.deferred_parts.specs.Entries.{cells_on, ranges_in, parts_in}
 use Rattle.deferred_parts.specs.Shown.{entries_of}
-use Rattle.deferred_parts.specs.Turns.{has_some}
 use Rattle.late_commits.specs.Orders.{IsFree, due_for}
 use Rattle.late_commits.specs.Waiting.{data_with}
 use Rattle.late_data.proofs.Composing.{back_fails, commits_after, commits_as, commits_none}
