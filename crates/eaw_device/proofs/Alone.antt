@@ -4,8 +4,6 @@ use Rattle.std.specs.Prelude.{nat_lt, slice_index}
 use Rattle.std.specs.List.{range_with_len}
 use Rattle.std.specs.Int.{bit_at}
 use Rattle.std.proofs.lemmas.Bool.{cases_eq, cases_lt, eq-eqb, ne_eqb, eqb-true, lt-ltb, le-ltb, false≢true}
-use Rattle.std.proofs.lemmas.List.{drop_all}
-use Rattle.eaw_device.proofs.Entries.{length-ranges_in}
 use Rattle.std.proofs.lemmas.Nat.Bits.{bit_at-pow_same, bit_at-pow_other}
 use Rattle.std.proofs.lemmas.Nat.{one_shl}
 use Rattle.std.proofs.Math.Pow.{pow-lt}
@@ -24,9 +22,9 @@ use Rattle.eaw_device.specs.declared.log.Log.{Log}
 use Rattle.eaw_device.specs.Logs.{IsKept, IsHeld}
 use Rattle.deferred_parts.specs.Entries.{ranges_in, parts_in, cells_on}
 use Rattle.eaw_device.specs.Costs.{loggers_with}
-use Rattle.eaw_device.specs.Groups.{cell_parts, group_parts, HaveCells, HaveEntries, HaveParts, group_count}
+use Rattle.eaw_device.specs.Groups.{HaveCells, HaveEntries, HaveParts, group_count}
 use Rattle.eaw_device.proofs.Costing.{behind, ranges_counted}
-use Rattle.eaw_device.proofs.Grouping.{group_rows, total_same, total_zero, total_one, any_none, any_some, lists_in_turn}
+use Rattle.eaw_device.proofs.Grouping.{cell_parts, group_parts, group_rows, total_same, total_zero, total_one, any_none, any_some, lists_in_turn}
 use Rattle.eaw_device.proofs.Keeping.{last_cells}
 use Rattle.eaw_device.proofs.LogParts.{first_at, count_at, few, named_good, named_here, named_placed}
 

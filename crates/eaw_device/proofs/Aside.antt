@@ -28,9 +28,6 @@ nothing : (a b : Bool) → (a && (false && b)) ≡ false
 nothing true b = refl
 nothing false b = refl
 
-pub below_none : (group : ℕ) (may : Bool) (t : ℕ) → false ≡ (may && below group 0 t)
-below_none group may t = sym (nothing may (has group t)) ∙ ap (λ (b : Bool). may && (b && has group t)) (sym (le-ltb t 0 (omega arith)))
-
 -- the next number is not below itself
 pub not_below : (group : ℕ) (may : Bool) (k : ℕ) → (may && below group k k) ≡ false
 not_below group may k = ap (λ (b : Bool). may && (b && has group k)) (le-ltb k k (omega arith)) ∙ nothing may (has group k)
@@ -41,22 +38,12 @@ one_more k t ne = elim (cases_lt t k) [
   | inr ge ↦ le-ltb t k (omega (arith, ge)) ∙ sym (le-ltb t (k + 1) (omega (arith, ge, ne)))
 ]
 
--- it is in the group, or it is not
+-- once it is in
 pub below_next : (group k : ℕ) → has group k ≡ true → (t : ℕ) → (nat_eq t k || below group k t) ≡ below group (k + 1) t
 below_next group k on t = elim (cases_eq t k) [
   | inl is ↦ (λ i. eq-eqb t k is i || below group k t) ∙ sym (λ i. lt-ltb t (k + 1) (omega (arith, is)) i && (ap (has group) is ∙ on) i)
   | inr ne ↦ (λ i. ne_eqb t k ne i || below group k t) ∙ ap (λ (b : Bool). b && has group t) (one_more k t ne)
 ]
-
-pub below_skip : (group k : ℕ) → has group k ≡ false → (t : ℕ) → below group k t ≡ below group (k + 1) t
-below_skip group k off t = elim (cases_eq t k) [
-  | inl is ↦ (let out = ap (has group) is ∙ off in (λ i. nat_lt t k && out i) ∙ neither (nat_lt t k) ∙ sym (neither (nat_lt t (k + 1))) ∙ sym (λ i. nat_lt t (k + 1) && out i))
-  | inr ne ↦ ap (λ (b : Bool). b && has group t) (one_more k t ne)
-]
-  where
-    neither : (b : Bool) → (b && false) ≡ false
-    neither true = refl
-    neither false = refl
 
 -- one number alone
 none_also : (b : Bool) → (b && false) ≡ false

@@ -15,7 +15,8 @@ use Rattle.eaw_face.specs.State.{listed, count_on}
 use Rattle.eaw_device.specs.declared.log.Log.{Log}
 use Rattle.eaw_device.specs.Logs.{IsKept, IsHeld, entries_of, ranges_logged, parts_logged}
 use Rattle.deferred_parts.specs.Entries.{ranges_in, parts_in}
-use Rattle.eaw_device.specs.Groups.{group_parts, HaveCells, HaveParts}
+use Rattle.eaw_device.specs.Groups.{HaveCells, HaveParts}
+use Rattle.eaw_device.proofs.Grouping.{group_parts}
 use Rattle.eaw_device.proofs.Costing.{behind}
 use Rattle.eaw_device.proofs.Entries.{length-ranges_in}
 use Rattle.eaw_device.proofs.LogParts.{named_here, named_placed}

@@ -2,10 +2,8 @@
 use Rattle.std.proofs.Common.{◌≡◌, ◌≢◌, ℕ, zero, suc, ◌+◌, ◌*◌, ◌^◌, ◌<◌, Bool, true, false, not, cond, ◌&&◌, nat_eq, inl, inr, ⊎_elim, List, [], length, refl, sym, ◌∙◌, ap, subst, arith}
 use Rattle.std.specs.Prelude.{nat_lt}
 use Rattle.std.specs.List.{range_with_len}
-use Rattle.std.specs.Int.{bit_at}
-use Rattle.std.proofs.lemmas.Bool.{and_parts, cases_Bool, cases_eq, eq-eqb, ne_eqb, eqb-false, lt-ltb, false≢true}
-use Rattle.std.proofs.lemmas.Nat.{pow_pos}
-use Rattle.std.proofs.lemmas.Nat.Bits.{bit_at-lt, bit_at-zero, same_from_bits_below}
+use Rattle.std.proofs.lemmas.Bool.{and_parts, cases_Bool, cases_eq, ne_eqb, lt-ltb, false≢true}
+use Rattle.std.proofs.lemmas.Nat.Bits.{bit_at-zero}
 use Rattle.std.proofs.lemmas.List.FromFn.{sum_by-map-range_with_len_more}
 use Rattle.array_shape.specs.declared.shape.Shape.{Shape}
 use Rattle.array_shape.specs.Places.{media_len, data_len}
@@ -26,7 +24,15 @@ use Rattle.coordinator.specs.Commits.{cells_in, takes_part, parts_named, IsMaskO
 use Rattle.coordinator.specs.Costs.{total, decide_calls, write_back_calls, commit_calls}
 use Rattle.deferred_parts.specs.declared.entry.Entry.{Entry}
 use Rattle.late_data.specs.Tied.{HasNamed}
-use Rattle.eaw_device.specs.Groups.{cell_parts, group_parts, HaveCells, HaveEntries, HaveParts, group_count}
+use Rattle.eaw_device.specs.Groups.{HaveCells, HaveEntries, HaveParts, group_count}
+
+-- the parts in the cells of number t at logger g, if the group has the number
+abbrev pub cell_parts : Shape → List ℕ → ℕ → List Cells → ℕ → ℕ → List Part
+cell_parts shape image group cells t g = cond (has group t) (parts_from shape image g t (cells_in cells g t).first (cells_in cells g t).count) []
+
+-- those of all numbers and loggers, by rising number, then logger
+abbrev pub group_parts : Shape → List ℕ → ℕ → List Cells → List Part
+group_parts shape image group cells = joined (λ t. joined (cell_parts shape image group cells t) 0 shape.loggers) 0 shape.numbers
 
 -- how many rows the commit of a group has: one for each number at each logger at which one of them has a cell
 abbrev pub group_rows : Shape → ℕ → List Cells → ℕ
@@ -88,19 +94,6 @@ module _ (shape : Shape) (group : ℕ) (cells : List Cells) (ballot : Ballot) (g
   -- at a logger that takes no part no number has a cell
   pub no_cell : (g t : ℕ) → g < shape.loggers → t < shape.numbers → has group t ≡ true → has ballot.mask g ≡ false → (cells_in cells g t).count ≡ 0
   no_cell g t lt lt' so away = no_more (has group t) (cells_in cells g t).count so (none_at shape.numbers (λ u. has group u && nat_lt 0 (cells_in cells g u).count) (sym (is.is g lt) ∙ away) t lt')
-
-  -- if no number has a cell, no logger takes part
-  pub none_takes : ((g t : ℕ) → g < shape.loggers → t < shape.numbers → has group t ≡ true → (cells_in cells g t).count ≡ 0) → ballot.mask ≡ 0
-  none_takes none = same_from_bits_below shape.loggers ballot.mask 0 is.small (pow_pos shape.loggers) (λ g lt.
-      let off = eqb-false (bit_at ballot.mask g) 1 (is.is g lt ∙ nobody g lt) in
-      omega (arith, bit_at-lt ballot.mask g, bit_at-zero g, off))
-    where
-      one : (g t : ℕ) → g < shape.loggers → t < shape.numbers → (b : Bool) → has group t ≡ b → (b && nat_lt 0 (cells_in cells g t).count) ≡ false
-      one g t lt lt' true so = ap (nat_lt 0) (none g t lt lt' so)
-      one g t lt lt' false so = refl
-
-      nobody : (g : ℕ) → g < shape.loggers → takes_part shape cells group g ≡ false
-      nobody g lt = any_none shape.numbers (λ t. has group t && nat_lt 0 (cells_in cells g t).count) (λ t lt'. one g t lt lt' (has group t) refl)
 
   named_here : (image : List ℕ) (g t : ℕ) → g < shape.loggers → t < shape.numbers → (takes in_group : Bool) → has ballot.mask g ≡ takes → has group t ≡ in_group
       → cond (takes && in_group) (parts_from shape image g t (cells_in cells g t).first (cells_in cells g t).count) [] ≡ cond in_group (parts_from shape image g t (cells_in cells g t).first (cells_in cells g t).count) []

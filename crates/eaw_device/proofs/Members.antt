@@ -1,5 +1,5 @@
 -- The commit of several logs at once: what it writes, and what it costs.
-use Rattle.std.proofs.Common.{◌≡◌, ℕ, zero, suc, ◌+◌, ◌*◌, ◌-◌, ◌<◌, ◌≤◌, min, Bool, true, false, cond, ◌&&◌, nat_eq, inl, inr, List, [], ◌∷◌, ◌++◌, length, refl, sym, ◌∙◌, ap, arith}
+use Rattle.std.proofs.Common.{◌≡◌, ℕ, zero, suc, ◌+◌, ◌*◌, ◌-◌, ◌<◌, ◌≤◌, min, Bool, true, false, cond, ◌&&◌, inl, inr, List, [], ◌∷◌, ◌++◌, length, refl, sym, ◌∙◌, ap, arith}
 use Rattle.std.specs.Prelude.{nat_lt, flat_map, filter}
 use Rattle.std.proofs.lemmas.Bool.{cases_Bool, cases_eq, cases_lt, lt-ltb, false≢true}
 use Rattle.std.proofs.lemmas.List.{length-append, nil_from_length}
@@ -17,12 +17,12 @@ use Rattle.coordinator.specs.Commits.{cells_in, takes_part}
 use Rattle.coordinator.specs.Costs.{total}
 use Rattle.eaw_face.specs.State.{is_range_on, count_on}
 use Rattle.eaw_device.specs.Costs.{loggers_with}
-use Rattle.eaw_device.specs.Groups.{group_parts, HaveCells, HaveParts, group_count}
+use Rattle.eaw_device.specs.Groups.{HaveCells, HaveParts, group_count}
 use Rattle.eaw_device.proofs.Alone.{one_if, some_or_none}
 use Rattle.array_shape.proofs.Sets.{none_has}
 use Rattle.eaw_device.proofs.Costing.{ranges_counted}
 use Rattle.eaw_device.proofs.GroupBits.{same_bits}
-use Rattle.eaw_device.proofs.Grouping.{group_rows, total_more, total_same, total_zero, total_none, any_none, none_at, lists_in_turn}
+use Rattle.eaw_device.proofs.Grouping.{group_parts, group_rows, total_more, total_same, total_zero, total_none, any_none, none_at, lists_in_turn}
 
 -- lists of the numbers of a set, joined
 picked : {A : Type 0} (bits : ℕ) (f : ℕ → List A) (k n : ℕ) → joined (λ u. cond (has bits u) (f u) []) k n ≡ flat_map f (numbers_from bits k n)
@@ -116,7 +116,7 @@ module _ (shape : Shape) (bits group : ℕ) (ranges : ℕ → List (ℕ × ℕ))
     | inl lt ↦ elim (cases_Bool (has group u)) [
       | inl on ↦
           let its_len : length (ranges u) ≡ 0 = sym (ap (λ (b : Bool). length (cond b (ranges u) [])) on)
-              ∙ total_none (λ v. length (cond (has group v) (ranges v) [])) shape.numbers (total_joined (λ v. cond (has group v) (ranges v) []) shape.numbers ∙ ap length (gathered ranges (λ v empty. empty)) ∙ none) u lt in
+          ∙ total_none (λ v. length (cond (has group v) (ranges v) [])) shape.numbers (total_joined (λ v. cond (has group v) (ranges v) []) shape.numbers ∙ ap length (gathered ranges (λ v empty. empty)) ∙ none) u lt in
           absurd (false≢true (sym (is u lt ∙ ap (λ (k : ℕ). has bits u && nat_lt 0 k) its_len ∙ off (has bits u)) ∙ on))
       | inr out ↦ out
     ]

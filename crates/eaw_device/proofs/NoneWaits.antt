@@ -1,15 +1,12 @@
 -- A queue of which no commit may wait: what waits is nothing, and one more is written back at once.
-use Rattle.std.proofs.Common.{◌≡◌, ℕ, ◌<◌, Bool, true, false, cond, nat_eq, inl, inr, List, [], length, take, ◌+◌, ◌*◌, refl, sym, ◌∙◌, ap, subst, arith}
-use Rattle.std.proofs.lemmas.Bool.{cases_eq, ne_eqb, false≢true}
+use Rattle.std.proofs.Common.{◌≡◌, ℕ, false, cond, nat_eq, List, [], length, take, ◌+◌, ◌*◌, refl, sym, ◌∙◌, ap, subst, arith}
+use Rattle.std.proofs.lemmas.Bool.{false≢true}
 use Rattle.std.proofs.lemmas.List.{nil_from_length}
-use Rattle.std.proofs.lemmas.Nat.Bits.{bit_at-zero}
 use Rattle.pcm_media.specs.Images.{Content}
 use Rattle.array_shape.specs.declared.shape.Shape.{Shape}
-use Rattle.array_shape.specs.NumberSet.{has}
 use Rattle.row_bytes.specs.declared.ballot.Ballot.{Ballot}
 use Rattle.array_image.specs.Image.{data_of}
 use Rattle.commit_queue.specs.Between.{IsAtRest}
-use Rattle.coordinator.specs.declared.cells.Cells.{Cells}
 use Rattle.late_commits.specs.declared.queue.LateCommits.{LateCommits}
 use Rattle.late_commits.specs.Costs.{calls_back}
 use Rattle.late_commits.specs.Orders.{due_for}

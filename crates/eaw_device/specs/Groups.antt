@@ -1,12 +1,10 @@
 -- What a table of cells names for the numbers of a group, which are committed at once.
-use Rattle.std.specs.Prelude.{ℕ, ◌≡◌, ◌+◌, ◌<◌, ◌≤◌, Bool, true, if◌then◌else◌, List, [], Result}
+use Rattle.std.specs.Prelude.{ℕ, ◌≡◌, ◌+◌, ◌<◌, ◌≤◌, Bool, true, if◌then◌else◌, List, Result}
 use Rattle.std.specs.List.{range_with_len}
 use Rattle.pcm_media.specs.View.{View}
 use Rattle.array_shape.specs.declared.shape.Shape.{Shape}
-use Rattle.array_shape.specs.Logged.{Part}
 use Rattle.array_shape.specs.NumberSet.{has}
-use Rattle.array_image.specs.Joined.{joined}
-use Rattle.array_image.specs.Image.{cell_of, parts_from, IsGoodCell}
+use Rattle.array_image.specs.Image.{cell_of, IsGoodCell}
 use Rattle.coordinator.specs.declared.cells.Cells.{Cells}
 use Rattle.row_bytes.specs.declared.ballot.Ballot.{Ballot}
 use Rattle.coordinator.specs.Commits.{IsMaskOf, cells_in, takes_part}
@@ -15,14 +13,6 @@ use Rattle.deferred_parts.specs.declared.entry.Entry.{Entry}
 use Rattle.deferred_parts.specs.Entries.{cells_on}
 use Rattle.late_commits.specs.declared.queue.LateCommits.{LateCommits}
 use Rattle.late_commits.specs.Steps.{CommitsOne}
-
--- the parts in the cells of number t at logger g, if the group has the number
-abbrev pub cell_parts : Shape → List ℕ → ℕ → List Cells → ℕ → ℕ → List Part
-cell_parts shape image group cells t g = if has group t then parts_from shape image g t (cells_in cells g t).first (cells_in cells g t).count else []
-
--- those of all numbers and loggers, by rising number, then logger
-abbrev pub group_parts : Shape → List ℕ → ℕ → List Cells → List Part
-group_parts shape image group cells = joined (λ t. joined (cell_parts shape image group cells t) 0 shape.loggers) 0 shape.numbers
 
 -- the cells of a group's numbers exist
 abbrev pub HaveCells : Shape → ℕ → List Cells → Type 0

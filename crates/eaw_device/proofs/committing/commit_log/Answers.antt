@@ -17,7 +17,7 @@ use Rattle.late_data.proofs.Composing.{back_fails, commits_after, commits_as, co
 use Rattle.late_data.proofs.Tying.{free_lacks}
 use Rattle.row_bytes.specs.declared.ballot.Ballot.{Ballot}
 use Rattle.eaw_device.specs.Costs.{commit_cost, joining_cost}
-use Rattle.eaw_device.specs.Groups.{HaveCells, HaveEntries, HaveParts, group_count, group_parts}
+use Rattle.eaw_device.specs.Groups.{HaveCells, HaveEntries, HaveParts, group_count}
 use Rattle.eaw_device.specs.Laws.{length-waiting}
 use Rattle.eaw_device.specs.declared.log.Log.{Log}
 use Rattle.eaw_device.specs.Logs.{IsKept}
@@ -26,7 +26,7 @@ use Rattle.eaw_device.proofs.Aside.{alone_aside, kept_before, none_aside}
 use Rattle.eaw_device.proofs.Cutting.{before_first}
 use Rattle.eaw_device.proofs.Entries.{length-ranges_in}
 use Rattle.eaw_device.proofs.GroupBits.{group_of_one}
-use Rattle.eaw_device.proofs.Grouping.{are_there, group_rows, named_same}
+use Rattle.eaw_device.proofs.Grouping.{group_parts, are_there, group_rows, named_same}
 use Rattle.eaw_device.proofs.JoiningCost.{back_part, no_cost, whole_cost}
 use Rattle.eaw_device.proofs.Keeping.{length-cells_on_kept}
 use Rattle.eaw_device.proofs.LogParts.{parts_in-drop}

@@ -1,4 +1,4 @@
-use Rattle.std.proofs.Common.{ℕ, List, [], ◌∷◌, length, refl, ◌∙◌, subst, arith}
+use Rattle.std.proofs.Common.{ℕ, [], ◌∷◌, length, refl, ◌∙◌, subst, arith}
 use Rattle.std.proofs.lemmas.Result.{err_from_is_err_and}
 use Rattle.mars_base.specs.Costs.{Costs}
 use Rattle.mars_base.proofs.Costing.{none_yet, costs_more, costs_then}
