@@ -28,5 +28,7 @@ pub mod Looks
 pub mod Edits
 pub mod OpenedLemmas
 pub mod NoneWaits
-pub mod CommitCells
+pub mod GroupBits
+pub mod JoiningCost
+pub mod Aside
 pub mod Quiet

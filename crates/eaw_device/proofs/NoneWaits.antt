@@ -1,20 +1,15 @@
 -- A queue of which no commit may wait: what waits is nothing, and one more is written back at once.
-use Rattle.std.proofs.Common.{◌≡◌, ℕ, ◌<◌, Bool, true, false, cond, nat_eq, inl, inr, List, [], length, take, ◌+◌, refl, sym, ◌∙◌, ap, subst, arith}
-use Rattle.std.proofs.lemmas.Bool.{cases_eq, ne_eqb, false≢true}
+use Rattle.std.proofs.Common.{◌≡◌, ℕ, false, cond, nat_eq, List, [], length, take, ◌+◌, ◌*◌, refl, sym, ◌∙◌, ap, subst, arith}
+use Rattle.std.proofs.lemmas.Bool.{false≢true}
 use Rattle.std.proofs.lemmas.List.{nil_from_length}
-use Rattle.std.proofs.lemmas.Nat.Bits.{bit_at-zero}
 use Rattle.pcm_media.specs.Images.{Content}
 use Rattle.array_shape.specs.declared.shape.Shape.{Shape}
-use Rattle.array_shape.specs.NumberSet.{has}
 use Rattle.row_bytes.specs.declared.ballot.Ballot.{Ballot}
 use Rattle.array_image.specs.Image.{data_of}
 use Rattle.commit_queue.specs.Between.{IsAtRest}
-use Rattle.coordinator.specs.declared.cells.Cells.{Cells}
-use Rattle.coordinator.specs.Commits.{IsMaskOf, takes_part}
-use Rattle.coordinator.specs.Costs.{commit_calls, decide_calls, write_back_calls}
 use Rattle.late_commits.specs.declared.queue.LateCommits.{LateCommits}
-use Rattle.late_commits.specs.Costs.{calls_back, late_calls}
-use Rattle.late_commits.specs.Orders.{IsFree, due_for_place}
+use Rattle.late_commits.specs.Costs.{calls_back}
+use Rattle.late_commits.specs.Orders.{due_for}
 use Rattle.late_commits.specs.Waiting.{AreWaiting, commits_of, data_with}
 use Rattle.late_commits.proofs.Waiting.{data_in}
 use Rattle.array_shape.specs.Logged.{ranges_of}
@@ -26,14 +21,11 @@ use Rattle.late_data.specs.declared.commits.LateData.{LateData}
 use Rattle.late_data.specs.Tied.{IsTied}
 use Rattle.eaw_device.specs.declared.log.Log.{Log}
 use Rattle.eaw_device.specs.Sound.{IsAtOnce, IsBefore, IsClean}
-use Rattle.eaw_device.proofs.Grouping.{none_takes}
+use Rattle.eaw_device.specs.Costs.{back_cost, commit_cost, group_of, loggers_with, place_cost}
 
 module _ (shape : Shape) (late : LateCommits) (once : IsAtOnce shape late) where
   pub none_waiting : late.ballots.items ≡ []
   none_waiting = nil_from_length late.ballots.items (omega (arith, once.fit.few, once.none_waits))
-
-  pub all_free : (t : ℕ) → IsFree t late.ballots.items
-  all_free t k b lt = absurd (omega (arith, ap (λ (bs : List Ballot). length bs) none_waiting, lt))
 
   pub clean_waiting : (content : Content) → IsClean shape content → AreWaiting shape late content
   clean_waiting content clean = subst (λ (bs : List Ballot). IsAtRest shape (commits_of shape content.bytes late.cells bs) (data_of shape content.bytes) content) (sym none_waiting) clean
@@ -44,18 +36,16 @@ module _ (shape : Shape) (late : LateCommits) (once : IsAtOnce shape late) where
   pub data_alone : (image : List ℕ) → data_with shape late image ≡ data_of shape image
   data_alone image = ap (λ (bs : List Ballot). data_in shape late.cells bs image) none_waiting
 
-  -- one more costs what a commit costs
-  pub calls_at_once : (ballot : Ballot) → late_calls shape late.depth late.ballots.items ballot late.cells ≡ commit_calls shape ballot late.cells
-  calls_at_once ballot =
-      ap (λ (d : ℕ). cond (nat_eq ballot.mask 0) 0 (cond (nat_eq d 0) (commit_calls shape ballot late.cells) later)) once.none_waits
-      ∙ by (nat_eq ballot.mask 0) refl
-    where
-      later : ℕ
-      later = calls_back shape late.cells (take (due_for_place late.depth late.ballots.items) late.ballots.items) + decide_calls shape ballot
+  -- a commit writes nothing else back, and makes no place
+  once_cost : (ts : List ℕ) (ranges : List (ℕ × ℕ)) → commit_cost shape late ts ranges ≡ cond (nat_eq (length ranges) 0) 0 (0 + (3 * (length ts * loggers_with shape ranges) + 2 * length ranges + 4))
+  once_cost ts ranges =
+      let group = group_of ts in
+      let back : back_cost shape late group ≡ 0 = ap (λ (bs : List Ballot). calls_back shape late.cells (take (due_for group bs) bs)) none_waiting in
+      (λ i. cond (nat_eq (length ranges) 0) 0 (back i + cond (nat_eq (once.none_waits i) 0) (3 * (length ts * loggers_with shape ranges) + 2 * length ranges + 4) (place_cost shape late group + (2 * (length ts * loggers_with shape ranges) + 2))))
 
-      by : (b : Bool) → nat_eq ballot.mask 0 ≡ b → cond b 0 (commit_calls shape ballot late.cells) ≡ commit_calls shape ballot late.cells
-      by true is = sym (ap (λ (b : Bool). cond b 0 (decide_calls shape ballot + write_back_calls shape ballot late.cells)) is)
-      by false is = refl
+-- so it is in each such queue
+pub same_cost : (shape : Shape) (a b : LateCommits) → IsAtOnce shape a → IsAtOnce shape b → (ts : List ℕ) (ranges : List (ℕ × ℕ)) → commit_cost shape a ts ranges ≡ commit_cost shape b ts ranges
+same_cost shape a b one two ts ranges = once_cost shape a one ts ranges ∙ sym (once_cost shape b two ts ranges)
 
 -- the cells of any log come before those of none, and no entry is kept
 pub once_before : (shape : Shape) (queue : LateCommits) → IsAtOnce shape queue → (t : ℕ) (log : Log) → IsBefore shape queue t log
@@ -68,13 +58,3 @@ once_held shape late once tied image t lt =
 
 pub once_free : (shape : Shape) (queue : LateCommits) → IsAtOnce shape queue → (t : ℕ) → has_some queue.ballots.items t ≡ false
 once_free shape queue once t = ap (λ (bs : List Ballot). has_some bs t) (none_waiting shape queue once)
-
--- a group of which some logger takes part has a number
-pub some_number : (shape : Shape) (group : ℕ) (cells : List Cells) (ballot : Ballot) → ballot.group ≡ group → IsMaskOf shape.loggers (takes_part shape cells group) ballot.mask → 0 < ballot.mask → 0 < ballot.group
-some_number shape group cells ballot group_is is some = elim (cases_eq group 0) [
-  | inl zero_is ↦ absurd (let none = none_takes shape group cells ballot group_is is (λ g t lt lt' so. absurd (false≢true (sym (none_has t) ∙ ap (λ (k : ℕ). has k t) (sym zero_is) ∙ so))) in omega (arith, none, some))
-  | inr ne ↦ omega (arith, ne, group_is)
-]
-  where
-    none_has : (t : ℕ) → has 0 t ≡ false
-    none_has t = ne_eqb _ 1 (λ one. omega (arith, one, bit_at-zero t))

@@ -1,4 +1,4 @@
-use Rattle.std.proofs.Common.{ℕ, List, length, refl, subst, arith}
+use Rattle.std.proofs.Common.{ℕ, [], ◌∷◌, length, refl, ◌∙◌, subst, arith}
 use Rattle.std.proofs.lemmas.Result.{err_from_is_err_and}
 use Rattle.mars_base.specs.Costs.{Costs}
 use Rattle.mars_base.proofs.Costing.{none_yet, costs_more, costs_then}
@@ -10,7 +10,8 @@ use Rattle.eaw_device.specs.Laws.{length-shown}
 use Rattle.eaw_device.specs.Opens.{Opens}
 use Rattle.eaw_device.specs.Logs.{entries_at}
 use Rattle.deferred_parts.specs.Entries.{ranges_in, parts_in}
-use Rattle.eaw_device.specs.Sound.{view_of}
+use Rattle.eaw_device.specs.Sound.{IsAtOnce, view_of}
+use Rattle.eaw_device.proofs.NoneWaits.{same_cost}
 use Rattle.eaw_device.proofs.Atomic.{write_fails, atomic, mid_alive, mid_live, mid_ranges, commit_fails, media_alone, none_ranges}
 use Rattle.eaw_device.proofs.device.EawEawStore.atomic_write.Goals as goal
 
@@ -67,6 +68,8 @@ returns-clause-costs g c =
     c.args.tid c.args.addr c.args.bytes.now c.requires.free
     (λ told fine. none_ranges ranges_in (parts_in s.shape (m.view s.media).content.bytes c.args.tid) (entries_at s.logs.items c.args.tid) c.requires.free)
     (λ told. omega (arith, c.requires.inside, length-shown m.tells (m.view s.media) s.shape s.logs.items s.late s.is_dead s.sound told)) c.in_ok-log_write.field-0 wrote in
-    costs_then m.tells _ (length parts) (commit_cost s.shape 1 (ranges_of parts)) _ _ _ c.commit.result refl
+    costs_then m.tells _ (length parts) (commit_cost s.shape s.late.queue (c.args.tid ∷ []) (ranges_of parts)) _ _ _ c.commit.result refl
     (costs_more m.tells (length parts) 0 (length parts) _ _ _ _ (omega arith) (none_yet m.tells 0 _ refl) c.in_ok-log_write.ensures.costs)
-    (subst (λ (p : Shape × List (ℕ × ℕ)). Costs m.tells (commit_cost p.0 1 p.1) (m.view mid.media).moment (m.view last.media).moment c.commit.result) (λ i. (wrote.shape i, ranges i)) c.commit.ensures.costs)
+    (subst (λ (n : ℕ). Costs m.tells n (m.view mid.media).moment (m.view last.media).moment c.commit.result)
+    ((λ i. commit_cost (wrote.shape i) mid.late.queue (c.args.tid ∷ []) (ranges i))
+    ∙ same_cost s.shape mid.late.queue s.late.queue (subst (λ (shape : Shape). IsAtOnce shape mid.late.queue) wrote.shape mid.at_once) s.at_once (c.args.tid ∷ []) (ranges_of parts)) c.commit.ensures.costs)
