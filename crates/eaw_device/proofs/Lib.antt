@@ -26,6 +26,7 @@ pub mod Writes
 pub mod Atomic
 pub mod Looks
 pub mod Edits
+pub mod Empty
 pub mod OpenedLemmas
 pub mod NoneWaits
 pub mod CommitCells
