@@ -1,6 +1,5 @@
 -- A queue in which no commit waits.
-use Rattle.std.proofs.Common.{◌≡◌, ℕ, false, List, [], length, sym, ◌∙◌, ap, subst, arith}
-use Rattle.std.specs.Prelude.{IsFalse}
+use Rattle.std.proofs.Common.{◌≡◌, ℕ, List, [], sym, ◌∙◌, ap, subst, arith}
 use Rattle.std.proofs.lemmas.Bool.{false≢true}
 use Rattle.std.proofs.lemmas.List.{nil_from_length}
 use Rattle.pcm_media.specs.Images.{Content}

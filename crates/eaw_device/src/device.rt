@@ -1,5 +1,5 @@
 // The commands, over all loggers.
-ghost use Rattle.std.specs.Prelude.{◌≡◌, ◌≢◌, ◌+◌, ◌^◌, ◌≤◌, ◌<◌, ℕ, true, drop, false, None, IsTrue, IfOk, IfErr, OnOk, length};
+ghost use Rattle.std.specs.Prelude.{◌≡◌, ◌≢◌, ◌+◌, ◌^◌, ◌≤◌, ◌<◌, ℕ, true, drop, false, None, IsTrue, IsFalse, IfOk, IfErr, OnOk, length};
 ghost use Rattle.mars_base.specs.Costs.{Costs};
 ghost use Rattle.array_shape.specs.NumberSet.{has, members};
 ghost use Rattle.array_shape.specs.Parts.{parts_of_write};
@@ -14,7 +14,7 @@ ghost use Rattle.eaw_device.specs.Opens.{Attached, FindsData, AttachCause, Attac
 ghost use Rattle.eaw_device.specs.Steps.{IsQuiet, LogHasCells, RefusesWrite};
 ghost use Rattle.eaw_device.specs.Props.{IsSound-prop};
 ghost use Rattle.commit_queue.specs.Deferred.{deferred_orders};
-ghost use Rattle.eaw_device.specs.Sound.{IsAtOnce, IsSound, LacksLog, LacksGroup, deferred_of, view_of};
+ghost use Rattle.eaw_device.specs.Sound.{IsSound, LacksLog, LacksGroup, deferred_of, view_of};
 
 use crate::committing::{commit_log, commit_logs};
 use crate::fault::AttachFault;
@@ -39,7 +39,7 @@ pub struct Eaw<M: Media, W: WriteBack = AtOnce> {
     late: LateData,
     is_dead: bool,
     ghost sound: { IsSound M.tells (M.view media) shape logs.items late is_dead } by { IsSound-prop M.tells (M.view media) shape logs.items late is_dead },
-    ghost at_once: { IsAtOnce shape late.queue },
+    ghost depth: { late.queue.depth ≡ W.limit write_back },
 }
 
 impl<M: Media> Eaw<M, AtOnce> {
@@ -80,6 +80,7 @@ impl<M: Media> Eaw<M, Late> {
         ensures kept { IfErr result (λ e. e.0 ≢ AttachFault.Media → (M.view e.1).faults ≡ (M.view media).faults) }
         ensures within { IfErr result (λ e. OpensWithin M.tells (M.view media) (M.view e.1).moment) }
         ensures early { IfErr result (λ e. e.0 ≡ AttachFault.NoMemory → (M.view e.1).moment ≡ (M.view media).moment + 1) }
+        ensures limit { IfOk result (λ eaw. eaw.write_back.depth ≡ depth) }
     {
         Eaw::<M, Late>::attach_with(alloc, media, Late::new(depth))
     }
@@ -104,8 +105,9 @@ impl<M: Media, W: WriteBack> Eaw<M, W> {
         ensures kept { IfErr result (λ e. e.0 ≢ AttachFault.Media → (M.view e.1).faults ≡ (M.view media).faults) }
         ensures within { IfErr result (λ e. OpensWithin M.tells (M.view media) (M.view e.1).moment) }
         ensures early { IfErr result (λ e. e.0 ≡ AttachFault.NoMemory → (M.view e.1).moment ≡ (M.view media).moment + 1) }
+        ensures limit { IfOk result (λ eaw. eaw.write_back ≡ write_back) }
     {
-        match open_array(alloc, &mut media, 0) {
+        match open_array(alloc, &mut media, write_back.depth()) {
             Ok((shape, logs, late)) => Ok(Eaw {
                 write_back,
                 media,
@@ -121,7 +123,8 @@ impl<M: Media, W: WriteBack> Eaw<M, W> {
     /// How many commits wait for their write-back: as many as there are different order numbers above 0 among the decided rows.
     pub fn deferred(&self) -> u8
         ensures many { result ≡ deferred_of self.now.late }
-        ensures most { result ≤ self.now.late.queue.depth }
+        ensures most { result ≤ W.limit self.now.write_back }
+        ensures none { IsFalse W.defers → result ≡ 0 }
         ensures counted { IsTrue M.tells → self.now.is_dead ≡ false → result ≡ length (deferred_orders self.now.shape (M.view self.now.media).content.bytes) }
     {
         self.late.len() as u8
@@ -167,7 +170,7 @@ impl<M: Media, W: WriteBack> Eaw<M, W> {
         }
     }
 
-    // Logs a write, and leaves waiting what came in after the last commit of the number.
+    // Logs a write, once what waits of the number is written back.
     fn write_log(&mut self, tid: u8, addr: u64, bytes: &[u8]) -> Result<u32, EawFault>
         requires { addr + length bytes.now ≤ data_len self.old.shape }
         ensures does { Does M.tells (Opens self.old.shape) (log_write tid addr bytes.now) (view_of (M.view self.old.media) self.old.shape self.old.logs.items self.old.late self.old.is_dead)
@@ -256,6 +259,10 @@ impl<M: Media, W: WriteBack> EawStore for Eaw<M, W> {
     ghost view = { λ s. view_of (M.view s.media) s.shape s.logs.items s.late s.is_dead };
 
     ghost opens = { Opens };
+
+    ghost defers = { W.defers };
+
+    ghost waiting = { λ s. deferred_of s.late };
 
     ghost calls = { λ s command. calls_of command s.late (view_of (M.view s.media) s.shape s.logs.items s.late s.is_dead) };
 

@@ -42,11 +42,7 @@ pub(crate) fn open_array<M: Media>(
 }
 
 // A free log for each number, and the queue.
-fn free_tables(
-    alloc: Global,
-    shape: &Shape,
-    depth: u8,
-) -> Result<(Vec<Log>, LateData), NoMemory>
+fn free_tables(alloc: Global, shape: &Shape, depth: u8) -> Result<(Vec<Log>, LateData), NoMemory>
     ensures free { IfOk result (λ tables. AreFree shape.now tables.0.items) }
     ensures room { IfOk result (λ tables. vec_capacity tables.0 ≡ shape.now.numbers) }
     ensures late { IfOk result (λ tables. IsOpened shape.now depth tables.1) }

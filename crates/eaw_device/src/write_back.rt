@@ -9,16 +9,17 @@ pub trait WriteBack: Drop {
     /// How many commits may wait for it at the same time.
     ghost limit: { Self → ℕ };
 
+    /// So many.
     fn depth(&self) -> u8
         ensures { result ≡ limit self.now };
 
-    /// None, if each commit is answered after that.
+    /// No commit may wait if each is answered after that.
     ghost none: { (w : Self) → IsFalse defers → limit w ≡ 0 };
 
-    /// Else at least one.
+    /// Else at least one may.
     ghost some: { (w : Self) → IsTrue defers → 0 < limit w };
 
-    /// At most 64.
+    /// At most 64 may.
     ghost few: { (w : Self) → limit w ≤ 64 };
 }
 

@@ -1,4 +1,4 @@
-use Rattle.std.proofs.Common.{List, length, ap}
+use Rattle.std.proofs.Common.{◌∙◌, List, length, ap}
 use Rattle.row_bytes.specs.declared.ballot.Ballot.{Ballot}
 use Rattle.eaw_device.proofs.OpenedLemmas.{opened_sound, opened, found}
 use Rattle.eaw_device.proofs.device.Eaw.attach_with.Goals as goal
@@ -6,7 +6,7 @@ use Rattle.eaw_device.proofs.device.Eaw.attach_with.Goals as goal
 pub invariant_of-result : goal.invariant_of-result
 invariant_of-result g c = record {
   sound = opened_sound g.M.Media.tells _ _ _ _ _ c.in-Ok.ensures.settled c.in-Ok.ensures.free _ c.in-Ok.ensures.late;
-  at_once = record { fit = c.in-Ok.ensures.late.ready.fit; none_waits = c.in-Ok.ensures.late.depth_is };
+  depth = c.in-Ok.ensures.late.depth_is ∙ c.depth.ensures;
 }
 
 pub returns-in-Ok-clause-opens : goal.returns-in-Ok-clause-opens

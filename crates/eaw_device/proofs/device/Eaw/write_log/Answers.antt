@@ -170,7 +170,7 @@ invariant_of-self-2 g c =
     record {
       sound = write_sound m.tells (m.view s.media) s.shape s.logs.items s.late s.is_dead s.sound c.in_ok-settle_for.ensures.quiet.alive c.args.tid (small g at) c.index-log.result.now (there g at) c.args.addr c.args.bytes.now (inside g at) (apart g at) (room g at)
           (m.view c.stage_all.new.media) c.stage_all.result c.stage_all.ensures.does (long g at) (λ told. when_ok c.stage_all.result (fine g (goal.at.invariant_of-self-2 g c).After-add_range) (c.stage_all.ensures.holds told)) c.add_range.new.self c.add_range.ensures.kept c.add_range.ensures.live (adds g (goal.at.invariant_of-self-2 g c).After-add_range) c.in_ok-at.at c.in_ok-at.ensures.at;
-      at_once = s.at_once;
+      depth = s.depth;
     }
 
 -- the log that is looked up again
