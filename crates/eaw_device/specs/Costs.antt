@@ -48,10 +48,10 @@ joining_cost shape queue group numbers ranges = let rows = numbers * loggers_wit
 abbrev pub commit_cost : Shape → LateCommits → List ℕ → List (ℕ × ℕ) → ℕ
 commit_cost shape queue ts ranges = if nat_eq (length ranges) 0 then 0 else back_cost shape queue (group_of ts) + joining_cost shape queue (group_of ts) (length ts) ranges
 
--- One for each part of a write into a log, one for a part that is edited or read, one for each part of a read of data
--- and one for each part in its range that waits for its write-back. An abort costs nothing.
+-- One for each part of a write into a log, before which what waits of its number is written back; one for a part that is edited or read;
+-- one for each part of a read of data and one for each part in its range that waits for its write-back. An abort costs nothing.
 abbrev pub calls_of : Command → LateData → StoreView → ℕ
-calls_of (log_write t addr bytes) late store = length (parts_of_write addr bytes)
+calls_of (log_write t addr bytes) late store = back_cost store.shape late.queue (2 ^ t) + length (parts_of_write addr bytes)
 calls_of (log_edit t pos at bytes) late store = 1
 calls_of (commit t) late store = commit_cost store.shape late.queue (t ∷ []) (listed (store.ranges t))
 calls_of (commit_group ts) late store = commit_cost store.shape late.queue (with_entries store.ranges ts) (group_log store.ranges ts)

@@ -50,6 +50,7 @@ pub(crate) fn commit_log<M: Media>(
     // The cells of the first entries come before those that are committed.
     ensures before { OnOk result ((now : Log) → IsKept shape.now now → now.entries.items ≡ take offset log.now.entries.items → IsBefore shape.now late.old.queue tid log.now → IsBefore shape.now late.new.queue tid now) }
     ensures others { OnOk result ((t : ℕ) (its : Log) → t ≢ tid → IsBefore shape.now late.old.queue t its → IsBefore shape.now late.new.queue t its) }
+    ensures waits { 0 < late.old.queue.depth → offset < length log.now.entries.items → OnOk result (0 < length late.new.queue.ballots.items) }
     ensures due { OnErr result (offset < length log.now.entries.items) }
     ensures idle { length log.now.entries.items ≡ offset → media.new ≡ media.old }
 {
@@ -84,6 +85,7 @@ pub(crate) fn commit_logs<M: Media>(
     ensures stays { Stays M.tells shape.now late.old (M.view media.old) late.new (M.view media.new) }
     ensures tied { OnOk result (IsTied shape.now late.new (λ t. false)) }
     ensures others { OnOk result ((t : ℕ) (its : Log) → is_one_of (members tids) t ≡ false → IsBefore shape.now late.old.queue t its → IsBefore shape.now late.new.queue t its) }
+    ensures waits { 0 < late.old.queue.depth → 0 < length (group_log (ranges_logged logs.now) (members tids)) → OnOk result (0 < length late.new.queue.ballots.items) }
     ensures due { OnErr result (0 < length (group_log (ranges_logged logs.now) (members tids))) }
     ensures idle { length (group_log (ranges_logged logs.now) (members tids)) ≡ 0 → media.new ≡ media.old }
 {
@@ -214,6 +216,7 @@ fn commit_cells<M: Media>(
     requires good { IsTrue M.tells → HaveParts shape.now (M.view media.old).content.bytes group late.old.queue.cells }
     requires some { 0 < group_count shape.now group late.old.queue.cells }
     ensures does { CommitsGroup M.tells shape.now group late.old.queue (M.view media.old) late.new.queue (M.view media.new) result }
+    ensures waits { 0 < late.old.queue.depth → OnOk result (0 < length late.new.queue.ballots.items) }
     ensures stays { Stays M.tells shape.now late.old (M.view media.old) late.new (M.view media.new) }
     ensures tied { OnOk result (IsTied shape.now late.new (λ t. false)) }
 {

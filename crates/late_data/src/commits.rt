@@ -145,6 +145,7 @@ impl LateData {
         requires numbers { 0 < ballot.group }
         requires apart { (t : ℕ) → has ballot.group t ≡ true → IsFree t self.old.queue.ballots.items }
         ensures does { CommitsOne M.tells shape.now ballot self.old.queue (M.view media.old) self.new.queue (M.view media.new) result }
+        ensures waits { 0 < self.old.queue.depth → OnOk result (0 < length self.new.queue.ballots.items) }
         ensures stays { Stays M.tells shape.now self.old (M.view media.old) self.new (M.view media.new) }
         ensures tied { OnOk result (IsTied shape.now self.new (λ t. false)) }
     {

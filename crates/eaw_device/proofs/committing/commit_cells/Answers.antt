@@ -62,3 +62,6 @@ returns-clause-does g c =
       mask_is = subst (λ (cells : List Cells). IsMaskOf shape.loggers (takes_part shape cells c.args.group) ballot.mask) c.cells.ensures c.ballot_for-ballot.ensures.mask;
       does = c.commit.ensures.does;
     }
+
+pub returns-clause-waits : goal.returns-clause-waits
+returns-clause-waits g c = c.commit.ensures.waits

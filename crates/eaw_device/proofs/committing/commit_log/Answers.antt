@@ -184,3 +184,9 @@ returns-clause-others g c =
     on_ok_weaker c.commit_cells.result
     (λ left u log ne. kept_before shape group (due_for group c.args.late.now.queue.ballots.items) c.args.late.now.queue c.write_back_for.new.self.queue c.set_aside.new.late.queue c.commit_cells.new.late.queue its.ballot its.group_is gone.left gone.table
     c.set_aside.ensures.ballots its.does.table left u log (ap (λ (k : ℕ). has k u) (own_bit shape t c.requires.tid) ∙ has_other t u ne) (λ h lt. c.set_aside.ensures.others h u lt ne)) its.does.left_is
+
+pub returns-then-offset-len-clause-waits : goal.returns-then-offset-len-clause-waits
+returns-then-offset-len-clause-waits g c = λ may more. absurd (omega (arith, more, c.len.ensures))
+
+pub returns-clause-waits : goal.returns-clause-waits
+returns-clause-waits g c = λ may more. c.commit_cells.ensures.waits (omega (arith, may, c.in_ok-write_back_for.ensures.back.depth, c.set_aside.ensures.depth))

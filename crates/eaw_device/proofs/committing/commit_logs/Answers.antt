@@ -184,3 +184,13 @@ returns-clause-due g c = always c.commit_cells.result (some c.args.shape.now c.a
 
 pub returns-clause-idle : goal.returns-clause-idle
 returns-clause-idle g c = λ empty. absurd (omega (arith, empty, some c.args.shape.now c.args.logs.now c.requires.many c.requires.kept c.args.tids c.logged-group.result.bits c.logged-group.ensures.numbers c.logged-group.ensures.beyond (λ zero_is. absurd (omega (arith, zero_is)))))
+
+pub returns-then-group-eq0-clause-waits : goal.returns-then-group-eq0-clause-waits
+returns-then-group-eq0-clause-waits g c = λ may more.
+    let logs = c.args.logs.now in
+    let zero_is : c.logged-group.result.bits ≡ 0 = omega arith in
+    let empty = nothing c.args.shape.now logs c.requires.many c.requires.kept c.args.tids c.logged-group.result.bits c.logged-group.ensures.numbers c.logged-group.ensures.beyond (λ t. listed (ranges_logged logs t)) (λ u none. none) zero_is in
+    absurd (omega (arith, more, ap (λ (rs : List (ℕ × ℕ)). length rs) empty))
+
+pub returns-clause-waits : goal.returns-clause-waits
+returns-clause-waits g c = λ may more. c.commit_cells.ensures.waits (omega (arith, may, c.in_ok-write_back_for.ensures.back.depth, c.set_group_aside.ensures.depth))

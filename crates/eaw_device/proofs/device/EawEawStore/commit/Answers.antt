@@ -27,6 +27,7 @@ returns-in_err-at g c =
       due = λ is. absurd (lacking_other store c.args.tid fault cause (let same : fault ≡ Media = cc in same));
       idle = λ none. refl;
       costs = record { done = λ exact. tt; most = omega arith };
+      late = λ defers more. tt;
       refused = λ ne. refl;
     })
 
@@ -83,7 +84,7 @@ invariant_of-self g c =
     let said = c.commit_log.ensures.does in
     record {
       sound = sound_dead m.tells (m.view s.media) (m.view c.commit_log.new.media) s.shape s.logs.items s.late c.commit_log.new.late s.is_dead s.sound said.does.does.size c.commit_log.ensures.stays.ready;
-      at_once = record { fit = c.commit_log.ensures.stays.ready.fit; none_waits = said.depth ∙ s.at_once.none_waits };
+      depth = said.depth ∙ s.depth;
     }
 
 pub invariant_of-self-2 : goal.invariant_of-self-2
@@ -100,7 +101,7 @@ invariant_of-self-2 g c =
           (λ told. when_ok c.commit_log.result fine (said.committed told)) said.cells c.clear.new.self c.clear.ensures.kept c.clear.ensures.entries c.in_ok-at.at c.in_ok-at.ensures.at
           (order_cut s.shape s.late c.commit_log.new.late s.logs.items c.args.tid 0 c.index.result.now c.clear.new.self there.there there.below c.clear.ensures.kept c.clear.ensures.entries
           (s.sound.in_order c.in_ok-at.ensures.alive) (when_ok c.commit_log.result fine c.commit_log.ensures.tied) (when_ok c.commit_log.result fine c.commit_log.ensures.before) (when_ok c.commit_log.result fine c.commit_log.ensures.others));
-      at_once = record { fit = c.commit_log.ensures.stays.ready.fit; none_waits = said.depth ∙ s.at_once.none_waits };
+      depth = said.depth ∙ s.depth;
     }
 
 pub returns-clause-does : goal.returns-clause-does
@@ -160,3 +161,11 @@ returns-then-is_err-clause-costs g c =
     let ranges = ranges_there s.shape s.logs.items c.args.tid c.index.result.now there.there there.kept in
     let same = ap (λ (rs : List (ℕ × ℕ)). commit_cost s.shape s.late.queue (c.args.tid ∷ []) (drop 0 rs)) ranges in
     record { done = λ exact. tt; most = omega (arith, c.commit_log.ensures.does.costs.most, same) }
+
+pub returns-clause-late : goal.returns-clause-late
+returns-clause-late g c = λ defers more.
+    let m = g.M.Media in
+    let s = c.args.self.now in
+    let there = found m.tells (m.view s.media) s.shape s.logs.items s.late s.is_dead s.sound c.in_ok-at.ensures.alive c.args.tid c.in_ok-at.at c.index.result.now c.in_ok-at.ensures.at c.in_ok-at.ensures.live c.index.ensures in
+    let len = its_len m.tells (m.view s.media) (m.view c.commit_log.new.media) s.shape s.logs.items s.late s.is_dead s.sound c.in_ok-at.ensures.alive c.args.tid c.in_ok-at.ensures.live c.index.result.now there in
+    when_ok c.commit_log.result (sym c.is_err.ensures.value ∙ c.if-is_err.false) (c.commit_log.ensures.waits (omega (arith, s.depth, g.met.W.WriteBack.some s.write_back defers)) (omega (arith, more, len)))

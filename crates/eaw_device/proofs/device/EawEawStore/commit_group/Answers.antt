@@ -28,6 +28,7 @@ returns-in_err-find_group g c =
       due = λ is. absurd (lacking_group_other store (members c.args.tids) fault cause (let same : fault ≡ Media = cc in same));
       idle = λ none. refl;
       costs = record { done = λ exact. tt; most = omega arith };
+      late = λ defers more. tt;
       refused = λ ne. refl;
     })
 
@@ -86,7 +87,7 @@ invariant_of-self g c =
     let said = (rw (c.deref.ensures.value) at c.commit_logs.ensures.does) in
     record {
       sound = sound_dead m.tells (m.view s.media) (m.view c.commit_logs.new.media) s.shape s.logs.items s.late c.commit_logs.new.late s.is_dead s.sound said.does.does.size c.commit_logs.ensures.stays.ready;
-      at_once = record { fit = c.commit_logs.ensures.stays.ready.fit; none_waits = said.depth ∙ s.at_once.none_waits };
+      depth = said.depth ∙ s.depth;
     }
 
 pub invariant_of-self-2-clause-sound : goal.invariant_of-self-2-clause-sound
@@ -106,8 +107,8 @@ invariant_of-self-2-clause-sound g c =
     (group_order s.shape s.late c.commit_logs.new.late s.logs.items c.clear_logs.new.logs (members c.args.tids) left.kept left.freed (λ t away. left.others t away ∙ ap (λ (ls : List Log). slice_get ls t) lent)
     (s.sound.in_order c.in_ok-find_group.ensures.alive) (when_ok c.commit_logs.result fine c.commit_logs.ensures.tied) (when_ok c.commit_logs.result fine c.commit_logs.ensures.others)))
 
-pub invariant_of-self-2-clause-at_once : goal.invariant_of-self-2-clause-at_once
-invariant_of-self-2-clause-at_once g c = record { fit = c.commit_logs.ensures.stays.ready.fit; none_waits = c.commit_logs.ensures.does.depth ∙ c.args.self.now.at_once.none_waits }
+pub invariant_of-self-2-clause-depth : goal.invariant_of-self-2-clause-depth
+invariant_of-self-2-clause-depth g c = c.commit_logs.ensures.does.depth ∙ c.args.self.now.depth
 
 pub returns-clause-does : goal.returns-clause-does
 returns-clause-does g c =
@@ -136,3 +137,9 @@ returns-clause-refused g c = tt
 
 pub returns-clause-costs : goal.returns-clause-costs
 returns-clause-costs g c = costs_done g.M.Media.tells _ _ _ _ c.commit_logs.result tt (sym c.is_err.ensures.value ∙ c.if-is_err.false) refl (rw (c.deref.ensures.value) at c.commit_logs.ensures.does).costs
+
+pub returns-clause-late : goal.returns-clause-late
+returns-clause-late g c = λ defers more.
+    let s = c.args.self.now in
+    let waits = (rw (c.deref.ensures.value) at c.commit_logs.ensures.waits) in
+    when_ok c.commit_logs.result (sym c.is_err.ensures.value ∙ c.if-is_err.false) (waits (omega (arith, s.depth, g.met.W.WriteBack.some s.write_back defers)) more)

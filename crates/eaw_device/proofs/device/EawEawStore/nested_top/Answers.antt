@@ -28,6 +28,7 @@ returns-in_err-at g c =
       due = λ is. absurd (lacking_other store c.args.tid fault cause (let same : fault ≡ Media = cc in same));
       idle = λ none. refl;
       costs = record { done = λ exact. tt; most = omega arith };
+      late = λ defers more. tt;
       refused = λ ne. refl;
     })
 
@@ -84,7 +85,7 @@ invariant_of-self g c =
     let said = c.commit_log.ensures.does in
     record {
       sound = sound_dead m.tells (m.view s.media) (m.view c.commit_log.new.media) s.shape s.logs.items s.late c.commit_log.new.late s.is_dead s.sound said.does.does.size c.commit_log.ensures.stays.ready;
-      at_once = record { fit = c.commit_log.ensures.stays.ready.fit; none_waits = said.depth ∙ s.at_once.none_waits };
+      depth = said.depth ∙ s.depth;
     }
 
 pub invariant_of-self-2 : goal.invariant_of-self-2
@@ -103,7 +104,7 @@ invariant_of-self-2 g c =
           (λ told. when_ok c.commit_log.result fine (said.committed told)) said.cells c.truncate.new.self c.truncate.ensures.kept (c.truncate.ensures.entries ∙ ap (λ (l : Log). take c.args.offset l.entries.items) same) c.in_ok-at.at c.in_ok-at.ensures.at
           (order_cut s.shape s.late c.commit_log.new.late s.logs.items c.args.tid c.args.offset c.index.result.now c.truncate.new.self there.there there.below c.truncate.ensures.kept (c.truncate.ensures.entries ∙ ap (λ (l : Log). take c.args.offset l.entries.items) same)
           (s.sound.in_order c.in_ok-at.ensures.alive) (when_ok c.commit_log.result fine c.commit_log.ensures.tied) (when_ok c.commit_log.result fine c.commit_log.ensures.before) (when_ok c.commit_log.result fine c.commit_log.ensures.others));
-      at_once = record { fit = c.commit_log.ensures.stays.ready.fit; none_waits = said.depth ∙ s.at_once.none_waits };
+      depth = said.depth ∙ s.depth;
     }
 
 pub returns-clause-does : goal.returns-clause-does
@@ -179,3 +180,11 @@ returns-then-is_err-clause-costs g c =
     let ranges = ranges_there s.shape s.logs.items c.args.tid c.index.result.now there.there there.kept in
     let same = ap (λ (rs : List (ℕ × ℕ)). commit_cost s.shape s.late.queue (c.args.tid ∷ []) (drop c.args.offset rs)) ranges in
     record { done = λ exact. tt; most = omega (arith, c.commit_log.ensures.does.costs.most, same) }
+
+pub returns-clause-late : goal.returns-clause-late
+returns-clause-late g c = λ defers more.
+    let m = g.M.Media in
+    let s = c.args.self.now in
+    let there = found m.tells (m.view s.media) s.shape s.logs.items s.late s.is_dead s.sound c.in_ok-at.ensures.alive c.args.tid c.in_ok-at.at c.index.result.now c.in_ok-at.ensures.at c.in_ok-at.ensures.live c.index.ensures in
+    let len = its_len m.tells (m.view s.media) (m.view c.commit_log.new.media) s.shape s.logs.items s.late s.is_dead s.sound c.in_ok-at.ensures.alive c.args.tid c.in_ok-at.ensures.live c.index.result.now there in
+    when_ok c.commit_log.result (sym c.is_err.ensures.value ∙ c.if-is_err.false) (c.commit_log.ensures.waits (omega (arith, s.depth, g.met.W.WriteBack.some s.write_back defers)) (omega (arith, more, len)))
