@@ -34,10 +34,11 @@ index_pages_of shape = page_count shape / 2
 abbrev pub IsTable : List ℕ → ℕ → ℕ → Type 0
 IsTable bytes table root = root_of bytes table ≡ Some root
 
--- The data is of version 1, until tables are made. No more slots are in use than there are, and no more pages than lie below those of
--- slots; what is free was given out; and the first table has root 1.
+-- The data is of version 1 or 2. No more slots are in use than there are, and no more pages than lie below those of slots; what is free was
+-- given out; and the first table has root 1.
 pub record HasCounts (bytes : List ℕ) : Type 0 where
-  pub version : version_of bytes ≡ 1
+  pub oldest : 1 ≤ version_of bytes
+  pub newest : version_of bytes ≤ 2
   pub slots : next_slot bytes ≤ slot_count bytes
   pub some : 2 ≤ next_page bytes
   pub pages : next_page bytes ≤ first_slot_page bytes
