@@ -16,5 +16,6 @@ mod write;
 
 pub use chain::KeyList;
 pub use laws::{
-    chain_changes_keep, chain_rises, damage_is_first, fresh_is_sound, slots_leave_the_chain,
+    chain_changes_keep, chain_removals_keep, chain_rises, damage_is_first, fresh_is_sound,
+    slots_leave_the_chain,
 };
