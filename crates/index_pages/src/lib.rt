@@ -25,7 +25,7 @@ pub use fetch::{
     fetch_super, index_page_count,
 };
 pub use giving::{Release, give_page, give_slot, remove_pair, without_pair};
-pub use laws::{insertion_adds, pieces_answer};
+pub use laws::{free_lists_are_stacks, insertion_adds, pieces_answer};
 pub use page::{
     HALF, Head, LEVEL_MAX, PAGE_LEN, PAIRS_MAX, Pairs, next_pair, read_head, read_pair, read_pairs,
     write_page,

@@ -1,7 +1,7 @@
 -- The bytes of what is free say it.
 use Rattle.std.proofs.Common.{◌≡◌, ℕ, ◌-◌, ◌^◌, ◌<◌, List, ◌∷◌, ◌++◌, length, take, drop, replicate, Some, refl, sym, ◌∙◌, ap, append_assoc, arith}
 use Rattle.std.specs.Prelude.{slice_set}
-use Rattle.std.proofs.lemmas.List.{drop_at, drop-replicate}
+use Rattle.std.proofs.lemmas.List.{drop_at, length-append, length-replicate}
 use Rattle.byteorder.specs.Endian.{little_from, little_bytes}
 use Rattle.byteorder.specs.Numbers.{little_from-cons, little_number-reads_back, length-bytes_low_first}
 use Rattle.record_slots.specs.Free.{free_slot_said, free_page_said, free_slot_bytes, free_page_bytes}
@@ -50,3 +50,14 @@ unfolding free_page_bytes
 free_page_written free zeros copied none is =
     ap (λ (l : List ℕ). take 4 (slice_set l 0 255) ++ (copied ++ drop 8 (drop 4 (slice_set l 0 255)))) none
     ∙ ap (λ (l : List ℕ). 0xFF ∷ 0 ∷ 0 ∷ 0 ∷ (l ++ replicate 500 0)) is ∙ ap (λ (l : List ℕ). 0xFF ∷ 0 ∷ 0 ∷ 0 ∷ l) (append_assoc (little_bytes 4 free.next) (little_bytes 4 free.rank) (replicate 500 0))
+
+-- there are 64 and 512 of them
+pub length-free_slot_bytes : (free : Free) → length (free_slot_bytes free) ≡ 64
+unfolding free_slot_bytes
+length-free_slot_bytes free =
+    omega (arith, length-append (little_bytes 4 free.next) (little_bytes 4 free.rank ++ replicate 54 0), length-append (little_bytes 4 free.rank) (replicate 54 0), length-bytes_low_first 0 4 free.next, length-bytes_low_first 0 4 free.rank)
+
+pub length-free_page_bytes : (free : Free) → length (free_page_bytes free) ≡ 512
+unfolding free_page_bytes
+length-free_page_bytes free =
+    omega (arith, length-append (little_bytes 4 free.next) (little_bytes 4 free.rank ++ replicate 500 0), length-append (little_bytes 4 free.rank) (replicate 500 0), length-bytes_low_first 0 4 free.next, length-bytes_low_first 0 4 free.rank, length-replicate {A = ℕ} 500 0)
