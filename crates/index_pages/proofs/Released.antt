@@ -2,7 +2,7 @@
 use Rattle.std.proofs.Common.{◌≡◌, ◌≢◌, ℕ, zero, suc, ◌+◌, ◌-◌, ◌^◌, ◌<◌, ◌≤◌, inl, inr, List, length, Option, Some, None, refl, sym, ◌∙◌, ap, subst, arith}
 use Rattle.std.specs.Prelude.{nat_eq, slice_index, false}
 use Rattle.std.proofs.lemmas.Bool.{cases_eq, cases_lt, ne_eqb}
-use Rattle.record_slots.specs.Free.{free_slot_said, free_page_said, free_slot_bytes, free_page_bytes}
+use Rattle.record_slots.specs.Free.{next_of, member_at, free_slot_said, free_page_said, free_slot_bytes, free_page_bytes}
 use Rattle.record_slots.specs.Super.{SaysSuper}
 use Rattle.record_slots.specs.Places.{page_bytes, slot_of, next_slot, next_page, version_of, free_slot, free_page, free_slots, free_pages, free_slot_of, free_page_of, page_due, Carries}
 use Rattle.record_slots.specs.declared.free.Free.{Free}
@@ -14,7 +14,8 @@ use Rattle.index_pages.specs.Giving.{MayGive, GivesSlot, GivesPage, slot_freed, 
 use Rattle.index_pages.specs.Page.{kind_of, kind_said}
 use Rattle.index_pages.proofs.Carrying.{free_carries}
 use Rattle.index_pages.proofs.Fronts.{IsWritable}
-use Rattle.index_pages.proofs.Stacks.{IsList, list_pushed, list_room}
+use Rattle.index_pages.proofs.Stacks.{IsList, list_kept, list_pushed, list_room, member_is, rank_some}
+use Rattle.index_pages.specs.Slots.{HasRank}
 use Rattle.index_pages.proofs.Taken.{FreeSlots, FreePages, due_free, due_next, taken_none, taken_writable}
 
 -- a slot that carries a key is not free
@@ -167,9 +168,19 @@ slots_back old new slot list frees next less same =
     (subst (λ (n : ℕ). IsList (free_slot_of new) 0 (next_slot old) (suc (free_slots old)) n) (sym frees.first) l))
 
 pub pages_back : (old new : List ℕ) (page : ℕ) → FreePages old → FreesPage page old new → next_page new ≡ next_page old → 2 ≤ page → page < next_page old
-    → ((x : ℕ) → free_page_of old x ≢ None → free_page_of new x ≡ free_page_of old x) → FreePages new
+    → ((x : ℕ) → free_page_of old x ≢ None → 2 ≤ x → x < next_page old → free_page_of new x ≡ free_page_of old x) → FreePages new
 pages_back old new page list frees next from less same =
-    let l = list_pushed (free_page_of old) (free_page_of new) 2 (next_page old) (free_pages old) (free_page old) page list from less frees.says same in
+    let kept : IsList (free_page_of new) 2 (next_page old) (free_pages old) (free_page old) =
+    list_kept (free_page_of old) 2 (next_page old) (free_page_of new) (next_page old) (free_pages old) (free_page old) (omega arith) list (λ i lt.
+    let m = member_is (free_page_of old) 2 (next_page old) (free_pages old) i (free_page old) list lt in
+    same (member_at (free_page_of old) (free_page old) i - 1) (rank_some (free_page_of old (member_at (free_page_of old) (free_page old) i - 1)) (free_pages old - i) m.1) (omega (arith, m.0.0)) (omega (arith, m.0.0, m.0.1))) in
+    let at : suc page - 1 ≡ page = omega arith in
+    let here : free_page_of new (suc page - 1) ≡ Some (record { next = free_page old; rank = suc (free_pages old) }) = ap (λ (x : ℕ). free_page_of new x) at ∙ frees.says in
+    let l : IsList (free_page_of new) 2 (next_page old) (suc (free_pages old)) (suc page) = (
+      (omega (arith, from), omega (arith, less)),
+      subst (λ (o : Option Free). HasRank (suc (free_pages old)) o) (sym here) refl,
+      subst (λ (o : Option Free). IsList (free_page_of new) 2 (next_page old) (free_pages old) (next_of o)) (sym here) kept,
+    ) in
     subst (λ (n : ℕ). IsList (free_page_of new) 2 n (free_pages new) (free_page new)) (sym next)
     (subst (λ (n : ℕ). IsList (free_page_of new) 2 (next_page old) n (free_page new)) (sym frees.more)
     (subst (λ (n : ℕ). IsList (free_page_of new) 2 (next_page old) (suc (free_pages old)) n) (sym frees.first) l))

@@ -4,6 +4,5 @@ pub mod ChainActions
 pub mod Others
 pub mod Data
 pub mod Whole
-pub mod Even
 pub mod Testing
 pub mod Fresh
