@@ -8,8 +8,8 @@ use Rattle.mars_base.proofs.Puts.{length-put}
 use Rattle.record_slots.specs.declared.slot.Slot.{Slot}
 use Rattle.record_slots.specs.declared.slot.Slot.TheVariants.{Absent, Present}
 use Rattle.record_slots.specs.Slots.{slot_said}
-use Rattle.record_slots.specs.Super.{HasSuperMark, form_said, next_slot_said, next_page_said}
-use Rattle.record_slots.specs.Places.{page_bytes, page_count, first_slot_page, slot_at, slot_of, next_slot, next_page, IsSuper, IsOfKey, Carries, AreGiven}
+use Rattle.record_slots.specs.Super.{next_slot_said, next_page_said}
+use Rattle.record_slots.specs.Places.{page_bytes, page_count, first_slot_page, slot_at, slot_of, next_slot, next_page, IsOfKey, Carries, AreGiven}
 use Rattle.index_pages.proofs.Owned.{carries_table}
 use Rattle.index_pages.proofs.Ranges.{Apart, range_away, range_here}
 use Rattle.index_pages.specs.Ways.{Keeps, KeepsBut}

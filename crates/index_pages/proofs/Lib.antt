@@ -37,3 +37,4 @@ pub mod Joining
 pub mod Tables
 pub mod Tests
 pub mod Removals
+pub mod Even

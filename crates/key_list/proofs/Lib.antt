@@ -8,6 +8,5 @@ pub mod Others
 pub mod Data
 pub mod Whole
 pub mod Taking
-pub mod Even
 pub mod Testing
 pub mod Fresh

@@ -15,13 +15,13 @@ use Rattle.page_store.specs.declared.fault.PageFault.{PageFault}
 use Rattle.page_store.specs.declared.fault.PageFault.TheVariants.{Damaged}
 use Rattle.index_pages.specs.Acts.{Acts}
 use Rattle.index_pages.specs.Giving.{MayGive, GivesSlot, removing_pages, removing_parts}
+use Rattle.index_pages.proofs.Even.{halves, halves_few}
 use Rattle.index_pages.proofs.Looking.{looks_none}
 use Rattle.index_pages.proofs.Removals.{removes_none, removes_damaged, removes_done, removes_act_err}
 use Rattle.key_list.specs.Chain.{IsSoundChain}
 use Rattle.key_list.specs.Index.{chain, keeps_last}
 use Rattle.key_list.specs.Located.{IsLocated, Locates}
 use Rattle.key_list.proofs.Data.{removing_loses, removing_at, staying_none, key_there, slot_may}
-use Rattle.key_list.proofs.Even.{halves, halves_few}
 
 module _ (tells : Bool) (E : Shape → List ℕ → List ℕ → Type 0) (t root table key : ℕ) (v0 : PagesView) (fits : key < 2 ^ 64) (sound : IsTrue tells → IsSoundChain v0.store.state.bytes)
     (named : IsTrue tells → IsTable v0.store.state.bytes table root) (lists : IsTrue tells → version_of v0.store.state.bytes ≡ 2) (absent : IsTrue tells → HasAbsent chain root table key v0.store.state.bytes)
