@@ -1,6 +1,6 @@
 -- What the actions of an insertion and of a removal make of the data.
 use Rattle.std.proofs.Common.{◌≡◌, ◌≢◌, ℕ, suc, ◌+◌, ◌-◌, ◌*◌, ◌^◌, ◌<◌, ◌≤◌, true, false, nat_lt, ◌/◌, inl, inr, List, [], ◌∷◌, length, take, drop, Option, Some, None, refl, sym, ◌∙◌, ap, subst, arith}
-use Rattle.std.specs.Prelude.{IsSome, if◌then◌else◌}
+use Rattle.std.specs.Prelude.{IsSome}
 use Rattle.std.specs.Option.{unwrap_or}
 use Rattle.std.proofs.lemmas.Bool.{cases_lt, cases_eq}
 use Rattle.std.proofs.lemmas.Bool.Decides.{eqb_tells, leb_tells, nat_tests}
@@ -21,13 +21,12 @@ use Rattle.page_store.specs.Index.{Action, IsTable, IsUntouched, HasCounts, slot
 use Rattle.page_store.specs.Removes.{FreesSlot, LosesKey}
 use Rattle.page_store.specs.Pairs.{Pair, found, inserted, removed}
 use Rattle.page_store.specs.Shown.{address}
-use Rattle.index_pages.specs.Adding.{adding_parts, TakesSlot, TakesPage, first_slot, with_slot_taken, first_page, with_page_taken}
-use Rattle.index_pages.specs.Fetched.{IsFront}
+use Rattle.index_pages.specs.Adding.{adding_parts, TakesSlot, TakesPage}
 use Rattle.index_pages.specs.Giving.{MayGive, GivesSlot, removing_pages, removing_parts}
-use Rattle.index_pages.specs.Keys.{key_at, key_end}
+use Rattle.index_pages.specs.Keys.{key_at}
 use Rattle.index_pages.specs.Page.{page_pairs, pairs_said, kind_said, level_said, count_said, link_said, kind_of, link_of, count_of}
 use Rattle.index_pages.specs.Ways.{Keeps, KeepsBut, IsOwn}
-use Rattle.index_pages.specs.Written.{AreSmall, written_page}
+use Rattle.index_pages.specs.Written.{written_page}
 use Rattle.index_pages.proofs.Added.{IsAdded, IsRemoved, added_is, removed_is}
 use Rattle.index_pages.proofs.Carrying.{carries_on, carries_absent}
 use Rattle.index_pages.proofs.Claims.{entries_long}
@@ -657,7 +656,7 @@ module _ (shape : Shape) (old : List ℕ) (half : ℕ) (long : length old ≡ da
       | inl same ↦
           subst (λ (y : ℕ). (count_of lost y ≤ count_of old y) × IsSome (found (page_pairs old y) one)) (sym same.1) (
             (let now : length (page_pairs lost page) ≡ length (removed (page_pairs old page) key) = ap (λ (ps : List Pair). length ps) left_pairs in
-            omega (arith, now, length-page_pairs lost page, length-page_pairs old page, (length-removed key (page_pairs old page)).1)),
+                omega (arith, now, length-page_pairs lost page, length-page_pairs old page, (length-removed key (page_pairs old page)).1)),
             found_before (page_pairs old page) key one
                 (subst (λ (ps : List Pair). IsSome (found ps one)) left_pairs (subst (λ (y : ℕ). IsSome (found (page_pairs lost y) one)) same.1 some)),
           )
@@ -688,27 +687,31 @@ module _ (shape : Shape) (old : List ℕ) (half : ℕ) (long : length old ≡ da
     -- what a pair that is taken out makes of the data
     pub removing_loses : LosesKey chain root key old (applied (removing_parts half after slot free page link pairs key) old)
     unfolding lost
-    removing_loses = (slot, found_is, record {
-      sound = sound_lost;
-      size = lost_is.size;
-      version = version_kept old lost lost_is.mark;
-      tables = front_lost.1;
-      others = untouched;
-      pairs = loss.1;
-      slots = λ j ne. lost_is.slots j ne;
-      freed = frees;
-      next_slot_same = next_slots;
-      next_page_same = next_pages;
-      freed_page = inl (record { first = pages_first; many = pages_many });
-      kept = λ x on. inl (pages_same table old lost root own chain_sound next_pages (λ p some lt kind. links_lost p some lt) x on);
-      named = named_lost;
-      levels = refl;
-      last = λ table' other one is' some none. elim (cases_eq other root) [
-        | inl same ↦
-            subst (λ (r : ℕ). chain_removal lost r one ≡ None) (sym same) (last_here one (subst (λ (r : ℕ). IsSome (found (pairs_of_chain lost r) one)) same some) (subst (λ (r : ℕ). chain_removal old r one ≡ None) same none))
-        | inr differ ↦ last_there table' other one is' differ some none
-      ];
-    })
+    removing_loses = (
+      slot,
+      found_is,
+      record {
+        sound = sound_lost;
+        size = lost_is.size;
+        version = version_kept old lost lost_is.mark;
+        tables = front_lost.1;
+        others = untouched;
+        pairs = loss.1;
+        slots = λ j ne. lost_is.slots j ne;
+        freed = frees;
+        next_slot_same = next_slots;
+        next_page_same = next_pages;
+        freed_page = inl (record { first = pages_first; many = pages_many });
+        kept = λ x on. inl (pages_same table old lost root own chain_sound next_pages (λ p some lt kind. links_lost p some lt) x on);
+        named = named_lost;
+        levels = refl;
+        last = λ table' other one is' some none. elim (cases_eq other root) [
+          | inl same ↦
+              subst (λ (r : ℕ). chain_removal lost r one ≡ None) (sym same) (last_here one (subst (λ (r : ℕ). IsSome (found (pairs_of_chain lost r) one)) same some) (subst (λ (r : ℕ). chain_removal old r one ≡ None) same none))
+          | inr differ ↦ last_there table' other one is' differ some none
+        ];
+      },
+    )
 
     -- the parts lie in these pages
     pub removing_at : chain_removal old root key ≡ Some (removing_pages half slot page)

@@ -1,6 +1,6 @@
 -- The page that has a key is the page of the key.
-use Rattle.std.proofs.Common.{◌≡◌, ◌≢◌, ℕ, zero, suc, ◌<◌, ◌≤◌, ◌⊎◌, Bool, true, false, nat_eq, nat_lt, inl, inr, List, [], ◌∷◌, length, Option, None, refl, sym, ◌∙◌, ap, subst, arith}
-use Rattle.std.specs.Prelude.{IsSome, nat_le, not, ◌&&◌, if◌then◌else◌}
+use Rattle.std.proofs.Common.{◌≡◌, ℕ, zero, suc, ◌<◌, ◌≤◌, ◌⊎◌, Bool, true, false, nat_eq, nat_lt, inl, inr, List, [], ◌∷◌, Option, None, refl, sym, subst, arith}
+use Rattle.std.specs.Prelude.{IsSome, not, ◌&&◌}
 use Rattle.std.proofs.lemmas.Bool.{and_parts, and_from, ne_eqb, false≢true}
 use Rattle.std.proofs.lemmas.Bool.Decides.{eqb_tells, leb_tells, nat_tests}
 use Rattle.record_slots.specs.Places.{next_page}
@@ -8,8 +8,6 @@ use Rattle.page_store.specs.Pairs.{Pair, Rise, found, removed}
 use Rattle.index_pages.specs.Keys.{key_end}
 use Rattle.index_pages.specs.Page.{link_of, count_of, page_pairs}
 use Rattle.index_pages.specs.Ways.{IsOwn}
-use Rattle.index_pages.proofs.PageFacts.{length-page_pairs}
-use Rattle.index_pages.proofs.Removing.{length-removed}
 use Rattle.key_list.specs.Chain.{behind, first_key, chain_check, chain_page_for, page_of_key, pairs_of_chain}
 use Rattle.key_list.specs.ChainFacts.{rise_behind}
 use Rattle.key_list.specs.Index.{IsOnChain, IsPageOfChain, keeps_last, chain_removal}

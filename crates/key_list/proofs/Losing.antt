@@ -1,9 +1,8 @@
 -- A pair that is taken out of a chain.
-use Rattle.std.proofs.Common.{◌≡◌, ◌≢◌, ℕ, zero, suc, ◌<◌, ◌≤◌, ◌⊎◌, true, false, nat_eq, nat_lt, inl, inr, List, [], ◌∷◌, ◌++◌, length, Some, None, refl, sym, ◌∙◌, ap, subst, arith}
-use Rattle.std.specs.Prelude.{if◌then◌else◌}
+use Rattle.std.proofs.Common.{◌≡◌, ◌≢◌, ℕ, zero, suc, ◌<◌, ◌≤◌, ◌⊎◌, true, false, nat_eq, inl, inr, List, ◌++◌, length, Some, None, refl, sym, ◌∙◌, ap, subst, arith}
 use Rattle.std.proofs.lemmas.Bool.Decides.{eqb_tells}
 use Rattle.std.proofs.lemmas.List.{append-nil}
-use Rattle.record_slots.specs.Places.{page_bytes, next_slot, next_page, first_slot_page, Carries, AreGiven}
+use Rattle.record_slots.specs.Places.{page_bytes, next_slot, next_page, Carries, AreGiven}
 use Rattle.page_store.specs.Index.{HasCounts}
 use Rattle.page_store.specs.Pairs.{Pair, Rise, found, removed}
 use Rattle.index_pages.specs.Keys.{key_end}
@@ -16,7 +15,7 @@ use Rattle.index_pages.proofs.Kept.{given_kept}
 use Rattle.index_pages.proofs.PageFacts.{length-page_pairs}
 use Rattle.index_pages.proofs.Removing.{length-removed, removed-rises, removed-left, given_removed, removed_local, found-removed}
 use Rattle.index_pages.proofs.Tiling.{joined_rises}
-use Rattle.key_list.specs.Chain.{behind, first_key, chain_pieces, chain_check, pairs_of_chain, chain_page_for, page_of_key}
+use Rattle.key_list.specs.Chain.{behind, first_key, chain_pieces, chain_check, pairs_of_chain, page_of_key}
 use Rattle.key_list.specs.ChainFacts.{chain_tiles, rise_behind, sound_chain_rises}
 use Rattle.key_list.specs.Changes.{LosesPairInChain}
 use Rattle.key_list.specs.Resting.{joined_from, sound_chain_given}

@@ -1,5 +1,4 @@
-use Rattle.std.proofs.Common.{◌≡◌, ◌+◌, ◌*◌, ◌^◌, ◌<◌, ℕ, IsTrue, sym, ◌∙◌, ap, arith}
-use Rattle.page_store.specs.Index.{index_pages_of}
+use Rattle.std.proofs.Common.{◌*◌, ◌^◌, ◌<◌, ℕ, IsTrue, sym, ◌∙◌, ap, arith}
 use Rattle.page_store.specs.Shown.{pages_of}
 use Rattle.key_list.proofs.Taking.{pair_stays, slot_missing, slot_refused, pair_gone, action_refused}
 use Rattle.key_list.proofs.removal.remove_here.Goals as goal
