@@ -20,8 +20,11 @@ pub mod Slotted
 pub mod Parting
 pub mod Puts
 pub mod Stacks
+pub mod Removing
+pub mod Freeing
 pub mod Tabled
 pub mod Taken
+pub mod Released
 pub mod Added
 pub mod Members
 pub mod Left
@@ -33,3 +36,5 @@ pub mod Owned
 pub mod Joining
 pub mod Tables
 pub mod Tests
+pub mod Removals
+pub mod Even

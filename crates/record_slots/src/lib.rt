@@ -16,14 +16,14 @@ mod super_page;
 mod value;
 
 pub use entries::{has_tables, table_root};
-pub use free::{Free, read_free_page, read_free_slot};
+pub use free::{Free, read_free_page, read_free_slot, write_free_page, write_free_slot};
 pub use fresh::fresh_page;
 pub use index_head::{INDEX_HEAD_LEN, IndexHead, index_head_bytes, read_index_head};
 pub use laws::slot_round_trip;
 pub use name::{NAME_MAX, Name};
 pub use slot::{SLOT_LEN, Slot, read_slot, write_slot};
 pub use super_page::{
-    ENTRIES_LEN, ENTRY_LEN, PART_AT, PART_LEN, Super, TABLES_MAX, TableEntry, read_super,
+    ENTRIES_LEN, ENTRY_LEN, PART_AT, PART_LEN, Super, TABLES_MAX, TableEntry, VERSION, read_super,
     write_super, write_super_part,
 };
 pub use value::{VALUE_MAX, Value};
