@@ -163,12 +163,19 @@ fn release_slot(front: &Super, leaf: &Node, key: u64) -> Option<Release>
     ensures none { IfNone result ((slot : ℕ) → found leaf.now.pairs.items key ≡ Some slot → ¬ MayGive front.now.version slot front.now.next_slot front.now.free_slots) }
 {
     let place = place_found(leaf.pairs.as_slice(), key)?;
-    let slot = leaf.pairs.as_slice()[place].1;
-    let next = front.next_slot;
-    if slot >= u64::from(next) {
+    let slot = below(leaf.pairs.as_slice()[place].1, front.next_slot)?;
+    give_slot(front, slot)
+}
+
+// A number, if it is below this one.
+fn below(number: u64, end: u32) -> Option<u32>
+    ensures some { IfSome result (λ small. small ≡ number) }
+    ensures none { IfNone result (end ≤ number) }
+{
+    if number >= u64::from(end) {
         return None;
     }
-    give_slot(front, slot as u32)
+    Some(number as u32)
 }
 
 // Takes the pair out of a leaf that keeps others, or is the root.
