@@ -8,8 +8,9 @@ use Rattle.mars_base.proofs.Puts.{length-put}
 use Rattle.record_slots.specs.declared.slot.Slot.{Slot}
 use Rattle.record_slots.specs.declared.slot.Slot.TheVariants.{Absent, Present}
 use Rattle.record_slots.specs.Slots.{slot_said}
-use Rattle.record_slots.specs.Super.{HasSuperMark, form_said, next_slot_said, next_page_said}
-use Rattle.record_slots.specs.Places.{page_bytes, page_count, first_slot_page, slot_at, slot_of, next_slot, next_page, IsSuper, IsOfKey, Carries, AreGiven}
+use Rattle.record_slots.specs.Super.{next_slot_said, next_page_said}
+use Rattle.record_slots.specs.Places.{page_bytes, page_count, first_slot_page, slot_at, slot_of, next_slot, next_page, IsOfKey, Carries, AreGiven}
+use Rattle.index_pages.proofs.Owned.{carries_table}
 use Rattle.index_pages.proofs.Ranges.{Apart, range_away, range_here}
 use Rattle.index_pages.specs.Ways.{Keeps, KeepsBut}
 use Rattle.page_store.specs.Pairs.{Pair, found}
@@ -52,6 +53,14 @@ module _ (slot : ℕ) (old new : List ℕ) (keeps : KeepsBut slot old new) where
             let other : p.1 ≢ slot = λ same. h.1 (carries_one old table p.0 key slot (subst (λ (s : ℕ). Carries old table (p.0, s)) same here) carries) in
             (omega (arith, g.0, keeps.slots), keeps.carried table p other g.0 g.1, given_others table key ps carries none' g.2)
       ]
+
+  -- the slots of pairs of another table
+  pub given_elsewhere : (table other key : ℕ) (ps : List Pair) → (other ≡ table → ⊥) → Carries old table (key, slot) → AreGiven old other ps → AreGiven new other ps
+  given_elsewhere table other key [] differ carries g = tt
+  given_elsewhere table other key (p ∷ ps) differ carries g =
+      let here : Carries old other (p.0, p.1) = g.1 in
+      let apart : p.1 ≢ slot = λ same. differ (carries_table old other table p.0 key slot (subst (λ (s : ℕ). Carries old other (p.0, s)) same here) carries) in
+      (omega (arith, g.0, keeps.slots), keeps.carried other p apart g.0 g.1, given_elsewhere table other key ps differ carries g.2)
 
   module _ (front : HasCounts old) (less : slot < next_slot old) where
     -- the new data with the slot as it was

@@ -1,21 +1,20 @@
 -- Slots and pages that are given back: when they can be, and what the lists say once the super page is written.
-use Rattle.std.proofs.Common.{◌≡◌, ◌≢◌, ℕ, zero, suc, ◌+◌, ◌-◌, ◌^◌, ◌<◌, ◌≤◌, inl, inr, List, length, Option, Some, None, refl, sym, ◌∙◌, ap, subst, arith}
+use Rattle.std.proofs.Common.{◌≡◌, ◌≢◌, ℕ, suc, ◌+◌, ◌^◌, ◌<◌, ◌≤◌, inl, inr, List, length, Option, Some, None, refl, sym, ◌∙◌, ap, subst, arith}
 use Rattle.std.specs.Prelude.{nat_eq, slice_index, false}
 use Rattle.std.proofs.lemmas.Bool.{cases_eq, cases_lt, ne_eqb}
-use Rattle.record_slots.specs.Free.{next_of, member_at, free_slot_said, free_page_said, free_slot_bytes, free_page_bytes}
+use Rattle.record_slots.specs.Free.{free_slot_said, free_page_said, free_slot_bytes, free_page_bytes}
 use Rattle.record_slots.specs.Super.{SaysSuper}
-use Rattle.record_slots.specs.Places.{page_bytes, slot_of, next_slot, next_page, version_of, free_slot, free_page, free_slots, free_pages, free_slot_of, free_page_of, page_due, Carries}
+use Rattle.record_slots.specs.Places.{page_bytes, slot_of, next_slot, next_page, free_slot, free_page, free_slots, free_pages, free_slot_of, free_page_of, page_due, Carries}
 use Rattle.record_slots.specs.declared.free.Free.{Free}
 use Rattle.record_slots.specs.declared.super_page.Super.{Super}
 use Rattle.record_slots.proofs.Freed.{free_slot_back, free_page_back}
 use Rattle.page_store.specs.Pairs.{Pair}
 use Rattle.page_store.specs.Removes.{FreesSlot, FreesPage}
-use Rattle.index_pages.specs.Giving.{MayGive, GivesSlot, GivesPage, slot_freed, page_freed, with_slot_given, with_page_given}
+use Rattle.index_pages.specs.Giving.{MayGive, GivesSlot, GivesPage}
 use Rattle.index_pages.specs.Page.{kind_of, kind_said}
 use Rattle.index_pages.proofs.Carrying.{free_carries}
 use Rattle.index_pages.proofs.Fronts.{IsWritable}
-use Rattle.index_pages.proofs.Stacks.{IsList, list_kept, list_pushed, list_room, member_is, rank_some}
-use Rattle.index_pages.specs.Slots.{HasRank}
+use Rattle.index_pages.proofs.Stacks.{IsList, list_pushed, list_room}
 use Rattle.index_pages.proofs.Taken.{FreeSlots, FreePages, due_free, due_next, taken_none, taken_writable}
 
 -- a slot that carries a key is not free
@@ -162,7 +161,7 @@ page_frees old new front given after page free was was' says gives first many sa
 pub slots_back : (old new : List ℕ) (slot : ℕ) → FreeSlots old → FreesSlot slot old new → next_slot new ≡ next_slot old → slot < next_slot old
     → ((x : ℕ) → free_slot_of old x ≢ None → free_slot_of new x ≡ free_slot_of old x) → FreeSlots new
 slots_back old new slot list frees next less same =
-    let l = list_pushed (free_slot_of old) (free_slot_of new) 0 (next_slot old) (free_slots old) (free_slot old) slot list (omega arith) less frees.says same in
+    let l = list_pushed (free_slot_of old) (free_slot_of new) 0 (next_slot old) (free_slots old) (free_slot old) slot list (omega arith) less frees.says (λ x low high some. same x some) in
     subst (λ (n : ℕ). IsList (free_slot_of new) 0 n (free_slots new) (free_slot new)) (sym next)
     (subst (λ (n : ℕ). IsList (free_slot_of new) 0 (next_slot old) n (free_slot new)) (sym frees.more)
     (subst (λ (n : ℕ). IsList (free_slot_of new) 0 (next_slot old) (suc (free_slots old)) n) (sym frees.first) l))
@@ -170,17 +169,7 @@ slots_back old new slot list frees next less same =
 pub pages_back : (old new : List ℕ) (page : ℕ) → FreePages old → FreesPage page old new → next_page new ≡ next_page old → 2 ≤ page → page < next_page old
     → ((x : ℕ) → free_page_of old x ≢ None → 2 ≤ x → x < next_page old → free_page_of new x ≡ free_page_of old x) → FreePages new
 pages_back old new page list frees next from less same =
-    let kept : IsList (free_page_of new) 2 (next_page old) (free_pages old) (free_page old) =
-    list_kept (free_page_of old) 2 (next_page old) (free_page_of new) (next_page old) (free_pages old) (free_page old) (omega arith) list (λ i lt.
-    let m = member_is (free_page_of old) 2 (next_page old) (free_pages old) i (free_page old) list lt in
-    same (member_at (free_page_of old) (free_page old) i - 1) (rank_some (free_page_of old (member_at (free_page_of old) (free_page old) i - 1)) (free_pages old - i) m.1) (omega (arith, m.0.0)) (omega (arith, m.0.0, m.0.1))) in
-    let at : suc page - 1 ≡ page = omega arith in
-    let here : free_page_of new (suc page - 1) ≡ Some (record { next = free_page old; rank = suc (free_pages old) }) = ap (λ (x : ℕ). free_page_of new x) at ∙ frees.says in
-    let l : IsList (free_page_of new) 2 (next_page old) (suc (free_pages old)) (suc page) = (
-      (omega (arith, from), omega (arith, less)),
-      subst (λ (o : Option Free). HasRank (suc (free_pages old)) o) (sym here) refl,
-      subst (λ (o : Option Free). IsList (free_page_of new) 2 (next_page old) (free_pages old) (next_of o)) (sym here) kept,
-    ) in
+    let l = list_pushed (free_page_of old) (free_page_of new) 2 (next_page old) (free_pages old) (free_page old) page list from less frees.says (λ x low high some. same x some low high) in
     subst (λ (n : ℕ). IsList (free_page_of new) 2 n (free_pages new) (free_page new)) (sym next)
     (subst (λ (n : ℕ). IsList (free_page_of new) 2 (next_page old) n (free_page new)) (sym frees.more)
     (subst (λ (n : ℕ). IsList (free_page_of new) 2 (next_page old) (suc (free_pages old)) n) (sym frees.first) l))

@@ -1,5 +1,5 @@
 -- How a removal ends: with nothing changed, or with an action.
-use Rattle.std.proofs.Common.{◌≡◌, ◌≢◌, ℕ, ◌≤◌, ◌⊎◌, inl, inr, Bool, true, false, List, length, Option, Result, Ok, Err, refl, sym, ◌∙◌, ap, subst}
+use Rattle.std.proofs.Common.{◌≡◌, ℕ, ◌≤◌, ◌⊎◌, inl, inr, Bool, true, false, List, length, Option, Result, Ok, Err, refl, sym, ◌∙◌, ap, subst}
 use Rattle.std.specs.Prelude.{IsTrue, Some, None}
 use Rattle.std.proofs.lemmas.Bool.{false≢true}
 use Rattle.mars_base.specs.Causes.{Rose}
@@ -19,7 +19,6 @@ use Rattle.page_store.specs.declared.fault.PageFault.TheVariants.{LogFull, Saves
 use Rattle.index_pages.specs.Acts.{Acts}
 use Rattle.index_pages.proofs.Going.{logs_then, looks_logs}
 use Rattle.index_pages.proofs.Left.{fits_same, lacks_same}
-use Rattle.index_pages.proofs.Looking.{looks_none}
 
 module _ (tells : Bool) (Opens : List ℕ → List ℕ → Type 0) (ix : Index) (t root key : ℕ) where
   -- a look, after which the pair stays

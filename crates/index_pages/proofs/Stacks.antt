@@ -1,5 +1,5 @@
 -- Lists of what is free, which are used as stacks.
-use Rattle.std.proofs.Common.{◌≡◌, ◌≢◌, ℕ, zero, suc, ◌+◌, ◌-◌, ◌<◌, ◌≤◌, Bool, true, false, nat_eq, inl, inr, List, [], ◌∷◌, length, Option, Some, None, refl, sym, ◌∙◌, ap, subst, arith}
+use Rattle.std.proofs.Common.{◌≡◌, ◌≢◌, ℕ, zero, suc, ◌+◌, ◌-◌, ◌<◌, ◌≤◌, true, false, nat_eq, inl, inr, List, [], ◌∷◌, length, Option, Some, None, refl, sym, ◌∙◌, ap, subst, arith}
 use Rattle.std.specs.Prelude.{if◌then◌else◌}
 use Rattle.std.specs.List.{AllByRecursion, IsDistinct, list_any}
 use Rattle.std.proofs.lemmas.Bool.{cases_Bool}
@@ -123,10 +123,11 @@ module _ (said : ℕ → Option Free) (low end : ℕ) where
 
 -- A list is a stack. One more member: it is named first now, names the one that was first, and ranks above them all.
 pub list_pushed : (said said' : ℕ → Option Free) (low end n named m : ℕ) → IsList said low end n named → low ≤ m → m < end → said' m ≡ Some (record { next = named; rank = suc n })
-    → ((x : ℕ) → said x ≢ None → said' x ≡ said x) → IsList said' low end (suc n) (suc m)
+    → ((x : ℕ) → low ≤ x → x < end → said x ≢ None → said' x ≡ said x) → IsList said' low end (suc n) (suc m)
 list_pushed said said' low end n named m l from to is same =
     let kept = list_kept said low end said' end n named (omega arith) l (λ i lt.
-    let r = member_is said low end n i named l lt in same (member_at said named i - 1) (rank_some (said (member_at said named i - 1)) (n - i) r.1)) in
+    let r = member_is said low end n i named l lt in
+    same (member_at said named i - 1) (omega (arith, r.0.0)) (omega (arith, r.0.0, r.0.1)) (rank_some (said (member_at said named i - 1)) (n - i) r.1)) in
     let at : suc m - 1 ≡ m = omega arith in
     let here : said' (suc m - 1) ≡ Some (record { next = named; rank = suc n }) = ap said' at ∙ is in (
       (omega (arith, from), omega (arith, to)),
@@ -150,7 +151,7 @@ list_room said low end n named m l from to none =
     let same : (x : ℕ) → said x ≢ None → with_one x ≡ said x = λ x some.
     let other : x ≢ m = λ e. some (ap said e ∙ none) in
     (let b : nat_eq x m ≡ false = grind (arith, nat_tests, other) in rw b refl) in
-    let few = list_few with_one low end (suc n) (suc m) (omega (arith, from, to)) (list_pushed said with_one low end n named m l from to here same) in
+    let few = list_few with_one low end (suc n) (suc m) (omega (arith, from, to)) (list_pushed said with_one low end n named m l from to here (λ x low' high some. same x some)) in
     omega (arith, few)
 
 -- a list has at most one verdict

@@ -1,6 +1,6 @@
 -- Pages and slots that are taken: which they are, and what the data says once their super page is written.
-use Rattle.std.proofs.Common.{◌≡◌, ◌≢◌, ℕ, zero, suc, ◌+◌, ◌-◌, ◌*◌, ◌^◌, ◌<◌, ◌≤◌, ◌⊎◌, true, false, inl, inr, List, length, Option, Some, None, refl, sym, ◌∙◌, ap, subst, arith}
-use Rattle.std.specs.Prelude.{nat_eq, nat_lt, nat_le, if◌then◌else◌}
+use Rattle.std.proofs.Common.{◌≡◌, ◌≢◌, ℕ, zero, suc, ◌+◌, ◌-◌, ◌^◌, ◌<◌, ◌≤◌, ◌⊎◌, true, false, inl, inr, List, length, Option, Some, None, refl, sym, ◌∙◌, ap, subst, arith}
+use Rattle.std.specs.Prelude.{nat_eq, nat_lt, if◌then◌else◌}
 use Rattle.std.proofs.lemmas.Bool.{cases_eq, cases_lt}
 use Rattle.std.proofs.lemmas.Bool.Decides.{nat_tests}
 use Rattle.record_slots.specs.Free.{next_of, member_at, free_slot_said, free_page_said}
@@ -12,7 +12,7 @@ use Rattle.page_store.specs.Index.{IsFreePage}
 use Rattle.page_store.specs.Pairs.{Pair}
 use Rattle.index_pages.proofs.Carrying.{free_carries}
 use Rattle.index_pages.specs.Adding.{with_slot_taken, with_page_taken, page_for, first_page, slot_for, first_slot}
-use Rattle.index_pages.specs.Slots.{Names, HasRank}
+use Rattle.index_pages.specs.Slots.{HasRank}
 use Rattle.index_pages.proofs.Stacks.{IsList, list_after, list_kept, members_kept, members_differ, member_is, member_after, member_last, rank_some, list_few}
 use Rattle.index_pages.proofs.Fronts.{IsWritable}
 

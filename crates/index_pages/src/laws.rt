@@ -33,7 +33,7 @@ pub fn pieces_answer()
 /// twice. Where a number of its range is not free, there is room for one more. A free page is of a kind that no chain and no tree has.
 pub fn free_lists_are_stacks()
     ensures pushes { (old new : ℕ → Option Free) (page_of : ℕ → ℕ) (low end n first m page : ℕ) → list_check old page_of low end n first page None → low ≤ m → m < end →
-        new m ≡ Some (record { next = first; rank = suc n }) → ((x : ℕ) → old x ≢ None → new x ≡ old x) → list_check new page_of low end (suc n) (suc m) page None }
+        new m ≡ Some (record { next = first; rank = suc n }) → ((x : ℕ) → low ≤ x → x < end → old x ≢ None → new x ≡ old x) → list_check new page_of low end (suc n) (suc m) page None }
     ensures pops { (old new : ℕ → Option Free) (page_of : ℕ → ℕ) (low end n first page : ℕ) → list_check old page_of low end (suc n) first page None →
         ((x : ℕ) → x ≢ first - 1 → old x ≢ None → new x ≡ old x) → list_check new page_of low end n (next_of (old (first - 1))) page None }
     ensures once { (said : ℕ → Option Free) (page_of : ℕ → ℕ) (low end n first page i j : ℕ) → list_check said page_of low end n first page None → i < n → j < n → i ≢ j →
