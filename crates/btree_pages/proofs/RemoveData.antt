@@ -292,11 +292,6 @@ module _ (old : List ℕ) (half : ℕ) (size : length old ≡ 512 * (half + half
       lacks_left : Lacks root old new key
       lacks_left = freed_joins_left root old new key slot root_sound keeps counts counts_now is lt (level_of old root.page - 1) level leaves same_left
 
-      children : AreBelow root.page (next_page old) (page_pairs old (parent_for old root.page key))
-      children =
-          let t : IsTree root (above (level_of old root.page - 1) 1) old root.page 0 key_end = subst (λ (n : ℕ). IsTree root n old root.page 0 key_end) level root_sound.2 in
-          (way_of root (level_of old root.page - 1) 1 old key root.page 0 key_end t (omega arith) lt).tree.0.children
-
       last_left : (one : ℕ) → one < key_end → IsSome (found (pairs_of_tree new root.page) one) → StaysLast old root.page one → StaysLast new root.page one
       last_left one less some s =
           let q_level = parent_bottom root old one root_sound less s.below in
@@ -316,7 +311,7 @@ module _ (old : List ℕ) (half : ℕ) (size : length old ≡ 512 * (half + half
           (λ two named differ x u. let g = other_page two named x u in pages x g.0 g.1
           (λ e. tables_apart old two root x sound named table differ u (subst (λ (y : ℕ). IsPageOfTree old root.page y) (sym e) parent_under))
           (λ e. tables_apart old two root x sound named table differ u (subst (λ (y : ℕ). IsPageOfTree old root.page y) (sym e) child_in_tree)))
-          (λ x u. elim (stays_but_left root old new key (level_of old root.page - 1) root_sound lacks_left.levels lt level children leaves same_left x u) [
+          (λ x u. elim (stays_but_left root old new key (level_of old root.page - 1) root_sound lacks_left.levels lt level leaves same_left x u) [
             | inl a ↦ inl a
             | inr e ↦ inr (subst (λ (y : ℕ). IsFreePage new y) (sym e) (freed_is_free old new _ lists.pages frees))
           ])
