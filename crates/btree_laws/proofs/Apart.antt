@@ -1,5 +1,5 @@
 -- No page occurs twice in a sound tree.
-use Rattle.std.proofs.Common.{◌≡◌, ◌≢◌, ℕ, zero, suc, ◌<◌, ◌≤◌, inl, inr, List, [], ◌∷◌, length, length-append, sym, ◌∙◌, subst, arith, None}
+use Rattle.std.proofs.Common.{◌≡◌, ◌≢◌, ℕ, zero, suc, ◌<◌, ◌≤◌, inl, inr, List, [], ◌∷◌, length, length-append, sym, ◌∙◌, subst, arith}
 use Rattle.record_slots.specs.Places.{next_page}
 use Rattle.btree_laws.specs.Sound.{AreBelow, AreSound, IsTree}
 use Rattle.btree_laws.specs.declared.root.Root.{Root}

@@ -1,21 +1,20 @@
 -- The pages of a tree after a change: none is lost, and new ones belong to it.
 use Rattle.std.proofs.Common.{◌≡◌, ◌≢◌, ℕ, zero, suc, ◌<◌, ◌≤◌, ◌⊎◌, true, false, nat_lt, inl, inr, List, [], ◌∷◌, length, take, drop, refl, sym, ◌∙◌, ap, subst, arith}
 use Rattle.std.proofs.lemmas.Bool.Decides.{leb_tells, eqb_tells}
-use Rattle.record_slots.specs.Places.{page_bytes, next_page}
+use Rattle.record_slots.specs.Places.{page_bytes}
 use Rattle.page_store.specs.Pairs.{Pair}
 use Rattle.index_pages.specs.Keys.{key_end}
 use Rattle.index_pages.specs.Page.{page_pairs, pairs_said, level_of}
 use Rattle.index_pages.specs.Ways.{above, Keeps}
-use Rattle.index_pages.proofs.Given.{above_zero}
 use Rattle.index_pages.proofs.PageFacts.{length-page_pairs}
 use Rattle.btree_laws.specs.Changes.{middle, with_entry, SplitsChild, SplitsRoot}
-use Rattle.btree_laws.specs.Descent.{child_for, page_for, leaf_for}
+use Rattle.btree_laws.specs.Descent.{child_for, page_for}
 use Rattle.btree_laws.specs.declared.root.Root.{Root}
 use Rattle.btree_laws.specs.Tree.{next_low, IsUnder, IsUnderSome, IsPageOfTree}
 use Rattle.btree_laws.specs.Sound.{AreSound, IsTree, IsSoundTree}
 use Rattle.btree_laws.proofs.Apart.{sub_of, sub_below, start_of}
 use Rattle.btree_laws.proofs.Splitting.{sound_tree_splits, under_self}
-use Rattle.btree_laws.proofs.Ways.{Way, way_of, way_below, way_under, child_some, above-le}
+use Rattle.btree_laws.proofs.Ways.{way_of, way_below, way_under, child_some, above-le}
 use Rattle.btree_laws.specs.TreeFacts.{tree_level}
 
 some_with : (P : ℕ → Type 0) (es : List Pair) (key : ℕ) (p : Pair) → IsUnderSome P es → IsUnderSome P (with_entry es key p)

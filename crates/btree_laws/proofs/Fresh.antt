@@ -4,9 +4,9 @@ use Rattle.btree_laws.specs.Sound.{IsSoundTree, IsTree}
 use Rattle.btree_laws.specs.declared.root.Root.{Root}
 use Rattle.btree_laws.specs.Tree.{pairs_of_tree, pairs_under}
 use Rattle.index_pages.specs.Keys.{key_end}
-use Rattle.index_pages.specs.Page.{kind_of, level_of, link_of, count_of, page_pairs}
+use Rattle.index_pages.specs.Page.{kind_of, level_of, link_of, count_of}
 use Rattle.page_store.specs.Pairs.{Pair, Rise}
-use Rattle.record_slots.specs.Places.{IsSuper, AreGiven}
+use Rattle.record_slots.specs.Places.{AreGiven}
 use Rattle.index_pages.proofs.PageFacts.{no_pairs}
 use Rattle.index_pages.specs.Ways.{IsOwn}
 

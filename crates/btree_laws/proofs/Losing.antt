@@ -15,7 +15,7 @@ use Rattle.index_pages.specs.Keys.{key_end}
 use Rattle.index_pages.specs.Page.{page_pairs, level_of, count_of}
 use Rattle.index_pages.specs.Ways.{above, Keeps}
 use Rattle.page_store.specs.Pairs.{Pair, Rise, removed}
-use Rattle.record_slots.specs.Places.{page_bytes, AreGiven, next_page, IsSuper}
+use Rattle.record_slots.specs.Places.{page_bytes, AreGiven}
 
 leaf_loses : (root : Root) (old new : List ℕ) → Keeps old new → (leaf key low high : ℕ) → LosesPair root old new leaf key → IsTree root 0 old leaf low high → IsTree root 0 new leaf low high
 leaf_loses root old new keeps leaf key low high loses t =

@@ -1,5 +1,5 @@
 -- A tree on data of which all but its own pages, and the slots of its own pairs, may have changed.
-use Rattle.std.proofs.Common.{◌≡◌, ℕ, zero, suc, ◌≤◌, inl, inr, List, [], ◌∷◌, ◌++◌, refl, sym, ◌∙◌, ap, subst, arith}
+use Rattle.std.proofs.Common.{◌≡◌, ℕ, zero, suc, ◌≤◌, inl, inr, List, [], ◌∷◌, refl, sym, ◌∙◌, ap, subst, arith}
 use Rattle.btree_laws.specs.Sound.{AreBelow, AreSound, IsSoundTree, IsTree, IsUpper}
 use Rattle.btree_laws.specs.declared.root.Root.{Root}
 use Rattle.btree_laws.specs.Tree.{IsPageOfTree, IsUnder, IsUnderSome, next_low, pairs_of_tree, pairs_under, pieces_with}
@@ -9,7 +9,7 @@ use Rattle.index_pages.specs.Page.{page_pairs, pairs_said, kind_said, level_said
 use Rattle.index_pages.specs.Pieces.{joined}
 use Rattle.page_store.specs.Pairs.{Pair, Rise}
 use Rattle.index_pages.proofs.Removing.{given_left}
-use Rattle.record_slots.specs.Places.{page_bytes, next_page, AreGiven, IsSuper}
+use Rattle.record_slots.specs.Places.{page_bytes, next_page, AreGiven}
 
 module _ (root : Root) (old new : List ℕ) (pages : next_page old ≤ next_page new) where
   children_moved : (es : List Pair) → AreBelow root.page (next_page old) es → AreBelow root.page (next_page new) es

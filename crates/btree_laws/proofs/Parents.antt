@@ -19,7 +19,7 @@ use Rattle.index_pages.specs.Page.{page_pairs, level_of, count_of}
 use Rattle.index_pages.specs.Pieces.{joined}
 use Rattle.index_pages.specs.Ways.{above, Keeps, IsOwn}
 use Rattle.page_store.specs.Pairs.{Pair, Rise, found, removed}
-use Rattle.record_slots.specs.Places.{page_bytes, next_page, IsSuper}
+use Rattle.record_slots.specs.Places.{page_bytes, next_page}
 
 -- a page under the children of a parent of leaves is not that parent
 not_parent : (root : Root) (old : List ℕ) (parent low high x : ℕ) → IsTree root 1 old parent low high → IsUnderSome (IsUnder 0 old x) (page_pairs old parent) → x ≢ parent

@@ -1,8 +1,8 @@
 -- Numbers of 64 bits stay such.
-use Rattle.std.proofs.Common.{◌≡◌, ℕ, suc, true, false, nat_eq, nat_lt, inl, inr, List, [], ◌∷◌}
-use Rattle.std.proofs.lemmas.Bool.Decides.{leb_tells, eqb_tells}
+use Rattle.std.proofs.Common.{◌≡◌, ℕ, suc, true, false, nat_lt, inl, inr, List, [], ◌∷◌}
+use Rattle.std.proofs.lemmas.Bool.Decides.{leb_tells}
 use Rattle.index_pages.specs.Written.{AreSmall}
-use Rattle.page_store.specs.Pairs.{Pair, removed}
+use Rattle.page_store.specs.Pairs.{Pair}
 use Rattle.btree_laws.specs.Removals.{without_last, without_right}
 pub use Rattle.index_pages.proofs.Removing.{small_removed}
 

@@ -1,5 +1,5 @@
 -- What splits do to a tree.
-use Rattle.std.proofs.Common.{◌≡◌, ◌≢◌, ℕ, zero, suc, ◌<◌, ◌≤◌, true, false, nat_lt, inl, inr, List, [], ◌∷◌, ◌++◌, length, take, drop, refl, sym, ◌∙◌, ap, subst, arith, append_assoc, None}
+use Rattle.std.proofs.Common.{◌≡◌, ◌≢◌, ℕ, zero, suc, ◌<◌, ◌≤◌, true, false, nat_lt, inl, inr, List, [], ◌∷◌, ◌++◌, length, take, drop, refl, sym, ◌∙◌, ap, subst, arith, append_assoc}
 use Rattle.std.proofs.lemmas.Bool.Decides.{leb_tells}
 use Rattle.std.proofs.lemmas.List.{append-nil, take-append-drop, length-drop, length-take-le}
 use Rattle.btree_laws.proofs.Apart.{entries_tile, start_of, sub_below, sub_of, subs_apart}
@@ -20,7 +20,7 @@ use Rattle.index_pages.specs.Page.{page_pairs, level_of, count_of}
 use Rattle.index_pages.specs.Pieces.{joined}
 use Rattle.index_pages.specs.Ways.{above, Keeps, IsOwn}
 use Rattle.page_store.specs.Pairs.{Pair, Rise}
-use Rattle.record_slots.specs.Places.{page_bytes, AreGiven, next_page, IsSuper}
+use Rattle.record_slots.specs.Places.{page_bytes, AreGiven, next_page}
 use Rattle.index_pages.proofs.Halves.{given_take, joined_two}
 
 children_take : (root : Root) (bytes : List ℕ) (n : ℕ) (es : List Pair) → AreBelow root.page (next_page bytes) es → AreBelow root.page (next_page bytes) (take n es) × AreBelow root.page (next_page bytes) (drop n es)

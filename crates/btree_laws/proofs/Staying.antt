@@ -1,6 +1,6 @@
 -- A removal loses no page but the one that it frees, and what stays as the last pair of its page stays so.
-use Rattle.std.proofs.Common.{◌≡◌, ◌≢◌, ℕ, zero, suc, ◌-◌, ◌<◌, ◌≤◌, ◌⊎◌, Bool, true, false, nat_lt, inl, inr, List, [], ◌∷◌, length, Some, None, refl, sym, ◌∙◌, ap, subst, arith}
-use Rattle.std.specs.Prelude.{nat_le, ◌&&◌}
+use Rattle.std.proofs.Common.{◌≡◌, ◌≢◌, ℕ, zero, suc, ◌-◌, ◌<◌, ◌≤◌, ◌⊎◌, Bool, true, false, nat_lt, inl, inr, List, [], ◌∷◌, refl, sym, ◌∙◌, ap, subst, arith}
+use Rattle.std.specs.Prelude.{nat_le}
 use Rattle.std.proofs.lemmas.Bool.Decides.{leb_tells, eqb_tells, nat_tests}
 use Rattle.btree_laws.proofs.Belonging.{way_same}
 use Rattle.btree_laws.proofs.Entries.{right_under}
@@ -94,13 +94,18 @@ module _ (root : Root) (old new : List ℕ) (key d : ℕ) (sound : IsSoundTree r
         | inr a ↦ inr a
       ]
 
-  pub stays_but_left : AreBelow root.page (next_page old) (page_pairs old (page_for d old root.page key)) → JoinsLeft old new (page_for d old root.page key) key
+  children : AreBelow root.page (next_page old) (page_pairs old (page_for d old root.page key))
+  children =
+      let t : IsTree root (above d 1) old root.page 0 key_end = subst (λ (n : ℕ). IsTree root n old root.page 0 key_end) level sound.2 in
+      (way_of root d 1 old key root.page 0 key_end t (omega arith) lt).tree.0.children
+
+  pub stays_but_left : JoinsLeft old new (page_for d old root.page key) key
       → ((p : ℕ) → IsPageOfTree old root.page p → p ≢ page_for d old root.page key → p ≢ child_for (page_pairs old (page_for d old root.page key)) key → page_bytes new p ≡ page_bytes old p)
       → (x : ℕ) → IsPageOfTree old root.page x → IsPageOfTree new root.page x ⊎ (x ≡ child_for (page_pairs old (page_for d old root.page key)) key)
-  stays_but_left are joins kept x u =
+  stays_but_left joins kept x u =
       let place = join_place root old d key sound lt level in
       elim (under_but root old new x (child_for (page_pairs old (page_for d old root.page key)) key) (page_for d old root.page key) place.parent_level
-      (λ P v. elim (some_but_last P root.page (next_page old) (page_pairs old (page_for d old root.page key)) key are joins.last v) [
+      (λ P v. elim (some_but_last P root.page (next_page old) (page_pairs old (page_for d old root.page key)) key children joins.last v) [
         | inl a ↦ inl (subst (λ (es : List Pair). IsUnderSome P es) (sym joins.parent_is.entries_are) a)
         | inr a ↦ inr a
       ])

@@ -14,7 +14,7 @@ use Rattle.index_pages.specs.Keys.{key_end}
 use Rattle.index_pages.specs.Page.{page_pairs, level_of, count_of}
 use Rattle.index_pages.specs.Ways.{above, Keeps}
 use Rattle.page_store.specs.Pairs.{Pair, Rise, found, inserted}
-use Rattle.record_slots.specs.Places.{page_bytes, AreGiven, next_page, IsSuper}
+use Rattle.record_slots.specs.Places.{page_bytes, AreGiven}
 use Rattle.index_pages.proofs.Given.{inserted_local, given_inserted, above_zero}
 
 leaf_takes : (root : Root) (old new : List ℕ) → Keeps old new → (leaf key to low high : ℕ) → TakesPair root old new leaf key to → IsTree root 0 old leaf low high → low ≤ key → key < high

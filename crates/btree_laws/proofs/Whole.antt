@@ -20,7 +20,7 @@ use Rattle.index_pages.specs.Keys.{key_end}
 use Rattle.index_pages.specs.Page.{page_pairs, pairs_said, kind_said, level_said, link_said, level_of}
 use Rattle.index_pages.specs.Ways.{above, IsOwn}
 use Rattle.page_store.specs.Pairs.{Pair, found, removed}
-use Rattle.record_slots.specs.Places.{page_bytes, next_slot, next_page, IsSuper, Carries, AreGiven}
+use Rattle.record_slots.specs.Places.{page_bytes, next_slot, next_page, Carries, AreGiven}
 use Rattle.page_store.specs.Index.{HasCounts}
 
 leaf_same : (a b : List ℕ) (x : ℕ) (ps : List Pair) → page_bytes b x ≡ page_bytes a x → IsLeafWith a x ps → IsLeafWith b x ps

@@ -1,5 +1,5 @@
 -- What the removal of a pair writes to a tree.
-use Rattle.std.specs.Prelude.{ℕ, ◌≡◌, ◌≢◌, ◌-◌, ◌<◌, ◌≤◌, ◌⊎◌, Bool, nat_lt, nat_le, ◌&&◌, if◌then◌else◌, List, [], ◌∷◌, length}
+use Rattle.std.specs.Prelude.{ℕ, ◌≡◌, ◌≢◌, ◌-◌, ◌<◌, ◌≤◌, ◌⊎◌, Bool, nat_lt, nat_le, ◌&&◌, if◌then◌else◌, List, [], ◌∷◌}
 use Rattle.btree_laws.specs.Descent.{child_for, page_for, leaf_for}
 use Rattle.btree_laws.specs.Sound.{IsSoundTree}
 use Rattle.btree_laws.specs.declared.root.Root.{Root}
@@ -8,7 +8,7 @@ use Rattle.index_pages.specs.Page.{page_pairs, kind_of, level_of, link_of, count
 use Rattle.index_pages.specs.Ways.{IsOwn, above}
 pub use Rattle.index_pages.specs.Ways.{KeepsBut}
 use Rattle.page_store.specs.Pairs.{Pair, removed}
-use Rattle.record_slots.specs.Places.{next_slot, next_page, Carries}
+use Rattle.record_slots.specs.Places.{next_page}
 
 -- the page of the entry after that of the key's child, 0 if that child is the last
 abbrev pub right_of : List Pair → ℕ → ℕ

@@ -1,6 +1,6 @@
 -- What it is that a tree passes its check.
 use Rattle.std.proofs.Common.{◌≡◌, ◌≢◌, ◌<◌, ℕ, zero, suc, ◌≤◌, List, [], ◌∷◌, None, arith, subst}
-use Rattle.mars_base.specs.Check.{Check, test, both, each, IsSingle}
+use Rattle.mars_base.specs.Check.{Check, test, each, IsSingle}
 use Rattle.mars_base.proofs.Checks.{pass_single, test_single, both_single, each_single}
 use Rattle.record_slots.specs.Places.{AreGiven, next_page}
 use Rattle.page_store.specs.Pairs.{Pair, Rise}

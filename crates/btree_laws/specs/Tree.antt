@@ -1,5 +1,5 @@
 -- The tree of a table. An inner page has pairs of a low key and a child, a leaf has pairs of a key and a slot.
-use Rattle.std.specs.Prelude.{ℕ, zero, suc, ◌≡◌, ◌≢◌, ◌<◌, ◌≤◌, ◌⊎◌, List, [], ◌∷◌, Some, None}
+use Rattle.std.specs.Prelude.{ℕ, zero, suc, ◌≡◌, ◌≢◌, ◌<◌, ◌≤◌, ◌⊎◌, List, [], ◌∷◌}
 use Rattle.mars_base.specs.Check.{Check, pass, test, both, each}
 use Rattle.index_pages.specs.Keys.{key_end}
 use Rattle.index_pages.specs.Page.{kind_of, level_of, count_of, link_of, page_pairs}

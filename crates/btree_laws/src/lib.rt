@@ -13,7 +13,7 @@ pub use laws::{
     tree_changes_keep, tree_rises, trees_are_apart,
 };
 pub use removals::{
-    leaves_are_joined_here, removal_takes_one, removals_add_no_page, removals_are_chosen,
-    tree_removals_keep, what_is_left_is_small,
+    last_pairs_stay, leaves_are_joined_here, removal_takes_one, removals_add_no_page,
+    removals_are_chosen, removals_lose_no_page, tree_removals_keep, what_is_left_is_small,
 };
 pub use root::Root;

@@ -1,14 +1,14 @@
 // Laws of a removal, each of which follows from the definitions alone.
-ghost use Rattle.std.specs.Prelude.{◌≡◌, ◌≢◌, ◌⊎◌, ◌<◌, ◌≤◌, ℕ, suc, List, length, nat_eq, if◌then◌else◌, Option, Some, None};
+ghost use Rattle.std.specs.Prelude.{◌≡◌, ◌≢◌, ◌⊎◌, ◌<◌, ◌≤◌, ℕ, suc, List, length, nat_eq, if◌then◌else◌, true, Option, Some, None};
 ghost use Rattle.record_slots.specs.Places.{page_bytes, next_page};
 ghost use Rattle.page_store.specs.Index.{HasCounts};
 ghost use Rattle.page_store.specs.Pairs.{Pair, Rise, found, removed};
 ghost use Rattle.index_pages.specs.Keys.{key_end};
-ghost use Rattle.index_pages.specs.Page.{level_of, page_pairs};
+ghost use Rattle.index_pages.specs.Page.{count_of, level_of, page_pairs};
 ghost use Rattle.index_pages.specs.Ways.{above};
 ghost use Rattle.index_pages.specs.Written.{AreSmall};
 ghost use Rattle.btree_laws.specs.Descent.{child_for, page_for, leaf_for};
-ghost use Rattle.btree_laws.specs.Removals.{MayLose, IsAlone, Neighbours, KeepsBut, Lacks, IsJoinPlace, LosesPair, JoinsRight, JoinsLeft, right_of, without_right, without_last};
+ghost use Rattle.btree_laws.specs.Removals.{MayLose, IsAlone, Neighbours, KeepsBut, Lacks, IsJoinPlace, LosesPair, JoinsRight, JoinsLeft, right_of, without_right, without_last, parent_for, stays_last};
 ghost use Rattle.btree_laws.specs.Sound.{IsSoundTree};
 ghost use Rattle.btree_laws.specs.declared.root.Root.{Root};
 ghost use Rattle.btree_laws.specs.Tree.{pairs_of_tree, IsPageOfTree};
@@ -77,4 +77,28 @@ pub fn removals_add_no_page()
         ((p : ℕ) → 1 ≤ p → p < next_page old → p ≢ page_for d old root.page key → p ≢ child_for (page_pairs old (page_for d old root.page key)) key →
         page_bytes new p ≡ page_bytes old p) →
         IsPageOfTree new root.page x → IsPageOfTree old root.page x }
+{}
+
+/// Each page of a tree before its leaves were joined is one of it after, but for the one that is named no more. (A loss of a pair alone
+/// changes no inner page.)
+pub fn removals_lose_no_page()
+    ensures joins_right { (root : Root) (old new : List ℕ) (key d x : ℕ) → IsSoundTree root old → level_of new root.page ≡ level_of old root.page → key < key_end →
+        level_of old root.page ≡ above d 1 → JoinsRight old new (page_for d old root.page key) key →
+        ((p : ℕ) → IsPageOfTree old root.page p → p ≢ page_for d old root.page key → p ≢ child_for (page_pairs old (page_for d old root.page key)) key →
+        p ≢ right_of (page_pairs old (page_for d old root.page key)) key → page_bytes new p ≡ page_bytes old p) →
+        IsPageOfTree old root.page x → IsPageOfTree new root.page x ⊎ (x ≡ right_of (page_pairs old (page_for d old root.page key)) key) }
+    ensures joins_left { (root : Root) (old new : List ℕ) (key d x : ℕ) → IsSoundTree root old → level_of new root.page ≡ level_of old root.page → key < key_end →
+        level_of old root.page ≡ above d 1 → JoinsLeft old new (page_for d old root.page key) key →
+        ((p : ℕ) → IsPageOfTree old root.page p → p ≢ page_for d old root.page key → p ≢ child_for (page_pairs old (page_for d old root.page key)) key →
+        page_bytes new p ≡ page_bytes old p) →
+        IsPageOfTree old root.page x → IsPageOfTree new root.page x ⊎ (x ≡ child_for (page_pairs old (page_for d old root.page key)) key) }
+{}
+
+/// A pair that stays as the last of an only child stays so still, if the root keeps its level, the inner pages above the parents of leaves and
+/// the parent of its own leaf are as they were, and that leaf has no more pairs.
+pub fn last_pairs_stay()
+    ensures { (root : Root) (old new : List ℕ) (key : ℕ) → IsSoundTree root old → key < key_end → level_of new root.page ≡ level_of old root.page →
+        ((x : ℕ) → IsPageOfTree old root.page x → 1 < level_of old x → page_bytes new x ≡ page_bytes old x) →
+        page_bytes new (parent_for old root.page key) ≡ page_bytes old (parent_for old root.page key) → count_of new (leaf_for old root.page key) ≤ 1 →
+        stays_last old root.page key ≡ true → stays_last new root.page key ≡ true }
 {}

@@ -7,16 +7,15 @@ use Rattle.page_store.specs.Index.{Action}
 use Rattle.page_store.specs.Pairs.{Pair, Rise}
 use Rattle.index_pages.specs.Keys.{key_at, key_end}
 use Rattle.index_pages.specs.Page.{page_pairs, pairs_said, count_said, count_of, level_of}
-use Rattle.index_pages.specs.Ways.{above, IsOwn}
 use Rattle.index_pages.proofs.PageFacts.{length-page_pairs}
 use Rattle.index_pages.proofs.Rising.{key_at-bounds}
 use Rattle.btree_laws.proofs.Apart.{start_of, sub_of}
 use Rattle.btree_laws.proofs.Ways.{child_some}
 use Rattle.btree_laws.proofs.Splitting.{under_self}
 use Rattle.btree_laws.specs.Changes.{IsCut}
-use Rattle.btree_laws.specs.Descent.{child_for, page_for}
+use Rattle.btree_laws.specs.Descent.{child_for}
 use Rattle.btree_laws.specs.Sound.{IsTree}
-use Rattle.btree_laws.specs.Tree.{IsUnder, IsUnderSome}
+use Rattle.btree_laws.specs.Tree.{IsUnder}
 use Rattle.btree_laws.specs.TreeFacts.{tree_level}
 use Rattle.btree_pages.proofs.Descending.{child_step}
 use Rattle.btree_pages.specs.Index.{actions_below, adding, cutting, half_for}

@@ -1,23 +1,23 @@
 -- What adding a pair does to the data.
-use Rattle.std.proofs.Common.{◌≡◌, ◌≢◌, ℕ, suc, ◌+◌, ◌*◌, ◌^◌, ◌<◌, ◌≤◌, inl, inr, List, length, None, sym, ◌∙◌, ap, subst, arith}
+use Rattle.std.proofs.Common.{◌≡◌, ◌≢◌, ℕ, ◌+◌, ◌*◌, ◌^◌, ◌<◌, ◌≤◌, inl, inr, List, length, None, sym, ◌∙◌, ap, subst, arith}
 use Rattle.std.proofs.lemmas.Bool.{cases_eq}
 use Rattle.array_shape.specs.declared.shape.Shape.{Shape}
 use Rattle.array_shape.specs.Places.{data_len}
 use Rattle.array_shape.specs.Places as array
 use Rattle.array_shape.specs.Logged.{applied}
-use Rattle.record_slots.specs.Slots.{slot_bytes, slot_said}
+use Rattle.record_slots.specs.Slots.{slot_bytes}
 use Rattle.record_slots.specs.Super.{SaysSuper}
 use Rattle.record_slots.specs.declared.super_page.Super.{Super}
 use Rattle.record_slots.specs.declared.slot.Slot.TheVariants.{Absent}
-use Rattle.record_slots.specs.Places.{page_bytes, page_count, first_slot_page, slot_of, next_slot, next_page, free_slots, free_page_of, slot_due, used_slots, tables_of, IsSuper, Carries}
+use Rattle.record_slots.specs.Places.{page_bytes, page_count, first_slot_page, slot_of, next_slot, next_page, free_slots, free_page_of, slot_due, used_slots, tables_of, IsSuper}
 use Rattle.page_store.specs.Index.{IsTable, slots_of, index_pages_of, Grows, Gains}
 use Rattle.page_store.specs.Pairs.{Pair, inserted, found}
-use Rattle.index_pages.specs.Adding.{adding_parts, TakesSlot, first_slot, with_slot_taken}
+use Rattle.index_pages.specs.Adding.{adding_parts, TakesSlot}
 use Rattle.index_pages.specs.Keys.{key_end}
 use Rattle.index_pages.specs.Page.{pairs_said, kind_said, level_said, link_said, level_of}
 use Rattle.index_pages.specs.Ways.{above, Keeps}
 use Rattle.index_pages.proofs.Added.{IsAdded, added_is}
-use Rattle.index_pages.proofs.Carrying.{carries_on, carries_absent, free_carries}
+use Rattle.index_pages.proofs.Carrying.{carries_on, carries_absent}
 use Rattle.index_pages.proofs.Fronts.{IsWritable, super_written, super_kept, version_kept}
 use Rattle.index_pages.proofs.Given.{above_zero}
 use Rattle.index_pages.proofs.PageFacts.{length-page_pairs}
@@ -26,7 +26,7 @@ use Rattle.index_pages.proofs.Tabled.{IsWhole, whole_counts}
 use Rattle.index_pages.proofs.Taken.{IsSlotAfter, is_slot_after, slot_is_due, slot_writable, slot_due_next, due_carries}
 use Rattle.index_pages.proofs.Writing.{small_inserted, written_kind, written_level, written_link, written_pairs}
 use Rattle.btree_laws.specs.Changes.{TakesPair}
-use Rattle.btree_laws.specs.Descent.{page_for, leaf_for}
+use Rattle.btree_laws.specs.Descent.{page_for}
 use Rattle.btree_laws.specs.Sound.{IsTree, IsSoundTree}
 use Rattle.btree_laws.specs.Tree.{IsUnder, IsPageOfTree, pairs_of_tree}
 use Rattle.btree_laws.specs.TreeFacts.{under_own}

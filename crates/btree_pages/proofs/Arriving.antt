@@ -1,18 +1,16 @@
 -- What a removal knows when it has come to the key's leaf.
-use Rattle.std.proofs.Common.{◌≡◌, ◌≢◌, ℕ, suc, ◌+◌, ◌-◌, ◌^◌, ◌<◌, ◌≤◌, Bool, false, List, length, Option, Some, None, refl, sym, ◌∙◌, ap, subst, arith}
+use Rattle.std.proofs.Common.{◌≡◌, ℕ, ◌+◌, ◌^◌, ◌<◌, ◌≤◌, Bool, false, List, length, Option, Some, None, refl, sym, ◌∙◌, ap, arith}
 use Rattle.std.specs.Prelude.{IsTrue, IsSome}
 use Rattle.std.proofs.lemmas.Bool.{false≢true}
 use Rattle.array_shape.specs.declared.shape.Shape.{Shape}
-use Rattle.eaw_face.specs.Causes.{IsAlive}
 use Rattle.record_slots.specs.Places.{page_bytes, version_of}
 use Rattle.record_slots.specs.Super.{SaysSuper}
-use Rattle.record_slots.specs.declared.free.Free.{Free}
 use Rattle.record_slots.specs.declared.super_page.Super.{Super}
 use Rattle.page_store.specs.Index.{IsTable}
 use Rattle.page_store.specs.Looks.{Looks}
 use Rattle.page_store.specs.Pairs.{Pair, found}
 use Rattle.page_store.specs.Shown.{PagesView}
-use Rattle.index_pages.specs.Giving.{MayGive, GivesSlot}
+use Rattle.index_pages.specs.Giving.{MayGive}
 use Rattle.index_pages.specs.Page.{page_pairs, count_of}
 use Rattle.index_pages.proofs.Looking.{looks_next}
 use Rattle.btree_laws.proofs.Ways.{sound_tree_finds}
@@ -22,7 +20,6 @@ use Rattle.btree_laws.specs.declared.root.Root.{Root}
 use Rattle.btree_pages.specs.Index.{tree_removal, AreSoundTrees}
 use Rattle.btree_pages.specs.OnWay.{IsReached}
 use Rattle.btree_pages.specs.Trees.{table_sound}
-use Rattle.btree_pages.specs.Writes.{IsRead, Releases}
 use Rattle.btree_pages.proofs.Coming.{reached_down}
 use Rattle.btree_pages.proofs.Ending.{found_there}
 use Rattle.btree_pages.proofs.Giveable.{slot_may}
@@ -41,7 +38,7 @@ pub gives_back : (root : Root) (bytes : List ℕ) (key : ℕ) → key < 2 ^ 64 �
 gives_back root bytes key fits sound named leaf level pairs bottom reached there two front says none =
     let s = some_is (found (pairs_of_tree bytes root.page) key) there in
     let in_leaf : found pairs key ≡ Some s.0 = ap (λ (ps : List Pair). found ps key) reached.1.pairs_are ∙ ap (λ (x : ℕ). found (page_pairs bytes x) key) (leaf_reached root bytes key leaf level pairs bottom reached)
-        ∙ sym (sound_tree_finds root bytes key (table_sound bytes root sound named) (omega (arith, fits))) ∙ s.1 in
+    ∙ sym (sound_tree_finds root bytes key (table_sound bytes root sound named) (omega (arith, fits))) ∙ s.1 in
     none s.0 in_leaf (slot_may root bytes key fits sound named s.0 front s.1 two says)
 
 module _ (tells : Bool) (E : Shape → List ℕ → List ℕ → Type 0) (root : Root) (key : ℕ) (fits : key < 2 ^ 64) (v0 v1 v2 : PagesView) (looks : Looks tells (E v0.store.shape) false v0 v1) (looks' : Looks tells (E v1.store.shape) false v1 v2)

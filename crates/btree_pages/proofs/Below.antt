@@ -1,5 +1,5 @@
 -- What is left of an insertion from a page on, and how it ends.
-use Rattle.std.proofs.Common.{◌≡◌, ◌≢◌, ℕ, suc, ◌+◌, ◌-◌, ◌/◌, ◌^◌, ◌<◌, ◌≤◌, Bool, true, false, nat_lt, inl, inr, List, [], ◌∷◌, length, take, drop, None, Result, Ok, Err, refl, sym, ◌∙◌, ap, subst, arith}
+use Rattle.std.proofs.Common.{◌≡◌, ◌≢◌, ℕ, suc, ◌+◌, ◌-◌, ◌^◌, ◌<◌, ◌≤◌, Bool, true, false, nat_lt, inl, inr, List, [], ◌∷◌, length, take, drop, None, Result, Ok, Err, refl, sym, ◌∙◌, ap, subst, arith}
 use Rattle.std.specs.Prelude.{IsTrue}
 use Rattle.std.proofs.lemmas.Bool.Decides.{leb_tells}
 use Rattle.std.proofs.lemmas.List.{length-take-le, length-drop}
@@ -39,7 +39,6 @@ use Rattle.btree_pages.specs.Index.{tree, tree_below, adding, cutting, half_for,
 use Rattle.btree_pages.specs.OnWay.{IsOnWay, IsReached}
 use Rattle.btree_pages.specs.Trees.{trees_count}
 use Rattle.btree_pages.specs.Writes.{IsRead, cutting_pages, cutting_parts}
-use Rattle.btree_pages.specs.declared.node.Node.{Node}
 use Rattle.btree_pages.proofs.AddData.{adding_grows, adding_takes_none, slot_there}
 use Rattle.btree_pages.proofs.CutData.{cutting_grows, cut_after, cut_says, cut_used, cut_level, cut_due, half_there, half_says, half_left}
 use Rattle.btree_pages.proofs.Joining.{grows_more, rests_more, gains_more}

@@ -1,5 +1,5 @@
 -- The tests of a tree, step by step.
-use Rattle.std.proofs.Common.{◌≡◌, ◌≢◌, ◌↔◌, ℕ, zero, suc, ◌+◌, ◌-◌, ◌<◌, ◌≤◌, inl, inr, List, [], ◌∷◌, drop, Option, Some, None, Result, Ok, Err, refl, sym, ◌∙◌, ap, subst, arith}
+use Rattle.std.proofs.Common.{◌≡◌, ◌≢◌, ◌↔◌, ℕ, zero, suc, ◌+◌, ◌-◌, ◌<◌, ◌≤◌, inl, inr, List, ◌∷◌, Option, Some, None, Result, Ok, Err, refl, sym, ◌∙◌, ap, subst, arith}
 use Rattle.record_slots.specs.Places.{next_page, page_bytes}
 use Rattle.record_slots.specs.Super.{SaysSuper}
 use Rattle.record_slots.specs.declared.super_page.Super.{Super}
@@ -11,7 +11,7 @@ use Rattle.index_pages.specs.Keys.{key_end}
 use Rattle.index_pages.specs.Page.{pairs_from, pair_said, pairs_said, page_pairs, kind_said, level_said, level_of, count_said, link_said}
 use Rattle.index_pages.proofs.Reading.{from_first, from_step, from_end}
 use Rattle.index_pages.specs.Slots.{slot_check, IsVerdict}
-use Rattle.mars_base.specs.Check.{Check, each}
+use Rattle.mars_base.specs.Check.{each}
 use Rattle.mars_base.proofs.Checks.{both_on, each_on}
 use Rattle.btree_laws.specs.Tree.{AreChildren, IsInner, IsLeafPage, children_check, next_low, tree_check, tree_from}
 use Rattle.btree_pages.specs.Node.{IsNode}

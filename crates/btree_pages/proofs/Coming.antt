@@ -1,18 +1,17 @@
 -- On the way down to the parent of a key's leaf.
-use Rattle.std.proofs.Common.{◌≡◌, ◌≢◌, ℕ, zero, suc, ◌+◌, ◌-◌, ◌<◌, ◌≤◌, Bool, false, List, length, Option, Some, None, Result, Ok, Err, refl, sym, ◌∙◌, ap, subst, arith, get_or, [], ◌∷◌}
+use Rattle.std.proofs.Common.{◌≡◌, ◌≢◌, ℕ, zero, suc, ◌+◌, ◌<◌, ◌≤◌, Bool, false, List, length, refl, sym, ◌∙◌, ap, subst, arith, get_or, [], ◌∷◌}
 use Rattle.std.specs.Prelude.{IsTrue}
 use Rattle.array_shape.specs.declared.shape.Shape.{Shape}
 use Rattle.eaw_face.specs.State.{State}
 use Rattle.eaw_face.specs.Causes.{IsAlive}
-use Rattle.page_store.specs.Looks.{Looks, IsStill}
+use Rattle.page_store.specs.Looks.{Looks}
 use Rattle.page_store.specs.Pairs.{Pair}
 use Rattle.page_store.specs.Shown.{PagesView}
-use Rattle.record_slots.specs.Places.{next_page}
 use Rattle.index_pages.proofs.Looking.{looks_none, looks_next}
-use Rattle.index_pages.specs.Page.{page_pairs, level_of}
+use Rattle.index_pages.specs.Page.{page_pairs}
 use Rattle.index_pages.specs.Ways.{above}
 use Rattle.btree_laws.proofs.Ways.{page_for_last}
-use Rattle.btree_laws.specs.Descent.{child_for, page_for}
+use Rattle.btree_laws.specs.Descent.{child_for}
 use Rattle.btree_laws.specs.Sound.{AreBelow}
 use Rattle.btree_laws.specs.declared.root.Root.{Root}
 use Rattle.btree_pages.specs.OnWay.{IsReached}
@@ -25,11 +24,14 @@ above_next (suc d) m = ap suc (above_next d m)
 -- the child of a page on a key's way is on it too
 pub reached_down : (root : Root) (bytes : List ℕ) (key page level : ℕ) (pairs : List Pair) (child below_level : ℕ) (below : List Pair) → IsReached root bytes key page level pairs → child ≡ child_for pairs key → below_level + 1 ≡ level
     → below ≡ page_pairs bytes child → IsReached root bytes key child below_level below
-reached_down root bytes key page level pairs child m below reached child_is deeper are = (suc reached.0, record {
-  page_is = child_is ∙ ap (λ (ps : List Pair). child_for ps key) reached.1.pairs_are ∙ ap (λ (q : ℕ). child_for (page_pairs bytes q) key) reached.1.page_is ∙ sym (page_for_last reached.0 bytes root.page key);
-  level_is = reached.1.level_is ∙ ap (λ (n : ℕ). above reached.0 n) (let e : level ≡ suc m = omega (arith, deeper) in e) ∙ above_next reached.0 m;
-  pairs_are = are;
-})
+reached_down root bytes key page level pairs child m below reached child_is deeper are = (
+  suc reached.0,
+  record {
+    page_is = child_is ∙ ap (λ (ps : List Pair). child_for ps key) reached.1.pairs_are ∙ ap (λ (q : ℕ). child_for (page_pairs bytes q) key) reached.1.page_is ∙ sym (page_for_last reached.0 bytes root.page key);
+    level_is = reached.1.level_is ∙ ap (λ (n : ℕ). above reached.0 n) (let e : level ≡ suc m = omega (arith, deeper) in e) ∙ above_next reached.0 m;
+    pairs_are = are;
+  },
+)
 
 -- so far only looks, down to an inner page on the key's way
 pub record Comes (tells : Bool) (E : Shape → List ℕ → List ℕ → Type 0) (root : Root) (key : ℕ) (v0 v : PagesView) (page level : ℕ) (pairs : List Pair) : Type 0 where

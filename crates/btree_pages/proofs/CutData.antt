@@ -1,5 +1,5 @@
 -- What splitting a page does to the data.
-use Rattle.std.proofs.Common.{◌≡◌, ◌≢◌, ℕ, zero, suc, ◌+◌, ◌-◌, ◌*◌, ◌^◌, ◌<◌, ◌≤◌, true, false, nat_lt, inl, inr, List, [], ◌∷◌, length, take, drop, None, refl, sym, ◌∙◌, ap, subst, arith}
+use Rattle.std.proofs.Common.{◌≡◌, ◌≢◌, ℕ, zero, suc, ◌+◌, ◌-◌, ◌*◌, ◌^◌, ◌<◌, ◌≤◌, true, false, nat_lt, inl, inr, List, [], ◌∷◌, length, take, drop, refl, sym, ◌∙◌, ap, subst, arith}
 use Rattle.std.specs.Prelude.{if◌then◌else◌}
 use Rattle.std.proofs.lemmas.Bool.{cases_lt}
 use Rattle.std.proofs.lemmas.Bool.Decides.{leb_tells}
@@ -11,17 +11,16 @@ use Rattle.array_shape.specs.Places as array
 use Rattle.array_shape.specs.Logged.{Part, applied, AllFit}
 use Rattle.record_slots.specs.Super.{SaysSuper, part_bytes}
 use Rattle.record_slots.specs.declared.super_page.Super.{Super}
-use Rattle.record_slots.specs.Places.{page_bytes, page_count, first_slot_page, slot_at, slot_of, next_slot, next_page, free_pages, free_page_of, used_pages, slot_due, page_due, tables_of, version_of, IsSuper}
+use Rattle.record_slots.specs.Places.{page_bytes, page_count, first_slot_page, slot_at, slot_of, next_slot, next_page, free_pages, used_pages, slot_due, page_due, tables_of, IsSuper}
 use Rattle.page_store.specs.Index.{IsTable, index_pages_of, Grows, Rests}
 use Rattle.page_store.specs.Pairs.{Pair, inserted}
 use Rattle.page_store.specs.Shown.{address}
-use Rattle.index_pages.specs.Adding.{TakesPage, first_page, with_page_taken}
-use Rattle.index_pages.specs.Fetched.{IsFront}
+use Rattle.index_pages.specs.Adding.{TakesPage}
 use Rattle.index_pages.specs.Keys.{key_at, key_end}
-use Rattle.index_pages.specs.Page.{page_pairs, pairs_said, kind_said, level_said, link_said, kind_of, level_of, count_of}
-use Rattle.index_pages.specs.Ways.{above, Keeps, IsOwn}
+use Rattle.index_pages.specs.Page.{page_pairs, pairs_said, kind_said, level_said, link_said, kind_of, level_of}
+use Rattle.index_pages.specs.Ways.{above, Keeps}
 use Rattle.index_pages.specs.Written.{AreSmall, kind_for, written_page}
-use Rattle.index_pages.proofs.Fronts.{IsWritable, length-part_bytes, super_written, super_kept, version_kept}
+use Rattle.index_pages.proofs.Fronts.{length-part_bytes, super_written, super_kept, version_kept}
 use Rattle.index_pages.proofs.Carrying.{carries_on}
 use Rattle.index_pages.proofs.PageFacts.{length-page_pairs}
 use Rattle.index_pages.proofs.Puts.{AllApart, Stand, applied_long, applied_away, applied_stand}
@@ -43,7 +42,7 @@ use Rattle.btree_laws.proofs.Ways.{Way, way_of, way_under, child_some, page_for_
 use Rattle.btree_pages.specs.OnWay.{IsOnWay}
 use Rattle.btree_pages.specs.Writes.{IsRead, cutting_parts}
 use Rattle.btree_pages.specs.Index.{tree, tree_of, AreSoundTrees, half_for, half_pairs, actions_below}
-use Rattle.btree_pages.specs.Trees.{whole_of, table_sound, page_given}
+use Rattle.btree_pages.specs.Trees.{whole_of, table_sound}
 use Rattle.btree_pages.proofs.Actions.{half_actions}
 use Rattle.btree_pages.proofs.Descending.{Child, child_step}
 use Rattle.btree_pages.proofs.Entries.{with_inserted, entry_child}

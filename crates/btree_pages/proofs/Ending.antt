@@ -1,5 +1,5 @@
 -- How the actions of a removal end it.
-use Rattle.std.proofs.Common.{◌≡◌, ◌≢◌, ℕ, zero, suc, ◌+◌, ◌-◌, ◌*◌, ◌/◌, ◌^◌, ◌<◌, ◌≤◌, Bool, true, false, List, [], ◌∷◌, length, Option, Some, None, Result, Ok, Err, refl, sym, ◌∙◌, ap, subst, arith}
+use Rattle.std.proofs.Common.{◌≡◌, ◌≢◌, ℕ, ◌^◌, ◌<◌, ◌≤◌, Bool, true, List, length, Some, Result, Ok, Err, sym, ◌∙◌, ap, subst, arith}
 use Rattle.std.specs.Prelude.{IsTrue}
 use Rattle.array_shape.specs.declared.shape.Shape.{Shape}
 use Rattle.array_shape.specs.Places.{data_len}
@@ -14,13 +14,12 @@ use Rattle.page_store.specs.Shown.{PagesView}
 use Rattle.page_store.specs.declared.fault.PageFault.{PageFault}
 use Rattle.index_pages.specs.Acts.{Acts}
 use Rattle.index_pages.specs.Giving.{GivesPage, removing_pages, removing_parts}
-use Rattle.index_pages.specs.Keys.{key_end}
-use Rattle.index_pages.specs.Page.{page_pairs, level_of, count_of}
+use Rattle.index_pages.specs.Page.{page_pairs, count_of}
 use Rattle.index_pages.specs.Written.{AreSmall}
 use Rattle.index_pages.proofs.PageFacts.{length-page_pairs}
 use Rattle.index_pages.proofs.Removals.{removes_done, removes_act_err}
 use Rattle.btree_laws.proofs.Ways.{sound_tree_finds}
-use Rattle.btree_laws.specs.Descent.{child_for, leaf_for}
+use Rattle.btree_laws.specs.Descent.{child_for}
 use Rattle.btree_laws.specs.Removals.{parent_for, right_of, without_last, without_right}
 use Rattle.btree_laws.specs.Sound.{IsSoundTree}
 use Rattle.btree_laws.specs.Tree.{pairs_of_tree}

@@ -2,16 +2,16 @@
 use Rattle.std.proofs.Common.{◌≡◌, ℕ, zero, suc, List, [], ◌∷◌, Some, None, refl, sym, subst, arith}
 use Rattle.std.specs.Prelude.{nat_eq, true}
 use Rattle.std.proofs.lemmas.Bool.{eq-eqb}
-use Rattle.record_slots.specs.Places.{page_bytes, next_slot, next_page, version_of, tables_of, free_slot, free_page, free_slots, free_pages, free_slot_of, free_page_of, IsSuper}
+use Rattle.record_slots.specs.Places.{page_bytes, next_slot, next_page, version_of, free_slot, free_page, free_slot_of, free_page_of, IsSuper}
 use Rattle.record_slots.specs.Super.{main_table, tables_in, entries_said, tables_said}
 use Rattle.record_slots.specs.declared.super_page.TableEntry.{TableEntry}
 use Rattle.page_store.specs.Index.{IsTable}
 use Rattle.index_pages.specs.Page.{kind_of, level_of, link_of, count_of}
 use Rattle.index_pages.proofs.Stacks.{IsList}
-use Rattle.index_pages.proofs.Tabled.{IsWhole, root_in, whole_passes, table_own}
-use Rattle.index_pages.proofs.Taken.{FreeSlots, FreePages, nothing_free}
+use Rattle.index_pages.proofs.Tabled.{IsWhole, root_in, whole_passes}
+use Rattle.index_pages.proofs.Taken.{nothing_free}
 use Rattle.btree_laws.proofs.Fresh.{fresh_tree}
-use Rattle.btree_laws.specs.Sound.{IsSoundTree, sound_passes}
+use Rattle.btree_laws.specs.Sound.{sound_passes}
 use Rattle.btree_laws.specs.Tree.{pairs_of_tree}
 use Rattle.btree_laws.specs.declared.root.Root.{Root}
 use Rattle.btree_pages.specs.Index.{tree_of, AreSoundTrees}

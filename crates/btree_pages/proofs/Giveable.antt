@@ -1,13 +1,13 @@
 -- What a removal gives back can be given back.
-use Rattle.std.proofs.Common.{◌≡◌, ◌≢◌, ℕ, ◌+◌, ◌-◌, ◌^◌, ◌<◌, ◌≤◌, List, Option, Some, None, refl, sym, ◌∙◌, ap, subst, arith}
+use Rattle.std.proofs.Common.{◌≡◌, ◌≢◌, ℕ, ◌-◌, ◌^◌, ◌<◌, ◌≤◌, List, Option, Some, None, refl, sym, ◌∙◌, ap, subst, arith}
 use Rattle.record_slots.specs.Super.{SaysSuper}
-use Rattle.record_slots.specs.Places.{page_bytes, next_slot, next_page, version_of, free_page_of, Carries}
+use Rattle.record_slots.specs.Places.{page_bytes, version_of, free_page_of}
 use Rattle.record_slots.specs.declared.free.Free.{Free}
 use Rattle.record_slots.specs.declared.super_page.Super.{Super}
 use Rattle.page_store.specs.Index.{IsTable}
 use Rattle.page_store.specs.Pairs.{Pair, found}
 use Rattle.index_pages.specs.Giving.{MayGive}
-use Rattle.index_pages.specs.Page.{page_pairs, count_of, level_of}
+use Rattle.index_pages.specs.Page.{page_pairs, level_of}
 use Rattle.index_pages.specs.Keys.{key_end}
 use Rattle.index_pages.proofs.Freeing.{found_given}
 use Rattle.index_pages.proofs.Released.{carries_not_free, may_give_slot, may_give_page, slot_given_rest}
@@ -19,7 +19,7 @@ use Rattle.btree_laws.specs.Resting.{sound_tree_given}
 use Rattle.btree_laws.specs.Sound.{IsSoundTree}
 use Rattle.btree_laws.specs.Tree.{pairs_of_tree, IsPageOfTree}
 use Rattle.btree_laws.specs.declared.root.Root.{Root}
-use Rattle.btree_pages.specs.Index.{tree_of, AreSoundTrees}
+use Rattle.btree_pages.specs.Index.{AreSoundTrees}
 use Rattle.btree_pages.specs.OnWay.{IsReached}
 use Rattle.btree_pages.specs.Trees.{whole_of, table_sound, page_given}
 use Rattle.btree_pages.specs.Writes.{Releases}

@@ -1,19 +1,17 @@
 -- What the super page and the lists of what is free say once a slot, and maybe a page, were given back.
-use Rattle.std.proofs.Common.{◌≡◌, ◌≢◌, ℕ, zero, suc, ◌+◌, ◌-◌, ◌*◌, ◌^◌, ◌<◌, ◌≤◌, List, length, Option, Some, None, refl, sym, ◌∙◌, ap, subst, arith}
-use Rattle.std.proofs.lemmas.Bool.{cases_eq}
+use Rattle.std.proofs.Common.{◌≡◌, ◌≢◌, ℕ, ◌+◌, ◌*◌, ◌<◌, ◌≤◌, List, length, Some, None, refl, sym, ◌∙◌, ap, arith}
 use Rattle.mars_base.specs.Bytes.{range}
 use Rattle.record_slots.specs.Free.{free_slot_said, free_page_said, free_slot_bytes, free_page_bytes}
 use Rattle.record_slots.specs.Super.{SaysSuper, part_bytes}
-use Rattle.record_slots.specs.Places.{page_bytes, page_count, slot_of, next_slot, next_page, version_of, tables_of, free_slot, free_page, free_slots, free_pages, free_slot_of, free_page_of, IsSuper, Carries}
+use Rattle.record_slots.specs.Places.{page_bytes, page_count, slot_of, next_slot, next_page, tables_of, free_slot_of, free_page_of, IsSuper, Carries}
 use Rattle.record_slots.specs.declared.free.Free.{Free}
 use Rattle.record_slots.specs.declared.super_page.Super.{Super}
-use Rattle.page_store.specs.Pairs.{Pair}
 use Rattle.page_store.specs.Removes.{FreesSlot, FreesPage, KeepsFreePages}
-use Rattle.index_pages.specs.Giving.{MayGive, GivesSlot, GivesPage}
+use Rattle.index_pages.specs.Giving.{GivesSlot, GivesPage}
 use Rattle.index_pages.proofs.Fronts.{IsWritable, super_written, super_kept, version_kept}
 use Rattle.index_pages.proofs.Released.{carries_not_free, read_writable, slot_given_writable, page_given_writable, slot_given_said, page_given_said, slot_given_rest, page_given_rest, slot_frees, page_frees, slots_back, pages_back}
 use Rattle.index_pages.proofs.Tabled.{IsWhole}
-use Rattle.index_pages.proofs.Taken.{FreeSlots, FreePages, free_pages_stay}
+use Rattle.index_pages.proofs.Taken.{free_pages_stay}
 use Rattle.btree_pages.specs.Index.{tree_of, AreSoundTrees}
 use Rattle.btree_pages.specs.Trees.{whole_of}
 use Rattle.btree_pages.proofs.RemoveData.{GivenBack}

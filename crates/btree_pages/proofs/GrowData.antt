@@ -1,6 +1,5 @@
 -- What splitting the root does to the data.
-use Rattle.std.proofs.Common.{◌≡◌, ◌≢◌, ℕ, zero, suc, ◌+◌, ◌-◌, ◌*◌, ◌^◌, ◌<◌, ◌≤◌, true, false, nat_lt, inl, inr, List, [], ◌∷◌, length, take, drop, None, refl, sym, ◌∙◌, ap, subst, arith}
-use Rattle.std.specs.Prelude.{if◌then◌else◌}
+use Rattle.std.proofs.Common.{◌≡◌, ◌≢◌, ℕ, zero, suc, ◌+◌, ◌-◌, ◌*◌, ◌^◌, ◌<◌, ◌≤◌, true, false, nat_lt, inl, inr, List, [], ◌∷◌, length, take, drop, refl, sym, ◌∙◌, ap, subst, arith}
 use Rattle.std.proofs.lemmas.Bool.{cases_lt}
 use Rattle.std.proofs.lemmas.Bool.Decides.{leb_tells}
 use Rattle.std.proofs.lemmas.List.{length-take-le, length-drop}
@@ -11,36 +10,33 @@ use Rattle.array_shape.specs.Places as array
 use Rattle.array_shape.specs.Logged.{Part, applied, AllFit}
 use Rattle.record_slots.specs.Super.{SaysSuper, part_bytes}
 use Rattle.record_slots.specs.declared.super_page.Super.{Super}
-use Rattle.record_slots.specs.Places.{page_bytes, page_count, first_slot_page, slot_at, slot_of, next_slot, next_page, free_pages, free_page_of, used_pages, slot_due, page_due, tables_of, version_of, IsSuper}
+use Rattle.record_slots.specs.Places.{page_bytes, page_count, first_slot_page, slot_at, slot_of, next_slot, next_page, free_pages, used_pages, slot_due, page_due, tables_of, IsSuper}
 use Rattle.page_store.specs.Index.{IsTable, index_pages_of, Grows, Rests}
-use Rattle.page_store.specs.Pairs.{Pair, inserted}
+use Rattle.page_store.specs.Pairs.{Pair}
 use Rattle.page_store.specs.Shown.{address}
-use Rattle.index_pages.specs.Adding.{TakesPage, first_page, with_page_taken}
-use Rattle.index_pages.specs.Fetched.{IsFront}
+use Rattle.index_pages.specs.Adding.{TakesPage}
 use Rattle.index_pages.specs.Keys.{key_at, key_end}
-use Rattle.index_pages.specs.Page.{page_pairs, pairs_said, kind_said, level_said, link_said, kind_of, level_of, count_of}
-use Rattle.index_pages.specs.Ways.{above, Keeps, IsOwn}
+use Rattle.index_pages.specs.Page.{page_pairs, pairs_said, kind_said, level_said, link_said, level_of}
+use Rattle.index_pages.specs.Ways.{Keeps}
 use Rattle.index_pages.specs.Written.{AreSmall, kind_for, written_page}
-use Rattle.index_pages.proofs.Fronts.{IsWritable, length-part_bytes, super_written, super_kept, version_kept}
+use Rattle.index_pages.proofs.Fronts.{length-part_bytes, super_written, super_kept, version_kept}
 use Rattle.index_pages.proofs.Carrying.{carries_on}
-use Rattle.index_pages.proofs.PageFacts.{length-page_pairs}
 use Rattle.index_pages.proofs.Puts.{AllApart, Stand, applied_long, applied_away, applied_stand}
 use Rattle.index_pages.proofs.Ranges.{Apart}
-use Rattle.index_pages.proofs.Rising.{length-inserted}
 use Rattle.index_pages.proofs.Tabled.{IsWhole, whole_counts}
 use Rattle.index_pages.proofs.Taken.{HasTaken, IsAfter, taken_none, taken_one, page_is_due, due_free, due_next, dues_differ, is_after, after_due, after_slots, after_pages, after_free, taken_writable}
-use Rattle.index_pages.proofs.Writing.{small_take, small_inserted, written_kind, written_level, written_link, written_pairs, length-written_page}
+use Rattle.index_pages.proofs.Writing.{small_take, written_kind, written_level, written_link, written_pairs, length-written_page}
 use Rattle.btree_laws.specs.Changes.{IsHalf, IsCut, middle, SplitsRoot}
 use Rattle.btree_laws.specs.Descent.{child_for, page_for}
-use Rattle.btree_laws.specs.Tree.{IsUnder, IsUnderSome, IsPageOfTree, pairs_of_tree, next_low}
+use Rattle.btree_laws.specs.Tree.{IsUnder, IsPageOfTree, pairs_of_tree}
 use Rattle.btree_laws.specs.Sound.{IsTree, IsSoundTree}
-use Rattle.btree_laws.specs.TreeFacts.{tree_level, under_own}
+use Rattle.btree_laws.specs.TreeFacts.{under_own}
 use Rattle.btree_laws.specs.declared.root.Root.{Root}
 use Rattle.btree_laws.proofs.Belonging.{StaysGrown, tree_stays_grown}
 use Rattle.btree_laws.proofs.Splitting.{sound_tree_grows, under_self}
 use Rattle.btree_pages.specs.Writes.{IsRead, growing_parts}
 use Rattle.btree_pages.specs.Index.{tree, tree_of, AreSoundTrees, half_for, half_pairs, actions_below}
-use Rattle.btree_pages.specs.Trees.{whole_of, table_sound, page_given}
+use Rattle.btree_pages.specs.Trees.{whole_of, table_sound}
 use Rattle.btree_pages.proofs.Actions.{half_actions}
 use Rattle.btree_pages.proofs.Others.{due_apart, free_apart, tables_apart, one_changed, others_untouched}
 use Rattle.btree_pages.proofs.CutData.{small_at, tree_kind}

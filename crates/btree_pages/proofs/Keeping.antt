@@ -1,15 +1,14 @@
 -- When a pair stays, and what is known of a leaf that has no other.
-use Rattle.std.proofs.Common.{◌≡◌, ◌≢◌, ℕ, zero, suc, ◌+◌, ◌-◌, ◌^◌, ◌<◌, ◌≤◌, List, [], ◌∷◌, length, Option, Some, None, refl, sym, ◌∙◌, ap, subst, arith}
+use Rattle.std.proofs.Common.{◌≡◌, ℕ, ◌≤◌, List, [], ◌∷◌, length, Some, None, ap, subst, arith}
 use Rattle.page_store.specs.Pairs.{Pair, found}
-use Rattle.index_pages.specs.Page.{page_pairs, count_of}
+use Rattle.index_pages.specs.Page.{count_of}
 use Rattle.index_pages.proofs.PageFacts.{length-page_pairs}
 use Rattle.btree_laws.proofs.Staying.{last_is}
-use Rattle.btree_laws.specs.Descent.{leaf_for}
 use Rattle.btree_laws.specs.Removals.{parent_for}
 use Rattle.btree_laws.specs.declared.root.Root.{Root}
 use Rattle.btree_pages.specs.Index.{tree_removal}
 use Rattle.btree_pages.specs.OnWay.{IsReached}
-use Rattle.btree_pages.proofs.Removed.{IsParent, parent_reached, leaf_reached}
+use Rattle.btree_pages.proofs.Removed.{parent_reached, leaf_reached}
 use Rattle.btree_pages.proofs.Shrinking.{stays_none}
 
 some_found : (ps : List Pair) (key slot : ℕ) → found ps key ≡ Some slot → 1 ≤ length ps

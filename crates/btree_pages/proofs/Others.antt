@@ -1,14 +1,14 @@
 -- What the change of one tree leaves of the others, and of the pages that are due.
-use Rattle.std.proofs.Common.{◌≡◌, ◌≢◌, ℕ, zero, ◌<◌, ◌≤◌, true, false, inl, inr, List, Option, Some, None, refl, sym, ◌∙◌, ap, subst, arith}
-use Rattle.std.specs.Prelude.{nat_eq, if◌then◌else◌, slice_index}
+use Rattle.std.proofs.Common.{◌≡◌, ◌≢◌, ℕ, false, inl, inr, List, Some, None, refl, sym, ◌∙◌, subst, arith}
+use Rattle.std.specs.Prelude.{nat_eq, slice_index}
 use Rattle.std.proofs.lemmas.Bool.{cases_eq, cases_lt, ne_eqb}
 use Rattle.record_slots.specs.Free.{free_page_said}
-use Rattle.record_slots.specs.Places.{page_bytes, next_page, tables_of, free_pages, free_page_of, page_due, IsSuper}
+use Rattle.record_slots.specs.Places.{page_bytes, tables_of, free_pages, free_page_of, page_due, IsSuper}
 use Rattle.page_store.specs.Index.{IsTable, IsUntouched}
 use Rattle.index_pages.specs.Page.{kind_of, kind_said, level_of}
 use Rattle.index_pages.specs.Ways.{Keeps}
 use Rattle.index_pages.proofs.Joining.{named_kept}
-use Rattle.index_pages.proofs.Tabled.{IsWhole, whole_passes, roots_apart}
+use Rattle.index_pages.proofs.Tabled.{whole_passes, roots_apart}
 use Rattle.index_pages.proofs.Taken.{FreeSlots, FreePages, due_free, due_next}
 use Rattle.btree_laws.proofs.Belonging.{tree_stays_same}
 use Rattle.btree_laws.proofs.Differing.{trees_apart}

@@ -1,14 +1,13 @@
 -- The pages of a removal's parts, by how the key's leaf is.
-use Rattle.std.proofs.Common.{◌≡◌, ◌≢◌, ℕ, ◌+◌, ◌-◌, ◌*◌, ◌/◌, ◌<◌, ◌≤◌, Bool, true, false, inl, inr, List, [], ◌∷◌, length, Option, Some, None, refl, sym, ◌∙◌, ap, arith}
-use Rattle.std.specs.Prelude.{nat_eq, nat_le, ◌||◌, if◌then◌else◌}
+use Rattle.std.proofs.Common.{◌≡◌, ◌≢◌, ℕ, ◌≤◌, true, false, inl, inr, List, [], ◌∷◌, length, Option, Some, refl, sym, ◌∙◌, ap, arith}
+use Rattle.std.specs.Prelude.{nat_eq, nat_le}
 use Rattle.std.specs.Option.{unwrap_or}
 use Rattle.std.proofs.lemmas.Bool.{cases_eq}
 use Rattle.std.proofs.lemmas.Bool.Decides.{leb_tells, nat_tests}
 use Rattle.record_slots.specs.Places.{slot_page}
 use Rattle.page_store.specs.Pairs.{found}
 use Rattle.index_pages.specs.Page.{page_pairs, level_of, count_of}
-use Rattle.btree_laws.proofs.Choosing.{one_has_none}
-use Rattle.btree_laws.proofs.Staying.{StaysLast, last_not}
+use Rattle.btree_laws.proofs.Staying.{last_not}
 use Rattle.btree_laws.specs.Descent.{leaf_for}
 use Rattle.btree_laws.specs.Removals.{parent_for, right_of, stays_last}
 use Rattle.btree_laws.specs.Tree.{pairs_of_tree}
@@ -63,7 +62,7 @@ module _ (bytes : List ℕ) (root key slot at : ℕ) (place : slot_page bytes sl
           | inr h ↦ absurd (r (few_none (page_pairs bytes (parent_for bytes root key)) key (let len = length-page_pairs bytes (parent_for bytes root key) in omega (arith, len, h.1))))
         ] in
         let pages : emptying bytes slot (leaf_for bytes root key) (parent_for bytes root key) (right_of (page_pairs bytes (parent_for bytes root key)) key)
-            ≡ (slot_page bytes slot ∷ leaf_for bytes root key ∷ parent_for bytes root key ∷ right_of (page_pairs bytes (parent_for bytes root key)) key ∷ 0 ∷ []) = (rw c refl) in
+        ≡ (slot_page bytes slot ∷ leaf_for bytes root key ∷ parent_for bytes root key ∷ right_of (page_pairs bytes (parent_for bytes root key)) key ∷ 0 ∷ []) = (rw c refl) in
         emptied several ∙ ap (λ (ps : List ℕ). Some ps) (pages ∙ ap (λ (p : ℕ). p ∷ leaf_for bytes root key ∷ parent_for bytes root key ∷ right_of (page_pairs bytes (parent_for bytes root key)) key ∷ 0 ∷ []) place
         ∙ ap (λ (x : ℕ). at ∷ x ∷ parent_for bytes root key ∷ right_of (page_pairs bytes (parent_for bytes root key)) key ∷ 0 ∷ []) (sym leaf_is)
         ∙ ap (λ (x : ℕ). at ∷ leaf ∷ x ∷ right_of (page_pairs bytes (parent_for bytes root key)) key ∷ 0 ∷ []) (sym parent_is)
@@ -80,6 +79,6 @@ module _ (bytes : List ℕ) (root key slot at : ℕ) (place : slot_page bytes sl
     removal_leaves leaf parent leaf_is parent_is none several =
         let c : nat_eq (right_of (page_pairs bytes (parent_for bytes root key)) key) 0 ≡ true = grind (arith, nat_tests, none) in
         let pages : emptying bytes slot (leaf_for bytes root key) (parent_for bytes root key) (right_of (page_pairs bytes (parent_for bytes root key)) key)
-            ≡ (slot_page bytes slot ∷ parent_for bytes root key ∷ leaf_for bytes root key ∷ 0 ∷ []) = (rw c refl) in
+        ≡ (slot_page bytes slot ∷ parent_for bytes root key ∷ leaf_for bytes root key ∷ 0 ∷ []) = (rw c refl) in
         emptied several ∙ ap (λ (ps : List ℕ). Some ps) (pages ∙ ap (λ (p : ℕ). p ∷ parent_for bytes root key ∷ leaf_for bytes root key ∷ 0 ∷ []) place
         ∙ ap (λ (x : ℕ). at ∷ x ∷ leaf_for bytes root key ∷ 0 ∷ []) (sym parent_is) ∙ ap (λ (x : ℕ). at ∷ parent ∷ x ∷ 0 ∷ []) (sym leaf_is))

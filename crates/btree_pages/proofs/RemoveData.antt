@@ -1,9 +1,9 @@
 -- What the actions of a removal make of the data.
-use Rattle.std.proofs.Common.{◌≡◌, ◌≢◌, ℕ, zero, suc, ◌+◌, ◌-◌, ◌*◌, ◌^◌, ◌<◌, ◌≤◌, ◌⊎◌, true, false, nat_eq, nat_lt, inl, inr, List, [], ◌∷◌, length, Option, Some, None, refl, sym, ◌∙◌, ap, subst, arith}
+use Rattle.std.proofs.Common.{◌≡◌, ◌≢◌, ℕ, suc, ◌+◌, ◌-◌, ◌*◌, ◌^◌, ◌<◌, ◌≤◌, true, false, nat_eq, inl, inr, List, [], ◌∷◌, length, Option, Some, None, sym, ◌∙◌, ap, subst, arith}
 use Rattle.std.specs.Prelude.{IsSome, if◌then◌else◌}
 use Rattle.std.proofs.lemmas.Bool.{cases_eq, false≢true}
 use Rattle.std.proofs.lemmas.Bool.Decides.{eqb_tells}
-use Rattle.record_slots.specs.Places.{page_bytes, page_count, first_slot_page, slot_of, next_slot, next_page, version_of, tables_of, free_pages, free_page, free_page_of, page_due, IsSuper, Carries}
+use Rattle.record_slots.specs.Places.{page_bytes, slot_of, next_slot, next_page, version_of, tables_of, free_pages, free_page_of, IsSuper}
 use Rattle.page_store.specs.Index.{IsTable, HasCounts, IsFreePage}
 use Rattle.page_store.specs.Pairs.{Pair, found, removed}
 use Rattle.page_store.specs.Removes.{FreesSlot, FreesPage, KeepsFreePages, Shrinks}
@@ -18,16 +18,14 @@ use Rattle.index_pages.proofs.Taken.{FreeSlots, FreePages, due_free}
 use Rattle.index_pages.proofs.Writing.{written_kind, written_level, written_link, written_pairs}
 use Rattle.btree_laws.proofs.Belonging.{tree_stays_taken}
 use Rattle.btree_laws.proofs.Choosing.{one_has_none}
-use Rattle.index_pages.proofs.Freeing.{found_given}
 use Rattle.btree_laws.proofs.Pages.{had_before_loss, had_before_left, had_before_right}
 use Rattle.btree_laws.proofs.Places.{join_place}
 use Rattle.index_pages.proofs.Removing.{found-removed, length-removed, small_removed}
 use Rattle.btree_laws.proofs.Staying.{StaysLast, last_kept, leaf_kept, leaf_page, parent_page, leaf_bottom, parent_bottom, parent_level_is, stays_but_right, stays_but_left}
 use Rattle.btree_laws.proofs.Ways.{sound_tree_finds, way_of}
 use Rattle.btree_laws.proofs.Whole.{freed_loses, freed_joins_left, freed_joins_right}
-use Rattle.btree_laws.specs.Descent.{child_for, leaf_for, page_for}
+use Rattle.btree_laws.specs.Descent.{child_for, leaf_for}
 use Rattle.btree_laws.specs.Removals.{IsJoinPlace, IsLeafWith, IsParentWith, JoinsLeft, JoinsRight, Lacks, LosesPair, parent_for, right_of, without_last, without_right}
-use Rattle.btree_laws.specs.Resting.{sound_tree_given}
 use Rattle.btree_laws.specs.Sound.{AreBelow, IsSoundTree, IsTree}
 use Rattle.btree_laws.specs.Tree.{pairs_of_tree, IsPageOfTree}
 use Rattle.btree_laws.specs.TreeFacts.{sound_tree_rises, under_own}
@@ -294,11 +292,6 @@ module _ (old : List ℕ) (half : ℕ) (size : length old ≡ 512 * (half + half
       lacks_left : Lacks root old new key
       lacks_left = freed_joins_left root old new key slot root_sound keeps counts counts_now is lt (level_of old root.page - 1) level leaves same_left
 
-      children : AreBelow root.page (next_page old) (page_pairs old (parent_for old root.page key))
-      children =
-          let t : IsTree root (above (level_of old root.page - 1) 1) old root.page 0 key_end = subst (λ (n : ℕ). IsTree root n old root.page 0 key_end) level root_sound.2 in
-          (way_of root (level_of old root.page - 1) 1 old key root.page 0 key_end t (omega arith) lt).tree.0.children
-
       last_left : (one : ℕ) → one < key_end → IsSome (found (pairs_of_tree new root.page) one) → StaysLast old root.page one → StaysLast new root.page one
       last_left one less some s =
           let q_level = parent_bottom root old one root_sound less s.below in
@@ -318,7 +311,7 @@ module _ (old : List ℕ) (half : ℕ) (size : length old ≡ 512 * (half + half
           (λ two named differ x u. let g = other_page two named x u in pages x g.0 g.1
           (λ e. tables_apart old two root x sound named table differ u (subst (λ (y : ℕ). IsPageOfTree old root.page y) (sym e) parent_under))
           (λ e. tables_apart old two root x sound named table differ u (subst (λ (y : ℕ). IsPageOfTree old root.page y) (sym e) child_in_tree)))
-          (λ x u. elim (stays_but_left root old new key (level_of old root.page - 1) root_sound lacks_left.levels lt level children leaves same_left x u) [
+          (λ x u. elim (stays_but_left root old new key (level_of old root.page - 1) root_sound lacks_left.levels lt level leaves same_left x u) [
             | inl a ↦ inl a
             | inr e ↦ inr (subst (λ (y : ℕ). IsFreePage new y) (sym e) (freed_is_free old new _ lists.pages frees))
           ])

@@ -1,20 +1,20 @@
 -- What the actions of a removal write lacks just the pair, and lies in the pages that the index names.
-use Rattle.std.proofs.Common.{◌≡◌, ◌≢◌, ℕ, zero, suc, ◌+◌, ◌-◌, ◌*◌, ◌/◌, ◌%◌, ◌^◌, ◌<◌, ◌≤◌, inl, inr, List, [], ◌∷◌, length, Option, Some, None, refl, sym, ◌∙◌, ap, subst, arith}
+use Rattle.std.proofs.Common.{◌≡◌, ◌≢◌, ℕ, suc, ◌+◌, ◌-◌, ◌*◌, ◌/◌, ◌%◌, ◌^◌, ◌<◌, ◌≤◌, inl, List, [], ◌∷◌, length, Some, None, refl, sym, ◌∙◌, ap, subst, arith}
 use Rattle.mars_base.specs.Bytes.{range}
 use Rattle.array_shape.specs.declared.shape.Shape.{Shape}
 use Rattle.array_shape.specs.Places.{data_len}
-use Rattle.array_shape.specs.Logged.{Part, applied}
+use Rattle.array_shape.specs.Logged.{applied}
 use Rattle.record_slots.specs.Free.{free_slot_bytes, free_page_bytes}
-use Rattle.record_slots.specs.Super.{SaysSuper, part_bytes}
-use Rattle.record_slots.specs.Places.{page_bytes, slot_of, next_slot, next_page, version_of, slot_page, free_page_of, Carries}
+use Rattle.record_slots.specs.Super.{part_bytes}
+use Rattle.record_slots.specs.Places.{page_bytes, slot_of, next_slot, next_page, slot_page, free_page_of, Carries}
 use Rattle.record_slots.specs.declared.free.Free.{Free}
 use Rattle.record_slots.specs.declared.super_page.Super.{Super}
 use Rattle.record_slots.proofs.Freed.{length-free_slot_bytes, length-free_page_bytes}
 use Rattle.page_store.specs.Index.{IsTable, index_pages_of}
-use Rattle.page_store.specs.Pairs.{Pair, found, removed}
+use Rattle.page_store.specs.Pairs.{Pair, found}
 use Rattle.page_store.specs.Removes.{LosesKey}
 use Rattle.page_store.specs.Shown.{address}
-use Rattle.index_pages.specs.Giving.{GivesSlot, GivesPage, removing_pages, removing_parts}
+use Rattle.index_pages.specs.Giving.{GivesPage, removing_pages, removing_parts}
 use Rattle.index_pages.specs.Keys.{key_end}
 use Rattle.index_pages.specs.Page.{page_pairs, level_of, count_of}
 use Rattle.index_pages.specs.Ways.{above}
@@ -26,8 +26,6 @@ use Rattle.index_pages.proofs.Fronts.{length-part_bytes}
 use Rattle.index_pages.proofs.Given.{above_zero}
 use Rattle.index_pages.proofs.PageFacts.{length-page_pairs}
 use Rattle.index_pages.proofs.Puts.{AllApart, Stand}
-use Rattle.index_pages.proofs.Ranges.{Apart}
-use Rattle.index_pages.proofs.Released.{other_not_free}
 use Rattle.index_pages.proofs.Sizes.{slot_page_is}
 use Rattle.index_pages.proofs.Tabled.{IsWhole}
 use Rattle.index_pages.proofs.Writing.{length-written_page}
@@ -51,7 +49,7 @@ use Rattle.btree_pages.proofs.Freed.{AreIndexParts, pages_apart, front_apart, fr
 use Rattle.btree_pages.proofs.Giving.{given_slot, given_kept_pages, given_both, given_page}
 use Rattle.btree_pages.proofs.Others.{free_apart}
 use Rattle.btree_pages.proofs.RemovalPages.{removal_loses, removal_joins, removal_leaves}
-use Rattle.btree_pages.proofs.RemoveData.{GivenBack, lost_shrinks, joined_shrinks, left_shrinks}
+use Rattle.btree_pages.proofs.RemoveData.{lost_shrinks, joined_shrinks, left_shrinks}
 
 -- what is known of the parent of the key's leaf when it was reached
 pub record IsParent (root : Root) (old : List ℕ) (key parent : ℕ) (entries : List Pair) : Type 0 where
@@ -130,14 +128,16 @@ module _ (shape : Shape) (old : List ℕ) (long : length old ≡ data_len shape)
 
     pub lose_loses : LosesKey tree root.page key old (applied (removing_parts (index_pages_of shape) given slot free leaf 0 pairs key) old)
     lose_loses =
-        let new : List ℕ = applied (removing_parts (index_pages_of shape) given slot free leaf 0 pairs key) old in
-        (slot, is,
+        let new : List ℕ = applied (removing_parts (index_pages_of shape) given slot free leaf 0 pairs key) old in (
+          slot,
+          is,
           lost_shrinks old (index_pages_of shape) size root key slot fits sound table is (applied (removing_parts (index_pages_of shape) given slot free leaf 0 pairs key) old) w.size w.slots
-          (given_slot old (index_pages_of shape) size few sound released.0 entries released.1 slot free given released.2 root.table key here.0 here.1
-          (applied (removing_parts (index_pages_of shape) given slot free leaf 0 pairs key) old) w.size w.slot_is w.slots w.mark kept w.part)
-          leaf leaf_is pairs pairs_are most small more w.bytes w.pages
-          (given_kept_pages old (index_pages_of shape) size few sound released.0 entries released.1 slot free given released.2 root.table key here.0 here.1
-          (applied (removing_parts (index_pages_of shape) given slot free leaf 0 pairs key) old) w.size w.slot_is w.slots w.mark kept w.part))
+              (given_slot old (index_pages_of shape) size few sound released.0 entries released.1 slot free given released.2 root.table key here.0 here.1
+              (applied (removing_parts (index_pages_of shape) given slot free leaf 0 pairs key) old) w.size w.slot_is w.slots w.mark kept w.part)
+              leaf leaf_is pairs pairs_are most small more w.bytes w.pages
+              (given_kept_pages old (index_pages_of shape) size few sound released.0 entries released.1 slot free given released.2 root.table key here.0 here.1
+              (applied (removing_parts (index_pages_of shape) given slot free leaf 0 pairs key) old) w.size w.slot_is w.slots w.mark kept w.part),
+        )
 
     pub lose_takes : tree_removal old root.page key ≡ Some (removing_pages (index_pages_of shape) slot leaf)
     lose_takes =
@@ -246,13 +246,16 @@ module _ (shape : Shape) (old : List ℕ) (long : length old ≡ data_len shape)
       join_freed = page_stands (applied (joining_parts (index_pages_of shape) after slot free (child_for (page_pairs old (parent_for old root.page key)) key) (page_pairs old (right_of (page_pairs old (parent_for old root.page key)) key)) (parent_for old root.page key) (without_right (page_pairs old (parent_for old root.page key)) key) (right_of (page_pairs old (parent_for old root.page key)) key) freed) old) (right_of (page_pairs old (parent_for old root.page key)) key) (free_page_bytes freed) len2 stand.1.1.0
 
       pub join_loses : LosesKey tree root.page key old (applied (joining_parts (index_pages_of shape) after slot free (child_for (page_pairs old (parent_for old root.page key)) key) (page_pairs old (right_of (page_pairs old (parent_for old root.page key)) key)) (parent_for old root.page key) (without_right (page_pairs old (parent_for old root.page key)) key) (right_of (page_pairs old (parent_for old root.page key)) key) freed) old)
-      join_loses = (slot, is,
+      join_loses = (
+        slot,
+        is,
         joined_shrinks old (index_pages_of shape) size root key slot fits sound table is (applied (joining_parts (index_pages_of shape) after slot free (child_for (page_pairs old (parent_for old root.page key)) key) (page_pairs old (right_of (page_pairs old (parent_for old root.page key)) key)) (parent_for old root.page key) (without_right (page_pairs old (parent_for old root.page key)) key) (right_of (page_pairs old (parent_for old root.page key)) key) freed) old) join_size join_slots
-        (given_both old (index_pages_of shape) size few sound released.0 entries released.1 slot free given released.2 root.table key here.0 here.1 (applied (joining_parts (index_pages_of shape) after slot free (child_for (page_pairs old (parent_for old root.page key)) key) (page_pairs old (right_of (page_pairs old (parent_for old root.page key)) key)) (parent_for old root.page key) (without_right (page_pairs old (parent_for old root.page key)) key) (right_of (page_pairs old (parent_for old root.page key)) key) freed) old) join_size join_slot join_slots join_mark join_kept (right_of (page_pairs old (parent_for old root.page key)) key) freed after gives join_freed join_part right_facts.0 right_facts.1)
-        below alone there right_most right_small left_few (small_right key (page_pairs old (parent_for old root.page key)) small)
-        (page_stands (applied (joining_parts (index_pages_of shape) after slot free (child_for (page_pairs old (parent_for old root.page key)) key) (page_pairs old (right_of (page_pairs old (parent_for old root.page key)) key)) (parent_for old root.page key) (without_right (page_pairs old (parent_for old root.page key)) key) (right_of (page_pairs old (parent_for old root.page key)) key) freed) old) (child_for (page_pairs old (parent_for old root.page key)) key) (written_page 0 0 (page_pairs old (right_of (page_pairs old (parent_for old root.page key)) key))) len0 stand.0) (page_stands (applied (joining_parts (index_pages_of shape) after slot free (child_for (page_pairs old (parent_for old root.page key)) key) (page_pairs old (right_of (page_pairs old (parent_for old root.page key)) key)) (parent_for old root.page key) (without_right (page_pairs old (parent_for old root.page key)) key) (right_of (page_pairs old (parent_for old root.page key)) key) freed) old) (parent_for old root.page key) (written_page 1 0 (without_right (page_pairs old (parent_for old root.page key)) key)) len1 stand.1.0)
-        join_pages right_under
-        (given_page old (index_pages_of shape) size few sound released.0 entries released.1 slot free given released.2 root.table key here.0 here.1 (applied (joining_parts (index_pages_of shape) after slot free (child_for (page_pairs old (parent_for old root.page key)) key) (page_pairs old (right_of (page_pairs old (parent_for old root.page key)) key)) (parent_for old root.page key) (without_right (page_pairs old (parent_for old root.page key)) key) (right_of (page_pairs old (parent_for old root.page key)) key) freed) old) join_size join_slot join_slots join_mark join_kept (right_of (page_pairs old (parent_for old root.page key)) key) freed after gives join_freed join_part right_facts.0 right_facts.1))
+            (given_both old (index_pages_of shape) size few sound released.0 entries released.1 slot free given released.2 root.table key here.0 here.1 (applied (joining_parts (index_pages_of shape) after slot free (child_for (page_pairs old (parent_for old root.page key)) key) (page_pairs old (right_of (page_pairs old (parent_for old root.page key)) key)) (parent_for old root.page key) (without_right (page_pairs old (parent_for old root.page key)) key) (right_of (page_pairs old (parent_for old root.page key)) key) freed) old) join_size join_slot join_slots join_mark join_kept (right_of (page_pairs old (parent_for old root.page key)) key) freed after gives join_freed join_part right_facts.0 right_facts.1)
+            below alone there right_most right_small left_few (small_right key (page_pairs old (parent_for old root.page key)) small)
+            (page_stands (applied (joining_parts (index_pages_of shape) after slot free (child_for (page_pairs old (parent_for old root.page key)) key) (page_pairs old (right_of (page_pairs old (parent_for old root.page key)) key)) (parent_for old root.page key) (without_right (page_pairs old (parent_for old root.page key)) key) (right_of (page_pairs old (parent_for old root.page key)) key) freed) old) (child_for (page_pairs old (parent_for old root.page key)) key) (written_page 0 0 (page_pairs old (right_of (page_pairs old (parent_for old root.page key)) key))) len0 stand.0) (page_stands (applied (joining_parts (index_pages_of shape) after slot free (child_for (page_pairs old (parent_for old root.page key)) key) (page_pairs old (right_of (page_pairs old (parent_for old root.page key)) key)) (parent_for old root.page key) (without_right (page_pairs old (parent_for old root.page key)) key) (right_of (page_pairs old (parent_for old root.page key)) key) freed) old) (parent_for old root.page key) (written_page 1 0 (without_right (page_pairs old (parent_for old root.page key)) key)) len1 stand.1.0)
+            join_pages right_under
+            (given_page old (index_pages_of shape) size few sound released.0 entries released.1 slot free given released.2 root.table key here.0 here.1 (applied (joining_parts (index_pages_of shape) after slot free (child_for (page_pairs old (parent_for old root.page key)) key) (page_pairs old (right_of (page_pairs old (parent_for old root.page key)) key)) (parent_for old root.page key) (without_right (page_pairs old (parent_for old root.page key)) key) (right_of (page_pairs old (parent_for old root.page key)) key) freed) old) join_size join_slot join_slots join_mark join_kept (right_of (page_pairs old (parent_for old root.page key)) key) freed after gives join_freed join_part right_facts.0 right_facts.1),
+      )
 
       pub join_takes : tree_removal old root.page key ≡ Some (joining_pages (index_pages_of shape) slot (child_for (page_pairs old (parent_for old root.page key)) key) (parent_for old root.page key) (right_of (page_pairs old (parent_for old root.page key)) key))
       join_takes = removal_joins old root.page key slot (index_pages_of shape + slot / 8) place is below alone_leaf (child_for (page_pairs old (parent_for old root.page key)) key) (parent_for old root.page key) (right_of (page_pairs old (parent_for old root.page key)) key) joins_at.leaf_is refl refl there
@@ -324,13 +327,16 @@ module _ (shape : Shape) (old : List ℕ) (long : length old ≡ data_len shape)
       last_freed = page_stands (applied (leaving_parts (index_pages_of shape) after slot free (parent_for old root.page key) (without_last (page_pairs old (parent_for old root.page key))) (child_for (page_pairs old (parent_for old root.page key)) key) freed) old) (child_for (page_pairs old (parent_for old root.page key)) key) (free_page_bytes freed) llen2 last_stand.1.0
 
       pub leave_loses : LosesKey tree root.page key old (applied (leaving_parts (index_pages_of shape) after slot free (parent_for old root.page key) (without_last (page_pairs old (parent_for old root.page key))) (child_for (page_pairs old (parent_for old root.page key)) key) freed) old)
-      leave_loses = (slot, is,
+      leave_loses = (
+        slot,
+        is,
         left_shrinks old (index_pages_of shape) size root key slot fits sound table is (applied (leaving_parts (index_pages_of shape) after slot free (parent_for old root.page key) (without_last (page_pairs old (parent_for old root.page key))) (child_for (page_pairs old (parent_for old root.page key)) key) freed) old) last_size last_slots
-        (given_both old (index_pages_of shape) size few sound released.0 entries released.1 slot free given released.2 root.table key here.0 here.1 (applied (leaving_parts (index_pages_of shape) after slot free (parent_for old root.page key) (without_last (page_pairs old (parent_for old root.page key))) (child_for (page_pairs old (parent_for old root.page key)) key) freed) old) last_size last_slot last_slots last_mark last_kept (child_for (page_pairs old (parent_for old root.page key)) key) freed after gives last_freed last_part leaf_two leaf_given)
-        below alone none several rest_few (small_last (page_pairs old (parent_for old root.page key)) small)
-        (page_stands (applied (leaving_parts (index_pages_of shape) after slot free (parent_for old root.page key) (without_last (page_pairs old (parent_for old root.page key))) (child_for (page_pairs old (parent_for old root.page key)) key) freed) old) (parent_for old root.page key) (written_page 1 0 (without_last (page_pairs old (parent_for old root.page key)))) llen1 last_stand.0)
-        last_pages
-        (given_page old (index_pages_of shape) size few sound released.0 entries released.1 slot free given released.2 root.table key here.0 here.1 (applied (leaving_parts (index_pages_of shape) after slot free (parent_for old root.page key) (without_last (page_pairs old (parent_for old root.page key))) (child_for (page_pairs old (parent_for old root.page key)) key) freed) old) last_size last_slot last_slots last_mark last_kept (child_for (page_pairs old (parent_for old root.page key)) key) freed after gives last_freed last_part leaf_two leaf_given))
+            (given_both old (index_pages_of shape) size few sound released.0 entries released.1 slot free given released.2 root.table key here.0 here.1 (applied (leaving_parts (index_pages_of shape) after slot free (parent_for old root.page key) (without_last (page_pairs old (parent_for old root.page key))) (child_for (page_pairs old (parent_for old root.page key)) key) freed) old) last_size last_slot last_slots last_mark last_kept (child_for (page_pairs old (parent_for old root.page key)) key) freed after gives last_freed last_part leaf_two leaf_given)
+            below alone none several rest_few (small_last (page_pairs old (parent_for old root.page key)) small)
+            (page_stands (applied (leaving_parts (index_pages_of shape) after slot free (parent_for old root.page key) (without_last (page_pairs old (parent_for old root.page key))) (child_for (page_pairs old (parent_for old root.page key)) key) freed) old) (parent_for old root.page key) (written_page 1 0 (without_last (page_pairs old (parent_for old root.page key)))) llen1 last_stand.0)
+            last_pages
+            (given_page old (index_pages_of shape) size few sound released.0 entries released.1 slot free given released.2 root.table key here.0 here.1 (applied (leaving_parts (index_pages_of shape) after slot free (parent_for old root.page key) (without_last (page_pairs old (parent_for old root.page key))) (child_for (page_pairs old (parent_for old root.page key)) key) freed) old) last_size last_slot last_slots last_mark last_kept (child_for (page_pairs old (parent_for old root.page key)) key) freed after gives last_freed last_part leaf_two leaf_given),
+      )
 
       pub leave_takes : tree_removal old root.page key ≡ Some (leaving_pages (index_pages_of shape) slot (parent_for old root.page key) (child_for (page_pairs old (parent_for old root.page key)) key))
       leave_takes = removal_leaves old root.page key slot (index_pages_of shape + slot / 8) place is below alone_leaf (child_for (page_pairs old (parent_for old root.page key)) key) (parent_for old root.page key) joins_at.leaf_is refl none several

@@ -1,5 +1,5 @@
 -- The page to the right of a key's leaf is a leaf under the same parent.
-use Rattle.std.proofs.Common.{◌≡◌, ◌≢◌, ℕ, ◌-◌, ◌^◌, ◌<◌, ◌≤◌, List, get_or, length, refl, sym, ◌∙◌, ap, subst, arith}
+use Rattle.std.proofs.Common.{◌≡◌, ◌≢◌, ℕ, ◌-◌, ◌^◌, ◌<◌, ◌≤◌, List, get_or, length, sym, ◌∙◌, ap, subst, arith}
 use Rattle.record_slots.specs.Places.{page_bytes, next_page}
 use Rattle.page_store.specs.Index.{IsTable}
 use Rattle.page_store.specs.Pairs.{Pair}

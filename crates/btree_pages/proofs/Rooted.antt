@@ -1,13 +1,12 @@
 -- What an insertion knows when it has read the super page and the root, and that a dead store is told only at first.
-use Rattle.std.proofs.Common.{◌≡◌, ◌≢◌, ℕ, ◌+◌, ◌*◌, ◌<◌, ◌≤◌, inl, inr, Bool, false, List, length, None, Result, Ok, Err, refl, sym, ◌∙◌, ap, subst, arith}
+use Rattle.std.proofs.Common.{◌≡◌, ◌≢◌, ℕ, ◌+◌, ◌*◌, ◌<◌, ◌≤◌, inl, inr, Bool, false, List, length, None, Result, Err, refl, sym, ◌∙◌, ap, subst, arith}
 use Rattle.std.specs.Prelude.{IsTrue}
-use Rattle.std.proofs.lemmas.Bool.{false≢true, cases_eq}
+use Rattle.std.proofs.lemmas.Bool.{cases_eq}
 use Rattle.array_shape.specs.declared.shape.Shape.{Shape}
 use Rattle.array_shape.specs.Places.{page_count}
 use Rattle.eaw_face.specs.State.{State}
-use Rattle.eaw_face.specs.StoreView.{StoreView}
 use Rattle.eaw_face.specs.Causes.{IsAlive}
-use Rattle.record_slots.specs.Places.{page_bytes, used_slots, first_slot_page, IsSuper}
+use Rattle.record_slots.specs.Places.{page_bytes, first_slot_page, IsSuper}
 use Rattle.record_slots.specs.Super.{SaysSuper}
 use Rattle.record_slots.specs.declared.super_page.Super.{Super}
 use Rattle.page_store.specs.Index.{IsTable, slots_of, index_pages_of}
@@ -16,11 +15,9 @@ use Rattle.page_store.specs.Looks.{Looks, LookCause, is_failed}
 use Rattle.page_store.specs.Pairs.{Pair, found}
 use Rattle.page_store.specs.Shown.{PagesView}
 use Rattle.page_store.specs.declared.fault.PageFault.{PageFault}
-use Rattle.page_store.specs.declared.fault.PageFault.TheVariants as page
 use Rattle.page_store.specs.declared.index_fault.IndexFault.{IndexFault}
 use Rattle.page_store.specs.declared.index_fault.IndexFault.TheVariants as index
-use Rattle.index_pages.specs.Acts.{ActCause}
-use Rattle.index_pages.specs.Faults.{as_index, IsOfIndex}
+use Rattle.index_pages.specs.Faults.{as_index}
 use Rattle.index_pages.specs.Fetched.{TestCause, IsFront}
 use Rattle.index_pages.specs.Page.{page_pairs, level_of}
 use Rattle.index_pages.specs.declared.taking.Claim.{Claim}

@@ -1,6 +1,6 @@
 -- Data in which one tree has lost a pair, whose slot is free now: it is sound, and the trees of all other tables are untouched.
-use Rattle.std.proofs.Common.{◌≡◌, ◌≢◌, ℕ, zero, suc, ◌+◌, ◌-◌, ◌<◌, ◌≤◌, ◌⊎◌, Bool, true, false, inl, inr, List, [], ◌∷◌, length, Option, Some, None, refl, sym, ◌∙◌, ap, subst, arith}
-use Rattle.std.specs.Prelude.{IsSome, if◌then◌else◌}
+use Rattle.std.proofs.Common.{◌≡◌, ◌≢◌, ℕ, ◌<◌, ◌≤◌, ◌⊎◌, Bool, true, false, inl, inr, List, [], ◌∷◌, length, Option, Some, None, refl, sym, ◌∙◌, subst, arith}
+use Rattle.std.specs.Prelude.{IsSome}
 use Rattle.std.proofs.lemmas.Bool.{cases_eq, cases_lt, false≢true}
 use Rattle.mars_base.specs.Check.{pass}
 use Rattle.record_slots.specs.Slots.{slot_said}
@@ -8,14 +8,14 @@ use Rattle.record_slots.specs.Places.{page_bytes, slot_of, next_slot, next_page,
 use Rattle.record_slots.specs.declared.slot.Slot.{Slot}
 use Rattle.record_slots.specs.declared.slot.Slot.TheVariants.{Absent, Present}
 use Rattle.page_store.specs.Index.{IsTable, HasCounts, IsUntouched, IsFreePage}
-use Rattle.page_store.specs.Pairs.{Pair, Rise, found, removed}
+use Rattle.page_store.specs.Pairs.{Pair, Rise, found}
 use Rattle.page_store.specs.Removes.{FreesSlot, FreesPage, KeepsFreePages, Shrinks}
 use Rattle.index_pages.specs.Keys.{key_end}
-use Rattle.index_pages.specs.Page.{page_pairs, count_said, level_of, count_of}
+use Rattle.index_pages.specs.Page.{count_said, level_of}
 use Rattle.index_pages.proofs.Carrying.{carries_on}
 use Rattle.index_pages.proofs.Joining.{named_kept}
 use Rattle.index_pages.proofs.Rising.{found-above}
-use Rattle.index_pages.proofs.Tabled.{IsWhole, whole_passes, whole_counts, roots_apart}
+use Rattle.index_pages.proofs.Tabled.{whole_passes, whole_counts, roots_apart}
 use Rattle.index_pages.proofs.Taken.{FreeSlots, FreePages}
 use Rattle.btree_laws.proofs.Belonging.{tree_stays_same}
 use Rattle.index_pages.proofs.Freeing.{found_given}

@@ -1,5 +1,5 @@
 -- Where a removal begins: at the root.
-use Rattle.std.proofs.Common.{◌≡◌, ℕ, ◌^◌, ◌<◌, List, Some, None, refl, sym, ◌∙◌, ap, subst, arith}
+use Rattle.std.proofs.Common.{◌≡◌, ℕ, ◌^◌, ◌<◌, List, None, sym, ◌∙◌, ap, arith}
 use Rattle.std.specs.Prelude.{IsSome, is_some}
 use Rattle.record_slots.specs.Places.{page_bytes}
 use Rattle.page_store.specs.Index.{Index, IsTable}

@@ -1,5 +1,5 @@
 -- An insertion from the root on.
-use Rattle.std.proofs.Common.{◌≡◌, ◌≢◌, ℕ, suc, ◌+◌, ◌-◌, ◌*◌, ◌^◌, ◌<◌, ◌≤◌, ◌⊎◌, Bool, false, inl, inr, List, [], ◌∷◌, length, None, Result, Ok, Err, refl, sym, ◌∙◌, ap, subst, arith}
+use Rattle.std.proofs.Common.{◌≡◌, ◌≢◌, ℕ, suc, ◌+◌, ◌-◌, ◌^◌, ◌<◌, ◌≤◌, ◌⊎◌, Bool, false, inl, inr, List, [], ◌∷◌, length, None, Result, Ok, Err, refl, sym, ◌∙◌, ap, subst, arith}
 use Rattle.std.specs.Prelude.{IsTrue}
 use Rattle.array_shape.specs.declared.shape.Shape.{Shape}
 use Rattle.array_shape.specs.Places.{data_len, page_count}
@@ -12,7 +12,7 @@ use Rattle.record_slots.specs.declared.super_page.Super.{Super}
 use Rattle.page_store.specs.Fits.{FitAll, IsFirstLacking}
 use Rattle.page_store.specs.Index.{Action, IsTable, Grows, Rests, slots_of, index_pages_of}
 use Rattle.page_store.specs.Inserts.{ActionFits, LackPages, LackRoom, MayBecome, Inserts}
-use Rattle.page_store.specs.Looks.{Looks, LookCause, is_failed}
+use Rattle.page_store.specs.Looks.{Looks, is_failed}
 use Rattle.page_store.specs.Pairs.{Pair, found}
 use Rattle.page_store.specs.Shown.{PagesView}
 use Rattle.page_store.specs.declared.fault.PageFault.{PageFault}
@@ -32,8 +32,8 @@ use Rattle.btree_laws.specs.Tree.{pairs_of_tree}
 use Rattle.btree_laws.specs.declared.root.Root.{Root}
 use Rattle.btree_pages.specs.Index.{tree, tree_below, growing, half_for, half_pairs, tree_actions, actions_below, AreSoundTrees}
 use Rattle.btree_pages.specs.Node.{IsNode}
-use Rattle.btree_pages.specs.OnWay.{IsOnWay, IsReached}
-use Rattle.btree_pages.specs.Trees.{whole_of, table_sound, trees_count}
+use Rattle.btree_pages.specs.OnWay.{IsReached}
+use Rattle.btree_pages.specs.Trees.{table_sound, trees_count}
 use Rattle.btree_pages.specs.Writes.{IsRead, growing_pages, growing_parts}
 use Rattle.btree_pages.specs.declared.node.Node.{Node}
 use Rattle.index_pages.proofs.Claims.{entries_long, slots_few}

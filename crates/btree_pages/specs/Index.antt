@@ -1,8 +1,8 @@
 -- Trees as an index: the tree of each table, its pages, and the actions of an insertion and of a removal.
-use Rattle.std.specs.Prelude.{ℕ, zero, suc, ◌≤◌, nat_eq, nat_lt, nat_le, ◌||◌, if◌then◌else◌, List, [], ◌∷◌, take, drop, Option, Some, None}
+use Rattle.std.specs.Prelude.{ℕ, zero, suc, nat_eq, nat_lt, nat_le, ◌||◌, if◌then◌else◌, List, [], ◌∷◌, take, drop, Option, Some, None}
 use Rattle.std.specs.Option.{unwrap_or}
 use Rattle.mars_base.specs.Check.{Check}
-use Rattle.record_slots.specs.Places.{next_page, first_slot_page, slot_page, slot_due, page_due}
+use Rattle.record_slots.specs.Places.{first_slot_page, slot_page, slot_due, page_due}
 use Rattle.page_store.specs.Index.{Action, Index}
 use Rattle.page_store.specs.Pairs.{Pair, found}
 use Rattle.index_pages.specs.Keys.{key_at}

@@ -9,7 +9,7 @@ use Rattle.index_pages.specs.Keys.{key_end}
 use Rattle.index_pages.specs.Page.{page_pairs, level_of}
 use Rattle.index_pages.specs.Props.{Rise-prop, slot-prop, index-prop}
 use Rattle.index_pages.specs.Slots.{slot_check}
-use Rattle.btree_laws.specs.Tree.{IsLeafPage, IsInner, AreChildren, next_low, children_check, tree_from, tree_check}
+use Rattle.btree_laws.specs.Tree.{IsLeafPage, IsInner, AreChildren, next_low, children_check, tree_from}
 use Rattle.btree_laws.specs.declared.root.Root.{Root}
 use Rattle.btree_pages.specs.Index.{tree_of, AreSoundTrees}
 

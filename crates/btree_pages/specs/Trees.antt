@@ -2,7 +2,7 @@
 use Rattle.std.proofs.Common.{◌≡◌, ℕ, ◌<◌, List, arith}
 use Rattle.mars_base.specs.Check.{IsSingle}
 use Rattle.mars_base.proofs.Checks.{excludes, one_bad}
-use Rattle.record_slots.specs.Places.{page_bytes, next_page, AreGiven}
+use Rattle.record_slots.specs.Places.{next_page, AreGiven}
 use Rattle.page_store.specs.Index.{IsTable, HasCounts, KeepsIndex}
 use Rattle.page_store.specs.Pairs.{Rise}
 use Rattle.index_pages.specs.Keys.{key_end}

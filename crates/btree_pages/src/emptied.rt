@@ -41,7 +41,7 @@ pub fn join_leaves<S: EawStore>(
     ensures acts { Acts S.tells (S.opens (S.view pages.old.store).shape) tid
         (joining_pages (index_pages_of (S.view pages.old.store).shape) slot.now.number leaf.page parent.page right.now.number)
         (joining_parts (index_pages_of (S.view pages.old.store).shape) right.now.front slot.now.number slot.now.free leaf.page leaf.pairs.items
-            parent.page parent.pairs.items right.now.number right.now.free)
+        parent.page parent.pairs.items right.now.number right.now.free)
         (pages_of (S.view pages.old.store) pages.old) (pages_of (S.view pages.new.store) pages.new) result }
     ensures dead { IsErrOf result PageFault.Dead → pages.new ≡ pages.old }
 {
@@ -82,21 +82,21 @@ pub fn drop_leaf<S: EawStore>(
     ensures acts { Acts S.tells (S.opens (S.view pages.old.store).shape) tid
         (leaving_pages (index_pages_of (S.view pages.old.store).shape) slot.now.number parent.page leaf.now.number)
         (leaving_parts (index_pages_of (S.view pages.old.store).shape) leaf.now.front slot.now.number slot.now.free parent.page parent.pairs.items
-            leaf.now.number leaf.now.free)
+        leaf.now.number leaf.now.free)
         (pages_of (S.view pages.old.store) pages.old) (pages_of (S.view pages.new.store) pages.new) result }
     ensures dead { IsErrOf result PageFault.Dead → pages.new ≡ pages.old }
 {
     let mut free = [0; SLOT_LEN];
     write_free_slot(&slot.free, &mut free);
-    let mut named = [0; PAGE_LEN];
-    write_page(1, NO_LINK, parent.pairs.as_slice(), &mut named);
+    let mut rest = [0; PAGE_LEN];
+    write_page(1, NO_LINK, parent.pairs.as_slice(), &mut rest);
     let mut given = [0; PAGE_LEN];
     write_free_page(&leaf.free, &mut given);
     let mut part = [0; PART_LEN];
     write_super_part(&leaf.front, &mut part);
     let parts = [
         slot_part(pages, slot.number, &free),
-        whole_page(parent.page, &named),
+        whole_page(parent.page, &rest),
         whole_page(leaf.number, &given),
         front_part(&part),
     ];

@@ -20,10 +20,10 @@ ghost use Rattle.btree_pages.specs.OnWay.{IsReached};
 ghost use Rattle.btree_pages.specs.Writes.{IsRead, Releases};
 
 use crate::checking::FORM;
-use crate::parents::{place_behind, without_end, without_place};
-use crate::insertion::is_index_page;
 use crate::emptied::{NewPairs, drop_leaf, join_leaves};
+use crate::insertion::is_index_page;
 use crate::node::{Node, fetch_child, fetch_node};
+use crate::parents::{place_behind, without_end, without_place};
 use crate::write::NO_LINK;
 use btree_laws::Root;
 use eaw_face::EawStore;

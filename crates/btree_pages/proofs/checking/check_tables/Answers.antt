@@ -1,15 +1,13 @@
-use Rattle.std.proofs.Common.{◌≡◌, ◌+◌, ◌≤◌, ℕ, false, Some, None, Ok, Err, Result, refl, sym, ◌∙◌, ap, subst, arith}
+use Rattle.std.proofs.Common.{false, Ok, Err, Result, refl, sym, ◌∙◌, subst, arith}
 use Rattle.array_shape.specs.declared.shape.Shape.{Shape}
 use Rattle.eaw_face.specs.State.{State}
-use Rattle.record_slots.specs.Places.{page_bytes, tables_of}
-use Rattle.record_slots.specs.Super.{SaysSuper}
+use Rattle.record_slots.specs.Places.{tables_of}
 use Rattle.page_store.specs.Shown.{pages_of}
 use Rattle.page_store.specs.declared.index_fault.CheckFault.{CheckFault}
 use Rattle.index_pages.specs.Fetched.{IsFront}
 use Rattle.index_pages.specs.Slots.{IsVerdict}
 use Rattle.index_pages.proofs.Looking.{looks_none, looks_next}
 use Rattle.index_pages.proofs.Tabled.{table_own}
-use Rattle.btree_laws.specs.Tree.{tree_check}
 use Rattle.btree_pages.specs.Checked.{IsFrontOf}
 use Rattle.btree_pages.specs.Index.{tree_of}
 use Rattle.index_pages.proofs.Tables.{all_left, tables_none, tables_step, tables_fail, root_says, tables_end}

@@ -1,12 +1,11 @@
-use Rattle.std.proofs.Common.{◌≡◌, ◌∙◌, ◌≤◌, false, inl, inr, Err, Result, refl, sym, ap, subst, arith}
+use Rattle.std.proofs.Common.{◌≡◌, ◌∙◌, refl, sym, ap, subst}
 use Rattle.array_shape.specs.declared.shape.Shape.{Shape}
 use Rattle.eaw_face.specs.State.{State}
 use Rattle.record_slots.specs.Places.{page_bytes}
 use Rattle.page_store.specs.Shown.{pages_of}
-use Rattle.page_store.specs.declared.index_fault.CheckFault.{CheckFault}
 use Rattle.index_pages.specs.Fetched.{IsFront}
 use Rattle.index_pages.specs.Keys.{key_end}
-use Rattle.index_pages.specs.Page.{level_of, level_said}
+use Rattle.index_pages.specs.Page.{level_said}
 use Rattle.index_pages.specs.Slots.{IsVerdict}
 use Rattle.index_pages.proofs.Looking.{looks_next}
 use Rattle.btree_laws.specs.Tree.{tree_check, tree_from}

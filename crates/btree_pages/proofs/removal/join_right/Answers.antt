@@ -1,14 +1,12 @@
-use Rattle.std.proofs.Common.{◌≡◌, ◌≢◌, ◌<◌, ◌≤◌, ◌^◌, ℕ, Bool, true, List, length, get_or, Option, Some, None, Result, Ok, Err, refl, sym, ◌∙◌, ap, subst, arith}
-use Rattle.std.specs.Prelude.{IsTrue}
+use Rattle.std.proofs.Common.{◌≡◌, ◌≢◌, ◌<◌, ◌^◌, ℕ, Bool, true, List, Option, Some, Result, Ok, Err, ◌∙◌, ap, subst, arith}
 use Rattle.array_shape.specs.declared.shape.Shape.{Shape}
-use Rattle.page_store.specs.Index.{IsTable, index_pages_of, slots_of}
+use Rattle.page_store.specs.Index.{IsTable, index_pages_of}
 use Rattle.page_store.specs.Pairs.{Pair, found}
 use Rattle.page_store.specs.Shown.{pages_of}
 use Rattle.page_store.specs.declared.fault.PageFault.{PageFault}
 use Rattle.index_pages.specs.Acts.{Acts}
-use Rattle.index_pages.specs.Giving.{GivesPage}
 use Rattle.index_pages.specs.Page.{page_pairs, count_of}
-use Rattle.index_pages.proofs.Faulting.{dead_act, dead_look}
+use Rattle.index_pages.proofs.Faulting.{dead_look}
 use Rattle.index_pages.proofs.Removals.{removes_then, removes_look_err, removes_damaged}
 use Rattle.btree_laws.specs.Removals.{without_right}
 use Rattle.btree_laws.specs.Tree.{pairs_of_tree}
@@ -18,8 +16,8 @@ use Rattle.btree_pages.specs.Writes.{IsRead, Releases, joining_pages, joining_pa
 use Rattle.btree_pages.specs.declared.node.Node.{Node}
 use Rattle.btree_pages.proofs.Ending.{join_done, join_err}
 use Rattle.btree_pages.proofs.Giveable.{right_may}
-use Rattle.btree_pages.proofs.Looked.{bytes_same, still_told, still_alive, still_shaped}
-use Rattle.btree_pages.proofs.Nexting.{no_error, error_is, not_damaged_page}
+use Rattle.btree_pages.proofs.Looked.{still_told, still_alive, still_shaped}
+use Rattle.btree_pages.proofs.Nexting.{error_is}
 use Rattle.btree_pages.proofs.removal.join_right.Goals as goal
 
 pub returns-in-Err-clause-removes : goal.returns-in-Err-clause-removes

@@ -1,4 +1,4 @@
-use Rattle.std.proofs.Common.{◌≡◌, ◌<◌, ◌^◌, ℕ, List, Bool, true, Result, Ok, Err, sym, ◌∙◌, ap, subst, arith}
+use Rattle.std.proofs.Common.{◌≡◌, ◌<◌, ◌^◌, ℕ, List, Result, Ok, Err, subst, arith}
 use Rattle.page_store.specs.Index.{index_pages_of}
 use Rattle.page_store.specs.Pairs.{Pair}
 use Rattle.page_store.specs.Shown.{pages_of}
@@ -37,7 +37,7 @@ returns-in-Ok-clause-removes g c =
     leave_done T E c.args.tid c.args.root c.args.key v0 fits c.requires.alive (λ told. g.met.S.EawStore.long c.args.pages.now.store told) c.requires.sound c.requires.named
     c.args.slot.now.number c.args.slot.now.free c.args.slot.now.front c.requires.released v1 c.requires.finds
     c.args.leaf c.args.parent.page c.args.parent.level c.args.parent.pairs.items c.requires.leaf_is c.requires.alone c.requires.parent c.requires.level c.requires.reached
-    c.requires.last c.requires.several freed.free freed.front gives 
+    c.requires.last c.requires.several freed.free freed.front gives
     (subst (λ (x : ℕ × List Pair). Acts T (E v0.store.shape) c.args.tid (leaving_pages (index_pages_of v0.store.shape) c.args.slot.now.number c.args.parent.page x.0)
     (leaving_parts (index_pages_of v0.store.shape) c.in-Some.freed.front c.args.slot.now.number c.args.slot.now.free c.args.parent.page x.1 x.0 c.in-Some.freed.free) v0 v1 acted)
     (λ i. (c.in-Some.ensures.gives.0 i, rest i)) c.in-Ok.ensures.acts)

@@ -1,4 +1,4 @@
-use Rattle.std.proofs.Common.{◌≡◌, ◌≢◌, ◌<◌, ◌≤◌, ◌+◌, ◌^◌, ℕ, List, length, Option, sym, ◌∙◌, ap, subst, arith}
+use Rattle.std.proofs.Common.{◌<◌, ◌≤◌, ◌^◌, ℕ, length, Option, ◌∙◌, ap, arith}
 use Rattle.page_store.specs.Shown.{pages_of}
 use Rattle.index_pages.proofs.Removals.{removes_then, removes_none, removes_damaged}
 use Rattle.btree_pages.specs.Index.{tree}
