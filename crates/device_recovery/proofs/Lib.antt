@@ -9,5 +9,7 @@ pub mod Applying
 pub mod Votes
 pub mod Leaving
 pub mod Lists
+pub mod Totals
+pub mod OrderSums
 pub mod Moments
 pub mod Phases

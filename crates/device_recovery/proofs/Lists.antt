@@ -2,7 +2,7 @@
 use Rattle.std.proofs.Common.{◌≡◌, ℕ, zero, suc, ◌+◌, ◌*◌, ◌/◌, ◌%◌, ◌<◌, ◌≤◌, sym, Bool, true, false, cond, ⊎_elim, List, [], ◌∷◌, ◌++◌, length, ◌∙◌, ap, arith}
 use Rattle.std.proofs.lemmas.List.{length-append}
 use Rattle.std.specs.Prelude.{not, ◌&&◌}
-use Rattle.std.proofs.lemmas.Bool.{cases_eq, cases_Bool, ne_eqb, false≢true, and_from, and_left, not_from_false, false_from_ne_true}
+use Rattle.std.proofs.lemmas.Bool.{cases_eq, cases_Bool, ne_eqb, and_from, and_left, not_from_false, false_from_ne_true}
 use Rattle.array_shape.specs.declared.shape.Shape.{Shape}
 use Rattle.array_image.specs.Joined.{joined}
 use Rattle.array_image.proofs.Joined.{joined_none, joined_same, joined_more}
@@ -10,8 +10,8 @@ use Rattle.row_bytes.specs.declared.row.Row.{Row}
 use Rattle.array_image.specs.Image.{row_of}
 use Rattle.array_image.specs.Decided.{decided}
 use Rattle.array_image.proofs.Deciding.{not_decided}
-use Rattle.device_recovery.specs.Table.{row_in, NoneDecided, HasOrder, RowsAre, decided_in}
-use Rattle.device_recovery.specs.Recovered.{row_name, at_number, at_rows, decided_rows, dropped_rows, clear_calls, HasNoDecided, HasNoVote}
+use Rattle.device_recovery.specs.Table.{row_in, RowsAre, decided_in}
+use Rattle.device_recovery.specs.Recovered.{row_name, at_number, at_rows, decided_rows, dropped_rows, clear_calls, HasNoVote}
 use Rattle.device_recovery.proofs.Order.{joined_rows}
 use Rattle.device_recovery.proofs.Read.{table_decided}
 
@@ -116,14 +116,10 @@ module _ (shape : Shape) (image : List ℕ) (rows : List Row) (are : RowsAre sha
         none_counted shape (λ g t. (row_in rows g t).voted && not (decided_in shape rows g t)) (λ g t lt lt'. and_left (row_in rows g t).voted _ (unvoted g t lt lt')),
       )
 
-  -- a table of an image without a decided row
-  pub table_has_none : HasNoDecided shape image → NoneDecided shape rows
-  table_has_none none g t lt lt' = table_decided shape image rows are g t lt lt' ∙ none g t lt lt'
+-- no row is decided
+abbrev pub HasNoDecided : Shape → List ℕ → Type 0
+HasNoDecided shape image = (g t : ℕ) → g < shape.loggers → t < shape.numbers → decided shape image g t ≡ false
 
 -- without a vote there is none
 pub none_without_votes : (shape : Shape) (image : List ℕ) → HasNoVote shape image → HasNoDecided shape image
 none_without_votes shape image none g t lt lt' = not_decided shape.loggers shape.numbers (row_of shape image) g t lt lt' (none g t lt lt')
-
--- nor an order number
-pub no_order : (shape : Shape) (rows : List Row) → NoneDecided shape rows → (order : ℕ) → HasOrder shape rows order → ⊥
-no_order shape rows none order has = false≢true (sym (none has.logger has.tid has.one_logger has.one_number) ∙ has.is_decided)

@@ -1,5 +1,6 @@
 -- What recovery finds, says and writes.
-use Rattle.std.specs.Prelude.{ℕ, ◌≡◌, ◌+◌, ◌*◌, ◌<◌, Bool, true, false, not, nat_eq, if◌then◌else◌, List, [], ◌∷◌, ◌++◌, length}
+use Rattle.std.specs.Prelude.{ℕ, ◌≡◌, ◌+◌, ◌*◌, ◌/◌, ◌%◌, ◌<◌, Bool, true, false, not, nat_eq, if◌then◌else◌, List, [], ◌∷◌, ◌++◌, length, map, sum}
+use Rattle.std.specs.List.{range_with_len}
 use Rattle.mars_base.specs.Bytes.{range}
 use Rattle.mars_base.specs.Check.{Check, test, unless, each}
 use Rattle.pcm_media.specs.Images.{Content, MayLeave}
@@ -7,7 +8,8 @@ use Rattle.array_shape.specs.declared.shape.Shape.{Shape}
 use Rattle.array_image.specs.Joined.{joined}
 use Rattle.array_shape.specs.Logged.{places_of}
 use Rattle.array_image.specs.Image.{row_of}
-use Rattle.array_image.specs.Decided.{decided, all_decided, settled_data}
+use Rattle.array_image.specs.Decided.{decided, decided_as, all_decided, orders, settled_data}
+use Rattle.row_bytes.specs.declared.row.Row.{Row}
 use Rattle.array_image.specs.Standing.{IsGoodRow, IsLawful, StandsFor}
 use Rattle.array_image.specs.Votes.{dropped, votes_of}
 use Rattle.device_recovery.specs.declared.report.Report.{Report}
@@ -52,17 +54,42 @@ HasNoVote shape image = (g t : ℕ) → g < shape.loggers → t < shape.numbers 
 abbrev pub quiet_calls : Shape → ℕ
 quiet_calls shape = 1 + shape.loggers * shape.numbers
 
--- no row is decided
-abbrev pub HasNoDecided : Shape → List ℕ → Type 0
-HasNoDecided shape image = (g t : ℕ) → g < shape.loggers → t < shape.numbers → decided shape image g t ≡ false
-
 -- how many calls clear so many votes: one for each, and a barrier; none where there is none
 abbrev pub clear_calls : ℕ → ℕ
 clear_calls votes = if nat_eq votes 0 then 0 else votes + 1
 
--- how many calls it makes if none is decided: then only the votes are cleared
-abbrev pub drop_calls : Shape → List ℕ → ℕ
-drop_calls shape image = quiet_calls shape + clear_calls (length (dropped_rows shape image))
+-- the sum of what a function gives for the numbers below n
+abbrev pub total : (ℕ → ℕ) → ℕ → ℕ
+total f n = sum (map f (range_with_len 0 n))
+
+-- for all rows: row n is that of number n / loggers at logger n % loggers
+abbrev pub row_sum : Shape → (ℕ → ℕ → ℕ) → ℕ
+row_sum shape f = total (λ n. f (n % shape.loggers) (n / shape.loggers)) (shape.loggers * shape.numbers)
+
+-- how many cells a row names, if it passes a test
+abbrev pub cells_if : (ℕ → ℕ → Bool) → (ℕ → ℕ → Row) → ℕ → ℕ → ℕ
+cells_if test rows g t = if test g t then (rows g t).count else 0
+
+-- how many calls it makes for the data, if so many rows are decided and they name so many cells: for each cell a read and a write, and a
+-- barrier; none if no row is decided
+abbrev pub apply_calls : ℕ → ℕ → ℕ
+apply_calls rows cells = if nat_eq rows 0 then 0 else 2 * cells + 1
+
+-- how many cells the decided rows name, and those with one order number; how many rows have that
+abbrev pub cells_named : Shape → List ℕ → ℕ
+cells_named shape image = row_sum shape (cells_if (decided shape image) (row_of shape image))
+
+abbrev pub cells_as : Shape → List ℕ → ℕ → ℕ
+cells_as shape image o = row_sum shape (cells_if (decided_as shape image o) (row_of shape image))
+
+abbrev pub rows_as : Shape → List ℕ → ℕ → ℕ
+rows_as shape image o = length (at_rows shape (decided_as shape image o) row_name)
+
+-- How many calls recovery makes: a barrier and a read of each row; a read of the head of each cell that a decided row names; those for the
+-- data; the votes of rows that are not decided, and a barrier if there are any; and so for each order number of decided rows.
+abbrev pub recovery_calls : Shape → List ℕ → ℕ
+recovery_calls shape image = quiet_calls shape + cells_named shape image + apply_calls (length (decided_rows shape image)) (total (cells_as shape image) orders)
+    + clear_calls (length (dropped_rows shape image)) + total (λ o. clear_calls (rows_as shape image o)) orders
 
 -- the report says how many of each there are
 pub record Counts (shape : Shape) (image : List ℕ) (report : Report) : Type 0 where

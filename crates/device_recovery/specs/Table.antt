@@ -1,9 +1,10 @@
 -- The rows of an array as recovery holds them: eight places for each number, one for each logger.
-use Rattle.std.specs.Prelude.{ℕ, ◌≡◌, ◌+◌, ◌*◌, ◌<◌, ◌≤◌, Bool, true, false, not, ◌&&◌, nat_eq, nat_le, List, slice_index_or}
+use Rattle.std.specs.Prelude.{ℕ, ◌≡◌, ◌+◌, ◌*◌, ◌<◌, ◌≤◌, Bool, true, false, not, ◌&&◌, nat_eq, nat_le, List, length, slice_index_or}
 use Rattle.array_shape.specs.declared.shape.Shape.{Shape}
 use Rattle.row_bytes.specs.declared.row.Row.{Row}
 use Rattle.array_image.specs.Image.{row_of}
-use Rattle.array_image.specs.Decided.{decides}
+use Rattle.array_image.specs.Decided.{decides, orders}
+use Rattle.device_recovery.specs.Recovered.{apply_calls, at_rows, clear_calls, row_name, row_sum, cells_if, total}
 use Rattle.device_recovery.specs.declared.which.Which.{Which}
 use Rattle.device_recovery.specs.declared.which.Which.TheVariants.{Dropped, DecidedAs}
 
@@ -39,10 +40,6 @@ IsLeastAt shape rows from t n least = (g : ℕ) → g < n → decided_in shape r
 abbrev pub IsLeast : Shape → List Row → ℕ → ℕ → ℕ → Type 0
 IsLeast shape rows from n least = (t : ℕ) → t < n → IsLeastAt shape rows from t shape.loggers least
 
--- no row of the table is decided
-abbrev pub NoneDecided : Shape → List Row → Type 0
-NoneDecided shape rows = (g t : ℕ) → g < shape.loggers → t < shape.numbers → decided_in shape rows g t ≡ false
-
 -- a decided row of the table has this order number
 pub record HasOrder (shape : Shape) (rows : List Row) (order : ℕ) : Type 0 where
   pub logger : ℕ
@@ -51,3 +48,15 @@ pub record HasOrder (shape : Shape) (rows : List Row) (order : ℕ) : Type 0 whe
   pub one_number : tid < shape.numbers
   pub is_decided : decided_in shape rows logger tid ≡ true
   pub order_is : (row_in rows logger tid).order ≡ order
+
+-- how many cells the decided rows of the table with one order number name, and how many rows have it
+abbrev pub cells_in_order : Shape → List Row → ℕ → ℕ
+cells_in_order shape rows o = row_sum shape (cells_if (is_one_of shape rows (DecidedAs o)) (row_in rows))
+
+abbrev pub rows_in_order : Shape → List Row → ℕ → ℕ
+rows_in_order shape rows o = length (at_rows shape (is_one_of shape rows (DecidedAs o)) row_name)
+
+-- how many calls settling makes: for the data, for the votes of rows that are not decided, and for those of each order number
+abbrev pub settle_calls : Shape → List Row → ℕ
+settle_calls shape rows = apply_calls (length (at_rows shape (decided_in shape rows) row_name)) (total (cells_in_order shape rows) orders)
+    + clear_calls (length (at_rows shape (is_one_of shape rows Dropped) row_name)) + total (λ o. clear_calls (rows_in_order shape rows o)) orders

@@ -1,5 +1,6 @@
 // Looks for decided rows that name cells without a part.
 ghost use Rattle.std.specs.Prelude.{◌≡◌, ◌↔◌, ◌+◌, ◌*◌, ◌<◌, ◌≤◌, [], ℕ, true, false, Some, None, IsTrue, IfOk, IfErr, OnOk};
+ghost use Rattle.mars_base.specs.Costs.{Costs};
 ghost use Rattle.pcm_media.specs.View.{Writes};
 ghost use Rattle.array_shape.specs.Places.{media_len};
 ghost use Rattle.array_image.specs.Image.{row_of, cell_of, cell_head, IsGoodCell};
@@ -7,7 +8,7 @@ ghost use Rattle.array_image.specs.Decided.{decided};
 ghost use Rattle.array_image.specs.Standing.{IsGoodRow};
 ghost use Rattle.device_recovery.specs.Table.{row_in, RowsAre, decided_in};
 ghost use Rattle.pcm_media.specs.Answer.{media_answer};
-ghost use Rattle.device_recovery.specs.Recovered.{rows_good, is_of_media};
+ghost use Rattle.device_recovery.specs.Recovered.{rows_good, is_of_media, cells_if, row_sum};
 ghost use Rattle.device_recovery.specs.declared.report.RecoverFault.TheVariants.{BadRow};
 
 use crate::report::RecoverFault;
@@ -32,6 +33,7 @@ fn read_cell_head<M: Media>(
     requires entry { entry < shape.now.entries }
     requires size { (M.view media.old).size ≡ media_len shape.now }
     ensures head { IsTrue M.tells → IfOk result (λ head. head ≡ cell_head (cell_of shape.now (M.view media.old).content.bytes logger tid entry)) }
+    ensures costs { Costs true 1 (M.view media.old).moment (M.view media.new).moment result }
     ensures does { Writes M.tells [] (M.view media.old) (M.view media.new) result }
 {
     let mut bytes = [0; 16];
@@ -54,6 +56,8 @@ fn has_bad_cell<M: Media>(
     requires size { (M.view media.old).size ≡ media_len shape.now }
     ensures none { IsTrue M.tells → IfOk result (λ bad. bad ≡ false → (e : ℕ) → first ≤ e → e < first + count → IsGoodCell shape.now logger (cell_of shape.now (M.view media.old).content.bytes logger tid e)) }
     ensures some { IsTrue M.tells → IfOk result (λ bad. bad ≡ true → (e : ℕ) × (first ≤ e) × (e < first + count) × (IsGoodCell shape.now logger (cell_of shape.now (M.view media.old).content.bytes logger tid e) → ⊥)) }
+    ensures most { (M.view media.new).moment ≤ (M.view media.old).moment + count }
+    ensures whole { IfOk result (λ bad. bad ≡ false → (M.view media.new).moment ≡ (M.view media.old).moment + count) }
     ensures does { Writes M.tells [] (M.view media.old) (M.view media.new) result }
 {
     for entry in first..first + count {
@@ -79,7 +83,8 @@ fn is_bad<M: Media>(
     requires rows { IsTrue M.tells → RowsAre shape.now (M.view media.old).content.bytes shape.now.numbers rows.now }
     ensures none { IsTrue M.tells → IfOk result (λ bad. bad ≡ false → decided shape.now (M.view media.old).content.bytes logger tid ≡ true → IsGoodRow shape.now (M.view media.old).content.bytes logger tid) }
     ensures some { IsTrue M.tells → IfOk result (λ bad. bad ≡ true → (decided shape.now (M.view media.old).content.bytes logger tid ≡ true) × (IsGoodRow shape.now (M.view media.old).content.bytes logger tid → ⊥)) }
-    ensures idle { decided_in shape.now rows.now logger tid ≡ false → (M.view media.new).moment ≡ (M.view media.old).moment }
+    ensures most { (M.view media.new).moment ≤ (M.view media.old).moment + cells_if (decided_in shape.now rows.now) (row_in rows.now) logger tid }
+    ensures whole { IfOk result (λ bad. bad ≡ false → (M.view media.new).moment ≡ (M.view media.old).moment + cells_if (decided_in shape.now rows.now) (row_in rows.now) logger tid) }
     ensures fits { IfOk result (λ bad. bad ≡ false → decided_in shape.now rows.now logger tid ≡ true → (row_in rows.now logger tid).first + (row_in rows.now logger tid).count ≤ shape.now.entries) }
     ensures does { Writes M.tells [] (M.view media.old) (M.view media.new) result }
 {
@@ -103,7 +108,7 @@ pub(crate) fn check_rows<M: Media>(
     requires rows { IsTrue M.tells → RowsAre shape.now (M.view media.old).content.bytes shape.now.numbers rows.now }
     ensures good { IsTrue M.tells → OnOk result (rows_good shape.now (M.view media.old).content.bytes None) }
     ensures bad { IsTrue M.tells → IfErr result (λ fault. (g t : ℕ) → fault ≡ BadRow g t → rows_good shape.now (M.view media.old).content.bytes (Some (g, t))) }
-    ensures idle { ((g t : ℕ) → g < shape.now.loggers → t < shape.now.numbers → decided_in shape.now rows.now g t ≡ false) → (M.view media.new).moment ≡ (M.view media.old).moment }
+    ensures costs { Costs true (row_sum shape.now (cells_if (decided_in shape.now rows.now) (row_in rows.now))) (M.view media.old).moment (M.view media.new).moment result }
     ensures fits { OnOk result ((g t : ℕ) → g < shape.now.loggers → t < shape.now.numbers → decided_in shape.now rows.now g t ≡ true → (row_in rows.now g t).first + (row_in rows.now g t).count ≤ shape.now.entries) }
     ensures does { Writes M.tells [] (M.view media.old) (M.view media.new) (media_answer is_of_media result) }
 {

@@ -1,17 +1,17 @@
 // Writes the parts of decided rows into the data, and clears the votes.
-ghost use Rattle.std.specs.Prelude.{◌≡◌, ◌+◌, ◌<◌, ◌≤◌, [], List, ℕ, true, false, None, IsTrue, OnOk, length};
+ghost use Rattle.std.specs.Prelude.{◌≡◌, ◌+◌, ◌*◌, ◌<◌, ◌≤◌, [], List, ℕ, true, false, None, IsTrue, OnOk, length};
 ghost use Rattle.mars_base.specs.Bytes.{range};
 ghost use Rattle.mars_base.specs.Costs.{Costs};
 ghost use Rattle.pcm_media.specs.View.{Writes, LeavesOnly};
 ghost use Rattle.array_shape.specs.Places.{media_len};
 ghost use Rattle.array_shape.specs.Logged.{applied, places_of};
 ghost use Rattle.array_image.specs.Image.{row_of, data_of};
-ghost use Rattle.array_image.specs.Decided.{order_parts, all_decided, settled_data};
+ghost use Rattle.array_image.specs.Decided.{order_parts, orders, all_decided, settled_data};
 ghost use Rattle.array_image.specs.Standing.{AllSettled, IsSettled, IsRecovering};
 ghost use Rattle.array_image.specs.Votes.{votes_of};
-ghost use Rattle.device_recovery.specs.Table.{row_in, NoneDecided, RowsAre, RowsLeft, decided_in, is_one_of};
+ghost use Rattle.device_recovery.specs.Table.{row_in, cells_in_order, rows_in_order, RowsAre, RowsLeft, decided_in, is_one_of};
 ghost use Rattle.device_recovery.specs.declared.which.Which.TheVariants.{Dropped};
-ghost use Rattle.device_recovery.specs.Recovered.{rows_good, HasNoVote, SettlesTo, at_rows, clear_calls, row_name};
+ghost use Rattle.device_recovery.specs.Recovered.{rows_good, HasNoVote, SettlesTo, apply_calls, at_rows, clear_calls, row_name, total};
 
 use crate::rows::{nth_row, row_count};
 use crate::table::{ROWS_MAX, is_one_of, next_order, row_in};
@@ -34,7 +34,7 @@ pub(crate) fn settle_data<M: Media>(
     requires rows { IsTrue M.tells → RowsAre shape.now (M.view media.old).content.bytes shape.now.numbers rows.now }
     requires good { IsTrue M.tells → rows_good shape.now (M.view media.old).content.bytes None }
     ensures applied { IsTrue M.tells → OnOk result (AllSettled (M.view media.new).content × (data_of shape.now (M.view media.new).content.bytes ≡ settled_data shape.now (M.view media.old).content.bytes)) }
-    ensures idle { NoneDecided shape.now rows.now → (M.view media.new).moment ≡ (M.view media.old).moment }
+    ensures costs { Costs M.tells (apply_calls (length (at_rows shape.now (decided_in shape.now rows.now) row_name)) (total (cells_in_order shape.now rows.now) orders)) (M.view media.old).moment (M.view media.new).moment result }
     ensures does { Writes M.tells (places_of shape.now (all_decided shape.now (M.view media.old).content.bytes)) (M.view media.old) (M.view media.new) result }
 {
     if next_order(rows, shape, 0).is_none() {
@@ -51,6 +51,7 @@ fn apply_all<M: Media>(media: &mut M, shape: &Shape, rows: &[Row; ROWS_MAX]) -> 
     requires rows { IsTrue M.tells → RowsAre shape.now (M.view media.old).content.bytes shape.now.numbers rows.now }
     requires good { IsTrue M.tells → rows_good shape.now (M.view media.old).content.bytes None }
     ensures applied { IsTrue M.tells → OnOk result (data_of shape.now (M.view media.new).content.bytes ≡ settled_data shape.now (M.view media.old).content.bytes) }
+    ensures costs { Costs M.tells (2 * total (cells_in_order shape.now rows.now) orders) (M.view media.old).moment (M.view media.new).moment result }
     ensures does { Writes M.tells (places_of shape.now (all_decided shape.now (M.view media.old).content.bytes)) (M.view media.old) (M.view media.new) result }
 {
     let mut from = 0;
@@ -73,6 +74,7 @@ fn apply_order<M: Media>(
     requires rows { IsTrue M.tells → RowsAre shape.now (M.view media.old).content.bytes shape.now.numbers rows.now }
     requires good { IsTrue M.tells → rows_good shape.now (M.view media.old).content.bytes None }
     ensures applied { IsTrue M.tells → OnOk result (data_of shape.now (M.view media.new).content.bytes ≡ applied (order_parts shape.now (M.view media.old).content.bytes order) (data_of shape.now (M.view media.old).content.bytes)) }
+    ensures costs { Costs M.tells (2 * cells_in_order shape.now rows.now order) (M.view media.old).moment (M.view media.new).moment result }
     ensures does { Writes M.tells (places_of shape.now (order_parts shape.now (M.view media.old).content.bytes order)) (M.view media.old) (M.view media.new) result }
 {
     for nth in 0..row_count(shape) {
@@ -133,7 +135,7 @@ pub(crate) fn clear_decided<M: Media>(
     ensures cleared { IsTrue M.tells → OnOk result (AllSettled (M.view media.new).content × HasNoVote shape.now (M.view media.new).content.bytes) }
     ensures any_moment { IsTrue M.tells → (bytes : List ℕ) → IsRecovering shape.now bytes (M.view media.old).content
         → LeavesOnly (SettlesTo shape.now bytes (range (M.view media.old).content.bytes 0 512)) (M.view media.old) (M.view media.new) }
-    ensures idle { NoneDecided shape.now rows.now → (M.view media.new).moment ≡ (M.view media.old).moment }
+    ensures costs { Costs true (total (λ o. clear_calls (rows_in_order shape.now rows.now o)) orders) (M.view media.old).moment (M.view media.new).moment result }
     ensures does { Writes M.tells (votes_of shape.now (decided_in shape.now rows.now)) (M.view media.old) (M.view media.new) result }
 {
     let mut from = 0;

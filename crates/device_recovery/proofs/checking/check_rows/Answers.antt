@@ -1,4 +1,4 @@
-use Rattle.std.proofs.Common.{refl, ◌≡◌, ◌+◌, ◌*◌, ◌≤◌, true, [], sym, ◌∙◌, subst, arith}
+use Rattle.std.proofs.Common.{refl, ◌≡◌, ◌+◌, ◌*◌, ◌/◌, ◌%◌, ◌≤◌, ap, true, [], sym, subst, arith}
 use Rattle.std.proofs.lemmas.Result.{err_from_is_err_and}
 use Rattle.pcm_media.proofs.Left.{same_bytes}
 use Rattle.array_image.specs.Decided.{decided}
@@ -6,6 +6,9 @@ use Rattle.array_image.specs.Standing.{IsGoodRow}
 use Rattle.array_image.proofs.Calls.{goes_on, hands_on}
 use Rattle.device_recovery.proofs.Done.{all_done}
 use Rattle.device_recovery.specs.Table.{row_in, RowsAre, decided_in}
+use Rattle.mars_base.proofs.Costing.{costs_all, costs_err}
+use Rattle.device_recovery.specs.Recovered.{cells_if, total}
+use Rattle.device_recovery.proofs.Totals.{row_sum_more, row_sum_le}
 use Rattle.device_recovery.proofs.Goods.{IsFirstBad, good_rows, first_bad}
 use Rattle.device_recovery.proofs.Order.{place_of_row, before_more, before_all, lower_number}
 use Rattle.device_recovery.proofs.checking.check_rows.Goals as goal
@@ -22,7 +25,7 @@ loop-nth-preserved g c =
       does = goes_on m.tells [] [] _ _ _ (λ told i out. out) so_far.does c.in_ok-is_bad.ensures.does refl;
       good = λ told. before_more shape.loggers (λ h t. decided shape base h t ≡ true → IsGoodRow shape base h t) c.loop-nth.nth at.logger at.tid is.logger is.tid (so_far.good told)
           (subst (λ image. decided shape image at.logger at.tid ≡ true → IsGoodRow shape image at.logger at.tid) (same_bytes _ _ (so_far.does.touched told)) (c.in_ok-is_bad.ensures.none told c.if-branch.false));
-      idle = λ none. c.in_ok-is_bad.ensures.idle (none at.logger at.tid is.one_logger is.one_number) ∙ so_far.idle none;
+      costs = let one = c.in_ok-is_bad.ensures.whole c.if-branch.false in omega (arith, one, so_far.costs, row_sum_more shape (cells_if (decided_in shape c.args.rows.now) (row_in c.args.rows.now)) c.loop-nth.nth at.logger at.tid _ is.logger is.tid refl);
       fits = before_more shape.loggers (λ h t. decided_in shape c.args.rows.now h t ≡ true → (row_in c.args.rows.now h t).first + (row_in c.args.rows.now h t).count ≤ shape.entries) c.loop-nth.nth at.logger at.tid is.logger is.tid so_far.fits
           (c.in_ok-is_bad.ensures.fits c.if-branch.false);
     }
@@ -41,7 +44,7 @@ returns-in_err-is_bad g c =
     rw (p.1, p.2) (record {
       good = λ told. tt;
       bad = λ told h t is. cc;
-      idle = λ none. c.in_err-is_bad.ensures.idle (none at.logger at.tid is.one_logger is.one_number) ∙ c.loop-nth.invariant.idle none;
+      costs = costs_err true _ _ _ _ refl (omega (arith, c.in_err-is_bad.ensures.most, c.loop-nth.invariant.costs, row_sum_more c.args.shape.now (cells_if (decided_in c.args.shape.now c.args.rows.now) (row_in c.args.rows.now)) c.loop-nth.nth at.logger at.tid _ is.logger is.tid refl, row_sum_le c.args.shape.now (cells_if (decided_in c.args.shape.now c.args.rows.now) (row_in c.args.rows.now)) (c.loop-nth.nth + 1) (omega arith)));
       fits = tt;
       does = hands_on m.tells [] [] _ _ _ (λ told i out. out) c.loop-nth.invariant.does _ refl c.in_err-is_bad.ensures.does;
     })
@@ -72,7 +75,7 @@ returns-then-branch g c =
             before = λ k u lt lt'. so_far.good told k u lt (lower_number shape.loggers c.loop-nth.nth at.logger at.tid k u here lt lt');
           } in
           first_bad shape base h t (subst (λ k. IsFirstBad shape base k t) logger (subst (λ k. IsFirstBad shape base at.logger k) tid found));
-      idle = λ none. c.in_ok-is_bad.ensures.idle (none at.logger at.tid is.one_logger is.one_number) ∙ so_far.idle none;
+      costs = costs_err true _ _ _ _ refl (omega (arith, c.in_ok-is_bad.ensures.most, so_far.costs, row_sum_more shape (cells_if (decided_in shape c.args.rows.now) (row_in c.args.rows.now)) c.loop-nth.nth at.logger at.tid _ is.logger is.tid refl, row_sum_le shape (cells_if (decided_in shape c.args.rows.now) (row_in c.args.rows.now)) (c.loop-nth.nth + 1) (omega arith)));
       fits = tt;
       does = all_done m.tells _ _ _ _ read;
     }
@@ -87,7 +90,7 @@ returns g c =
     record {
       good = λ told. good_rows shape base (before_all shape.loggers (λ h t. decided shape base h t ≡ true → IsGoodRow shape base h t) c.loop-nth.nth shape.numbers all (so_far.good told));
       bad = λ told. tt;
-      idle = so_far.idle;
+      costs = costs_all true _ _ _ _ (omega (arith, so_far.costs, ap (total (λ k. cells_if (decided_in shape c.args.rows.now) (row_in c.args.rows.now) (k % shape.loggers) (k / shape.loggers))) all));
       fits = before_all shape.loggers (λ h t. decided_in shape c.args.rows.now h t ≡ true → (row_in c.args.rows.now h t).first + (row_in c.args.rows.now h t).count ≤ shape.entries) c.loop-nth.nth shape.numbers all so_far.fits;
       does = all_done m.tells _ _ _ _ so_far.does;
     }

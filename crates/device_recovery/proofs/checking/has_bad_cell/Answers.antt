@@ -15,6 +15,8 @@ returns-in_err-head g c =
     rw p.1 (record {
       none = λ told. tt;
       some = λ told. tt;
+      most = omega (arith, c.in_err-head.ensures.costs.most, c.loop-entry.invariant.moment);
+      whole = tt;
       does = hands_on m.tells [] [] _ _ _ (λ told i out. out) c.loop-entry.invariant.does _ refl c.in_err-head.ensures.does;
     })
 
@@ -31,6 +33,8 @@ returns-then-not-has_part g c =
           let head : c.in_ok-head.head ≡ cell_head (cell_of shape base c.args.logger c.args.tid entry) =
           c.in_ok-head.ensures.head told ∙ (λ i. cell_head (cell_of shape (same_bytes _ _ (c.loop-entry.invariant.does.touched told) i) c.args.logger c.args.tid entry)) in
           (entry, omega arith, omega arith, λ good. false≢true (c.if-not-has_part.ensures.1 (owned_same shape c.new.result.shape c.args.logger c.new.result.number _ _ (sym c.new.ensures.shape) (sym c.new.ensures.number) (owned_from shape c.args.logger (cell_of shape base c.args.logger c.args.tid entry) c.in_ok-head.head head good))));
+      most = omega (arith, c.in_ok-head.ensures.costs.most, c.loop-entry.invariant.moment);
+      whole = λ is. cc;
       does = all_done g.M.Media.tells _ _ _ _ read;
     }
 
@@ -38,7 +42,9 @@ pub loop-entry-preserved : goal.loop-entry-preserved
 loop-entry-preserved g c =
     let m = g.M.Media in
     let base = (m.view c.args.media.now).content.bytes in
+    let one = c.in_ok-head.ensures.costs.done refl in
     record {
+      moment = omega (arith, one, c.loop-entry.invariant.moment);
       does = goes_on m.tells [] [] _ _ _ (λ told i out. out) c.loop-entry.invariant.does c.in_ok-head.ensures.does refl;
       good = λ told e from below.
           let head : c.in_ok-head.head ≡ cell_head (cell_of c.args.shape.now base c.args.logger c.args.tid c.loop-entry.entry) =
@@ -55,5 +61,7 @@ returns g c =
     record {
       none = λ told is e from below. so_far.good told e from (omega arith);
       some = λ told is. cc;
+      most = omega (arith, so_far.moment);
+      whole = λ is. omega (arith, so_far.moment);
       does = all_done g.M.Media.tells _ _ _ _ so_far.does;
     }

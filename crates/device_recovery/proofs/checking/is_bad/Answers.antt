@@ -1,10 +1,14 @@
-use Rattle.std.proofs.Common.{refl, [], ◌≡◌, true, false, sym, ◌∙◌, ap, arith}
+use Rattle.std.proofs.Common.{[], ◌≡◌, ℕ, ◌+◌, List, true, false, sym, ◌∙◌, ap, arith}
 use Rattle.std.proofs.lemmas.Bool.{false≢true}
 use Rattle.std.proofs.lemmas.Result.{IfOk-weaker}
 use Rattle.array_image.proofs.Calls.{none_yet}
 use Rattle.row_bytes.specs.declared.row.Row.{Row}
 use Rattle.array_image.specs.Decided.{decided}
 use Rattle.array_image.specs.Standing.{IsGoodRow}
+use Rattle.array_shape.specs.declared.shape.Shape.{Shape}
+use Rattle.device_recovery.specs.Table.{row_in, decided_in}
+use Rattle.device_recovery.specs.Recovered.{cells_if}
+use Rattle.device_recovery.proofs.Totals.{cells_some, cells_none}
 use Rattle.device_recovery.proofs.Done.{all_done}
 use Rattle.device_recovery.proofs.Read.{table_decided, table_fits, table_good, table_bad}
 use Rattle.device_recovery.proofs.checking.is_bad.Goals as goal
@@ -16,7 +20,8 @@ returns-then-not-is_decided g c =
     record {
       none = λ told is so. absurd (false≢true (c.if-not-is_decided.ensures ∙ table_decided c.args.shape.now image c.args.rows.now (c.requires.rows told) c.args.logger c.args.tid c.requires.logger c.requires.tid ∙ so));
       some = λ told is. cc;
-      idle = λ is. refl;
+      most = omega arith;
+      whole = λ is. omega (arith, cells_none (decided_in c.args.shape.now c.args.rows.now) (row_in c.args.rows.now) c.args.logger c.args.tid (sym c.if-not-is_decided.ensures));
       fits = λ is so. absurd (false≢true (c.if-not-is_decided.ensures ∙ so));
       does = all_done m.tells [] _ _ _ (none_yet m.tells [] (m.view c.args.media.now));
     }
@@ -35,7 +40,8 @@ returns-then-from g c =
             let count = ap (λ (r : Row). r.count) c.row_in-row.ensures in
             omega (arith, fits, first, count, c.if-from.true, c.from.ensures, c.from-2.ensures, c.from-3.ensures),
       );
-      idle = λ is. refl;
+      most = omega arith;
+      whole = λ is. cc;
       fits = λ is. cc;
       does = all_done m.tells [] _ _ _ (none_yet m.tells [] (m.view c.args.media.now));
     }
@@ -58,8 +64,18 @@ returns-clause-some g c told =
     ))
     (c.has_bad_cell.ensures.some told)
 
-pub returns-clause-idle : goal.returns-clause-idle
-returns-clause-idle g c is = absurd (false≢true (sym is ∙ sym c.if-not-is_decided.ensures))
+named : (shape : Shape) (rows : List Row) (row : Row) (logger tid : ℕ) → row ≡ row_in rows logger tid → true ≡ decided_in shape rows logger tid → cells_if (decided_in shape rows) (row_in rows) logger tid ≡ row.count
+named shape rows row logger tid is so = cells_some (decided_in shape rows) (row_in rows) logger tid (sym so) ∙ sym (ap (λ (r : Row). r.count) is)
+
+pub returns-clause-most : goal.returns-clause-most
+returns-clause-most g c = omega (arith, c.has_bad_cell.ensures.most, named c.args.shape.now c.args.rows.now c.row_in-row.result c.args.logger c.args.tid c.row_in-row.ensures c.if-not-is_decided.ensures)
+
+pub returns-clause-whole : goal.returns-clause-whole
+returns-clause-whole g c =
+    let m = g.M.Media in
+    let count = named c.args.shape.now c.args.rows.now c.row_in-row.result c.args.logger c.args.tid c.row_in-row.ensures c.if-not-is_decided.ensures in
+    IfOk-weaker c.has_bad_cell.result _ (λ bad. bad ≡ false → (m.view c.has_bad_cell.new.media).moment ≡ (m.view c.args.media.now).moment + cells_if (decided_in c.args.shape.now c.args.rows.now) (row_in c.args.rows.now) c.args.logger c.args.tid)
+    (λ bad whole is. omega (arith, whole is, count)) c.has_bad_cell.ensures.whole
 
 pub returns-clause-does : goal.returns-clause-does
 returns-clause-does g c = c.has_bad_cell.ensures.does

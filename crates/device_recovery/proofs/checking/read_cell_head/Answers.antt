@@ -1,5 +1,6 @@
-use Rattle.std.proofs.Common.{refl, [], arith}
+use Rattle.std.proofs.Common.{true, refl, [], arith}
 use Rattle.std.proofs.lemmas.Result.{err_from_is_err_and}
+use Rattle.mars_base.proofs.Costing.{costs_all}
 use Rattle.array_image.proofs.Calls.{none_yet, goes_on, hands_on}
 use Rattle.array_image.proofs.Places.{cell_fits_in}
 use Rattle.device_recovery.proofs.Done.{all_done}
@@ -15,6 +16,7 @@ returns-in_err-read g c =
     let p = err_from_is_err_and c.from_residual.result c.from_residual.ensures.1 in
     rw p.1 (record {
       head = λ told. tt;
+      costs = record { done = λ exact. tt; most = omega (arith, read.ticks.next) };
       does = hands_on m.tells [] [] _ _ _ (λ told i out. out) (none_yet m.tells [] (m.view c.args.media.now)) _ refl read.does;
     })
 
@@ -22,3 +24,6 @@ pub returns-clause-does : goal.returns-clause-does
 returns-clause-does g c =
     let m = g.M.Media in
     all_done m.tells [] _ _ _ (goes_on m.tells [] [] _ _ _ (λ told i out. out) (none_yet m.tells [] (m.view c.args.media.now)) c.in_ok-read.ensures.does refl)
+
+pub returns-clause-costs : goal.returns-clause-costs
+returns-clause-costs g c = costs_all true _ _ _ _ (omega (arith, c.in_ok-read.ensures.ticks.next, c.in_ok-read.ensures.ticks.last))

@@ -7,7 +7,7 @@ use Rattle.array_image.proofs.Calls.{none_yet, goes_on, ends_with, hands_on}
 use Rattle.device_recovery.specs.Table.{RowsAre}
 use Rattle.device_recovery.specs.Recovered.{rows_good}
 use Rattle.mars_base.proofs.Costing.{costs_all}
-use Rattle.device_recovery.proofs.Lists.{table_has_none}
+use Rattle.device_recovery.proofs.OrderSums.{named_same}
 use Rattle.device_recovery.proofs.Moments.{none_unsettled}
 use Rattle.device_recovery.proofs.recovery.read_sound.Goals as goal
 
@@ -22,7 +22,7 @@ returns-in_err-barrier g c =
       bad = λ told h t is. cc;
       fits = tt;
       sure = λ told. tt;
-      costs = λ told none. record { done = λ exact. tt; most = omega (arith, barrier.ticks.next) };
+      costs = λ told. record { done = λ exact. tt; most = omega (arith, barrier.ticks.next) };
       does = hands_on m.tells [] [] _ _ _ (λ told i out. out) (none_yet m.tells [] (m.view c.args.media.now)) _ refl barrier.does;
     })
 
@@ -39,7 +39,7 @@ returns-in_err-rows g c =
       bad = λ told h t is. cc;
       fits = tt;
       sure = λ told. tt;
-      costs = λ told none. record { done = λ exact. tt; most = omega (arith, barrier.ticks.next, rows.costs.most) };
+      costs = λ told. record { done = λ exact. tt; most = omega (arith, barrier.ticks.next, rows.costs.most) };
       does = hands_on m.tells [] [] _ _ _ (λ told i out. out) waited _ refl rows.does;
     })
 
@@ -64,10 +64,10 @@ returns-in_err-check_rows g c =
       bad = λ told h t is. subst (λ bytes. rows_good shape bytes (Some (h, t))) (same_bytes _ _ (rows.does.touched told) ∙ same_bytes _ _ (barrier.does.touched told)) (checked.bad told h t is);
       fits = tt;
       sure = λ told. tt;
-      costs = λ told none.
+      costs = λ told.
           let one = rows.costs.done refl in
-          let looked = checked.idle (table_has_none shape base c.in_ok-rows.rows (subst (λ bytes. RowsAre shape bytes shape.numbers c.in_ok-rows.rows) (same_bytes _ _ (barrier.does.touched told)) (rows.rows told)) none) in
-          costs_all true _ _ _ _ (omega (arith, barrier.ticks.next, barrier.ticks.last, one, looked));
+          let named = named_same shape base c.in_ok-rows.rows (subst (λ bytes. RowsAre shape bytes shape.numbers c.in_ok-rows.rows) (same_bytes _ _ (barrier.does.touched told)) (rows.rows told)) in
+          record { done = λ exact. tt; most = omega (arith, barrier.ticks.next, one, checked.costs.most, named) };
       does = ends_with m.tells [] [] _ _ _ (λ told i out. out) read _ checked.does;
     })
 
@@ -91,9 +91,9 @@ returns g c =
       sure = λ told i.
           let settled = ap (λ (c : Content). c.unsettled) (barrier.settled told) in
           (checked.does.touched told).unsettled i tt ((rows.does.touched told).unsettled i tt (none_unsettled (m.view c.barrier.new.self).content settled i));
-      costs = λ told none.
+      costs = λ told.
           let one = rows.costs.done refl in
-          let looked = checked.idle (table_has_none shape base c.in_ok-rows.rows (are told) none) in
-          costs_all true _ _ _ _ (omega (arith, barrier.ticks.next, barrier.ticks.last, one, looked));
+          let named = named_same shape base c.in_ok-rows.rows (are told) in
+          costs_all true _ _ _ _ (omega (arith, barrier.ticks.next, barrier.ticks.last, one, checked.costs.done refl, named));
       does = ends_with m.tells [] [] _ _ _ (λ told i out. out) read _ checked.does;
     }

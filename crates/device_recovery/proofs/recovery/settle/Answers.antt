@@ -1,10 +1,13 @@
-use Rattle.std.proofs.Common.{true, refl, ◌≡◌, ◌∙◌, length, arith}
+use Rattle.std.proofs.Common.{refl, ◌≡◌, ◌+◌, ◌∙◌, length, arith}
 use Rattle.std.proofs.lemmas.Result.{on_ok_weaker}
-use Rattle.mars_base.proofs.Costing.{costs_all, costs_err}
+use Rattle.mars_base.proofs.Costing.{CostsSoFar, costs_err, costs_then}
+use Rattle.array_image.specs.Decided.{orders}
+use Rattle.device_recovery.specs.declared.which.Which.TheVariants.{Dropped}
+use Rattle.device_recovery.specs.Table.{decided_in, is_one_of, cells_in_order, rows_in_order}
 use Rattle.mars_base.proofs.Going.{then}
 use Rattle.array_shape.specs.Places.{media_len}
 use Rattle.array_image.proofs.Calls.{none_yet, goes_on, ends_with, hands_on}
-use Rattle.device_recovery.specs.Recovered.{recovered_places}
+use Rattle.device_recovery.specs.Recovered.{recovered_places, at_rows, row_name, apply_calls, clear_calls, total}
 use Rattle.device_recovery.proofs.Goods.{all_good}
 use Rattle.device_recovery.proofs.Moments.{data_law, mid_rows, drop_law, low_recovering, clear_law, data_stays, data_within, dropped_within, decided_within, clean_from}
 use Rattle.device_recovery.proofs.recovery.settle.Goals as goal
@@ -119,10 +122,18 @@ returns-clause-does g c =
     ends_with m.tells all _ _ _ _ (λ told. decided_within shape old.content.bytes c.args.rows.now (c.requires.rows told)) dropped_done c.clear_decided.result c.clear_decided.ensures.does
 
 pub returns-in_err-settle_data-clause-costs : goal.returns-in_err-settle_data-clause-costs
-returns-in_err-settle_data-clause-costs g c none = costs_err true _ _ _ c.from_residual.result c.from_residual.ensures.0 (omega (arith, c.settle_data.ensures.idle none))
+returns-in_err-settle_data-clause-costs g c = costs_err g.M.Media.tells _ _ _ c.from_residual.result c.from_residual.ensures.0 (omega (arith, c.settle_data.ensures.costs.most))
 
 pub returns-in_err-drop_votes-clause-costs : goal.returns-in_err-drop_votes-clause-costs
-returns-in_err-drop_votes-clause-costs g c none = costs_err true _ _ _ c.from_residual-in_err-drop_votes.result c.from_residual-in_err-drop_votes.ensures.0 (omega (arith, c.settle_data.ensures.idle none, c.drop_votes.ensures.costs.most))
+returns-in_err-drop_votes-clause-costs g c = costs_err g.M.Media.tells _ _ _ c.from_residual-in_err-drop_votes.result c.from_residual-in_err-drop_votes.ensures.0 (omega (arith, c.settle_data.ensures.costs.most, c.drop_votes.ensures.costs.most))
 
 pub returns-clause-costs : goal.returns-clause-costs
-returns-clause-costs g c none = costs_all true _ _ _ _ (omega (arith, c.settle_data.ensures.idle none, c.in_ok-drop_votes.ensures.costs.done refl, c.clear_decided.ensures.idle none))
+returns-clause-costs g c =
+    let m = g.M.Media in
+    let shape = c.args.shape.now in
+    let rows = c.args.rows.now in
+    let written = c.in_ok-settle_data.ensures.costs in
+    let dropped = c.in_ok-drop_votes.ensures.costs in
+    let both : CostsSoFar m.tells (apply_calls (length (at_rows shape (decided_in shape rows) row_name)) (total (cells_in_order shape rows) orders) + clear_calls (length (at_rows shape (is_one_of shape rows Dropped) row_name))) (m.view c.args.media.now).moment (m.view c.drop_votes.new.media).moment =
+    record { done = λ told. let one = written.done told in let two = dropped.done refl in omega (arith, one, two); most = omega (arith, written.most, dropped.most) } in
+    costs_then m.tells _ _ (total (λ o. clear_calls (rows_in_order shape rows o)) orders) _ _ _ c.clear_decided.result refl both (record { done = λ told. c.clear_decided.ensures.costs.done refl; most = c.clear_decided.ensures.costs.most })

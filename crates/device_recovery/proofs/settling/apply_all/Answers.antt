@@ -1,4 +1,4 @@
-use Rattle.std.proofs.Common.{refl, ◌≡◌, ◌+◌, ◌<◌, ◌≤◌, ℕ, true, List, ◌∙◌, sym, ap, subst, length, arith}
+use Rattle.std.proofs.Common.{refl, ◌≡◌, ◌+◌, ◌*◌, ◌<◌, ◌≤◌, ℕ, true, List, ◌∙◌, sym, ap, subst, length, arith}
 use Rattle.array_shape.specs.Places.{media_len}
 use Rattle.array_shape.specs.Logged.{Part, applied}
 use Rattle.row_bytes.specs.declared.row.Row.{Row}
@@ -7,7 +7,11 @@ use Rattle.array_image.specs.Image.{row_of, data_of}
 use Rattle.array_image.specs.Decided.{decided, order_parts, orders}
 use Rattle.array_image.proofs.Calls.{goes_on, hands_on}
 use Rattle.array_image.proofs.Recovery.{no_more_orders}
-use Rattle.device_recovery.specs.Table.{row_in}
+use Rattle.device_recovery.specs.Table.{row_in, cells_in_order}
+use Rattle.mars_base.proofs.Costing.{costs_err, costs_more, costs_ok}
+use Rattle.device_recovery.specs.Recovered.{total}
+use Rattle.device_recovery.proofs.Totals.{total_more, total_le}
+use Rattle.device_recovery.proofs.OrderSums.{cells_past, cells_behind}
 use Rattle.device_recovery.proofs.Applying.{is_order, orders_are, rows_stay, good_stays, order_within, order_applied}
 use Rattle.device_recovery.proofs.Goods.{all_good, good_rows}
 use Rattle.device_recovery.proofs.Read.{table_decided}
@@ -41,6 +45,16 @@ returns-in_err-apply_order-clause-does g c =
     order_within shape base long (all_good shape base (c.requires.good told)) cur (c.loop-order.invariant.does.touched told).bytes c.in-Some.order (is_order c.in-Some.order c.in-Some.ensures.some.1))
     c.loop-order.invariant.does c.from_residual.result c.from_residual.ensures.0 c.in_err-apply_order.ensures.does
 
+pub returns-in_err-apply_order-clause-costs : goal.returns-in_err-apply_order-clause-costs
+returns-in_err-apply_order-clause-costs g c =
+    let shape = c.args.shape.now in
+    let order = c.in-Some.order in
+    let some = c.in-Some.ensures.some in
+    let past = cells_past shape c.args.rows.now c.loop-order.from order some.0 some.2 in
+    let one = total_more (cells_in_order shape c.args.rows.now) order in
+    let most = total_le (cells_in_order shape c.args.rows.now) (order + 1) orders (subst (λ (n : ℕ). order + 1 ≤ n) (sym orders_are) (omega (arith, some.1))) in
+    costs_err g.M.Media.tells _ _ _ c.from_residual.result c.from_residual.ensures.0 (omega (arith, c.apply_order.ensures.costs.most, c.loop-order.invariant.costs.most, past, one, most))
+
 pub loop-order-preserved : goal.loop-order-preserved
 loop-order-preserved g c =
     let m = g.M.Media in
@@ -52,6 +66,11 @@ loop-order-preserved g c =
     let next : order + 1 ≡ c.from-from.result + 1 = omega (arith, c.from-from.ensures) in
     record {
       most = omega (arith, next, some.1);
+      costs =
+          let past = cells_past shape c.args.rows.now c.loop-order.from order some.0 some.2 in
+          let one = total_more (cells_in_order shape c.args.rows.now) order in
+          let here = ap (total (cells_in_order shape c.args.rows.now)) next in
+          costs_more m.tells _ (2 * total (cells_in_order shape c.args.rows.now) c.loop-order.from) _ _ _ _ _ (omega (arith, past, one, here)) c.loop-order.invariant.costs c.in_ok-apply_order.ensures.costs;
       does = goes_on m.tells _ _ _ _ _ (λ told.
           let long : length base ≡ media_len shape = g.met.M.Media.long c.args.media.now told ∙ c.requires.size in
           order_within shape base long (all_good shape base (c.requires.good told)) cur (c.loop-order.invariant.does.touched told).bytes order (is_order order some.1))
@@ -81,3 +100,8 @@ returns-clause-applied g c told =
     let same : (row_in c.args.rows.now h t).order ≡ (row_of shape base h t).order = ap (λ (r : Row). r.order) (are h t lt lt') in
     let none = c.in_default.ensures.none refl h t lt lt' (table_decided shape base c.args.rows.now are h t lt lt' ∙ so) in
     omega (arith, same, none))))
+
+pub returns-clause-costs : goal.returns-clause-costs
+returns-clause-costs g c =
+    let all = cells_behind c.args.shape.now c.args.rows.now c.loop-order.from c.loop-order.invariant.most (c.in_default.ensures.none refl) in
+    costs_ok g.M.Media.tells _ _ _ _ tt (omega (arith, all)) c.loop-order.invariant.costs

@@ -1,4 +1,7 @@
-use Rattle.std.proofs.Common.{◌≡◌, ◌≤◌, ◌-◌, IsTrue}
+use Rattle.std.proofs.Common.{◌≡◌, ◌*◌, ◌≤◌, ◌-◌, IsTrue}
+use Rattle.mars_base.proofs.Costing.{CostsSoFar}
+use Rattle.device_recovery.specs.Table.{cells_in_order}
+use Rattle.device_recovery.specs.Recovered.{total}
 use Rattle.array_shape.specs.Logged.{applied, places_of}
 use Rattle.array_image.specs.Joined.{joined}
 use Rattle.array_image.specs.Image.{data_of}
@@ -12,6 +15,7 @@ invariant-loop-order g l =
     let base = (m.view l.fn.media).content.bytes in
     record {
       most : l.from ≤ 65536;
+      costs : CostsSoFar m.tells (2 * total (cells_in_order l.shape l.rows) l.from) (m.view l.fn.media).moment (m.view l.media).moment;
       does : SoFar m.tells (places_of l.shape (all_decided l.shape base)) (m.view l.fn.media) (m.view l.media);
       applied : IsTrue m.tells → data_of l.shape (m.view l.media).content.bytes ≡ applied (joined (order_parts l.shape base) 0 l.from) (data_of l.shape base);
     }

@@ -1,4 +1,4 @@
-use Rattle.std.proofs.Common.{refl, ◌≡◌, ◌+◌, subst, arith}
+use Rattle.std.proofs.Common.{true, refl, ◌≡◌, ℕ, ◌+◌, ◌≤◌, sym, ap, subst, arith}
 use Rattle.std.specs.Prelude.{nat_eq}
 use Rattle.std.proofs.lemmas.Bool.{and_parts}
 use Rattle.mars_base.specs.Bytes.{range}
@@ -7,9 +7,15 @@ use Rattle.array_image.specs.Votes.{votes_of}
 use Rattle.array_image.proofs.Calls.{goes_on, hands_on}
 use Rattle.array_image.proofs.Headers.{header_stays}
 use Rattle.device_recovery.specs.declared.which.Which.TheVariants.{DecidedAs}
-use Rattle.device_recovery.specs.Table.{row_in, RowsLeft, decided_in, is_one_of}
+use Rattle.device_recovery.specs.Table.{row_in, rows_in_order, RowsLeft, decided_in, is_one_of}
+use Rattle.mars_base.proofs.Costing.{costs_all, costs_err}
+use Rattle.array_image.specs.Decided.{orders}
+use Rattle.device_recovery.specs.Recovered.{clear_calls, total}
+use Rattle.device_recovery.proofs.Applying.{orders_are}
+use Rattle.device_recovery.proofs.Totals.{total_more, total_le}
+use Rattle.device_recovery.proofs.OrderSums.{rows_past, rows_behind, rows_some}
 use Rattle.device_recovery.proofs.Clearing.{fewer_votes}
-use Rattle.device_recovery.proofs.Lists.{no_order}
+use Rattle.device_recovery.proofs.Lists.{some_clear_calls}
 use Rattle.device_recovery.proofs.Leaving.{cleared_left}
 use Rattle.device_recovery.proofs.Moments.{votes_behind}
 use Rattle.device_recovery.proofs.Phases.{order_left, clearing, still_recovering}
@@ -37,8 +43,17 @@ returns-in_err-clear_votes-clause-does g c =
     hands_on m.tells _ _ _ _ _ (λ told. fewer_votes shape (decided_in shape rows) (is_one_of shape rows (DecidedAs order)) (λ h t lt lt' so. (and_parts (decided_in shape rows h t) (nat_eq (row_in rows h t).order order) so).0))
     c.loop-order.invariant.does c.from_residual.result c.from_residual.ensures.0 c.in_err-clear_votes.ensures.does
 
-pub returns-in_err-clear_votes-clause-idle : goal.returns-in_err-clear_votes-clause-idle
-returns-in_err-clear_votes-clause-idle g c none = absurd (no_order c.args.shape.now c.args.rows.now none c.in-Some.order c.in-Some.ensures.found)
+pub returns-in_err-clear_votes-clause-costs : goal.returns-in_err-clear_votes-clause-costs
+returns-in_err-clear_votes-clause-costs g c =
+    let shape = c.args.shape.now in
+    let rows = c.args.rows.now in
+    let order = c.in-Some.order in
+    let some = c.in-Some.ensures.some in
+    let past = rows_past shape rows c.loop-order.from order some.0 some.2 in
+    let one = total_more (λ o. clear_calls (rows_in_order shape rows o)) order in
+    let votes = some_clear_calls (rows_in_order shape rows order) (rows_some shape rows order c.in-Some.ensures.found) in
+    let most = total_le (λ o. clear_calls (rows_in_order shape rows o)) (order + 1) orders (subst (λ (n : ℕ). order + 1 ≤ n) (sym orders_are) (omega (arith, some.1))) in
+    costs_err true _ _ _ c.from_residual.result c.from_residual.ensures.0 (omega (arith, c.clear_votes.ensures.costs.most, c.loop-order.invariant.costs, past, one, votes, most))
 
 pub loop-order-preserved : goal.loop-order-preserved
 loop-order-preserved g c =
@@ -55,7 +70,12 @@ loop-order-preserved g c =
     let next : order + 1 ≡ c.from-from.result + 1 = omega (arith, c.from-from.ensures) in
     record {
       most = omega (arith, next, some.1);
-      idle = λ none. absurd (no_order shape rows none order c.in-Some.ensures.found);
+      costs =
+          let past = rows_past shape rows c.loop-order.from order some.0 some.2 in
+          let one = total_more (λ o. clear_calls (rows_in_order shape rows o)) order in
+          let here = ap (total (λ o. clear_calls (rows_in_order shape rows o))) next in
+          let votes = some_clear_calls (rows_in_order shape rows order) (rows_some shape rows order c.in-Some.ensures.found) in
+          omega (arith, past, one, here, votes, so_far.costs, cleared.costs.done refl);
       does = goes_on m.tells _ _ _ _ _ (λ told. fewer_votes shape (decided_in shape rows) (is_one_of shape rows (DecidedAs order)) (λ h t lt lt' so. (and_parts (decided_in shape rows h t) (nat_eq (row_in rows h t).order order) so).0))
           so_far.does cleared.does refl;
       settled = λ told. (cleared.cleared told).0;
@@ -68,3 +88,8 @@ loop-order-preserved g c =
           then (so_far.time told bytes recovering)
           (weaker (clearing shape rows mid.content c.loop-order.from order (so_far.left told) some.0 some.2 some.1 (so_far.settled told) bytes (so_far.recovering told bytes recovering) (range old.content.bytes 0 512) here) (cleared.does.time told));
     }
+
+pub returns-clause-costs : goal.returns-clause-costs
+returns-clause-costs g c =
+    let all = rows_behind c.args.shape.now c.args.rows.now c.loop-order.from c.loop-order.invariant.most (c.in_default.ensures.none refl) in
+    costs_all true _ _ _ _ (omega (arith, all, c.loop-order.invariant.costs))

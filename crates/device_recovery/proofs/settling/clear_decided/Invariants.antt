@@ -1,11 +1,11 @@
-use Rattle.std.proofs.Common.{◌≡◌, ◌≤◌, ◌-◌, ℕ, List, IsTrue}
+use Rattle.std.proofs.Common.{◌≡◌, ◌+◌, ◌≤◌, ◌-◌, ℕ, List, IsTrue}
 use Rattle.mars_base.specs.Bytes.{range}
 use Rattle.pcm_media.specs.View.{LeavesOnly}
 use Rattle.array_image.specs.Standing.{AllSettled, IsRecovering}
 use Rattle.array_image.specs.Votes.{votes_of}
 use Rattle.array_image.proofs.Calls.{SoFar}
-use Rattle.device_recovery.specs.Table.{NoneDecided, RowsLeft, decided_in}
-use Rattle.device_recovery.specs.Recovered.{SettlesTo}
+use Rattle.device_recovery.specs.Table.{rows_in_order, RowsLeft, decided_in}
+use Rattle.device_recovery.specs.Recovered.{SettlesTo, clear_calls, total}
 use Rattle.device_recovery.proofs.settling.clear_decided.Given as goal
 
 abbrev pub invariant-loop-order : goal.invariant-loop-order
@@ -15,7 +15,7 @@ invariant-loop-order g l =
     let now = m.view l.media in
     record {
       most : l.from ≤ 65536;
-      idle : NoneDecided l.shape l.rows → now.moment ≡ old.moment;
+      costs : now.moment ≡ old.moment + total (λ o. clear_calls (rows_in_order l.shape l.rows o)) l.from;
       does : SoFar m.tells (votes_of l.shape (decided_in l.shape l.rows)) old now;
       settled : IsTrue m.tells → AllSettled now.content;
       left : IsTrue m.tells → RowsLeft l.shape now.content.bytes l.rows l.from;

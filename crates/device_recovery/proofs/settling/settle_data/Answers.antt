@@ -1,11 +1,15 @@
-use Rattle.std.proofs.Common.{◌≡◌, ℕ, true, List, ◌∙◌, sym, arith}
+use Rattle.std.proofs.Common.{◌≡◌, ℕ, true, List, ◌∙◌, sym, arith, ◌*◌, ◌<◌, length}
 use Rattle.std.specs.Prelude.{Option, Some, None, is_some, IfSome}
 use Rattle.std.proofs.lemmas.Bool.{false_from_ne_true, false≢true}
-use Rattle.array_image.specs.Decided.{decided}
+use Rattle.array_image.specs.Decided.{decided, orders}
 use Rattle.array_shape.specs.declared.shape.Shape.{Shape}
 use Rattle.row_bytes.specs.declared.row.Row.{Row}
-use Rattle.device_recovery.specs.Table.{NoneDecided, HasOrder}
-use Rattle.device_recovery.proofs.Lists.{no_order}
+use Rattle.device_recovery.specs.Table.{HasOrder, cells_in_order, decided_in}
+use Rattle.device_recovery.proofs.Lists.{none_counted}
+use Rattle.mars_base.proofs.Costing.{costs_all, costs_err, costs_one, costs_then}
+use Rattle.device_recovery.specs.Recovered.{at_rows, row_name, total}
+use Rattle.device_recovery.proofs.Totals.{no_apply_calls, some_apply_calls}
+use Rattle.device_recovery.proofs.OrderSums.{decided_some}
 use Rattle.device_recovery.proofs.Clearing.{none_settled}
 use Rattle.device_recovery.proofs.Read.{table_decided}
 use Rattle.device_recovery.proofs.settling.settle_data.Goals as goal
@@ -20,13 +24,22 @@ returns-then-is_none-clause-applied g c told =
           omega (arith, none)))),
     )
 
--- where no row is decided, no order number was found
-no_next : (shape : Shape) (rows : List Row) (next : Option ℕ) → is_some next ≡ true → IfSome next (HasOrder shape rows) → NoneDecided shape rows → ⊥
-no_next shape rows None some found none = false≢true some
-no_next shape rows (Some order) some found none = no_order shape rows none order found
+-- an order number that was found is that of a decided row
+found_some : (shape : Shape) (rows : List Row) (next : Option ℕ) → is_some next ≡ true → IfSome next (HasOrder shape rows) → 0 < length (at_rows shape (decided_in shape rows) row_name)
+found_some shape rows None some found = absurd (false≢true some)
+found_some shape rows (Some order) some found = decided_some shape rows order found
 
-pub returns-in_err-apply_all-clause-idle : goal.returns-in_err-apply_all-clause-idle
-returns-in_err-apply_all-clause-idle g c none = absurd (no_next c.args.shape.now c.args.rows.now c.next_order.result c.if-is_none.ensures c.next_order.ensures.found none)
+pub returns-then-is_none-clause-costs : goal.returns-then-is_none-clause-costs
+returns-then-is_none-clause-costs g c =
+    let none = none_counted c.args.shape.now (decided_in c.args.shape.now c.args.rows.now) (λ h t lt lt'. false_from_ne_true (decided_in c.args.shape.now c.args.rows.now h t) (λ so. omega (arith, c.next_order.ensures.none c.if-is_none.ensures h t lt lt' so))) in
+    costs_all g.M.Media.tells _ _ _ _ (omega (arith, no_apply_calls _ (total (cells_in_order c.args.shape.now c.args.rows.now) orders) none))
 
-pub returns-clause-idle : goal.returns-clause-idle
-returns-clause-idle g c none = absurd (no_next c.args.shape.now c.args.rows.now c.next_order.result c.if-is_none.ensures c.next_order.ensures.found none)
+pub returns-in_err-apply_all-clause-costs : goal.returns-in_err-apply_all-clause-costs
+returns-in_err-apply_all-clause-costs g c =
+    let calls = some_apply_calls _ (total (cells_in_order c.args.shape.now c.args.rows.now) orders) (found_some c.args.shape.now c.args.rows.now c.next_order.result c.if-is_none.ensures c.next_order.ensures.found) in
+    costs_err g.M.Media.tells _ _ _ c.from_residual.result c.from_residual.ensures.0 (omega (arith, calls, c.apply_all.ensures.costs.most))
+
+pub returns-clause-costs : goal.returns-clause-costs
+returns-clause-costs g c =
+    let calls = some_apply_calls _ (total (cells_in_order c.args.shape.now c.args.rows.now) orders) (found_some c.args.shape.now c.args.rows.now c.next_order.result c.if-is_none.ensures c.next_order.ensures.found) in
+    costs_then g.M.Media.tells _ (2 * total (cells_in_order c.args.shape.now c.args.rows.now) orders) 1 _ _ _ c.barrier.result calls (record { done = λ told. c.in_ok-apply_all.ensures.costs.done told; most = c.in_ok-apply_all.ensures.costs.most }) (costs_one g.M.Media.tells _ _ _ c.barrier.ensures.ticks)
