@@ -10,7 +10,6 @@ use Rattle.btree_laws.proofs.Ways.{child_given}
 use Rattle.btree_laws.specs.Descent.{child_for}
 use Rattle.btree_laws.specs.Frames.{below_kept, tree_kept}
 use Rattle.btree_laws.specs.Removals.{IsLeafWith, right_of, without_last, without_right}
-use Rattle.btree_laws.specs.Removed.{removed}
 use Rattle.btree_laws.specs.Sound.{AreBelow, AreSound, IsTree}
 use Rattle.btree_laws.specs.declared.root.Root.{Root}
 use Rattle.btree_laws.specs.Tree.{IsUnder, IsUnderSome, next_low, pairs_under, pieces_with}
@@ -22,7 +21,7 @@ use Rattle.index_pages.specs.Keys.{key_end}
 use Rattle.index_pages.specs.Page.{page_pairs, count_of}
 use Rattle.index_pages.specs.Pieces.{joined}
 use Rattle.index_pages.specs.Ways.{Keeps}
-use Rattle.page_store.specs.Pairs.{Pair, Rise}
+use Rattle.page_store.specs.Pairs.{Pair, Rise, removed}
 use Rattle.record_slots.specs.Places.{page_bytes, AreGiven, next_page}
 
 -- what leaves that are joined do to the entries of their parent

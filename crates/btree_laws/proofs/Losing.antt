@@ -4,7 +4,6 @@ use Rattle.btree_laws.proofs.Removing.{given_removed, length-removed, removed-ri
 use Rattle.btree_laws.proofs.Ways.{graft}
 use Rattle.btree_laws.specs.Descent.{page_for}
 use Rattle.btree_laws.specs.Removals.{LosesPair}
-use Rattle.btree_laws.specs.Removed.{removed}
 use Rattle.btree_laws.specs.Sound.{IsSoundTree, IsTree}
 use Rattle.btree_laws.specs.declared.root.Root.{Root}
 use Rattle.btree_laws.specs.Tree.{IsPageOfTree, IsUnder, pairs_of_tree, pairs_under}
@@ -15,7 +14,7 @@ use Rattle.index_pages.proofs.PageFacts.{length-page_pairs}
 use Rattle.index_pages.specs.Keys.{key_end}
 use Rattle.index_pages.specs.Page.{page_pairs, level_of, count_of}
 use Rattle.index_pages.specs.Ways.{above, Keeps}
-use Rattle.page_store.specs.Pairs.{Pair, Rise}
+use Rattle.page_store.specs.Pairs.{Pair, Rise, removed}
 use Rattle.record_slots.specs.Places.{page_bytes, AreGiven, next_page, IsSuper}
 
 leaf_loses : (root : Root) (old new : List ℕ) → Keeps old new → (leaf key low high : ℕ) → LosesPair root old new leaf key → IsTree root 0 old leaf low high → IsTree root 0 new leaf low high

@@ -9,7 +9,6 @@ use Rattle.btree_laws.proofs.Ways.{found_on_way, graft, way_of, way_under}
 use Rattle.btree_laws.specs.Descent.{child_for, page_for}
 use Rattle.btree_laws.specs.Frames.{children_kept}
 use Rattle.btree_laws.specs.Removals.{IsParentWith, JoinsLeft, JoinsRight, right_of, without_last, without_right}
-use Rattle.btree_laws.specs.Removed.{removed}
 use Rattle.btree_laws.specs.Sound.{AreBelow, AreSound, IsSoundTree, IsTree}
 use Rattle.btree_laws.specs.declared.root.Root.{Root}
 use Rattle.btree_laws.specs.Tree.{IsPageOfTree, IsUnder, IsUnderSome, next_low, pairs_of_tree, pairs_under, pieces_with}
@@ -19,7 +18,7 @@ use Rattle.index_pages.specs.Keys.{key_end}
 use Rattle.index_pages.specs.Page.{page_pairs, level_of, count_of}
 use Rattle.index_pages.specs.Pieces.{joined}
 use Rattle.index_pages.specs.Ways.{above, Keeps, IsOwn}
-use Rattle.page_store.specs.Pairs.{Pair, Rise, found}
+use Rattle.page_store.specs.Pairs.{Pair, Rise, found, removed}
 use Rattle.record_slots.specs.Places.{page_bytes, next_page, IsSuper}
 
 -- a page under the children of a parent of leaves is not that parent

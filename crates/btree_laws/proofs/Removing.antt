@@ -4,9 +4,8 @@ use Rattle.std.proofs.lemmas.Bool.Decides.{nat_tests, eqb_tells}
 use Rattle.std.specs.Prelude.{if◌then◌else◌}
 use Rattle.index_pages.proofs.Rising.{rise_bounds, rise_from_less, found-below}
 use Rattle.index_pages.specs.Ways.{IsLocal}
-use Rattle.page_store.specs.Pairs.{Pair, Rise, found}
+use Rattle.page_store.specs.Pairs.{Pair, Rise, found, removed}
 use Rattle.record_slots.specs.Places.{AreGiven}
-use Rattle.btree_laws.specs.Removed.{removed}
 
 -- a key that is below them all is not there
 pub removed-below : (low high key : ℕ) (ps : List Pair) → Rise low high ps → key < low → removed ps key ≡ ps

@@ -2,9 +2,8 @@
 use Rattle.std.proofs.Common.{◌≡◌, ℕ, suc, true, false, nat_eq, nat_lt, inl, inr, List, [], ◌∷◌}
 use Rattle.std.proofs.lemmas.Bool.Decides.{leb_tells, eqb_tells}
 use Rattle.index_pages.specs.Written.{AreSmall}
-use Rattle.page_store.specs.Pairs.{Pair}
+use Rattle.page_store.specs.Pairs.{Pair, removed}
 use Rattle.btree_laws.specs.Removals.{without_last, without_right}
-use Rattle.btree_laws.specs.Removed.{removed}
 
 pub small_removed : (key : ℕ) (ps : List Pair) → AreSmall ps → AreSmall (removed ps key)
 small_removed key [] s = s

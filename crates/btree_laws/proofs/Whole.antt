@@ -9,7 +9,6 @@ use Rattle.btree_laws.proofs.Removing.{found-removed, given_removed}
 use Rattle.btree_laws.proofs.Ways.{child_given, way_of, way_own}
 use Rattle.btree_laws.specs.Descent.{child_for, page_for}
 use Rattle.btree_laws.specs.Removals.{IsLeafWith, IsParentWith, JoinsLeft, JoinsRight, KeepsBut, Lacks, LosesPair, right_of}
-use Rattle.btree_laws.specs.Removed.{removed}
 use Rattle.btree_laws.specs.Resting.{sound_tree_given}
 use Rattle.btree_laws.specs.Sound.{IsSoundTree, IsTree}
 use Rattle.btree_laws.specs.declared.root.Root.{Root}
@@ -20,7 +19,7 @@ use Rattle.index_pages.proofs.PageFacts.{length-page_pairs}
 use Rattle.index_pages.specs.Keys.{key_end}
 use Rattle.index_pages.specs.Page.{page_pairs, pairs_said, kind_said, level_said, link_said, level_of}
 use Rattle.index_pages.specs.Ways.{above, IsOwn}
-use Rattle.page_store.specs.Pairs.{Pair, found}
+use Rattle.page_store.specs.Pairs.{Pair, found, removed}
 use Rattle.record_slots.specs.Places.{page_bytes, next_slot, next_page, IsSuper, Carries, AreGiven}
 use Rattle.page_store.specs.Index.{HasCounts}
 

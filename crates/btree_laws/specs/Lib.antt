@@ -1,7 +1,6 @@
 pub mod Tree
 pub mod Descent
 pub mod Changes
-pub mod Removed
 pub mod Removals
 -- lemmas that the laws of the index cite
 pub mod Sound

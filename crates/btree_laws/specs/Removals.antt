@@ -1,13 +1,12 @@
 -- What the removal of a pair writes to a tree.
-use Rattle.std.specs.Prelude.{ℕ, ◌≡◌, ◌≢◌, ◌<◌, ◌≤◌, ◌⊎◌, nat_lt, if◌then◌else◌, List, [], ◌∷◌, length}
-use Rattle.btree_laws.specs.Descent.{child_for, leaf_for}
-use Rattle.btree_laws.specs.Removed.{removed}
+use Rattle.std.specs.Prelude.{ℕ, ◌≡◌, ◌≢◌, ◌-◌, ◌<◌, ◌≤◌, ◌⊎◌, Bool, nat_lt, nat_le, ◌&&◌, if◌then◌else◌, List, [], ◌∷◌, length}
+use Rattle.btree_laws.specs.Descent.{child_for, page_for, leaf_for}
 use Rattle.btree_laws.specs.Sound.{IsSoundTree}
 use Rattle.btree_laws.specs.declared.root.Root.{Root}
 use Rattle.btree_laws.specs.Tree.{pairs_of_tree}
 use Rattle.index_pages.specs.Page.{page_pairs, kind_of, level_of, link_of, count_of}
 use Rattle.index_pages.specs.Ways.{IsOwn, above}
-use Rattle.page_store.specs.Pairs.{Pair}
+use Rattle.page_store.specs.Pairs.{Pair, removed}
 use Rattle.record_slots.specs.Places.{next_slot, next_page, Carries}
 
 -- no given page or slot is taken back, and each given slot that carries a key still carries it, but for one slot
@@ -102,3 +101,11 @@ Neighbours bytes parent key =
     (right_of (page_pairs bytes parent) key ≢ 0)
     ⊎ ((right_of (page_pairs bytes parent) key ≡ 0) × (2 ≤ count_of bytes parent))
     ⊎ ((right_of (page_pairs bytes parent) key ≡ 0) × (count_of bytes parent ≡ 1))
+
+-- the parent of the key's leaf, if that leaf is below the root
+abbrev pub parent_for : List ℕ → ℕ → ℕ → ℕ
+parent_for bytes root key = page_for (level_of bytes root - 1) bytes root key
+
+-- the leaf of the key is below the root and has one pair, and is the only child of its parent: that pair stays
+abbrev pub stays_last : List ℕ → ℕ → ℕ → Bool
+stays_last bytes root key = nat_le 1 (level_of bytes root) && (nat_le (count_of bytes (leaf_for bytes root key)) 1 && nat_le (count_of bytes (parent_for bytes root key)) 1)

@@ -2,14 +2,13 @@
 ghost use Rattle.std.specs.Prelude.{◌≡◌, ◌≢◌, ◌⊎◌, ◌<◌, ◌≤◌, ℕ, suc, List, length, nat_eq, if◌then◌else◌, Option, Some, None};
 ghost use Rattle.record_slots.specs.Places.{page_bytes, next_page};
 ghost use Rattle.page_store.specs.Index.{HasCounts};
-ghost use Rattle.page_store.specs.Pairs.{Pair, Rise, found};
+ghost use Rattle.page_store.specs.Pairs.{Pair, Rise, found, removed};
 ghost use Rattle.index_pages.specs.Keys.{key_end};
 ghost use Rattle.index_pages.specs.Page.{level_of, page_pairs};
 ghost use Rattle.index_pages.specs.Ways.{above};
 ghost use Rattle.index_pages.specs.Written.{AreSmall};
 ghost use Rattle.btree_laws.specs.Descent.{child_for, page_for, leaf_for};
 ghost use Rattle.btree_laws.specs.Removals.{MayLose, IsAlone, Neighbours, KeepsBut, Lacks, IsJoinPlace, LosesPair, JoinsRight, JoinsLeft, right_of, without_right, without_last};
-ghost use Rattle.btree_laws.specs.Removed.{removed};
 ghost use Rattle.btree_laws.specs.Sound.{IsSoundTree};
 ghost use Rattle.btree_laws.specs.declared.root.Root.{Root};
 ghost use Rattle.btree_laws.specs.Tree.{pairs_of_tree, IsPageOfTree};

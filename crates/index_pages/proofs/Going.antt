@@ -53,7 +53,7 @@ logs_then tells a b c first second = record {
   logs = λ told u. second.logs told u ∙ first.logs told u;
 }
 
-looks_logs : (tells : Bool) (Opens : List ℕ → List ℕ → Type 0) (old now : PagesView) → Looks tells Opens false old now → KeepsLogs tells old now
+pub looks_logs : (tells : Bool) (Opens : List ℕ → List ℕ → Type 0) (old now : PagesView) → Looks tells Opens false old now → KeepsLogs tells old now
 looks_logs tells Opens old now looks =
     let still = looks.still refl in
     record {

@@ -150,7 +150,8 @@ main_named form bytes front = elim (cases_eq (version_of bytes) 1) [
 -- what a whole index counts
 pub whole_counts : (form : ℕ) (check : List ℕ → ℕ → ℕ → Check ℕ) (bytes : List ℕ) → IsWhole form check bytes → HasCounts bytes
 whole_counts form check bytes w = record {
-  version = omega (arith, w.front.has_mark.some, w.front.has_mark.known);
+  oldest = w.front.has_mark.some;
+  newest = w.front.has_mark.known;
   slots = w.front.slots;
   some = w.front.some_pages;
   pages = w.front.pages;

@@ -12,4 +12,5 @@ within index most actions = record {
   level = index.level;
   has_page = index.has_page;
   actions = actions;
+  removal = index.removal;
 }

@@ -1,5 +1,5 @@
 -- What an index makes of the data of a store.
-use Rattle.std.specs.Prelude.{ℕ, suc, ◌≡◌, ◌≢◌, ◌+◌, ◌*◌, ◌/◌, ◌<◌, ◌≤◌, ◌⊎◌, List, length, Some, None}
+use Rattle.std.specs.Prelude.{ℕ, suc, ◌≡◌, ◌≢◌, ◌+◌, ◌*◌, ◌/◌, ◌<◌, ◌≤◌, ◌⊎◌, List, length, Option, Some, None}
 use Rattle.array_shape.specs.declared.shape.Shape.{Shape}
 use Rattle.array_shape.specs.Places.{page_count}
 use Rattle.record_slots.specs.Slots.{slot_bytes}
@@ -13,8 +13,9 @@ pub record Action : Type 0 where
   pub takes : ℕ
 
 -- What an index makes of data that has one for each table: which data is sound, and which page fails first. And for the index of one table,
--- told by its root: its pairs (key, slot); how many levels of inner pages stand above its leaves; which pages it has; and the actions that
--- the insertion of a key makes, splits first.
+-- told by its root: its pairs (key, slot); how many levels of inner pages stand above its leaves; which pages it has; the actions that the
+-- insertion of a key makes, splits first; and the pages that the parts of a key's removal lie in, or none if the key's pair is the last of
+-- its page and stays there.
 pub record Index : Type 1 where
   pub sound : List ℕ → Type 0
   pub fails : List ℕ → ℕ → Type 0
@@ -22,6 +23,7 @@ pub record Index : Type 1 where
   pub level : List ℕ → ℕ → ℕ
   pub has_page : List ℕ → ℕ → ℕ → Type 0
   pub actions : List ℕ → ℕ → ℕ → List Action
+  pub removal : List ℕ → ℕ → ℕ → Option (List ℕ)
 
 -- there are four slots for each page of the array; half of the pages are for the index, among them the super page
 abbrev pub slots_of : Shape → ℕ
@@ -34,10 +36,11 @@ index_pages_of shape = page_count shape / 2
 abbrev pub IsTable : List ℕ → ℕ → ℕ → Type 0
 IsTable bytes table root = root_of bytes table ≡ Some root
 
--- The data is of version 1, until tables are made. No more slots are in use than there are, and no more pages than lie below those of
--- slots; what is free was given out; and the first table has root 1.
+-- The data is of version 1 or 2. No more slots are in use than there are, and no more pages than lie below those of slots; what is free was
+-- given out; and the first table has root 1.
 pub record HasCounts (bytes : List ℕ) : Type 0 where
-  pub version : version_of bytes ≡ 1
+  pub oldest : 1 ≤ version_of bytes
+  pub newest : version_of bytes ≤ 2
   pub slots : next_slot bytes ≤ slot_count bytes
   pub some : 2 ≤ next_page bytes
   pub pages : next_page bytes ≤ first_slot_page bytes

@@ -17,3 +17,4 @@ pub mod Pairs
 pub mod Index
 pub mod Looks
 pub mod Inserts
+pub mod Removes

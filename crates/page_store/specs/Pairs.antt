@@ -23,3 +23,8 @@ next (p ∷ ps) from = if nat_le from p.0 then Some p else next ps from
 abbrev pub inserted : List Pair → ℕ → ℕ → List Pair
 inserted [] key to = (key, to) ∷ []
 inserted (p ∷ ps) key to = if nat_lt key p.0 then (key, to) ∷ p ∷ ps else p ∷ inserted ps key to
+
+-- the pairs without that of this key
+abbrev pub removed : List Pair → ℕ → List Pair
+removed [] key = []
+removed (p ∷ ps) key = if nat_eq p.0 key then ps else p ∷ removed ps key

@@ -2,9 +2,10 @@
 ghost use Rattle.std.specs.Prelude.{◌≡◌, ◌^◌, ◌<◌, List, ℕ, None, IfOk, IfSome, IsErrOf, IsTrue};
 ghost use Rattle.array_shape.specs.Places.{page_count};
 ghost use Rattle.eaw_face.specs.Causes.{IsAlive};
-ghost use Rattle.record_slots.specs.Places.{AreGiven};
+ghost use Rattle.record_slots.specs.Places.{version_of, AreGiven};
 ghost use Rattle.page_store.specs.Index.{Index, IsTable, HasCounts, KeepsIndex, slots_of};
 ghost use Rattle.page_store.specs.Inserts.{Inserts};
+ghost use Rattle.page_store.specs.Removes.{HasAbsent, Removes};
 ghost use Rattle.page_store.specs.Looks.{Looks, LookCause, CheckCause, is_failed, is_check_failed};
 ghost use Rattle.page_store.specs.Pairs.{Rise, found, next};
 ghost use Rattle.page_store.specs.Shown.{pages_of, top_in};
@@ -17,8 +18,8 @@ use eaw_face::EawStore;
 /// Indexes of u64 keys in the data of pages, one for each table, told by the page of its root: for each key the slot that holds its record.
 /// They have no state of their own.
 ///
-/// Look-ups read the committed data, and insertions change it by nested top actions, which stay whatever becomes of the transaction
-/// around them. Over a store that does not tell its data, a page that breaks the layout is answered with `Damaged`, and so is a
+/// Look-ups read the committed data, and insertions and removals change it by nested top actions, which stay whatever becomes of the
+/// transaction around them. Over a store that does not tell its data, a page that breaks the layout is answered with `Damaged`, and so is a
 /// look-up that does not end within the pages of the index.
 pub trait KeyIndex {
     /// What it makes of data: whether it is sound, the pairs of key and slot under a root, and what an insertion takes.
@@ -90,6 +91,28 @@ pub trait KeyIndex {
         ensures inserts { Inserts S.tells (S.opens (S.view pages.old.store).shape) index tid root table key
             (pages_of (S.view pages.old.store) pages.old) (pages_of (S.view pages.new.store) pages.new) result }
         ensures dead { IsErrOf result IndexFault.Dead → pages.new ≡ pages.old };
+
+    /// Takes out the pair of a key, whose slot is absent, as number `tid`, and frees the slot. A page that would be left without pairs is
+    /// freed too, or it keeps its last pair: `false` is returned exactly then, and nothing is changed. All of it is one nested top action of
+    /// at most five parts. What is free is kept from version 2 on.
+    fn remove<S: EawStore>(
+        pages: &mut Pages<S>,
+        tid: u8,
+        root: u32,
+        table: u8,
+        key: u64,
+    ) -> Result<bool, PageFault>
+        requires tid { tid < (S.view pages.old.store).shape.numbers }
+        requires table { table < 8 }
+        requires root { root < page_count (S.view pages.old.store).shape }
+        requires closed { IsAlive (S.view pages.old.store) → top_in pages.old.marks tid ≡ None }
+        requires sound { IsTrue S.tells → IsAlive (S.view pages.old.store) → index.sound (S.view pages.old.store).state.bytes }
+        requires named { IsTrue S.tells → IsAlive (S.view pages.old.store) → IsTable (S.view pages.old.store).state.bytes table root }
+        requires lists { IsTrue S.tells → IsAlive (S.view pages.old.store) → version_of (S.view pages.old.store).state.bytes ≡ 2 }
+        requires absent { IsTrue S.tells → IsAlive (S.view pages.old.store) → HasAbsent index root table key (S.view pages.old.store).state.bytes }
+        ensures removes { Removes S.tells (S.opens (S.view pages.old.store).shape) index tid root key
+            (pages_of (S.view pages.old.store) pages.old) (pages_of (S.view pages.new.store) pages.new) result }
+        ensures dead { IsErrOf result PageFault.Dead → pages.new ≡ pages.old };
 
     /// Keys of a table rise strictly.
     ghost rises: { (bytes : List ℕ) (table root : ℕ) → index.sound bytes → IsTable bytes table root → Rise 0 (2 ^ 64) (index.pairs bytes root) };

@@ -18,11 +18,11 @@ version_said bytes = slice_index bytes 4
 unfoldable pub form_said : List ℕ → ℕ
 form_said bytes = slice_index bytes 5
 
--- the mark, and version 1; version 2 is not in use yet
+-- the mark, and version 1 or 2
 pub record HasSuperMark (bytes : List ℕ) : Type 0 where
   pub mark : take 4 bytes ≡ super_mark
   pub some : 1 ≤ version_said bytes
-  pub known : version_said bytes ≤ 1
+  pub known : version_said bytes ≤ 2
 
 -- the next slot and the next page to give out, in bytes 8 to 15
 unfoldable pub next_slot_said : List ℕ → ℕ

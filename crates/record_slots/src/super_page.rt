@@ -25,8 +25,8 @@ const MARK: [u8; 4] = *b"MREC";
 /// The version that has entries of tables, and lists of what is free.
 pub const VERSION: u8 = 2;
 
-/// The newest version that is read. It is also the one that is written.
-const NEWEST: u8 = 1;
+/// The newest version that is read.
+const NEWEST: u8 = 2;
 
 const VERSION_AT: usize = 4;
 
@@ -70,7 +70,7 @@ pub struct Super {
     pub free_pages: u32,
 }
 
-/// What a super page says. `None` exactly when it does not begin with the mark and version 1. The entries are not looked at.
+/// What a super page says. `None` exactly when it does not begin with the mark and version 1 or 2. The entries are not looked at.
 pub fn read_super(bytes: &[u8; 512]) -> Option<Super>
     ensures says { IfSome result (SaysSuper bytes.now) }
     ensures unmarked { IfNone result (¬ HasSuperMark bytes.now) }
