@@ -1,4 +1,6 @@
 pub mod Tables
+pub mod Joint
+pub mod Sharing
 pub mod SlotParts
 pub mod Looking
 pub mod Writing
