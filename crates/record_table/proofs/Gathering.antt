@@ -5,7 +5,7 @@ use Rattle.std.proofs.lemmas.List.{append-nil, append_assoc, map-append}
 use Rattle.array_shape.specs.Logged.{applied}
 use Rattle.eaw_face.specs.State.{listed}
 use Rattle.record_slots.specs.Slots.{slot_said}
-use Rattle.record_slots.specs.Places.{slot_of, tables_of}
+use Rattle.record_slots.specs.Places.{slot_of}
 use Rattle.record_slots.specs.declared.slot.Slot.{Slot}
 use Rattle.history.specs.Writes.{Table}
 use Rattle.history.specs.Writes.{is_within, rows_within}
@@ -16,10 +16,10 @@ use Rattle.record_table.specs.Causes.{slot_in}
 use Rattle.record_table.specs.Invariant.{IsTied}
 use Rattle.record_table.specs.State.{key_in}
 use Rattle.record_table.specs.Scanned.{row_at, rows_seen, rows_in}
-use Rattle.record_table.specs.Shown.{table_in, table_of, value_of, pairs_of}
+use Rattle.record_table.specs.Shown.{table_in, table_of, value_of, asked_tables, pairs_of}
 use Rattle.record_table.proofs.RowsOf.{rows_of, entries_are, none_from, none_past, none_between, first_from}
 use Rattle.record_table.proofs.Joint.{IsPast, key_sum}
-use Rattle.record_table.proofs.Sharing.{Laws, all_rise, next_in, next_not_in}
+use Rattle.record_table.proofs.Sharing.{Laws, asked_of, all_rise, next_in, next_not_in}
 use Rattle.record_table.proofs.Tables.{record_at}
 use Rattle.record_table.proofs.SlotParts.{applied_parts}
 
@@ -33,7 +33,7 @@ module _ (index : Index) (laws : Laws index) (t : ℕ) (old : PagesView) (tied :
       let w = applied_parts index laws (listed (old.store.state.logs t)) old.store.state.bytes tied.sound (tied.parts t) in
       ap (λ (m : Table). rows_within low high m) (sym w.table)
       ∙ ap (λ (l : List Pair). rows_within low high (table_in (applied (listed (old.store.state.logs t)) old.store.state.bytes) l)) w.pairs
-      ∙ ap (filter (is_within low high)) (entries_are (applied (listed (old.store.state.logs t)) old.store.state.bytes) 0 (key_in (0 + length (tables_of old.store.state.bytes)) 0) (pairs_of index old.store.state.bytes)
+      ∙ ap (filter (is_within low high)) (entries_are (applied (listed (old.store.state.logs t)) old.store.state.bytes) 0 (key_in (0 + length (asked_of old.store.state.bytes)) 0) (pairs_of index old.store.state.bytes)
       (all_rise index laws old.store.state.bytes tied.sound))
 
   pub follows_past : (from high : ℕ) → high < from → rows_seen index t old from high ≡ []
@@ -45,13 +45,13 @@ module _ (index : Index) (laws : Laws index) (t : ℕ) (old : PagesView) (tied :
   follows_beyond : (from high : ℕ) (p : Pair) → next (pairs_of index old.store.state.bytes) from ≡ Some p → high < p.0 → rows_seen index t old from high ≡ []
   follows_beyond from high p is lt =
       rows_are from high
-      ∙ none_between (applied (listed (old.store.state.logs t)) old.store.state.bytes) from high p.0 p.1 0 (key_in (0 + length (tables_of old.store.state.bytes)) 0) (pairs_of index old.store.state.bytes)
+      ∙ none_between (applied (listed (old.store.state.logs t)) old.store.state.bytes) from high p.0 p.1 0 (key_in (0 + length (asked_of old.store.state.bytes)) 0) (pairs_of index old.store.state.bytes)
       (all_rise index laws old.store.state.bytes tied.sound) is lt
 
-  module _ (table root : ℕ) (named : IsTable old.store.state.bytes table root) (from high : ℕ) (small : high < 2 ^ 64) where
+  module _ (table root : ℕ) (asked : table < asked_tables) (named : IsTable old.store.state.bytes table root) (from high : ℕ) (small : high < 2 ^ 64) where
     -- the table has no further key
     pub follows_end : next (index.pairs old.store.state.bytes root) from ≡ None → rows_seen index t old (key_in table from) (key_in table high) ≡ []
-    follows_end none = go (next (pairs_of index old.store.state.bytes) (key_in table from)) refl (next_not_in index laws old.store.state.bytes table root from tied.sound named none)
+    follows_end none = go (next (pairs_of index old.store.state.bytes) (key_in table from)) refl (next_not_in index laws old.store.state.bytes table root from tied.sound asked named none)
       where
         go : (o : Option Pair) → next (pairs_of index old.store.state.bytes) (key_in table from) ≡ o → IsPast index old.store.state.bytes table o → rows_seen index t old (key_in table from) (key_in table high) ≡ []
         go None is past = follows_none (key_in table from) (key_in table high) is
@@ -59,7 +59,7 @@ module _ (index : Index) (laws : Laws index) (t : ℕ) (old : PagesView) (tied :
 
     module _ (key slot : ℕ) (is : next (index.pairs old.store.state.bytes root) from ≡ Some (key, slot)) where
       there : next (pairs_of index old.store.state.bytes) (key_in table from) ≡ Some (key_in table key, slot)
-      there = next_in index laws old.store.state.bytes table root from (key, slot) tied.sound named is
+      there = next_in index laws old.store.state.bytes table root from (key, slot) tied.sound asked named is
 
       up_to : (a b : ℕ) → a ≤ b → key_in table a ≤ key_in table b
       up_to a b le = omega (arith, key_sum table a, key_sum table b)
@@ -69,7 +69,7 @@ module _ (index : Index) (laws : Laws index) (t : ℕ) (old : PagesView) (tied :
           ≡ row_at (key_in table key) (record_at (applied (listed (old.store.state.logs t)) old.store.state.bytes) (Some slot))
           ++ filter (is_within (suc (key_in table key)) (key_in table high)) (rows_of (applied (listed (old.store.state.logs t)) old.store.state.bytes) (pairs_of index old.store.state.bytes)))
       first le =
-          first_from (applied (listed (old.store.state.logs t)) old.store.state.bytes) (key_in table from) (key_in table high) (key_in table key) slot 0 (key_in (0 + length (tables_of old.store.state.bytes)) 0)
+          first_from (applied (listed (old.store.state.logs t)) old.store.state.bytes) (key_in table from) (key_in table high) (key_in table key) slot 0 (key_in (0 + length (asked_of old.store.state.bytes)) 0)
           (pairs_of index old.store.state.bytes) (all_rise index laws old.store.state.bytes tied.sound) there (up_to key high le)
 
       pub follows_above : high < key → rows_seen index t old (key_in table from) (key_in table high) ≡ []

@@ -20,7 +20,7 @@ use Rattle.page_store.specs.declared.index_fault.IndexFault.{IndexFault}
 use Rattle.page_store.specs.declared.index_fault.IndexFault.TheVariants as fault
 use Rattle.record_table.specs.Does.{OpensWith}
 use Rattle.record_table.specs.Invariant.{AreSlotParts, IsTied, Rests}
-use Rattle.record_table.specs.Shown.{value_of, table_in, table_of, write_of, writes_of, state_of, pairs_of}
+use Rattle.record_table.specs.Shown.{value_of, table_in, table_of, write_of, writes_of, state_of, asked_tables, pairs_of}
 use Rattle.record_table.specs.Sought.{LooksAs}
 use Rattle.record_table.specs.State.{TableState, key_in}
 use Rattle.history.proofs.Tables.{same_table}
@@ -123,11 +123,11 @@ module _ (tells : Bool) (Opens : List ℕ → List ℕ → Type 0) (index : Inde
     pub failed_by_look : LooksAs tells Opens t true old new → Failed tells Opens index t old new
     failed_by_look looks = record { shape = looks.shape; dies = looks.dies refl; counts = looks.saves; others = looks.others; time = looks_time true looks }
 
-module _ (index : Index) (laws : Laws index) (table root key : ℕ) (small : key < 2 ^ 64) (d e : List ℕ) (sound : index.sound d) (named : IsTable d table root) (absent : found (index.pairs d root) key ≡ None)
+module _ (index : Index) (laws : Laws index) (table root key : ℕ) (asked : table < asked_tables) (small : key < 2 ^ 64) (d e : List ℕ) (sound : index.sound d) (named : IsTable d table root) (absent : found (index.pairs d root) key ≡ None)
     (grows : Grows index root d e) where
   -- the key, which is new, among those of all tables
   new_key : found (pairs_of index d) (key_in table key) ≡ None
-  new_key = found_in index laws d table root key sound named small ∙ absent
+  new_key = found_in index laws d table root key sound asked named small ∙ absent
 
   -- given slots are as they were
   record_kept : ((q slot : ℕ) → found (pairs_of index d) q ≡ Some slot → slot_of e slot ≡ slot_of d slot) → (o : Option ℕ) (q : ℕ) → found (pairs_of index d) q ≡ o → record_at e o ≡ record_at d o
@@ -172,12 +172,12 @@ module _ (index : Index) (laws : Laws index) (table root key : ℕ) (small : key
   module _ (gains : Gains index root table key d e) where
     found_still : (q slot : ℕ) → found (pairs_of index d) q ≡ Some slot → found (pairs_of index e) q ≡ Some slot
     found_still q slot is =
-        gained index laws d e table root sound named grows key small absent gains q
+        gained index laws d e table root sound named grows asked key small absent gains q
         ∙ ap (λ (b : Bool). cond b (Some (slot_due d)) (found (pairs_of index d) q)) (ne_eqb (key_in table key) q (other_than q slot is)) ∙ is
 
     pub found_due : found (pairs_of index e) (key_in table key) ≡ Some (slot_due d)
     found_due =
-        gained index laws d e table root sound named grows key small absent gains (key_in table key)
+        gained index laws d e table root sound named grows asked key small absent gains (key_in table key)
         ∙ ap (λ (b : Bool). cond b (Some (slot_due d)) (found (pairs_of index d) (key_in table key))) (eq-eqb (key_in table key) (key_in table key) refl)
 
     -- the slot of another key is not the one that was due
@@ -190,7 +190,7 @@ module _ (index : Index) (laws : Laws index) (table root key : ℕ) (small : key
     unfolding table_of
     gaining reads = (
       same_table (table_in e (pairs_of index e)) (table_in d (pairs_of index d)) (λ q.
-          get-table_in e (pairs_of index e) q ∙ ap (record_at e) (gained index laws d e table root sound named grows key small absent gains q)
+          get-table_in e (pairs_of index e) q ∙ ap (record_at e) (gained index laws d e table root sound named grows asked key small absent gains q)
           ∙ elim (cases_eq (key_in table key) q) [
             | inl same ↦
                 ap (λ (b : Bool). record_at e (cond b (Some (slot_due d)) (found (pairs_of index d) q))) (eq-eqb (key_in table key) q same)
@@ -218,7 +218,7 @@ either_of index table root key d e (Err (fault.LogFull g h n)) well made = (made
 either_of index table root key d e (Err fault.Dead) well made = (made.0, inl made.1)
 either_of index table root key d e (Err (fault.Damaged p)) well made = (made.0, inl made.1)
 
-module _ (tells : Bool) (Opens : List ℕ → List ℕ → Type 0) (index : Index) (laws : Laws index) (t table root key : ℕ) (small : key < 2 ^ 64) (reads : slot_said (slot_bytes (Absent table key)) ≡ Some (Absent table key)) (old new : PagesView) (alive : IsAlive old.store)
+module _ (tells : Bool) (Opens : List ℕ → List ℕ → Type 0) (index : Index) (laws : Laws index) (t table root key : ℕ) (asked : table < asked_tables) (small : key < 2 ^ 64) (reads : slot_said (slot_bytes (Absent table key)) ≡ Some (Absent table key)) (old new : PagesView) (alive : IsAlive old.store)
     (rests : Rests tells index old) (named : IsTrue tells → IsTable old.store.state.bytes table root) (absent : IsTrue tells → found (index.pairs old.store.state.bytes root) key ≡ None) (r : Result ℕ IndexFault)
     (does : Inserts tells Opens index t root table key old new r) where
   insert_time : IsTrue tells → LeavesOnly (λ image. OpensWith Opens index image (state_of index old).table) old.store new.store
@@ -226,14 +226,14 @@ module _ (tells : Bool) (Opens : List ℕ → List ℕ → Type 0) (index : Inde
     bytes = left.0;
     opened = left.1;
     sound = left.2.0.sound;
-    shows = (insertion_keeps index laws table root key small old.store.state.bytes left.0 (rests.tied told).sound (named told) (absent told) left.2.0 reads left.2.1).0;
+    shows = (insertion_keeps index laws table root key asked small old.store.state.bytes left.0 (rests.tied told).sound (named told) (absent told) left.2.0 reads left.2.1).0;
   }) (does.time told alive)
 
   pub moved_by_insert : IsFalse (is_insert_failed r) → Moved tells Opens index t old new
   moved_by_insert well =
       let kept = does.kept well in
       let made = λ (told : IsTrue tells). either_of index table root key old.store.state.bytes new.store.state.bytes r well (does.made told alive) in
-      let keeps = λ (told : IsTrue tells). insertion_keeps index laws table root key small old.store.state.bytes new.store.state.bytes (rests.tied told).sound (named told) (absent told) (made told).0 reads (made told).1 in
+      let keeps = λ (told : IsTrue tells). insertion_keeps index laws table root key asked small old.store.state.bytes new.store.state.bytes (rests.tied told).sound (named told) (absent told) (made told).0 reads (made told).1 in
       record {
         shape = does.shape;
         dead = kept.dead;

@@ -36,7 +36,7 @@ use Rattle.record_table.specs.Causes.{actions_under, actions_in, ComesTo, MaySav
 use Rattle.record_table.specs.Does.{Does, Indexed, IndexedAt, Inserted, IsQuiet, replied}
 use Rattle.record_table.specs.Faults.{as_table, told_as, inserted_as}
 use Rattle.record_table.specs.Invariant.{Rests, Holds}
-use Rattle.record_table.specs.Shown.{write_said, state_of, pairs_of, level_under, keys_of}
+use Rattle.record_table.specs.Shown.{write_said, state_of, asked_tables, pairs_of, level_under, keys_of}
 use Rattle.record_table.specs.Sought.{LooksAs}
 use Rattle.record_table.specs.State.{Keys, GainsKey, KeepsKeys, TakesPages, seen_by, key_in}
 use Rattle.record_table.proofs.States.{written}
@@ -181,7 +181,7 @@ filter_short f (x ∷ xs) = go (f x) (filter_short f xs)
     go true le = omega arith
     go false le = omega arith
 
-module _ (tells : Bool) (Opens : List ℕ → List ℕ → Type 0) (index : Index) (laws : Laws index) (table root t key : ℕ) (small : key < 2 ^ 64) (value : List ℕ) (old : PagesView) (alive : IsAlive old.store) (holds : Holds tells index old)
+module _ (tells : Bool) (Opens : List ℕ → List ℕ → Type 0) (index : Index) (laws : Laws index) (table root t key : ℕ) (asked : table < asked_tables) (small : key < 2 ^ 64) (value : List ℕ) (old : PagesView) (alive : IsAlive old.store) (holds : Holds tells index old)
     (there : IsTrue tells → IsTable old.store.state.bytes table root) (mid : PagesView) (looks : LooksAs tells Opens t false old mid) where
   keys : IsTrue tells → keys_of index mid.store.state.bytes ≡ keys_of index old.store.state.bytes
   keys = look_keys tells Opens index table t (Put (key_in table key) value) old mid holds looks
@@ -212,7 +212,7 @@ module _ (tells : Bool) (Opens : List ℕ → List ℕ → Type 0) (index : Inde
     absent_there told = ap (λ (d : List ℕ). found (index.pairs d root) key) (same_data told) ∙ absent told
 
     absent_all : IsTrue tells → slot_in index old (key_in table key) ≡ None
-    absent_all told = found_in index laws old.store.state.bytes table root key ((holds alive).tied told).sound (there told) small ∙ absent told
+    absent_all told = found_in index laws old.store.state.bytes table root key ((holds alive).tied told).sound asked (there told) small ∙ absent told
 
     mid_lives : IsAlive mid.store
     mid_lives = first.dead ∙ alive
@@ -237,7 +237,7 @@ module _ (tells : Bool) (Opens : List ℕ → List ℕ → Type 0) (index : Inde
     module _ (slot : ℕ) (inserts : (let r : Result ℕ IndexFault = Ok slot in Inserts tells Opens index t root table key mid far r)) (new : PagesView) (told_by : IsTrue tells → IsTold far.store) (ordered : IsOrdered (outline_of far))
         (reads : slot_said (slot_bytes (Present table key value)) ≡ Some (Present table key value)) (whole : length (slot_bytes (Present table key value)) ≡ 64) where
       second : Moved tells Opens index t mid far
-      second = moved_by_insert tells Opens index laws t table root key small reads_absent mid far mid_lives mid_holds there_still absent_there (let r : Result ℕ IndexFault = Ok slot in r) inserts refl
+      second = moved_by_insert tells Opens index laws t table root key asked small reads_absent mid far mid_lives mid_holds there_still absent_there (let r : Result ℕ IndexFault = Ok slot in r) inserts refl
 
       slot_is : IsTrue tells → slot ≡ slot_due old.store.state.bytes
       slot_is told = (inserts.made told mid_lives).0 ∙ ap (λ (d : List ℕ). slot_due d) (same_data told)
@@ -245,7 +245,7 @@ module _ (tells : Bool) (Opens : List ℕ → List ℕ → Type 0) (index : Inde
       pub put_new : (r : Result (Unit {0}) PageFault) → page_does.Does tells Opens (write_as t (64 * (slots_of far.store.shape + slot)) (slot_bytes (Present table key value))) far new r
           → ((f : PageFault) → r ≡ Err f → f ≢ fault.Media → new ≡ far) → Does tells Opens index table t (Put (key_in table key) value) old new (answered Fine r) × Holds tells index new
       put_new = slot_written tells Opens index laws table t (Put (key_in table key) value) (Present table key value) old alive holds far (moved_then tells Opens index t old mid far first second) new slot
-          (λ told. let made = inserts.made told mid_lives in found_due index laws table root key small mid.store.state.bytes far.store.state.bytes (mid_sound told) (there_still told) (absent_there told) made.1 made.2 ∙ ap Some (sym made.0))
+          (λ told. let made = inserts.made told mid_lives in found_due index laws table root key asked small mid.store.state.bytes far.store.state.bytes (mid_sound told) (there_still told) (absent_there told) made.1 made.2 ∙ ap Some (sym made.0))
           told_by ordered reads whole key small (refl, refl) Fine tt (λ g h n short. short)
           (λ told room. subst (PutFits index table t (key_in table key) old) (sym (absent_all told)) (fit told, subst (HasRoom index t old (key_in table key)) (slot_is told) room))
           (λ told g h n full. subst (PutLacks index table t (key_in table key) old g h n) (sym (absent_all told)) (inr (fit told, subst (λ (s : ℕ). IsFull index t old (key_in table key) s g h n) (slot_is told) full)))
@@ -264,12 +264,12 @@ module _ (tells : Bool) (Opens : List ℕ → List ℕ → Type 0) (index : Inde
           gains told =
               let made = inserts.made told mid_lives in
               subst (λ (k : Keys). GainsKey (key_in table key) k (keys_of index far.store.state.bytes)) (keys told)
-              (gains_key index laws mid.store.state.bytes far.store.state.bytes table root (mid_sound told) (there_still told) made.1 key small (absent_there told) made.2)
+              (gains_key index laws mid.store.state.bytes far.store.state.bytes table root (mid_sound told) (there_still told) made.1 asked key small (absent_there told) made.2)
 
     -- the insertion was refused
     refused : (f : IndexFault) → (let r : Result ℕ IndexFault = Err f in IsFalse (is_insert_failed r)) → (let r : Result ℕ IndexFault = Err f in Inserts tells Opens index t root table key mid far r) → Moved tells Opens index t old far
     refused f well inserts =
-        moved_then tells Opens index t old mid far first (moved_by_insert tells Opens index laws t table root key small reads_absent mid far mid_lives mid_holds there_still absent_there (let r : Result ℕ IndexFault = Err f in r) inserts well)
+        moved_then tells Opens index t old mid far first (moved_by_insert tells Opens index laws t table root key asked small reads_absent mid far mid_lives mid_holds there_still absent_there (let r : Result ℕ IndexFault = Err f in r) inserts well)
 
     kept_keys : (told : IsTrue tells) → Grows index root mid.store.state.bytes far.store.state.bytes → face.Rests index root mid.store.state.bytes far.store.state.bytes
         → TakesPages (keys_of index old.store.state.bytes) (keys_of index far.store.state.bytes) × KeepsKeys (keys_of index old.store.state.bytes) (keys_of index far.store.state.bytes)
@@ -291,7 +291,7 @@ module _ (tells : Bool) (Opens : List ℕ → List ℕ → Type 0) (index : Inde
         → (let r : Result Reply TableFault = Err (inserted_as f) in Does tells Opens index table t (Put (key_in table key) value) old far r) × Holds tells index far
     put_refused insert.Media inserts =
         let failed = failed_then tells Opens index t old mid far first
-        (failed_by_insert tells Opens index laws t table root key small reads_absent mid far mid_lives mid_holds there_still absent_there (let r : Result ℕ IndexFault = Err insert.Media in r) inserts refl) in
+        (failed_by_insert tells Opens index laws t table root key asked small reads_absent mid far mid_lives mid_holds there_still absent_there (let r : Result ℕ IndexFault = Err insert.Media in r) inserts refl) in
         (does_failed tells Opens index table t (Put (key_in table key) value) old far alive failed, holds_dead tells Opens index table t (Put (key_in table key) value) old far failed.dies.0)
     put_refused insert.Dead inserts = absurd (false≢true (sym mid_lives ∙ inserts.cause))
     put_refused (insert.Damaged bad) inserts =

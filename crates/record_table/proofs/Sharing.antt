@@ -1,10 +1,11 @@
 -- What an index guarantees of the pairs of all tables together.
 use Rattle.std.proofs.Common.{◌≡◌, ◌≢◌, ◌^◌, ℕ, ◌+◌, ◌-◌, ◌<◌, ◌≤◌, ◌⊎◌, Bool, true, false, cond, inl, inr, List, [], ◌∷◌, length, refl, sym, ◌∙◌, ap, subst, arith}
-use Rattle.std.specs.Prelude.{nat_eq, if◌then◌else◌, slice_get, Option, Some, None}
+use Rattle.std.specs.Prelude.{zero, suc, nat_eq, if◌then◌else◌, slice_get, map, take, Option, Some, None}
 use Rattle.std.specs.Option.{option_map}
 use Rattle.std.specs.Map.{update}
 use Rattle.std.proofs.lemmas.Bool.{cases_eq, eq-eqb}
 use Rattle.std.proofs.lemmas.Bool.Decides.{eqb_tells}
+use Rattle.std.proofs.lemmas.List.{append-nil}
 use Rattle.std.proofs.lemmas.Option.{same_Some}
 use Rattle.record_slots.specs.Slots.{slot_said}
 use Rattle.record_slots.specs.Super.{next_slot_said, next_page_said, tables_said, free_slot_in, free_slots_in, free_pages_in}
@@ -16,8 +17,8 @@ use Rattle.history.specs.Key.{is_same_key}
 use Rattle.page_store.specs.Pairs.{Pair, Rise, found, next}
 use Rattle.page_store.specs.Index.{Index, IsTable, HasCounts, KeepsIndex, Grows, Rests, Gains, IsEmptyRoot, Extends}
 use Rattle.record_table.specs.State.{key_in, GainsKey, KeepsKeys, TakesPages}
-use Rattle.record_table.specs.Shown.{write_said, pairs_from, pairs_of, level_under, keys_of}
-use Rattle.record_table.proofs.Joint.{Each, each_of, Rises, IsPast, found_from, found_some, rises_from, next_from, next_none, pairs_same, found_inserted, gained_from, key_apart}
+use Rattle.record_table.specs.Shown.{write_said, asked_tables, in_table, pairs_from, pairs_of, level_under, keys_of}
+use Rattle.record_table.proofs.Joint.{root_in, Each, each_of, Rises, IsPast, found_from, found_some, rises_from, next_from, next_none, pairs_same, found_inserted, gained_from, key_apart}
 
 -- what an index guarantees about its data
 pub record Laws (index : Index) : Type 0 where
@@ -59,9 +60,26 @@ found_given bytes table (p ∷ ps) key slot given is = elim (eqb_tells p.0 key) 
       found_given bytes table ps key slot given.2 (sym (ap (λ (x : Bool). cond x (Some p.1) (found ps key)) b) ∙ is)
 ]
 
+-- the first tables are among all, and a table that can be asked for is among them
+first_there : (n : ℕ) (tables : List TableEntry) (j root : ℕ) → root_in (take n tables) j ≡ Some root → root_in tables j ≡ Some root
+first_there zero tables j root is = absurd (cc)
+first_there (suc n) [] j root is = is
+first_there (suc n) (entry ∷ entries) zero root is = is
+first_there (suc n) (entry ∷ entries) (suc j) root is = first_there n entries j root is
+
+first_has : (n : ℕ) (tables : List TableEntry) (j root : ℕ) → j < n → root_in tables j ≡ Some root → root_in (take n tables) j ≡ Some root
+first_has zero tables j root lt is = absurd (omega arith)
+first_has (suc n) [] j root lt is = is
+first_has (suc n) (entry ∷ entries) zero root lt is = is
+first_has (suc n) (entry ∷ entries) (suc j) root lt is = first_has n entries j root (omega arith) is
+
+-- the tables that can be asked for
+abbrev pub asked_of : List ℕ → List TableEntry
+asked_of d = take asked_tables (tables_of d)
+
 module _ (index : Index) (laws : Laws index) where
-  each_rises : (d : List ℕ) → index.sound d → Each (Rises index d) 0 (tables_of d)
-  each_rises d sound = each_of (Rises index d) 0 (tables_of d) (λ j root is. laws.rises d j root sound is)
+  each_rises : (d : List ℕ) → index.sound d → Each (Rises index d) 0 (asked_of d)
+  each_rises d sound = each_of (Rises index d) 0 (asked_of d) (λ j root is. laws.rises d j root sound (first_there asked_tables (tables_of d) j root is))
 
   -- a key that the indexes have is one of a table, whose slot was given and carries it
   pub record Placed (d : List ℕ) (q slot : ℕ) : Type 0 where
@@ -78,13 +96,14 @@ module _ (index : Index) (laws : Laws index) where
   pub placed : (d : List ℕ) → index.sound d → (q slot : ℕ) → found (pairs_of index d) q ≡ Some slot → Placed d q slot
   unfolding pairs_of
   placed d sound q slot is =
-      let f = found_some index d 0 q slot (tables_of d) (each_rises d sound) is in
-      let g = found_given d f.number (index.pairs d f.root) f.key slot (laws.given d f.number f.root sound f.there) f.has in
+      let f = found_some index d 0 q slot (asked_of d) (each_rises d sound) is in
+      let named : IsTable d f.number f.root = first_there asked_tables (tables_of d) f.number f.root f.there in
+      let g = found_given d f.number (index.pairs d f.root) f.key slot (laws.given d f.number f.root sound named) f.has in
       record {
         table = f.number;
         root = f.root;
         key = f.key;
-        there = f.there;
+        there = named;
         is = f.is ∙ ap (λ (m : ℕ). key_in m f.key) (let z : 0 + f.number ≡ f.number = omega arith in z);
         small = f.small;
         has = f.has;
@@ -93,35 +112,36 @@ module _ (index : Index) (laws : Laws index) where
       }
 
   -- what is found for a key of a table
-  pub found_in : (d : List ℕ) (table root key : ℕ) → index.sound d → IsTable d table root → key < 2 ^ 64 → found (pairs_of index d) (key_in table key) ≡ found (index.pairs d root) key
+  pub found_in : (d : List ℕ) (table root key : ℕ) → index.sound d → table < asked_tables → IsTable d table root → key < 2 ^ 64 → found (pairs_of index d) (key_in table key) ≡ found (index.pairs d root) key
   unfolding pairs_of
-  found_in d table root key sound is small =
-      ap (λ (m : ℕ). found (pairs_from index d 0 (tables_of d)) (key_in m key)) (let z : table ≡ 0 + table = omega arith in z) ∙ found_from index d 0 table root key (tables_of d) (each_rises d sound) is small
+  found_in d table root key sound asked is small =
+      ap (λ (m : ℕ). found (pairs_from index d 0 (asked_of d)) (key_in m key)) (let z : table ≡ 0 + table = omega arith in z)
+      ∙ found_from index d 0 table root key (asked_of d) (each_rises d sound) (first_has asked_tables (tables_of d) table root asked is) small
 
-  pub all_rise : (d : List ℕ) → index.sound d → Rise 0 (key_in (0 + length (tables_of d)) 0) (pairs_of index d)
+  pub all_rise : (d : List ℕ) → index.sound d → Rise 0 (key_in (0 + length (asked_of d)) 0) (pairs_of index d)
   unfolding pairs_of
-  all_rise d sound = rises_from index d 0 (tables_of d) (each_rises d sound)
+  all_rise d sound = rises_from index d 0 (asked_of d) (each_rises d sound)
 
   -- the next pair of a table is the next of all; if the table has none, it is one of a later table
-  pub next_in : (d : List ℕ) (table root from : ℕ) (p : Pair) → index.sound d → IsTable d table root → next (index.pairs d root) from ≡ Some p
+  pub next_in : (d : List ℕ) (table root from : ℕ) (p : Pair) → index.sound d → table < asked_tables → IsTable d table root → next (index.pairs d root) from ≡ Some p
       → next (pairs_of index d) (key_in table from) ≡ Some (key_in table p.0, p.1)
   unfolding pairs_of
-  next_in d table root from p sound is has =
+  next_in d table root from p sound asked is has =
       let z : 0 + table ≡ table = omega arith in
-      subst (λ (m : ℕ). next (pairs_from index d 0 (tables_of d)) (key_in m from) ≡ Some (key_in m p.0, p.1)) z (next_from index d 0 table root from p (tables_of d) (each_rises d sound) is has)
+      subst (λ (m : ℕ). next (pairs_from index d 0 (asked_of d)) (key_in m from) ≡ Some (key_in m p.0, p.1)) z (next_from index d 0 table root from p (asked_of d) (each_rises d sound) (first_has asked_tables (tables_of d) table root asked is) has)
 
-  pub next_not_in : (d : List ℕ) (table root from : ℕ) → index.sound d → IsTable d table root → next (index.pairs d root) from ≡ None → IsPast index d table (next (pairs_of index d) (key_in table from))
+  pub next_not_in : (d : List ℕ) (table root from : ℕ) → index.sound d → table < asked_tables → IsTable d table root → next (index.pairs d root) from ≡ None → IsPast index d table (next (pairs_of index d) (key_in table from))
   unfolding pairs_of
-  next_not_in d table root from sound is none =
+  next_not_in d table root from sound asked is none =
       let z : 0 + table ≡ table = omega arith in
-      subst (λ (m : ℕ). IsPast index d m (next (pairs_from index d 0 (tables_of d)) (key_in m from))) z (next_none index d 0 table root from (tables_of d) (each_rises d sound) is none)
+      subst (λ (m : ℕ). IsPast index d m (next (pairs_from index d 0 (asked_of d)) (key_in m from))) z (next_none index d 0 table root from (asked_of d) (each_rises d sound) (first_has asked_tables (tables_of d) table root asked is) none)
 
 -- the tables and their pairs stay
 pub pairs_rest : (index : Index) (d e : List ℕ) → tables_of e ≡ tables_of d → ((table root : ℕ) → IsTable d table root → index.pairs e root ≡ index.pairs d root) → pairs_of index e ≡ pairs_of index d
 unfolding pairs_of
 pairs_rest index d e tables same =
-    ap (λ (ts : List TableEntry). pairs_from index e 0 ts) tables
-    ∙ pairs_same index d e 0 (tables_of d) (each_of (λ number other. index.pairs e other ≡ index.pairs d other) 0 (tables_of d) (λ j root is. same j root is))
+    ap (λ (ts : List TableEntry). pairs_from index e 0 (take asked_tables ts)) tables
+    ∙ pairs_same index d e 0 (asked_of d) (each_of (λ number other. index.pairs e other ≡ index.pairs d other) 0 (asked_of d) (λ j root is. same j root (first_there asked_tables (tables_of d) j root is)))
 
 level_same : (index : Index) (d e : List ℕ) (table : ℕ) → tables_of e ≡ tables_of d → ((root : ℕ) → IsTable d table root → index.level e root ≡ index.level d root)
     → level_under index e (root_of e table) ≡ level_under index d (root_of d table)
@@ -183,7 +203,7 @@ module _ (index : Index) (laws : Laws index) (d e : List ℕ) (table root : ℕ)
   pub keeps : Rests index root d e → KeepsKeys (keys_of index d) (keys_of index e)
   keeps rests = record { slot_of = ap found (pairs_kept rests); slots = rests.slots; due = rests.due }
 
-  module _ (key : ℕ) (small : key < 2 ^ 64) (absent : found (index.pairs d root) key ≡ None) (gains : Gains index root table key d e) where
+  module _ (asked : table < asked_tables) (key : ℕ) (small : key < 2 ^ 64) (absent : found (index.pairs d root) key ≡ None) (gains : Gains index root table key d e) where
     gained_here : (k : ℕ) → found (index.pairs e root) k ≡ cond (nat_eq key k) (Some (slot_due d)) (found (index.pairs d root) k)
     gained_here k = ap (λ (l : List Pair). found l k) gains.pairs ∙ found_inserted (index.pairs d root) key (slot_due d) k absent
 
@@ -205,9 +225,23 @@ module _ (index : Index) (laws : Laws index) (d e : List ℕ) (table root : ℕ)
     pub gained : (q : ℕ) → found (pairs_of index e) q ≡ cond (nat_eq (key_in table key) q) (Some (slot_due d)) (found (pairs_of index d) q)
     unfolding pairs_of
     gained q =
-        let none : found (pairs_of index d) (key_in table key) ≡ None = found_in index laws d table root key sound named small ∙ absent in
-        ap (λ (ts : List TableEntry). found (pairs_from index e 0 ts) q) grows.tables
-        ∙ gained_from index d e table root key (slot_due d) gained_here 0 table (tables_of d) (omega arith) named (λ i other is ne. gained_away i other is ne) none q
+        let none : found (pairs_of index d) (key_in table key) ≡ None = found_in index laws d table root key sound asked named small ∙ absent in
+        ap (λ (ts : List TableEntry). found (pairs_from index e 0 (take asked_tables ts)) q) grows.tables
+        ∙ gained_from index d e table root key (slot_due d) gained_here 0 table (asked_of d) (omega arith) (first_has asked_tables (tables_of d) table root asked named)
+        (λ i other is ne. gained_away i other (first_there asked_tables (tables_of d) i other is) ne) none q
 
     pub gains_key : GainsKey (key_in table key) (keys_of index d) (keys_of index e)
     gains_key = record { slot_of = λ i q. gained q i; slots = gains.slots }
+
+-- the pairs of `main`, which alone can be asked for
+main_keys : (ps : List Pair) → map (in_table 0) ps ≡ ps
+main_keys [] = refl
+main_keys (p ∷ ps) = ap (λ (l : List Pair). p ∷ l) (main_keys ps)
+
+pub main_pairs : (index : Index) (d : List ℕ) → IsTable d 0 1 → pairs_of index d ≡ index.pairs d 1
+unfolding pairs_of
+main_pairs index d is = go (tables_of d) is
+  where
+    go : (tables : List TableEntry) → root_in tables 0 ≡ Some 1 → pairs_from index d 0 (take asked_tables tables) ≡ index.pairs d 1
+    go [] none = absurd (cc)
+    go (entry ∷ entries) has = (let here : entry.root ≡ 1 = cc in append-nil (map (in_table 0) (index.pairs d entry.root)) ∙ main_keys (index.pairs d entry.root) ∙ ap (index.pairs d) here)

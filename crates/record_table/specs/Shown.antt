@@ -1,5 +1,5 @@
 -- What pages show in terms of records.
-use Rattle.std.specs.Prelude.{Bool, false, ℕ, suc, ◌+◌, ◌*◌, nat_eq, if◌then◌else◌, List, [], ◌∷◌, ◌++◌, map, Option, Some, None, IsSome}
+use Rattle.std.specs.Prelude.{Bool, false, ℕ, suc, ◌+◌, ◌*◌, nat_eq, if◌then◌else◌, List, [], ◌∷◌, ◌++◌, map, take, Option, Some, None, IsSome}
 use Rattle.std.specs.FinMap.{empty}
 use Rattle.array_shape.specs.declared.shape.Shape.{Shape}
 use Rattle.array_shape.specs.Places.{logger_of}
@@ -38,9 +38,13 @@ abbrev pub pairs_from : Index → List ℕ → ℕ → List TableEntry → List 
 pairs_from index bytes table [] = []
 pairs_from index bytes table (entry ∷ entries) = map (in_table table) (index.pairs bytes entry.root) ++ pairs_from index bytes (suc table) entries
 
--- the pairs of all tables
+-- Of the tables of an array, so many can be asked for: the first, which is `main`.
+abbrev pub asked_tables : ℕ
+asked_tables = 1
+
+-- the pairs of the tables that can be asked for
 unfoldable pub pairs_of : Index → List ℕ → List Pair
-pairs_of index bytes = pairs_from index bytes 0 (tables_of bytes)
+pairs_of index bytes = pairs_from index bytes 0 (take asked_tables (tables_of bytes))
 
 -- how many levels of inner pages an index with this root has; none if there is no such table
 abbrev pub level_under : Index → List ℕ → Option ℕ → ℕ
@@ -52,7 +56,7 @@ abbrev pub table_in : List ℕ → List Pair → Table
 table_in bytes [] = empty
 table_in bytes (pair ∷ pairs) = write_into (table_in bytes pairs) (pair.0, value_of (slot_said (slot_of bytes pair.1)))
 
--- the records of the data, those of all tables
+-- the records of the data, those of all tables that can be asked for
 unfoldable pub table_of : Index → List ℕ → Table
 table_of index bytes = table_in bytes (pairs_of index bytes)
 

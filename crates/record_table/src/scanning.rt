@@ -8,6 +8,7 @@ ghost use Rattle.page_store.specs.Shown.{pages_of};
 ghost use Rattle.record_table.specs.Does as answers;
 ghost use Rattle.record_table.specs.Invariant.{Holds};
 ghost use Rattle.record_table.specs.Scanned.{row_at, rows_seen, rows_in, Follows, ScanCause};
+ghost use Rattle.record_table.specs.Shown.{asked_tables};
 ghost use Rattle.record_table.specs.State.{key_in};
 ghost use Rattle.record_table.specs.Sought.{LooksAs};
 
@@ -36,7 +37,7 @@ fn next_row<S: EawStore, K: KeyIndex>(
     high: u64,
 ) -> Result<Option<Next>, PageFault>
     requires tid { tid < (S.view pages.old.store).shape.numbers }
-    requires table { table < 8 }
+    requires table { table < asked_tables }
     requires root { root < page_count (S.view pages.old.store).shape }
     requires named { IsTrue S.tells → IsAlive (S.view pages.old.store) → IsTable (S.view pages.old.store).state.bytes table root }
     requires holds { Holds S.tells K.index (pages_of (S.view pages.old.store) pages.old) }
@@ -90,7 +91,7 @@ pub fn gather<S: EawStore, K: KeyIndex>(
     rows: &mut Rows,
 ) -> Result<(), TableFault>
     requires tid { tid < (S.view pages.old.store).shape.numbers }
-    requires table { table < 8 }
+    requires table { table < asked_tables }
     requires root { root < page_count (S.view pages.old.store).shape }
     requires named { IsTrue S.tells → IsAlive (S.view pages.old.store) → IsTable (S.view pages.old.store).state.bytes table root }
     requires alive { IsAlive (S.view pages.old.store) }

@@ -12,7 +12,7 @@ ghost use Rattle.page_store.specs.Kept.{IsOrdered};
 ghost use Rattle.page_store.specs.Shown.{pages_of, outline_of, state_of};
 ghost use Rattle.page_store.specs.State.{view_of};
 ghost use Rattle.record_table.specs.Invariant.{Holds};
-ghost use Rattle.record_table.specs.Shown.{value_of};
+ghost use Rattle.record_table.specs.Shown.{asked_tables, value_of};
 ghost use Rattle.record_table.specs.State.{key_in};
 ghost use Rattle.record_table.specs.Sought.{LooksAs, Finds, value_at};
 
@@ -97,7 +97,7 @@ pub fn seek<S: EawStore, K: KeyIndex>(
     key: u64,
 ) -> Result<Option<Place>, PageFault>
     requires tid { tid < (S.view pages.old.store).shape.numbers }
-    requires table { table < 8 }
+    requires table { table < asked_tables }
     requires root { root < page_count (S.view pages.old.store).shape }
     requires named { IsTrue S.tells → IsAlive (S.view pages.old.store) → IsTable (S.view pages.old.store).state.bytes table root }
     requires holds { Holds S.tells K.index (pages_of (S.view pages.old.store) pages.old) }

@@ -14,7 +14,7 @@ returns-in-Ok-None-clause-follows g c = λ told.
     let I = g.K.KeyIndex.index in
     let laws : Laws g.K.KeyIndex.index = record { rises = K.rises; given = K.given; counts = K.counts; rests = K.rests; extends = K.extends } in
     let v0 = pages_of (V c.args.pages.now.store) c.args.pages.now in
-    follows_end I laws c.args.tid v0 ((c.requires.holds c.in-Ok-None.ensures.cause).tied told) c.args.table c.args.root (c.requires.named told c.in-Ok-None.ensures.cause) c.args.from c.args.high (omega arith) (sym (c.in-Ok-None.ensures.next told) ∙ c.in-Ok-None.field-0-is)
+    follows_end I laws c.args.tid v0 ((c.requires.holds c.in-Ok-None.ensures.cause).tied told) c.args.table c.args.root c.requires.table (c.requires.named told c.in-Ok-None.ensures.cause) c.args.from c.args.high (omega arith) (sym (c.in-Ok-None.ensures.next told) ∙ c.in-Ok-None.field-0-is)
 
 pub returns-then-key-high-clause-follows : goal.returns-then-key-high-clause-follows
 returns-then-key-high-clause-follows g c = λ told.
@@ -28,7 +28,7 @@ returns-then-key-high-clause-follows g c = λ told.
     let looks = c.in-Ok-Some.ensures.looks in
     let key = c.in-Ok-Some.pair.0 in
     let slot = c.in-Ok-Some.pair.1 in
-    follows_above I laws c.args.tid v0 ((c.requires.holds alive).tied told) c.args.table c.args.root (c.requires.named told alive) c.args.from c.args.high (omega arith) key slot (sym (c.in-Ok-Some.ensures.next told) ∙ c.in-Ok-Some.field-0-is) (omega (arith, c.if-key-high.true))
+    follows_above I laws c.args.tid v0 ((c.requires.holds alive).tied told) c.args.table c.args.root c.requires.table (c.requires.named told alive) c.args.from c.args.high (omega arith) key slot (sym (c.in-Ok-Some.ensures.next told) ∙ c.in-Ok-Some.field-0-is) (omega (arith, c.if-key-high.true))
 
 pub returns-then-key-from-clause-cause : goal.returns-then-key-from-clause-cause
 returns-then-key-from-clause-cause g c =
@@ -42,7 +42,7 @@ returns-then-key-from-clause-cause g c =
     let looks = c.in-Ok-Some.ensures.looks in
     let key = c.in-Ok-Some.pair.0 in
     let slot = c.in-Ok-Some.pair.1 in
-    (alive, λ told. let n = next_is I laws c.args.tid v0 ((c.requires.holds alive).tied told) c.args.table c.args.root (c.requires.named told alive) c.args.from c.args.high (omega arith) key slot (sym (c.in-Ok-Some.ensures.next told) ∙ c.in-Ok-Some.field-0-is) (omega (arith, c.if-key-high.false)) in omega (arith, n.0, c.if-key-from.true))
+    (alive, λ told. let n = next_is I laws c.args.tid v0 ((c.requires.holds alive).tied told) c.args.table c.args.root c.requires.table (c.requires.named told alive) c.args.from c.args.high (omega arith) key slot (sym (c.in-Ok-Some.ensures.next told) ∙ c.in-Ok-Some.field-0-is) (omega (arith, c.if-key-high.false)) in omega (arith, n.0, c.if-key-from.true))
 
 pub returns-in-Ok-Some-read_as-clause-follows : goal.returns-in-Ok-Some-read_as-clause-follows
 returns-in-Ok-Some-read_as-clause-follows g c = λ told.
@@ -56,8 +56,8 @@ returns-in-Ok-Some-read_as-clause-follows g c = λ told.
     let looks = c.in-Ok-Some.ensures.looks in
     let key = c.in-Ok-Some.pair.0 in
     let slot = c.in-Ok-Some.pair.1 in
-    let n = next_is I laws c.args.tid v0 ((c.requires.holds alive).tied told) c.args.table c.args.root (c.requires.named told alive) c.args.from c.args.high (omega arith) key slot (sym (c.in-Ok-Some.ensures.next told) ∙ c.in-Ok-Some.field-0-is) (omega (arith, c.if-key-high.false)) in
-    rw c.value_in.ensures (follows_some I laws c.args.tid v0 ((c.requires.holds alive).tied told) c.args.table c.args.root (c.requires.named told alive) c.args.from c.args.high (omega arith) key slot (sym (c.in-Ok-Some.ensures.next told) ∙ c.in-Ok-Some.field-0-is) (omega (arith, c.if-key-high.false)) _
+    let n = next_is I laws c.args.tid v0 ((c.requires.holds alive).tied told) c.args.table c.args.root c.requires.table (c.requires.named told alive) c.args.from c.args.high (omega arith) key slot (sym (c.in-Ok-Some.ensures.next told) ∙ c.in-Ok-Some.field-0-is) (omega (arith, c.if-key-high.false)) in
+    rw c.value_in.ensures (follows_some I laws c.args.tid v0 ((c.requires.holds alive).tied told) c.args.table c.args.root c.requires.table (c.requires.named told alive) c.args.from c.args.high (omega arith) key slot (sym (c.in-Ok-Some.ensures.next told) ∙ c.in-Ok-Some.field-0-is) (omega (arith, c.if-key-high.false)) _
     (sym c.in-Ok-Some-read_as.field-0-is ∙ c.in-Ok-Some-read_as.ensures.said told
     ∙ read_is I laws c.args.tid (key_in c.args.table key) v0 ((c.requires.holds alive).tied told) v1 looks.shape ((looks.still refl).state told) (g.met.S.EawStore.long c.args.pages.now.store told) slot n.1))
 
@@ -75,7 +75,7 @@ returns-in-Ok-None-read_as-clause-cause g c =
     let slot = c.in-Ok-Some.pair.1 in (
       alive,
       λ told.
-          let n = next_is I laws c.args.tid v0 ((c.requires.holds alive).tied told) c.args.table c.args.root (c.requires.named told alive) c.args.from c.args.high (omega arith) key slot (sym (c.in-Ok-Some.ensures.next told) ∙ c.in-Ok-Some.field-0-is) (omega (arith, c.if-key-high.false)) in
+          let n = next_is I laws c.args.tid v0 ((c.requires.holds alive).tied told) c.args.table c.args.root c.requires.table (c.requires.named told alive) c.args.from c.args.high (omega arith) key slot (sym (c.in-Ok-Some.ensures.next told) ∙ c.in-Ok-Some.field-0-is) (omega (arith, c.if-key-high.false)) in
           some_slot I laws c.args.tid (key_in c.args.table key) v0 ((c.requires.holds alive).tied told) v1 looks.shape ((looks.still refl).state told) (g.met.S.EawStore.long c.args.pages.now.store told) slot n.1
           (sym c.in-Ok-None-read_as.field-0-is ∙ c.in-Ok-None-read_as.ensures.said told),
     )
