@@ -33,3 +33,4 @@ pub mod Owned
 pub mod Joining
 pub mod Tables
 pub mod Tests
+pub mod Extending
