@@ -2,3 +2,4 @@ pub mod SlotLemmas
 pub mod WritingBack
 pub mod Front
 pub mod Used
+pub mod MainAlone
