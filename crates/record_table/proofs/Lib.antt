@@ -17,3 +17,5 @@ pub mod Gathering
 pub mod Holding
 pub mod Fronts
 pub mod Main
+pub mod Upgraded
+pub mod Versions

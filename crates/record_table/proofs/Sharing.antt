@@ -143,7 +143,7 @@ pairs_rest index d e tables same =
     ap (λ (ts : List TableEntry). pairs_from index e 0 (take asked_tables ts)) tables
     ∙ pairs_same index d e 0 (asked_of d) (each_of (λ number other. index.pairs e other ≡ index.pairs d other) 0 (asked_of d) (λ j root is. same j root (first_there asked_tables (tables_of d) j root is)))
 
-level_same : (index : Index) (d e : List ℕ) (table : ℕ) → tables_of e ≡ tables_of d → ((root : ℕ) → IsTable d table root → index.level e root ≡ index.level d root)
+pub level_same : (index : Index) (d e : List ℕ) (table : ℕ) → tables_of e ≡ tables_of d → ((root : ℕ) → IsTable d table root → index.level e root ≡ index.level d root)
     → level_under index e (root_of e table) ≡ level_under index d (root_of d table)
 level_same index d e table tables same =
     ap (λ (ts : List TableEntry). level_under index e (option_map (λ entry. entry.root) (slice_get ts table))) tables ∙ go (root_of d table) refl

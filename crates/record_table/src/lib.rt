@@ -11,6 +11,7 @@ mod records;
 mod scanning;
 mod slots;
 mod told;
+mod upgrading;
 
 pub use fault::{AttachRecords, TableFault};
 pub use form::{Form, form_of};

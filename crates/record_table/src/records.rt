@@ -13,11 +13,13 @@ ghost use Rattle.record_table.specs.Groups.{CommitsGroup, group_writes};
 ghost use Rattle.record_table.specs.Does.{Does, replied, is_failed};
 ghost use Rattle.record_table.specs.Shown.{state_of, pairs_of, held_on, is_write_on, AreNamed};
 ghost use Rattle.record_table.specs.Sought.{LooksAs};
+ghost use Rattle.record_table.specs.Upgrading.{Upgrades};
 
 use crate::fault::{AttachRecords, TableFault};
 use crate::scanning::gather;
 use crate::slots::{seek, value_at, write_as};
 use crate::told::told;
+use crate::upgrading::upgrade;
 use array_shape::{NumberSet, Shape};
 use eaw_face::EawStore;
 use history::Rows;
@@ -76,6 +78,16 @@ impl<S: EawStore, K: KeyIndex> Records<S, K> {
             Err(CheckFault::Media) => Err((AttachRecords::Media, pages)),
             Err(CheckFault::Dead) => Err((AttachRecords::Dead, pages)),
         }
+    }
+
+    /// Brings the super page to version 2 by one write, unless it is of that version. The number 0 must not be live.
+    pub fn upgrade(&mut self) -> Result<(), TableFault>
+        requires free { (S.view self.old.store).ranges 0 ≡ None }
+        ensures upgrades { Upgrades S.tells (S.opens (S.view self.old.store).shape) K.index
+            (pages_of (S.view self.old.store) self.old) (pages_of (S.view self.new.store) self.new) result }
+        ensures dead { IsErrOf result TableFault.Dead → self.new ≡ self.old }
+    {
+        told(upgrade::<S, K>(&mut self.pages))
     }
 
     /// The pages below. What numbers have written is still in them.
