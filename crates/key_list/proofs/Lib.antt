@@ -6,4 +6,3 @@ pub mod Data
 pub mod Whole
 pub mod Even
 pub mod Testing
-pub mod Fresh
