@@ -1,15 +1,17 @@
 -- The trees of all tables together: what is known of sound data, and what writes to slots leave.
-use Rattle.std.proofs.Common.{◌≡◌, ℕ, ◌<◌, List, arith}
+use Rattle.std.proofs.Common.{◌≡◌, ℕ, ◌<◌, ◌≤◌, inl, inr, List, [], None, arith}
 use Rattle.mars_base.specs.Check.{IsSingle}
 use Rattle.mars_base.proofs.Checks.{excludes, one_bad}
-use Rattle.record_slots.specs.Places.{next_page, AreGiven}
-use Rattle.page_store.specs.Index.{IsTable, HasCounts, KeepsIndex}
+use Rattle.record_slots.specs.Places.{page_bytes, next_page, AreGiven}
+use Rattle.page_store.specs.Index.{IsTable, HasCounts, KeepsIndex, IsEmptyRoot, Extends}
 use Rattle.page_store.specs.Pairs.{Rise}
 use Rattle.index_pages.specs.Keys.{key_end}
 use Rattle.index_pages.specs.Page.{level_of}
 use Rattle.index_pages.specs.Slots.{index_check}
+use Rattle.index_pages.proofs.Extending.{empty_root, front_extends}
 use Rattle.index_pages.proofs.Joining.{named_kept}
 use Rattle.index_pages.proofs.Tabled.{IsWhole, whole_seen, whole_passes, whole_counts, table_own, front_rests, index_single}
+use Rattle.btree_laws.proofs.Fresh.{fresh_tree}
 use Rattle.btree_laws.specs.Resting.{sound_tree_rests, sound_tree_given}
 use Rattle.btree_laws.specs.Sound.{IsSoundTree, sound_seen, sound_passes, tree_single}
 use Rattle.btree_laws.specs.Tree.{pairs_of_tree, IsPageOfTree}
@@ -63,6 +65,45 @@ module _ (old new : List ℕ) (sound : AreSoundTrees old) (keeps : KeepsIndex ol
         }),
         λ table root named. let r = table_rests table root named in (r.1, r.2),
       )
+
+module _ (old new : List ℕ) (sound : AreSoundTrees old) (x : Extends old new) where
+  -- the tree of a table that was there, in data with further tables
+  tree_extends : (table root : ℕ) → IsTable old table root
+      → IsSoundTree (record { page = root; table = table }) new × (pairs_of_tree new root ≡ pairs_of_tree old root) × (level_of new root ≡ level_of old root)
+  tree_extends table root named =
+      let r : Root = record { page = root; table = table } in
+      let w = whole_of old sound in
+      let f = front_extends 1 tree_of old new w x in
+      let t = table_sound old (record { page = root; table = table }) sound named in
+      sound_tree_rests (record { page = root; table = table }) old new t f.keeps
+      (λ q u.
+      let own = under_own (record { page = root; table = table }) (level_of old root) old q root 0 key_end t.0 t.2 u in
+      x.pages q own.0 own.1)
+
+  -- and that of a table with an empty root
+  tree_empty : (table root : ℕ) → IsTable new table root → IsEmptyRoot (page_bytes new root) → IsSoundTree (record { page = root; table = table }) new × (pairs_of_tree new root ≡ []) × (level_of new root ≡ 0)
+  tree_empty table root named is =
+      let f = front_extends 1 tree_of old new (whole_of old sound) x in
+      let said = empty_root (page_bytes new root) is in
+      let fresh = fresh_tree (record { page = root; table = table }) new (table_own 1 new table root f.front named) said.0 said.1 said.2 said.3 in
+      (fresh.0, fresh.1, said.1)
+
+  pub trees_extend : AreSoundTrees new × ((table root : ℕ) → IsTable old table root → (pairs_of_tree new root ≡ pairs_of_tree old root) × (level_of new root ≡ level_of old root))
+      × ((table root : ℕ) → IsTable new table root → next_page old ≤ root → IsEmptyRoot (page_bytes new root) → (pairs_of_tree new root ≡ []) × (level_of new root ≡ 0))
+  trees_extend =
+      let f = front_extends 1 tree_of old new (whole_of old sound) x in (
+        whole_passes 1 tree_of new (record {
+          front = f.front;
+          slots = f.slots;
+          pages = f.pages;
+          tables = λ table root named. sound_passes (record { page = root; table = table }) new (sound_of table root named);
+        }),
+        λ table root named. let r = tree_extends table root named in (r.1, r.2),
+        λ table root named later is. let r = tree_empty table root named is in (r.1, r.2),
+      )
+    where
+      sound_of : (table root : ℕ) → IsTable new table root → IsSoundTree (record { page = root; table = table }) new
+      sound_of table root named = elim (x.named table root named) [ inl was ↦ (tree_extends table root was).0 | inr fresh ↦ (tree_empty table root named fresh.1).0 ]
 
 trees_single : (bytes : List ℕ) → IsSingle (index_check 1 tree_of bytes)
 trees_single bytes = index_single 1 tree_of bytes (λ root table. tree_single (record { page = root; table = table }) bytes)

@@ -1,5 +1,5 @@
 ghost use Rattle.btree_pages.specs.Props.{AreSoundTrees-prop};
-ghost use Rattle.btree_pages.specs.Trees.{trees_rise, trees_given, trees_count, trees_rest, trees_excluded, trees_first};
+ghost use Rattle.btree_pages.specs.Trees.{trees_rise, trees_given, trees_count, trees_rest, trees_extend, trees_excluded, trees_first};
 ghost use Rattle.btree_pages.specs.Index.{tree};
 
 use crate::{checking, insertion, look, removal};
@@ -72,6 +72,8 @@ impl KeyIndex for BTreePages {
     ghost counts = { trees_count };
 
     ghost rests = { trees_rest };
+
+    ghost extends = { trees_extend };
 
     ghost excluded = { trees_excluded };
 

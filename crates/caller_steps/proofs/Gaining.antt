@@ -13,18 +13,18 @@ use Rattle.caller_steps.specs.Shown.{Gained}
 some_none : {X : Type 0} (slot : ℕ) → Some slot ≡ None → X
 some_none slot e = absurd (cc)
 
-pub gained_slots : (first now : Index) (keys : List Key) → Gained first keys now → now.next_slot ≡ first.next_slot + length keys
+pub gained_slots : (first now : Index) (keys : List Key) → Gained first keys now → now.used_slots ≡ first.used_slots + length keys
 gained_slots first now [] g = let e = g.1 in omega arith
 gained_slots first now (key ∷ keys) g = let i = gained_slots first g.0 keys g.1 in let e = g.4 in omega arith
 
 -- a key that an index lacks is none of those that it has gained, and the index lacked it at first
-apart_one : (key other : Key) (before now : Index) → now.slot_of ≡ update is_same_key before.slot_of key (Some before.next_slot) → now.slot_of other ≡ None → other ≢ key
+apart_one : (key other : Key) (before now : Index) → now.slot_of ≡ update is_same_key before.slot_of key (Some before.due) → now.slot_of other ≡ None → other ≢ key
 apart_one key other before now set lacks same =
-    some_none before.next_slot (sym (update_here before.slot_of key (Some before.next_slot)) ∙ ap (λ (f : ℕ → Option ℕ). f key) (sym set) ∙ subst (λ k. now.slot_of k ≡ None) same lacks)
+    some_none before.due (sym (update_here before.slot_of key (Some before.due)) ∙ ap (λ (f : ℕ → Option ℕ). f key) (sym set) ∙ subst (λ k. now.slot_of k ≡ None) same lacks)
 
-lacked_before : (key other : Key) (before now : Index) → now.slot_of ≡ update is_same_key before.slot_of key (Some before.next_slot) → now.slot_of other ≡ None → before.slot_of other ≡ None
+lacked_before : (key other : Key) (before now : Index) → now.slot_of ≡ update is_same_key before.slot_of key (Some before.due) → now.slot_of other ≡ None → before.slot_of other ≡ None
 lacked_before key other before now set lacks =
-    sym (update_apart before.slot_of key (Some before.next_slot) other (apart_one key other before now set lacks)) ∙ ap (λ (f : ℕ → Option ℕ). f other) (sym set) ∙ lacks
+    sym (update_apart before.slot_of key (Some before.due) other (apart_one key other before now set lacks)) ∙ ap (λ (f : ℕ → Option ℕ). f other) (sym set) ∙ lacks
 
 lacks_first : (first now : Index) (keys : List Key) (other : Key) → Gained first keys now → now.slot_of other ≡ None → first.slot_of other ≡ None
 lacks_first first now [] other g lacks = ap (λ (f : ℕ → Option ℕ). f other) (sym g.0) ∙ lacks

@@ -28,7 +28,7 @@ module _ (limits : Limits) (g : ℕ) where
       → list_any (is_of key) (log_of (calls_of old caller)).writes ≡ false → held_on limits new caller g ≡ held_on limits old caller g
   held_apart old new caller key live gains none =
       ap (λ (f : ℕ → Option _). length (filter (is_write_on limits new.index g) (log_of (calls_of (record old { live = f }) caller)).writes)) live
-      ∙ ap length (writes_apart old.index new.index key old.index.next_slot gains.slot_of (log_of (calls_of old caller)).writes none)
+      ∙ ap length (writes_apart old.index new.index key old.index.due gains.slot_of (log_of (calls_of old caller)).writes none)
 
 -- the index has the key of each of these writes
 abbrev pub AreNamed : Index → List Write → Type 0

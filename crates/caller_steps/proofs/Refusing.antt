@@ -25,25 +25,25 @@ use Rattle.caller_steps.proofs.Running.{turns_cut, turns_dead, turns_keep, turns
 use Rattle.caller_steps.proofs.Owning.{turns_live}
 use Rattle.caller_steps.proofs.Fates.{step_moves}
 
--- an index after a call: it has no fewer pages and levels, and the same keys or one more, which the call puts
+-- an index after a call: it has no fewer pages in use and levels, and the same keys or one more, which the call puts
 pub record IndexMoves (limits : Limits) (call : Call) (old new : Index) : Type 0 where
-  pub pages : old.next_page ≤ new.next_page
+  pub pages : old.used_pages ≤ new.used_pages
   pub levels : old.level ≤ new.level
   pub keys : KeepsKeys old new ⊎ ((key : Key) × IsTrue (is_put key call) × (old.slot_of key ≡ None) × GainsKey limits key old new)
 
 -- the data takes writes
 settled_index : (limits : Limits) (call : Call) (writes : List Write) (old new : Index) → Settles writes old new → IndexMoves limits call old new
 settled_index limits call writes old new s = record {
-  pages = (let p = ap (λ (i : Index). i.next_page) s.keys in omega arith);
+  pages = (let p = ap (λ (i : Index). i.used_pages) s.keys in omega arith);
   levels = (let l = ap (λ (i : Index). i.level) s.keys in omega arith);
-  keys = inl (record { slot_of = ap (λ (i : Index). i.slot_of) s.keys; slots = ap (λ (i : Index). i.next_slot) s.keys });
+  keys = inl (record { slot_of = ap (λ (i : Index). i.slot_of) s.keys; slots = ap (λ (i : Index). i.used_slots) s.keys; due = ap (λ (i : Index). i.due) s.keys });
 }
 
 same_index : (limits : Limits) (call : Call) (old new : Index) → new ≡ old → IndexMoves limits call old new
 same_index limits call old new e = record {
-  pages = (let p = ap (λ (i : Index). i.next_page) e in omega arith);
+  pages = (let p = ap (λ (i : Index). i.used_pages) e in omega arith);
   levels = (let l = ap (λ (i : Index). i.level) e in omega arith);
-  keys = inl (record { slot_of = ap (λ (i : Index). i.slot_of) e; slots = ap (λ (i : Index). i.next_slot) e });
+  keys = inl (record { slot_of = ap (λ (i : Index). i.slot_of) e; slots = ap (λ (i : Index). i.used_slots) e; due = ap (λ (i : Index). i.due) e });
 }
 
 inserts : (limits : Limits) (key : Key) (reply : Reply) (old new : Index) → Inserts limits key reply old new → TakesPages limits old new × (KeepsKeys old new ⊎ GainsKey limits key old new)
@@ -56,7 +56,7 @@ index_at : (limits : Limits) (key : Key) (value : List ℕ) (slot : Option ℕ) 
 index_at limits key value (Some slot) reply old new is e = same_index limits (Put key value) old new e
 index_at limits key value None reply old new is i =
     let both = inserts limits key reply old new i in record {
-      pages = both.0.later;
+      pages = both.0.used;
       levels = both.0.levels;
       keys = ⊎_elim (λ keeps. inl keeps) (λ gains. inr (key, eq-eqb key key refl, is, gains)) both.1;
     }
@@ -73,7 +73,7 @@ index_moves limits Commit reply old new i = same_index limits Commit old new i
 index_moves limits Abort reply old new i = same_index limits Abort old new i
 
 -- if all slots are given out, no key is gained
-slots_stay : (limits : Limits) (call : Call) (old new : Index) → IndexMoves limits call old new → old.next_slot ≡ limits.slots → new.next_slot ≡ limits.slots
+slots_stay : (limits : Limits) (call : Call) (old new : Index) → IndexMoves limits call old new → old.used_slots ≡ limits.slots → new.used_slots ≡ limits.slots
 slots_stay limits call old new moves full = ⊎_elim (λ keeps. keeps.slots ∙ full) (λ gains. let l = gains.3.left in absurd (omega arith)) moves.keys
 
 pages_stay : (limits : Limits) (made call : Call) (n : ℕ) (old new : Index) → IndexMoves limits call old new → LacksPages made n old → LacksPages made n new
@@ -94,7 +94,7 @@ gained_same first (key ∷ keys) old new keeps g = (g.0, g.1, g.2, keeps.slot_of
 -- what a reply says of the state before a step and of the index after it
 abbrev pub Told : Limits → State → ℕ → State → Call → Reply → Type 0
 Told limits old caller new call (Busy holder) = Blocks old caller call holder
-Told limits old caller new call (SlotsFull n) = (n ≡ limits.slots) × (new.index.next_slot ≡ limits.slots)
+Told limits old caller new call (SlotsFull n) = (n ≡ limits.slots) × (new.index.used_slots ≡ limits.slots)
 Told limits old caller new call (PagesFull n) = (n ≡ limits.index_pages - 1) × LacksPages call n new.index
 Told limits old caller new call Dead = IsTrue old.is_dead
 Told limits old caller new call _ = Unit {0}
@@ -220,8 +220,8 @@ module _ (limits : Limits) where
   alive_first first now turns a alive = (or_parts first.is_dead (has_fault turns) (sym (turns_dead true limits first now turns a) ∙ alive)).0
 
   -- What was lacking stays so.
-  slots_on : (first now : State) (turns : List Turn) → GoesAlong true limits first turns now → now.is_dead ≡ false → first.index.next_slot ≡ limits.slots → now.index.next_slot ≡ limits.slots
-  slots_on first now [] a alive full = ap (λ (s : State). s.index.next_slot) a ∙ full
+  slots_on : (first now : State) (turns : List Turn) → GoesAlong true limits first turns now → now.is_dead ≡ false → first.index.used_slots ≡ limits.slots → now.index.used_slots ≡ limits.slots
+  slots_on first now [] a alive full = ap (λ (s : State). s.index.used_slots) a ∙ full
   slots_on first now (turn ∷ turns) a alive full =
       slots_on a.0 now turns a.2 alive (slots_stay limits turn.1 first.index a.0.index (index_goes first a.0 turn a.1 (alive_first a.0 now turns a.2 alive)) full)
 

@@ -39,9 +39,9 @@ abbrev pub HasEntry : Limits → State → ℕ → Key → ℕ → Type 0
 HasEntry limits old caller key slot =
     is_rewritten (log_of (calls_of old caller)) key ≡ false → held_on limits old caller (limits.logger_of slot) < limits.entries
 
--- the slot of a key, or the next free one if the index lacks the key
+-- the slot of a key, or the one that is due if the index lacks the key
 abbrev pub slot_for : Index → Key → ℕ
-slot_for index key = unwrap_or (index.slot_of key) index.next_slot
+slot_for index key = unwrap_or (index.slot_of key) index.due
 
 -- the caller sees a record of the key
 abbrev pub IsSeen : State → ℕ → Key → Type 0
@@ -62,9 +62,9 @@ IsFull limits old caller g h n = (1 ≤ n) × (n ≤ 4) × (needed : ℕ → ℕ
 -- the splits of the index that are due, and entries for each part of its insertion.
 abbrev pub LacksAt : Limits → State → ℕ → Key → Option ℕ → Reply → Type 0
 LacksAt limits old caller key (Some slot) (LogFull g h n) = (HasEntry limits old caller key slot → ⊥) × (g ≡ limits.logger_of slot) × (n ≡ 1) × IsFull limits old caller g h n
-LacksAt limits old caller key None (SlotsFull n) = (old.index.next_slot ≡ limits.slots) × (n ≡ limits.slots)
-LacksAt limits old caller key None (PagesFull n) = (old.index.next_slot < limits.slots) × (n ≡ limits.index_pages - 1)
-LacksAt limits old caller key None (LogFull g h n) = (old.index.next_slot < limits.slots) × IsFull limits old caller g h n
+LacksAt limits old caller key None (SlotsFull n) = (old.index.used_slots ≡ limits.slots) × (n ≡ limits.slots)
+LacksAt limits old caller key None (PagesFull n) = (old.index.used_slots < limits.slots) × (n ≡ limits.index_pages - 1)
+LacksAt limits old caller key None (LogFull g h n) = (old.index.used_slots < limits.slots) × IsFull limits old caller g h n
 LacksAt limits old caller key _ _ = ⊥
 
 -- Why a write is refused with this reply. A key that its caller sees has a slot, so a removal is refused only by that slot's logger.
@@ -73,26 +73,28 @@ Lacks limits old caller (Put key value) reply = LacksAt limits old caller key (o
 Lacks limits old caller (Del key) reply = IsSeen old caller key × (slot : ℕ) × (old.index.slot_of key ≡ Some slot) × LacksAt limits old caller key (Some slot) reply
 Lacks limits old caller _ reply = ⊥
 
--- the index gains the key with the next slot, if there is one
+-- the index gains the key with the slot that is due, if there is one
 pub record GainsKey (limits : Limits) (key : Key) (old new : Index) : Type 0 where
-  pub left : old.next_slot < limits.slots
-  pub slot_of : new.slot_of ≡ update is_same_key old.slot_of key (Some old.next_slot)
-  pub slots : new.next_slot ≡ suc old.next_slot
+  pub left : old.used_slots < limits.slots
+  pub slot_of : new.slot_of ≡ update is_same_key old.slot_of key (Some old.due)
+  pub slots : new.used_slots ≡ suc old.used_slots
 
 pub record KeepsKeys (old new : Index) : Type 0 where
   pub slot_of : new.slot_of ≡ old.slot_of
-  pub slots : new.next_slot ≡ old.next_slot
+  pub slots : new.used_slots ≡ old.used_slots
+  pub due : new.due ≡ old.due
 
 -- The data takes these writes, in slots that their keys have. Without a write all of it stays.
 pub record Settles (writes : List Write) (old new : Index) : Type 0 where
   pub keys : new ≡ record old { bytes = new.bytes }
   pub none : writes ≡ [] → new ≡ old
 
--- at most nine more pages are given out, within those of the index, and no level is lost
+-- at most nine more pages are given out, within those of the index, no page in use is given back, and no level is lost
 pub record TakesPages (limits : Limits) (old new : Index) : Type 0 where
   pub later : old.next_page ≤ new.next_page
   pub few : new.next_page ≤ old.next_page + 9
   pub most : new.next_page ≤ limits.index_pages
+  pub used : old.used_pages ≤ new.used_pages
   pub levels : old.level ≤ new.level
 
 -- What a put makes of an index that lacks the key. If the log is full after the insertion, the key stays. If pages ran out, at most one is
@@ -100,7 +102,7 @@ pub record TakesPages (limits : Limits) (old new : Index) : Type 0 where
 abbrev pub Inserts : Limits → Key → Reply → Index → Index → Type 0
 Inserts limits key Fine old new = TakesPages limits old new × GainsKey limits key old new
 Inserts limits key (LogFull g h n) old new = TakesPages limits old new × (KeepsKeys old new ⊎ GainsKey limits key old new)
-Inserts limits key (PagesFull n) old new = TakesPages limits old new × KeepsKeys old new × ((n ≤ new.next_page) ⊎ (7 ≤ new.level))
+Inserts limits key (PagesFull n) old new = TakesPages limits old new × KeepsKeys old new × ((n ≤ new.used_pages) ⊎ (7 ≤ new.level))
 Inserts limits key _ old new = TakesPages limits old new × KeepsKeys old new
 
 abbrev pub IndexesAt : Limits → Key → Option ℕ → Reply → Index → Index → Type 0

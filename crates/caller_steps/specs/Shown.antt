@@ -31,14 +31,14 @@ abbrev pub AreAsked : List Turn → List Key → Type 0
 AreAsked turns [] = Unit {0}
 AreAsked turns (key ∷ keys) = IsTrue (is_asked turns key) × AreAsked turns keys
 
--- an index has gained these keys, the last one first: each was new and got the next slot
+-- an index has gained these keys, the last one first: each was new and got the slot that was due
 abbrev pub Gained : Index → List Key → Index → Type 0
-Gained first [] now = (now.slot_of ≡ first.slot_of) × (now.next_slot ≡ first.next_slot)
-Gained first (key ∷ keys) now = (before : Index) × Gained first keys before × (before.slot_of key ≡ None) × (now.slot_of ≡ update is_same_key before.slot_of key (Some before.next_slot)) × (now.next_slot ≡ suc before.next_slot)
+Gained first [] now = (now.slot_of ≡ first.slot_of) × (now.used_slots ≡ first.used_slots)
+Gained first (key ∷ keys) now = (before : Index) × Gained first keys before × (before.slot_of key ≡ None) × (now.slot_of ≡ update is_same_key before.slot_of key (Some before.due)) × (now.used_slots ≡ suc before.used_slots)
 
 -- a put finds no page for a split, or no further level
 abbrev pub LacksPages : Call → ℕ → Index → Type 0
-LacksPages (Put key value) n index = (n ≤ index.next_page) ⊎ (7 ≤ index.level)
+LacksPages (Put key value) n index = (n ≤ index.used_pages) ⊎ (7 ≤ index.level)
 LacksPages _ n index = Unit {0}
 
 -- What a refusal of a call shows, given the turns before it and any later state. The holder of a stripe is another caller, and its own turns
@@ -46,7 +46,7 @@ LacksPages _ n index = Unit {0}
 -- After a fault the core is dead, and `Dead` comes only after a fault.
 abbrev pub Shows : Limits → List Turn → State → ℕ → Call → Reply → Type 0
 Shows limits before now caller call (Busy holder) = (holder ≢ caller) × Meets call (unwrap_or (live_by holder (turns_of holder before)) [])
-Shows limits before now caller call (SlotsFull n) = (n ≡ limits.slots) × (IsFalse now.is_dead → now.index.next_slot ≡ limits.slots)
+Shows limits before now caller call (SlotsFull n) = (n ≡ limits.slots) × (IsFalse now.is_dead → now.index.used_slots ≡ limits.slots)
 Shows limits before now caller call (PagesFull n) = (n ≡ limits.index_pages - 1) × (IsFalse now.is_dead → LacksPages call n now.index)
 Shows limits before now caller call Media = IsTrue now.is_dead
 Shows limits before now caller call Dead = IsTrue (has_fault before)

@@ -75,10 +75,10 @@ pub fn what_a_refusal_shows()
 {}
 
 /// Unless the medium fails, the index gains only keys that a turn asks to put. The keys that an index has gained were all missing before and
-/// are distinct, so it has given out as many slots.
+/// are distinct, so as many more slots are in use.
 pub fn what_an_index_gains()
     ensures run { (limits : Limits) (first now : State) (turns : List Turn) → Runs limits first turns now → IsFalse now.is_dead → (keys : List Key) × Gained first.index keys now.index × AreAsked turns keys }
-    ensures slots { (first now : Index) (keys : List Key) → Gained first keys now → now.next_slot ≡ first.next_slot + length keys }
+    ensures slots { (first now : Index) (keys : List Key) → Gained first keys now → now.used_slots ≡ first.used_slots + length keys }
     ensures missing { (first now : Index) (keys : List Key) → Gained first keys now → All (λ key. first.slot_of key ≡ None) keys }
     ensures apart { (first now : Index) (keys : List Key) → Gained first keys now → AllPairs (λ one other. one ≢ other) keys }
 {}

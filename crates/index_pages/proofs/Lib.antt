@@ -38,3 +38,4 @@ pub mod Tables
 pub mod Tests
 pub mod Removals
 pub mod Even
+pub mod Extending

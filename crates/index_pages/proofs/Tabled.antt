@@ -163,6 +163,8 @@ whole_counts form check bytes w = record {
       let e : slot_due bytes ≡ free_slot bytes - 1 = (rw b refl) in
       omega (arith, e, m.0.0, m.0.1);
   main = main_named form bytes w.front;
+  mark = w.front.has_mark;
+  tables = w.front.tables;
 }
 
 -- a whole index has at most one verdict, if the index of each table has

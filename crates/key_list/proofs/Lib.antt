@@ -9,4 +9,3 @@ pub mod Data
 pub mod Whole
 pub mod Taking
 pub mod Testing
-pub mod Fresh

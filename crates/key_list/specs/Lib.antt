@@ -9,3 +9,5 @@ pub mod Seen
 pub mod Props
 pub mod ChainFacts
 pub mod Resting
+pub mod Fresh
+pub mod Extending

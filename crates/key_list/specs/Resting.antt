@@ -60,7 +60,7 @@ module _ (table : ℕ) where
       ]
 
   module _ (old new : List ℕ) (keeps : Keeps old new) (same : (x : ℕ) → 1 ≤ x → x < next_page old → page_bytes new x ≡ page_bytes old x) where
-    chain_rests : (n page low : ℕ) → IsOwn old page → IsChain table n old page low
+    pub chain_rests : (n page low : ℕ) → IsOwn old page → IsChain table n old page low
         → IsChain table n new page low × ((from : ℕ) → joined (chain_pieces n new page from) ≡ joined (chain_pieces n old page from))
     chain_rests zero page low own c = absurd c
     chain_rests (suc n) page low own c =

@@ -2,6 +2,7 @@ ghost use Rattle.key_list.specs.Props.{IsSoundChain-prop};
 ghost use Rattle.key_list.specs.ChainFacts.{sound_chain_rises};
 ghost use Rattle.key_list.specs.Seen.{chain_excludes, chain_first};
 ghost use Rattle.key_list.specs.Resting.{sound_table, sound_chain_given, sound_chain_counts, sound_chains_rest};
+ghost use Rattle.key_list.specs.Extending.{sound_chains_extend};
 ghost use Rattle.key_list.specs.Index.{chain};
 
 use crate::{checking, insertion, look, removal};
@@ -70,6 +71,8 @@ impl KeyIndex for KeyList {
     ghost counts = { sound_chain_counts };
 
     ghost rests = { λ old new sound keeps. ((sound_chains_rest old new sound keeps).0, λ table root is. ((sound_chains_rest old new sound keeps).1 table root is, λ i. 0)) };
+
+    ghost extends = { sound_chains_extend };
 
     ghost excluded = { chain_excludes };
 

@@ -103,8 +103,8 @@ module _ (tells : Bool) (Opens : Shape → List ℕ → List ℕ → Type 0) (in
     grows : (r : Reply) → left ≡ calls ++ (call, r) ∷ [] → new.live ≡ update nat_eq s.live t (Some (calls ++ (call, r) ∷ []))
     grows r more = put ∙ ap (λ (cs : Granted). update nat_eq s.live t (Some cs)) more
 
-    listed : (r : Reply) (rows : List (ℕ × List ℕ)) → r ≡ reply.Listed rows → Works tells (Opens p.store.shape) index t call p q (Ok r) → Does tells (Opens p.store.shape) index t call p q (Ok (reply.Listed rows))
-    listed r rows same works = subst (λ (r : Reply). Does tells (Opens p.store.shape) index t call p q (Ok r)) same works.does
+    listed : (r : Reply) (rows : List (ℕ × List ℕ)) → r ≡ reply.Listed rows → Works tells (Opens p.store.shape) index t call p q (Ok r) → Does tells (Opens p.store.shape) index 0 t call p q (Ok (reply.Listed rows))
+    listed r rows same works = subst (λ (r : Reply). Does tells (Opens p.store.shape) index 0 t call p q (Ok r)) same works.does
 
     pub made_keeps : IsKept tells Opens index q count' rows new
     made_keeps = go made.result made.works made.answered

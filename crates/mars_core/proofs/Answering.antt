@@ -24,7 +24,7 @@ use Rattle.record_table.specs.Faults.{reply_to}
 use Rattle.record_table.specs.Causes.{Cause, IsSavedOut, IsScan}
 use Rattle.record_table.specs.Calls.{Replies, table_after, after}
 use Rattle.record_table.specs.Does.{Does, OpensWith, Indexed, IsQuiet, is_failed}
-use Rattle.record_table.specs.Shown.{state_of, keys_of}
+use Rattle.record_table.specs.Shown.{state_of, pairs_of, keys_of}
 use Rattle.record_table.specs.Shown as shown
 use Rattle.record_table.specs.declared.fault.TableFault.{TableFault}
 use Rattle.record_table.specs.declared.fault.TableFault.TheVariants.{SlotsFull, PagesFull, SavesFull, LogFull, Media, Dead, Damaged, NoMemory}
@@ -123,18 +123,18 @@ scan_same limits Begin answer old new scan same = same
 -- What the records made of a call, as far as a core needs it.
 pub record Did (tells : Bool) (Opens : List ℕ → List ℕ → Type 0) (index : below.Index) (t : ℕ) (call : Call) (old new : PagesView) (result : Result Reply TableFault) : Type 0 where
   pub shape : new.store.shape ≡ old.store.shape
-  pub cause : IsTrue tells → Cause tells index t call old result
+  pub cause : IsTrue tells → Cause tells index 0 t call old result
   pub faults : IsFalse (is_failed result) → (new.store.is_dead ≡ old.store.is_dead) × (new.store.faults ≡ old.store.faults)
   pub dies : IsTrue (is_failed result) → (new.store.is_dead ≡ true) × Rose old.store.faults new.store.faults
   pub replies : IsTrue tells → IfOk result (Replies (state_of index old) t call)
   pub done : IsTrue tells → IfOk result (λ reply. state_of index new ≡ after t call reply (state_of index old))
   pub refused : IsTrue tells → IsFalse (is_failed result) → OnErr result (state_of index new ≡ state_of index old)
   pub quiet : IsTrue tells → IsFalse (is_failed result) → IsQuiet index old t call → new.store.state.bytes ≡ old.store.state.bytes
-  pub indexed : IsTrue tells → IsAlive old.store → IsFalse (is_failed result) → Indexed call (keys_of index old.store.state.bytes) (keys_of index new.store.state.bytes) result
+  pub indexed : IsTrue tells → IsAlive old.store → IsFalse (is_failed result) → Indexed 0 call (keys_of index old.store.state.bytes) (keys_of index new.store.state.bytes) result
   pub time : IsTrue tells → IsAlive old.store
       → LeavesOnly (λ image. OpensWith Opens index image (state_of index old).table ⊎ OpensWith Opens index image (table_after t call (state_of index old))) old.store new.store
 
-pub did : (tells : Bool) (Opens : List ℕ → List ℕ → Type 0) (index : below.Index) (t : ℕ) (call : Call) (old new : PagesView) (result : Result Reply TableFault) → Does tells Opens index t call old new result
+pub did : (tells : Bool) (Opens : List ℕ → List ℕ → Type 0) (index : below.Index) (t : ℕ) (call : Call) (old new : PagesView) (result : Result Reply TableFault) → Does tells Opens index 0 t call old new result
     → Did tells Opens index t call old new result
 did tells Opens index t call old new result does = record {
   shape = does.shape;
@@ -171,7 +171,7 @@ listed_is s t Begin rows replies = absurd replies
 
 -- a scan whose rows there is no memory to keep has changed nothing
 pub did_unkept : (tells : Bool) (Opens : List ℕ → List ℕ → Type 0) (index : below.Index) (t : ℕ) (call : Call) (old new : PagesView) (rows : List (ℕ × List ℕ)) → IsAlive old.store
-    → Does tells Opens index t call old new (Ok (reply.Listed rows)) → Did tells Opens index t call old new (Err NoMemory)
+    → Does tells Opens index 0 t call old new (Ok (reply.Listed rows)) → Did tells Opens index t call old new (Err NoMemory)
 did_unkept tells Opens index t call old new rows alive does = record {
   shape = does.shape;
   cause = λ told. (alive, (let is = scan told in subst IsScan (sym is.2) tt));
@@ -182,8 +182,8 @@ did_unkept tells Opens index t call old new rows alive does = record {
   refused = λ told _. let is = scan told in does.done told ∙ ap (λ (c : Call). after t c (reply.Listed rows) (state_of index old)) is.2 ∙ scan_after (state_of index old) t is.0 is.1 (reply.Listed rows);
   quiet = λ told _ quiet. does.quiet told refl quiet;
   indexed = λ told living _. let is = scan told in
-      subst (λ (c : Call). (let r : Result Reply TableFault = Err NoMemory in Indexed c (keys_of index old.store.state.bytes) (keys_of index new.store.state.bytes) r)) (sym is.2)
-      (subst (λ (c : Call). (let r : Result Reply TableFault = Ok (reply.Listed rows) in Indexed c (keys_of index old.store.state.bytes) (keys_of index new.store.state.bytes) r)) is.2 (does.indexed told living refl));
+      subst (λ (c : Call). (let r : Result Reply TableFault = Err NoMemory in Indexed 0 c (keys_of index old.store.state.bytes) (keys_of index new.store.state.bytes) r)) (sym is.2)
+      (subst (λ (c : Call). (let r : Result Reply TableFault = Ok (reply.Listed rows) in Indexed 0 c (keys_of index old.store.state.bytes) (keys_of index new.store.state.bytes) r)) is.2 (does.indexed told living refl));
   time = does.time;
 }
   where
@@ -215,8 +215,8 @@ module _ (tells : Bool) (Opens : Shape → List ℕ → List ℕ → Type 0) (in
     right = tied.sound.right t
 
     named : (u : ℕ) → AreNamed s.index (log_of (calls_of s u)).writes
-    named u = named_is s.index (index.pairs p.store.state.bytes 1) (log_of (calls_of s u)).writes (λ key. ap (λ (x : Index). x.slot_of key) shows.indexed)
-        (subst (λ (ws : List Write). shown.AreNamed (index.pairs p.store.state.bytes 1) ws) (ap (λ (l : Log). l.writes) (tied.mirrors.logs u)) (tells_writes.named told alive u))
+    named u = named_is s.index (pairs_of index p.store.state.bytes) (log_of (calls_of s u)).writes (λ key. ap (λ (x : Index). x.slot_of key) shows.indexed)
+        (subst (λ (ws : List Write). shown.AreNamed (pairs_of index p.store.state.bytes) ws) (ap (λ (l : Log). l.writes) (tied.mirrors.logs u)) (tells_writes.named told alive u))
 
     -- the data after the call is within the array
     module _ (result : Result Reply TableFault) (works : Did tells (Opens p.store.shape) index t call p q result) where
@@ -311,7 +311,7 @@ module _ (tells : Bool) (Opens : Shape → List ℕ → List ℕ → Type 0) (in
             (λ inserts. works.quiet told well (quiet_of index p t call of inserts)) well (works.indexed told alive well)))
 
         -- for its cause
-        asks_fault : (g : TableFault) → Well g → (let r : Result Reply TableFault = Err g in Cause tells index t call p r) → Indexes (limits_of p.store.shape) call (reply_to g) s.index new.index
+        asks_fault : (g : TableFault) → Well g → (let r : Result Reply TableFault = Err g in Cause tells index 0 t call p r) → Indexes (limits_of p.store.shape) call (reply_to g) s.index new.index
             → Asks (limits_of p.store.shape) calls s t call (reply_to g) new
         asks_fault (SlotsFull n) well cause made = inr (inr (
           free,

@@ -73,7 +73,7 @@ last_is (a ∷ xs) (b ∷ ys) x (Some z) e none =
     ((λ i. heads a b (xs ++ x ∷ []) (ys ++ z ∷ []) e i ∷ rest.0 i), rest.1)
 
 -- only the medium refuses the end of a transaction
-pub commit_fails : (tells : Bool) (index : below.Index) (p : PagesView) (t : ℕ) → IsAlive p.store → (f : TableFault) → (let r : Result Reply TableFault = Err f in Cause tells index t Commit p r) → f ≡ fault.Media
+pub commit_fails : (tells : Bool) (index : below.Index) (p : PagesView) (t : ℕ) → IsAlive p.store → (f : TableFault) → (let r : Result Reply TableFault = Err f in Cause tells index 0 t Commit p r) → f ≡ fault.Media
 commit_fails tells index p t alive fault.Media cause = refl
 commit_fails tells index p t alive fault.Dead cause = absurd (false≢true (sym alive ∙ cause))
 commit_fails tells index p t alive (fault.SlotsFull n) cause = absurd cause.1
@@ -83,7 +83,7 @@ commit_fails tells index p t alive fault.SavesFull cause = absurd cause.1
 commit_fails tells index p t alive (fault.Damaged page) cause = absurd cause.1
 commit_fails tells index p t alive fault.NoMemory cause = absurd cause.1
 
-pub abort_fails : (tells : Bool) (index : below.Index) (p : PagesView) (t : ℕ) → IsAlive p.store → (f : TableFault) → (let r : Result Reply TableFault = Err f in Cause tells index t Abort p r) → f ≡ fault.Media
+pub abort_fails : (tells : Bool) (index : below.Index) (p : PagesView) (t : ℕ) → IsAlive p.store → (f : TableFault) → (let r : Result Reply TableFault = Err f in Cause tells index 0 t Abort p r) → f ≡ fault.Media
 abort_fails tells index p t alive fault.Media cause = refl
 abort_fails tells index p t alive fault.Dead cause = absurd (false≢true (sym alive ∙ cause))
 abort_fails tells index p t alive (fault.SlotsFull n) cause = absurd cause.1
@@ -95,7 +95,7 @@ abort_fails tells index p t alive fault.NoMemory cause = absurd cause.1
 
 -- the index that has these keys, in this data
 abbrev with_bytes : List ℕ → Keys → Index
-with_bytes bytes keys = record { slot_of = found keys.pairs; next_slot = keys.next_slot; next_page = keys.next_page; level = keys.level; bytes = bytes }
+with_bytes bytes keys = record { slot_of = keys.slot_of; due = keys.due; used_slots = keys.used_slots; used_pages = keys.used_pages; next_page = keys.next_page; level = keys.levels 0; bytes = bytes }
 
 module _ (tells : Bool) (Opens : Shape → List ℕ → List ℕ → Type 0) (index : below.Index) (one : (shape : Shape) (image a b : List ℕ) → Opens shape image a → Opens shape image b → a ≡ b)
     (p q : PagesView) (old_laws : StoreLaws tells Opens p.store) (new_laws : StoreLaws tells Opens q.store) (s new : State) (shows : ShowsPages index p s) (shows_new : ShowsPages index q new)
@@ -108,7 +108,7 @@ module _ (tells : Bool) (Opens : Shape → List ℕ → List ℕ → Type 0) (in
   at = ap (λ (o : Option Granted). unwrap_or o []) is
 
   -- a commit
-  module _ (done : Done) (done_is : done ≡ done_by s t calls) (result : Result Reply TableFault) (does : Does tells (Opens p.store.shape) index t Commit p q result)
+  module _ (done : Done) (done_is : done ≡ done_by s t calls) (result : Result Reply TableFault) (does : Does tells (Opens p.store.shape) index 0 t Commit p q result)
       (live : new.live ≡ update nat_eq s.live t None) where
     module _ (told : IsTrue tells) where
       tied : IsTied index p s
@@ -143,7 +143,7 @@ module _ (tells : Bool) (Opens : Shape → List ℕ → List ℕ → Type 0) (in
           go image (inr o) = turned image (prefix_more (OpensWith (Opens q.store.shape) index) image s.base s.history done
               (subst (λ (table : Table). OpensWith (Opens q.store.shape) index image table) seen_left (opened image (seen_by (state_of index p) t) o)))
 
-  module _ (done : Done) (done_is : done ≡ done_by s t calls) (k : ℕ) (does : Does tells (Opens p.store.shape) index t Commit p q (Ok (Committed k)))
+  module _ (done : Done) (done_is : done ≡ done_by s t calls) (k : ℕ) (does : Does tells (Opens p.store.shape) index 0 t Commit p q (Ok (Committed k)))
       (live : new.live ≡ update nat_eq s.live t None) (history : new.history ≡ s.history ++ done ∷ []) (doubt : new.doubt ≡ s.doubt) where
     living : IsAlive q.store
     living = (does.faults refl).0 ∙ alive
@@ -205,7 +205,7 @@ module _ (tells : Bool) (Opens : Shape → List ℕ → List ℕ → Type 0) (in
         (λ told. time_commit done done_is (Ok (Committed k)) does live told (no_doubt told)) safe_new)
 
   -- the medium failed in the commit
-  module _ (done : Done) (done_is : done ≡ done_by s t calls) (does : Does tells (Opens p.store.shape) index t Commit p q (Err fault.Media))
+  module _ (done : Done) (done_is : done ≡ done_by s t calls) (does : Does tells (Opens p.store.shape) index 0 t Commit p q (Err fault.Media))
       (live : new.live ≡ update nat_eq s.live t None) (history : new.history ≡ s.history) (doubt : new.doubt ≡ done ∷ [])
       (due : IsTrue tells → 0 < length ((state_of index p).logs t).writes) where
     wrote : IsTrue tells → 0 < length (log_of calls).writes
@@ -251,7 +251,7 @@ module _ (tells : Bool) (Opens : Shape → List ℕ → List ℕ → Type 0) (in
 
   -- an abort
   module _ (history : new.history ≡ s.history) (doubt : new.doubt ≡ s.doubt) where
-    module _ (does : Does tells (Opens p.store.shape) index t Abort p q (Ok Fine)) (live : new.live ≡ update nat_eq s.live t None) where
+    module _ (does : Does tells (Opens p.store.shape) index 0 t Abort p q (Ok Fine)) (live : new.live ≡ update nat_eq s.live t None) where
       lives : IsAlive q.store
       lives = (does.faults refl).0 ∙ alive
 

@@ -2,12 +2,11 @@
 use Rattle.std.proofs.Common.{◌≡◌, ◌≤◌, ◌⊎◌, ℕ, inl, inr, Bool, true, false, cond, nat_eq, nat_lt, List, [], ◌∷◌, length, Option, Some, None, unwrap_or, Result, Ok, Err, refl, sym, ap, subst, ◌∙◌, arith, eq-eqb, ne_eqb, eqb-true}
 use Rattle.std.specs.Prelude.{IsFalse, IsSome}
 use Rattle.std.proofs.lemmas.Map.{update_here}
-use Rattle.record_slots.specs.Places.{next_slot, next_page}
+use Rattle.record_slots.specs.Places.{used_slots, next_page}
 use Rattle.std.proofs.lemmas.Bool.{false≢true}
 use Rattle.array_shape.specs.declared.shape.Shape.{Shape}
 use Rattle.array_shape.specs.Places.{data_len}
 use Rattle.page_store.specs.Index as below
-use Rattle.page_store.specs.Pairs.{Pair, found, inserted}
 use Rattle.history.specs.declared.call.Call.{Call}
 use Rattle.history.specs.declared.call.Call.TheVariants.{Begin, Get, Put, Del, Scan, Save, Back, Commit, Abort}
 use Rattle.history.specs.declared.call.Reply.{Reply}
@@ -24,41 +23,22 @@ use Rattle.mars_core.specs.Over.{limits_of}
 use Rattle.record_table.specs.Faults.{reply_to}
 use Rattle.mars_core.proofs.Mirroring.{IsOfTable}
 
--- no more slots and pages are given out than an array of this shape has
+-- no more slots are in use, and no more pages given out, than an array of this shape has
 pub record IsWithin (shape : Shape) (keys : Keys) : Type 0 where
-  pub slots : keys.next_slot ≤ below.slots_of shape
+  pub slots : keys.used_slots ≤ below.slots_of shape
   pub pages : keys.next_page ≤ below.index_pages_of shape
 
 pub is_within : (shape : Shape) (bytes : List ℕ) (keys : Keys) → length bytes ≡ data_len shape → below.HasCounts bytes
-    → keys.next_slot ≡ next_slot bytes → keys.next_page ≡ next_page bytes → IsWithin shape keys
+    → keys.used_slots ≡ used_slots bytes → keys.next_page ≡ next_page bytes → IsWithin shape keys
 is_within shape bytes keys long counts s p = record { slots = omega (arith, counts.slots, long, s); pages = omega (arith, counts.pages, long, p) }
-
--- an inserted key has the inserted slot, and the others have the slots that they had
-found-inserted : (ps : List Pair) (key to other : ℕ) → found ps key ≡ None → found (inserted ps key to) other ≡ cond (nat_eq key other) (Some to) (found ps other)
-found-inserted [] key to other none = refl
-found-inserted (p ∷ ps) key to other none = in_front (nat_lt key p.0) (nat_eq p.0 key) refl none (found-inserted ps key to other)
-  where
-    Rest : Type 0
-    Rest = found ps key ≡ None → found (inserted ps key to) other ≡ cond (nat_eq key other) (Some to) (found ps other)
-
-    behind : (b : Bool) → nat_eq p.0 other ≡ b → nat_eq p.0 key ≡ false → found ps key ≡ None → Rest
-        → cond b (Some p.1) (found (inserted ps key to) other) ≡ cond (nat_eq key other) (Some to) (cond b (Some p.1) (found ps other))
-    behind true here ne rest later = ap (λ (b : Bool). cond b (Some to) (Some p.1)) (sym (ne_eqb key other (λ e. false≢true (sym ne ∙ eq-eqb p.0 key (eqb-true p.0 other here ∙ sym e)))))
-    behind false there ne rest later = later rest
-
-    in_front : (first same : Bool) → nat_eq p.0 key ≡ same → cond same (Some p.1) (found ps key) ≡ None → Rest
-        → found (cond first (let q : Pair = (key, to) in q ∷ p ∷ ps) (p ∷ inserted ps key to)) other ≡ cond (nat_eq key other) (Some to) (cond (nat_eq p.0 other) (Some p.1) (found ps other))
-    in_front first true is none later = absurd (cc)
-    in_front true false ne none later = refl
-    in_front false false ne none later = behind (nat_eq p.0 other) refl ne none later
 
 -- the index that has these keys, in this data
 abbrev index_with : List ℕ → Keys → Index
-index_with bytes keys = record { slot_of = found keys.pairs; next_slot = keys.next_slot; next_page = keys.next_page; level = keys.level; bytes = bytes }
+index_with bytes keys = record { slot_of = keys.slot_of; due = keys.due; used_slots = keys.used_slots; used_pages = keys.used_pages; next_page = keys.next_page; level = keys.levels 0; bytes = bytes }
 
 -- the call inserts no key
 abbrev pub InsertsNone : Keys → Call → Type 0
-InsertsNone keys (Put key value) = IsSome (found keys.pairs key)
+InsertsNone keys (Put key value) = IsSome (keys.slot_of key)
 InsertsNone keys call = Unit {0}
 
 module _ (shape : Shape) (a b : List ℕ) (old new : Keys) (within : IsWithin shape new) where
@@ -66,23 +46,23 @@ module _ (shape : Shape) (a b : List ℕ) (old new : Keys) (within : IsWithin sh
   both keys bytes = λ i. index_with (bytes i) (keys i)
 
   takes : table.TakesPages old new → TakesPages (limits_of shape) (index_with a old) (index_with b new)
-  takes t = record { later = t.later; few = t.few; most = within.pages; levels = t.levels }
+  takes t = record { later = t.later; few = t.few; most = within.pages; used = t.used; levels = t.levels 0 }
 
   keeps : table.KeepsKeys old new → KeepsKeys (index_with a old) (index_with b new)
-  keeps k = record { slot_of = ap found k.pairs; slots = k.slots }
+  keeps k = record { slot_of = k.slot_of; slots = k.slots; due = k.due }
 
-  gains : (key : ℕ) → found old.pairs key ≡ None → table.GainsKey key old new → GainsKey (limits_of shape) key (index_with a old) (index_with b new)
-  gains key none g = record {
+  gains : (key : ℕ) → table.GainsKey key old new → GainsKey (limits_of shape) key (index_with a old) (index_with b new)
+  gains key g = record {
     left = omega (arith, g.slots, within.slots);
-    slot_of = ap found g.pairs ∙ (λ i q. found-inserted old.pairs key old.next_slot q none i);
+    slot_of = g.slot_of;
     slots = g.slots;
   }
 
-  refused_at : (T : Type 0) (key : ℕ) (o : Option ℕ) → found old.pairs key ≡ o → (IsSome o → b ≡ a) → (f : TableFault) → (let r : Result T TableFault = Err f in IsFalse (is_failed r))
-      → (let r : Result T TableFault = Err f in IndexedAt key o old new r) → IndexesAt (limits_of shape) key o (reply_to f) (index_with a old) (index_with b new)
+  refused_at : (T : Type 0) (key : ℕ) (o : Option ℕ) → old.slot_of key ≡ o → (IsSome o → b ≡ a) → (f : TableFault) → (let r : Result T TableFault = Err f in IsFalse (is_failed r))
+      → (let r : Result T TableFault = Err f in IndexedAt 0 key o old new r) → IndexesAt (limits_of shape) key o (reply_to f) (index_with a old) (index_with b new)
   refused_at T key (Some slot) is quiet f well same = both same (quiet refl)
   refused_at T key None is quiet (LogFull g h n) well (t, inl k) = (takes t, inl (keeps k))
-  refused_at T key None is quiet (LogFull g h n) well (t, inr k) = (takes t, inr (gains key is k))
+  refused_at T key None is quiet (LogFull g h n) well (t, inr k) = (takes t, inr (gains key k))
   refused_at T key None is quiet (PagesFull n) well (t, k, most) = (takes t, keeps k, most)
   refused_at T key None is quiet (SlotsFull n) well (t, k) = (takes t, keeps k)
   refused_at T key None is quiet SavesFull well (t, k) = (takes t, keeps k)
@@ -91,15 +71,15 @@ module _ (shape : Shape) (a b : List ℕ) (old new : Keys) (within : IsWithin sh
   refused_at T key None is quiet (Damaged page) well (t, k) = (takes t, keeps k)
   refused_at T key None is quiet NoMemory well (t, k) = (takes t, keeps k)
 
-  granted_at : {T : Type 0} (key : ℕ) (o : Option ℕ) → found old.pairs key ≡ o → (IsSome o → b ≡ a) → (answer : T)
-      → (let r : Result T TableFault = Ok answer in IndexedAt key o old new r) → IndexesAt (limits_of shape) key o Fine (index_with a old) (index_with b new)
+  granted_at : {T : Type 0} (key : ℕ) (o : Option ℕ) → old.slot_of key ≡ o → (IsSome o → b ≡ a) → (answer : T)
+      → (let r : Result T TableFault = Ok answer in IndexedAt 0 key o old new r) → IndexesAt (limits_of shape) key o Fine (index_with a old) (index_with b new)
   granted_at key (Some slot) is quiet answer same = both same (quiet refl)
-  granted_at key None is quiet answer (t, k) = (takes t, gains key is k)
+  granted_at key None is quiet answer (t, k) = (takes t, gains key k)
 
   -- a refusal
   pub indexes_refused : (T : Type 0) (call : Call) (f : TableFault) → IsOfTable call → (InsertsNone old call → b ≡ a) → (let r : Result T TableFault = Err f in IsFalse (is_failed r))
-      → (let r : Result T TableFault = Err f in Indexed call old new r) → Indexes (limits_of shape) call (reply_to f) (index_with a old) (index_with b new)
-  indexes_refused T (Put key value) f of quiet well indexed = refused_at T key (found old.pairs key) refl quiet f well indexed
+      → (let r : Result T TableFault = Err f in Indexed 0 call old new r) → Indexes (limits_of shape) call (reply_to f) (index_with a old) (index_with b new)
+  indexes_refused T (Put key value) f of quiet well indexed = refused_at T key (old.slot_of key) refl quiet f well indexed
   indexes_refused T (Get key) f of quiet well same = both same (quiet tt)
   indexes_refused T (Del key) f of quiet well same = both same (quiet tt)
   indexes_refused T (Scan low high) f of quiet well same = both same (quiet tt)
@@ -111,9 +91,9 @@ module _ (shape : Shape) (a b : List ℕ) (old new : Keys) (within : IsWithin sh
 
   -- a granted call
   pub indexes_granted : {T : Type 0} (call : Call) (answer : T) (told : Reply) → IsOfTable call → (InsertsNone old call → b ≡ a) → ((key : ℕ) (value : List ℕ) → call ≡ Put key value → told ≡ Fine)
-      → (let r : Result T TableFault = Ok answer in Indexed call old new r) → Indexes (limits_of shape) call told (index_with a old) (index_with b new)
+      → (let r : Result T TableFault = Ok answer in Indexed 0 call old new r) → Indexes (limits_of shape) call told (index_with a old) (index_with b new)
   indexes_granted (Put key value) answer told of quiet fine indexed =
-      subst (λ (r : Reply). IndexesAt (limits_of shape) key (found old.pairs key) r (index_with a old) (index_with b new)) (sym (fine key value refl)) (granted_at key (found old.pairs key) refl quiet answer indexed)
+      subst (λ (r : Reply). IndexesAt (limits_of shape) key (old.slot_of key) r (index_with a old) (index_with b new)) (sym (fine key value refl)) (granted_at key (old.slot_of key) refl quiet answer indexed)
   indexes_granted (Get key) answer told of quiet fine same = both same (quiet tt)
   indexes_granted (Del key) answer told of quiet fine same = both same (quiet tt)
   indexes_granted (Scan low high) answer told of quiet fine same = both same (quiet tt)
@@ -156,8 +136,8 @@ pub indexes_slots : (limits : Limits) (call : Call) (answer : Reply) (old new : 
 indexes_slots limits (Put key value) answer old new indexes = at_slots limits key (old.slot_of key) answer old new refl indexes
 indexes_slots limits _ answer old new same = inl (ap (λ (x : Index). x.slot_of) same)
 
--- after a granted put the index has the key, with the slot that it had or the next one
+-- after a granted put the index has the key, with the slot that it had or the one that was due
 pub slot_after : (limits : Limits) (key : ℕ) (o : Option ℕ) (old new : Index) → old.slot_of key ≡ o → IndexesAt limits key o Fine old new
-    → (slot : ℕ) × (new.slot_of key ≡ Some slot) × (slot ≡ unwrap_or o old.next_slot)
-slot_after limits key None old new is (t, k) = (old.next_slot, ap (λ (f : ℕ → Option ℕ). f key) k.slot_of ∙ update_here old.slot_of key (Some old.next_slot), refl)
+    → (slot : ℕ) × (new.slot_of key ≡ Some slot) × (slot ≡ unwrap_or o old.due)
+slot_after limits key None old new is (t, k) = (old.due, ap (λ (f : ℕ → Option ℕ). f key) k.slot_of ∙ update_here old.slot_of key (Some old.due), refl)
 slot_after limits key (Some slot) old new is same = (slot, ap (λ (x : Index). x.slot_of key) same ∙ is, refl)

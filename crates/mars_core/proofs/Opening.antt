@@ -18,7 +18,7 @@ use Rattle.history.specs.declared.transaction.Done.{Done}
 use Rattle.history.proofs.Tables.{same_table}
 use Rattle.record_table.specs.State.{TableState, seen_by}
 use Rattle.record_table.specs.Does.{OpensWith, is_failed}
-use Rattle.record_table.specs.Shown.{state_of, keys_of, table_in}
+use Rattle.record_table.specs.Shown.{state_of, pairs_of, keys_of, table_in}
 use Rattle.record_table.specs.Shown as shown
 use Rattle.record_table.specs.Sought.{LooksAs}
 use Rattle.record_table.specs.declared.fault.TableFault.{TableFault}
@@ -67,9 +67,9 @@ none_above low high (p ∷ ps) q rises le =
     last low high (p ∷ ps) rises = omega (arith, rises.0, last (suc p.0) high ps rises.1)
 
 -- the records of a sound index have no key above the largest u64
-pub no_key_above : (index : below.Index) (bytes : List ℕ) → Rise 0 (2 ^ 64) (index.pairs bytes 1) → (q : ℕ) → 2 ^ 64 - 1 < q → get (shown.table_of index bytes) q ≡ None
+pub no_key_above : (index : below.Index) (bytes : List ℕ) → Rise 0 (2 ^ 64) (pairs_of index bytes) → (q : ℕ) → 2 ^ 64 - 1 < q → get (shown.table_of index bytes) q ≡ None
 unfolding shown.table_of
-no_key_above index bytes rises q lt = get-table_in bytes (index.pairs bytes 1) q ∙ ap (record_at bytes) (none_above 0 (2 ^ 64) (index.pairs bytes 1) q rises (omega (arith, lt)))
+no_key_above index bytes rises q lt = get-table_in bytes (pairs_of index bytes) q ∙ ap (record_at bytes) (none_above 0 (2 ^ 64) (pairs_of index bytes) q rises (omega (arith, lt)))
 
 -- a scan at the opening that was refused
 pub scan_gives_back : (tells : Bool) (Opens : List ℕ → List ℕ → Type 0) (t : ℕ) (p q : PagesView) → IsAlive p.store → (T : Type 0) (f : TableFault) → (let r : Result T TableFault = Err f in LooksAs tells Opens t (is_failed r) p q)
@@ -85,7 +85,7 @@ no_log : (new : State) → ((t : ℕ) → new.live t ≡ None) → (t : ℕ) →
 no_log new idle t = ap (λ (o : Option Granted). unwrap_or o []) (idle t)
 
 -- A core over records to which nobody has written, with the rows of a scan.
-module _ (tells : Bool) (Opens : Shape → List ℕ → List ℕ → Type 0) (index : below.Index) (p q : PagesView) (new_laws : StoreLaws tells Opens q.store) (rises : index.sound p.store.state.bytes → Rise 0 (2 ^ 64) (index.pairs p.store.state.bytes 1))
+module _ (tells : Bool) (Opens : Shape → List ℕ → List ℕ → Type 0) (index : below.Index) (p q : PagesView) (new_laws : StoreLaws tells Opens q.store) (rises : index.sound p.store.state.bytes → Rise 0 (2 ^ 64) (pairs_of index p.store.state.bytes))
     (alive : IsAlive p.store) (sound : IsTrue tells → index.sound p.store.state.bytes) (idle : IsTrue tells → (t : ℕ) → ((state_of index p).logs t).writes ≡ []) (unsaved : IsTrue tells → (t : ℕ) → ((state_of index p).logs t).saved ≡ [])
     (looks : LooksAs tells (Opens p.store.shape) 0 false p q) (same : IsTrue tells → state_of index q ≡ state_of index p) (rows : List (ℕ × List ℕ)) (scanned : IsTrue tells → rows ≡ rows_within 0 (2 ^ 64 - 1) (seen_by (state_of index p) 0))
     (seats : Seats) (count : length seats ≡ p.store.shape.numbers) (none : (t : ℕ) → live_in seats t ≡ None) (history : List Done) (empty : history ≡ []) (doubt : List Done) (sure : doubt ≡ []) where

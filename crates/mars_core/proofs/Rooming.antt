@@ -10,7 +10,7 @@ use Rattle.page_store.specs.Index.{slots_of}
 use Rattle.page_store.specs.Index as below
 use Rattle.page_store.specs.Pairs.{Pair, found}
 use Rattle.page_store.specs.Shown.{PagesView}
-use Rattle.record_slots.specs.Places.{next_slot}
+use Rattle.record_slots.specs.Places.{used_slots, slot_due}
 use Rattle.history.specs.Writes.{Table, Write}
 use Rattle.history.specs.Table.{IsRight}
 use Rattle.history.specs.Log.{Log, log_of, log_after, save_at}
@@ -21,7 +21,7 @@ use Rattle.history.specs.declared.call.Reply.TheVariants.{Fine}
 use Rattle.history.specs.declared.call.Reply.TheVariants as reply
 use Rattle.history.proofs.Counting.{length-filter-rewritten, length-filter-anew}
 use Rattle.record_table.specs.Causes as table_causes
-use Rattle.record_table.specs.Shown.{state_of, keys_of, logger_of_slot, needed_on}
+use Rattle.record_table.specs.Shown.{state_of, pairs_of, keys_of, logger_of_slot, needed_on}
 use Rattle.record_table.specs.Shown as shown
 use Rattle.caller_steps.specs.State.{State, Index, calls_of, records_of}
 use Rattle.caller_steps.specs.Room.{Limits, is_slot_on, is_write_on, held_on, HasEntry, slot_for, IsSeen, Fits, IsFull, LacksAt, Lacks}
@@ -40,12 +40,12 @@ named_is index pairs (write ∷ writes) same named = (subst (λ (o : Option ℕ)
 
 -- A state s over what pages show, whose index is that of the data.
 module _ (index : below.Index) (p : PagesView) (s : State) (indexed : s.index ≡ index_of index p.store.state.bytes) (mirrors : Mirrors (state_of index p) s)
-    (held : (t g : ℕ) → shown.held_on p t g ≡ length (filter (shown.is_write_on p.store.shape (index.pairs p.store.state.bytes 1) g) ((state_of index p).logs t).writes)) where
+    (held : (t g : ℕ) → shown.held_on p t g ≡ length (filter (shown.is_write_on p.store.shape (pairs_of index p.store.state.bytes) g) ((state_of index p).logs t).writes)) where
   -- what a logger holds
   pub held_is : (t g : ℕ) → held_on (limits_of p.store.shape) s t g ≡ shown.held_on p t g
   held_is t g =
       ap (λ (ix : Index). length (filter (is_write_on (limits_of p.store.shape) ix g) (log_of (calls_of s t)).writes)) indexed
-      ∙ (λ i. length (filter (λ (write : Write). same_slot_on p.store.shape g (found (index.pairs p.store.state.bytes 1) write.0) i) (sym (mirrors.logs t) i).writes))
+      ∙ (λ i. length (filter (λ (write : Write). same_slot_on p.store.shape g (found (pairs_of index p.store.state.bytes) write.0) i) (sym (mirrors.logs t) i).writes))
       ∙ sym (held t g)
 
   anew_is : (t key : ℕ) → log.is_rewritten (log_of (calls_of s t)) key ≡ table_causes.rewrites index p t key
@@ -68,19 +68,19 @@ module _ (index : below.Index) (p : PagesView) (s : State) (indexed : s.index �
     seen_from : (key : ℕ) → IsSeen s t key → table_causes.IsSeen index p t key
     seen_from key = subst (λ (table : Table). IsSome (get table key)) (sym (seen_is (state_of index p) s mirrors t right))
 
-    put_fits : (key : ℕ) (o : Option ℕ) → table_causes.PutFits index t key p o → HasEntry (limits_of p.store.shape) s t key (unwrap_or o (next_slot p.store.state.bytes))
-    put_fits key None fits = has_entry t key (next_slot p.store.state.bytes) fits.1
+    put_fits : (key : ℕ) (o : Option ℕ) → table_causes.PutFits index 0 t key p o → HasEntry (limits_of p.store.shape) s t key (unwrap_or o (slot_due p.store.state.bytes))
+    put_fits key None fits = has_entry t key (slot_due p.store.state.bytes) fits.1
     put_fits key (Some slot) room = has_entry t key slot room
 
-    slot_is : (key : ℕ) → unwrap_or (found (index.pairs p.store.state.bytes 1) key) (next_slot p.store.state.bytes) ≡ slot_for s.index key
+    slot_is : (key : ℕ) → unwrap_or (found (pairs_of index p.store.state.bytes) key) (slot_due p.store.state.bytes) ≡ slot_for s.index key
     slot_is key = sym (ap (λ (ix : Index). slot_for ix key) indexed)
 
-    pub fits_is : (call : Call) → IsOfTable call → table_causes.Fits index p t call → Fits (limits_of p.store.shape) s t call
-    fits_is (Put key value) of fits = subst (λ (slot : ℕ). HasEntry (limits_of p.store.shape) s t key slot) (slot_is key) (put_fits key (found (index.pairs p.store.state.bytes 1) key) fits)
+    pub fits_is : (call : Call) → IsOfTable call → table_causes.Fits index 0 p t call → Fits (limits_of p.store.shape) s t call
+    fits_is (Put key value) of fits = subst (λ (slot : ℕ). HasEntry (limits_of p.store.shape) s t key slot) (slot_is key) (put_fits key (found (pairs_of index p.store.state.bytes) key) fits)
     fits_is (Del key) of fits = λ seen_there.
         let at = fits (seen_from key seen_there) in
         subst (λ (slot : ℕ). HasEntry (limits_of p.store.shape) s t key slot)
-        (sym (ap (λ (o : Option ℕ). unwrap_or o (next_slot p.store.state.bytes)) at.1) ∙ slot_is key) (has_entry t key at.0 at.2)
+        (sym (ap (λ (o : Option ℕ). unwrap_or o (slot_due p.store.state.bytes)) at.1) ∙ slot_is key) (has_entry t key at.0 at.2)
     fits_is (Get key) of fits = tt
     fits_is (Scan low high) of fits = tt
     fits_is Save of fits = tt
@@ -123,24 +123,24 @@ module _ (index : below.Index) (p : PagesView) (s : State) (indexed : s.index �
               )
 
       -- a slot is left
-      slot_left : next_slot p.store.state.bytes < slots_of p.store.shape → s.index.next_slot < (limits_of p.store.shape).slots
-      slot_left left = subst (λ (ix : Index). ix.next_slot < slots_of p.store.shape) (sym indexed) left
+      slot_left : used_slots p.store.state.bytes < slots_of p.store.shape → s.index.used_slots < (limits_of p.store.shape).slots
+      slot_left left = subst (λ (ix : Index). ix.used_slots < slots_of p.store.shape) (sym indexed) left
 
-      put_lacks : (key g h n : ℕ) (o : Option ℕ) → table_causes.PutLacks index t key p g h n o → table_causes.IsShort p t g h n → LacksAt (limits_of p.store.shape) s t key o (reply.LogFull g h n)
+      put_lacks : (key g h n : ℕ) (o : Option ℕ) → table_causes.PutLacks index 0 t key p g h n o → table_causes.IsShort p t g h n → LacksAt (limits_of p.store.shape) s t key o (reply.LogFull g h n)
       put_lacks key g h n None lacks short = (left lacks, full_is g h n short)
         where
-          left : table_causes.PutLacks index t key p g h n None → s.index.next_slot < (limits_of p.store.shape).slots
+          left : table_causes.PutLacks index 0 t key p g h n None → s.index.used_slots < (limits_of p.store.shape).slots
           left (inl comes) = slot_left comes.0
           left (inr (comes, full)) = slot_left comes.0
       put_lacks key g h n (Some slot) full short = slot_full key slot g h n full short
 
-      found_is : (key : ℕ) → found (index.pairs p.store.state.bytes 1) key ≡ s.index.slot_of key
+      found_is : (key : ℕ) → found (pairs_of index p.store.state.bytes) key ≡ s.index.slot_of key
       found_is key = sym (ap (λ (ix : Index). ix.slot_of key) indexed)
 
-      pub log_lacks : (call : Call) (g h n : ℕ) → IsOfTable call → table_causes.Lacks index p g h n t call → table_causes.MayLack p g h n t call
+      pub log_lacks : (call : Call) (g h n : ℕ) → IsOfTable call → table_causes.Lacks index 0 p g h n t call → table_causes.MayLack p g h n t call
           → Lacks (limits_of p.store.shape) s t call (reply.LogFull g h n)
       log_lacks (Put key value) g h n of lacks short = subst (λ (o : Option ℕ). LacksAt (limits_of p.store.shape) s t key o (reply.LogFull g h n)) (found_is key)
-          (put_lacks key g h n (found (index.pairs p.store.state.bytes 1) key) lacks short)
+          (put_lacks key g h n (found (pairs_of index p.store.state.bytes) key) lacks short)
       log_lacks (Del key) g h n of (seen_there, slot, at, full) short = (
         seen_to key seen_there,
         slot,
@@ -158,7 +158,7 @@ module _ (index : below.Index) (p : PagesView) (s : State) (indexed : s.index �
       pub slot_lacks : (call : Call) (n : ℕ) → IsOfTable call → table_causes.LacksSlot index p n call → n ≡ slots_of p.store.shape
           → Lacks (limits_of p.store.shape) s t call (reply.SlotsFull n)
       slot_lacks (Put key value) n of lacks most = subst (λ (o : Option ℕ). LacksAt (limits_of p.store.shape) s t key o (reply.SlotsFull n)) (sym lacks.0 ∙ found_is key)
-          (ap (λ (ix : Index). ix.next_slot) indexed ∙ lacks.1 ∙ most, most)
+          (ap (λ (ix : Index). ix.used_slots) indexed ∙ lacks.1 ∙ most, most)
       slot_lacks (Get key) n of lacks most = absurd lacks
       slot_lacks (Del key) n of lacks most = absurd lacks
       slot_lacks (Scan low high) n of lacks most = absurd lacks
@@ -168,7 +168,7 @@ module _ (index : below.Index) (p : PagesView) (s : State) (indexed : s.index �
       slot_lacks Abort n of lacks most = absurd lacks
       slot_lacks Begin n of lacks most = absurd lacks
 
-      pub page_lacks : (call : Call) (n : ℕ) → IsOfTable call → table_causes.LacksPage index p t call → n ≡ (limits_of p.store.shape).index_pages - 1
+      pub page_lacks : (call : Call) (n : ℕ) → IsOfTable call → table_causes.LacksPage index 0 p t call → n ≡ (limits_of p.store.shape).index_pages - 1
           → Lacks (limits_of p.store.shape) s t call (reply.PagesFull n)
       page_lacks (Put key value) n of lacks most = subst (λ (o : Option ℕ). LacksAt (limits_of p.store.shape) s t key o (reply.PagesFull n)) (sym lacks.0 ∙ found_is key) (slot_left lacks.1.0, most)
       page_lacks (Get key) n of lacks most = absurd lacks

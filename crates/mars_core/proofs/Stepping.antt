@@ -24,7 +24,7 @@ use Rattle.history.specs.declared.call.Reply.TheVariants as reply
 use Rattle.history.specs.declared.transaction.Done.{Done}
 use Rattle.record_table.specs.State.{seen_by}
 use Rattle.record_table.specs.Does.{OpensWith}
-use Rattle.record_table.specs.Shown.{state_of, keys_of, held_on, is_write_on}
+use Rattle.record_table.specs.Shown.{state_of, pairs_of, keys_of, held_on, is_write_on}
 use Rattle.record_table.specs.Shown as shown
 use Rattle.caller_steps.specs.State.{State, Index, calls_of, records_of, view_of}
 use Rattle.caller_steps.specs.Room.{Limits, HasEntry, IndexesAt, Indexes}
@@ -166,7 +166,7 @@ pub counts_is : (index : below.Index) (p : PagesView) (t : ℕ) → length ((sta
 counts_is index p t = length-map _ shown.writes_of ∙ length-map (p.counts t) _
 
 module _ (index : below.Index) (p : PagesView) (s : State) (shows : ShowsPages index p s) (mirrors : Mirrors (state_of index p) s)
-    (held : (t g : ℕ) → held_on p t g ≡ length (filter (is_write_on p.store.shape (index.pairs p.store.state.bytes 1) g) ((state_of index p).logs t).writes)) (t : ℕ) (right : IsRight (records_of s) (calls_of s t)) where
+    (held : (t g : ℕ) → held_on p t g ≡ length (filter (is_write_on p.store.shape (pairs_of index p.store.state.bytes) g) ((state_of index p).logs t).writes)) (t : ℕ) (right : IsRight (records_of s) (calls_of s t)) where
   -- the saves that a call finds are its caller's
   pub saves_at : (call : Call) → HasSaves (length ((state_of index p).logs t).saved) call → SavesAt s t call
   saves_at Save saves = subst (λ (n : ℕ). n < 32) (saves_are (state_of index p) s mirrors t right) saves
@@ -192,7 +192,7 @@ module _ (index : below.Index) (p : PagesView) (s : State) (shows : ShowsPages i
   returns_at calls at Begin saves = tt
 
   -- if a call writes, it finds an entry
-  pub enters_at : (call : Call) (answer : Reply) (ix : Index) → IsOfTable call → table_causes.Fits index p t call → Replies (state_of index p) t call answer
+  pub enters_at : (call : Call) (answer : Reply) (ix : Index) → IsOfTable call → table_causes.Fits index 0 p t call → Replies (state_of index p) t call answer
       → Indexes (limits_of p.store.shape) call answer s.index ix → Enters (limits_of p.store.shape) s t ix call answer
   enters_at (Put key value) answer ix of fits replies indexes =
       let after = slot_after (limits_of p.store.shape) key (s.index.slot_of key) s.index ix refl (subst (λ (r : Reply). IndexesAt (limits_of p.store.shape) key (s.index.slot_of key) r s.index ix) replies indexes) in

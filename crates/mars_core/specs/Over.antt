@@ -4,7 +4,6 @@ use Rattle.array_shape.specs.declared.shape.Shape.{Shape}
 use Rattle.eaw_face.specs.StoreView.{StoreView, LeavesOnly}
 use Rattle.eaw_face.specs.Causes.{IsAlive}
 use Rattle.page_store.specs.Index.{Index, slots_of, index_pages_of}
-use Rattle.page_store.specs.Pairs.{found}
 use Rattle.record_table.specs.Does.{OpensWith}
 use Rattle.record_table.specs.Shown.{table_of, keys_of, logger_of_slot}
 use Rattle.caller_steps.specs.State as face
@@ -16,9 +15,17 @@ use Rattle.caller_steps.specs.Core.{CoreView}
 abbrev pub limits_of : Shape → Limits
 limits_of shape = record { callers = shape.numbers; slots = slots_of shape; index_pages = index_pages_of shape; loggers = shape.loggers; entries = shape.entries; logger_of = logger_of_slot shape }
 
--- the index in the data, and the data, as callers see them
+-- the index of `main` in the data, and the data, as callers see them
 abbrev pub index_of : Index → List ℕ → face.Index
-index_of index bytes = let keys = keys_of index bytes in record { slot_of = found keys.pairs; next_slot = keys.next_slot; next_page = keys.next_page; level = keys.level; bytes = bytes }
+index_of index bytes = let keys = keys_of index bytes in record {
+  slot_of = keys.slot_of;
+  due = keys.due;
+  used_slots = keys.used_slots;
+  used_pages = keys.used_pages;
+  next_page = keys.next_page;
+  level = keys.levels 0;
+  bytes = bytes;
+}
 
 -- The core shows its store. While the store is not dead, its data is a sound index with the records of the history.
 pub record IsOver (tells : Bool) (Opens : List ℕ → List ℕ → Type 0) (index : Index) (store : StoreView) (core : CoreView) : Type 0 where

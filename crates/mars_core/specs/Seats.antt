@@ -25,4 +25,4 @@ pub record Seated (old : Seats) (caller : ℕ) (calls : Option Granted) (new : S
 
 -- a state with these live transactions and nothing else
 abbrev pub bare : Seats → State
-bare seats = record { base = empty; history = []; live = live_in seats; doubt = []; is_dead = false; index = record { slot_of = λ key. None; next_slot = 0; next_page = 0; level = 0; bytes = [] } }
+bare seats = record { base = empty; history = []; live = live_in seats; doubt = []; is_dead = false; index = record { slot_of = λ key. None; due = 0; used_slots = 0; used_pages = 0; next_page = 0; level = 0; bytes = [] } }

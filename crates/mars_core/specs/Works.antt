@@ -10,7 +10,7 @@ use Rattle.page_store.specs.Index.{Index}
 use Rattle.page_store.specs.Shown.{PagesView}
 use Rattle.record_table.specs.Does.{Does}
 use Rattle.record_table.specs.Faults.{reply_to}
-use Rattle.record_table.specs.Shown.{state_of, held_on, is_write_on, AreNamed}
+use Rattle.record_table.specs.Shown.{state_of, pairs_of, held_on, is_write_on, AreNamed}
 use Rattle.record_table.specs.declared.fault.TableFault.{TableFault}
 use Rattle.record_table.specs.declared.fault.TableFault.TheVariants.{Media}
 use Rattle.caller_steps.specs.Fate.{is_refusal, is_committed}
@@ -20,7 +20,7 @@ use Rattle.mars_core.specs.Seats.{Seats, bare}
 
 -- The records made the call as number t. A reply of theirs grants it, and only a call that uses the index meets a fault of the medium.
 pub record Works (tells : Bool) (Opens : List ℕ → List ℕ → Type 0) (index : Index) (t : ℕ) (call : Call) (old new : PagesView) (result : Result Reply TableFault) : Type 0 where
-  pub does : Does tells Opens index t call old new result
+  pub does : Does tells Opens index 0 t call old new result
   pub due : IsErrOf result Media → IsTrue (uses_index call)
   pub granted : IfOk result (λ answer. IsFalse (is_refusal answer))
   pub plain : IfOk result (λ answer. IsFalse (is_committed answer))
@@ -58,5 +58,5 @@ pub record Made (tells : Bool) (Opens : List ℕ → List ℕ → Type 0) (index
 -- what records show of the writes that numbers have not committed, while their store is not dead: how many each logger holds, and that the
 -- index has their keys
 pub record IsShown (tells : Bool) (index : Index) (old : PagesView) : Type 0 where
-  pub held : IsTrue tells → IsAlive old.store → (t g : ℕ) → held_on old t g ≡ length (filter (is_write_on old.store.shape (index.pairs old.store.state.bytes 1) g) ((state_of index old).logs t).writes)
-  pub named : IsTrue tells → IsAlive old.store → (t : ℕ) → AreNamed (index.pairs old.store.state.bytes 1) ((state_of index old).logs t).writes
+  pub held : IsTrue tells → IsAlive old.store → (t g : ℕ) → held_on old t g ≡ length (filter (is_write_on old.store.shape (pairs_of index old.store.state.bytes) g) ((state_of index old).logs t).writes)
+  pub named : IsTrue tells → IsAlive old.store → (t : ℕ) → AreNamed (pairs_of index old.store.state.bytes) ((state_of index old).logs t).writes

@@ -12,6 +12,9 @@ use Rattle.record_slots.specs.Places.{page_bytes, version_of, IsSuper}
 use Rattle.record_slots.specs.Super.{HasSuperMark, version_said, form_said, next_slot_said, next_page_said, part_bytes}
 use Rattle.record_table.specs.Shown.{table_of, table_in}
 use Rattle.index_pages.specs.Page.{kind_said, level_said, count_said, link_said}
+use Rattle.record_table.proofs.Sharing.{main_pairs}
+use Rattle.btree_pages.specs.Index.{tree}
+use Rattle.btree_pages.specs.Trees.{trees_count}
 use Rattle.btree_pages.proofs.Fresh.{fresh_trees}
 use Rattle.mars_shell.specs.Formats.{HasNone}
 
@@ -58,4 +61,4 @@ module _ (shape : Shape) (bytes : List ℕ) (pages : HasPages shape (page_count 
   fresh_none =
       let here = has_page 1 (omega arith) in
       let fresh = fresh_trees (data_of shape bytes) front first (ap kind_said here ∙ root_fresh.0) (ap level_said here ∙ root_fresh.1) (ap link_said here ∙ root_fresh.2) (ap count_said here ∙ root_fresh.3) in
-      record { sound = fresh.0; none = ap (λ (pairs : List Pair). table_in (data_of shape bytes) pairs) fresh.1 }
+      record { sound = fresh.0; none = ap (λ (pairs : List Pair). table_in (data_of shape bytes) pairs) (main_pairs tree (data_of shape bytes) (trees_count (data_of shape bytes) fresh.0).main ∙ fresh.1) }

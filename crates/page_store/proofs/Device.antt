@@ -7,11 +7,12 @@ use Rattle.array_shape.specs.Places.{IsPlaced}
 use Rattle.array_shape.specs.Logged.{Part, applied, ranges_of}
 use Rattle.array_shape.proofs.WriteParts.{one_write_part}
 use Rattle.eaw_face.specs.State.{Logs, State, listed, with_log}
+use Rattle.eaw_face.specs.Command as store
 use Rattle.eaw_face.specs.Command.{Command, commit, commit_group, abort, nested_top, partial_abort, ranges_after}
 use Rattle.eaw_face.proofs.Groups.{group_live, each_live}
 use Rattle.page_store.specs.Edit.{edit_pos, written_at}
 use Rattle.page_store.specs.State.{PagesState, log_of, save_at, floor_of}
-use Rattle.page_store.specs.Command.{PageCommand, write_as, save, back, top_begin, top_end, end, end_group, read_as, read, after}
+use Rattle.page_store.specs.Command.{PageCommand, write_as, save, back, top_begin, top_end, end, end_group, atomic_write, read_as, read, after}
 use Rattle.page_store.specs.Device.{write_of, device, done, ranges_done}
 use Rattle.page_store.specs.Outline.{Outline, outline, count_at, floor_in, outline_after}
 use Rattle.page_store.proofs.Outline.{floors, counted, listed-ranges, length-lengths}
@@ -28,6 +29,7 @@ device_in (top_begin t) s = None
 device_in (top_end t mark) s = option_map (λ log. nested_top t mark) (s.store.logs t)
 device_in (end t commits) s = option_map (λ log. cond commits (commit t) (abort t)) (s.store.logs t)
 device_in (end_group ts) s = Some (commit_group (filter (λ t. is_some (s.store.logs t)) ts))
+device_in (atomic_write t addr bytes) s = Some (store.atomic_write t addr bytes)
 device_in (read_as t) s = None
 device_in read s = None
 
@@ -70,6 +72,7 @@ does shape (top_begin t) s kept allowed = refl
 does shape (top_end t mark) s kept allowed = top_done s.store t mark (s.store.logs t) refl
 does shape (end t commits) s kept allowed = end_done s.store t commits (s.store.logs t) refl
 does shape (end_group ts) s kept allowed = λ i. record { bytes = applied (sym (group_live s.store.logs ts) i) s.store.bytes; logs = sym (each_live s.store.logs ts) i }
+does shape (atomic_write t addr bytes) s kept allowed = refl
 does shape (read_as t) s kept allowed = refl
 does shape read s kept allowed = refl
 
@@ -92,6 +95,7 @@ device_seen (top_begin t) s = refl
 device_seen (top_end t mark) s = seen_live (s.store.logs t) (nested_top t mark)
 device_seen (end t commits) s = seen_live (s.store.logs t) (cond commits (commit t) (abort t))
 device_seen (end_group ts) s = ap (λ (p : ℕ → Bool). Some (commit_group (filter p ts))) (λ i t. is_some_map (s.store.logs t) i)
+device_seen (atomic_write t addr bytes) s = refl
 device_seen (read_as t) s = refl
 device_seen read s = refl
 
@@ -124,5 +128,6 @@ device_does_ranges shape (top_end t mark) o allowed = ranges_map o.ranges t (tak
 device_does_ranges shape (end t true) o allowed = ranges_end o.ranges t (commit t) refl (o.ranges t) refl
 device_does_ranges shape (end t false) o allowed = ranges_end o.ranges t (abort t) refl (o.ranges t) refl
 device_does_ranges shape (end_group ts) o allowed = sym (each_live o.ranges ts)
+device_does_ranges shape (atomic_write t addr bytes) o allowed = refl
 device_does_ranges shape (read_as t) o allowed = refl
 device_does_ranges shape read o allowed = refl

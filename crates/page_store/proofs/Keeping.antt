@@ -7,12 +7,13 @@ use Rattle.std.proofs.lemmas.List.{get_or_append_left, get_or_push, get_or_past,
 use Rattle.array_shape.specs.declared.shape.Shape.{Shape}
 use Rattle.array_shape.specs.Places.{IsPlaced}
 use Rattle.array_shape.specs.Logged.{Part, AllPlaced, AllFit}
+use Rattle.mars_base.proofs.Puts.{length-put}
 use Rattle.array_image.proofs.Applied.{length-applied}
 use Rattle.eaw_face.specs.State.{listed, group_log}
 use Rattle.eaw_face.proofs.Groups.{with_each_two}
 use Rattle.page_store.specs.Edit.{with_write}
 use Rattle.page_store.specs.State.{PagesState, log_of, save_at, floor_of}
-use Rattle.page_store.specs.Command.{PageCommand, write_as, save, back, top_begin, top_end, end, end_group, read_as, read, after}
+use Rattle.page_store.specs.Command.{PageCommand, write_as, save, back, top_begin, top_end, end, end_group, atomic_write, read_as, read, after}
 use Rattle.page_store.specs.Kept.{IsFront, IsKeptOf, IsKept, IsAllowed}
 use Rattle.page_store.proofs.Writes.{take-none, write_front, write_placed, write_longer}
 use Rattle.page_store.specs.Outline.{outline}
@@ -189,6 +190,10 @@ module _ (shape : Shape) (s : PagesState) (kept : IsKept shape s) where
   kept_after (end_group ts) allowed = record {
     long = length-applied (group_log s.store.logs ts) s.store.bytes (group_fits ts) ∙ kept.long;
     each = with_each_two (λ u o saved. IsKeptOf shape saved (s.top u) (listed o)) s.store.logs s.saved ts None [] (λ u is. kept_none shape (s.top u) (allowed u is)) kept.each;
+  }
+  kept_after (atomic_write t addr bytes) allowed = record {
+    long = length-put s.store.bytes addr bytes (omega (arith, allowed.inside, kept.long)) ∙ kept.long;
+    each = kept.each;
   }
   kept_after (read_as t) allowed = kept
   kept_after read allowed = kept

@@ -10,7 +10,7 @@ use Rattle.eaw_face.specs.State.{listed}
 use Rattle.eaw_face.specs.Command.{Command, commit, commit_group, abort, nested_top, partial_abort}
 use Rattle.eaw_face.proofs.Groups.{with_each_two, passes_in}
 use Rattle.page_store.specs.Edit.{edit_pos, with_range}
-use Rattle.page_store.specs.Command.{PageCommand, write_as, save, back, top_begin, top_end, end, end_group, read_as, read}
+use Rattle.page_store.specs.Command.{PageCommand, write_as, save, back, top_begin, top_end, end, end_group, atomic_write, read_as, read}
 use Rattle.page_store.specs.Outline.{Outline, count_at, floor_in, outline_after}
 use Rattle.page_store.specs.Device.{write_of, device}
 use Rattle.page_store.specs.Ready.{IsReady}
@@ -105,6 +105,7 @@ module _ (shape : Shape) (o : Outline) (kept : IsOrdered o) where
       (subst (IsOrderedOf (o.counts t) None) (sym (cut_length mark (o.ranges t) (mark_within (o.counts t) (o.top t) (now t) (kept t) mark is))) (ordered_top (o.counts t) (o.top t) (now t) (kept t) mark is)) kept
   ordered_after (end t commits) none = with_two (λ u ranges counts. IsOrderedOf counts (o.top u) (length (listed ranges))) o.ranges o.counts t None [] (ordered_none (o.top t) none) kept
   ordered_after (end_group ts) allowed = with_each_two (λ u ranges counts. IsOrderedOf counts (o.top u) (length (listed ranges))) o.ranges o.counts ts None [] (λ u is. ordered_none (o.top u) (allowed u is)) kept
+  ordered_after (atomic_write t addr bytes) allowed = kept
   ordered_after (read_as t) allowed = kept
   ordered_after read allowed = kept
 
@@ -131,5 +132,6 @@ module _ (shape : Shape) (o : Outline) (kept : IsOrdered o) where
   device_ready (end t true) allowed = if_some (o.ranges t) (commit t) (λ live. live)
   device_ready (end t false) allowed = if_some (o.ranges t) (abort t) (λ live. live)
   device_ready (end_group ts) allowed = λ t is. passes_in (λ u. is_some (o.ranges u)) ts t is
+  device_ready (atomic_write t addr bytes) allowed = allowed
   device_ready (read_as t) allowed = tt
   device_ready read allowed = tt

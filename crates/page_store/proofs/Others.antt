@@ -5,7 +5,7 @@ use Rattle.std.specs.Option.{option_map}
 use Rattle.eaw_face.specs.State.{listed}
 use Rattle.page_store.specs.Edit.{with_write}
 use Rattle.page_store.specs.State.{PagesState, log_of, with_one, save_at, floor_of}
-use Rattle.page_store.specs.Command.{PageCommand, write_as, save, back, top_begin, top_end, end, end_group, read_as, read, after, WorksFor, IsQuiet}
+use Rattle.page_store.specs.Command.{PageCommand, write_as, save, back, top_begin, top_end, end, end_group, atomic_write, read_as, read, after, WorksFor, IsQuiet}
 use Rattle.eaw_face.proofs.Others.{with_each_other}
 use Rattle.page_store.proofs.Numbers.{with_there}
 
@@ -18,6 +18,7 @@ data_stays (top_end t mark) s quiet = absurd quiet
 data_stays (end t true) s quiet = cc
 data_stays (end t false) s quiet = refl
 data_stays (end_group ts) s quiet = absurd quiet
+data_stays (atomic_write t addr bytes) s quiet = absurd quiet
 data_stays (read_as t) s quiet = refl
 data_stays read s quiet = refl
 
@@ -34,6 +35,7 @@ module _ (s : PagesState) (u : ℕ) where
   others_parts (top_end t mark) other = ap listed (there s.store.logs t (option_map (take mark) (s.store.logs t)) other)
   others_parts (end t commits) other = ap listed (there s.store.logs t None other)
   others_parts (end_group ts) other = ap listed (with_each_other s.store.logs ts None u other)
+  others_parts (atomic_write t addr bytes) other = refl
   others_parts (read_as t) other = refl
   others_parts read other = refl
 
@@ -45,6 +47,7 @@ module _ (s : PagesState) (u : ℕ) where
   others_saves (top_end t mark) other = refl
   others_saves (end t commits) other = there s.saved t [] other
   others_saves (end_group ts) other = with_each_other s.saved ts [] u other
+  others_saves (atomic_write t addr bytes) other = refl
   others_saves (read_as t) other = refl
   others_saves read other = refl
 
@@ -56,5 +59,6 @@ module _ (s : PagesState) (u : ℕ) where
   others_tops (top_end t mark) other = there s.top t None other
   others_tops (end t commits) other = refl
   others_tops (end_group ts) other = refl
+  others_tops (atomic_write t addr bytes) other = refl
   others_tops (read_as t) other = refl
   others_tops read other = refl

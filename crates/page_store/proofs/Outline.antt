@@ -9,7 +9,7 @@ use Rattle.eaw_face.specs.State.{listed}
 use Rattle.eaw_face.proofs.Groups.{with_each_over}
 use Rattle.page_store.specs.Edit.{with_write, with_range}
 use Rattle.page_store.specs.State.{PagesState, log_of, with_one, save_at, floor_of}
-use Rattle.page_store.specs.Command.{PageCommand, write_as, save, back, top_begin, top_end, end, end_group, read_as, read, after}
+use Rattle.page_store.specs.Command.{PageCommand, write_as, save, back, top_begin, top_end, end, end_group, atomic_write, read_as, read, after}
 use Rattle.page_store.specs.Kept.{IsFront, IsKept, IsAllowed}
 use Rattle.page_store.specs.Outline.{outline, count_at, floor_in, outline_after}
 use Rattle.page_store.proofs.Exact.{write_ranges}
@@ -105,5 +105,6 @@ outline_does shape (end_group ts) s kept allowed = λ i. record {
   counts = with_each_over (map length) s.saved ts [] [] refl i;
   top = s.top;
 }
+outline_does shape (atomic_write t addr bytes) s kept allowed = refl
 outline_does shape (read_as t) s kept allowed = refl
 outline_does shape read s kept allowed = refl

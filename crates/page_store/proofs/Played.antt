@@ -7,7 +7,7 @@ use Rattle.array_shape.specs.declared.shape.Shape.{Shape}
 use Rattle.array_shape.specs.Places.{data_len}
 use Rattle.array_shape.specs.Logged.{Part, applied}
 use Rattle.page_store.specs.State.{PagesState, log_of, view_of, with_one, save_at}
-use Rattle.page_store.specs.Command.{PageCommand, write_as, save, back, top_begin, top_end, end, end_group, read_as, read, after}
+use Rattle.page_store.specs.Command.{PageCommand, write_as, save, back, top_begin, top_end, end, end_group, atomic_write, read_as, read, after}
 use Rattle.page_store.specs.Kept.{IsKept, Spares}
 use Rattle.page_store.specs.Played.{fresh, played, AreAllowed, AllSpare}
 use Rattle.page_store.proofs.Numbers.{with_here, with_there}
@@ -36,6 +36,7 @@ saves_enough (top_begin u) s t n le spares = le
 saves_enough (top_end u mark) s t n le spares = le
 saves_enough (end u commits) s t n le spares = same_count s u t n [] (λ is. absurd (spares is)) le
 saves_enough (end_group us) s t n le spares = omega (arith, le, ap (λ (b : Bool). length (cond b [] (s.saved t))) spares)
+saves_enough (atomic_write u addr bytes) s t n le spares = le
 saves_enough (read_as u) s t n le spares = le
 saves_enough read s t n le spares = le
 

@@ -13,7 +13,7 @@ use Rattle.array_image.proofs.Data.{all_fit}
 use Rattle.eaw_face.specs.State.{listed, with_log}
 use Rattle.page_store.specs.Edit.{AreApart, with_write}
 use Rattle.page_store.specs.State.{PagesState, log_of, view_of, with_one, save_at, floor_of}
-use Rattle.page_store.specs.Command.{PageCommand, write_as, save, back, top_begin, top_end, end, end_group, read_as, read, after}
+use Rattle.page_store.specs.Command.{PageCommand, write_as, save, back, top_begin, top_end, end, end_group, atomic_write, read_as, read, after}
 use Rattle.page_store.specs.Kept.{IsFront, IsKept, Spares}
 use Rattle.page_store.proofs.Parts.{applied_either_order}
 use Rattle.page_store.proofs.Edit.{view_written}
@@ -153,5 +153,6 @@ saves_stay (top_begin u) s t n some le spares = refl
 saves_stay (top_end u mark) s t n some le spares = refl
 saves_stay (end u commits) s t n some le spares = same_saves s u t n [] (λ is. absurd (spares is))
 saves_stay (end_group us) s t n some le spares = ap (λ (b : Bool). save_at (cond b [] (s.saved t)) n) spares
+saves_stay (atomic_write u addr bytes) s t n some le spares = refl
 saves_stay (read_as u) s t n some le spares = refl
 saves_stay read s t n some le spares = refl

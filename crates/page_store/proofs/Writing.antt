@@ -12,9 +12,11 @@ use Rattle.array_shape.proofs.WriteParts.{one_write_part}
 use Rattle.eaw_face.specs.State.{listed, range_at}
 use Rattle.eaw_face.specs.StoreView.{StoreView}
 use Rattle.eaw_face.specs.Command.{log_edit, log_write}
+use Rattle.eaw_face.specs.Command as command
 use Rattle.eaw_face.specs.Causes as causes
 use Rattle.page_store.specs.Edit.{edit_pos}
-use Rattle.page_store.specs.Command.{write_as}
+use Rattle.page_store.specs.Command.{write_as, atomic_write}
+use Rattle.page_store.specs.Ready.{IsFreeWrite}
 use Rattle.page_store.specs.Device.{write_of}
 use Rattle.page_store.specs.Kept.{IsOrdered}
 use Rattle.page_store.specs.Marked.{Marked, floor_at}
@@ -98,3 +100,16 @@ seen_of tells Opens old new t addr bytes (Ok x) placed ordered told does tell =
     let alive = does.cause.0 in
     ap (λ (s : PagesState). view_of t s) (does.done.state tell) ∙ write_as_view old.store.shape (state_of old) (kept old (told tell alive) (ordered alive)) t addr bytes placed
 seen_of tells Opens old new t addr bytes (Err fault) placed ordered told does tell = tt
+
+-- a write that commits by itself
+pub makes_atomic : (tells : Bool) (old : PagesView) (t addr : ℕ) (bytes : List ℕ) → IsFreeWrite old.store.shape old.store.ranges t addr (length bytes)
+    → (old.store.is_dead ≡ false → IsOrdered (outline_of old)) → (IsTrue tells → old.store.is_dead ≡ false → IsTold old.store) → Makes tells (atomic_write t addr bytes) (command.atomic_write t addr bytes) old
+makes_atomic tells old t addr bytes free ordered told = record {
+  device_is = refl;
+  allowed = λ alive. free;
+  ordered = ordered;
+  told = told;
+  room = λ fits. fits;
+  full = λ g h n full. full;
+  number = λ u ne same. ne same;
+}

@@ -4,8 +4,9 @@ use Rattle.std.specs.Prelude.{ℕ, if◌then◌else◌, List, length, filter, is
 use Rattle.std.specs.Option.{option_map}
 use Rattle.eaw_face.specs.State.{Logs, State, listed}
 use Rattle.eaw_face.specs.Command.{Command, log_write, log_edit, commit, commit_group, abort, nested_top, partial_abort, after, ranges_after}
+use Rattle.eaw_face.specs.Command as store
 use Rattle.page_store.specs.Edit.{edit_pos}
-use Rattle.page_store.specs.Command.{PageCommand, write_as, save, back, top_begin, top_end, end, end_group, read_as, read}
+use Rattle.page_store.specs.Command.{PageCommand, write_as, save, back, top_begin, top_end, end, end_group, atomic_write, read_as, read}
 use Rattle.page_store.specs.Outline.{Outline, count_at, floor_in}
 
 -- an edit of the part at this position, or a write
@@ -25,6 +26,7 @@ device (top_begin t) o = None
 device (top_end t mark) o = if_live o t (nested_top t mark)
 device (end t commits) o = if_live o t (if commits then commit t else abort t)
 device (end_group ts) o = Some (commit_group (filter (λ t. is_some (o.ranges t)) ts))
+device (atomic_write t addr bytes) o = Some (store.atomic_write t addr bytes)
 device (read_as t) o = None
 device read o = None
 

@@ -1,13 +1,15 @@
 -- What a call of pages does, and when each answer comes.
 use Rattle.std.specs.Prelude.{ℕ, ◌≡◌, ◌<◌, ◌⊎◌, Bool, true, false, IsTrue, List, [], ◌∷◌, length, Option, Some, None, Result, Ok, Err, OnOk, OnErr, IsErrOf}
 use Rattle.mars_base.specs.Causes.{Rose}
+use Rattle.array_shape.specs.Parts.{parts_of_write}
+use Rattle.array_shape.specs.Logged.{ranges_of}
 use Rattle.eaw_face.specs.State.{listed}
 use Rattle.eaw_face.specs.StoreView.{StoreView, LeavesOnly}
 use Rattle.eaw_face.specs.Causes.{IsAlive, fit}
 use Rattle.eaw_face.specs.Does.{IsEither}
 use Rattle.page_store.specs.Edit.{edit_pos}
 use Rattle.page_store.specs.Outline.{outline_after, floor_in}
-use Rattle.page_store.specs.Command.{PageCommand, write_as, save, read_as, after, WorksFor}
+use Rattle.page_store.specs.Command.{PageCommand, write_as, save, atomic_write, read_as, after, WorksFor}
 use Rattle.page_store.specs.Shown.{PagesView, outline_of, state_of}
 use Rattle.page_store.specs.declared.fault.PageFault.{PageFault}
 use Rattle.page_store.specs.declared.fault.PageFault.TheVariants.{LogFull, SavesFull, Media, Dead, Damaged}
@@ -16,15 +18,17 @@ use Rattle.page_store.specs.declared.fault.PageFault.TheVariants.{LogFull, Saves
 abbrev pub edits_at : PagesView → ℕ → ℕ → ℕ → Option ℕ
 edits_at pages t addr len = edit_pos (floor_in (outline_of pages) t) (addr, len) (listed (pages.store.ranges t))
 
--- A write that edits no part needs room for one, and a save needs one of the 32 places.
+-- A write that edits no part needs room for one, a write that commits by itself room for its parts, and a save needs one of the 32 places.
 abbrev pub HasRoom : PagesView → PageCommand → Type 0
 HasRoom pages (write_as t addr bytes) = edits_at pages t addr (length bytes) ≡ None → fit pages.store.shape (listed (pages.store.ranges t)) ((addr, length bytes) ∷ []) None
 HasRoom pages (save t) = length (pages.counts t) < 32
+HasRoom pages (atomic_write t addr bytes) = fit pages.store.shape [] (ranges_of (parts_of_write addr bytes)) None
 HasRoom pages _ = Unit {0}
 
--- a write edits no part, and logger g has no room for one: it holds h, and n more are needed
+-- a write edits no part, or commits by itself, and logger g has no room for it: it holds h, and n more are needed
 abbrev pub IsFull : PagesView → PageCommand → ℕ → ℕ → ℕ → Type 0
 IsFull pages (write_as t addr bytes) g h n = (edits_at pages t addr (length bytes) ≡ None) × fit pages.store.shape (listed (pages.store.ranges t)) ((addr, length bytes) ∷ []) (Some (g, h, n))
+IsFull pages (atomic_write t addr bytes) g h n = fit pages.store.shape [] (ranges_of (parts_of_write addr bytes)) (Some (g, h, n))
 IsFull pages _ g h n = ⊥
 
 -- a number has saved as often as it may

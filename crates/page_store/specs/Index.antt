@@ -3,8 +3,11 @@ use Rattle.std.specs.Prelude.{ℕ, suc, ◌≡◌, ◌≢◌, ◌+◌, ◌*◌, 
 use Rattle.array_shape.specs.declared.shape.Shape.{Shape}
 use Rattle.array_shape.specs.Places.{page_count}
 use Rattle.record_slots.specs.Slots.{slot_bytes}
+use Rattle.record_slots.specs.Super.{HasSuperMark, HasTables, form_said, entries_said}
+use Rattle.record_slots.specs.IndexHead.{index_head_said}
+use Rattle.record_slots.specs.Fresh.{fresh_root}
 use Rattle.record_slots.specs.declared.slot.Slot.TheVariants.{Absent}
-use Rattle.record_slots.specs.Places.{page_bytes, slot_of, next_slot, next_page, slot_count, first_slot_page, version_of, tables_of, root_of, free_slots, free_pages, free_slot_of, used_slots, slot_due, page_due, Carries}
+use Rattle.record_slots.specs.Places.{page_bytes, slot_of, next_slot, next_page, slot_count, first_slot_page, version_of, tables_of, root_of, free_slot, free_page, free_slots, free_pages, free_slot_of, used_slots, slot_due, page_due, Carries}
 use Rattle.page_store.specs.Pairs.{Pair, inserted}
 
 -- one nested top action of an insertion: the pages that its parts lie in, one for each part, and how many new pages it takes
@@ -36,8 +39,8 @@ index_pages_of shape = page_count shape / 2
 abbrev pub IsTable : List ℕ → ℕ → ℕ → Type 0
 IsTable bytes table root = root_of bytes table ≡ Some root
 
--- The data is of version 1 or 2. No more slots are in use than there are, and no more pages than lie below those of slots; what is free was
--- given out; and the first table has root 1.
+-- The super page is of version 1 or 2, and has entries of tables. No more slots are in use than there are, and no more pages than lie below
+-- those of slots; what is free was given out; and the first table has root 1.
 pub record HasCounts (bytes : List ℕ) : Type 0 where
   pub oldest : 1 ≤ version_of bytes
   pub newest : version_of bytes ≤ 2
@@ -48,6 +51,8 @@ pub record HasCounts (bytes : List ℕ) : Type 0 where
   pub free_pages_few : free_pages bytes + 2 ≤ next_page bytes
   pub due : free_slots bytes ≢ 0 → slot_due bytes < next_slot bytes
   pub main : IsTable bytes 0 1
+  pub mark : HasSuperMark (page_bytes bytes 0)
+  pub tables : HasTables (version_of bytes) (next_page bytes) (entries_said (page_bytes bytes 0))
 
 -- The index pages are as they were. Each given slot that carries a key of a table still carries it, and each free slot is as it was.
 pub record KeepsIndex (old new : List ℕ) : Type 0 where
@@ -55,6 +60,28 @@ pub record KeepsIndex (old new : List ℕ) : Type 0 where
   pub pages : (page : ℕ) → page < first_slot_page old → page_bytes new page ≡ page_bytes old page
   pub carried : (table : ℕ) (pair : Pair) → pair.1 < next_slot old → Carries old table pair → Carries new table pair
   pub free : (slot : ℕ) → slot < next_slot old → free_slot_of old slot ≢ None → slot_of new slot ≡ slot_of old slot
+
+-- a page begins as the root of a table without pairs does
+abbrev pub IsEmptyRoot : List ℕ → Type 0
+IsEmptyRoot page = index_head_said page ≡ fresh_root
+
+-- The super page has another version, or further tables with empty roots in pages that were not given. It says else what it said, but for the
+-- next page. The given pages of indexes, and all slots, are as they were.
+pub record Extends (old new : List ℕ) : Type 0 where
+  pub size : length new ≡ length old
+  pub mark : HasSuperMark (page_bytes new 0)
+  pub form : form_said (page_bytes new 0) ≡ form_said (page_bytes old 0)
+  pub tables : HasTables (version_of new) (next_page new) (entries_said (page_bytes new 0))
+  pub named : (table root : ℕ) → IsTable new table root → IsTable old table root ⊎ ((next_page old ≤ root) × IsEmptyRoot (page_bytes new root))
+  pub next_slot_same : next_slot new ≡ next_slot old
+  pub later : next_page old ≤ next_page new
+  pub most : next_page new ≤ first_slot_page old
+  pub free_slot_same : free_slot new ≡ free_slot old
+  pub free_page_same : free_page new ≡ free_page old
+  pub free_slots_same : free_slots new ≡ free_slots old
+  pub free_pages_same : free_pages new ≡ free_pages old
+  pub pages : (page : ℕ) → 1 ≤ page → page < next_page old → page_bytes new page ≡ page_bytes old page
+  pub slots : (slot : ℕ) → slot_of new slot ≡ slot_of old slot
 
 -- the page is in the list of free pages
 abbrev pub IsFreePage : List ℕ → ℕ → Type 0

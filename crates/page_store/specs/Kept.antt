@@ -5,9 +5,10 @@ use Rattle.array_shape.specs.declared.shape.Shape.{Shape}
 use Rattle.array_shape.specs.Places.{data_len, IsPlaced}
 use Rattle.array_shape.specs.Logged.{Part, AllPlaced}
 use Rattle.eaw_face.specs.State.{listed, is_one_of}
+use Rattle.page_store.specs.Ready.{IsFreeWrite}
 use Rattle.page_store.specs.State.{PagesState, log_of}
 use Rattle.page_store.specs.Outline.{Outline}
-use Rattle.page_store.specs.Command.{PageCommand, write_as, save, back, top_begin, top_end, end, end_group, read_as, read}
+use Rattle.page_store.specs.Command.{PageCommand, write_as, save, back, top_begin, top_end, end, end_group, atomic_write, read_as, read}
 
 -- a list is the first parts of a log
 abbrev pub IsFront : List Part → List Part → Type 0
@@ -38,7 +39,7 @@ abbrev pub IsOrdered : Outline → Type 0
 IsOrdered o = (t : ℕ) → IsOrderedOf (o.counts t) (o.top t) (length (listed (o.ranges t)))
 
 -- What a caller owes: a nonempty range within a page; a save that exists; one top action at a time, with no save, way back
--- or end inside it.
+-- or end inside it; a write that commits by itself anywhere in the data, by a number that is not live.
 abbrev pub IsAllowed : Shape → PageCommand → Outline → Type 0
 IsAllowed shape (write_as t addr bytes) o = IsPlaced shape addr (length bytes)
 IsAllowed shape (save t) o = o.top t ≡ None
@@ -47,6 +48,7 @@ IsAllowed shape (top_begin t) o = o.top t ≡ None
 IsAllowed shape (top_end t mark) o = o.top t ≡ Some mark
 IsAllowed shape (end t commits) o = o.top t ≡ None
 IsAllowed shape (end_group ts) o = (t : ℕ) → is_one_of ts t ≡ true → o.top t ≡ None
+IsAllowed shape (atomic_write t addr bytes) o = IsFreeWrite shape o.ranges t addr (length bytes)
 IsAllowed shape (read_as t) o = Unit {0}
 IsAllowed shape read o = Unit {0}
 
@@ -59,5 +61,6 @@ Spares (top_begin u) t n = Unit {0}
 Spares (top_end u mark) t n = Unit {0}
 Spares (end u commits) t n = u ≡ t → ⊥
 Spares (end_group us) t n = is_one_of us t ≡ false
+Spares (atomic_write u addr bytes) t n = Unit {0}
 Spares (read_as u) t n = Unit {0}
 Spares read t n = Unit {0}

@@ -5,7 +5,7 @@ use Rattle.array_shape.specs.Logged.{ranges_of}
 use Rattle.eaw_face.specs.State.{Logs, listed, with_log, with_each}
 use Rattle.page_store.specs.Edit.{with_range}
 use Rattle.page_store.specs.State.{PagesState, with_one}
-use Rattle.page_store.specs.Command.{PageCommand, write_as, save, back, top_begin, top_end, end, end_group, read_as, read}
+use Rattle.page_store.specs.Command.{PageCommand, write_as, save, back, top_begin, top_end, end, end_group, atomic_write, read_as, read}
 
 -- for each live number the ranges of its parts; how many it had at each of its saves, and when an open top action began
 pub record Outline : Type 0 where
@@ -31,5 +31,6 @@ outline_after (top_begin t) o = record o { top = with_one o.top t (Some (length 
 outline_after (top_end t mark) o = record o { ranges = with_log o.ranges t (option_map (take mark) (o.ranges t)); top = with_one o.top t None }
 outline_after (end t commits) o = record o { ranges = with_log o.ranges t None; counts = with_one o.counts t [] }
 outline_after (end_group ts) o = record o { ranges = with_each o.ranges ts None; counts = with_each o.counts ts [] }
+outline_after (atomic_write t addr bytes) o = o
 outline_after (read_as t) o = o
 outline_after read o = o

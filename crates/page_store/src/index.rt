@@ -1,9 +1,9 @@
 // An index over pages, as the layers above see it.
-ghost use Rattle.std.specs.Prelude.{◌≡◌, ◌^◌, ◌<◌, List, ℕ, None, IfOk, IfSome, IsErrOf, IsTrue};
+ghost use Rattle.std.specs.Prelude.{◌≡◌, ◌^◌, ◌<◌, ◌≤◌, List, [], ℕ, None, IfOk, IfSome, IsErrOf, IsTrue};
 ghost use Rattle.array_shape.specs.Places.{page_count};
 ghost use Rattle.eaw_face.specs.Causes.{IsAlive};
-ghost use Rattle.record_slots.specs.Places.{version_of, AreGiven};
-ghost use Rattle.page_store.specs.Index.{Index, IsTable, HasCounts, KeepsIndex, slots_of};
+ghost use Rattle.record_slots.specs.Places.{next_page, page_bytes, version_of, AreGiven};
+ghost use Rattle.page_store.specs.Index.{Index, IsTable, HasCounts, KeepsIndex, IsEmptyRoot, Extends, slots_of};
 ghost use Rattle.page_store.specs.Inserts.{Inserts};
 ghost use Rattle.page_store.specs.Removes.{HasAbsent, Removes};
 ghost use Rattle.page_store.specs.Looks.{Looks, LookCause, CheckCause, is_failed, is_check_failed};
@@ -126,6 +126,11 @@ pub trait KeyIndex {
     /// Writes into slots that leave their keys leave the indexes of all tables as they are.
     ghost rests: { (old new : List ℕ) → index.sound old → KeepsIndex old new → index.sound new
         × ((table root : ℕ) → IsTable old table root → (index.pairs new root ≡ index.pairs old root) × (index.level new root ≡ index.level old root)) };
+
+    /// A super page with further tables, each with an empty root in a page that was not given, leaves the indexes of those that were there.
+    ghost extends: { (old new : List ℕ) → index.sound old → Extends old new → index.sound new
+        × ((table root : ℕ) → IsTable old table root → (index.pairs new root ≡ index.pairs old root) × (index.level new root ≡ index.level old root))
+        × ((table root : ℕ) → IsTable new table root → next_page old ≤ root → IsEmptyRoot (page_bytes new root) → (index.pairs new root ≡ []) × (index.level new root ≡ 0)) };
 
     /// No page of sound data fails.
     ghost excluded: { (bytes : List ℕ) (page : ℕ) → index.fails bytes page → index.sound bytes → ⊥ };

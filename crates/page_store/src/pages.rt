@@ -8,7 +8,7 @@ ghost use Rattle.eaw_face.specs.Causes.{IsAlive};
 ghost use Rattle.eaw_face.specs.Command.{commit, abort, nested_top, partial_abort};
 ghost use Rattle.eaw_face.specs.State.{listed, group_log, is_one_of, with_each, part_at};
 ghost use Rattle.eaw_face.specs.StoreView.{log_len};
-ghost use Rattle.page_store.specs.Command.{write_as, save, back, top_begin, top_end, end, end_group, read_as, read};
+ghost use Rattle.page_store.specs.Command.{write_as, save, back, top_begin, top_end, end, end_group, atomic_write, read_as, read};
 ghost use Rattle.page_store.specs.Does.{Becomes, Does};
 ghost use Rattle.page_store.specs.Edit.{edit_pos, meet};
 ghost use Rattle.page_store.specs.Fits.{FitAll, LacksRoom, is_page_on};
@@ -278,6 +278,19 @@ impl<S: EawStore> Pages<S> {
         told(self.store.commit_group(live))?;
         forget_saves(&mut self.marks, tids);
         Ok(())
+    }
+
+    /// Writes bytes of the data at once, under a number that is not live before it or after it. They may lie in several pages.
+    pub fn atomic_write(&mut self, tid: u8, addr: u64, bytes: &[u8]) -> Result<(), PageFault>
+        requires tid { tid < (S.view self.old.store).shape.numbers }
+        requires some { 0 < length bytes.now }
+        requires inside { addr + length bytes.now ≤ data_len (S.view self.old.store).shape }
+        requires free { (S.view self.old.store).ranges tid ≡ None }
+        ensures does { Does S.tells (S.opens (S.view self.old.store).shape) (atomic_write tid addr bytes.now)
+            (pages_of (S.view self.old.store) self.old) (pages_of (S.view self.new.store) self.new) result }
+        ensures refused { IfErr result (λ fault. fault ≢ PageFault.Media → self.new ≡ self.old) }
+    {
+        told(self.store.atomic_write(tid, addr, bytes))
     }
 
     /// Whether there is room for one more part of the number in each of these pages. A page that is named twice counts twice.

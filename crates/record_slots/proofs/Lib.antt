@@ -3,3 +3,4 @@ pub mod Freed
 pub mod WritingBack
 pub mod Front
 pub mod Used
+pub mod MainAlone

@@ -144,3 +144,21 @@ super_bytes front = super_mark ++ front.version ∷ front.form ∷ 0 ∷ 0 ∷ (
 -- an entry of a table, and a free one
 abbrev pub entry_bytes : TableEntry → List ℕ
 entry_bytes table = length table.name ∷ (table.name ++ (replicate (19 - length table.name) 0 ++ (little_bytes 4 table.root ++ replicate 8 0)))
+
+-- the entries of the table `main` alone
+abbrev pub main_entries : List ℕ
+main_entries = entry_bytes main_table ++ replicate 224 0
+
+-- version 2 with this form and these counts, the table `main` alone, and nothing free
+abbrev pub main_super : (form slot page : ℕ) → Super
+main_super form slot page = record {
+  version = 2;
+  form = form;
+  next_slot = slot;
+  next_page = page;
+  entries = main_entries;
+  free_slot = 0;
+  free_page = 0;
+  free_slots = 0;
+  free_pages = 0;
+}

@@ -2,7 +2,7 @@
 ghost use Rattle.std.specs.Prelude.{◌≡◌, ◌<◌, ◌≤◌, ◌*◌, ◌↔◌, IsTrue, drop, length, slice_index, slice_get};
 ghost use Rattle.std.specs.Option.{option_map};
 ghost use Rattle.byteorder.specs.Endian.{little_from};
-ghost use Rattle.record_slots.specs.Super.{HasTables, AreTables, IsApart, are_named, is_name, name_said, tables_in, tables_used};
+ghost use Rattle.record_slots.specs.Super.{HasTables, AreTables, IsApart, are_named, is_name, main_entries, name_said, tables_in, tables_used};
 
 use crate::Name;
 use crate::super_page::{ENTRIES_LEN, ENTRY_LEN, Super, TABLES_MAX, VERSION};
@@ -43,6 +43,17 @@ pub fn table_root(front: &Super, table: u8) -> Option<u32>
     } else {
         None
     }
+}
+
+// The entries of the table `main` alone.
+pub fn main_entries() -> [u8; ENTRIES_LEN]
+    ensures { result ≡ main_entries }
+{
+    let mut entries = [0; ENTRIES_LEN];
+    entries[0] = MAIN.len() as u8;
+    entries[NAME_AT..NAME_AT + MAIN.len()].copy_from_slice(MAIN);
+    LittleEndian::write_u32(&mut entries[ROOT_AT..ROOT_AT + 4], MAIN_ROOT);
+    entries
 }
 
 // Whether each used entry has a name, and behind a free one all are free.

@@ -23,7 +23,7 @@ pub use laws::slot_round_trip;
 pub use name::{NAME_MAX, Name};
 pub use slot::{SLOT_LEN, Slot, read_slot, write_slot};
 pub use super_page::{
-    ENTRIES_LEN, ENTRY_LEN, PART_AT, PART_LEN, Super, TABLES_MAX, TableEntry, VERSION, read_super,
-    write_super, write_super_part,
+    ENTRIES_LEN, ENTRY_LEN, PART_AT, PART_LEN, Super, TABLES_MAX, TableEntry, VERSION, main_super,
+    read_super, write_super, write_super_part,
 };
 pub use value::{VALUE_MAX, Value};

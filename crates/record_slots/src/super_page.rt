@@ -1,8 +1,9 @@
 ghost use Rattle.std.specs.Prelude.{◌≡◌, ◌+◌, ◌*◌, ◌<◌, IfSome, IfNone};
 ghost use Rattle.byteorder.specs.Endian.{little_from};
-ghost use Rattle.record_slots.specs.Super.{HasSuperMark, SaysSuper, free_in, part_bytes, super_bytes};
+ghost use Rattle.record_slots.specs.Super.{HasSuperMark, SaysSuper, free_in, main_super, part_bytes, super_bytes};
 
 use crate::Name;
+use crate::entries::main_entries;
 use byteorder::{ByteOrder, LittleEndian};
 
 /// The most tables of an array.
@@ -135,4 +136,24 @@ pub fn write_super_part(front: &Super, out: &mut [u8; PART_LEN])
     LittleEndian::write_u32(&mut out[268..272], front.free_page);
     LittleEndian::write_u32(&mut out[272..276], front.free_slots);
     LittleEndian::write_u32(&mut out[276..], front.free_pages);
+}
+
+/// A super page of version 2 with this form and these counts, the table `main` alone, and nothing free.
+pub fn main_super(form: u8, next_slot: u32, next_page: u32) -> [u8; 512]
+    ensures { SaysSuper result (main_super form next_slot next_page) }
+{
+    let front = Super {
+        version: VERSION,
+        form,
+        next_slot,
+        next_page,
+        entries: main_entries(),
+        free_slot: 0,
+        free_page: 0,
+        free_slots: 0,
+        free_pages: 0,
+    };
+    let mut bytes = [0; 512];
+    write_super(&front, &mut bytes);
+    bytes
 }

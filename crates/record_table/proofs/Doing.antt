@@ -17,14 +17,13 @@ use Rattle.history.specs.declared.call.Reply.TheVariants.{Absent, Listed}
 use Rattle.page_store.specs.Index.{Index}
 use Rattle.page_store.specs.State.{with_one}
 use Rattle.page_store.specs.Looks.{LookCause, is_failed}
-use Rattle.page_store.specs.Pairs.{found}
 use Rattle.page_store.specs.Shown.{PagesView}
 use Rattle.page_store.specs.declared.fault.PageFault.{PageFault}
 use Rattle.page_store.specs.declared.fault.PageFault.TheVariants as page
 use Rattle.record_table.specs.Calls.{Replies, after, saves_after}
 use Rattle.record_table.specs.Causes.{Cause, MaySave, Fits, HasRoom, IsFull, IsShort, IsSought}
 use Rattle.record_table.specs.Does.{Does, OpensWith, Indexed, IsQuiet, replied}
-use Rattle.record_table.specs.Does as table
+use Rattle.record_table.specs.Does as answers
 use Rattle.record_table.specs.Faults.{as_table}
 use Rattle.record_table.specs.Invariant.{Holds}
 use Rattle.record_table.specs.Shown.{state_of, keys_of, held_on, needed_on}
@@ -57,11 +56,11 @@ pub record Stays (index : Index) (t : ℕ) (c : Call) (old : PagesView) (reply :
   pub replies : Replies (state_of index old) t c reply
   pub same : state_of index old ≡ after t c reply (state_of index old)
 
-module _ (tells : Bool) (Opens : List ℕ → List ℕ → Type 0) (index : Index) (t : ℕ) (c : Call) (old new : PagesView) where
+module _ (tells : Bool) (Opens : List ℕ → List ℕ → Type 0) (index : Index) (table t : ℕ) (c : Call) (old new : PagesView) where
   -- only the index has changed
-  pub does_moved : (r : Result Reply TableFault) → IsAlive old.store → IsFalse (table.is_failed r) → Moved tells Opens index t old new → Cause tells index t c old r
-      → (IsTrue tells → IfOk r (Stays index t c old)) → (IsTrue tells → Indexed c (keys_of index old.store.state.bytes) (keys_of index new.store.state.bytes) r)
-      → (IsTrue tells → IsQuiet index old t c → new.store.state.bytes ≡ old.store.state.bytes) → OnOk r (length (old.counts t) ≡ saves_after c (length (old.counts t))) → Does tells Opens index t c old new r
+  pub does_moved : (r : Result Reply TableFault) → IsAlive old.store → IsFalse (answers.is_failed r) → Moved tells Opens index t old new → Cause tells index table t c old r
+      → (IsTrue tells → IfOk r (Stays index t c old)) → (IsTrue tells → Indexed table c (keys_of index old.store.state.bytes) (keys_of index new.store.state.bytes) r)
+      → (IsTrue tells → IsQuiet index old t c → new.store.state.bytes ≡ old.store.state.bytes) → OnOk r (length (old.counts t) ≡ saves_after c (length (old.counts t))) → Does tells Opens index table t c old new r
   does_moved r alive well moved cause stays indexed quiet saves = record {
     shape = moved.shape;
     cause = cause;
@@ -79,7 +78,7 @@ module _ (tells : Bool) (Opens : List ℕ → List ℕ → Type 0) (index : Inde
   }
 
   -- the medium failed
-  pub does_failed : IsAlive old.store → Failed tells Opens index t old new → Does tells Opens index t c old new (Err Media)
+  pub does_failed : IsAlive old.store → Failed tells Opens index t old new → Does tells Opens index table t c old new (Err Media)
   does_failed alive failed = record {
     shape = failed.shape;
     cause = alive;
@@ -97,7 +96,7 @@ module _ (tells : Bool) (Opens : List ℕ → List ℕ → Type 0) (index : Inde
   }
 
   -- the store was dead
-  does_dead_same : old.store.is_dead ≡ true → Does tells Opens index t c old old (Err Dead)
+  does_dead_same : old.store.is_dead ≡ true → Does tells Opens index table t c old old (Err Dead)
   does_dead_same dead = record {
     shape = refl;
     cause = dead;
@@ -114,17 +113,17 @@ module _ (tells : Bool) (Opens : List ℕ → List ℕ → Type 0) (index : Inde
     time = λ told alive. absurd (false≢true (sym alive ∙ dead));
   }
 
-  pub does_dead : new ≡ old → old.store.is_dead ≡ true → Does tells Opens index t c old new (Err Dead)
-  does_dead same dead = subst (λ (v : PagesView). Does tells Opens index t c old v (Err Dead)) (sym same) (does_dead_same dead)
+  pub does_dead : new ≡ old → old.store.is_dead ≡ true → Does tells Opens index table t c old new (Err Dead)
+  does_dead same dead = subst (λ (v : PagesView). Does tells Opens index table t c old v (Err Dead)) (sym same) (does_dead_same dead)
 
   pub holds_dead : new.store.is_dead ≡ true → Holds tells index new
   holds_dead dead alive = absurd (false≢true (sym alive ∙ dead))
 
   -- a write, after only the index has changed
   pub does_wrote : (reply : Reply) (mid : PagesView) (key slot : ℕ) (value : Option (List ℕ)) → Moved tells Opens index t old mid → Wrote tells Opens index t key value slot mid new
-      → (let r : Result Reply TableFault = Ok reply in Cause tells index t c old r) → (IsTrue tells → Replies (state_of index old) t c reply) → (IsTrue tells → after t c reply (state_of index old) ≡ written (state_of index old) t key value)
-      → (IsTrue tells → (let r : Result Reply TableFault = Ok reply in Indexed c (keys_of index old.store.state.bytes) (keys_of index mid.store.state.bytes) r))
-      → (IsTrue tells → IsQuiet index old t c → mid.store.state.bytes ≡ old.store.state.bytes) → length (old.counts t) ≡ saves_after c (length (old.counts t)) → Does tells Opens index t c old new (Ok reply)
+      → (let r : Result Reply TableFault = Ok reply in Cause tells index table t c old r) → (IsTrue tells → Replies (state_of index old) t c reply) → (IsTrue tells → after t c reply (state_of index old) ≡ written (state_of index old) t key value)
+      → (IsTrue tells → (let r : Result Reply TableFault = Ok reply in Indexed table c (keys_of index old.store.state.bytes) (keys_of index mid.store.state.bytes) r))
+      → (IsTrue tells → IsQuiet index old t c → mid.store.state.bytes ≡ old.store.state.bytes) → length (old.counts t) ≡ saves_after c (length (old.counts t)) → Does tells Opens index table t c old new (Ok reply)
   does_wrote reply mid key slot value moved wrote cause replies one indexed quiet saves = record {
     shape = wrote.shape ∙ moved.shape;
     cause = cause;
@@ -133,7 +132,7 @@ module _ (tells : Bool) (Opens : List ℕ → List ℕ → Type 0) (index : Inde
     replies = replies;
     done = λ told. wrote.state told ∙ ap (λ (s : TableState). written s t key value) (moved.state told) ∙ sym (one told);
     refused = λ told _. tt;
-    indexed = λ told _ _. subst (λ (b : List ℕ). (let r : Result Reply TableFault = Ok reply in Indexed c (keys_of index old.store.state.bytes) (keys_of index b) r)) (sym (wrote.bytes told)) (indexed told);
+    indexed = λ told _ _. subst (λ (b : List ℕ). (let r : Result Reply TableFault = Ok reply in Indexed table c (keys_of index old.store.state.bytes) (keys_of index b) r)) (sym (wrote.bytes told)) (indexed told);
     quiet = λ told _ is. wrote.bytes told ∙ quiet told is;
     saves = same_counts old new t (wrote.counts ∙ moved.counts) ∙ saves;
     same_saves = tt;
@@ -169,30 +168,30 @@ HasPages (PagesFull n) = ⊥
 HasPages _ = Unit {0}
 
 -- a refusal that leaves the index as it was
-inserted_same : (T : Type 0) (key : ℕ) (old new : Keys) (f : TableFault) → HasPages f → new ≡ old → (let r : Result T TableFault = Err f in table.Inserted key old new r)
-inserted_same T key old new f has same = subst (λ (k : Keys). (let r : Result T TableFault = Err f in table.Inserted key old k r)) (sym same) (go f has)
+inserted_same : (T : Type 0) (table key : ℕ) (old new : Keys) (f : TableFault) → HasPages f → new ≡ old → (let r : Result T TableFault = Err f in answers.Inserted table key old new r)
+inserted_same T table key old new f has same = subst (λ (k : Keys). (let r : Result T TableFault = Err f in answers.Inserted table key old k r)) (sym same) (go f has)
   where
     takes : TakesPages old old
-    takes = record { later = omega arith; few = omega arith; levels = omega arith }
+    takes = record { later = omega arith; few = omega arith; used = omega arith; levels = λ number. omega arith }
 
-    go : (f : TableFault) → HasPages f → (let r : Result T TableFault = Err f in table.Inserted key old old r)
-    go (LogFull g h n) has = (takes, inl (record { pairs = refl; slots = refl }))
+    go : (f : TableFault) → HasPages f → (let r : Result T TableFault = Err f in answers.Inserted table key old old r)
+    go (LogFull g h n) has = (takes, inl (record { slot_of = refl; slots = refl; due = refl }))
     go (PagesFull n) has = absurd has
-    go _ has = (takes, record { pairs = refl; slots = refl })
+    go _ has = (takes, record { slot_of = refl; slots = refl; due = refl })
 
-indexed_at : (T : Type 0) (key : ℕ) (o : Option ℕ) (old new : Keys) (f : TableFault) → HasPages f → new ≡ old → (let r : Result T TableFault = Err f in table.IndexedAt key o old new r)
-indexed_at T key None old new f has same = inserted_same T key old new f has same
-indexed_at T key (Some slot) old new f has same = same
+indexed_at : (T : Type 0) (table key : ℕ) (o : Option ℕ) (old new : Keys) (f : TableFault) → HasPages f → new ≡ old → (let r : Result T TableFault = Err f in answers.IndexedAt table key o old new r)
+indexed_at T table key None old new f has same = inserted_same T table key old new f has same
+indexed_at T table key (Some slot) old new f has same = same
 
-pub indexed_same : (T : Type 0) (c : Call) (old new : Keys) (f : TableFault) → HasPages f → new ≡ old → (let r : Result T TableFault = Err f in Indexed c old new r)
-indexed_same T (Put key value) old new f has same = indexed_at T key (found old.pairs key) old new f has same
-indexed_same T _ old new f has same = same
+pub indexed_same : (T : Type 0) (table : ℕ) (c : Call) (old new : Keys) (f : TableFault) → HasPages f → new ≡ old → (let r : Result T TableFault = Err f in Indexed table c old new r)
+indexed_same T table (Put key value) old new f has same = indexed_at T table key (old.slot_of key) old new f has same
+indexed_same T table _ old new f has same = same
 
 -- a state with a number's own log
 unlogged : (s : TableState) (t : ℕ) → s ≡ record { table = s.table; logs = with_one s.logs t (s.logs t) }
 unlogged s t = ap (λ (logs : ℕ → Log). (let is : TableState = record { table = s.table; logs = logs } in is)) (sym (with_same s.logs t))
 
-module _ (tells : Bool) (Opens : List ℕ → List ℕ → Type 0) (index : Index) (t : ℕ) (c : Call) (old new : PagesView) (holds : Holds tells index old) where
+module _ (tells : Bool) (Opens : List ℕ → List ℕ → Type 0) (index : Index) (table t : ℕ) (c : Call) (old new : PagesView) (holds : Holds tells index old) where
   -- a look leaves the data as it was
   pub look_bytes : LooksAs tells Opens t false old new → IsTrue tells → new.store.state.bytes ≡ old.store.state.bytes
   look_bytes looks told = ap (λ (s : State). s.bytes) ((looks.same refl).still.state told)
@@ -209,12 +208,12 @@ module _ (tells : Bool) (Opens : List ℕ → List ℕ → Type 0) (index : Inde
 
   -- a look was refused
   pub look_refused : (U : Type 0) (fault : PageFault) → IsSought c → (let r : Result U PageFault = Err fault in LookCause tells old.store r) → (let r : Result U PageFault = Err fault in LooksAs tells Opens t (is_failed r) old new)
-      → (let r : Result U PageFault = Err fault in IsErrOf r page.Dead → new ≡ old) → Does tells Opens index t c old new (Err (as_table fault)) × Holds tells index new
-  look_refused U page.Media sought cause looks dead = (does_failed tells Opens index t c old new cause (failed_by_look tells Opens index t old new cause (holds cause) looks), holds_dead tells Opens index t c old new (looks.dies refl).0)
-  look_refused U page.Dead sought cause looks dead = (does_dead tells Opens index t c old new (dead refl) cause, holds_same (dead refl))
+      → (let r : Result U PageFault = Err fault in IsErrOf r page.Dead → new ≡ old) → Does tells Opens index table t c old new (Err (as_table fault)) × Holds tells index new
+  look_refused U page.Media sought cause looks dead = (does_failed tells Opens index table t c old new cause (failed_by_look tells Opens index t old new cause (holds cause) looks), holds_dead tells Opens index table t c old new (looks.dies refl).0)
+  look_refused U page.Dead sought cause looks dead = (does_dead tells Opens index table t c old new (dead refl) cause, holds_same (dead refl))
   look_refused U (page.Damaged bad) sought cause looks dead =
       let moved = moved_by_look tells Opens index t old new cause.0 (holds cause.0) looks in (
-        does_moved tells Opens index t c old new (Err (Damaged bad)) cause.0 refl moved (cause.0, sought, cause.1) (λ told. tt) (λ told. indexed_same Reply c _ _ (Damaged bad) tt (look_keys looks told))
+        does_moved tells Opens index table t c old new (Err (Damaged bad)) cause.0 refl moved (cause.0, sought, cause.1) (λ told. tt) (λ told. indexed_same Reply table c _ _ (Damaged bad) tt (look_keys looks told))
             (λ told _. look_bytes looks told) tt,
         holds_moved cause.0 moved,
       )
@@ -222,22 +221,22 @@ module _ (tells : Bool) (Opens : List ℕ → List ℕ → Type 0) (index : Inde
   look_refused U page.SavesFull sought cause looks dead = absurd cause
 
   -- a look was done
-  looked : (reply : Reply) → IsAlive old.store → LooksAs tells Opens t false old new → MaySave old t c → (IsTrue tells → Fits index old t c) → (IsTrue tells → Stays index t c old reply)
-      → ((a b : Keys) → b ≡ a → (let r : Result Reply TableFault = Ok reply in Indexed c a b r)) → length (old.counts t) ≡ saves_after c (length (old.counts t)) → Does tells Opens index t c old new (Ok reply) × Holds tells index new
+  looked : (reply : Reply) → IsAlive old.store → LooksAs tells Opens t false old new → MaySave old t c → (IsTrue tells → Fits index table old t c) → (IsTrue tells → Stays index t c old reply)
+      → ((a b : Keys) → b ≡ a → (let r : Result Reply TableFault = Ok reply in Indexed table c a b r)) → length (old.counts t) ≡ saves_after c (length (old.counts t)) → Does tells Opens index table t c old new (Ok reply) × Holds tells index new
   looked reply alive looks may fits stays indexed saves =
       let moved = moved_by_look tells Opens index t old new alive (holds alive) looks in (
-        does_moved tells Opens index t c old new (Ok reply) alive refl moved (alive, may, fits) stays (λ told. indexed _ _ (look_keys looks told)) (λ told _. look_bytes looks told) saves,
+        does_moved tells Opens index table t c old new (Ok reply) alive refl moved (alive, may, fits) stays (λ told. indexed _ _ (look_keys looks told)) (λ told _. look_bytes looks told) saves,
         holds_moved alive moved,
       )
 
-module _ (tells : Bool) (Opens : List ℕ → List ℕ → Type 0) (index : Index) (t key : ℕ) (old new : PagesView) (holds : Holds tells index old) (alive : IsAlive old.store) (looks : LooksAs tells Opens t false old new) where
-  pub got : (value : Option (List ℕ)) → (IsTrue tells → get (seen_by (state_of index old) t) key ≡ value) → Does tells Opens index t (Get key) old new (Ok (history.found value)) × Holds tells index new
-  got value is = looked tells Opens index t (Get key) old new holds (history.found value) alive looks tt (λ told. tt)
+module _ (tells : Bool) (Opens : List ℕ → List ℕ → Type 0) (index : Index) (table t key : ℕ) (old new : PagesView) (holds : Holds tells index old) (alive : IsAlive old.store) (looks : LooksAs tells Opens t false old new) where
+  pub got : (value : Option (List ℕ)) → (IsTrue tells → get (seen_by (state_of index old) t) key ≡ value) → Does tells Opens index table t (Get key) old new (Ok (history.found value)) × Holds tells index new
+  got value is = looked tells Opens index table t (Get key) old new holds (history.found value) alive looks tt (λ told. tt)
       (λ told. record { replies = ap history.found (sym (is told)); same = unlogged (state_of index old) t }) (λ a b same. same) refl
 
   -- a record that is not seen needs no removal
-  pub not_removed : (IsTrue tells → get (seen_by (state_of index old) t) key ≡ None) → Does tells Opens index t (Del key) old new (Ok Absent) × Holds tells index new
-  not_removed unseen = looked tells Opens index t (Del key) old new holds Absent alive looks tt (λ told seen. absurd (false≢true (sym (ap is_some (unseen told)) ∙ seen)))
+  pub not_removed : (IsTrue tells → get (seen_by (state_of index old) t) key ≡ None) → Does tells Opens index table t (Del key) old new (Ok Absent) × Holds tells index new
+  not_removed unseen = looked tells Opens index table t (Del key) old new holds Absent alive looks tt (λ told seen. absurd (false≢true (sym (ap is_some (unseen told)) ∙ seen)))
       (λ told. record { replies = ap history.removed (sym (unseen told)); same = unlogged (state_of index old) t }) (λ a b same. same) refl
 
 -- the answer to a scan, given what was gathered
@@ -245,23 +244,23 @@ abbrev pub scanned_as : {T : Type 0} → T → Result (Unit {0}) TableFault → 
 scanned_as rows (Ok done) = Ok rows
 scanned_as rows (Err f) = Err f
 
-module _ (tells : Bool) (Opens : List ℕ → List ℕ → Type 0) (index : Index) (t low high : ℕ) (old new : PagesView) (holds : Holds tells index old) (alive : IsAlive old.store) (rows : List (ℕ × List ℕ)) where
+module _ (tells : Bool) (Opens : List ℕ → List ℕ → Type 0) (index : Index) (table t low high : ℕ) (old new : PagesView) (holds : Holds tells index old) (alive : IsAlive old.store) (rows : List (ℕ × List ℕ)) where
   -- the scan was refused, but not by the medium
-  unscanned : (f : TableFault) → (let r : Result Reply TableFault = Err f in IsFalse (table.is_failed r)) → (let r : Result Reply TableFault = Err f in Cause tells index t (Scan low high) old r) → LooksAs tells Opens t false old new
-      → Does tells Opens index t (Scan low high) old new (Err f) × Holds tells index new
+  unscanned : (f : TableFault) → (let r : Result Reply TableFault = Err f in IsFalse (answers.is_failed r)) → (let r : Result Reply TableFault = Err f in Cause tells index table t (Scan low high) old r) → LooksAs tells Opens t false old new
+      → Does tells Opens index table t (Scan low high) old new (Err f) × Holds tells index new
   unscanned f well cause looks =
       let moved = moved_by_look tells Opens index t old new alive (holds alive) looks in (
-        does_moved tells Opens index t (Scan low high) old new (Err f) alive well moved cause (λ told. tt) (λ told. look_keys tells Opens index t (Scan low high) old new holds looks told)
-            (λ told _. look_bytes tells Opens index t (Scan low high) old new holds looks told) tt,
-        holds_moved tells Opens index t (Scan low high) old new holds alive moved,
+        does_moved tells Opens index table t (Scan low high) old new (Err f) alive well moved cause (λ told. tt) (λ told. look_keys tells Opens index table t (Scan low high) old new holds looks told)
+            (λ told _. look_bytes tells Opens index table t (Scan low high) old new holds looks told) tt,
+        holds_moved tells Opens index table t (Scan low high) old new holds alive moved,
       )
 
-  pub scanned : (r : Result (Unit {0}) TableFault) → LooksAs tells Opens t (table.is_failed r) old new → ScanCause tells r → (IsTrue tells → OnOk r (rows ≡ rows_seen index t old low high))
-      → Does tells Opens index t (Scan low high) old new (replied Listed (scanned_as rows r)) × Holds tells index new
-  scanned (Ok done) looks cause seen = looked tells Opens index t (Scan low high) old new holds (Listed rows) alive looks tt (λ told. tt)
+  pub scanned : (r : Result (Unit {0}) TableFault) → LooksAs tells Opens t (answers.is_failed r) old new → ScanCause tells r → (IsTrue tells → OnOk r (rows ≡ rows_seen index t old low high))
+      → Does tells Opens index table t (Scan low high) old new (replied Listed (scanned_as rows r)) × Holds tells index new
+  scanned (Ok done) looks cause seen = looked tells Opens index table t (Scan low high) old new holds (Listed rows) alive looks tt (λ told. tt)
       (λ told. record { replies = ap Listed (seen told); same = unlogged (state_of index old) t }) (λ a b same. same) refl
   scanned (Err Media) looks cause seen =
-      (does_failed tells Opens index t (Scan low high) old new alive (failed_by_look tells Opens index t old new alive (holds alive) looks), holds_dead tells Opens index t (Scan low high) old new (looks.dies refl).0)
+      (does_failed tells Opens index table t (Scan low high) old new alive (failed_by_look tells Opens index t old new alive (holds alive) looks), holds_dead tells Opens index table t (Scan low high) old new (looks.dies refl).0)
   scanned (Err NoMemory) looks cause seen = unscanned NoMemory refl (alive, tt) looks
   scanned (Err (Damaged bad)) looks cause seen = unscanned (Damaged bad) refl (alive, tt, cause) looks
   scanned (Err Dead) looks cause seen = absurd cause

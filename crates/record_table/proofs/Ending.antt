@@ -37,13 +37,14 @@ use Rattle.record_table.specs.Shown.{writes_of, state_of, shown_by, keys_of}
 use Rattle.record_table.specs.State.{TableState, Keys}
 use Rattle.record_table.specs.declared.fault.TableFault.{TableFault}
 use Rattle.record_table.specs.declared.fault.TableFault.TheVariants.{SavesFull}
-use Rattle.record_table.specs.declared.fault.TableFault.TheVariants as table
+use Rattle.record_table.specs.declared.fault.TableFault.TheVariants as refusal
 use Rattle.record_table.proofs.Doing.{does_dead, holds_dead, holds_same, indexed_same}
-use Rattle.record_table.proofs.SlotParts.{Laws, applied_parts}
+use Rattle.record_table.proofs.Sharing.{Laws}
+use Rattle.record_table.proofs.SlotParts.{applied_parts}
 use Rattle.record_table.proofs.States.{shown_save, shown_back, shown_commit, shown_abort, parts_back, parts_abort, parts_commit}
 
 -- only a fault of the medium is told as one
-pub media_told : {T : Type 0} (r : Result T PageFault) (s : Result T TableFault) → s ≡ told_as r → s ≡ Err table.Media → r ≡ Err fault.Media
+pub media_told : {T : Type 0} (r : Result T PageFault) (s : Result T TableFault) → s ≡ told_as r → s ≡ Err refusal.Media → r ≡ Err fault.Media
 media_told (Ok answer) s is e = absurd (cc)
 media_told (Err fault.Media) s is e = refl
 media_told (Err fault.Dead) s is e = absurd (cc)
@@ -57,13 +58,13 @@ no_parts index [] bytes none = refl
 no_parts index (p ∷ ps) bytes none = absurd (cc)
 
 -- A call of pages that is one of records: it does to the state of pages what that does to the state of records.
-pub record IsCall (tells : Bool) (index : Index) (pc : PageCommand) (t : ℕ) (c : Call) (old : PagesView) : Type 0 where
+pub record IsCall (tells : Bool) (index : Index) (pc : PageCommand) (table t : ℕ) (c : Call) (old : PagesView) : Type 0 where
   pub named : (u : ℕ) → page_does.Names pc u → u ≡ t
   pub sound : IsTrue tells → index.sound (page.after pc (pages.state_of old)).store.bytes
   pub parts : IsTrue tells → (u : ℕ) → AreSlotParts index (page.after pc (pages.state_of old)).store.bytes (log_of (page.after pc (pages.state_of old)) u)
   pub shown : IsTrue tells → (reply : Reply) → shown_by index (page.after pc (pages.state_of old)) ≡ after t c reply (state_of index old)
   pub keys : IsTrue tells → keys_of index (page.after pc (pages.state_of old)).store.bytes ≡ keys_of index old.store.state.bytes
-  pub indexed : (a b : Keys) (r : Result Reply TableFault) → b ≡ a → Indexed c a b r
+  pub indexed : (a b : Keys) (r : Result Reply TableFault) → b ≡ a → Indexed table c a b r
   pub quiet : IsTrue tells → IsQuiet index old t c → (page.after pc (pages.state_of old)).store.bytes ≡ old.store.state.bytes
   pub saves : length ((outline_after pc (outline_of old)).counts t) ≡ saves_after c (length (old.counts t))
   pub other_saves : (u : ℕ) → u ≢ t → (outline_after pc (outline_of old)).counts u ≡ old.counts u
@@ -71,9 +72,9 @@ pub record IsCall (tells : Bool) (index : Index) (pc : PageCommand) (t : ℕ) (c
   pub no_log : (g h n : ℕ) → page_does.IsFull old pc g h n → ⊥
   pub saved_out : page_does.IsSavedOut old pc → IsSavedOut old t c
   pub may_save : page_does.HasRoom old pc → MaySave old t c
-  pub fits : Fits index old t c
+  pub fits : Fits index table old t c
 
-module _ (tells : Bool) (Opens : List ℕ → List ℕ → Type 0) (index : Index) (pc : PageCommand) (t : ℕ) (c : Call) (old new : PagesView) (holds : Holds tells index old) (call : IsAlive old.store → IsCall tells index pc t c old)
+module _ (tells : Bool) (Opens : List ℕ → List ℕ → Type 0) (index : Index) (pc : PageCommand) (table t : ℕ) (c : Call) (old new : PagesView) (holds : Holds tells index old) (call : IsAlive old.store → IsCall tells index pc table t c old)
     (T : Type 0) (reply : T → Reply) where
   time_of : (r : Result T PageFault) → IsAlive old.store → page_does.Does tells Opens pc old new r → IsTrue tells
       → LeavesOnly (λ image. OpensWith Opens index image (state_of index old).table ⊎ OpensWith Opens index image (table_after t c (state_of index old))) old.store new.store
@@ -83,7 +84,7 @@ module _ (tells : Bool) (Opens : List ℕ → List ℕ → Type 0) (index : Inde
   ]) (does.time told alive)
 
   pub ends : (r : Result T PageFault) → page_does.Does tells Opens pc old new r → ((f : PageFault) → r ≡ Err f → f ≢ fault.Media → new ≡ old)
-      → (IsTrue tells → IfOk r (λ answer. Replies (state_of index old) t c (reply answer))) → Does tells Opens index t c old new (replied reply (told_as r)) × Holds tells index new
+      → (IsTrue tells → IfOk r (λ answer. Replies (state_of index old) t c (reply answer))) → Does tells Opens index table t c old new (replied reply (told_as r)) × Holds tells index new
   ends (Ok answer) does same right =
       let alive = does.cause.0 in
       let is = call alive in
@@ -130,13 +131,13 @@ module _ (tells : Bool) (Opens : List ℕ → List ℕ → Type 0) (index : Inde
           others = λ u ne. (does.others u (λ e. ne (is.named u e)), ap (λ (f : ℕ → List ℕ). f u) does.marks.0);
           time = λ told _. time_of (let r : Result T PageFault = Err fault.Media in r) alive does told;
         },
-        holds_dead tells Opens index t c old new (does.dies refl),
+        holds_dead tells Opens index table t c old new (does.dies refl),
       )
-  ends (Err fault.Dead) does same right = let e = same fault.Dead refl (λ x. cc) in (does_dead tells Opens index t c old new e does.cause, holds_same tells Opens index t c old new holds e)
+  ends (Err fault.Dead) does same right = let e = same fault.Dead refl (λ x. cc) in (does_dead tells Opens index table t c old new e does.cause, holds_same tells Opens index table t c old new holds e)
   ends (Err fault.SavesFull) does same right =
       let e = same fault.SavesFull refl (λ x. cc) in
       let alive = does.cause.0 in (
-        subst (λ (v : PagesView). Does tells Opens index t c old v (Err SavesFull)) (sym e) (record {
+        subst (λ (v : PagesView). Does tells Opens index table t c old v (Err SavesFull)) (sym e) (record {
           shape = refl;
           cause = (alive, (call alive).saved_out does.cause.1);
           faults = λ _. (refl, refl);
@@ -144,14 +145,14 @@ module _ (tells : Bool) (Opens : List ℕ → List ℕ → Type 0) (index : Inde
           replies = λ told. tt;
           done = λ told. tt;
           refused = λ told _. refl;
-          indexed = λ told _ _. indexed_same Reply c _ _ SavesFull tt refl;
+          indexed = λ told _ _. indexed_same Reply table c _ _ SavesFull tt refl;
           quiet = λ told _ _. refl;
           saves = tt;
           same_saves = refl;
           others = λ u ne. (refl, refl);
           time = λ told _. stays old.store.moment old.store.left_since _;
         }),
-        holds_same tells Opens index t c old new holds e,
+        holds_same tells Opens index table t c old new holds e,
       )
   ends (Err (fault.LogFull g h n)) does same right = absurd ((call does.cause.0).no_log g h n does.cause.1)
   ends (Err (fault.Damaged bad)) does same right = absurd does.cause
@@ -186,8 +187,8 @@ back_right index old t n some there = (
   refl,
 )
 
-module _ (tells : Bool) (index : Index) (laws : Laws index) (old : PagesView) (rests : Rests tells index old) (t : ℕ) where
-  pub save_is : IsCall tells index (page.save t) t Save old
+module _ (tells : Bool) (index : Index) (laws : Laws index) (old : PagesView) (rests : Rests tells index old) (table t : ℕ) where
+  pub save_is : IsCall tells index (page.save t) table t Save old
   save_is = record {
     named = λ u is. is;
     sound = λ told. (rests.tied told).sound;
@@ -205,7 +206,7 @@ module _ (tells : Bool) (index : Index) (laws : Laws index) (old : PagesView) (r
     fits = tt;
   }
 
-  pub back_is : (n : ℕ) → 0 < n → n ≤ length (old.counts t) → IsOrdered (outline_of old) → (IsTrue tells → IsTold old.store) → IsCall tells index (page.back t n) t (Back n) old
+  pub back_is : (n : ℕ) → 0 < n → n ≤ length (old.counts t) → IsOrdered (outline_of old) → (IsTrue tells → IsTold old.store) → IsCall tells index (page.back t n) table t (Back n) old
   back_is n some there ordered told_by =
       let front = λ (told : IsTrue tells). ((kept old (told_by told) ordered).each t).fronts (n - 1) (omega (arith, length-map (old.counts t) (λ count. take count (listed (old.store.state.logs t))))) in
       record {
@@ -225,7 +226,7 @@ module _ (tells : Bool) (index : Index) (laws : Laws index) (old : PagesView) (r
         fits = tt;
       }
 
-  pub abort_is : IsCall tells index (page.end t false) t Abort old
+  pub abort_is : IsCall tells index (page.end t false) table t Abort old
   abort_is = record {
     named = λ u is. is;
     sound = λ told. (rests.tied told).sound;
@@ -243,7 +244,7 @@ module _ (tells : Bool) (index : Index) (laws : Laws index) (old : PagesView) (r
     fits = tt;
   }
 
-  pub commit_is : IsCall tells index (page.end t true) t Commit old
+  pub commit_is : IsCall tells index (page.end t true) table t Commit old
   commit_is =
       let w = λ (told : IsTrue tells). applied_parts index laws (listed (old.store.state.logs t)) old.store.state.bytes (rests.tied told).sound ((rests.tied told).parts t) in
       record {
@@ -251,7 +252,7 @@ module _ (tells : Bool) (index : Index) (laws : Laws index) (old : PagesView) (r
         sound = λ told. (w told).sound;
         parts = λ told. parts_commit index laws (pages.state_of old) t (rests.tied told).sound (rests.tied told).parts;
         shown = λ told reply. shown_commit index laws (pages.state_of old) t reply (rests.tied told).sound ((rests.tied told).parts t);
-        keys = λ told i. record { pairs = (w told).pairs i; next_slot = (w told).slots i; next_page = (w told).pages i; level = (w told).level i };
+        keys = λ told. (w told).keys;
         indexed = λ a b r same. same;
         quiet = λ told none. no_parts index (listed (old.store.state.logs t)) old.store.state.bytes none;
         saves = ap length (with_here old.counts t []);
@@ -275,19 +276,19 @@ on_err_same (Ok x) h f e ne = absurd (cc)
 on_err_same (Err p) h f e ne = h
 
 -- the same for values that show pages
-module _ {S : Type 0} (view : S → StoreView) (tells : Bool) (Opens : Shape → List ℕ → List ℕ → Type 0) (index : Index) (t : ℕ) (c : Call) (arg inside : Shown S) (same : inside ≡ arg) where
-  pub does_of : (new : PagesView) (r : Result Reply TableFault) → Does tells (Opens (view inside.store).shape) index t c (pages_of (view inside.store) inside) new r → Does tells (Opens (view arg.store).shape) index t c (pages_of (view arg.store) arg) new r
-  does_of new r does = subst (λ (p : Shown S). Does tells (Opens (view p.store).shape) index t c (pages_of (view p.store) p) new r) same does
+module _ {S : Type 0} (view : S → StoreView) (tells : Bool) (Opens : Shape → List ℕ → List ℕ → Type 0) (index : Index) (table t : ℕ) (c : Call) (arg inside : Shown S) (same : inside ≡ arg) where
+  pub does_of : (new : PagesView) (r : Result Reply TableFault) → Does tells (Opens (view inside.store).shape) index table t c (pages_of (view inside.store) inside) new r → Does tells (Opens (view arg.store).shape) index table t c (pages_of (view arg.store) arg) new r
+  does_of new r does = subst (λ (p : Shown S). Does tells (Opens (view p.store).shape) index table t c (pages_of (view p.store) p) new r) same does
 
-  pub ended : (pc : PageCommand) (new : Shown S) → Holds tells index (pages_of (view inside.store) inside) → (IsAlive (view inside.store) → IsCall tells index pc t c (pages_of (view inside.store) inside))
+  pub ended : (pc : PageCommand) (new : Shown S) → Holds tells index (pages_of (view inside.store) inside) → (IsAlive (view inside.store) → IsCall tells index pc table t c (pages_of (view inside.store) inside))
       → (T : Type 0) (reply : T → Reply) (r : Result T PageFault) → page_does.Does tells (Opens (view inside.store).shape) pc (pages_of (view inside.store) inside) (pages_of (view new.store) new) r
       → ((f : PageFault) → r ≡ Err f → f ≢ fault.Media → new ≡ inside) → (IsTrue tells → IfOk r (λ answer. Replies (state_of index (pages_of (view inside.store) inside)) t c (reply answer)))
       → (s : Result T TableFault) → s ≡ told_as r
-      → Does tells (Opens (view arg.store).shape) index t c (pages_of (view arg.store) arg) (pages_of (view new.store) new) (replied reply s) × Holds tells index (pages_of (view new.store) new)
+      → Does tells (Opens (view arg.store).shape) index table t c (pages_of (view arg.store) arg) (pages_of (view new.store) new) (replied reply s) × Holds tells index (pages_of (view new.store) new)
   ended pc new holds call T reply r does unchanged right s is =
-      let both = ends tells (Opens (view inside.store).shape) index pc t c (pages_of (view inside.store) inside) (pages_of (view new.store) new) holds call T reply r does
+      let both = ends tells (Opens (view inside.store).shape) index pc table t c (pages_of (view inside.store) inside) (pages_of (view new.store) new) holds call T reply r does
       (λ f e ne. ap (λ (p : Shown S). pages_of (view p.store) p) (unchanged f e ne)) right in (
         does_of (pages_of (view new.store) new) (replied reply s)
-            (subst (λ (x : Result T TableFault). Does tells (Opens (view inside.store).shape) index t c (pages_of (view inside.store) inside) (pages_of (view new.store) new) (replied reply x)) (sym is) both.0),
+            (subst (λ (x : Result T TableFault). Does tells (Opens (view inside.store).shape) index table t c (pages_of (view inside.store) inside) (pages_of (view new.store) new) (replied reply x)) (sym is) both.0),
         both.1,
       )

@@ -31,7 +31,8 @@ use Rattle.record_table.specs.declared.fault.TableFault.{TableFault}
 use Rattle.record_table.specs.declared.fault.TableFault.TheVariants.{Dead}
 use Rattle.record_table.proofs.Ending.{no_parts}
 use Rattle.record_table.proofs.Holding.{as_many_writes}
-use Rattle.record_table.proofs.SlotParts.{Laws, IsWritten, applied_parts, parts_carry}
+use Rattle.record_table.proofs.Sharing.{Laws}
+use Rattle.record_table.proofs.SlotParts.{IsWritten, applied_parts, parts_carry}
 
 parts_append : (index : Index) (d : List ℕ) (ps qs : List Part) → AreSlotParts index d ps → AreSlotParts index d qs → AreSlotParts index d (ps ++ qs)
 parts_append index d [] qs one other = other
@@ -87,7 +88,7 @@ module _ (tells : Bool) (Opens : List ℕ → List ℕ → Type 0) (index : Inde
   its_keys alive told =
       let tied = (holds alive).tied told in
       let w = group_written index laws before ts tied.sound tied.parts in
-      λ i. record { pairs = w.pairs i; next_slot = w.slots i; next_page = w.pages i; level = w.level i }
+      w.keys
 
   its_state : IsAlive old.store → IsTrue tells → shown_by index behind ≡ after_group ts (state_of index old)
   its_state alive told = let tied = (holds alive).tied told in group_shown index laws before ts tied.sound tied.parts

@@ -1,4 +1,6 @@
 pub mod Tables
+pub mod Joint
+pub mod Sharing
 pub mod SlotParts
 pub mod Looking
 pub mod Writing
@@ -15,3 +17,5 @@ pub mod Gathering
 pub mod Holding
 pub mod Fronts
 pub mod Main
+pub mod Upgraded
+pub mod Versions

@@ -1,5 +1,5 @@
 -- Calls below that leave records, writes and saves as they were: looks and insertions, one after another, and one that fails.
-use Rattle.std.proofs.Common.{◌≡◌, ◌≢◌, ℕ, ◌+◌, ◌*◌, ◌/◌, ◌<◌, ◌⊎◌, Bool, true, false, cond, inl, inr, IsTrue, List, [], ◌∷◌, Result, Ok, Err, refl, sym, ◌∙◌, ap, subst, arith}
+use Rattle.std.proofs.Common.{◌≡◌, ◌≢◌, ◌^◌, ℕ, ◌+◌, ◌*◌, ◌/◌, ◌<◌, ◌⊎◌, Bool, true, false, cond, inl, inr, IsTrue, List, [], ◌∷◌, Result, Ok, Err, refl, sym, ◌∙◌, ap, subst, arith}
 use Rattle.std.specs.Prelude.{nat_eq, nat_lt, map, Option, Some, None, IsFalse}
 use Rattle.std.proofs.lemmas.Bool.{cases_eq, false≢true, cases_Bool, eq-eqb, ne_eqb}
 use Rattle.mars_base.specs.Causes.{Rose}
@@ -9,23 +9,24 @@ use Rattle.eaw_face.specs.State.{State, listed}
 use Rattle.eaw_face.specs.StoreView.{LeavesOnly}
 use Rattle.eaw_face.specs.Causes.{IsAlive}
 use Rattle.record_slots.specs.Slots.{slot_said, slot_bytes}
-use Rattle.record_slots.specs.Places.{next_slot, slot_due}
+use Rattle.record_slots.specs.Places.{slot_of, next_slot, slot_due}
 use Rattle.record_slots.specs.declared.slot.Slot.TheVariants.{Absent}
-use Rattle.page_store.specs.Index.{Index, Grows, Gains}
+use Rattle.page_store.specs.Index.{Index, IsTable, Grows, Gains}
 use Rattle.page_store.specs.Index as face
 use Rattle.page_store.specs.Inserts.{Inserts, Made, is_insert_failed}
-use Rattle.page_store.specs.Pairs.{Pair, found, inserted}
+use Rattle.page_store.specs.Pairs.{Pair, found}
 use Rattle.page_store.specs.Shown.{PagesView, saved_of}
 use Rattle.page_store.specs.declared.index_fault.IndexFault.{IndexFault}
 use Rattle.page_store.specs.declared.index_fault.IndexFault.TheVariants as fault
 use Rattle.record_table.specs.Does.{OpensWith}
 use Rattle.record_table.specs.Invariant.{AreSlotParts, IsTied, Rests}
-use Rattle.record_table.specs.Shown.{value_of, table_in, table_of, write_of, writes_of, state_of}
+use Rattle.record_table.specs.Shown.{value_of, table_in, table_of, write_of, writes_of, state_of, asked_tables, pairs_of}
 use Rattle.record_table.specs.Sought.{LooksAs}
-use Rattle.record_table.specs.State.{TableState}
+use Rattle.record_table.specs.State.{TableState, key_in}
 use Rattle.history.proofs.Tables.{same_table}
 use Rattle.record_table.proofs.Tables.{record_at, get-table_in}
-use Rattle.record_table.proofs.SlotParts.{Laws, found_given, due_next}
+use Rattle.record_table.proofs.Sharing.{Laws, placed, found_in, pairs_kept, gained}
+use Rattle.record_table.proofs.SlotParts.{one_slot}
 
 -- records, writes and saves are as they were, and the invariant holds
 pub record Moved (tells : Bool) (Opens : List ℕ → List ℕ → Type 0) (index : Index) (t : ℕ) (old new : PagesView) : Type 0 where
@@ -122,42 +123,18 @@ module _ (tells : Bool) (Opens : List ℕ → List ℕ → Type 0) (index : Inde
     pub failed_by_look : LooksAs tells Opens t true old new → Failed tells Opens index t old new
     failed_by_look looks = record { shape = looks.shape; dies = looks.dies refl; counts = looks.saves; others = looks.others; time = looks_time true looks }
 
--- what is found for a key after another was inserted
-pub found_inserted : (ps : List Pair) (key to q : ℕ) → q ≢ key → found (inserted ps key to) q ≡ found ps q
-found_inserted [] key to q ne = ap (λ (b : Bool). cond b (Some to) None) (ne_eqb key q (λ e. ne (sym e)))
-found_inserted (p ∷ ps) key to q ne = go (nat_lt key p.0) (found_inserted ps key to q ne)
-  where
-    go : (b : Bool) → found (inserted ps key to) q ≡ found ps q → found (cond b ((key, to) ∷ p ∷ ps) (p ∷ inserted ps key to)) q ≡ found (p ∷ ps) q
-    go true rest = ap (λ (b : Bool). cond b (Some to) (found (p ∷ ps) q)) (ne_eqb key q (λ e. ne (sym e)))
-    go false rest = ap (λ (o : Option ℕ). cond (nat_eq p.0 q) (Some p.1) o) rest
+module _ (index : Index) (laws : Laws index) (table root key : ℕ) (asked : table < asked_tables) (small : key < 2 ^ 64) (d e : List ℕ) (sound : index.sound d) (named : IsTable d table root) (absent : found (index.pairs d root) key ≡ None)
+    (grows : Grows index root d e) where
+  -- the key, which is new, among those of all tables
+  new_key : found (pairs_of index d) (key_in table key) ≡ None
+  new_key = found_in index laws d table root key sound asked named small ∙ absent
 
-pub found_new : (ps : List Pair) (key to : ℕ) → found ps key ≡ None → found (inserted ps key to) key ≡ Some to
-found_new [] key to none = ap (λ (b : Bool). cond b (Some to) None) (eq-eqb key key refl)
-found_new (p ∷ ps) key to none = go (nat_lt key p.0) (found_new ps key to)
-  where
-    other : nat_eq p.0 key ≡ false
-    other = elim (cases_Bool (nat_eq p.0 key)) [ inl is ↦ absurd (let e : Some p.1 ≡ None = sym (ap (λ (b : Bool). cond b (Some p.1) (found ps key)) is) ∙ none in cc) | inr isnt ↦ isnt ]
+  -- given slots are as they were
+  record_kept : ((q slot : ℕ) → found (pairs_of index d) q ≡ Some slot → slot_of e slot ≡ slot_of d slot) → (o : Option ℕ) (q : ℕ) → found (pairs_of index d) q ≡ o → record_at e o ≡ record_at d o
+  record_kept slots None q is = refl
+  record_kept slots (Some slot) q is = ap (λ (b : List ℕ). value_of (slot_said b)) (slots q slot is)
 
-    rest_none : found ps key ≡ None
-    rest_none = sym (ap (λ (b : Bool). cond b (Some p.1) (found ps key)) other) ∙ none
-
-    go : (b : Bool) → (found ps key ≡ None → found (inserted ps key to) key ≡ Some to) → found (cond b ((key, to) ∷ p ∷ ps) (p ∷ inserted ps key to)) key ≡ Some to
-    go true rest = ap (λ (b : Bool). cond b (Some to) (found (p ∷ ps) key)) (eq-eqb key key refl)
-    go false rest = ap (λ (b : Bool). cond b (Some p.1) (found (inserted ps key to) key)) other ∙ rest rest_none
-
-module _ (index : Index) (laws : Laws index) (key : ℕ) (d e : List ℕ) (sound : index.sound d) (absent : found (index.pairs d 1) key ≡ None) (grows : Grows index 1 d e) where
-  -- the slot of a key is not the one that is due
-  at : (q slot : ℕ) → found (index.pairs d 1) q ≡ Some slot → (slot < next_slot d) × (slot ≢ slot_due d)
-  at q slot is =
-      let g = found_given d (index.pairs d 1) q slot (laws.given d 0 1 sound (laws.counts d sound).main) is in
-      (g.0, λ e. omega (arith, g.0, e, due_next index laws d sound))
-
-  -- the slots of keys are as they were
-  record_kept : (o : Option ℕ) (q : ℕ) → found (index.pairs d 1) q ≡ o → record_at e o ≡ record_at d o
-  record_kept None q is = refl
-  record_kept (Some slot) q is = ap (λ (b : List ℕ). value_of (slot_said b)) (grows.slots slot (at q slot is).0 (at q slot is).1)
-
-  part_kept : (pairs : (q slot : ℕ) → found (index.pairs d 1) q ≡ Some slot → found (index.pairs e 1) q ≡ Some slot) (log : List Part) → AreSlotParts index d log → AreSlotParts index e log
+  part_kept : (pairs : (q slot : ℕ) → found (pairs_of index d) q ≡ Some slot → found (pairs_of index e) q ≡ Some slot) (log : List Part) → AreSlotParts index d log → AreSlotParts index e log
   part_kept pairs [] parts = tt
   part_kept pairs (p ∷ ps) parts = (
     record {
@@ -165,68 +142,98 @@ module _ (index : Index) (laws : Laws index) (key : ℕ) (d e : List ℕ) (sound
       named = pairs (write_of p).0 parts.0.slot parts.0.named;
       place = parts.0.place ∙ ap (λ (n : ℕ). 64 * (4 * (n / 512) + parts.0.slot)) (sym grows.size);
       size = parts.0.size;
+      table = parts.0.table;
+      key = parts.0.key;
+      small = parts.0.small;
       says = parts.0.says;
     },
     part_kept pairs ps parts.1,
   )
 
-  resting : face.Rests index 1 d e → (table_of index e ≡ table_of index d) × ((log : List Part) → AreSlotParts index d log → AreSlotParts index e log)
-  unfolding table_of
-  resting rests = (
-    same_table (table_in e (index.pairs e 1)) (table_in d (index.pairs d 1)) (λ q.
-        get-table_in e (index.pairs e 1) q ∙ ap (λ (l : List Pair). record_at e (found l q)) rests.pairs ∙ record_kept (found (index.pairs d 1) q) q refl ∙ sym (get-table_in d (index.pairs d 1) q)),
-    part_kept (λ q slot is. ap (λ (l : List Pair). found l q) rests.pairs ∙ is),
-  )
+  -- the slot that is due is as it was too
+  resting_slot : face.Rests index root d e → (q slot : ℕ) → found (pairs_of index d) q ≡ Some slot → slot_of e slot ≡ slot_of d slot
+  resting_slot rests q slot is = elim (cases_eq slot (slot_due d)) [
+    | inl same ↦ subst (λ (s : ℕ). slot_of e s ≡ slot_of d s) (sym same) rests.same
+    | inr ne ↦ grows.slots slot (placed index laws d sound q slot is).given ne
+  ]
 
-  other_than : (q slot : ℕ) → found (index.pairs d 1) q ≡ Some slot → q ≢ key
-  other_than q slot is same = let x : Some slot ≡ None = sym is ∙ ap (found (index.pairs d 1)) same ∙ absent in absurd (cc)
-
-  gaining : slot_said (slot_bytes (Absent 0 key)) ≡ Some (Absent 0 key) → Gains index 1 0 key d e → (table_of index e ≡ table_of index d) × ((log : List Part) → AreSlotParts index d log → AreSlotParts index e log)
+  resting : face.Rests index root d e → (table_of index e ≡ table_of index d) × ((log : List Part) → AreSlotParts index d log → AreSlotParts index e log)
   unfolding table_of
-  gaining reads gains = (
-    same_table (table_in e (index.pairs e 1)) (table_in d (index.pairs d 1)) (λ q.
-        get-table_in e (index.pairs e 1) q ∙ ap (λ (l : List Pair). record_at e (found l q)) gains.pairs
-        ∙ elim (cases_eq q key) [
-          | inl same ↦
-              ap (λ (k : ℕ). record_at e (found (inserted (index.pairs d 1) key (slot_due d)) k)) same
-              ∙ ap (record_at e) (found_new (index.pairs d 1) key (slot_due d) absent)
-              ∙ ap (λ (b : List ℕ). value_of (slot_said b)) gains.fresh ∙ ap value_of reads
-              ∙ sym (ap (λ (k : ℕ). record_at d (found (index.pairs d 1) k)) same ∙ ap (record_at d) absent)
-          | inr ne ↦ ap (record_at e) (found_inserted (index.pairs d 1) key (slot_due d) q ne) ∙ record_kept (found (index.pairs d 1) q) q refl
-        ]
-        ∙ sym (get-table_in d (index.pairs d 1) q)),
-    part_kept (λ q slot is. ap (λ (l : List Pair). found l q) gains.pairs ∙ found_inserted (index.pairs d 1) key (slot_due d) q (other_than q slot is) ∙ is),
-  )
+  resting rests =
+      let pairs = pairs_kept index laws d e table root sound named grows rests in (
+        same_table (table_in e (pairs_of index e)) (table_in d (pairs_of index d)) (λ q.
+            get-table_in e (pairs_of index e) q ∙ ap (λ (l : List Pair). record_at e (found l q)) pairs ∙ record_kept (resting_slot rests) (found (pairs_of index d) q) q refl ∙ sym (get-table_in d (pairs_of index d) q)),
+        part_kept (λ q slot is. ap (λ (l : List Pair). found l q) pairs ∙ is),
+      )
+
+  other_than : (q slot : ℕ) → found (pairs_of index d) q ≡ Some slot → key_in table key ≢ q
+  other_than q slot is same = let x : Some slot ≡ None = sym is ∙ ap (found (pairs_of index d)) (sym same) ∙ new_key in absurd (cc)
+
+  module _ (gains : Gains index root table key d e) where
+    found_still : (q slot : ℕ) → found (pairs_of index d) q ≡ Some slot → found (pairs_of index e) q ≡ Some slot
+    found_still q slot is =
+        gained index laws d e table root sound named grows asked key small absent gains q
+        ∙ ap (λ (b : Bool). cond b (Some (slot_due d)) (found (pairs_of index d) q)) (ne_eqb (key_in table key) q (other_than q slot is)) ∙ is
+
+    pub found_due : found (pairs_of index e) (key_in table key) ≡ Some (slot_due d)
+    found_due =
+        gained index laws d e table root sound named grows asked key small absent gains (key_in table key)
+        ∙ ap (λ (b : Bool). cond b (Some (slot_due d)) (found (pairs_of index d) (key_in table key))) (eq-eqb (key_in table key) (key_in table key) refl)
+
+    -- the slot of another key is not the one that was due
+    gaining_slot : (q slot : ℕ) → found (pairs_of index d) q ≡ Some slot → slot_of e slot ≡ slot_of d slot
+    gaining_slot q slot is =
+        grows.slots slot (placed index laws d sound q slot is).given
+        (λ same. other_than q slot is (one_slot index laws e grows.sound (key_in table key) q slot (found_due ∙ ap Some (sym same)) (found_still q slot is)))
+
+    gaining : slot_said (slot_bytes (Absent table key)) ≡ Some (Absent table key) → (table_of index e ≡ table_of index d) × ((log : List Part) → AreSlotParts index d log → AreSlotParts index e log)
+    unfolding table_of
+    gaining reads = (
+      same_table (table_in e (pairs_of index e)) (table_in d (pairs_of index d)) (λ q.
+          get-table_in e (pairs_of index e) q ∙ ap (record_at e) (gained index laws d e table root sound named grows asked key small absent gains q)
+          ∙ elim (cases_eq (key_in table key) q) [
+            | inl same ↦
+                ap (λ (b : Bool). record_at e (cond b (Some (slot_due d)) (found (pairs_of index d) q))) (eq-eqb (key_in table key) q same)
+                ∙ ap (λ (b : List ℕ). value_of (slot_said b)) gains.fresh ∙ ap value_of reads
+                ∙ sym (ap (λ (k : ℕ). record_at d (found (pairs_of index d) k)) (sym same) ∙ ap (record_at d) new_key)
+            | inr ne ↦
+                ap (λ (b : Bool). record_at e (cond b (Some (slot_due d)) (found (pairs_of index d) q))) (ne_eqb (key_in table key) q ne)
+                ∙ record_kept gaining_slot (found (pairs_of index d) q) q refl
+          ]
+          ∙ sym (get-table_in d (pairs_of index d) q)),
+      part_kept found_still,
+    )
 
   -- data during or after the insertion has the same records
-  pub insertion_keeps : slot_said (slot_bytes (Absent 0 key)) ≡ Some (Absent 0 key) → (face.Rests index 1 d e ⊎ Gains index 1 0 key d e)
+  pub insertion_keeps : slot_said (slot_bytes (Absent table key)) ≡ Some (Absent table key) → (face.Rests index root d e ⊎ Gains index root table key d e)
       → (table_of index e ≡ table_of index d) × ((log : List Part) → AreSlotParts index d log → AreSlotParts index e log)
-  insertion_keeps reads either = elim either [ inl r ↦ resting r | inr g ↦ gaining reads g ]
+  insertion_keeps reads either = elim either [ inl r ↦ resting r | inr g ↦ gaining g reads ]
 
-either_of : (index : Index) (key : ℕ) (d e : List ℕ) (r : Result ℕ IndexFault) → IsFalse (is_insert_failed r) → Made index 1 0 key d e r → Grows index 1 d e × (face.Rests index 1 d e ⊎ Gains index 1 0 key d e)
-either_of index key d e (Ok slot) well made = (made.1, inr made.2)
-either_of index key d e (Err fault.Media) well made = absurd (false≢true (sym well))
-either_of index key d e (Err (fault.PagesFull n)) well made = (made.0, inl made.1)
-either_of index key d e (Err (fault.SlotsFull n)) well made = (made.0, inl made.1)
-either_of index key d e (Err (fault.LogFull g h n)) well made = (made.0, inl made.1)
-either_of index key d e (Err fault.Dead) well made = (made.0, inl made.1)
-either_of index key d e (Err (fault.Damaged p)) well made = (made.0, inl made.1)
+either_of : (index : Index) (table root key : ℕ) (d e : List ℕ) (r : Result ℕ IndexFault) → IsFalse (is_insert_failed r) → Made index root table key d e r → Grows index root d e × (face.Rests index root d e ⊎ Gains index root table key d e)
+either_of index table root key d e (Ok slot) well made = (made.1, inr made.2)
+either_of index table root key d e (Err fault.Media) well made = absurd (false≢true (sym well))
+either_of index table root key d e (Err (fault.PagesFull n)) well made = (made.0, inl made.1)
+either_of index table root key d e (Err (fault.SlotsFull n)) well made = (made.0, inl made.1)
+either_of index table root key d e (Err (fault.LogFull g h n)) well made = (made.0, inl made.1)
+either_of index table root key d e (Err fault.Dead) well made = (made.0, inl made.1)
+either_of index table root key d e (Err (fault.Damaged p)) well made = (made.0, inl made.1)
 
-module _ (tells : Bool) (Opens : List ℕ → List ℕ → Type 0) (index : Index) (laws : Laws index) (t key : ℕ) (reads : slot_said (slot_bytes (Absent 0 key)) ≡ Some (Absent 0 key)) (old new : PagesView) (alive : IsAlive old.store)
-    (rests : Rests tells index old) (absent : IsTrue tells → found (index.pairs old.store.state.bytes 1) key ≡ None) (r : Result ℕ IndexFault) (does : Inserts tells Opens index t 1 0 key old new r) where
+module _ (tells : Bool) (Opens : List ℕ → List ℕ → Type 0) (index : Index) (laws : Laws index) (t table root key : ℕ) (asked : table < asked_tables) (small : key < 2 ^ 64) (reads : slot_said (slot_bytes (Absent table key)) ≡ Some (Absent table key)) (old new : PagesView) (alive : IsAlive old.store)
+    (rests : Rests tells index old) (named : IsTrue tells → IsTable old.store.state.bytes table root) (absent : IsTrue tells → found (index.pairs old.store.state.bytes root) key ≡ None) (r : Result ℕ IndexFault)
+    (does : Inserts tells Opens index t root table key old new r) where
   insert_time : IsTrue tells → LeavesOnly (λ image. OpensWith Opens index image (state_of index old).table) old.store new.store
   insert_time told = weaker (λ image left. record {
     bytes = left.0;
     opened = left.1;
     sound = left.2.0.sound;
-    shows = (insertion_keeps index laws key old.store.state.bytes left.0 (rests.tied told).sound (absent told) left.2.0 reads left.2.1).0;
+    shows = (insertion_keeps index laws table root key asked small old.store.state.bytes left.0 (rests.tied told).sound (named told) (absent told) left.2.0 reads left.2.1).0;
   }) (does.time told alive)
 
   pub moved_by_insert : IsFalse (is_insert_failed r) → Moved tells Opens index t old new
   moved_by_insert well =
       let kept = does.kept well in
-      let made = λ (told : IsTrue tells). either_of index key old.store.state.bytes new.store.state.bytes r well (does.made told alive) in
-      let keeps = λ (told : IsTrue tells). insertion_keeps index laws key old.store.state.bytes new.store.state.bytes (rests.tied told).sound (absent told) (made told).0 reads (made told).1 in
+      let made = λ (told : IsTrue tells). either_of index table root key old.store.state.bytes new.store.state.bytes r well (does.made told alive) in
+      let keeps = λ (told : IsTrue tells). insertion_keeps index laws table root key asked small old.store.state.bytes new.store.state.bytes (rests.tied told).sound (named told) (absent told) (made told).0 reads (made told).1 in
       record {
         shape = does.shape;
         dead = kept.dead;

@@ -26,14 +26,15 @@ use Rattle.record_table.specs.Sought.{Finds, value_at}
 use Rattle.record_table.specs.State.{seen_by}
 use Rattle.record_table.specs.declared.slots.Place.{Place}
 use Rattle.record_table.proofs.Tables.{record_at}
-use Rattle.record_table.proofs.SlotParts.{Laws, IsWritten, applied_parts, seen_at, found_slot}
+use Rattle.record_table.proofs.Sharing.{Laws, placed}
+use Rattle.record_table.proofs.SlotParts.{IsWritten, applied_parts, seen_at}
 
 slot_read : (e : List ℕ) (shape : Shape) (slot : ℕ) → length e ≡ data_len shape → range e (64 * (slots_of shape + slot)) 64 ≡ slot_of e slot
 unfolding slot_of
 slot_read e shape slot long = let at : 64 * (slots_of shape + slot) ≡ 64 * (4 * (length e / 512) + slot) = omega (arith, long) in ap (λ (n : ℕ). range e n 64) at
 
-no_slot : (key : ℕ) (said : Option Slot) → said ≡ None → IsOfKey 0 key said → ⊥
-no_slot key said none of = subst (IsOfKey 0 key) none of
+no_slot : (table key : ℕ) (said : Option Slot) → said ≡ None → IsOfKey table key said → ⊥
+no_slot table key said none of = subst (IsOfKey table key) none of
 
 module _ (index : Index) (laws : Laws index) (t key : ℕ) (old : PagesView) (tied : IsTied index old) where
   pub seen_none : slot_in index old key ≡ None → get (seen_by (state_of index old) t) key ≡ None
@@ -59,8 +60,8 @@ module _ (index : Index) (laws : Laws index) (t key : ℕ) (old : PagesView) (ti
     unfolding Carries
     some_slot read =
         let w = applied_parts index laws (listed (old.store.state.logs t)) old.store.state.bytes tied.sound (tied.parts t) in
-        let carries = (found_slot index laws (applied (listed (old.store.state.logs t)) old.store.state.bytes) w.sound key slot (ap (λ l. found l key) w.pairs ∙ is)).1 in
-        no_slot key (slot_said (slot_of (applied (listed (old.store.state.logs t)) old.store.state.bytes) slot)) (sym (read ∙ read_is)) carries
+        let p = placed index laws (applied (listed (old.store.state.logs t)) old.store.state.bytes) w.sound key slot (ap (λ l. found l key) w.pairs ∙ is) in
+        no_slot p.table p.key (slot_said (slot_of (applied (listed (old.store.state.logs t)) old.store.state.bytes) slot)) (sym (read ∙ read_is)) p.carries
 
 -- the value of what was found
 pub found_value : (index : Index) (t key : ℕ) (old : PagesView) (found : Option Place) → Finds index t key old found → get (seen_by (state_of index old) t) key ≡ value_at found

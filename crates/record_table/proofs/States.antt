@@ -22,7 +22,8 @@ use Rattle.record_table.specs.State.{TableState}
 use Rattle.record_table.specs.Calls.{after}
 use Rattle.record_table.specs.Shown.{table_of, write_of, writes_of, shown_by}
 use Rattle.record_table.specs.Invariant.{IsSlotPart, AreSlotParts}
-use Rattle.record_table.proofs.SlotParts.{Laws, IsWritten, applied_parts, parts_carry}
+use Rattle.record_table.proofs.Sharing.{Laws}
+use Rattle.record_table.proofs.SlotParts.{IsWritten, applied_parts, parts_carry}
 use Rattle.record_table.proofs.Writing.{writes_after, parts_after}
 
 -- a function with its own value put at a place

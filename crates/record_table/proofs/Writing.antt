@@ -16,9 +16,10 @@ use Rattle.page_store.proofs.Edit.{written_later}
 use Rattle.page_store.proofs.Parts.{put_whole}
 use Rattle.page_store.proofs.Writes.{write_ind}
 use Rattle.history.specs.Writes as table
-use Rattle.record_table.specs.Shown.{write_said, write_of, writes_of}
+use Rattle.record_table.specs.Shown.{write_said, write_of, writes_of, pairs_of}
 use Rattle.record_table.specs.Invariant.{IsSlotPart, AreSlotParts}
-use Rattle.record_table.proofs.SlotParts.{Laws, one_slot}
+use Rattle.record_table.proofs.Sharing.{Laws}
+use Rattle.record_table.proofs.SlotParts.{one_slot}
 
 both_false : (a b : Bool) → (a ≡ true → b ≡ true → ⊥) → (a && b) ≡ false
 both_false true true never = absurd (never refl refl)
@@ -50,7 +51,7 @@ module _ (index : Index) (laws : Laws index) (d : List ℕ) (sound : index.sound
 
   same_place : (p : Part) → IsSlotPart index d p → (write_of p).0 ≡ (write_of new).0 → (p.0 ≡ new.0) × (length p.1 ≡ length new.1)
   same_place p at key =
-      let slot : at.slot ≡ is.slot = same_Some at.slot is.slot (sym at.named ∙ ap (found (index.pairs d 1)) key ∙ is.named) in
+      let slot : at.slot ≡ is.slot = same_Some at.slot is.slot (sym at.named ∙ ap (found (pairs_of index d)) key ∙ is.named) in
       (at.place ∙ ap (slot_at d) slot ∙ sym is.place, at.size ∙ sym is.size)
 
   other_place : (p : Part) (at : IsSlotPart index d p) → (write_of p).0 ≢ (write_of new).0 → at.slot ≢ is.slot

@@ -1,5 +1,5 @@
 -- One write of a slot, as records see it.
-use Rattle.std.proofs.Common.{◌≡◌, ◌≢◌, ℕ, ◌+◌, ◌*◌, ◌≤◌, Bool, true, false, cond, inl, inr, IsTrue, List, [], ◌∷◌, length, Result, Ok, Err, refl, sym, ◌∙◌, ap, subst, arith}
+use Rattle.std.proofs.Common.{◌≡◌, ◌≢◌, ◌^◌, ℕ, ◌+◌, ◌*◌, ◌<◌, ◌≤◌, Bool, true, false, cond, inl, inr, IsTrue, List, [], ◌∷◌, length, Result, Ok, Err, refl, sym, ◌∙◌, ap, subst, arith}
 use Rattle.std.specs.Prelude.{nat_eq, is_some, Option, Some, None}
 use Rattle.std.proofs.lemmas.Bool.{false≢true}
 use Rattle.mars_base.proofs.Going.{weaker}
@@ -29,9 +29,9 @@ use Rattle.page_store.proofs.Shown.{IsTold, outlined}
 use Rattle.record_table.specs.Causes.{HasRoom, IsFull, IsShort}
 use Rattle.record_table.specs.Does.{OpensWith}
 use Rattle.record_table.specs.Invariant.{IsSlotPart, AreSlotParts, IsTied, Rests}
-use Rattle.record_table.specs.Shown.{write_said, state_of, shown_by, held_on}
+use Rattle.record_table.specs.Shown.{write_said, state_of, shown_by, pairs_of, held_on}
 use Rattle.history.specs.Log.{floor_of, is_rewritten}
-use Rattle.record_table.proofs.SlotParts.{Laws}
+use Rattle.record_table.proofs.Sharing.{Laws}
 use Rattle.record_table.proofs.Writing.{rewrites}
 use Rattle.record_table.proofs.States.{written, floors, shown_write, parts_write}
 use Rattle.record_table.proofs.Moving.{Failed}
@@ -66,18 +66,21 @@ at_most_one true = omega arith
 at_most_one false = omega arith
 
 module _ (tells : Bool) (Opens : List ℕ → List ℕ → Type 0) (index : Index) (laws : Laws index) (t slot : ℕ) (said : Slot) (old new : PagesView) (alive : IsAlive old.store) (rests : Rests tells index old)
-    (told_by : IsTrue tells → IsTold old.store) (ordered : IsOrdered (outline_of old)) (named : IsTrue tells → found (index.pairs old.store.state.bytes 1) (write_said (Some said)).0 ≡ Some slot)
-    (reads : slot_said (slot_bytes said) ≡ Some said) (whole : length (slot_bytes said) ≡ 64) (of_main : IsOfKey 0 (write_said (Some said)).0 (Some said)) where
+    (told_by : IsTrue tells → IsTold old.store) (ordered : IsOrdered (outline_of old)) (named : IsTrue tells → found (pairs_of index old.store.state.bytes) (write_said (Some said)).0 ≡ Some slot)
+    (reads : slot_said (slot_bytes said) ≡ Some said) (whole : length (slot_bytes said) ≡ 64) (table key : ℕ) (small : key < 2 ^ 64) (of : IsOfKey table key (Some said)) where
   addr : ℕ
   addr = 64 * (slots_of old.store.shape + slot)
 
   part_is : IsTrue tells → IsSlotPart index old.store.state.bytes (64 * (slots_of old.store.shape + slot), slot_bytes said)
   part_is told = record {
     slot = slot;
-    named = ap (λ (s : Option Slot). found (index.pairs old.store.state.bytes 1) (write_said s).0) reads ∙ named told;
+    named = ap (λ (s : Option Slot). found (pairs_of index old.store.state.bytes) (write_said s).0) reads ∙ named told;
     place = omega (arith, (told_by told).long);
     size = whole;
-    says = subst (λ (s : Option Slot). IsOfKey 0 (write_said s).0 s) (sym reads) of_main;
+    table = table;
+    key = key;
+    small = small;
+    says = subst (λ (s : Option Slot). IsOfKey table key s) (sym reads) of;
   }
 
   floor_is : IsTrue tells → floor_in (outline_of old) t ≡ floor_of ((state_of index old).logs t)

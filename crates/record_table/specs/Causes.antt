@@ -1,19 +1,19 @@
 -- When each answer comes. `Dead` goes first, then the refusals in their order.
-use Rattle.std.specs.Prelude.{ℕ, ◌≡◌, ◌-◌, ◌<◌, ◌≤◌, ◌⊎◌, Bool, true, false, IsTrue, length, Option, Some, None, IsSome, Result, Ok, Err, List}
+use Rattle.std.specs.Prelude.{ℕ, ◌≡◌, ◌-◌, ◌<◌, ◌≤◌, ◌⊎◌, Bool, true, false, IsTrue, length, Option, Some, None, IsSome, Result, Ok, Err, List, []}
 use Rattle.std.specs.FinMap.{get}
 use Rattle.mars_base.specs.Room.{HaveRoom, IsFirstFull}
 use Rattle.eaw_face.specs.Causes.{IsAlive}
 use Rattle.eaw_face.specs.StoreView.{StoreView}
-use Rattle.record_slots.specs.Places.{next_slot, next_page}
+use Rattle.record_slots.specs.Places.{used_slots, slot_due, root_of}
 use Rattle.history.specs.Log.{is_rewritten}
 use Rattle.history.specs.declared.call.Call.{Call}
 use Rattle.history.specs.declared.call.Call.TheVariants.{Get, Put, Del, Scan, Save}
 use Rattle.page_store.specs.Index.{Action, Index, slots_of, index_pages_of}
-use Rattle.page_store.specs.Inserts.{AllFit, LackPages, LackRoom}
+use Rattle.page_store.specs.Inserts.{AllFit, LackPages, LackRoom, pages_left}
 use Rattle.page_store.specs.Pairs.{found}
 use Rattle.page_store.specs.Shown.{PagesView}
-use Rattle.record_table.specs.State.{seen_by}
-use Rattle.record_table.specs.Shown.{state_of, held_on, needed_on}
+use Rattle.record_table.specs.State.{seen_by, key_in}
+use Rattle.record_table.specs.Shown.{state_of, pairs_of, held_on, needed_on}
 use Rattle.record_table.specs.declared.fault.TableFault.{TableFault}
 use Rattle.record_table.specs.declared.fault.TableFault.TheVariants.{SlotsFull, PagesFull, SavesFull, LogFull, Media, Dead, Damaged, NoMemory}
 
@@ -33,37 +33,45 @@ IsFull index t old key slot g h n = (rewrites index old t key ≡ false) × IsFi
 abbrev pub IsSeen : Index → PagesView → ℕ → ℕ → Type 0
 IsSeen index old t key = IsSome (get (seen_by (state_of index old) t) key)
 
--- the slot of a key, if the index has the key
+-- the slot of a key, if an index has the key
 abbrev pub slot_in : Index → PagesView → ℕ → Option ℕ
-slot_in index old key = found (index.pairs old.store.state.bytes 1) key
+slot_in index old key = found (pairs_of index old.store.state.bytes) key
 
--- How far the insertion of a key comes, where no slot and no page is free: a slot is left to give out, and then the actions follow one another.
-abbrev pub ComesTo : Index → ℕ → StoreView → (ℕ → List Action → Type 0) → Type 0
-ComesTo index key old Ends =
-    (next_slot old.state.bytes < slots_of old.shape) × Ends (index_pages_of old.shape - next_page old.state.bytes) (index.actions old.state.bytes 1 key)
+-- the actions of the insertion of a key into the index of its table
+abbrev pub actions_under : Index → List ℕ → ℕ → Option ℕ → List Action
+actions_under index bytes key None = []
+actions_under index bytes key (Some root) = index.actions bytes root key
+
+abbrev pub actions_in : Index → List ℕ → ℕ → ℕ → List Action
+actions_in index bytes table key = actions_under index bytes (key - key_in table 0) (root_of bytes table)
+
+-- How far the insertion of a key of a table comes: a slot is left, and then the actions follow one another.
+abbrev pub ComesTo : Index → ℕ → ℕ → StoreView → (ℕ → List Action → Type 0) → Type 0
+ComesTo index table key old Ends =
+    (used_slots old.state.bytes < slots_of old.shape) × Ends (pages_left old.shape old.state.bytes) (actions_in index old.state.bytes table key)
 
 -- There is room for a value in the slot of its key. If the index lacks the key, there is room first for its insertion and then for the
--- value in the next slot.
-abbrev pub PutFits : Index → ℕ → ℕ → PagesView → Option ℕ → Type 0
-PutFits index t key old None = ComesTo index key old.store (AllFit old.store t) × HasRoom index t old key (next_slot old.store.state.bytes)
-PutFits index t key old (Some slot) = HasRoom index t old key slot
+-- value in the slot that is due.
+abbrev pub PutFits : Index → ℕ → ℕ → ℕ → PagesView → Option ℕ → Type 0
+PutFits index table t key old None = ComesTo index table key old.store (AllFit old.store t) × HasRoom index t old key (slot_due old.store.state.bytes)
+PutFits index table t key old (Some slot) = HasRoom index t old key slot
 
-abbrev pub PutLacks : Index → ℕ → ℕ → PagesView → ℕ → ℕ → ℕ → Option ℕ → Type 0
-PutLacks index t key old g h n None = ComesTo index key old.store (LackRoom old.store t g h n)
-    ⊎ (ComesTo index key old.store (AllFit old.store t) × IsFull index t old key (next_slot old.store.state.bytes) g h n)
-PutLacks index t key old g h n (Some slot) = IsFull index t old key slot g h n
+abbrev pub PutLacks : Index → ℕ → ℕ → ℕ → PagesView → ℕ → ℕ → ℕ → Option ℕ → Type 0
+PutLacks index table t key old g h n None = ComesTo index table key old.store (LackRoom old.store t g h n)
+    ⊎ (ComesTo index table key old.store (AllFit old.store t) × IsFull index t old key (slot_due old.store.state.bytes) g h n)
+PutLacks index table t key old g h n (Some slot) = IsFull index t old key slot g h n
 
 -- a call that writes finds room
-abbrev pub Fits : Index → PagesView → ℕ → Call → Type 0
-Fits index old t (Put key value) = PutFits index t key old (slot_in index old key)
-Fits index old t (Del key) = IsSeen index old t key → (slot : ℕ) × (slot_in index old key ≡ Some slot) × HasRoom index t old key slot
-Fits index old t call = Unit {0}
+abbrev pub Fits : Index → ℕ → PagesView → ℕ → Call → Type 0
+Fits index table old t (Put key value) = PutFits index table t key old (slot_in index old key)
+Fits index table old t (Del key) = IsSeen index old t key → (slot : ℕ) × (slot_in index old key ≡ Some slot) × HasRoom index t old key slot
+Fits index table old t call = Unit {0}
 
 -- a call that writes finds no room at logger g
-abbrev pub Lacks : Index → PagesView → ℕ → ℕ → ℕ → ℕ → Call → Type 0
-Lacks index old g h n t (Put key value) = PutLacks index t key old g h n (slot_in index old key)
-Lacks index old g h n t (Del key) = IsSeen index old t key × (slot : ℕ) × (slot_in index old key ≡ Some slot) × IsFull index t old key slot g h n
-Lacks index old g h n t call = ⊥
+abbrev pub Lacks : Index → ℕ → PagesView → ℕ → ℕ → ℕ → ℕ → Call → Type 0
+Lacks index table old g h n t (Put key value) = PutLacks index table t key old g h n (slot_in index old key)
+Lacks index table old g h n t (Del key) = IsSeen index old t key × (slot : ℕ) × (slot_in index old key ≡ Some slot) × IsFull index t old key slot g h n
+Lacks index table old g h n t call = ⊥
 
 -- logger g is the first without room for what some write needs, at most four
 abbrev pub IsShort : PagesView → ℕ → ℕ → ℕ → ℕ → Type 0
@@ -75,15 +83,15 @@ MayLack old g h n t (Put key value) = IsShort old t g h n
 MayLack old g h n t (Del key) = IsShort old t g h n
 MayLack old g h n t call = ⊥
 
--- an insertion is due, and all n slots are given out
+-- an insertion is due, and all n slots are in use
 abbrev pub LacksSlot : Index → PagesView → ℕ → Call → Type 0
-LacksSlot index old n (Put key value) = (slot_in index old key ≡ None) × (next_slot old.store.state.bytes ≡ n)
+LacksSlot index old n (Put key value) = (slot_in index old key ≡ None) × (used_slots old.store.state.bytes ≡ n)
 LacksSlot index old n call = ⊥
 
 -- an insertion is due that splits a page for which no pages are left
-abbrev pub LacksPage : Index → PagesView → ℕ → Call → Type 0
-LacksPage index old t (Put key value) = (slot_in index old key ≡ None) × ComesTo index key old.store (LackPages old.store t)
-LacksPage index old t call = ⊥
+abbrev pub LacksPage : Index → ℕ → PagesView → ℕ → Call → Type 0
+LacksPage index table old t (Put key value) = (slot_in index old key ≡ None) × ComesTo index table key old.store (LackPages old.store t)
+LacksPage index table old t call = ⊥
 
 abbrev pub IsPut : Call → Type 0
 IsPut (Put key value) = Unit {0}
@@ -111,13 +119,13 @@ IsScan (Scan low high) = Unit {0}
 IsScan call = ⊥
 
 -- The cause of each answer. If the store tells its data, each comes exactly then, except for faults of the medium and a lack of memory.
-abbrev pub Cause : {T : Type 0} → Bool → Index → ℕ → Call → PagesView → Result T TableFault → Type 0
-Cause tells index t c old (Ok answer) = IsAlive old.store × MaySave old t c × (IsTrue tells → Fits index old t c)
-Cause tells index t c old (Err Dead) = old.store.is_dead ≡ true
-Cause tells index t c old (Err (SlotsFull n)) = IsAlive old.store × IsPut c × (n ≡ slots_of old.store.shape) × (IsTrue tells → LacksSlot index old n c)
-Cause tells index t c old (Err (PagesFull n)) = IsAlive old.store × IsPut c × (n ≡ index_pages_of old.store.shape - 1) × (IsTrue tells → LacksPage index old t c)
-Cause tells index t c old (Err (LogFull g h n)) = IsAlive old.store × MayLack old g h n t c × (IsTrue tells → Lacks index old g h n t c)
-Cause tells index t c old (Err SavesFull) = IsAlive old.store × IsSavedOut old t c
-Cause tells index t c old (Err Media) = IsAlive old.store
-Cause tells index t c old (Err (Damaged page)) = IsAlive old.store × IsSought c × ¬ IsTrue tells
-Cause tells index t c old (Err NoMemory) = IsAlive old.store × IsScan c
+abbrev pub Cause : {T : Type 0} → Bool → Index → ℕ → ℕ → Call → PagesView → Result T TableFault → Type 0
+Cause tells index table t c old (Ok answer) = IsAlive old.store × MaySave old t c × (IsTrue tells → Fits index table old t c)
+Cause tells index table t c old (Err Dead) = old.store.is_dead ≡ true
+Cause tells index table t c old (Err (SlotsFull n)) = IsAlive old.store × IsPut c × (n ≡ slots_of old.store.shape) × (IsTrue tells → LacksSlot index old n c)
+Cause tells index table t c old (Err (PagesFull n)) = IsAlive old.store × IsPut c × (n ≡ index_pages_of old.store.shape - 1) × (IsTrue tells → LacksPage index table old t c)
+Cause tells index table t c old (Err (LogFull g h n)) = IsAlive old.store × MayLack old g h n t c × (IsTrue tells → Lacks index table old g h n t c)
+Cause tells index table t c old (Err SavesFull) = IsAlive old.store × IsSavedOut old t c
+Cause tells index table t c old (Err Media) = IsAlive old.store
+Cause tells index table t c old (Err (Damaged page)) = IsAlive old.store × IsSought c × ¬ IsTrue tells
+Cause tells index table t c old (Err NoMemory) = IsAlive old.store × IsScan c

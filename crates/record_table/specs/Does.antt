@@ -8,7 +8,6 @@ use Rattle.history.specs.declared.call.Call.{Call}
 use Rattle.history.specs.declared.call.Call.TheVariants.{Put, Commit}
 use Rattle.history.specs.declared.call.Reply.{Reply}
 use Rattle.page_store.specs.Index.{Index}
-use Rattle.page_store.specs.Pairs.{found}
 use Rattle.page_store.specs.Shown.{PagesView}
 use Rattle.record_table.specs.State.{Keys, GainsKey, KeepsKeys, TakesPages}
 use Rattle.record_table.specs.Calls.{Replies, table_after, after, saves_after}
@@ -17,7 +16,7 @@ use Rattle.record_table.specs.Causes.{Cause, slot_in}
 use Rattle.record_table.specs.declared.fault.TableFault.{TableFault}
 use Rattle.record_table.specs.declared.fault.TableFault.TheVariants.{LogFull, PagesFull, Media}
 
--- an image opens with sound data that has these records
+-- an image opens with sound data whose tables have these records
 pub record OpensWith (Opens : List ℕ → List ℕ → Type 0) (index : Index) (image : List ℕ) (table : Table) : Type 0 where
   pub bytes : List ℕ
   pub opened : Opens image bytes
@@ -36,20 +35,20 @@ is_failed _ = false
 
 -- What an insertion that was due makes of the index. If the log is full after the insertion, the key stays. If pages ran out, at most one
 -- is left, or the index has as many levels as it may.
-abbrev pub Inserted : {T : Type 0} → ℕ → Keys → Keys → Result T TableFault → Type 0
-Inserted key old new (Ok answer) = TakesPages old new × GainsKey key old new
-Inserted key old new (Err (LogFull g h n)) = TakesPages old new × (KeepsKeys old new ⊎ GainsKey key old new)
-Inserted key old new (Err (PagesFull n)) = TakesPages old new × KeepsKeys old new × ((n ≤ new.next_page) ⊎ (7 ≤ new.level))
-Inserted key old new (Err _) = TakesPages old new × KeepsKeys old new
+abbrev pub Inserted : {T : Type 0} → ℕ → ℕ → Keys → Keys → Result T TableFault → Type 0
+Inserted table key old new (Ok answer) = TakesPages old new × GainsKey key old new
+Inserted table key old new (Err (LogFull g h n)) = TakesPages old new × (KeepsKeys old new ⊎ GainsKey key old new)
+Inserted table key old new (Err (PagesFull n)) = TakesPages old new × KeepsKeys old new × ((n ≤ new.used_pages) ⊎ (7 ≤ new.levels table))
+Inserted table key old new (Err _) = TakesPages old new × KeepsKeys old new
 
-abbrev pub IndexedAt : {T : Type 0} → ℕ → Option ℕ → Keys → Keys → Result T TableFault → Type 0
-IndexedAt key None old new result = Inserted key old new result
-IndexedAt key (Some slot) old new result = new ≡ old
+abbrev pub IndexedAt : {T : Type 0} → ℕ → ℕ → Option ℕ → Keys → Keys → Result T TableFault → Type 0
+IndexedAt table key None old new result = Inserted table key old new result
+IndexedAt table key (Some slot) old new result = new ≡ old
 
--- what a call makes of the index: a put of a key that it lacks inserts the key
-abbrev pub Indexed : {T : Type 0} → Call → Keys → Keys → Result T TableFault → Type 0
-Indexed (Put key value) old new result = IndexedAt key (found old.pairs key) old new result
-Indexed call old new result = new ≡ old
+-- what a call makes of the indexes: a put of a key that they lack inserts the key into that of its table
+abbrev pub Indexed : {T : Type 0} → ℕ → Call → Keys → Keys → Result T TableFault → Type 0
+Indexed table (Put key value) old new result = IndexedAt table key (old.slot_of key) old new result
+Indexed table call old new result = new ≡ old
 
 -- the call writes nothing into the data: a put does where the index lacks the key, and a commit what the number has written
 abbrev pub IsQuiet : Index → PagesView → ℕ → Call → Type 0
@@ -57,20 +56,20 @@ IsQuiet index old t (Put key value) = IsSome (slot_in index old key)
 IsQuiet index old t Commit = ((state_of index old).logs t).writes ≡ []
 IsQuiet index old t call = Unit {0}
 
--- A caller's call as number t, on records over a store whose images open as Opens says. Each answer has its cause. An Ok is answered as the
+-- A caller's call as number t on a table, with its keys among those of all tables, on records over a store whose images open as Opens says. Each answer has its cause. An Ok is answered as the
 -- model says, leaves what it says, and hides no fault. After a refusal other than Media, the records and the logs of every number are as
 -- before. Media leaves the store dead. A call that writes nothing into the data leaves it byte for byte, also if it is refused. Other
 -- numbers keep what they have logged, whatever the answer. At each moment of a store that was not dead, a loss of power leaves what it might
 -- have left before, or an image that opens with the records before the call or after it.
-pub record Does (tells : Bool) (Opens : List ℕ → List ℕ → Type 0) (index : Index) (t : ℕ) (call : Call) (old new : PagesView) (result : Result Reply TableFault) : Type 0 where
+pub record Does (tells : Bool) (Opens : List ℕ → List ℕ → Type 0) (index : Index) (table t : ℕ) (call : Call) (old new : PagesView) (result : Result Reply TableFault) : Type 0 where
   pub shape : new.store.shape ≡ old.store.shape
-  pub cause : Cause tells index t call old result
+  pub cause : Cause tells index table t call old result
   pub faults : IsFalse (is_failed result) → (new.store.is_dead ≡ old.store.is_dead) × (new.store.faults ≡ old.store.faults)
   pub dies : IsTrue (is_failed result) → (new.store.is_dead ≡ true) × Rose old.store.faults new.store.faults
   pub replies : IsTrue tells → IfOk result (Replies (state_of index old) t call)
   pub done : IsTrue tells → IfOk result (λ reply. state_of index new ≡ after t call reply (state_of index old))
   pub refused : IsTrue tells → IsFalse (is_failed result) → OnErr result (state_of index new ≡ state_of index old)
-  pub indexed : IsTrue tells → IsAlive old.store → IsFalse (is_failed result) → Indexed call (keys_of index old.store.state.bytes) (keys_of index new.store.state.bytes) result
+  pub indexed : IsTrue tells → IsAlive old.store → IsFalse (is_failed result) → Indexed table call (keys_of index old.store.state.bytes) (keys_of index new.store.state.bytes) result
   pub quiet : IsTrue tells → IsFalse (is_failed result) → IsQuiet index old t call → new.store.state.bytes ≡ old.store.state.bytes
   pub saves : OnOk result (length (new.counts t) ≡ saves_after call (length (old.counts t)))
   pub same_saves : OnErr result (new.counts ≡ old.counts)

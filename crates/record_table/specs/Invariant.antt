@@ -1,5 +1,5 @@
 -- The invariant of records.
-use Rattle.std.specs.Prelude.{ℕ, ◌≡◌, Bool, IsTrue, List, [], ◌∷◌, length, Some, None}
+use Rattle.std.specs.Prelude.{ℕ, ◌≡◌, ◌<◌, ◌^◌, Bool, IsTrue, List, [], ◌∷◌, length, Some, None}
 use Rattle.array_shape.specs.Logged.{Part}
 use Rattle.eaw_face.specs.State.{listed}
 use Rattle.eaw_face.specs.Causes.{IsAlive}
@@ -8,15 +8,18 @@ use Rattle.record_slots.specs.Places.{slot_at, IsOfKey}
 use Rattle.page_store.specs.Index.{Index}
 use Rattle.page_store.specs.Pairs.{found}
 use Rattle.page_store.specs.Shown.{PagesView}
-use Rattle.record_table.specs.Shown.{write_of}
+use Rattle.record_table.specs.Shown.{pairs_of, write_of}
 
--- a logged part is a whole slot of the table, that of the key that it names
+-- a logged part is a whole slot, that of the key of the table that it names
 pub record IsSlotPart (index : Index) (bytes : List ℕ) (part : Part) : Type 0 where
   pub slot : ℕ
-  pub named : found (index.pairs bytes 1) (write_of part).0 ≡ Some slot
+  pub named : found (pairs_of index bytes) (write_of part).0 ≡ Some slot
   pub place : part.0 ≡ slot_at bytes slot
   pub size : length part.1 ≡ 64
-  pub says : IsOfKey 0 (write_of part).0 (slot_said part.1)
+  pub table : ℕ
+  pub key : ℕ
+  pub small : key < 2 ^ 64
+  pub says : IsOfKey table key (slot_said part.1)
 
 abbrev pub AreSlotParts : Index → List ℕ → List Part → Type 0
 AreSlotParts index bytes [] = Unit {0}

@@ -10,3 +10,4 @@ pub mod Sought
 pub mod Faults
 pub mod Scanned
 pub mod Form
+pub mod Upgrading

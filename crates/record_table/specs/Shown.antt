@@ -1,12 +1,13 @@
 -- What pages show in terms of records.
-use Rattle.std.specs.Prelude.{Bool, false, ℕ, ◌+◌, ◌*◌, nat_eq, if◌then◌else◌, List, [], ◌∷◌, map, Option, Some, None, IsSome}
+use Rattle.std.specs.Prelude.{Bool, false, ℕ, suc, ◌+◌, ◌*◌, nat_eq, if◌then◌else◌, List, [], ◌∷◌, ◌++◌, map, take, Option, Some, None, IsSome}
 use Rattle.std.specs.FinMap.{empty}
 use Rattle.array_shape.specs.declared.shape.Shape.{Shape}
 use Rattle.array_shape.specs.Places.{logger_of}
 use Rattle.array_shape.specs.Logged.{Part}
 use Rattle.eaw_face.specs.State.{listed, count_on}
 use Rattle.record_slots.specs.Slots.{slot_said}
-use Rattle.record_slots.specs.Places.{slot_of, next_slot, next_page}
+use Rattle.record_slots.specs.Places.{slot_of, next_page, used_slots, used_pages, slot_due, tables_of, root_of}
+use Rattle.record_slots.specs.declared.super_page.TableEntry.{TableEntry}
 use Rattle.record_slots.specs.declared.slot.Slot.{Slot}
 use Rattle.record_slots.specs.declared.slot.Slot.TheVariants.{Absent, Present}
 use Rattle.history.specs.Writes.{Table, Write, write_into}
@@ -15,7 +16,7 @@ use Rattle.page_store.specs.Index.{Index, slots_of}
 use Rattle.page_store.specs.Shown.{PagesView}
 use Rattle.page_store.specs.Shown as pages
 use Rattle.page_store.specs.State.{PagesState, log_of}
-use Rattle.record_table.specs.State.{TableState, Keys}
+use Rattle.record_table.specs.State.{TableState, Keys, key_in}
 
 -- the value in a slot, if it holds one
 abbrev pub value_of : Option Slot → Option (List ℕ)
@@ -25,17 +26,39 @@ value_of _ = None
 -- the write that a slot stands for
 abbrev pub write_said : Option Slot → Write
 write_said None = (0, None)
-write_said (Some (Absent table key)) = (key, None)
-write_said (Some (Present table key value)) = (key, Some value)
+write_said (Some (Absent table key)) = (key_in table key, None)
+write_said (Some (Present table key value)) = (key_in table key, Some value)
+
+-- a pair of a table, with its key among those of all tables
+abbrev pub in_table : ℕ → Pair → Pair
+in_table table pair = (key_in table pair.0, pair.1)
+
+-- the pairs of these tables, which are numbered from `table` on
+abbrev pub pairs_from : Index → List ℕ → ℕ → List TableEntry → List Pair
+pairs_from index bytes table [] = []
+pairs_from index bytes table (entry ∷ entries) = map (in_table table) (index.pairs bytes entry.root) ++ pairs_from index bytes (suc table) entries
+
+-- Of the tables of an array, so many can be asked for: the first, which is `main`.
+abbrev pub asked_tables : ℕ
+asked_tables = 1
+
+-- the pairs of the tables that can be asked for
+unfoldable pub pairs_of : Index → List ℕ → List Pair
+pairs_of index bytes = pairs_from index bytes 0 (take asked_tables (tables_of bytes))
+
+-- how many levels of inner pages an index with this root has; none if there is no such table
+abbrev pub level_under : Index → List ℕ → Option ℕ → ℕ
+level_under index bytes None = 0
+level_under index bytes (Some root) = index.level bytes root
 
 -- the records of pairs: each key with the value in its slot
 abbrev pub table_in : List ℕ → List Pair → Table
 table_in bytes [] = empty
 table_in bytes (pair ∷ pairs) = write_into (table_in bytes pairs) (pair.0, value_of (slot_said (slot_of bytes pair.1)))
 
--- the records of the data
+-- the records of the data, those of all tables that can be asked for
 unfoldable pub table_of : Index → List ℕ → Table
-table_of index bytes = table_in bytes (index.pairs bytes 1)
+table_of index bytes = table_in bytes (pairs_of index bytes)
 
 abbrev pub write_of : Part → Write
 write_of part = write_said (slot_said part.1)
@@ -51,9 +74,16 @@ shown_by index s = record { table = table_of index s.store.bytes; logs = λ t. r
 abbrev pub state_of : Index → PagesView → TableState
 state_of index view = shown_by index (pages.state_of view)
 
--- the index in the data
+-- the indexes in the data
 abbrev pub keys_of : Index → List ℕ → Keys
-keys_of index bytes = record { pairs = index.pairs bytes 1; next_slot = next_slot bytes; next_page = next_page bytes; level = index.level bytes 1 }
+keys_of index bytes = record {
+  slot_of = found (pairs_of index bytes);
+  due = slot_due bytes;
+  used_slots = used_slots bytes;
+  used_pages = used_pages bytes;
+  next_page = next_page bytes;
+  levels = λ table. level_under index bytes (root_of bytes table);
+}
 
 -- the logger that holds the writes to a slot, and how many entries of a logger one such write needs
 abbrev pub logger_of_slot : Shape → ℕ → ℕ

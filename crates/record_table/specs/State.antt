@@ -1,11 +1,17 @@
 -- The model of records: a table, and what numbers have logged over it.
-use Rattle.std.specs.Prelude.{ℕ, suc, ◌≡◌, ◌≤◌, ◌+◌, List, map}
+use Rattle.std.specs.Prelude.{ℕ, zero, suc, ◌≡◌, ◌≤◌, ◌+◌, ◌^◌, List, map, Option, Some}
+use Rattle.std.specs.Map.{update}
+use Rattle.history.specs.Key.{Key, is_same_key}
 use Rattle.history.specs.Writes.{Table, all_written}
 use Rattle.history.specs.Table.{Work}
 use Rattle.history.specs.Log.{Log}
-use Rattle.page_store.specs.Pairs.{Pair, inserted}
 
--- the records of the data, and for each number the log of what it has not committed
+-- The key of a record of a table among the keys of all tables: behind those of one table, of 64 bits, come those of the next.
+abbrev pub key_in : ℕ → ℕ → Key
+key_in zero key = key
+key_in (suc table) key = 2 ^ 64 + key_in table key
+
+-- the records of all tables in the data, and for each number the log of what it has not committed
 pub record TableState : Type 0 where
   pub table : Table
   pub logs : ℕ → Log
@@ -18,25 +24,30 @@ seen_by s t = all_written s.table (s.logs t).writes
 abbrev pub work_of : TableState → ℕ → Work
 work_of s t = record { table = seen_by s t; saves = map (all_written s.table) (s.logs t).saved }
 
--- the index: its pairs of key and slot, the slot and the page that are given out next, and the number of its levels of inner pages
+-- The indexes of all tables: the slot of each key, if they have it, and the slot that a further key gets; how many slots and how many pages are
+-- in use, and the page that is given out next; and how many levels of inner pages the index of each table has.
 pub record Keys : Type 0 where
-  pub pairs : List Pair
-  pub next_slot : ℕ
+  pub slot_of : Key → Option ℕ
+  pub due : ℕ
+  pub used_slots : ℕ
+  pub used_pages : ℕ
   pub next_page : ℕ
-  pub level : ℕ
+  pub levels : ℕ → ℕ
 
--- one more pair: the key with the next slot
-pub record GainsKey (key : ℕ) (old new : Keys) : Type 0 where
-  pub pairs : new.pairs ≡ inserted old.pairs key old.next_slot
-  pub slots : new.next_slot ≡ suc old.next_slot
+-- one more key, with the slot that was due
+pub record GainsKey (key : Key) (old new : Keys) : Type 0 where
+  pub slot_of : new.slot_of ≡ update is_same_key old.slot_of key (Some old.due)
+  pub slots : new.used_slots ≡ suc old.used_slots
 
--- the same pairs
+-- the same keys, and the same slot is due
 pub record KeepsKeys (old new : Keys) : Type 0 where
-  pub pairs : new.pairs ≡ old.pairs
-  pub slots : new.next_slot ≡ old.next_slot
+  pub slot_of : new.slot_of ≡ old.slot_of
+  pub slots : new.used_slots ≡ old.used_slots
+  pub due : new.due ≡ old.due
 
--- at most nine more pages are given out, and no level is lost
+-- at most nine more pages are given out, no page in use is given back, and no level is lost
 pub record TakesPages (old new : Keys) : Type 0 where
   pub later : old.next_page ≤ new.next_page
   pub few : new.next_page ≤ old.next_page + 9
-  pub levels : old.level ≤ new.level
+  pub used : old.used_pages ≤ new.used_pages
+  pub levels : (table : ℕ) → old.levels table ≤ new.levels table

@@ -6,7 +6,7 @@ ghost use Rattle.record_table.specs.Form.{form_number, FormCause, LooksAt, is_fo
 use crate::fault::AttachRecords;
 use array_shape::Shape;
 use eaw_face::{EawFault, EawStore};
-use record_slots::{Super, read_super};
+use record_slots::{Super, has_tables, read_super};
 
 const PAGE_LEN: usize = 512;
 
@@ -37,6 +37,9 @@ pub fn form_of<S: EawStore>(store: &mut S) -> Result<Form, AttachRecords>
         return Err(AttachRecords::Damaged { page: 0 });
     };
     if !has_counts(&front, &shape) {
+        return Err(AttachRecords::Damaged { page: 0 });
+    }
+    if !has_tables(&front) {
         return Err(AttachRecords::Damaged { page: 0 });
     }
     match numbered(front.form) {

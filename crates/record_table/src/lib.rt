@@ -1,16 +1,17 @@
 //! Records of an ordered table over pages, under any index: what a transaction sees, its writes, its savepoints and its commit.
 //!
 //! Read first `records.rt` and `specs/Does`: what a call does, also at the moments within it. `specs/Causes` says when each refusal comes.
-//! `form_of` says which index an array has. Records are those of the table `main` (`main_table.rt`).
+//! `form_of` says which index an array has. Records of the tables of an array stand under one key each, `specs/State`; those of the table
+//! `main` can be asked for.
 #![tactic(auto)]
 
 mod fault;
 mod form;
-mod main_table;
 mod records;
 mod scanning;
 mod slots;
 mod told;
+mod upgrading;
 
 pub use fault::{AttachRecords, TableFault};
 pub use form::{Form, form_of};

@@ -11,14 +11,15 @@ ghost use Rattle.history.specs.declared.call.Reply.TheVariants.{Fine, Absent, Li
 ghost use Rattle.record_table.specs.Attached.{Attached, AttachCause, is_refused_by_media};
 ghost use Rattle.record_table.specs.Groups.{CommitsGroup, group_writes};
 ghost use Rattle.record_table.specs.Does.{Does, replied, is_failed};
-ghost use Rattle.record_table.specs.Shown.{state_of, held_on, is_write_on, AreNamed};
+ghost use Rattle.record_table.specs.Shown.{state_of, pairs_of, held_on, is_write_on, AreNamed};
 ghost use Rattle.record_table.specs.Sought.{LooksAs};
+ghost use Rattle.record_table.specs.Upgrading.{Upgrades};
 
 use crate::fault::{AttachRecords, TableFault};
-use crate::main_table::{TABLE, find, insert};
 use crate::scanning::gather;
 use crate::slots::{seek, value_at, write_as};
 use crate::told::told;
+use crate::upgrading::upgrade;
 use array_shape::{NumberSet, Shape};
 use eaw_face::EawStore;
 use history::Rows;
@@ -27,7 +28,13 @@ use record_slots::{Slot, Value};
 use std::alloc::Global;
 use std::marker::{Model, PhantomData};
 
-/// Records under u64 keys over pages, under any index: a table and, over it, what each transaction number has written and not committed.
+// The number of the table `main`.
+const MAIN: u8 = 0;
+
+// The root of its index.
+const MAIN_ROOT: u32 = 1;
+
+/// Records under u64 keys over pages, under any index: tables and, over them, what each transaction number has written and not committed.
 ///
 /// Each call is one that a caller asks for, made as a number. `Does` says what it is answered, what it makes of the table and of the number's
 /// log, when each refusal comes, and what a loss of power within it may leave. After a refusal other than `Media` table and logs are as they
@@ -73,6 +80,16 @@ impl<S: EawStore, K: KeyIndex> Records<S, K> {
         }
     }
 
+    /// Brings the super page to version 2 by one write, unless it is of that version. The number 0 must not be live.
+    pub fn upgrade(&mut self) -> Result<(), TableFault>
+        requires free { (S.view self.old.store).ranges 0 ≡ None }
+        ensures upgrades { Upgrades S.tells (S.opens (S.view self.old.store).shape) K.index
+            (pages_of (S.view self.old.store) self.old) (pages_of (S.view self.new.store) self.new) result }
+        ensures dead { IsErrOf result TableFault.Dead → self.new ≡ self.old }
+    {
+        told(upgrade::<S, K>(&mut self.pages))
+    }
+
     /// The pages below. What numbers have written is still in them.
     pub fn into_pages(self) -> Pages<S>
         ensures { result ≡ self }
@@ -93,9 +110,9 @@ impl<S: EawStore, K: KeyIndex> Records<S, K> {
     pub fn is_dead(&self) -> bool
         ensures dead { result ≡ (S.view self.now.store).is_dead }
         ensures held { IsTrue S.tells → IsAlive (S.view self.now.store) → (t g : ℕ) → held_on (pages_of (S.view self.now.store) self.now) t g ≡
-            length (filter (is_write_on (S.view self.now.store).shape (K.index.pairs (S.view self.now.store).state.bytes 1) g)
+            length (filter (is_write_on (S.view self.now.store).shape (pairs_of K.index (S.view self.now.store).state.bytes) g)
             ((state_of K.index (pages_of (S.view self.now.store) self.now)).logs t).writes) }
-        ensures named { IsTrue S.tells → IsAlive (S.view self.now.store) → (t : ℕ) → AreNamed (K.index.pairs (S.view self.now.store).state.bytes 1)
+        ensures named { IsTrue S.tells → IsAlive (S.view self.now.store) → (t : ℕ) → AreNamed (pairs_of K.index (S.view self.now.store).state.bytes)
             ((state_of K.index (pages_of (S.view self.now.store) self.now)).logs t).writes }
     {
         self.pages.is_dead()
@@ -113,11 +130,11 @@ impl<S: EawStore, K: KeyIndex> Records<S, K> {
     /// The value of a key, as the number sees it.
     pub fn get(&mut self, tid: u8, key: u64) -> Result<Option<Value>, TableFault>
         requires { tid < (S.view self.old.store).shape.numbers }
-        ensures does { Does S.tells (S.opens (S.view self.old.store).shape) K.index tid (Get key)
+        ensures does { Does S.tells (S.opens (S.view self.old.store).shape) K.index 0 tid (Get key)
             (pages_of (S.view self.old.store) self.old) (pages_of (S.view self.new.store) self.new) (replied found result) }
         ensures dead { IsErrOf result TableFault.Dead → self.new ≡ self.old }
     {
-        match seek::<S, K>(&mut self.pages, tid, key) {
+        match seek::<S, K>(&mut self.pages, tid, MAIN, MAIN_ROOT, key) {
             Ok(found) => Ok(value_at(&found)),
             Err(fault) => Err(TableFault::from(fault)),
         }
@@ -127,18 +144,18 @@ impl<S: EawStore, K: KeyIndex> Records<S, K> {
     /// first, and stays there whatever becomes of the number.
     pub fn put(&mut self, tid: u8, key: u64, value: Value) -> Result<(), TableFault>
         requires { tid < (S.view self.old.store).shape.numbers }
-        ensures does { Does S.tells (S.opens (S.view self.old.store).shape) K.index tid (Put key value)
+        ensures does { Does S.tells (S.opens (S.view self.old.store).shape) K.index 0 tid (Put key value)
             (pages_of (S.view self.old.store) self.old) (pages_of (S.view self.new.store) self.new) (replied (λ done. Fine) result) }
         ensures dead { IsErrOf result TableFault.Dead → self.new ≡ self.old }
     {
         let present = Slot::Present {
-            table: TABLE,
+            table: MAIN,
             key,
             value,
         };
-        match find::<S, K>(&mut self.pages, key) {
+        match K::find(&mut self.pages, MAIN_ROOT, MAIN, key) {
             Ok(Some(slot)) => told(write_as(&mut self.pages, tid, slot, &present)),
-            Ok(None) => match insert::<S, K>(&mut self.pages, tid, key) {
+            Ok(None) => match K::insert(&mut self.pages, tid, MAIN_ROOT, MAIN, key) {
                 Ok(slot) => told(write_as(&mut self.pages, tid, slot, &present)),
                 Err(fault) => Err(TableFault::from(fault)),
             },
@@ -149,11 +166,11 @@ impl<S: EawStore, K: KeyIndex> Records<S, K> {
     /// Removes the record of a key, at once in the number's own view, and in the table once it commits. Returns whether the number saw one.
     pub fn del(&mut self, tid: u8, key: u64) -> Result<bool, TableFault>
         requires { tid < (S.view self.old.store).shape.numbers }
-        ensures does { Does S.tells (S.opens (S.view self.old.store).shape) K.index tid (Del key)
+        ensures does { Does S.tells (S.opens (S.view self.old.store).shape) K.index 0 tid (Del key)
             (pages_of (S.view self.old.store) self.old) (pages_of (S.view self.new.store) self.new) (replied (λ was. if was then Fine else Absent) result) }
         ensures dead { IsErrOf result TableFault.Dead → self.new ≡ self.old }
     {
-        let place = match seek::<S, K>(&mut self.pages, tid, key) {
+        let place = match seek::<S, K>(&mut self.pages, tid, MAIN, MAIN_ROOT, key) {
             Ok(Some(place)) => place,
             Ok(None) => return Ok(false),
             Err(fault) => return Err(TableFault::from(fault)),
@@ -165,7 +182,7 @@ impl<S: EawStore, K: KeyIndex> Records<S, K> {
             &mut self.pages,
             tid,
             place.slot,
-            &Slot::Absent { table: TABLE, key },
+            &Slot::Absent { table: MAIN, key },
         ) {
             Ok(()) => Ok(true),
             Err(fault) => Err(TableFault::from(fault)),
@@ -175,7 +192,7 @@ impl<S: EawStore, K: KeyIndex> Records<S, K> {
     /// The records from one key to another, both included, as the number sees them. The memory for them is taken here.
     pub fn scan(&mut self, alloc: Global, tid: u8, low: u64, high: u64) -> Result<Rows, TableFault>
         requires { tid < (S.view self.old.store).shape.numbers }
-        ensures does { Does S.tells (S.opens (S.view self.old.store).shape) K.index tid (Scan low high)
+        ensures does { Does S.tells (S.opens (S.view self.old.store).shape) K.index 0 tid (Scan low high)
             (pages_of (S.view self.old.store) self.old) (pages_of (S.view self.new.store) self.new) (replied Listed result) }
         ensures looks { LooksAs S.tells (S.opens (S.view self.old.store).shape) tid (is_failed result)
             (pages_of (S.view self.old.store) self.old) (pages_of (S.view self.new.store) self.new) }
@@ -185,7 +202,7 @@ impl<S: EawStore, K: KeyIndex> Records<S, K> {
             return Err(TableFault::Dead);
         }
         let mut rows = Rows::new(alloc);
-        match gather::<S, K>(&mut self.pages, tid, low, high, &mut rows) {
+        match gather::<S, K>(&mut self.pages, tid, MAIN, MAIN_ROOT, low, high, &mut rows) {
             Ok(()) => Ok(rows),
             Err(fault) => Err(fault),
         }
@@ -194,7 +211,7 @@ impl<S: EawStore, K: KeyIndex> Records<S, K> {
     /// Saves what the number has written, and returns how many saves it has now.
     pub fn save(&mut self, tid: u8) -> Result<u32, TableFault>
         requires { tid < (S.view self.old.store).shape.numbers }
-        ensures does { Does S.tells (S.opens (S.view self.old.store).shape) K.index tid Save
+        ensures does { Does S.tells (S.opens (S.view self.old.store).shape) K.index 0 tid Save
             (pages_of (S.view self.old.store) self.old) (pages_of (S.view self.new.store) self.new) (replied Saved result) }
         ensures count { IfOk result (λ n. n ≡ length (counts_in self.new.marks tid)) }
         ensures refused { OnErr result (self.new ≡ self.old) }
@@ -209,7 +226,7 @@ impl<S: EawStore, K: KeyIndex> Records<S, K> {
         requires tid { tid < (S.view self.old.store).shape.numbers }
         requires some { 0 < n }
         requires there { n ≤ length (counts_in self.old.marks tid) }
-        ensures does { Does S.tells (S.opens (S.view self.old.store).shape) K.index tid (Back n)
+        ensures does { Does S.tells (S.opens (S.view self.old.store).shape) K.index 0 tid (Back n)
             (pages_of (S.view self.old.store) self.old) (pages_of (S.view self.new.store) self.new) (replied (λ done. Fine) result) }
         ensures refused { OnErr result (self.new ≡ self.old) }
         ensures due { IsErrOf result TableFault.Media → ⊥ }
@@ -224,7 +241,7 @@ impl<S: EawStore, K: KeyIndex> Records<S, K> {
     pub fn commit(&mut self, tid: u8) -> Result<(), TableFault>
         requires { tid < (S.view self.old.store).shape.numbers }
         // Whatever number its caller tells it with.
-        ensures does { (n : ℕ) → Does S.tells (S.opens (S.view self.old.store).shape) K.index tid Commit
+        ensures does { (n : ℕ) → Does S.tells (S.opens (S.view self.old.store).shape) K.index 0 tid Commit
             (pages_of (S.view self.old.store) self.old) (pages_of (S.view self.new.store) self.new) (replied (λ done. Committed n) result) }
         // A commit of nothing uses no medium.
         ensures due { IsTrue S.tells → IsAlive (S.view self.old.store) → IsErrOf result TableFault.Media
@@ -250,7 +267,7 @@ impl<S: EawStore, K: KeyIndex> Records<S, K> {
     /// Discards what the number has written, and its saves.
     pub fn abort(&mut self, tid: u8) -> Result<(), TableFault>
         requires { tid < (S.view self.old.store).shape.numbers }
-        ensures does { Does S.tells (S.opens (S.view self.old.store).shape) K.index tid Abort
+        ensures does { Does S.tells (S.opens (S.view self.old.store).shape) K.index 0 tid Abort
             (pages_of (S.view self.old.store) self.old) (pages_of (S.view self.new.store) self.new) (replied (λ done. Fine) result) }
         ensures dead { IsErrOf result TableFault.Dead → self.new ≡ self.old }
         ensures due { IsErrOf result TableFault.Media → ⊥ }

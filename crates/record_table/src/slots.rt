@@ -6,16 +6,16 @@ ghost use Rattle.eaw_face.specs.Causes.{IsAlive};
 ghost use Rattle.record_slots.specs.Slots.{slot_said, slot_bytes, table_of_slot};
 ghost use Rattle.page_store.specs.Command.{write_as};
 ghost use Rattle.page_store.specs.Does.{Does};
-ghost use Rattle.page_store.specs.Index.{slots_of, index_pages_of};
+ghost use Rattle.page_store.specs.Index.{IsTable, slots_of, index_pages_of};
 ghost use Rattle.page_store.specs.Looks.{LookCause, is_failed};
 ghost use Rattle.page_store.specs.Kept.{IsOrdered};
 ghost use Rattle.page_store.specs.Shown.{pages_of, outline_of, state_of};
 ghost use Rattle.page_store.specs.State.{view_of};
 ghost use Rattle.record_table.specs.Invariant.{Holds};
-ghost use Rattle.record_table.specs.Shown.{value_of};
+ghost use Rattle.record_table.specs.Shown.{asked_tables, value_of};
+ghost use Rattle.record_table.specs.State.{key_in};
 ghost use Rattle.record_table.specs.Sought.{LooksAs, Finds, value_at};
 
-use crate::main_table::find;
 use eaw_face::EawStore;
 use page_store::{KeyIndex, PageFault, Pages};
 use record_slots::{SLOT_LEN, Slot, Value, read_slot, write_slot};
@@ -88,22 +88,27 @@ pub fn write_as<S: EawStore>(
     pages.write_as(tid, page, slot % SLOTS_IN_PAGE * 64, &bytes)
 }
 
-// Looks up a key in the index, and then reads its slot.
+// Looks up a key in the index of its table, and then reads its slot.
 pub fn seek<S: EawStore, K: KeyIndex>(
     pages: &mut Pages<S>,
     tid: u8,
+    table: u8,
+    root: u32,
     key: u64,
 ) -> Result<Option<Place>, PageFault>
     requires tid { tid < (S.view pages.old.store).shape.numbers }
+    requires table { table < asked_tables }
+    requires root { root < page_count (S.view pages.old.store).shape }
+    requires named { IsTrue S.tells → IsAlive (S.view pages.old.store) → IsTable (S.view pages.old.store).state.bytes table root }
     requires holds { Holds S.tells K.index (pages_of (S.view pages.old.store) pages.old) }
     ensures looks { LooksAs S.tells (S.opens (S.view pages.old.store).shape) tid (is_failed result)
         (pages_of (S.view pages.old.store) pages.old) (pages_of (S.view pages.new.store) pages.new) }
     ensures cause { LookCause S.tells (S.view pages.old.store) result }
-    ensures finds { IsTrue S.tells → IfOk result (Finds K.index tid key (pages_of (S.view pages.old.store) pages.old)) }
+    ensures finds { IsTrue S.tells → IfOk result (Finds K.index tid (key_in table key) (pages_of (S.view pages.old.store) pages.old)) }
     ensures inside { IfOk result (λ place. IfSome place (λ place. place.slot < slots_of (S.view pages.old.store).shape)) }
     ensures dead { IsErrOf result PageFault.Dead → pages.new ≡ pages.old }
 {
-    let slot = match find::<S, K>(pages, key) {
+    let slot = match K::find(pages, root, table, key) {
         Ok(Some(slot)) => slot,
         Ok(None) => return Ok(None),
         Err(fault) => return Err(fault),

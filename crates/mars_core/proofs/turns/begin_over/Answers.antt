@@ -1,15 +1,17 @@
-use Rattle.std.proofs.Common.{◌≡◌, ℕ, List, Bool, Result, Err, ap, subst, sym, ◌∙◌, refl}
+use Rattle.std.proofs.Common.{◌≡◌, ◌^◌, ℕ, List, Bool, Result, Err, ap, subst, sym, ◌∙◌, refl}
 use Rattle.array_shape.specs.declared.shape.Shape.{Shape}
 use Rattle.std.proofs.lemmas.Bool.{false≢true}
 use Rattle.eaw_face.specs.Causes.{IsAlive}
 use Rattle.history.specs.declared.rows.Rows.{Rows}
 use Rattle.page_store.specs.Index.{Index}
+use Rattle.page_store.specs.Pairs.{Rise}
 use Rattle.page_store.specs.Shown.{Shown, PagesView, pages_of}
 use Rattle.record_table.specs.Causes.{Cause}
 use Rattle.history.specs.declared.call.Call.TheVariants.{Scan}
 use Rattle.history.specs.declared.call.Reply.{Reply}
 use Rattle.history.specs.declared.call.Reply.TheVariants.{Listed}
 use Rattle.record_table.specs.Shown.{state_of}
+use Rattle.record_table.proofs.Sharing.{main_pairs}
 use Rattle.mars_core.specs.declared.fault.CoreFault.{CoreFault}
 use Rattle.record_table.specs.Does.{is_failed}
 use Rattle.record_table.specs.declared.fault.TableFault.{TableFault}
@@ -30,7 +32,7 @@ laws_at g store = record {
 }
 
 -- of the refusals of a scan only a fault of the medium is reported as one
-media_alone : (tells : Bool) (index : Index) (p : PagesView) (t low high : ℕ) (T : Type 0) → IsAlive p.store → (f : TableFault) → (let r : Result Reply TableFault = Err f in Cause tells index t (Scan low high) p r)
+media_alone : (tells : Bool) (index : Index) (p : PagesView) (t low high : ℕ) (T : Type 0) → IsAlive p.store → (f : TableFault) → (let r : Result Reply TableFault = Err f in Cause tells index 0 t (Scan low high) p r)
     → (let r : Result T TableFault = Err f in is_failed r) ≡ is_media_fault (scan_fault f)
 media_alone tells index p t low high T alive fault.Media cause = refl
 media_alone tells index p t low high T alive fault.NoMemory cause = refl
@@ -60,7 +62,8 @@ pub invariant_of-result : goal.invariant_of-result
 invariant_of-result g c =
     let V = g.S.EawStore.view in
     opened_keeps g.S.EawStore.tells g.S.EawStore.opens g.K.KeyIndex.index (pages_of (V c.args.records.store) c.args.records) (pages_of (V c.scan.new.self.store) c.scan.new.self) (laws_at g c.scan.new.self.store)
-    (λ sound. g.met.K.KeyIndex.rises (V c.args.records.store).state.bytes 0 1 sound (g.met.K.KeyIndex.counts (V c.args.records.store).state.bytes sound).main) c.requires.alive c.requires.sound c.requires.idle c.requires.unsaved c.in-Ok-scan.ensures.looks
+    (λ sound. let main = (g.met.K.KeyIndex.counts (V c.args.records.store).state.bytes sound).main in
+    subst (Rise 0 (2 ^ 64)) (sym (main_pairs g.K.KeyIndex.index (V c.args.records.store).state.bytes main)) (g.met.K.KeyIndex.rises (V c.args.records.store).state.bytes 0 1 sound main)) c.requires.alive c.requires.sound c.requires.idle c.requires.unsaved c.in-Ok-scan.ensures.looks
     (λ told. c.in-Ok-scan.ensures.does.done told ∙ scan_after (state_of g.K.KeyIndex.index (pages_of (V c.args.records.store) c.args.records)) 0 0 18446744073709551615 (Listed c.in-Ok-scan.base))
     c.in-Ok-scan.base (λ told. listed_same _ _ (c.in-Ok-scan.ensures.does.replies told)) c.in-Ok.seats (c.in-Ok.ensures.0 ∙ ap (λ (h : Shape). h.numbers) c.shape.ensures) c.in-Ok.ensures.1 c.new-2.result c.new-2.ensures c.none.result c.none.ensures
 
@@ -68,7 +71,8 @@ pub returns-clause-begins : goal.returns-clause-begins
 returns-clause-begins g c =
     let V = g.S.EawStore.view in
     opened_begins g.S.EawStore.tells g.S.EawStore.opens g.K.KeyIndex.index (pages_of (V c.args.records.store) c.args.records) (pages_of (V c.scan.new.self.store) c.scan.new.self) (laws_at g c.scan.new.self.store)
-    (λ sound. g.met.K.KeyIndex.rises (V c.args.records.store).state.bytes 0 1 sound (g.met.K.KeyIndex.counts (V c.args.records.store).state.bytes sound).main) c.requires.alive c.requires.sound c.requires.idle c.requires.unsaved c.in-Ok-scan.ensures.looks
+    (λ sound. let main = (g.met.K.KeyIndex.counts (V c.args.records.store).state.bytes sound).main in
+    subst (Rise 0 (2 ^ 64)) (sym (main_pairs g.K.KeyIndex.index (V c.args.records.store).state.bytes main)) (g.met.K.KeyIndex.rises (V c.args.records.store).state.bytes 0 1 sound main)) c.requires.alive c.requires.sound c.requires.idle c.requires.unsaved c.in-Ok-scan.ensures.looks
     (λ told. c.in-Ok-scan.ensures.does.done told ∙ scan_after (state_of g.K.KeyIndex.index (pages_of (V c.args.records.store) c.args.records)) 0 0 18446744073709551615 (Listed c.in-Ok-scan.base))
     c.in-Ok-scan.base (λ told. listed_same _ _ (c.in-Ok-scan.ensures.does.replies told)) c.in-Ok.seats (c.in-Ok.ensures.0 ∙ ap (λ (h : Shape). h.numbers) c.shape.ensures) c.in-Ok.ensures.1 c.new-2.result c.new-2.ensures c.none.result c.none.ensures
 

@@ -72,7 +72,7 @@ pub invariant_of-self-in-Err-commit : goal.invariant_of-self-in-Err-commit
 invariant_of-self-in-Err-commit g c = doubted_keeps g.S.EawStore.tells g.S.EawStore.opens g.K.KeyIndex.index g.met.S.EawStore.one_data (pages_of (g.S.EawStore.view c.self.inside.records.store) c.self.inside.records) (pages_of (g.S.EawStore.view c.commit.new.self.store) c.commit.new.self)
     (laws_at g c.self.inside.records.store) (laws_at g c.commit.new.self.store) (state_at g.K.KeyIndex.index (g.S.EawStore.view c.self.inside.records.store) (table_of c.self.inside.base) c.self.inside.history (live_in c.self.inside.seats) c.self.inside.doubt) (state_at g.K.KeyIndex.index (g.S.EawStore.view c.commit.new.self.store) (table_of c.self.inside.base) c.pop.new.self (live_in c.take.new.self) c.holding.result) (record { indexed = refl; dead = refl }) (record { indexed = refl; dead = refl })
     refl (length c.self.inside.seats) (length c.take.new.self) c.take.ensures.out.count c.self.inside.base c.self.invariant
-    (subst (λ (h : Held g.row.S.Denot). IsAlive (g.S.EawStore.view h.records.store)) (sym c.self.view_is) c.requires.alive) c.args.caller c.in-Some.live (sym c.take.ensures.live ∙ c.in-Some.is) (record { caller = c.args.caller; calls = c.into_calls.result; at = length c.as_slice.result.now + 1 }) (λ j. record { caller = c.args.caller; calls = c.into_calls.ensures j; at = length (c.as_slice.ensures j) + 1 }) (subst (λ (f : TableFault). Does g.S.EawStore.tells (g.S.EawStore.opens (g.S.EawStore.view c.self.inside.records.store).shape) g.K.KeyIndex.index c.args.caller Commit
+    (subst (λ (h : Held g.row.S.Denot). IsAlive (g.S.EawStore.view h.records.store)) (sym c.self.view_is) c.requires.alive) c.args.caller c.in-Some.live (sym c.take.ensures.live ∙ c.in-Some.is) (record { caller = c.args.caller; calls = c.into_calls.result; at = length c.as_slice.result.now + 1 }) (λ j. record { caller = c.args.caller; calls = c.into_calls.ensures j; at = length (c.as_slice.ensures j) + 1 }) (subst (λ (f : TableFault). Does g.S.EawStore.tells (g.S.EawStore.opens (g.S.EawStore.view c.self.inside.records.store).shape) g.K.KeyIndex.index 0 c.args.caller Commit
     (pages_of (g.S.EawStore.view c.self.inside.records.store) c.self.inside.records) (pages_of (g.S.EawStore.view c.commit.new.self.store) c.commit.new.self) (Err f)) (commit_fails g.S.EawStore.tells g.K.KeyIndex.index (pages_of (g.S.EawStore.view c.self.inside.records.store) c.self.inside.records) c.args.caller (subst (λ (h : Held g.row.S.Denot). IsAlive (g.S.EawStore.view h.records.store)) (sym c.self.view_is) c.requires.alive) c.in-Err-commit.fault (c.in-Err-commit.ensures.does 0).cause) (c.in-Err-commit.ensures.does 0)) c.take.ensures.out.live (sym (last_is c.self.inside.history c.pop.new.self (record { caller = c.args.caller; calls = c.into_calls.result; at = length c.as_slice.result.now + 1 }) c.pop.result (sym c.in-Ok.ensures.ok ∙ c.pop.ensures.last) (λ none. sym c.in-Ok.ensures.ok ∙ c.pop.ensures.empty.0 (subst (λ (o : Option Done). IsNone o) (sym none) refl))).0) (c.holding.ensures ∙ ap option_to_list (last_is c.self.inside.history c.pop.new.self (record { caller = c.args.caller; calls = c.into_calls.result; at = length c.as_slice.result.now + 1 }) c.pop.result (sym c.in-Ok.ensures.ok ∙ c.pop.ensures.last) (λ none. sym c.in-Ok.ensures.ok ∙ c.pop.ensures.empty.0 (subst (λ (o : Option Done). IsNone o) (sym none) refl))).1) (λ told. c.commit.ensures.due told (subst (λ (h : Held g.row.S.Denot). IsAlive (g.S.EawStore.view h.records.store)) (sym c.self.view_is) c.requires.alive) (c.in-Err-commit.is ∙ ap (λ (f : TableFault). (let r : Result (Unit {0}) TableFault = Err f in r)) (commit_fails g.S.EawStore.tells g.K.KeyIndex.index (pages_of (g.S.EawStore.view c.self.inside.records.store) c.self.inside.records) c.args.caller (subst (λ (h : Held g.row.S.Denot). IsAlive (g.S.EawStore.view h.records.store)) (sym c.self.view_is) c.requires.alive) c.in-Err-commit.fault (c.in-Err-commit.ensures.does 0).cause)))
 
 pub returns-in-Err-commit : goal.returns-in-Err-commit
@@ -86,7 +86,7 @@ returns-in-Err-commit g c = record {
       (doubted_steps g.S.EawStore.tells g.S.EawStore.opens g.K.KeyIndex.index g.met.S.EawStore.one_data (pages_of (g.S.EawStore.view c.self.inside.records.store) c.self.inside.records) (pages_of (g.S.EawStore.view c.commit.new.self.store) c.commit.new.self)
       (laws_at g c.self.inside.records.store) (laws_at g c.commit.new.self.store) (state_at g.K.KeyIndex.index (g.S.EawStore.view c.self.inside.records.store) (table_of c.self.inside.base) c.self.inside.history (live_in c.self.inside.seats) c.self.inside.doubt) (state_at g.K.KeyIndex.index (g.S.EawStore.view c.commit.new.self.store) (table_of c.self.inside.base) c.pop.new.self (live_in c.take.new.self) c.holding.result) (record { indexed = refl; dead = refl }) (record { indexed = refl; dead = refl })
       refl (length c.self.inside.seats) (length c.take.new.self) c.take.ensures.out.count c.self.inside.base c.self.invariant
-      (subst (λ (h : Held g.row.S.Denot). IsAlive (g.S.EawStore.view h.records.store)) (sym c.self.view_is) c.requires.alive) c.args.caller c.in-Some.live (sym c.take.ensures.live ∙ c.in-Some.is) (record { caller = c.args.caller; calls = c.into_calls.result; at = length c.as_slice.result.now + 1 }) (λ j. record { caller = c.args.caller; calls = c.into_calls.ensures j; at = length (c.as_slice.ensures j) + 1 }) (subst (λ (f : TableFault). Does g.S.EawStore.tells (g.S.EawStore.opens (g.S.EawStore.view c.self.inside.records.store).shape) g.K.KeyIndex.index c.args.caller Commit
+      (subst (λ (h : Held g.row.S.Denot). IsAlive (g.S.EawStore.view h.records.store)) (sym c.self.view_is) c.requires.alive) c.args.caller c.in-Some.live (sym c.take.ensures.live ∙ c.in-Some.is) (record { caller = c.args.caller; calls = c.into_calls.result; at = length c.as_slice.result.now + 1 }) (λ j. record { caller = c.args.caller; calls = c.into_calls.ensures j; at = length (c.as_slice.ensures j) + 1 }) (subst (λ (f : TableFault). Does g.S.EawStore.tells (g.S.EawStore.opens (g.S.EawStore.view c.self.inside.records.store).shape) g.K.KeyIndex.index 0 c.args.caller Commit
       (pages_of (g.S.EawStore.view c.self.inside.records.store) c.self.inside.records) (pages_of (g.S.EawStore.view c.commit.new.self.store) c.commit.new.self) (Err f)) (commit_fails g.S.EawStore.tells g.K.KeyIndex.index (pages_of (g.S.EawStore.view c.self.inside.records.store) c.self.inside.records) c.args.caller (subst (λ (h : Held g.row.S.Denot). IsAlive (g.S.EawStore.view h.records.store)) (sym c.self.view_is) c.requires.alive) c.in-Err-commit.fault (c.in-Err-commit.ensures.does 0).cause) (c.in-Err-commit.ensures.does 0)) c.take.ensures.out.live (sym (last_is c.self.inside.history c.pop.new.self (record { caller = c.args.caller; calls = c.into_calls.result; at = length c.as_slice.result.now + 1 }) c.pop.result (sym c.in-Ok.ensures.ok ∙ c.pop.ensures.last) (λ none. sym c.in-Ok.ensures.ok ∙ c.pop.ensures.empty.0 (subst (λ (o : Option Done). IsNone o) (sym none) refl))).0) (c.holding.ensures ∙ ap option_to_list (last_is c.self.inside.history c.pop.new.self (record { caller = c.args.caller; calls = c.into_calls.result; at = length c.as_slice.result.now + 1 }) c.pop.result (sym c.in-Ok.ensures.ok ∙ c.pop.ensures.last) (λ none. sym c.in-Ok.ensures.ok ∙ c.pop.ensures.empty.0 (subst (λ (o : Option Done). IsNone o) (sym none) refl))).1) (λ told. c.commit.ensures.due told (subst (λ (h : Held g.row.S.Denot). IsAlive (g.S.EawStore.view h.records.store)) (sym c.self.view_is) c.requires.alive) (c.in-Err-commit.is ∙ ap (λ (f : TableFault). (let r : Result (Unit {0}) TableFault = Err f in r)) (commit_fails g.S.EawStore.tells g.K.KeyIndex.index (pages_of (g.S.EawStore.view c.self.inside.records.store) c.self.inside.records) c.args.caller (subst (λ (h : Held g.row.S.Denot). IsAlive (g.S.EawStore.view h.records.store)) (sym c.self.view_is) c.requires.alive) c.in-Err-commit.fault (c.in-Err-commit.ensures.does 0).cause)))));
   not_busy = ap is_busy c.from.ensures ∙ fault_plain c.in-Err-commit.fault;
 }

@@ -6,14 +6,14 @@ use Rattle.record_table.specs.Groups.{group_writes}
 use Rattle.record_table.specs.Shown.{state_of}
 use Rattle.record_table.proofs.Ending.{err_same, media_told}
 use Rattle.record_table.proofs.Grouping.{group_ended, as_many_in_group}
-use Rattle.record_table.proofs.SlotParts.{Laws}
+use Rattle.record_table.proofs.Sharing.{Laws}
 use Rattle.record_table.proofs.records.Records.commit_group.Goals as goal
 
 pub invariant_of-self : goal.invariant_of-self
 invariant_of-self g c =
     let K = g.met.K.KeyIndex in
     let V = g.S.EawStore.view in
-    let laws : Laws g.K.KeyIndex.index = record { rises = K.rises; given = K.given; counts = K.counts; rests = K.rests } in
+    let laws : Laws g.K.KeyIndex.index = record { rises = K.rises; given = K.given; counts = K.counts; rests = K.rests; extends = K.extends } in
     let inside = c.self.inside.pages in
     (group_ended V g.S.EawStore.tells g.S.EawStore.opens g.K.KeyIndex.index laws (members c.args.tids) c.args.self.now inside c.self.view_is c.end_group.new.self c.self.invariant c.end_group.result c.end_group.ensures.does
     (err_same c.end_group.result c.end_group.ensures.refused) c.told.result c.told.ensures).1
@@ -22,7 +22,7 @@ pub returns-clause-does : goal.returns-clause-does
 returns-clause-does g c =
     let K = g.met.K.KeyIndex in
     let V = g.S.EawStore.view in
-    let laws : Laws g.K.KeyIndex.index = record { rises = K.rises; given = K.given; counts = K.counts; rests = K.rests } in
+    let laws : Laws g.K.KeyIndex.index = record { rises = K.rises; given = K.given; counts = K.counts; rests = K.rests; extends = K.extends } in
     let inside = c.self.inside.pages in
     (group_ended V g.S.EawStore.tells g.S.EawStore.opens g.K.KeyIndex.index laws (members c.args.tids) c.args.self.now inside c.self.view_is c.end_group.new.self c.self.invariant c.end_group.result c.end_group.ensures.does
     (err_same c.end_group.result c.end_group.ensures.refused) c.told.result c.told.ensures).0

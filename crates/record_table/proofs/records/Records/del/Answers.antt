@@ -1,4 +1,4 @@
-use Rattle.std.proofs.Common.{◌≡◌, IsTrue, ◌+◌, ◌*◌, Bool, Result, Ok, Err, refl, sym, ◌∙◌, ap, subst}
+use Rattle.std.proofs.Common.{◌≡◌, IsTrue, ◌+◌, ◌*◌, Bool, Result, Ok, Err, refl, sym, ◌∙◌, ap, subst, arith}
 use Rattle.std.specs.Prelude.{is_some, if◌then◌else◌}
 use Rattle.array_shape.specs.declared.shape.Shape.{Shape}
 use Rattle.record_slots.specs.Slots.{slot_bytes}
@@ -16,7 +16,7 @@ use Rattle.record_table.proofs.Doing.{look_refused, not_removed}
 use Rattle.record_table.proofs.Wrote.{none_is}
 use Rattle.record_table.proofs.Ending.{does_of, err_same}
 use Rattle.record_table.proofs.Putting.{answered, removed}
-use Rattle.record_table.proofs.SlotParts.{Laws}
+use Rattle.record_table.proofs.Sharing.{Laws}
 use Rattle.record_table.proofs.records.Records.del.Given.{Over}
 use Rattle.record_table.proofs.records.Records.del.Goals.{in-Ok, in-Err-write_as}
 use Rattle.record_table.proofs.records.Records.del.Goals as goal
@@ -25,45 +25,45 @@ pub invariant_of-self : goal.invariant_of-self
 invariant_of-self g c =
     let V = g.S.EawStore.view in
     let inside = c.self.inside.pages in
-    (not_removed g.S.EawStore.tells (g.S.EawStore.opens (V inside.store).shape) g.K.KeyIndex.index c.args.tid c.args.key (pages_of (V inside.store) inside) (pages_of (V c.seek.new.pages.store) c.seek.new.pages) c.self.invariant
+    (not_removed g.S.EawStore.tells (g.S.EawStore.opens (V inside.store).shape) g.K.KeyIndex.index 0 c.args.tid c.args.key (pages_of (V inside.store) inside) (pages_of (V c.seek.new.pages.store) c.seek.new.pages) c.self.invariant
     c.in-Ok-None.ensures.cause c.in-Ok-None.ensures.looks (λ told. let f = rw c.in-Ok-None.field-0-is at (c.in-Ok-None.ensures.finds told) in f.1)).1
 
 pub returns-in-Ok-None-clause-does : goal.returns-in-Ok-None-clause-does
 returns-in-Ok-None-clause-does g c =
     let V = g.S.EawStore.view in
     let inside = c.self.inside.pages in
-    does_of V g.S.EawStore.tells g.S.EawStore.opens g.K.KeyIndex.index c.args.tid (Del c.args.key) c.args.self.now inside c.self.view_is (pages_of (V c.seek.new.pages.store) c.seek.new.pages) (Ok reply.Absent)
-    (not_removed g.S.EawStore.tells (g.S.EawStore.opens (V inside.store).shape) g.K.KeyIndex.index c.args.tid c.args.key (pages_of (V inside.store) inside) (pages_of (V c.seek.new.pages.store) c.seek.new.pages) c.self.invariant
+    does_of V g.S.EawStore.tells g.S.EawStore.opens g.K.KeyIndex.index 0 c.args.tid (Del c.args.key) c.args.self.now inside c.self.view_is (pages_of (V c.seek.new.pages.store) c.seek.new.pages) (Ok reply.Absent)
+    (not_removed g.S.EawStore.tells (g.S.EawStore.opens (V inside.store).shape) g.K.KeyIndex.index 0 c.args.tid c.args.key (pages_of (V inside.store) inside) (pages_of (V c.seek.new.pages.store) c.seek.new.pages) c.self.invariant
     c.in-Ok-None.ensures.cause c.in-Ok-None.ensures.looks (λ told. let f = rw c.in-Ok-None.field-0-is at (c.in-Ok-None.ensures.finds told) in f.1)).0
 
 pub invariant_of-self-in-Err : goal.invariant_of-self-in-Err
 invariant_of-self-in-Err g c =
     let V = g.S.EawStore.view in
     let inside = c.self.inside.pages in
-    (look_refused g.S.EawStore.tells (g.S.EawStore.opens (V inside.store).shape) g.K.KeyIndex.index c.args.tid (Del c.args.key) (pages_of (V inside.store) inside) (pages_of (V c.seek.new.pages.store) c.seek.new.pages) c.self.invariant _ c.in-Err.fault tt
+    (look_refused g.S.EawStore.tells (g.S.EawStore.opens (V inside.store).shape) g.K.KeyIndex.index 0 c.args.tid (Del c.args.key) (pages_of (V inside.store) inside) (pages_of (V c.seek.new.pages.store) c.seek.new.pages) c.self.invariant _ c.in-Err.fault tt
     c.in-Err.ensures.cause c.in-Err.ensures.looks (λ e. ap (λ (p : Shown g.row.S.Denot). pages_of (V p.store) p) (c.in-Err.ensures.dead e))).1
 
 pub returns-in-Err-clause-does : goal.returns-in-Err-clause-does
 returns-in-Err-clause-does g c =
     let V = g.S.EawStore.view in
     let inside = c.self.inside.pages in
-    rw c.from.ensures (does_of V g.S.EawStore.tells g.S.EawStore.opens g.K.KeyIndex.index c.args.tid (Del c.args.key) c.args.self.now inside c.self.view_is (pages_of (V c.seek.new.pages.store) c.seek.new.pages) _
-    (look_refused g.S.EawStore.tells (g.S.EawStore.opens (V inside.store).shape) g.K.KeyIndex.index c.args.tid (Del c.args.key) (pages_of (V inside.store) inside) (pages_of (V c.seek.new.pages.store) c.seek.new.pages) c.self.invariant _ c.in-Err.fault tt
+    rw c.from.ensures (does_of V g.S.EawStore.tells g.S.EawStore.opens g.K.KeyIndex.index 0 c.args.tid (Del c.args.key) c.args.self.now inside c.self.view_is (pages_of (V c.seek.new.pages.store) c.seek.new.pages) _
+    (look_refused g.S.EawStore.tells (g.S.EawStore.opens (V inside.store).shape) g.K.KeyIndex.index 0 c.args.tid (Del c.args.key) (pages_of (V inside.store) inside) (pages_of (V c.seek.new.pages.store) c.seek.new.pages) c.self.invariant _ c.in-Err.fault tt
     c.in-Err.ensures.cause c.in-Err.ensures.looks (λ e. ap (λ (p : Shown g.row.S.Denot). pages_of (V p.store) p) (c.in-Err.ensures.dead e))).0)
 
 pub invariant_of-self-then-is_none : goal.invariant_of-self-then-is_none
 invariant_of-self-then-is_none g c =
     let V = g.S.EawStore.view in
     let inside = c.self.inside.pages in
-    (not_removed g.S.EawStore.tells (g.S.EawStore.opens (V inside.store).shape) g.K.KeyIndex.index c.args.tid c.args.key (pages_of (V inside.store) inside) (pages_of (V c.seek.new.pages.store) c.seek.new.pages) c.self.invariant
+    (not_removed g.S.EawStore.tells (g.S.EawStore.opens (V inside.store).shape) g.K.KeyIndex.index 0 c.args.tid c.args.key (pages_of (V inside.store) inside) (pages_of (V c.seek.new.pages.store) c.seek.new.pages) c.self.invariant
     c.in-Ok-Some.ensures.cause c.in-Ok-Some.ensures.looks (λ told. let f = rw c.in-Ok-Some.field-0-is at (c.in-Ok-Some.ensures.finds told) in f.1 ∙ none_is c.in-Ok-Some.place.value c.if-is_none.ensures)).1
 
 pub returns-then-is_none-clause-does : goal.returns-then-is_none-clause-does
 returns-then-is_none-clause-does g c =
     let V = g.S.EawStore.view in
     let inside = c.self.inside.pages in
-    does_of V g.S.EawStore.tells g.S.EawStore.opens g.K.KeyIndex.index c.args.tid (Del c.args.key) c.args.self.now inside c.self.view_is (pages_of (V c.seek.new.pages.store) c.seek.new.pages) (Ok reply.Absent)
-    (not_removed g.S.EawStore.tells (g.S.EawStore.opens (V inside.store).shape) g.K.KeyIndex.index c.args.tid c.args.key (pages_of (V inside.store) inside) (pages_of (V c.seek.new.pages.store) c.seek.new.pages) c.self.invariant
+    does_of V g.S.EawStore.tells g.S.EawStore.opens g.K.KeyIndex.index 0 c.args.tid (Del c.args.key) c.args.self.now inside c.self.view_is (pages_of (V c.seek.new.pages.store) c.seek.new.pages) (Ok reply.Absent)
+    (not_removed g.S.EawStore.tells (g.S.EawStore.opens (V inside.store).shape) g.K.KeyIndex.index 0 c.args.tid c.args.key (pages_of (V inside.store) inside) (pages_of (V c.seek.new.pages.store) c.seek.new.pages) c.self.invariant
     c.in-Ok-Some.ensures.cause c.in-Ok-Some.ensures.looks (λ told. let f = rw c.in-Ok-Some.field-0-is at (c.in-Ok-Some.ensures.finds told) in f.1 ∙ none_is c.in-Ok-Some.place.value c.if-is_none.ensures)).0
 
 -- the reply to a removal
@@ -80,7 +80,7 @@ pub invariant_of-self-2 : goal.invariant_of-self-2
 invariant_of-self-2 g c =
     let K = g.met.K.KeyIndex in
     let V = g.S.EawStore.view in
-    let laws : Laws g.K.KeyIndex.index = record { rises = K.rises; given = K.given; counts = K.counts; rests = K.rests } in
+    let laws : Laws g.K.KeyIndex.index = record { rises = K.rises; given = K.given; counts = K.counts; rests = K.rests; extends = K.extends } in
     let inside = c.self.inside.pages in
     let mid = c.seek.new.pages in
     let new = c.write_as.new.pages in
@@ -90,7 +90,7 @@ invariant_of-self-2 g c =
     let finds = λ (told : IsTrue g.S.EawStore.tells). rw c.in-Ok-Some.field-0-is at (c.in-Ok-Some.ensures.finds told) in
     let does = subst (λ (s : Shape). page.Does g.S.EawStore.tells (g.S.EawStore.opens s) (write_as c.args.tid (64 * (slots_of (V mid.store).shape + c.in-Ok-Some.place.slot)) (slot_bytes (Absent 0 c.args.key))) (pages_of (V mid.store) mid) (pages_of (V new.store) new) c.write_as.result)
     looks.shape c.write_as.ensures.does in
-    (removed g.S.EawStore.tells (g.S.EawStore.opens (V inside.store).shape) g.K.KeyIndex.index laws c.args.tid c.args.key (pages_of (V inside.store) inside) alive c.self.invariant (pages_of (V mid.store) mid) looks (pages_of (V new.store) new) c.in-Ok-Some.place.slot
+    (removed g.S.EawStore.tells (g.S.EawStore.opens (V inside.store).shape) g.K.KeyIndex.index laws 0 c.args.tid c.args.key (omega arith) (pages_of (V inside.store) inside) alive c.self.invariant (pages_of (V mid.store) mid) looks (pages_of (V new.store) new) c.in-Ok-Some.place.slot
     (λ told. (finds told).0) (λ told. ap is_some (finds told).1 ∙ c.if-is_none.ensures)
     (λ told. record { long = g.met.S.EawStore.long mid.store told; outlines = λ t. g.met.S.EawStore.outlines mid.store t told mid_alive; placed = λ t. g.met.S.EawStore.placed mid.store t })
     (c.write_as.ensures.ordered mid_alive) (c.write_as.ensures.reads_back mid_alive) (c.write_as.ensures.whole mid_alive) c.write_as.result does
@@ -100,7 +100,7 @@ pub returns-clause-does : goal.returns-clause-does
 returns-clause-does g c =
     let K = g.met.K.KeyIndex in
     let V = g.S.EawStore.view in
-    let laws : Laws g.K.KeyIndex.index = record { rises = K.rises; given = K.given; counts = K.counts; rests = K.rests } in
+    let laws : Laws g.K.KeyIndex.index = record { rises = K.rises; given = K.given; counts = K.counts; rests = K.rests; extends = K.extends } in
     let inside = c.self.inside.pages in
     let mid = c.seek.new.pages in
     let new = c.write_as.new.pages in
@@ -110,8 +110,8 @@ returns-clause-does g c =
     let finds = λ (told : IsTrue g.S.EawStore.tells). rw c.in-Ok-Some.field-0-is at (c.in-Ok-Some.ensures.finds told) in
     let does = subst (λ (s : Shape). page.Does g.S.EawStore.tells (g.S.EawStore.opens s) (write_as c.args.tid (64 * (slots_of (V mid.store).shape + c.in-Ok-Some.place.slot)) (slot_bytes (Absent 0 c.args.key))) (pages_of (V mid.store) mid) (pages_of (V new.store) new) c.write_as.result)
     looks.shape c.write_as.ensures.does in
-    rw (answer_is g c) (does_of V g.S.EawStore.tells g.S.EawStore.opens g.K.KeyIndex.index c.args.tid (Del c.args.key) c.args.self.now inside c.self.view_is (pages_of (V new.store) new) (answered reply.Fine c.write_as.result)
-    (removed g.S.EawStore.tells (g.S.EawStore.opens (V inside.store).shape) g.K.KeyIndex.index laws c.args.tid c.args.key (pages_of (V inside.store) inside) alive c.self.invariant (pages_of (V mid.store) mid) looks (pages_of (V new.store) new) c.in-Ok-Some.place.slot
+    rw (answer_is g c) (does_of V g.S.EawStore.tells g.S.EawStore.opens g.K.KeyIndex.index 0 c.args.tid (Del c.args.key) c.args.self.now inside c.self.view_is (pages_of (V new.store) new) (answered reply.Fine c.write_as.result)
+    (removed g.S.EawStore.tells (g.S.EawStore.opens (V inside.store).shape) g.K.KeyIndex.index laws 0 c.args.tid c.args.key (omega arith) (pages_of (V inside.store) inside) alive c.self.invariant (pages_of (V mid.store) mid) looks (pages_of (V new.store) new) c.in-Ok-Some.place.slot
     (λ told. (finds told).0) (λ told. ap is_some (finds told).1 ∙ c.if-is_none.ensures)
     (λ told. record { long = g.met.S.EawStore.long mid.store told; outlines = λ t. g.met.S.EawStore.outlines mid.store t told mid_alive; placed = λ t. g.met.S.EawStore.placed mid.store t })
     (c.write_as.ensures.ordered mid_alive) (c.write_as.ensures.reads_back mid_alive) (c.write_as.ensures.whole mid_alive) c.write_as.result does

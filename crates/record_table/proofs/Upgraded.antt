@@ -1,0 +1,179 @@
+-- Data of version 1 once its super page is of version 2.
+use Rattle.std.proofs.Common.{◌≡◌, ◌≢◌, ◌^◌, ℕ, zero, suc, ◌+◌, ◌-◌, ◌*◌, ◌/◌, ◌<◌, ◌≤◌, inl, inr, IsTrue, List, [], ◌∷◌, length, refl, sym, ◌∙◌, ap, subst, arith}
+use Rattle.std.specs.Prelude.{nat_eq, if◌then◌else◌, slice_get, Option, Some, None}
+use Rattle.std.specs.Option.{option_map}
+use Rattle.mars_base.specs.Bytes.{range, put}
+use Rattle.mars_base.proofs.Puts.{length-put}
+use Rattle.pcm_media.proofs.Ranges.{range-put}
+use Rattle.record_slots.specs.Slots.{slot_said}
+use Rattle.record_slots.specs.Super.{SaysSuper, HasTables, AreTables, main_entries, main_super, main_table, are_named, tables_in, tables_used, tables_said, version_said, entries_said, next_slot_said, next_page_said, free_in, free_slot_in, free_page_in, free_slots_in, free_pages_in}
+use Rattle.record_slots.specs.Places.{page_bytes, slot_of, next_slot, next_page, tables_of, version_of, free_slot, free_page, free_slots, free_pages}
+use Rattle.record_slots.specs.declared.super_page.Super.{Super}
+use Rattle.record_slots.specs.declared.super_page.TableEntry.{TableEntry}
+use Rattle.page_store.specs.Index.{Index, IsTable, HasCounts, Extends}
+use Rattle.page_store.specs.Pairs.{Pair, found}
+use Rattle.page_store.proofs.Reading.{part_missed}
+use Rattle.history.specs.Writes.{Table, write_into}
+use Rattle.record_table.specs.Shown.{value_of, table_in, table_of, pairs_of, keys_of}
+use Rattle.record_table.specs.State.{Keys}
+use Rattle.record_table.proofs.Sharing.{Laws, pairs_rest, level_same}
+
+-- the entries of `main` alone are those of tables
+one_table : (j : ℕ) (entry : TableEntry) → slice_get (main_table ∷ []) j ≡ Some entry → j ≡ 0
+one_table zero entry is = refl
+one_table (suc j) entry is = absurd (cc)
+
+main_named : IsTrue (are_named main_entries)
+unfolding are_named
+main_named = refl
+
+main_used : tables_used main_entries ≡ main_table ∷ []
+unfolding tables_used
+main_used = refl
+
+are_main : (pages : ℕ) → AreTables pages (main_table ∷ [])
+are_main pages = record {
+  main = (refl, refl);
+  inside = λ j entry some is. absurd (omega (arith, some, one_table j entry is));
+  other = λ j i one two lt is also. absurd (omega (arith, lt, one_table j two also));
+}
+
+has_main : (pages : ℕ) → HasTables 2 pages main_entries
+has_main pages = λ two. (main_named, subst (AreTables pages) (sym main_used) (are_main pages))
+
+-- records whose slots are as they were
+same_slots : (d e : List ℕ) → ((slot : ℕ) → slot_of e slot ≡ slot_of d slot) → (ps : List Pair) → table_in e ps ≡ table_in d ps
+same_slots d e same [] = refl
+same_slots d e same (p ∷ ps) = λ i. write_into (same_slots d e same ps i) (p.0, value_of (slot_said (same p.1 i)))
+
+-- Indexes and records are as they were, and the super page is of version 2.
+pub record Upgraded (index : Index) (d e : List ℕ) : Type 0 where
+  pub sound : index.sound e
+  pub size : length e ≡ length d
+  pub version : version_of e ≡ 2
+  pub tables : tables_of e ≡ tables_of d
+  pub pairs : pairs_of index e ≡ pairs_of index d
+  pub records : table_of index e ≡ table_of index d
+  pub keys : keys_of index e ≡ keys_of index d
+
+module _ (index : Index) (laws : Laws index) (d page : List ℕ) (front : Super) (sound : index.sound d) (long : length page ≡ 512)
+    (says : SaysSuper (page_bytes d 0) front) (older : front.version ≢ 2) (written : SaysSuper page (main_super front.form front.next_slot front.next_page)) where
+  abbrev e : List ℕ
+  e = put d 0 page
+
+  abbrev after : Super
+  after = main_super front.form front.next_slot front.next_page
+
+  counts : HasCounts d
+  counts = laws.counts d sound
+
+  one : version_said (page_bytes d 0) ≡ 1
+  one = omega (arith, says.version, older, counts.oldest, counts.newest)
+
+  fits : 0 + length page ≤ length d
+  fits = omega (arith, long, counts.some, counts.pages)
+
+  size : length e ≡ length d
+  size = length-put d 0 page fits
+
+  front_is : page_bytes e 0 ≡ page
+  unfolding page_bytes
+  front_is = range-put d page 0 512 (sym long) fits
+
+  now : SaysSuper (page_bytes e 0) after
+  now = subst (λ (bytes : List ℕ). SaysSuper bytes after) (sym front_is) written
+
+  away : (at n : ℕ) → 512 ≤ at → range e at n ≡ range d at n
+  away at n le = part_missed d (0, page) at n fits (inr (omega (arith, long)))
+
+  page_kept : (p : ℕ) → 1 ≤ p → page_bytes e p ≡ page_bytes d p
+  unfolding page_bytes
+  page_kept p some = away (512 * p) 512 (omega arith)
+
+  slot_kept : (slot : ℕ) → slot_of e slot ≡ slot_of d slot
+  unfolding slot_of
+  slot_kept slot =
+      ap (λ (n : ℕ). range e (64 * (4 * (n / 512) + slot)) 64) size
+      ∙ away (64 * (4 * (length d / 512) + slot)) 64 (omega (arith, counts.some, counts.pages))
+
+  tables_now : tables_of e ≡ main_table ∷ []
+  unfolding tables_said
+  tables_now = (λ i. tables_in (sym now.version i) (sym now.entries i)) ∙ main_used
+
+  tables_then : tables_of d ≡ main_table ∷ []
+  unfolding tables_said
+  tables_then = ap (λ (v : ℕ). tables_in v (entries_said (page_bytes d 0))) one
+
+  tables_same : tables_of e ≡ tables_of d
+  tables_same = tables_now ∙ sym tables_then
+
+  slot_same : next_slot e ≡ next_slot d
+  slot_same = sym now.next_slot ∙ says.next_slot
+
+  page_same : next_page e ≡ next_page d
+  page_same = sym now.next_page ∙ says.next_page
+
+  none_then : (n : ℕ) → free_in (version_said (page_bytes d 0)) n ≡ 0
+  none_then n = ap (λ (v : ℕ). free_in v n) one
+
+  free_slot_same : free_slot e ≡ free_slot d
+  unfolding free_slot_in
+  free_slot_same = sym now.free_slot ∙ sym (none_then _)
+
+  free_page_same : free_page e ≡ free_page d
+  unfolding free_page_in
+  free_page_same = sym now.free_page ∙ sym (none_then _)
+
+  free_slots_same : free_slots e ≡ free_slots d
+  unfolding free_slots_in
+  free_slots_same = sym now.free_slots ∙ sym (none_then _)
+
+  free_pages_same : free_pages e ≡ free_pages d
+  unfolding free_pages_in
+  free_pages_same = sym now.free_pages ∙ sym (none_then _)
+
+  extends : Extends d e
+  extends = record {
+    size = size;
+    mark = now.has_mark;
+    form = sym now.form ∙ says.form;
+    tables = subst (λ (x : ℕ × List ℕ). HasTables x.0 (next_page e) x.1) (λ i. (now.version i, now.entries i)) (has_main (next_page e));
+    named = λ table root is. inl (subst (λ (ts : List TableEntry). option_map (λ entry. entry.root) (slice_get ts table) ≡ Some root) tables_same is);
+    next_slot_same = slot_same;
+    later = omega (arith, page_same);
+    most = omega (arith, page_same, counts.pages);
+    free_slot_same = free_slot_same;
+    free_page_same = free_page_same;
+    free_slots_same = free_slots_same;
+    free_pages_same = free_pages_same;
+    pages = λ p some lt. page_kept p some;
+    slots = slot_kept;
+  }
+
+  pairs_same : pairs_of index e ≡ pairs_of index d
+  pairs_same = pairs_rest index d e tables_same (λ table root is. ((laws.extends d e sound extends).1 table root is).0)
+
+  records_same : table_of index e ≡ table_of index d
+  unfolding table_of
+  records_same = ap (table_in e) pairs_same ∙ same_slots d e slot_kept (pairs_of index d)
+
+  keys_kept : keys_of index e ≡ keys_of index d
+  keys_kept = λ i. record {
+    slot_of = found (pairs_same i);
+    due = if nat_eq (free_slots_same i) 0 then slot_same i else free_slot_same i - 1;
+    used_slots = slot_same i - free_slots_same i;
+    used_pages = page_same i - free_pages_same i;
+    next_page = page_same i;
+    levels = λ table. level_same index d e table tables_same (λ root is. ((laws.extends d e sound extends).1 table root is).1) i;
+  }
+
+  pub upgraded : Upgraded index d (put d 0 page)
+  upgraded = record {
+    sound = (laws.extends d e sound extends).0;
+    size = size;
+    version = sym now.version;
+    tables = tables_same;
+    pairs = pairs_same;
+    records = records_same;
+    keys = keys_kept;
+  }
