@@ -2,12 +2,12 @@
 use Rattle.std.proofs.Common.{◌≡◌, ◌≢◌, ℕ, false, inl, inr, List, Some, None, refl, sym, ◌∙◌, subst, arith}
 use Rattle.std.specs.Prelude.{nat_eq, slice_index}
 use Rattle.std.proofs.lemmas.Bool.{cases_eq, cases_lt, ne_eqb}
-use Rattle.record_slots.specs.Free.{free_page_said}
 use Rattle.record_slots.specs.Places.{page_bytes, tables_of, free_pages, free_page_of, page_due, IsSuper}
 use Rattle.page_store.specs.Index.{IsTable, IsUntouched}
 use Rattle.index_pages.specs.Page.{kind_of, kind_said, level_of}
 use Rattle.index_pages.specs.Ways.{Keeps}
 use Rattle.index_pages.proofs.Joining.{named_kept}
+use Rattle.index_pages.proofs.Released.{free_kind, kept_not_due}
 use Rattle.index_pages.proofs.Tabled.{whole_passes, roots_apart}
 use Rattle.index_pages.proofs.Taken.{FreeSlots, FreePages, due_free, due_next}
 use Rattle.btree_laws.proofs.Belonging.{tree_stays_same}
@@ -20,29 +20,14 @@ use Rattle.btree_laws.specs.declared.root.Root.{Root}
 use Rattle.btree_pages.specs.Index.{tree, tree_of, AreSoundTrees}
 use Rattle.btree_pages.specs.Trees.{whole_of, table_sound, page_given}
 
--- a page that says that it is free is of another kind than those of trees
-free_kind : (bytes : List ℕ) (x : ℕ) → free_page_of bytes x ≢ None → kind_of bytes x ≡ 255
-unfolding free_page_said kind_said
-free_kind bytes x free = elim (cases_eq (slice_index (page_bytes bytes x) 0) 255) [
-  | inl is ↦ is
-  | inr other ↦ absurd (free (let b : nat_eq (slice_index (page_bytes bytes x) 0) 255 ≡ false = ne_eqb (slice_index (page_bytes bytes x) 0) 255 other in rw b refl))
-]
-
+-- a page of a tree is not free, and it is not due
 pub free_apart : (bytes : List ℕ) (root : Root) (x : ℕ) → IsSoundTree root bytes → IsPageOfTree bytes root.page x → free_page_of bytes x ≢ None → ⊥
 free_apart bytes root x sound u free =
     let is = free_kind bytes x free in
     other_page_apart root bytes x sound (λ e. omega (arith, is, e)) (λ e. omega (arith, is, e)) u
 
--- no page of a tree is due
 pub due_apart : (bytes : List ℕ) (root : Root) (x i : ℕ) → FreePages bytes → IsSoundTree root bytes → IsPageOfTree bytes root.page x → x ≢ page_due bytes i
-due_apart bytes root x i list sound u same = elim (cases_lt i (free_pages bytes)) [
-  | inl less ↦
-      let d = due_free bytes list i less in
-      free_apart bytes root x sound u (subst (λ (y : ℕ). free_page_of bytes y ≢ None) (sym same) d.3)
-  | inr more ↦
-      let d = due_next bytes list i (omega (arith, more)) in
-      omega (arith, page_given bytes root x sound u, same, d)
-]
+due_apart bytes root x i list sound u = kept_not_due bytes x i list (page_given bytes root x sound u) (free_apart bytes root x sound u)
 
 -- a page of one table's tree is not one of another's
 pub tables_apart : (bytes : List ℕ) (one two : Root) (x : ℕ) → AreSoundTrees bytes → IsTable bytes one.table one.page → IsTable bytes two.table two.page → one.page ≢ two.page
