@@ -1,6 +1,6 @@
 #!/usr/bin/env bash
-# Lines a second, growth and peak memory of `mars`. With a folder as argument also transactions a second on a file in it, one after another
-# and in groups.
+# Lines a second, growth and peak memory of `mars`. With a folder as argument also transactions a second on a file in it: one after another, of
+# eight callers in turn with and without commits that wait for their write-back, and in groups.
 #
 # Five mixes of lines over the image in memory, of some lines and of ten times as many; keys are below 1,000, values have 16 bytes:
 #   puts   run: a transaction is a begin, a put and a commit
@@ -71,13 +71,14 @@ script() {
     }'
 }
 
-# once IMAGE WORD FILE: runs it once; prints microseconds and the peak in kilobytes, 0 where nothing measures it
+# once IMAGE FILE WORD..: runs it once; prints microseconds and the peak in kilobytes, 0 where nothing measures it
 once() {
-    local start=${EPOCHREALTIME/[.,]/}
+    local image=$1 input=$2 start=${EPOCHREALTIME/[.,]/}
+    shift 2
     if [ -x /usr/bin/time ]; then
-        /usr/bin/time -f %M -o "$work/peak" "$program" "$1" "$2" <"$3" >"$work/answers"
+        /usr/bin/time -f %M -o "$work/peak" "$program" "$image" "$@" <"$input" >"$work/answers"
     else
-        "$program" "$1" "$2" <"$3" >"$work/answers"
+        "$program" "$image" "$@" <"$input" >"$work/answers"
         echo 0 >"$work/peak"
     fi
     echo "$((${EPOCHREALTIME/[.,]/} - start)) $(cat "$work/peak")"
@@ -87,7 +88,7 @@ once() {
 peak_of() {
     local image=$room/fresh time peak
     "$program" "$image" format >/dev/null
-    read -r time peak <<<"$(once "$image" "$1" "$2")"
+    read -r time peak <<<"$(once "$image" "$2" "$1")"
     rm -f "$image"
     echo "$peak"
 }
@@ -106,7 +107,7 @@ measure() {
     script "$1" "$count" >"$file"
     best=
     for _ in 1 2 3; do
-        read -r time peak <<<"$(once - "$(word "$1")" "$file")"
+        read -r time peak <<<"$(once - "$file" "$(word "$1")")"
         is_whole "$1" "$count"
         if [ -z "$best" ] || [ "$time" -lt "$best" ]; then best=$time; fi
     done
@@ -128,19 +129,38 @@ calls() {
 
 # on_file FOLDER: transactions of one put a second, on a fresh file
 on_file() {
-    local image=$1/mars-bench.$$ count=2000 time peak
-    "$program" "$image" format >/dev/null
-    script puts "$count" >"$work/file"
-    read -r time peak <<<"$(once "$image" run "$work/file")"
-    is_whole puts "$count"
-    awk -v count="$count" -v time="$time" 'BEGIN { printf "file   %d transactions, %d a second\n", count, count * 1e6 / time }'
+    local image=$1/mars-bench.$$
+    file_rate "$image" puts 2000 run
     calls "$image" 100
+    rm -f "$image"
+}
+
+# file_rate IMAGE MIX COUNT WORD..: runs so many transactions on a fresh file, and prints how many a second
+file_rate() {
+    local image=$1 mix=$2 count=$3 time peak
+    shift 3
+    rm -f "$image"
+    "$program" "$image" format >/dev/null
+    script "$mix" "$count" >"$work/file"
+    read -r time peak <<<"$(once "$image" "$work/file" "$@")"
+    is_whole "$mix" "$count"
+    awk -v mix="$mix" -v words="$*" -v count="$count" -v time="$time" 'BEGIN {
+        printf "file   %s, %s: %d transactions, %d a second\n", mix, words, count, count * 1e6 / time
+    }'
+}
+
+# late FOLDER: the same of eight callers in turn, with and without commits that wait for their write-back
+late() {
+    local image=$1/mars-bench.$$
+    file_rate "$image" turns 2000 run
+    file_rate "$image" turns 2000 run --late 8
     rm -f "$image"
 }
 
 # groups FOLDER: transactions a second that are committed in groups, by calls, on a fresh file; of a program that `rt run` builds
 groups() {
     local made=$top/crates/group_commits/out/group_commits image=$1/mars-bench.$$ count=200 size start
+    rm -f "$image"
     [ -x "$made" ] || {
         echo "groups: crates/group_commits is not built"
         return 0
@@ -304,5 +324,6 @@ for callers in 1 2 4; do
 done
 [ $# -eq 0 ] || {
     on_file "$1"
+    late "$1"
     groups "$1"
 }

@@ -1,9 +1,10 @@
 -- Sets of numbers, number by number.
-use Rattle.std.proofs.Common.{◌≡◌, ℕ, zero, suc, ◌≢◌, ◌+◌, ◌-◌, ◌/◌, ◌^◌, ◌<◌, ◌≤◌, inl, inr, Bool, true, false, cond, ◌&&◌, nat_eq, List, [], ◌∷◌, refl, sym, ◌∙◌, ap, arith}
+use Rattle.std.proofs.Common.{◌≡◌, ℕ, zero, suc, ◌≢◌, ◌+◌, ◌-◌, ◌/◌, ◌%◌, ◌^◌, ◌<◌, ◌≤◌, inl, inr, Bool, true, false, cond, ◌&&◌, nat_eq, List, [], ◌∷◌, length, refl, sym, ◌∙◌, ap, arith, w64}
 use Rattle.std.specs.Prelude.{filter, nat_lt}
-use Rattle.std.proofs.lemmas.Bool.{cases_lt, cases_eq, eqb-false, lt-ltb, le-ltb}
-use Rattle.std.specs.Int.{bit_at}
-use Rattle.std.proofs.lemmas.Nat.Bits.{bit_at-zero, bit_at-suc, bit_at-lt, same_from_bits}
+use Rattle.std.proofs.lemmas.Bool.{cases_lt, cases_eq, eqb-false, eq-eqb, ne_eqb, lt-ltb, le-ltb}
+use Rattle.std.specs.Int.{bit_at, trailing_zeros}
+use Rattle.std.proofs.lemmas.Nat.{shr-shr, shr_le}
+use Rattle.std.proofs.lemmas.Nat.Bits.{bit_at-zero, bit_at-suc, bit_at-lt, bit_at_above, bit_at-trailing_zeros, same_from_bits}
 use Rattle.array_shape.specs.NumberSet.{has, numbers_from, numbers_in}
 
 module _ (bits t : ℕ) (lt : t < 64) where
@@ -25,6 +26,120 @@ module _ (bits t : ℕ) (lt : t < 64) where
 pub from_end : (bits : ℕ) → numbers_from bits 64 (64 - 64) ≡ []
 unfolding numbers_from
 from_end bits = refl
+
+-- none of those from one number up to another is in it
+pub from_past : (bits t k : ℕ) → t + k ≤ 64 → ((u : ℕ) → t ≤ u → u < t + k → has bits u ≡ false) → numbers_from bits t (64 - t) ≡ numbers_from bits (t + k) (64 - (t + k))
+from_past bits t zero le none = ap (λ (s : ℕ). numbers_from bits s (64 - s)) (let same : t ≡ t + 0 = omega arith in same)
+from_past bits t (suc k) le none =
+    from_next bits t (omega arith) (none t (omega arith) (omega arith))
+    ∙ from_past bits (t + 1) k (omega arith) (λ u past below. none u (omega arith) (omega arith))
+    ∙ ap (λ (s : ℕ). numbers_from bits s (64 - s)) (let same : t + 1 + k ≡ t + suc k = omega arith in same)
+
+-- bits from one place on
+module _ (bits from : ℕ) where
+  above : (i : ℕ) → bit_at (bits / 2 ^ from) i ≡ bit_at bits (from + i)
+  above i = ap (λ (n : ℕ). n % 2) (shr-shr bits from i)
+
+  above_at : (u : ℕ) → from ≤ u → bit_at (bits / 2 ^ from) (u - from) ≡ bit_at bits u
+  above_at u le = above (u - from) ∙ ap (bit_at bits) (let same : from + (u - from) ≡ u = omega arith in same)
+
+  -- none of them is set
+  pub from_none : from ≤ 64 → bits / 2 ^ from ≡ 0 → numbers_from bits from (64 - from) ≡ []
+  from_none le rest =
+      let k = 64 - from in
+      from_past bits from k (omega arith) (λ u past below. ne_eqb (bit_at bits u) 1 (λ one. omega (arith, one, above_at u past, ap (λ (n : ℕ). bit_at n (u - from)) rest, bit_at-zero (u - from))))
+      ∙ ap (λ (s : ℕ). numbers_from bits s (64 - s)) (let same : from + k ≡ 64 = omega arith in same)
+      ∙ from_end bits
+
+  -- or the lowest is that of the first that is set
+  module _ (small : bits < 2 ^ 64) (some : 0 < bits / 2 ^ from) where
+    lowest : (trailing_zeros w64 (bits / 2 ^ from) < 64) × (bit_at (bits / 2 ^ from) (trailing_zeros w64 (bits / 2 ^ from)) ≡ 1) × ((i : ℕ) → i < trailing_zeros w64 (bits / 2 ^ from) → bit_at (bits / 2 ^ from) i ≡ 0)
+    lowest = bit_at-trailing_zeros w64 (bits / 2 ^ from) some (omega (arith, small, shr_le bits from))
+
+    abbrev pub first_at : ℕ
+    first_at = from + trailing_zeros w64 (bits / 2 ^ from)
+
+    first_set : bit_at bits first_at ≡ 1
+    first_set = sym (above (trailing_zeros w64 (bits / 2 ^ from))) ∙ lowest.1
+
+    pub first_below : first_at < 64
+    first_below = elim (cases_lt first_at 64) [
+      | inl lt ↦ lt
+      | inr le ↦ absurd (omega (arith, first_set, bit_at_above bits 64 first_at small le))
+    ]
+
+    pub from_first : numbers_from bits from (64 - from) ≡ first_at ∷ numbers_from bits (first_at + 1) (64 - (first_at + 1))
+    from_first =
+        from_past bits from (trailing_zeros w64 (bits / 2 ^ from)) (omega (arith, first_below)) (λ u past below. ne_eqb (bit_at bits u) 1 (λ one. omega (arith, one, above_at u past, lowest.2 (u - from) (omega arith))))
+        ∙ from_here bits first_at first_below (eq-eqb (bit_at bits first_at) 1 first_set)
+
+-- `tid` is the next one of a set from one number on, and `rest` are those behind it
+pub record IsNext (bits from tid : ℕ) (rest : List ℕ) : Type 0 where
+  pub reached : from ≤ tid
+  pub below : tid < 64
+  pub here : has bits tid ≡ true
+  pub none : (u : ℕ) → from ≤ u → u < tid → has bits u ≡ false
+  pub rest_is : rest ≡ numbers_from bits (tid + 1) (64 - (tid + 1))
+
+module _ (bits : ℕ) where
+  first : ℕ → List ℕ → ℕ
+  first other [] = other
+  first other (t ∷ ts) = t
+
+  behind : List ℕ → List ℕ
+  behind [] = []
+  behind (t ∷ ts) = ts
+
+  past_one : (from n : ℕ) → from + suc n ≡ 64 → ((left : List ℕ) (tid : ℕ) (rest : List ℕ) → left ≡ numbers_from bits (from + 1) n → left ≡ tid ∷ rest → IsNext bits (from + 1) tid rest)
+      → (in_it : Bool) → has bits from ≡ in_it → (left : List ℕ) (tid : ℕ) (rest : List ℕ) → left ≡ cond in_it (from ∷ numbers_from bits (from + 1) n) (numbers_from bits (from + 1) n) → left ≡ tid ∷ rest → IsNext bits from tid rest
+  unfolding first behind
+  past_one from n sum later true is left tid rest left_is next =
+      let same : tid ≡ from = ap (first 0) (sym next ∙ left_is) in
+      record {
+        reached = omega (arith, same);
+        below = omega (arith, same);
+        here = ap (has bits) same ∙ is;
+        none = λ u le lt. absurd (omega (arith, same));
+        rest_is = ap behind (sym next ∙ left_is) ∙ (λ i. numbers_from bits (sym same i + 1) n) ∙ ap (numbers_from bits (tid + 1)) (let few : n ≡ 64 - (tid + 1) = omega (arith, same) in few);
+      }
+  past_one from n sum later false is left tid rest left_is next =
+      let it = later left tid rest left_is next in
+      record {
+        reached = omega (arith, it.reached);
+        below = it.below;
+        here = it.here;
+        none = λ u le lt. elim (cases_eq u from) [
+          | inl at ↦ ap (has bits) at ∙ is
+          | inr ne ↦ it.none u (omega arith) lt
+        ];
+        rest_is = it.rest_is;
+      }
+
+  next_by : (n from : ℕ) → from + n ≡ 64 → (left : List ℕ) (tid : ℕ) (rest : List ℕ) → left ≡ numbers_from bits from n → left ≡ tid ∷ rest → IsNext bits from tid rest
+  unfolding numbers_from
+  next_by zero from sum left tid rest left_is next = absurd (omega (arith, ap length (sym next ∙ left_is)))
+  next_by (suc n) from sum left tid rest left_is next = past_one from n sum (next_by n (from + 1) (omega arith)) (has bits from) refl left tid rest left_is next
+
+  -- the head of what is left of a set
+  pub next_left : (from : ℕ) → from ≤ 64 → (left : List ℕ) (tid : ℕ) (rest : List ℕ) → left ≡ numbers_from bits from (64 - from) → left ≡ tid ∷ rest → IsNext bits from tid rest
+  next_left from le = next_by (64 - from) from (omega arith)
+
+  stops : (from n : ℕ) → ((u : ℕ) → from + 1 ≤ u → u < from + suc n → numbers_from bits (from + 1) n ≡ [] → has bits u ≡ false)
+      → (in_it : Bool) → has bits from ≡ in_it → cond in_it (from ∷ numbers_from bits (from + 1) n) (numbers_from bits (from + 1) n) ≡ [] → (u : ℕ) → from ≤ u → u < from + suc n → has bits u ≡ false
+  stops from n later true is none u le lt = absurd (omega (arith, ap length none))
+  stops from n later false is none u le lt = elim (cases_eq u from) [
+    | inl at ↦ ap (has bits) at ∙ is
+    | inr ne ↦ later u (omega arith) lt none
+  ]
+
+  none_by : (n from : ℕ) → numbers_from bits from n ≡ [] → (u : ℕ) → from ≤ u → u < from + n → has bits u ≡ false
+  unfolding numbers_from
+  none_by zero from none u le lt = absurd (omega arith)
+  none_by (suc n) from none u le lt = stops from n (λ v past below rest. none_by n (from + 1) rest v past (omega arith)) (has bits from) refl none u le lt
+
+  -- none is left of it
+  pub none_left : (from : ℕ) → from ≤ 64 → (left : List ℕ) → left ≡ numbers_from bits from (64 - from) → left ≡ [] → (u : ℕ) → from ≤ u → u < 64 → has bits u ≡ false
+  none_left from le left left_is none u past below = none_by (64 - from) from (sym left_is ∙ none) u past (omega arith)
 
 -- the set of those that pass a test
 module _ (a bits : ℕ) (p : ℕ → Bool) (same : (t : ℕ) → t < 64 → has a t ≡ (has bits t && p t)) where

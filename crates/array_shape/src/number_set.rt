@@ -1,11 +1,11 @@
 // Sets of transaction numbers.
-ghost use Rattle.std.specs.Prelude.{◌≡◌, ◌≢◌, ◌<◌, ℕ, [], true, false};
-ghost use Rattle.array_shape.specs.NumberSet.{has, numbers_in, members};
+ghost use Rattle.std.specs.Prelude.{◌≡◌, ◌≢◌, ◌+◌, ◌-◌, ◌<◌, ◌≤◌, ℕ, [], ◌∷◌, true, false, IfSome, IsNone};
+ghost use Rattle.array_shape.specs.NumberSet.{has, numbers_from, numbers_in, members};
 
 use crate::shape::NUMBERS_MAX;
 use std::marker::Model;
 
-/// A set of transaction numbers: number `t` is in it where bit `t` of `bits` is set.
+/// A set of transaction numbers, or of loggers: number `t` is in it where bit `t` of `bits` is set.
 #[derive(Clone, Copy, Debug, PartialEq, Eq)]
 pub struct NumberSet {
     pub bits: u64,
@@ -45,6 +45,22 @@ impl NumberSet {
     {
         Members { set: self, next: 0 }
     }
+
+    // The lowest of its numbers that are not below `from`.
+    fn lowest_from(self, from: u8) -> Option<u8>
+        requires { from ≤ 64 }
+        ensures some { IfSome result (λ t. (t < 64) × (numbers_from self.bits from (64 - from) ≡ t ∷ numbers_from self.bits (t + 1) (64 - (t + 1)))) }
+        ensures none { IsNone result → numbers_from self.bits from (64 - from) ≡ [] }
+    {
+        if from == NUMBERS_MAX {
+            return None;
+        }
+        let rest = self.bits >> from;
+        if rest == 0 {
+            return None;
+        }
+        Some(from + rest.trailing_zeros() as u8)
+    }
 }
 
 /// The remaining numbers of a set, rising. Contracts see it as their list.
@@ -75,13 +91,11 @@ impl Iterator for Members {
     ghost remaining = { item_count (λ numbers. numbers) };
 
     fn next(&mut self) -> Option<u8> {
-        for tid in self.next..NUMBERS_MAX {
-            if self.set.contains(tid) {
-                self.next = tid + 1;
-                return Some(tid);
-            }
-        }
-        self.next = NUMBERS_MAX;
-        None
+        let Some(tid) = self.set.lowest_from(self.next) else {
+            self.next = NUMBERS_MAX;
+            return None;
+        };
+        self.next = tid + 1;
+        Some(tid)
     }
 }

@@ -19,7 +19,7 @@ found_some : (key slot : ℕ) (ps : List Pair) → found ps key ≡ Some slot �
 found_some key slot [] is = absurd (cc)
 found_some key slot (p ∷ ps) is = omega arith
 
-one_has_none : (key : ℕ) (es : List Pair) → length es ≡ 1 → right_of es key ≡ 0
+pub one_has_none : (key : ℕ) (es : List Pair) → length es ≡ 1 → right_of es key ≡ 0
 one_has_none key [] one = refl
 one_has_none key (e ∷ []) one = refl
 one_has_none key (e ∷ f ∷ es) one = absurd (omega arith)

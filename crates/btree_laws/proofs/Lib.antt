@@ -17,3 +17,4 @@ pub mod Pages
 pub mod Freeing
 pub mod Whole
 pub mod Small
+pub mod Staying

@@ -8,11 +8,8 @@ use Rattle.index_pages.specs.Keys.{key_end}
 use Rattle.index_pages.specs.Page.{page_pairs, pairs_said, kind_said, level_said, link_said, count_said, level_of}
 use Rattle.index_pages.specs.Pieces.{joined}
 use Rattle.page_store.specs.Pairs.{Pair, Rise}
+use Rattle.index_pages.proofs.Removing.{given_left}
 use Rattle.record_slots.specs.Places.{page_bytes, next_page, AreGiven, IsSuper}
-
-pub given_left : (bytes : List ℕ) (table : ℕ) (xs ys : List Pair) → AreGiven bytes table (xs ++ ys) → AreGiven bytes table xs × AreGiven bytes table ys
-given_left bytes table [] ys g = (tt, g)
-given_left bytes table (x ∷ xs) ys g = let h = given_left bytes table xs ys g.2 in ((g.0, g.1, h.0), h.1)
 
 module _ (root : Root) (old new : List ℕ) (pages : next_page old ≤ next_page new) where
   children_moved : (es : List Pair) → AreBelow root.page (next_page old) es → AreBelow root.page (next_page new) es

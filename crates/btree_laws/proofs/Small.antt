@@ -4,14 +4,7 @@ use Rattle.std.proofs.lemmas.Bool.Decides.{leb_tells, eqb_tells}
 use Rattle.index_pages.specs.Written.{AreSmall}
 use Rattle.page_store.specs.Pairs.{Pair, removed}
 use Rattle.btree_laws.specs.Removals.{without_last, without_right}
-
-pub small_removed : (key : ℕ) (ps : List Pair) → AreSmall ps → AreSmall (removed ps key)
-small_removed key [] s = s
-small_removed key (p ∷ ps) s =
-    elim (eqb_tells p.0 key) [
-      | inl h ↦ let e : nat_eq p.0 key ≡ true = h.0 in rw e s.2
-      | inr h ↦ let e : nat_eq p.0 key ≡ false = h.0 in rw e (s.0, s.1, small_removed key ps s.2)
-    ]
+pub use Rattle.index_pages.proofs.Removing.{small_removed}
 
 pub small_right : (key : ℕ) (es : List Pair) → AreSmall es → AreSmall (without_right es key)
 small_right key [] s = s

@@ -6,15 +6,9 @@ use Rattle.btree_laws.specs.declared.root.Root.{Root}
 use Rattle.btree_laws.specs.Tree.{pairs_of_tree}
 use Rattle.index_pages.specs.Page.{page_pairs, kind_of, level_of, link_of, count_of}
 use Rattle.index_pages.specs.Ways.{IsOwn, above}
+pub use Rattle.index_pages.specs.Ways.{KeepsBut}
 use Rattle.page_store.specs.Pairs.{Pair, removed}
 use Rattle.record_slots.specs.Places.{next_slot, next_page, Carries}
-
--- no given page or slot is taken back, and each given slot that carries a key still carries it, but for one slot
-pub record KeepsBut (slot : ℕ) (old new : List ℕ) : Type 0 where
-  pub size : length new ≡ length old
-  pub pages : next_page old ≤ next_page new
-  pub slots : next_slot old ≤ next_slot new
-  pub carried : (table : ℕ) (p : Pair) → p.1 ≢ slot → p.1 < next_slot old → Carries old table p → Carries new table p
 
 -- the page of the entry after that of the key's child, 0 if that child is the last
 abbrev pub right_of : List Pair → ℕ → ℕ

@@ -1,14 +1,16 @@
--- Trees as an index: the tree of each table, its pages, and the actions of an insertion.
-use Rattle.std.specs.Prelude.{ℕ, zero, suc, ◌≤◌, nat_lt, if◌then◌else◌, List, [], ◌∷◌, take, drop, Some, None}
+-- Trees as an index: the tree of each table, its pages, and the actions of an insertion and of a removal.
+use Rattle.std.specs.Prelude.{ℕ, zero, suc, ◌≤◌, nat_eq, nat_lt, nat_le, ◌||◌, if◌then◌else◌, List, [], ◌∷◌, take, drop, Option, Some, None}
+use Rattle.std.specs.Option.{unwrap_or}
 use Rattle.mars_base.specs.Check.{Check}
 use Rattle.record_slots.specs.Places.{next_page, first_slot_page, slot_page, slot_due, page_due}
 use Rattle.page_store.specs.Index.{Action, Index}
-use Rattle.page_store.specs.Pairs.{Pair}
+use Rattle.page_store.specs.Pairs.{Pair, found}
 use Rattle.index_pages.specs.Keys.{key_at}
 use Rattle.index_pages.specs.Page.{level_of, count_of, page_pairs}
 use Rattle.index_pages.specs.Slots.{index_check}
 use Rattle.index_pages.specs.Within.{within}
-use Rattle.btree_laws.specs.Descent.{child_for}
+use Rattle.btree_laws.specs.Descent.{child_for, leaf_for}
+use Rattle.btree_laws.specs.Removals.{right_of, parent_for, stays_last}
 use Rattle.btree_laws.specs.Tree.{tree_check, pairs_of_tree, IsPageOfTree}
 
 -- the tree of a table, as its root and its number tell it
@@ -66,8 +68,36 @@ tree_actions bytes root key =
     growing bytes root
     ∷ actions_below (level_of bytes root) bytes root (half_for (page_pairs bytes root) (page_due bytes 0) (page_due bytes 1) key) 2 key
 
+-- The pages of a removal's parts. The leaf of the key loses its pair: the slot, the leaf, the super page.
+abbrev pub losing : List ℕ → ℕ → ℕ → List ℕ
+losing bytes slot leaf = slot_page bytes slot ∷ leaf ∷ 0 ∷ []
+
+-- A leaf without another pair takes those of the page to its right, which is freed; or it is the last of its parent, and is freed itself.
+abbrev pub emptying : List ℕ → ℕ → ℕ → ℕ → ℕ → List ℕ
+emptying bytes slot leaf parent right =
+    if nat_eq right 0 then slot_page bytes slot ∷ parent ∷ leaf ∷ 0 ∷ [] else slot_page bytes slot ∷ leaf ∷ parent ∷ right ∷ 0 ∷ []
+
+-- a leaf that is the root, or has other pairs, loses the pair; else it is emptied
+abbrev pub removal_pages : List ℕ → ℕ → ℕ → ℕ → List ℕ
+removal_pages bytes root key slot =
+    if nat_eq (level_of bytes root) 0 || nat_le 2 (count_of bytes (leaf_for bytes root key)) then losing bytes slot (leaf_for bytes root key)
+    else emptying bytes slot (leaf_for bytes root key) (parent_for bytes root key) (right_of (page_pairs bytes (parent_for bytes root key)) key)
+
+-- the removal of a key that is there; the last pair of an only child stays
+abbrev pub tree_removal : List ℕ → ℕ → ℕ → Option (List ℕ)
+tree_removal bytes root key =
+    if stays_last bytes root key then None else Some (removal_pages bytes root key (unwrap_or (found (pairs_of_tree bytes root) key) 0))
+
 abbrev pub tree : Index
-tree = record { sound = AreSoundTrees; fails = IsFirstDamagedOfTrees; pairs = pairs_of_tree; level = level_of; has_page = IsPageOfTree; actions = tree_actions }
+tree = record {
+  sound = AreSoundTrees;
+  fails = IsFirstDamagedOfTrees;
+  pairs = pairs_of_tree;
+  level = level_of;
+  has_page = IsPageOfTree;
+  actions = tree_actions;
+  removal = tree_removal;
+}
 
 -- The index for the rest of an insertion, from a page on its way that has room and is this many levels above the leaves. Its actions are
 -- those from there on, and sound data has at most this many pages given out.

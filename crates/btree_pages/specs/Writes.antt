@@ -1,12 +1,16 @@
--- The parts that the actions of an insertion write.
-use Rattle.std.specs.Prelude.{ℕ, ◌+◌, ◌<◌, ◌≤◌, List, [], ◌∷◌, length, take, drop}
+-- The parts that the actions of an insertion and of a removal write.
+use Rattle.std.specs.Prelude.{ℕ, ◌+◌, ◌*◌, ◌/◌, ◌%◌, ◌<◌, ◌≤◌, List, [], ◌∷◌, length, take, drop}
 use Rattle.array_shape.specs.declared.shape.Shape.{Shape}
 use Rattle.array_shape.specs.Logged.{Part}
-use Rattle.record_slots.specs.Super.{part_bytes}
+use Rattle.record_slots.specs.Free.{free_slot_bytes, free_page_bytes}
+use Rattle.record_slots.specs.Super.{SaysSuper, part_bytes}
+use Rattle.record_slots.specs.Places.{page_bytes}
+use Rattle.record_slots.specs.declared.free.Free.{Free}
 use Rattle.record_slots.specs.declared.super_page.Super.{Super}
 use Rattle.page_store.specs.Index.{index_pages_of}
 use Rattle.page_store.specs.Pairs.{Pair, inserted}
 use Rattle.page_store.specs.Shown.{address}
+use Rattle.index_pages.specs.Giving.{GivesSlot}
 use Rattle.index_pages.specs.Keys.{key_at}
 use Rattle.index_pages.specs.Written.{AreSmall, written_page}
 
@@ -40,3 +44,32 @@ growing_parts after left right root level pairs =
     ∷ (address right 0, written_page level 0 (drop 15 pairs))
     ∷ (address root 0, written_page (level + 1) 0 ((0, left) ∷ (key_at pairs 15, right) ∷ []))
     ∷ (address 0 8, part_bytes after) ∷ []
+
+-- A leaf takes the pairs of the page to its right: the slot, which is free; the leaf; the parent, with the entries that are left; that page,
+-- which is free; the super page as it is then.
+abbrev pub joining_pages : ℕ → ℕ → ℕ → ℕ → ℕ → List ℕ
+joining_pages half slot leaf parent right = (half + slot / 8) ∷ leaf ∷ parent ∷ right ∷ 0 ∷ []
+
+abbrev pub joining_parts : ℕ → Super → ℕ → Free → ℕ → List Pair → ℕ → List Pair → ℕ → Free → List Part
+joining_parts half after slot free leaf pairs parent entries right freed =
+    (address (half + slot / 8) (slot % 8 * 64), free_slot_bytes free)
+    ∷ (address leaf 0, written_page 0 0 pairs)
+    ∷ (address parent 0, written_page 1 0 entries)
+    ∷ (address right 0, free_page_bytes freed)
+    ∷ (address 0 8, part_bytes after) ∷ []
+
+-- the last leaf of a parent goes: the slot, which is free; the parent, with the entries that are left; the leaf, which is free; the super page
+-- as it is then
+abbrev pub leaving_pages : ℕ → ℕ → ℕ → ℕ → List ℕ
+leaving_pages half slot parent leaf = (half + slot / 8) ∷ parent ∷ leaf ∷ 0 ∷ []
+
+abbrev pub leaving_parts : ℕ → Super → ℕ → Free → ℕ → List Pair → ℕ → Free → List Part
+leaving_parts half after slot free parent entries leaf freed =
+    (address (half + slot / 8) (slot % 8 * 64), free_slot_bytes free)
+    ∷ (address parent 0, written_page 1 0 entries)
+    ∷ (address leaf 0, free_page_bytes freed)
+    ∷ (address 0 8, part_bytes after) ∷ []
+
+-- a slot is given back to the super page that the data has: what it is to say, and what the super page says then
+abbrev pub Releases : List ℕ → ℕ → Free → Super → Type 0
+Releases bytes slot free after = (front : Super) × SaysSuper (page_bytes bytes 0) front × GivesSlot front slot free after

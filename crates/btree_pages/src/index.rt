@@ -2,7 +2,7 @@ ghost use Rattle.btree_pages.specs.Props.{AreSoundTrees-prop};
 ghost use Rattle.btree_pages.specs.Trees.{trees_rise, trees_given, trees_count, trees_rest, trees_extend, trees_excluded, trees_first};
 ghost use Rattle.btree_pages.specs.Index.{tree};
 
-use crate::{checking, insertion, look};
+use crate::{checking, insertion, look, removal};
 use btree_laws::Root;
 use eaw_face::EawStore;
 use page_store::{CheckFault, IndexFault, KeyIndex, PageFault, Pages};
@@ -11,6 +11,10 @@ use page_store::{CheckFault, IndexFault, KeyIndex, PageFault, Pages};
 /// most. To find the pair with the least key from a bound on, it may also read the next leaf. An insertion splits each full page on its way
 /// down and then adds the pair. A split is one nested top action of four parts: both halves, the page that names them, and the super page.
 /// Adding the pair takes three: the slot, the leaf and the super page. Free pages and free slots are taken first.
+///
+/// A removal takes the pair out of its leaf. A leaf that has no other is joined with the leaf to its right under the same parent, or else with
+/// the one to its left, and the right one of the two is freed; an only child keeps its last pair. All of it is one nested top action: the slot,
+/// the leaf, the parent, the freed page and the super page. No inner page is joined, and a tree never loses a level.
 #[derive(Clone, Copy, Debug)]
 pub struct BTreePages {}
 
@@ -49,6 +53,16 @@ impl KeyIndex for BTreePages {
         key: u64,
     ) -> Result<u32, IndexFault> {
         insertion::insert(pages, tid, Root { page: root, table }, key)
+    }
+
+    fn remove<S: EawStore>(
+        pages: &mut Pages<S>,
+        tid: u8,
+        root: u32,
+        table: u8,
+        key: u64,
+    ) -> Result<bool, PageFault> {
+        removal::remove(pages, tid, Root { page: root, table }, key)
     }
 
     ghost rises = { trees_rise };

@@ -118,7 +118,7 @@ fn insert_above<S: EawStore>(
 }
 
 // Whether a page is one of so many, and not the super page.
-fn is_index_page(page: u32, count: u32) -> bool
+pub fn is_index_page(page: u32, count: u32) -> bool
     ensures { IsTrue result ↔ (1 ≤ page) × (page < count) }
 {
     page != 0 && page < count

@@ -5,11 +5,14 @@
 #![tactic(auto)]
 
 mod checking;
+mod emptied;
 mod index;
 mod insertion;
 mod look;
 mod node;
 mod page;
+mod parents;
+mod removal;
 mod write;
 
 pub use index::BTreePages;

@@ -18,7 +18,7 @@ use page_store::{PageFault, Pages};
 use record_slots::{PART_LEN, write_super_part};
 
 // A page of a tree has no link.
-const NO_LINK: u32 = 0;
+pub const NO_LINK: u32 = 0;
 
 // Adds a pair of the key of a table and the slot that is taken to the key's leaf, which has room.
 pub fn add_pair<S: EawStore>(

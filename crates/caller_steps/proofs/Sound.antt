@@ -2,16 +2,16 @@
 use Rattle.std.proofs.Common.{◌≡◌, ◌≢◌, ℕ, inl, inr, Bool, true, false, nat_eq, List, [], ◌∷◌, ◌++◌, Option, Some, None, unwrap_or, refl, sym, ap, subst, ◌∙◌}
 use Rattle.std.specs.Map.{update}
 use Rattle.std.proofs.lemmas.Map.{update_here, update_apart}
-use Rattle.std.proofs.lemmas.Bool.{cases_eq, or_from, false_from_ne_true, false≢true}
+use Rattle.std.proofs.lemmas.Bool.{cases_eq, false_from_ne_true, false≢true}
 use Rattle.std.proofs.lemmas.List.{append-nil}
 use Rattle.history.specs.Writes.{Table}
 use Rattle.history.specs.Table.{Granted, begun, Answers, worked, IsRight, left_by}
-use Rattle.history.specs.Locks.{Mode, touches, touched, clash, AreApart}
+use Rattle.history.specs.Locks.{Touch, touches, touched, clash, AreApart}
 use Rattle.history.specs.Legal.{IsLegal}
 use Rattle.history.specs.declared.call.Call.{Call}
 use Rattle.history.specs.declared.call.Reply.{Reply}
 use Rattle.history.proofs.OneMore.{IsRight-push, IsLegal-push, records-push, touched-push}
-use Rattle.history.proofs.Modes.{clash_turned, clash_stronger}
+use Rattle.history.proofs.Modes.{clash_turned, clash_more}
 use Rattle.history.proofs.Locking.{right_after}
 use Rattle.caller_steps.specs.State.{State, Index, opened, calls_of, records_of, view_of, with_live, done_by}
 use Rattle.caller_steps.specs.Locked.{IsFree}
@@ -35,8 +35,8 @@ apart_turned one other apart stripe = clash_turned (touched other stripe) (touch
 apart_more : (calls other : Granted) (call : Call) (reply : Reply) → AreApart calls other → ((stripe : ℕ) → clash (touches call stripe) (touched other stripe) ≡ false)
     → AreApart (calls ++ (call, reply) ∷ []) other
 apart_more calls other call reply before own stripe =
-    ap (λ (t : Option Mode). clash t (touched other stripe)) (touched-push calls call reply stripe) ∙ clash_stronger (touched calls stripe) (touches call stripe) (touched other stripe)
-    ∙ or_from (clash (touched calls stripe) (touched other stripe)) (clash (touches call stripe) (touched other stripe)) (before stripe) (own stripe)
+    ap (λ (t : Touch). clash t (touched other stripe)) (touched-push calls call reply stripe)
+    ∙ clash_more (touched calls stripe) (touches call stripe) (touched other stripe) (before stripe) (own stripe)
 
 right-update : (table : Table) (f : ℕ → Option Granted) (caller : ℕ) (calls : Option Granted)
     → ((other : ℕ) → other ≢ caller → IsRight table (unwrap_or (f other) [])) → IsRight table (unwrap_or calls []) → (other : ℕ) → IsRight table (unwrap_or (update nat_eq f caller calls other) [])

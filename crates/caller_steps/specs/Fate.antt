@@ -38,6 +38,10 @@ may_come_held Dead = true
 may_come_held NoMemory = true
 may_come_held _ = false
 
+abbrev pub is_busy : Reply → Bool
+is_busy (Busy holder) = true
+is_busy _ = false
+
 abbrev pub is_committed : Reply → Bool
 is_committed (Committed n) = true
 is_committed _ = false

@@ -1,7 +1,9 @@
 // The trait of callers by turns.
-ghost use Rattle.std.specs.Prelude.{◌≡◌, ◌<◌, ℕ, Bool, IsTrue, length};
+ghost use Rattle.std.specs.Prelude.{◌≡◌, ◌<◌, ℕ, Bool, IsTrue, IsFalse, length};
 ghost use Rattle.history.specs.declared.call.Reply.TheVariants.{Dead};
 ghost use Rattle.caller_steps.specs.Core.{CoreView, Steps};
+ghost use Rattle.caller_steps.specs.Fate.{is_busy};
+ghost use Rattle.caller_steps.specs.Locked.{IsLocked};
 
 use history::{Call, Reply};
 
@@ -17,6 +19,15 @@ pub trait Core {
         requires { caller < (view self.old).limits.callers }
         ensures steps { Steps tells caller call.now (view self.old) (view self.new) result }
         ensures dead { IsTrue (view self.old).state.is_dead → (result ≡ Dead) × (self.new ≡ self.old) };
+
+    /// Answers a caller's call that clashes with no other caller's live transaction, as locks outside of the core have made sure. It makes
+    /// the step that `step` would make, without a search for a holder.
+    fn step_locked(&mut self, caller: u8, call: &Call) -> Reply
+        requires inside { caller < (view self.old).limits.callers }
+        requires locked { IsLocked (view self.old).state caller call.now }
+        ensures steps { Steps tells caller call.now (view self.old) (view self.new) result }
+        ensures dead { IsTrue (view self.old).state.is_dead → (result ≡ Dead) × (self.new ≡ self.old) }
+        ensures not_busy { IsFalse (is_busy result) };
 
     /// How many transactions have committed since the opening.
     fn told(&self) -> u64
@@ -35,6 +46,16 @@ impl<C: Core> Core for Box<C> {
         ensures dead { IsTrue (C.view self.old.value).state.is_dead → (result ≡ Dead) × (self.new ≡ self.old) }
     {
         self.as_mut().step(caller, call)
+    }
+
+    fn step_locked(&mut self, caller: u8, call: &Call) -> Reply
+        requires inside { caller < (C.view self.old.value).limits.callers }
+        requires locked { IsLocked (C.view self.old.value).state caller call.now }
+        ensures steps { Steps C.tells caller call.now (C.view self.old.value) (C.view self.new.value) result }
+        ensures dead { IsTrue (C.view self.old.value).state.is_dead → (result ≡ Dead) × (self.new ≡ self.old) }
+        ensures not_busy { IsFalse (is_busy result) }
+    {
+        self.as_mut().step_locked(caller, call)
     }
 
     fn told(&self) -> u64

@@ -472,7 +472,7 @@ callers_asks numbers are default =
       (
         refl,
         record {
-          callers = given 1 64 _ None _ found.0 are.some are.few;
+          callers = given 1 32 _ None _ found.0 are.some are.few;
           tries = rw default (left 1 1000000 100 _ found.1);
           writing = at_once _ numbers.writing are.writing found.2;
         },
@@ -491,7 +491,7 @@ tries_asks numbers are =
       (
         refl,
         record {
-          callers = given 1 64 _ None _ found.0 are.some are.few;
+          callers = given 1 32 _ None _ found.0 are.some are.few;
           tries = given 1 1000000 _ _ _ found.1 are.once are.bounded;
           writing = at_once _ numbers.writing are.writing found.2;
         },

@@ -41,7 +41,7 @@ pub record GivesDrill (values : List Row) (given : DrillNumbers) : Type 0 where
 
 -- what the value and the options of `callers` give
 pub record GivesCallers (options : List Row) (given : CallersNumbers) : Type 0 where
-  pub callers : IsNumber 1 64 None (first_of (codes "callers") options) given.callers
+  pub callers : IsNumber 1 32 None (first_of (codes "callers") options) given.callers
   pub tries : IsNumber 1 1000000 (Some 100) (first_of (codes "tries") options) given.tries
   pub writing : GivesWriting (first_of (codes "late") options) given.writing
 

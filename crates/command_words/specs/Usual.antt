@@ -50,7 +50,7 @@ tries_words numbers = codes "callers" ∷ decimal numbers.callers ∷ codes "--t
 -- the numbers are within their ranges, and data is written at once
 pub record AreOfCallers (numbers : CallersNumbers) : Type 0 where
   pub some : 1 ≤ numbers.callers
-  pub few : numbers.callers ≤ 64
+  pub few : numbers.callers ≤ 32
   pub once : 1 ≤ numbers.tries
   pub bounded : numbers.tries ≤ 1000000
   pub writing : numbers.writing ≡ AtOnce

@@ -68,7 +68,7 @@ pub struct DrillNumbers {
 /// How many callers work on threads, and how often they try.
 #[derive(Clone, Copy, Debug, PartialEq, Eq)]
 pub struct CallersNumbers {
-    /// Callers, 1 to 64.
+    /// Callers, 1 to 32.
     pub callers: u8,
     /// How often a transaction that finds a key locked is tried, 1 to 1,000,000.
     pub tries: u32,
@@ -81,7 +81,7 @@ const SEED_MOST: u32 = 2_147_483_647;
 
 const COUNT_MOST: u32 = 100_000;
 
-const CALLERS_MOST: u32 = 64;
+const CALLERS_MOST: u32 = 32;
 
 const TRIES_MOST: u32 = 1_000_000;
 

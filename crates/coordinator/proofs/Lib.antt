@@ -5,3 +5,4 @@ pub mod Applying
 pub mod Placing
 pub mod Committing
 pub mod Masks
+pub mod Members

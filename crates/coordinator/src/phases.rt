@@ -1,9 +1,11 @@
-// The phases of a commit: calls at each of its rows, by number and logger, then a barrier.
-ghost use Rattle.std.specs.Prelude.{◌≡◌, ◌+◌, ◌*◌, ◌≤◌, ◌<◌, [], ℕ, true, IsTrue, OnOk};
+// The phases of a commit: calls at each of its rows, by number and logger, then a barrier. The loops go over the ballot's numbers and
+// loggers alone, not over those of the array.
+ghost use Rattle.std.specs.Prelude.{◌≡◌, ◌+◌, ◌*◌, ◌^◌, ◌≤◌, ◌<◌, [], ℕ, true, IsTrue, OnOk};
 ghost use Rattle.mars_base.specs.Costs.{Costs};
 ghost use Rattle.pcm_media.specs.View.{View, Writes};
 ghost use Rattle.array_shape.specs.Places.{media_len};
 ghost use Rattle.array_shape.specs.Logged.{applied, places_of};
+ghost use Rattle.array_shape.specs.NumberSet.{has};
 ghost use Rattle.row_bytes.specs.Ballots.{has_row};
 ghost use Rattle.array_image.specs.Image.{row_of, data_of};
 ghost use Rattle.array_image.specs.Votes.{votes_of};
@@ -13,7 +15,7 @@ ghost use Rattle.coordinator.specs.Costs.{parts_at, parts_in_all, rows_at, rows_
 ghost use Rattle.coordinator.specs.Places.{bodies_at, votes_at};
 
 use crate::cells::{Cells, cells_in};
-use array_shape::Shape;
+use array_shape::{NumberSet, Shape};
 use logger::Logger;
 use mars_base::Failed;
 use pcm_media::Media;
@@ -26,13 +28,15 @@ pub(crate) fn put_rows<M: Media>(
     ballot: Ballot,
     cells: &[Cells; 512],
 ) -> Result<(), Failed>
+    requires mask { ballot.mask < 2 ^ shape.now.loggers }
+    requires group { ballot.group < 2 ^ shape.now.numbers }
     requires size { (M.view media.old).size ≡ media_len shape.now }
     ensures costs { Costs true (rows_in_all shape.now ballot + 1) (M.view media.old).moment (M.view media.new).moment result }
     ensures does { Writes M.tells (bodies_of shape.now (has_row ballot)) (M.view media.old) (M.view media.new) result }
     ensures names { IsTrue M.tells → OnOk result (((M.view media.new).content.unsettled ≡ []) × ((g t : ℕ) → g < shape.now.loggers → t < shape.now.numbers → has_row ballot g t ≡ true
         → Says ballot cells.now g t (row_of shape.now (M.view media.new).content.bytes g t))) }
 {
-    for tid in 0..shape.numbers {
+    for tid in group_of(ballot).members() {
         put_rows_of(media, shape, ballot, cells, tid)?;
     }
     media.barrier()
@@ -47,19 +51,15 @@ fn put_rows_of<M: Media>(
     tid: u8,
 ) -> Result<(), Failed>
     requires tid { tid < shape.now.numbers }
+    requires has { has ballot.group tid ≡ true }
+    requires mask { ballot.mask < 2 ^ shape.now.loggers }
     requires size { (M.view media.old).size ≡ media_len shape.now }
     ensures costs { Costs true (rows_at shape.now ballot tid) (M.view media.old).moment (M.view media.new).moment result }
     ensures does { Writes M.tells (bodies_at shape.now ballot tid) (M.view media.old) (M.view media.new) result }
     ensures names { IsTrue M.tells → OnOk result ((g : ℕ) → g < shape.now.loggers → has_row ballot g tid ≡ true
         → Says ballot cells.now g tid (row_of shape.now (M.view media.new).content.bytes g tid)) }
 {
-    if !ballot.has_number(tid) {
-        return Ok(());
-    }
-    for number in 0..shape.loggers {
-        if !ballot.has_row(number, tid) {
-            continue;
-        }
+    for number in mask_of(ballot).members() {
         let Cells { first, count } = cells_in(cells, number, tid);
         let row = ballot.row(tid, first, count);
         Logger::new(*shape, number).put_row(media, tid, row)?;
@@ -74,13 +74,15 @@ pub(crate) fn set_votes<M: Media>(
     ballot: Ballot,
     voted: bool,
 ) -> Result<(), Failed>
+    requires mask { ballot.mask < 2 ^ shape.now.loggers }
+    requires group { ballot.group < 2 ^ shape.now.numbers }
     requires size { (M.view media.old).size ≡ media_len shape.now }
     ensures costs { Costs true (rows_in_all shape.now ballot + 1) (M.view media.old).moment (M.view media.new).moment result }
     ensures does { Writes M.tells (votes_of shape.now (has_row ballot)) (M.view media.old) (M.view media.new) result }
     ensures votes { IsTrue M.tells → OnOk result (((M.view media.new).content.unsettled ≡ []) × ((g t : ℕ) → g < shape.now.loggers → t < shape.now.numbers → has_row ballot g t ≡ true
         → (row_of shape.now (M.view media.new).content.bytes g t).voted ≡ voted)) }
 {
-    for tid in 0..shape.numbers {
+    for tid in group_of(ballot).members() {
         set_votes_of(media, shape, ballot, tid, voted)?;
     }
     media.barrier()
@@ -95,19 +97,15 @@ fn set_votes_of<M: Media>(
     voted: bool,
 ) -> Result<(), Failed>
     requires tid { tid < shape.now.numbers }
+    requires has { has ballot.group tid ≡ true }
+    requires mask { ballot.mask < 2 ^ shape.now.loggers }
     requires size { (M.view media.old).size ≡ media_len shape.now }
     ensures costs { Costs true (rows_at shape.now ballot tid) (M.view media.old).moment (M.view media.new).moment result }
     ensures does { Writes M.tells (votes_at shape.now ballot tid) (M.view media.old) (M.view media.new) result }
     ensures votes { IsTrue M.tells → OnOk result ((g : ℕ) → g < shape.now.loggers → has_row ballot g tid ≡ true
         → (row_of shape.now (M.view media.new).content.bytes g tid).voted ≡ voted) }
 {
-    if !ballot.has_number(tid) {
-        return Ok(());
-    }
-    for number in 0..shape.loggers {
-        if !ballot.has_row(number, tid) {
-            continue;
-        }
+    for number in mask_of(ballot).members() {
         Logger::new(*shape, number).set_vote(media, tid, voted)?;
     }
     Ok(())
@@ -128,7 +126,7 @@ pub(crate) fn install<M: Media>(
     ensures applied { IsTrue M.tells → OnOk result (((M.view media.new).content.unsettled ≡ [])
         × (data_of shape.now (M.view media.new).content.bytes ≡ applied (parts_named shape.now (M.view media.old).content.bytes ballot cells.now) (data_of shape.now (M.view media.old).content.bytes))) }
 {
-    for tid in 0..shape.numbers {
+    for tid in group_of(ballot).members() {
         install_of(media, shape, ballot, cells, tid)?;
     }
     media.barrier()
@@ -143,6 +141,7 @@ fn install_of<M: Media>(
     tid: u8,
 ) -> Result<(), Failed>
     requires tid { tid < shape.now.numbers }
+    requires has { has ballot.group tid ≡ true }
     requires there { AreThere shape.now ballot cells.now }
     requires size { (M.view media.old).size ≡ media_len shape.now }
     requires good { IsTrue M.tells → AreGood shape.now (M.view media.old).content.bytes ballot cells.now }
@@ -151,15 +150,25 @@ fn install_of<M: Media>(
     ensures applied { IsTrue M.tells → OnOk result (data_of shape.now (M.view media.new).content.bytes ≡
         applied (number_parts shape.now (M.view media.old).content.bytes ballot cells.now tid) (data_of shape.now (M.view media.old).content.bytes)) }
 {
-    if !ballot.has_number(tid) {
-        return Ok(());
-    }
-    for number in 0..shape.loggers {
-        if !ballot.has_row(number, tid) {
-            continue;
-        }
+    for number in mask_of(ballot).members() {
         let Cells { first, count } = cells_in(cells, number, tid);
         Logger::new(*shape, number).apply(media, tid, first, count)?;
     }
     Ok(())
+}
+
+// The numbers that have rows of a commit.
+fn group_of(ballot: Ballot) -> NumberSet
+    ensures { result.bits ≡ ballot.group }
+{
+    NumberSet { bits: ballot.group }
+}
+
+// The loggers that have them.
+fn mask_of(ballot: Ballot) -> NumberSet
+    ensures { result.bits ≡ ballot.mask }
+{
+    NumberSet {
+        bits: u64::from(ballot.mask),
+    }
 }

@@ -2,7 +2,7 @@
 use Rattle.std.proofs.Common.{◌≡◌, ℕ, zero, suc, ◌+◌, ◌*◌, ◌/◌, ◌%◌, ◌<◌, ◌≤◌, sym, Bool, true, false, cond, ⊎_elim, List, [], ◌∷◌, ◌++◌, length, ◌∙◌, ap, arith}
 use Rattle.std.proofs.lemmas.List.{length-append}
 use Rattle.std.specs.Prelude.{not, ◌&&◌}
-use Rattle.std.proofs.lemmas.Bool.{cases_eq, cases_Bool, and_from, and_left, not_from_false, false_from_ne_true}
+use Rattle.std.proofs.lemmas.Bool.{cases_eq, cases_Bool, ne_eqb, false≢true, and_from, and_left, not_from_false, false_from_ne_true}
 use Rattle.array_shape.specs.declared.shape.Shape.{Shape}
 use Rattle.array_image.specs.Joined.{joined}
 use Rattle.array_image.proofs.Joined.{joined_none, joined_same, joined_more}
@@ -10,8 +10,8 @@ use Rattle.row_bytes.specs.declared.row.Row.{Row}
 use Rattle.array_image.specs.Image.{row_of}
 use Rattle.array_image.specs.Decided.{decided}
 use Rattle.array_image.proofs.Deciding.{not_decided}
-use Rattle.device_recovery.specs.Table.{row_in, RowsAre, decided_in}
-use Rattle.device_recovery.specs.Recovered.{row_name, at_number, at_rows, decided_rows, dropped_rows, HasNoVote}
+use Rattle.device_recovery.specs.Table.{row_in, NoneDecided, HasOrder, RowsAre, decided_in}
+use Rattle.device_recovery.specs.Recovered.{row_name, at_number, at_rows, decided_rows, dropped_rows, clear_calls, HasNoDecided, HasNoVote}
 use Rattle.device_recovery.proofs.Order.{joined_rows}
 use Rattle.device_recovery.proofs.Read.{table_decided}
 
@@ -25,6 +25,17 @@ module _ {A : Type 0} (f : ℕ → List A) where
       none : 0 + n ≡ n
       none = omega arith
 
+  -- it only grows
+  pub length_grows : (n m : ℕ) → n ≤ m → length (joined f 0 n) ≤ length (joined f 0 m)
+  length_grows n zero le = ap_le (let none : n ≡ 0 = omega arith in none)
+    where
+      ap_le : n ≡ 0 → length (joined f 0 n) ≤ length (joined f 0 zero)
+      ap_le none = omega (arith, ap (λ (k : ℕ). length (joined f 0 k)) none)
+  length_grows n (suc m) le = ⊎_elim
+      (λ is. omega (arith, ap (λ (k : ℕ). length (joined f 0 k)) is))
+      (λ ne. let before = length_grows n m (omega arith) in let next : suc m ≡ m + 1 = omega arith in omega (arith, before, length_more m, ap (λ (k : ℕ). length (joined f 0 k)) next))
+      (cases_eq n (suc m))
+
   -- a nonempty list makes the whole nonempty
   pub length_some : (k n i : ℕ) → k ≤ i → i < k + n → 0 < length (f i) → 0 < length (joined f k n)
   length_some k zero i le lt some = absurd (omega arith)
@@ -36,7 +47,7 @@ chosen_one : (b : Bool) (r : ℕ × ℕ) → b ≡ true → length (cond b (r �
 chosen_one b r so = ap (λ (c : Bool). length (cond c (r ∷ []) [])) so
 
 module _ (shape : Shape) (test : ℕ → ℕ → Bool) where
-  abbrev chosen_row : ℕ → ℕ → List (ℕ × ℕ)
+  abbrev pub chosen_row : ℕ → ℕ → List (ℕ × ℕ)
   chosen_row g t = cond (test g t) (row_name g t ∷ []) []
 
   -- a row that passes is counted
@@ -72,6 +83,13 @@ module _ (shape : Shape) (test : ℕ → ℕ → Bool) where
   pub rows_counted : (n : ℕ) → n ≡ shape.loggers * shape.numbers → length (first_rows n) ≡ length (at_rows shape test row_name)
   rows_counted n all = ap (λ (k : ℕ). length (first_rows k)) all ∙ ap (λ (l : List (ℕ × ℕ)). length l) (joined_rows shape.loggers shape.numbers chosen_row)
 
+-- votes that are cleared, with their barrier
+pub no_clear_calls : (n : ℕ) → n ≡ 0 → clear_calls n ≡ 0
+no_clear_calls n none = ap clear_calls none
+
+pub some_clear_calls : (n : ℕ) → 0 < n → clear_calls n ≡ n + 1
+some_clear_calls n some = ap (λ (b : Bool). cond b 0 (n + 1)) (ne_eqb n 0 (λ none. omega arith))
+
 -- what the table's counts say of the image
 module _ (shape : Shape) (image : List ℕ) (rows : List Row) (are : RowsAre shape image shape.numbers rows) where
   pub decided_count : length (at_rows shape (λ g t. decided_in shape rows g t) row_name) ≡ length (decided_rows shape image)
@@ -97,3 +115,15 @@ module _ (shape : Shape) (image : List ℕ) (rows : List Row) (are : RowsAre sha
         none_counted shape (λ g t. decided_in shape rows g t) (none_decided none),
         none_counted shape (λ g t. (row_in rows g t).voted && not (decided_in shape rows g t)) (λ g t lt lt'. and_left (row_in rows g t).voted _ (unvoted g t lt lt')),
       )
+
+  -- a table of an image without a decided row
+  pub table_has_none : HasNoDecided shape image → NoneDecided shape rows
+  table_has_none none g t lt lt' = table_decided shape image rows are g t lt lt' ∙ none g t lt lt'
+
+-- without a vote there is none
+pub none_without_votes : (shape : Shape) (image : List ℕ) → HasNoVote shape image → HasNoDecided shape image
+none_without_votes shape image none g t lt lt' = not_decided shape.loggers shape.numbers (row_of shape image) g t lt lt' (none g t lt lt')
+
+-- nor an order number
+pub no_order : (shape : Shape) (rows : List Row) → NoneDecided shape rows → (order : ℕ) → HasOrder shape rows order → ⊥
+no_order shape rows none order has = false≢true (sym (none has.logger has.tid has.one_logger has.one_number) ∙ has.is_decided)

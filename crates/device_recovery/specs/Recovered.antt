@@ -1,5 +1,5 @@
 -- What recovery finds, says and writes.
-use Rattle.std.specs.Prelude.{ℕ, ◌≡◌, ◌+◌, ◌*◌, ◌<◌, Bool, true, false, not, if◌then◌else◌, List, [], ◌∷◌, ◌++◌, length}
+use Rattle.std.specs.Prelude.{ℕ, ◌≡◌, ◌+◌, ◌*◌, ◌<◌, Bool, true, false, not, nat_eq, if◌then◌else◌, List, [], ◌∷◌, ◌++◌, length}
 use Rattle.mars_base.specs.Bytes.{range}
 use Rattle.mars_base.specs.Check.{Check, test, unless, each}
 use Rattle.pcm_media.specs.Images.{Content, MayLeave}
@@ -51,6 +51,18 @@ HasNoVote shape image = (g t : ℕ) → g < shape.loggers → t < shape.numbers 
 -- how many calls of the medium recovery makes if no row is voted: a barrier, and a read of each row
 abbrev pub quiet_calls : Shape → ℕ
 quiet_calls shape = 1 + shape.loggers * shape.numbers
+
+-- no row is decided
+abbrev pub HasNoDecided : Shape → List ℕ → Type 0
+HasNoDecided shape image = (g t : ℕ) → g < shape.loggers → t < shape.numbers → decided shape image g t ≡ false
+
+-- how many calls clear so many votes: one for each, and a barrier; none where there is none
+abbrev pub clear_calls : ℕ → ℕ
+clear_calls votes = if nat_eq votes 0 then 0 else votes + 1
+
+-- how many calls it makes if none is decided: then only the votes are cleared
+abbrev pub drop_calls : Shape → List ℕ → ℕ
+drop_calls shape image = quiet_calls shape + clear_calls (length (dropped_rows shape image))
 
 -- the report says how many of each there are
 pub record Counts (shape : Shape) (image : List ℕ) (report : Report) : Type 0 where

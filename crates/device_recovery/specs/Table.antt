@@ -38,3 +38,16 @@ IsLeastAt shape rows from t n least = (g : ℕ) → g < n → decided_in shape r
 -- so has each of the numbers below n
 abbrev pub IsLeast : Shape → List Row → ℕ → ℕ → ℕ → Type 0
 IsLeast shape rows from n least = (t : ℕ) → t < n → IsLeastAt shape rows from t shape.loggers least
+
+-- no row of the table is decided
+abbrev pub NoneDecided : Shape → List Row → Type 0
+NoneDecided shape rows = (g t : ℕ) → g < shape.loggers → t < shape.numbers → decided_in shape rows g t ≡ false
+
+-- a decided row of the table has this order number
+pub record HasOrder (shape : Shape) (rows : List Row) (order : ℕ) : Type 0 where
+  pub logger : ℕ
+  pub tid : ℕ
+  pub one_logger : logger < shape.loggers
+  pub one_number : tid < shape.numbers
+  pub is_decided : decided_in shape rows logger tid ≡ true
+  pub order_is : (row_in rows logger tid).order ≡ order

@@ -1,5 +1,5 @@
 // Recovery of an array.
-ghost use Rattle.std.specs.Prelude.{◌≡◌, ◌+◌, ◌<◌, ◌≤◌, ◌⊎◌, [], ℕ, List, true, Some, None, IsTrue, IfOk, IfErr, OnOk, OnErr};
+ghost use Rattle.std.specs.Prelude.{◌≡◌, ◌+◌, ◌<◌, ◌≤◌, ◌⊎◌, [], ℕ, List, true, Some, None, IsTrue, IfOk, IfErr, OnOk, OnErr, length};
 ghost use Rattle.mars_base.specs.Costs.{Costs};
 ghost use Rattle.pcm_media.specs.Images.{MayLeave, Touched};
 ghost use Rattle.pcm_media.specs.View.{View, LeavesOnly, Writes};
@@ -8,9 +8,10 @@ ghost use Rattle.array_image.specs.Image.{data_of};
 ghost use Rattle.array_image.specs.Decided.{settled_data};
 ghost use Rattle.array_image.specs.Standing.{AllSettled, IsLawful};
 ghost use Rattle.commit_queue.specs.Between.{IsAtRest};
-ghost use Rattle.device_recovery.specs.Table.{row_in, RowsAre, decided_in};
+ghost use Rattle.device_recovery.specs.Table.{row_in, NoneDecided, RowsAre, decided_in, is_one_of};
+ghost use Rattle.device_recovery.specs.declared.which.Which.TheVariants.{Dropped};
 ghost use Rattle.pcm_media.specs.Answer.{media_answer};
-ghost use Rattle.device_recovery.specs.Recovered.{rows_good, HasNoVote, Counts, quiet_calls, KeepsSense, SettlesLike, recovered_places, is_of_media};
+ghost use Rattle.device_recovery.specs.Recovered.{rows_good, HasNoDecided, HasNoVote, Counts, at_rows, row_name, clear_calls, drop_calls, quiet_calls, KeepsSense, SettlesLike, recovered_places, is_of_media};
 ghost use Rattle.device_recovery.specs.declared.report.RecoverFault.TheVariants.{BadRow};
 
 use crate::checking::check_rows;
@@ -44,6 +45,8 @@ pub fn recover<M: Media>(media: &mut M, shape: &Shape) -> Result<Report, Recover
     ensures spared { IsTrue M.tells → OnErr result (Touched [] (M.view media.old).content (M.view media.new).content ⊎ rows_good shape.now (M.view media.old).content.bytes None) }
     ensures idle { IsTrue M.tells → HasNoVote shape.now (M.view media.old).content.bytes → Touched [] (M.view media.old).content (M.view media.new).content }
     ensures costs { IsTrue M.tells → HasNoVote shape.now (M.view media.old).content.bytes → Costs true (quiet_calls shape.now) (M.view media.old).moment (M.view media.new).moment result }
+    // Where no row is decided, no barrier follows but that behind the cleared votes.
+    ensures dropping { IsTrue M.tells → HasNoDecided shape.now (M.view media.old).content.bytes → Costs true (drop_calls shape.now (M.view media.old).content.bytes) (M.view media.old).moment (M.view media.new).moment result }
     ensures any_moment { IsTrue M.tells → ((image : List ℕ) → MayLeave (M.view media.old).content image → IsLawful shape.now image)
         → LeavesOnly (KeepsSense shape.now (M.view media.old).content) (M.view media.old) (M.view media.new) }
     ensures does { Writes M.tells (recovered_places shape.now (M.view media.old).content.bytes) (M.view media.old) (M.view media.new) (media_answer is_of_media result) }
@@ -65,7 +68,7 @@ fn read_sound<M: Media>(media: &mut M, shape: &Shape) -> Result<[Row; ROWS_MAX],
     ensures bad { IsTrue M.tells → IfErr result (λ fault. (g t : ℕ) → fault ≡ BadRow g t → rows_good shape.now (M.view media.old).content.bytes (Some (g, t))) }
     ensures fits { IfOk result (λ rows. (g t : ℕ) → g < shape.now.loggers → t < shape.now.numbers → decided_in shape.now rows g t ≡ true → (row_in rows g t).first + (row_in rows g t).count ≤ shape.now.entries) }
     ensures sure { IsTrue M.tells → OnOk result (AllSettled (M.view media.new).content) }
-    ensures costs { IsTrue M.tells → HasNoVote shape.now (M.view media.old).content.bytes → Costs true (quiet_calls shape.now) (M.view media.old).moment (M.view media.new).moment result }
+    ensures costs { IsTrue M.tells → HasNoDecided shape.now (M.view media.old).content.bytes → Costs true (quiet_calls shape.now) (M.view media.old).moment (M.view media.new).moment result }
     ensures does { Writes M.tells [] (M.view media.old) (M.view media.new) (media_answer is_of_media result) }
 {
     media.barrier()?;
@@ -84,6 +87,7 @@ fn settle<M: Media>(media: &mut M, shape: &Shape, rows: &[Row; ROWS_MAX]) -> Res
     ensures clean { IsTrue M.tells → OnOk result (IsAtRest shape.now [] (settled_data shape.now (M.view media.old).content.bytes) (M.view media.new).content) }
     ensures settled { IsTrue M.tells → OnOk result (data_of shape.now (M.view media.new).content.bytes ≡ settled_data shape.now (M.view media.old).content.bytes) }
     ensures sure { IsTrue M.tells → OnOk result (AllSettled (M.view media.new).content) }
+    ensures costs { NoneDecided shape.now rows.now → Costs true (clear_calls (length (at_rows shape.now (is_one_of shape.now rows.now Dropped) row_name))) (M.view media.old).moment (M.view media.new).moment result }
     ensures any_moment { IsTrue M.tells → IsLawful shape.now (M.view media.old).content.bytes → LeavesOnly (SettlesLike shape.now (M.view media.old).content.bytes) (M.view media.old) (M.view media.new) }
     ensures does { Writes M.tells (recovered_places shape.now (M.view media.old).content.bytes) (M.view media.old) (M.view media.new) result }
 {

@@ -1,6 +1,7 @@
 // Writes the parts of decided rows into the data, and clears the votes.
-ghost use Rattle.std.specs.Prelude.{◌≡◌, ◌+◌, ◌<◌, ◌≤◌, [], List, ℕ, true, false, None, IsTrue, OnOk};
+ghost use Rattle.std.specs.Prelude.{◌≡◌, ◌+◌, ◌<◌, ◌≤◌, [], List, ℕ, true, false, None, IsTrue, OnOk, length};
 ghost use Rattle.mars_base.specs.Bytes.{range};
+ghost use Rattle.mars_base.specs.Costs.{Costs};
 ghost use Rattle.pcm_media.specs.View.{Writes, LeavesOnly};
 ghost use Rattle.array_shape.specs.Places.{media_len};
 ghost use Rattle.array_shape.specs.Logged.{applied, places_of};
@@ -8,9 +9,9 @@ ghost use Rattle.array_image.specs.Image.{row_of, data_of};
 ghost use Rattle.array_image.specs.Decided.{order_parts, all_decided, settled_data};
 ghost use Rattle.array_image.specs.Standing.{AllSettled, IsSettled, IsRecovering};
 ghost use Rattle.array_image.specs.Votes.{votes_of};
-ghost use Rattle.device_recovery.specs.Table.{row_in, RowsAre, RowsLeft, decided_in, is_one_of};
+ghost use Rattle.device_recovery.specs.Table.{row_in, NoneDecided, RowsAre, RowsLeft, decided_in, is_one_of};
 ghost use Rattle.device_recovery.specs.declared.which.Which.TheVariants.{Dropped};
-ghost use Rattle.device_recovery.specs.Recovered.{rows_good, HasNoVote, SettlesTo};
+ghost use Rattle.device_recovery.specs.Recovered.{rows_good, HasNoVote, SettlesTo, at_rows, clear_calls, row_name};
 
 use crate::rows::{nth_row, row_count};
 use crate::table::{ROWS_MAX, is_one_of, next_order, row_in};
@@ -33,6 +34,7 @@ pub(crate) fn settle_data<M: Media>(
     requires rows { IsTrue M.tells → RowsAre shape.now (M.view media.old).content.bytes shape.now.numbers rows.now }
     requires good { IsTrue M.tells → rows_good shape.now (M.view media.old).content.bytes None }
     ensures applied { IsTrue M.tells → OnOk result (AllSettled (M.view media.new).content × (data_of shape.now (M.view media.new).content.bytes ≡ settled_data shape.now (M.view media.old).content.bytes)) }
+    ensures idle { NoneDecided shape.now rows.now → (M.view media.new).moment ≡ (M.view media.old).moment }
     ensures does { Writes M.tells (places_of shape.now (all_decided shape.now (M.view media.old).content.bytes)) (M.view media.old) (M.view media.new) result }
 {
     if next_order(rows, shape, 0).is_none() {
@@ -95,6 +97,7 @@ pub(crate) fn drop_votes<M: Media>(
     requires sure { IsTrue M.tells → AllSettled (M.view media.old).content }
     requires rows { IsTrue M.tells → RowsAre shape.now (M.view media.old).content.bytes shape.now.numbers rows.now }
     ensures left { IsTrue M.tells → OnOk result (AllSettled (M.view media.new).content × RowsLeft shape.now (M.view media.new).content.bytes rows.now 0) }
+    ensures costs { Costs true (clear_calls (length (at_rows shape.now (is_one_of shape.now rows.now Dropped) row_name))) (M.view media.old).moment (M.view media.new).moment result }
     ensures does { Writes M.tells (votes_of shape.now (is_one_of shape.now rows.now Dropped)) (M.view media.old) (M.view media.new) result }
 {
     if !has_dropped(rows, shape) {
@@ -105,7 +108,8 @@ pub(crate) fn drop_votes<M: Media>(
 
 // Whether a voted row is not decided.
 fn has_dropped(rows: &[Row; ROWS_MAX], shape: &Shape) -> bool
-    ensures { result ≡ false → (g t : ℕ) → g < shape.now.loggers → t < shape.now.numbers → is_one_of shape.now rows.now Dropped g t ≡ false }
+    ensures none { result ≡ false → (g t : ℕ) → g < shape.now.loggers → t < shape.now.numbers → is_one_of shape.now rows.now Dropped g t ≡ false }
+    ensures some { result ≡ true → 0 < length (at_rows shape.now (is_one_of shape.now rows.now Dropped) row_name) }
 {
     for nth in 0..row_count(shape) {
         let at = nth_row(shape, nth);
@@ -129,6 +133,7 @@ pub(crate) fn clear_decided<M: Media>(
     ensures cleared { IsTrue M.tells → OnOk result (AllSettled (M.view media.new).content × HasNoVote shape.now (M.view media.new).content.bytes) }
     ensures any_moment { IsTrue M.tells → (bytes : List ℕ) → IsRecovering shape.now bytes (M.view media.old).content
         → LeavesOnly (SettlesTo shape.now bytes (range (M.view media.old).content.bytes 0 512)) (M.view media.old) (M.view media.new) }
+    ensures idle { NoneDecided shape.now rows.now → (M.view media.new).moment ≡ (M.view media.old).moment }
     ensures does { Writes M.tells (votes_of shape.now (decided_in shape.now rows.now)) (M.view media.old) (M.view media.new) result }
 {
     let mut from = 0;
@@ -149,6 +154,7 @@ fn clear_votes<M: Media>(
     requires size { (M.view media.old).size ≡ media_len shape.now }
     ensures cleared { IsTrue M.tells → OnOk result (AllSettled (M.view media.new).content × ((g t : ℕ) → g < shape.now.loggers → t < shape.now.numbers → is_one_of shape.now rows.now which g t ≡ true
         → (row_of shape.now (M.view media.new).content.bytes g t).voted ≡ false)) }
+    ensures costs { Costs true (length (at_rows shape.now (is_one_of shape.now rows.now which) row_name) + 1) (M.view media.old).moment (M.view media.new).moment result }
     ensures does { Writes M.tells (votes_of shape.now (is_one_of shape.now rows.now which)) (M.view media.old) (M.view media.new) result }
 {
     for nth in 0..row_count(shape) {

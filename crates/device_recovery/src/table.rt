@@ -1,7 +1,7 @@
 // The rows of an array, each read once.
-ghost use Rattle.std.specs.Prelude.{◌≡◌, ◌≢◌, ◌+◌, ◌*◌, ◌^◌, ◌<◌, ◌≤◌, ℕ, true, nat_lt, IfSome, IsNone};
+ghost use Rattle.std.specs.Prelude.{◌≡◌, ◌≢◌, ◌+◌, ◌*◌, ◌^◌, ◌<◌, ◌≤◌, ◌⊎◌, ℕ, true, nat_lt, IfSome, IsNone};
 ghost use Rattle.array_image.specs.Decided.{all_below, agrees, carried};
-ghost use Rattle.device_recovery.specs.Table.{row_in, decided_in, is_one_of, IsLeast, IsLeastAt};
+ghost use Rattle.device_recovery.specs.Table.{row_in, decided_in, is_one_of, HasOrder, IsLeast, IsLeastAt};
 
 use crate::which::Which;
 use array_shape::{LOGGERS_MAX, NUMBERS_MAX, Shape};
@@ -118,6 +118,7 @@ pub(crate) fn is_one_of(
 pub(crate) fn next_order(rows: &[Row; ROWS_MAX], shape: &Shape, from: u32) -> Option<u16>
     requires { from ≤ 65536 }
     ensures some { IfSome result (λ order. (from ≤ order) × (order < 65536) × IsLeast shape.now rows.now from shape.now.numbers order) }
+    ensures found { IfSome result (HasOrder shape.now rows.now) }
     ensures none { IsNone result → (g t : ℕ) → g < shape.now.loggers → t < shape.now.numbers → decided_in shape.now rows.now g t ≡ true → (row_in rows.now g t).order < from }
 {
     let lowest = lowest_order(rows, shape, from);
@@ -132,6 +133,7 @@ fn lowest_order(rows: &[Row; ROWS_MAX], shape: &Shape, from: u32) -> u32
     requires { from ≤ 65536 }
     ensures from { from ≤ result }
     ensures most { result ≤ 65536 }
+    ensures found { (result ≡ 65536) ⊎ HasOrder shape.now rows.now result }
     ensures least { IsLeast shape.now rows.now from shape.now.numbers result }
 {
     let mut lowest = ORDERS;
@@ -147,6 +149,7 @@ fn lowest_at(rows: &[Row; ROWS_MAX], shape: &Shape, from: u32, tid: u8, found: u
     requires found { from ≤ found }
     ensures from { from ≤ result }
     ensures lower { result ≤ found }
+    ensures same_or_found { (result ≡ found) ⊎ HasOrder shape.now rows.now result }
     ensures least { IsLeastAt shape.now rows.now from tid shape.now.loggers result }
 {
     let mut lowest = found;

@@ -1,10 +1,9 @@
 -- The group of one number: what its commit writes, and what it costs.
 use Rattle.std.proofs.Common.{◌≡◌, ◌≢◌, ℕ, zero, suc, ◌+◌, ◌*◌, ◌-◌, ◌^◌, ◌%◌, ◌<◌, ◌≤◌, min, Bool, true, false, cond, ◌&&◌, nat_eq, inl, inr, ⊎_elim, List, [], length, take, drop, refl, sym, ◌∙◌, ap, subst, arith}
 use Rattle.std.specs.Prelude.{nat_lt, slice_index}
+use Rattle.std.specs.List.{range_with_len}
 use Rattle.std.specs.Int.{bit_at}
 use Rattle.std.proofs.lemmas.Bool.{cases_eq, cases_lt, eq-eqb, ne_eqb, eqb-true, lt-ltb, le-ltb, false≢true}
-use Rattle.std.proofs.lemmas.List.{drop_all}
-use Rattle.eaw_device.proofs.Entries.{length-ranges_in}
 use Rattle.std.proofs.lemmas.Nat.Bits.{bit_at-pow_same, bit_at-pow_other}
 use Rattle.std.proofs.lemmas.Nat.{one_shl}
 use Rattle.std.proofs.Math.Pow.{pow-lt}
@@ -18,13 +17,15 @@ use Rattle.array_image.proofs.Joined.{joined_one}
 use Rattle.coordinator.specs.declared.cells.Cells.{Cells}
 use Rattle.coordinator.specs.Commits.{cells_in, takes_part}
 use Rattle.eaw_face.specs.State.{count_on}
+use Rattle.deferred_parts.specs.declared.entry.Entry.{Entry}
 use Rattle.eaw_device.specs.declared.log.Log.{Log}
 use Rattle.eaw_device.specs.Logs.{IsKept, IsHeld}
 use Rattle.deferred_parts.specs.Entries.{ranges_in, parts_in, cells_on}
-use Rattle.eaw_device.specs.Costs.{loggers_with, commit_cost}
-use Rattle.eaw_device.specs.Groups.{cell_parts, group_parts, HaveCells, HaveParts, group_rows, group_count, group_calls}
+use Rattle.eaw_device.specs.Costs.{loggers_with}
+use Rattle.eaw_device.specs.Groups.{HaveCells, HaveEntries, HaveParts, group_count}
 use Rattle.eaw_device.proofs.Costing.{behind, ranges_counted}
-use Rattle.eaw_device.proofs.Grouping.{total_same, total_zero, total_one, any_none, any_some, lists_in_turn}
+use Rattle.eaw_device.proofs.Grouping.{cell_parts, group_parts, group_rows, total_same, total_zero, total_one, any_none, any_some, lists_in_turn}
+use Rattle.eaw_device.proofs.Keeping.{last_cells}
 use Rattle.eaw_device.proofs.LogParts.{first_at, count_at, few, named_good, named_here, named_placed}
 
 pub has_own : (t : ℕ) → has (2 ^ t) t ≡ true
@@ -71,6 +72,15 @@ module _ (shape : Shape) (t : ℕ) (small : t < shape.numbers) (log : Log) (kept
       let from' : (cells_in cells g t).first ≤ e = subst (λ v. (cells_in cells g v).first ≤ e) is from in
       let below' : e < (cells_in cells g t).first + (cells_in cells g t).count = subst (λ v. e < (cells_in cells g v).first + (cells_in cells g v).count) is below in
       subst (λ v. IsGoodCell shape g (cell_of shape image g v e)) (sym is) (named_good shape image t log kept offset held g e lt (omega (arith, from', first_is g lt)) (omega (arith, below', first_is g lt, count_is g lt)))
+
+  pub alone_entries : (entries : ℕ → List Entry) → entries t ≡ drop offset log.entries.items → HaveEntries shape (2 ^ t) cells entries
+  alone_entries entries its g u lt lt' so = at (λ v. cells_on shape g (entries v) ≡ range_with_len (cells_in cells g v).first (cells_in cells g v).count) own u so
+    where
+      from_first : 0 + first_at shape [] t log kept offset g ≡ (cells_in cells g t).first
+      from_first = omega (arith, first_is g lt)
+
+      own : cells_on shape g (entries t) ≡ range_with_len (cells_in cells g t).first (cells_in cells g t).count
+      own = ap (cells_on shape g) its ∙ last_cells shape offset log.entries.items log.held kept.cells g lt ∙ (λ i. range_with_len (from_first i) (sym (count_is g lt) i))
 
   -- its list, and none of another number
   lists : List ℕ → ℕ → List Part
@@ -145,14 +155,13 @@ module _ (shape : Shape) (t : ℕ) (small : t < shape.numbers) (log : Log) (kept
       so_one true = refl
       so_one false = refl
 
-  pub alone_calls : group_calls shape (2 ^ t) cells ≡ commit_cost shape 1 (drop offset (ranges_in log.entries.items))
+  pub alone_rows : group_rows shape (2 ^ t) cells ≡ 1 * loggers_with shape (drop offset (ranges_in log.entries.items))
   unfolding ranges
-  alone_calls = (λ i. cond (nat_eq (count_whole i) 0) 0 (3 * rows_whole i + 2 * count_whole i + 4)) ∙ ap (λ (n : ℕ). cond (nat_eq (length ranges) 0) 0 (3 * n + 2 * length ranges + 4)) one
+  alone_rows = rows_whole ∙ one
     where
       one : loggers_with shape ranges ≡ 1 * loggers_with shape ranges
       one = omega arith
 
-  -- if all is before the offset, there is no cell
-  pub alone_none : length log.entries.items ≡ offset → (g u : ℕ) → g < shape.loggers → u < shape.numbers → has (2 ^ t) u ≡ true → (cells_in cells g u).count ≡ 0
+  pub alone_count : group_count shape (2 ^ t) cells ≡ length (drop offset (ranges_in log.entries.items))
   unfolding ranges
-  alone_none all g u lt lt' so = at (λ v. (cells_in cells g v).count ≡ 0) (counted g lt ∙ ap (count_on shape g) (drop_all offset (ranges_in log.entries.items) (omega (arith, length-ranges_in log.entries.items)))) u so
+  alone_count = count_whole

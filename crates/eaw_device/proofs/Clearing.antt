@@ -18,8 +18,8 @@ use Rattle.eaw_device.specs.Logs.{IsKept, IsHeld, IsCleared, entries_of, entries
 use Rattle.deferred_parts.specs.Entries.{ranges_in, parts_in, cells_on}
 use Rattle.deferred_parts.specs.Entries.{AreHeld}
 use Rattle.deferred_parts.specs.Shown.{entries_of as kept_entries}
-use Rattle.late_data.specs.Tied.{IsReady}
-use Rattle.eaw_device.specs.Sound.{IsInOrder, IsSure, IsSound}
+use Rattle.late_data.specs.Tied.{IsReady, IsTied}
+use Rattle.eaw_device.specs.Sound.{IsBefore, IsInOrder, IsSure, IsSound}
 use Rattle.eaw_device.proofs.Keeping.{length-cells_on_kept}
 use Rattle.eaw_device.proofs.Tables.{found_log, slice_get-set_same, slice_get-set_other, entries_free, others_kept, held_kept}
 
@@ -95,6 +95,17 @@ cleared_held shape image t log kept cleared = record {
       let none : length (cells_on shape g log.entries.items) ≡ 0 = ap (λ (es : List Entry). length (cells_on shape g es)) cleared.none in
       absurd (omega (arith, length-cells_on_kept shape log g kept lt, none, below));
   heads = ap (λ (es : List Entry). ranges_of (parts_in shape image t es)) cleared.none ∙ sym (ap ranges_in cleared.none);
+}
+
+-- a group was committed, and its logs are free
+pub group_order : (shape : Shape) (late late' : LateData) (logs now : List Log) (ts : List ℕ) → ((t : ℕ) → ForSome (slice_get now t) (IsKept shape)) → ((t : ℕ) → is_one_of ts t ≡ true → ForSome (slice_get now t) IsCleared) → ((t : ℕ) → is_one_of ts t ≡ false → slice_get now t ≡ slice_get logs t)
+    → IsInOrder shape late logs → IsTied shape late' (λ t. false) → ((t : ℕ) (its : Log) → is_one_of ts t ≡ false → IsBefore shape late.queue t its → IsBefore shape late'.queue t its) → IsInOrder shape late' now
+group_order shape late late' logs now ts kept freed same order tied others = record {
+  tied = tied;
+  before = λ t log got. elim (cases_Bool (is_one_of ts t)) [
+    | inl so ↦ (λ waits g lt. omega (arith, length-cells_on_kept shape log g (kept t log got) lt, ap (λ (es : List Entry). length (cells_on shape g es)) (freed t so log got).none))
+    | inr away ↦ others t log away (order.before t log (sym (same t away) ∙ got))
+  ];
 }
 
 -- The numbers of a group are free now, and the medium's cells are as they were.

@@ -17,7 +17,7 @@ use Rattle.eaw_device.specs.Logs.{IsKept, IsHeld, entries_at}
 use Rattle.deferred_parts.specs.Entries.{ranges_in, parts_in, cells_on}
 use Rattle.deferred_parts.specs.Entries.{AreHeld}
 use Rattle.deferred_parts.specs.Shown.{entries_of as kept_entries}
-use Rattle.late_data.specs.Tied.{IsReady}
+use Rattle.late_data.specs.Tied.{IsReady, IsTied}
 use Rattle.eaw_device.specs.Sound.{IsBefore, IsInOrder, IsSure, IsSound}
 use Rattle.eaw_device.proofs.Entries.{ranges_in-take}
 use Rattle.eaw_device.proofs.Keeping.{length-cells_on_kept, first_few}
@@ -49,6 +49,15 @@ pub order_first : (shape : Shape) (late : LateData) (logs : List Log) (t n : ℕ
 order_first shape late logs t n log now there lt kept kept' items order = record {
   tied = order.tied;
   before = each_set logs t now lt (IsBefore shape late.queue) (before_first shape late.queue t n log now kept kept' items (order.before t log there)) (λ u ne. order.before u);
+}
+
+-- one log is cut where its last entries were committed
+pub order_cut : (shape : Shape) (late late' : LateData) (logs : List Log) (t n : ℕ) (log now : Log) → slice_get logs t ≡ Some log → t < length logs → IsKept shape now → now.entries.items ≡ take n log.entries.items → IsInOrder shape late logs → IsTied shape late' (λ t. false)
+    → ((now : Log) → IsKept shape now → now.entries.items ≡ take n log.entries.items → IsBefore shape late.queue t log → IsBefore shape late'.queue t now) → ((u : ℕ) (its : Log) → u ≢ t → IsBefore shape late.queue u its → IsBefore shape late'.queue u its)
+    → IsInOrder shape late' (slice_set logs t now)
+order_cut shape late late' logs t n log now there lt kept items order tied before others = record {
+  tied = tied;
+  before = each_set logs t now lt (IsBefore shape late'.queue) (before now kept items (order.before t log there)) (λ u ne its got. others u its ne (order.before u its got));
 }
 
 module _ (tells : Bool) (old new : View) (shape : Shape) (logs : List Log) (late late' : LateData) (is_dead : Bool) (sound : IsSound tells old shape logs late is_dead) (t : ℕ) (log : Log) (found : Found tells old shape logs late is_dead t log)

@@ -15,7 +15,8 @@ use Rattle.eaw_face.specs.State.{listed, count_on}
 use Rattle.eaw_device.specs.declared.log.Log.{Log}
 use Rattle.eaw_device.specs.Logs.{IsKept, IsHeld, entries_of, ranges_logged, parts_logged}
 use Rattle.deferred_parts.specs.Entries.{ranges_in, parts_in}
-use Rattle.eaw_device.specs.Groups.{group_parts, HaveCells, HaveParts}
+use Rattle.eaw_device.specs.Groups.{HaveCells, HaveParts}
+use Rattle.eaw_device.proofs.Grouping.{group_parts}
 use Rattle.eaw_device.proofs.Costing.{behind}
 use Rattle.eaw_device.proofs.Entries.{length-ranges_in}
 use Rattle.eaw_device.proofs.LogParts.{named_here, named_placed}
@@ -42,6 +43,19 @@ module _ (shape : Shape) (logs : List Log) (many : length logs ≡ shape.numbers
       whole : slice_index log.held g - 0 ≡ slice_index log.held g
       whole = omega arith
 
+  its_parts : (image : List ℕ) (t : ℕ) (log : Log) → slice_get logs t ≡ Some log → listed (parts_logged shape image logs t) ≡ parts_in shape image t log.entries.items
+  its_parts image t log there = parts_there shape logs t log there (kept t log there) image
+
+  -- a number that has logged nothing has no part
+  pub none : (image : List ℕ) (t : ℕ) → listed (ranges_logged logs t) ≡ [] → listed (parts_logged shape image logs t) ≡ []
+  none image t empty = go (slice_get logs t) refl
+    where
+      go : (o : Option Log) → slice_get logs t ≡ o → listed (parts_logged shape image logs t) ≡ []
+      go None is = ap (λ (o : Option Log). listed (option_map (parts_in shape image t) (option_and_then entries_of o))) is
+      go (Some log) is =
+          let items : log.entries.items ≡ [] = nil_from_length log.entries.items (omega (arith, length-ranges_in log.entries.items, ap length (ranges_there shape logs t log is (kept t log is)), ap length empty)) in
+          its_parts image t log is ∙ ap (parts_in shape image t) items
+
   module _ (tids group : ℕ) (cells : List Cells) (numbers : (t : ℕ) → t < shape.numbers → has group t ≡ (has tids t && nat_lt 0 (length (listed (ranges_logged logs t)))))
       (first : (g t : ℕ) → g < shape.loggers → t < shape.numbers → has group t ≡ true → (cells_in cells g t).first ≡ 0)
       (count : (g t : ℕ) → g < shape.loggers → t < shape.numbers → has group t ≡ true → (cells_in cells g t).count ≡ count_on shape g (listed (ranges_logged logs t))) where
@@ -59,33 +73,21 @@ module _ (shape : Shape) (logs : List Log) (many : length logs ≡ shape.numbers
           let found = log_there logs t (omega (arith, many)) in
           (held t found.0 found.1).good g e lt (omega (arith, first g t lt lt' so, counted t found.0 found.1 g lt lt' so))
 
-      its_parts : (t : ℕ) (log : Log) → slice_get logs t ≡ Some log → listed (parts_logged shape image logs t) ≡ parts_in shape image t log.entries.items
-      its_parts t log there = parts_there shape logs t log there (kept t log there) image
-
       placed : (t : ℕ) → t < shape.numbers → AllPlaced shape (listed (parts_logged shape image logs t))
       placed t lt =
           let found = log_there logs t (omega (arith, many)) in
-          subst (AllPlaced shape) (sym (its_parts t found.0 found.1)) (named_placed shape image t found.0 (kept t found.0 found.1) 0 (held t found.0 found.1))
-
-      none : (t : ℕ) → listed (ranges_logged logs t) ≡ [] → listed (parts_logged shape image logs t) ≡ []
-      none t empty = go (slice_get logs t) refl
-        where
-          go : (o : Option Log) → slice_get logs t ≡ o → listed (parts_logged shape image logs t) ≡ []
-          go None is = ap (λ (o : Option Log). listed (option_map (parts_in shape image t) (option_and_then entries_of o))) is
-          go (Some log) is =
-              let items : log.entries.items ≡ [] = nil_from_length log.entries.items (omega (arith, length-ranges_in log.entries.items, ap length (ranges_there shape logs t log is (kept t log is)), ap length empty)) in
-              its_parts t log is ∙ ap (parts_in shape image t) items
+          subst (AllPlaced shape) (sym (its_parts image t found.0 found.1)) (named_placed shape image t found.0 (kept t found.0 found.1) 0 (held t found.0 found.1))
 
       here : (g t : ℕ) → g < shape.loggers → t < shape.numbers → has group t ≡ true → parts_at shape g (listed (parts_logged shape image logs t)) ≡ parts_from shape image g t (cells_in cells g t).first (cells_in cells g t).count
       here g t lt lt' so =
           let found = log_there logs t (omega (arith, many)) in
           let log = found.0 in
           let whole : slice_index log.held g - 0 ≡ (cells_in cells g t).count = omega (arith, counted t log found.1 g lt lt' so) in
-          ap (parts_at shape g) (its_parts t log found.1)
+          ap (parts_at shape g) (its_parts image t log found.1)
           ∙ named_here shape image t log (kept t log found.1) 0 (held t log found.1) g lt
           ∙ (λ i. parts_from shape image g t (sym (first g t lt lt' so) i) (whole i))
 
       pub logs_applied : (d : List ℕ) → length image ≡ media_len shape → length d ≡ data_len shape
           → applied (group_parts shape image group cells) d ≡ applied (flat_map (λ t. listed (parts_logged shape image logs t)) (numbers_in tids)) d
       logs_applied d long d_long =
-          gathered_applied shape tids group (λ t. listed (ranges_logged logs t)) numbers past_ranges image cells (λ t. listed (parts_logged shape image logs t)) placed none here d long gathered_fit gathered_good d_long
+          gathered_applied shape tids group (λ t. listed (ranges_logged logs t)) numbers past_ranges image cells (λ t. listed (parts_logged shape image logs t)) placed (none image) here d long gathered_fit gathered_good d_long

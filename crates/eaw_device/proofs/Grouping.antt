@@ -1,10 +1,9 @@
 -- The commit of a group, as its ballot and its table of cells name it.
 use Rattle.std.proofs.Common.{◌≡◌, ◌≢◌, ℕ, zero, suc, ◌+◌, ◌*◌, ◌^◌, ◌<◌, Bool, true, false, not, cond, ◌&&◌, nat_eq, inl, inr, ⊎_elim, List, [], length, refl, sym, ◌∙◌, ap, subst, arith}
 use Rattle.std.specs.Prelude.{nat_lt}
-use Rattle.std.specs.Int.{bit_at}
-use Rattle.std.proofs.lemmas.Bool.{and_parts, cases_Bool, cases_eq, eq-eqb, ne_eqb, eqb-false, lt-ltb, false≢true}
-use Rattle.std.proofs.lemmas.Nat.{pow_pos}
-use Rattle.std.proofs.lemmas.Nat.Bits.{bit_at-lt, bit_at-zero, same_from_bits_below}
+use Rattle.std.specs.List.{range_with_len}
+use Rattle.std.proofs.lemmas.Bool.{and_parts, cases_Bool, cases_eq, ne_eqb, lt-ltb, false≢true}
+use Rattle.std.proofs.lemmas.Nat.Bits.{bit_at-zero}
 use Rattle.std.proofs.lemmas.List.FromFn.{sum_by-map-range_with_len_more}
 use Rattle.array_shape.specs.declared.shape.Shape.{Shape}
 use Rattle.array_shape.specs.Places.{media_len, data_len}
@@ -23,7 +22,21 @@ use Rattle.commit_queue.specs.Deferred.{any_below}
 use Rattle.coordinator.specs.declared.cells.Cells.{Cells}
 use Rattle.coordinator.specs.Commits.{cells_in, takes_part, parts_named, IsMaskOf, AreThere, AreGood}
 use Rattle.coordinator.specs.Costs.{total, decide_calls, write_back_calls, commit_calls}
-use Rattle.eaw_device.specs.Groups.{cell_parts, group_parts, HaveCells, HaveParts, group_rows, group_count, group_calls}
+use Rattle.deferred_parts.specs.declared.entry.Entry.{Entry}
+use Rattle.late_data.specs.Tied.{HasNamed}
+use Rattle.eaw_device.specs.Groups.{HaveCells, HaveEntries, HaveParts, group_count}
+
+-- the parts in the cells of number t at logger g, if the group has the number
+abbrev pub cell_parts : Shape → List ℕ → ℕ → List Cells → ℕ → ℕ → List Part
+cell_parts shape image group cells t g = cond (has group t) (parts_from shape image g t (cells_in cells g t).first (cells_in cells g t).count) []
+
+-- those of all numbers and loggers, by rising number, then logger
+abbrev pub group_parts : Shape → List ℕ → ℕ → List Cells → List Part
+group_parts shape image group cells = joined (λ t. joined (cell_parts shape image group cells t) 0 shape.loggers) 0 shape.numbers
+
+-- how many rows the commit of a group has: one for each number at each logger at which one of them has a cell
+abbrev pub group_rows : Shape → ℕ → List Cells → ℕ
+group_rows shape group cells = total (λ t. total (λ g. cond (takes_part shape cells group g && has group t) 1 0) shape.loggers) shape.numbers
 
 -- sums over the numbers below one
 pub total_more : (f : ℕ → ℕ) (n : ℕ) → total f (suc n) ≡ total f n + f n
@@ -82,19 +95,6 @@ module _ (shape : Shape) (group : ℕ) (cells : List Cells) (ballot : Ballot) (g
   pub no_cell : (g t : ℕ) → g < shape.loggers → t < shape.numbers → has group t ≡ true → has ballot.mask g ≡ false → (cells_in cells g t).count ≡ 0
   no_cell g t lt lt' so away = no_more (has group t) (cells_in cells g t).count so (none_at shape.numbers (λ u. has group u && nat_lt 0 (cells_in cells g u).count) (sym (is.is g lt) ∙ away) t lt')
 
-  -- if no number has a cell, no logger takes part
-  pub none_takes : ((g t : ℕ) → g < shape.loggers → t < shape.numbers → has group t ≡ true → (cells_in cells g t).count ≡ 0) → ballot.mask ≡ 0
-  none_takes none = same_from_bits_below shape.loggers ballot.mask 0 is.small (pow_pos shape.loggers) (λ g lt.
-      let off = eqb-false (bit_at ballot.mask g) 1 (is.is g lt ∙ nobody g lt) in
-      omega (arith, bit_at-lt ballot.mask g, bit_at-zero g, off))
-    where
-      one : (g t : ℕ) → g < shape.loggers → t < shape.numbers → (b : Bool) → has group t ≡ b → (b && nat_lt 0 (cells_in cells g t).count) ≡ false
-      one g t lt lt' true so = ap (nat_lt 0) (none g t lt lt' so)
-      one g t lt lt' false so = refl
-
-      nobody : (g : ℕ) → g < shape.loggers → takes_part shape cells group g ≡ false
-      nobody g lt = any_none shape.numbers (λ t. has group t && nat_lt 0 (cells_in cells g t).count) (λ t lt'. one g t lt lt' (has group t) refl)
-
   named_here : (image : List ℕ) (g t : ℕ) → g < shape.loggers → t < shape.numbers → (takes in_group : Bool) → has ballot.mask g ≡ takes → has group t ≡ in_group
       → cond (takes && in_group) (parts_from shape image g t (cells_in cells g t).first (cells_in cells g t).count) [] ≡ cond in_group (parts_from shape image g t (cells_in cells g t).first (cells_in cells g t).count) []
   named_here image g t lt lt' true in_group on so = refl
@@ -134,27 +134,42 @@ module _ (shape : Shape) (group : ℕ) (cells : List Cells) (ballot : Ballot) (g
   rows_are = total_same _ (λ t. total (λ g. cond (takes_part shape cells group g && has group t) 1 0) shape.loggers) shape.numbers (λ t lt'. total_same _ (λ g. cond (takes_part shape cells group g && has group t) 1 0) shape.loggers (λ g lt.
       (λ i. cond (is.is g lt i && has (group_is i) t) 1 0)))
 
-  pub calls_same : commit_calls shape ballot cells ≡ group_calls shape group cells
-  calls_same = elim (cases_eq (group_count shape group cells) 0) [
-    | inl none ↦
-        (let zero_mask : ballot.mask ≡ 0 = none_takes (λ g t lt lt' so.
-        sym (ap (λ (b : Bool). cond b (cells_in cells g t).count 0) so)
-        ∙ total_none (λ h. cond (has group t) (cells_in cells h t).count 0) shape.loggers (total_none (λ u. total (λ h. cond (has group u) (cells_in cells h u).count 0) shape.loggers) shape.numbers none t lt') g lt) in
-        let left : commit_calls shape ballot cells ≡ 0 = ap (λ (b : Bool). cond b 0 (decide_calls shape ballot + write_back_calls shape ballot cells)) (eq-eqb ballot.mask 0 zero_mask) in
-        let right : group_calls shape group cells ≡ 0 = ap (λ (b : Bool). cond b 0 (3 * group_rows shape group cells + 2 * group_count shape group cells + 4)) (eq-eqb (group_count shape group cells) 0 none) in
-        left ∙ sym right)
-    | inr some ↦
-        (let takes : ballot.mask ≢ 0 = λ zero_mask. some (total_zero _ shape.numbers (λ t lt'. total_zero _ shape.loggers (λ g lt. nothing g t lt lt' zero_mask (has group t) refl))) in
-        let left : commit_calls shape ballot cells ≡ decide_calls shape ballot + write_back_calls shape ballot cells = ap (λ (b : Bool). cond b 0 (decide_calls shape ballot + write_back_calls shape ballot cells)) (ne_eqb ballot.mask 0 takes) in
-        let same : decide_calls shape ballot + write_back_calls shape ballot cells ≡ 3 * group_rows shape group cells + 2 * group_count shape group cells + 4 = omega (arith, count_is, rows_are) in
-        let right : group_calls shape group cells ≡ 3 * group_rows shape group cells + 2 * group_count shape group cells + 4 =
-        ap (λ (b : Bool). cond b 0 (3 * group_rows shape group cells + 2 * group_count shape group cells + 4)) (ne_eqb (group_count shape group cells) 0 some) in
-        left ∙ same ∙ sym right)
+  -- if a number has a cell, a logger takes part
+  pub takes_some : 0 < group_count shape group cells → ballot.mask ≢ 0
+  takes_some some zero_mask = omega (arith, some, total_zero _ shape.numbers (λ t lt'. total_zero _ shape.loggers (λ g lt. nothing g t lt lt' (has group t) refl)))
+    where
+      nothing : (g t : ℕ) → g < shape.loggers → t < shape.numbers → (in_group : Bool) → has group t ≡ in_group → cond in_group (cells_in cells g t).count 0 ≡ 0
+      nothing g t lt lt' true so = no_cell g t lt lt' so (ap (λ (m : ℕ). has m g) zero_mask ∙ ap (λ (b : ℕ). nat_eq b 1) (bit_at-zero g))
+      nothing g t lt lt' false so = refl
+
+  -- and the group has a number
+  pub some_number : 0 < group_count shape group cells → 0 < ballot.group
+  some_number some = elim (cases_eq group 0) [
+    | inl zero_is ↦ absurd (omega (arith, some, total_zero _ shape.numbers (λ t lt'. total_zero _ shape.loggers (λ g lt. no_one g t zero_is))))
+    | inr ne ↦ omega (arith, ne, group_is)
   ]
     where
-      nothing : (g t : ℕ) → g < shape.loggers → t < shape.numbers → ballot.mask ≡ 0 → (in_group : Bool) → has group t ≡ in_group → cond in_group (cells_in cells g t).count 0 ≡ 0
-      nothing g t lt lt' zero_mask true so = no_cell g t lt lt' so (ap (λ (m : ℕ). has m g) zero_mask ∙ ap (λ (b : ℕ). nat_eq b 1) (bit_at-zero g))
-      nothing g t lt lt' zero_mask false so = refl
+      no_one : (g t : ℕ) → group ≡ 0 → cond (has group t) (cells_in cells g t).count 0 ≡ 0
+      no_one g t zero_is = ap (λ (b : Bool). cond b (cells_in cells g t).count 0) (ap (λ (k : ℕ). has k t) zero_is ∙ ap (λ (b : ℕ). nat_eq b 1) (bit_at-zero t))
+
+  pub decide_is : decide_calls shape ballot ≡ 2 * group_rows shape group cells + 2
+  decide_is = omega (arith, rows_are)
+
+  pub commit_is : ballot.mask ≢ 0 → commit_calls shape ballot cells ≡ 3 * group_rows shape group cells + 2 * group_count shape group cells + 4
+  commit_is takes =
+      let same : decide_calls shape ballot + write_back_calls shape ballot cells ≡ 3 * group_rows shape group cells + 2 * group_count shape group cells + 4 = omega (arith, count_is, rows_are) in
+      ap (λ (b : Bool). cond b 0 (decide_calls shape ballot + write_back_calls shape ballot cells)) (ne_eqb ballot.mask 0 takes) ∙ same
+
+  -- the entries of its numbers are those of its rows
+  pub has_named : (entries : ℕ → List Entry) → HaveEntries shape group cells entries → HasNamed shape cells entries ballot
+  has_named entries its g t lt lt' so = its g t lt lt' on ∙ row (has ballot.mask g) refl
+    where
+      on : has group t ≡ true
+      on = ap (λ (k : ℕ). has k t) (sym group_is) ∙ so
+
+      row : (takes : Bool) → has ballot.mask g ≡ takes → range_with_len (cells_in cells g t).first (cells_in cells g t).count ≡ cond (takes && has ballot.group t) (range_with_len (cells_in cells g t).first (cells_in cells g t).count) []
+      row true is = sym (ap (λ (b : Bool). cond b (range_with_len (cells_in cells g t).first (cells_in cells g t).count) []) so)
+      row false is = ap (range_with_len (cells_in cells g t).first) (no_cell g t lt lt' on is)
 
 -- If each number's list has at each logger just the parts in its cells, the lists by rising number give the same data.
 pub lists_in_turn : (shape : Shape) (image : List ℕ) (group : ℕ) (cells : List Cells) (lists : ℕ → List Part) (d : List ℕ) → length image ≡ media_len shape → HaveCells shape group cells → HaveParts shape image group cells → length d ≡ data_len shape

@@ -26,7 +26,10 @@ pub mod Writes
 pub mod Atomic
 pub mod Looks
 pub mod Edits
+pub mod Empty
 pub mod OpenedLemmas
-pub mod NoneWaits
-pub mod CommitCells
+pub mod GroupBits
+pub mod JoiningCost
+pub mod Aside
 pub mod Quiet
+pub mod SettledCost

@@ -3,7 +3,7 @@ use Rattle.std.proofs.Common.{◌≡◌, ℕ, zero, suc, ◌+◌, ◌-◌, ◌<�
 use Rattle.std.specs.Prelude.{filter, slice_index, All}
 use Rattle.std.specs.List.{range_with_len}
 use Rattle.std.proofs.lemmas.Bool.{cases_eq, eq-eqb, ne_eqb}
-use Rattle.std.proofs.lemmas.List.Elements.{All-head, All-tail}
+use Rattle.std.proofs.lemmas.List.Elements.{All-nil, All-cons, All-head, All-tail}
 use Rattle.array_shape.specs.declared.shape.Shape.{Shape}
 use Rattle.array_shape.specs.Places.{IsShape, logger_of}
 use Rattle.array_shape.specs.Parts.{is_write_part_on}
@@ -14,7 +14,7 @@ use Rattle.eaw_face.specs.State.{is_range_on, count_on}
 use Rattle.deferred_parts.specs.declared.entry.Entry.{Entry}
 use Rattle.eaw_device.specs.declared.log.Log.{Log}
 use Rattle.eaw_device.specs.Logs.{IsKept, IsHeld}
-use Rattle.deferred_parts.specs.Entries.{ranges_in, parts_in, cells_on}
+use Rattle.deferred_parts.specs.Entries.{IsEntry, ranges_in, parts_in, cells_on}
 use Rattle.eaw_device.proofs.Entries.{logger_small, cells_on_here, cells_on_past}
 use Rattle.eaw_device.proofs.Keeping.{HasPlace, last_cells, first_few}
 
@@ -164,6 +164,10 @@ parts_in_same shape old new t (e ∷ es) same = (λ i. cell_part (same.0 i) ∷ 
 pub log_placed : (shape : Shape) (image : List ℕ) (t : ℕ) (log : Log) → IsKept shape log → IsHeld shape image t log → AllPlaced shape (parts_in shape image t log.entries.items)
 log_placed shape image t log kept held = all_placed shape (parts_in shape image t log.entries.items) (subst (All (HasPlace shape)) (sym held.heads) kept.placed)
 
+-- what the cells of a log say of its last entries
+pub heads_left : (shape : Shape) (image : List ℕ) (t offset : ℕ) (es : List Entry) → ranges_of (parts_in shape image t es) ≡ ranges_in es → ranges_of (parts_in shape image t (drop offset es)) ≡ ranges_in (drop offset es)
+heads_left shape image t offset es heads = ap ranges_of (parts_in-drop shape image t offset es) ∙ ranges_of-drop offset (parts_in shape image t es) ∙ ap (drop offset) heads ∙ sym (ranges_in-drop offset es)
+
 -- what a log has from a position on, as it is named for a commit
 module _ (shape : Shape) (image : List ℕ) (t : ℕ) (log : Log) (kept : IsKept shape log) (offset : ℕ) where
   -- at each logger the cells before the offset, and how many there are from it on
@@ -185,9 +189,19 @@ module _ (shape : Shape) (image : List ℕ) (t : ℕ) (log : Log) (kept : IsKept
         let es = log.entries.items in
         let from_first : 0 + first_at g ≡ first_at g = omega arith in
         ap (parts_at shape g) (sym (parts_in-drop shape image t offset es))
-        ∙ parts_at-parts_in shape image t g (drop offset es) (ap ranges_of (parts_in-drop shape image t offset es) ∙ ranges_of-drop offset (parts_in shape image t es) ∙ ap (drop offset) held.heads ∙ sym (ranges_in-drop offset es))
+        ∙ parts_at-parts_in shape image t g (drop offset es) (heads_left shape image t offset es held.heads)
         ∙ ap (map (part_in shape image t g)) (last_cells shape offset es log.held kept.cells g lt)
         ∙ ap (λ (from : ℕ). map (part_in shape image t g) (range_with_len from (count_at g))) from_first ∙ sym (parts_from-numbers shape image t g (first_at g) (count_at g))
 
     pub named_placed : AllPlaced shape (drop offset (parts_in shape image t log.entries.items))
     named_placed = all_placed-drop shape offset (parts_in shape image t log.entries.items) (log_placed shape image t log kept held)
+
+-- each entry lies in its page, and its cell exists
+entries_good : (shape : Shape) (es : List Entry) → All (HasPlace shape) (ranges_in es) → EachCell shape (λ g c. c < shape.entries) es → All (IsEntry shape) es
+entries_good shape [] placed each = All-nil (IsEntry shape)
+entries_good shape (e ∷ es) placed each = All-cons (IsEntry shape) e es
+    (record { placed = All-head (HasPlace shape) (e.addr, e.len) (ranges_in es) placed; cell = each.0 })
+    (entries_good shape es (All-tail (HasPlace shape) (e.addr, e.len) (ranges_in es) placed) each.1)
+
+pub kept_entries : (shape : Shape) (log : Log) → IsKept shape log → All (IsEntry shape) log.entries.items
+kept_entries shape log kept = entries_good shape log.entries.items kept.placed (each_held shape shape.in_range log (λ g c. c < shape.entries) kept (λ g c lt below. omega (arith, kept.fits g lt)))

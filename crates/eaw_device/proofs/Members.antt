@@ -1,7 +1,7 @@
 -- The commit of several logs at once: what it writes, and what it costs.
-use Rattle.std.proofs.Common.{◌≡◌, ℕ, zero, suc, ◌+◌, ◌*◌, ◌-◌, ◌<◌, ◌≤◌, min, Bool, true, false, cond, ◌&&◌, nat_eq, inl, inr, List, [], ◌∷◌, ◌++◌, length, refl, sym, ◌∙◌, ap, arith}
+use Rattle.std.proofs.Common.{◌≡◌, ℕ, zero, suc, ◌+◌, ◌*◌, ◌-◌, ◌<◌, ◌≤◌, min, Bool, true, false, cond, ◌&&◌, inl, inr, List, [], ◌∷◌, ◌++◌, length, refl, sym, ◌∙◌, ap, arith}
 use Rattle.std.specs.Prelude.{nat_lt, flat_map, filter}
-use Rattle.std.proofs.lemmas.Bool.{cases_Bool, cases_eq, lt-ltb, false≢true}
+use Rattle.std.proofs.lemmas.Bool.{cases_Bool, cases_eq, cases_lt, lt-ltb, false≢true}
 use Rattle.std.proofs.lemmas.List.{length-append, nil_from_length}
 use Rattle.std.proofs.lemmas.List.Elements.{filter-append}
 use Rattle.std.proofs.Math.Nat.{add-mul}
@@ -16,11 +16,13 @@ use Rattle.coordinator.specs.declared.cells.Cells.{Cells}
 use Rattle.coordinator.specs.Commits.{cells_in, takes_part}
 use Rattle.coordinator.specs.Costs.{total}
 use Rattle.eaw_face.specs.State.{is_range_on, count_on}
-use Rattle.eaw_device.specs.Costs.{loggers_with, commit_cost}
-use Rattle.eaw_device.specs.Groups.{group_parts, HaveCells, HaveParts, group_rows, group_count, group_calls}
+use Rattle.eaw_device.specs.Costs.{loggers_with}
+use Rattle.eaw_device.specs.Groups.{HaveCells, HaveParts, group_count}
 use Rattle.eaw_device.proofs.Alone.{one_if, some_or_none}
+use Rattle.array_shape.proofs.Sets.{none_has}
 use Rattle.eaw_device.proofs.Costing.{ranges_counted}
-use Rattle.eaw_device.proofs.Grouping.{total_more, total_same, total_zero, total_none, any_none, none_at, lists_in_turn}
+use Rattle.eaw_device.proofs.GroupBits.{same_bits}
+use Rattle.eaw_device.proofs.Grouping.{group_parts, group_rows, total_more, total_same, total_zero, total_none, any_none, none_at, lists_in_turn}
 
 -- lists of the numbers of a set, joined
 picked : {A : Type 0} (bits : ℕ) (f : ℕ → List A) (k n : ℕ) → joined (λ u. cond (has bits u) (f u) []) k n ≡ flat_map f (numbers_from bits k n)
@@ -99,6 +101,37 @@ module _ (shape : Shape) (bits group : ℕ) (ranges : ℕ → List (ℕ × ℕ))
       one u true true so = refl
       one u true false so = sym (none u (empty_at u so))
       one u false some so = refl
+
+  -- if no number is in the group, there is nothing
+  pub gathered_nothing : {A : Type 0} (f : ℕ → List A) → ((u : ℕ) → ranges u ≡ [] → f u ≡ []) → ((u : ℕ) → has group u ≡ false) → flat_map f (numbers_in bits) ≡ []
+  gathered_nothing {A} f none no_one = sym (gathered f none) ∙ nothing 0 shape.numbers
+    where
+      nothing : (k n : ℕ) → joined (λ u. cond (has group u) (f u) []) k n ≡ []
+      nothing k zero = refl
+      nothing k (suc n) = λ i. cond (no_one k i) (f k) [] ++ nothing (k + 1) n i
+
+  -- if nothing is logged, no number is in the group
+  no_one : ((u : ℕ) → shape.numbers ≤ u → has group u ≡ false) → length (flat_map ranges (numbers_in bits)) ≡ 0 → (u : ℕ) → has group u ≡ false
+  no_one beyond none u = elim (cases_lt u shape.numbers) [
+    | inl lt ↦ elim (cases_Bool (has group u)) [
+      | inl on ↦
+          let its_len : length (ranges u) ≡ 0 = sym (ap (λ (b : Bool). length (cond b (ranges u) [])) on)
+          ∙ total_none (λ v. length (cond (has group v) (ranges v) [])) shape.numbers (total_joined (λ v. cond (has group v) (ranges v) []) shape.numbers ∙ ap length (gathered ranges (λ v empty. empty)) ∙ none) u lt in
+          absurd (false≢true (sym (is u lt ∙ ap (λ (k : ℕ). has bits u && nat_lt 0 k) its_len ∙ off (has bits u)) ∙ on))
+      | inr out ↦ out
+    ]
+    | inr ge ↦ beyond u (omega (arith, ge))
+  ]
+    where
+      off : (b : Bool) → (b && false) ≡ false
+      off true = refl
+      off false = refl
+
+  pub some_gathered : ((u : ℕ) → shape.numbers ≤ u → has group u ≡ false) → (group ≡ 0 → ⊥) → 0 < length (flat_map ranges (numbers_in bits))
+  some_gathered beyond ne = elim (cases_lt 0 (length (flat_map ranges (numbers_in bits)))) [
+    | inl lt ↦ lt
+    | inr ge ↦ absurd (ne (same_bits group 0 (λ u. no_one beyond (omega (arith, ge)) u ∙ sym (none_has u))))
+  ]
 
   -- the parts
   module _ (image : List ℕ) (cells : List Cells) (parts : ℕ → List Part) (placed : (u : ℕ) → u < shape.numbers → AllPlaced shape (parts u)) (none : (u : ℕ) → ranges u ≡ [] → parts u ≡ [])
@@ -201,13 +234,10 @@ module _ (shape : Shape) (bits group : ℕ) (ranges : ℕ → List (ℕ × ℕ))
         row u true = total_same _ (λ g. min (count_on shape g all_ranges) 1) shape.loggers (λ g lt. with_true (takes_part shape cells group g) ∙ ap one_if (takes g lt) ∙ some_or_none (count_on shape g all_ranges))
         row u false = total_zero _ shape.loggers (λ g lt. with_false (takes_part shape cells group g))
 
-    pub gathered_calls : group_calls shape group cells ≡ commit_cost shape (length (filter (λ t. nat_lt 0 (length (ranges t))) (numbers_in bits))) (flat_map ranges (numbers_in bits))
+    pub gathered_rows : group_rows shape group cells ≡ length (filter (λ t. nat_lt 0 (length (ranges t))) (numbers_in bits)) * loggers_with shape (flat_map ranges (numbers_in bits))
     unfolding some_logged all_ranges
-    gathered_calls = λ i. cond (nat_eq (count_whole i) 0) 0 (3 * rows_whole i + 2 * count_whole i + 4)
+    gathered_rows = rows_whole
 
-    -- if nothing is logged, no number has a cell
-    pub gathered_none : length (flat_map ranges (numbers_in bits)) ≡ 0 → (g u : ℕ) → g < shape.loggers → u < shape.numbers → has group u ≡ true → (cells_in cells g u).count ≡ 0
+    pub gathered_count : group_count shape group cells ≡ length (flat_map ranges (numbers_in bits))
     unfolding all_ranges
-    gathered_none none g u lt lt' so =
-        sym (ap (λ (b : Bool). cond b (cells_in cells g u).count 0) so)
-        ∙ total_none (λ h. cond (has group u) (cells_in cells h u).count 0) shape.loggers (total_none (λ v. total (λ h. cond (has group v) (cells_in cells h v).count 0) shape.loggers) shape.numbers (count_whole ∙ none) u lt') g lt
+    gathered_count = count_whole

@@ -1,5 +1,5 @@
 -- A device over an array that was just settled.
-use Rattle.std.proofs.Common.{◌≡◌, ℕ, Bool, false, List, [], length, refl, sym, ◌∙◌, ap, arith}
+use Rattle.std.proofs.Common.{◌≡◌, ℕ, Bool, false, List, [], length, refl, sym, ◌∙◌, ap, subst, arith}
 use Rattle.std.specs.Prelude.{Option, Some, None, slice_get}
 use Rattle.std.specs.Option.{option_map}
 use Rattle.std.proofs.lemmas.List.{nil_from_length}
@@ -13,11 +13,11 @@ use Rattle.eaw_device.specs.declared.log.Log.{Log}
 use Rattle.eaw_device.specs.Logs.{IsHeld, entries_of, entries_at}
 use Rattle.deferred_parts.specs.Entries.{ranges_in, parts_in, cells_on}
 use Rattle.late_data.specs.declared.commits.LateData.{LateData}
-use Rattle.eaw_device.specs.Sound.{IsAtOnce, IsSound, view_of}
+use Rattle.eaw_device.specs.Sound.{IsSound, view_of}
 use Rattle.eaw_device.specs.Opens.{header_of, Attached, FindsData}
 use Rattle.eaw_device.specs.Opening.{IsFree, AreFree, IsOpened, Settled}
 use Rattle.eaw_device.proofs.Keeping.{length-cells_on_kept}
-use Rattle.eaw_device.proofs.NoneWaits.{clean_waiting, data_alone, once_before, once_held}
+use Rattle.eaw_device.proofs.Empty.{empty_before, empty_data, empty_waiting}
 use Rattle.eaw_device.proofs.Tables.{entries_free, entries_there}
 
 module _ (shape : Shape) (log : Log) (is : IsFree shape log) where
@@ -33,10 +33,7 @@ module _ (shape : Shape) (log : Log) (is : IsFree shape log) where
     heads = ap (λ (es : List Entry). ranges_of (parts_in shape image t es)) none_logged ∙ sym (ap ranges_in none_logged);
   }
 
-module _ (tells : Bool) (old new : View) (shape : Shape) (logs : List Log) (late : LateData) (settled : Settled tells old shape new) (free : AreFree shape logs) (is : IsOpened shape late) where
-  pub opened_once : IsAtOnce shape late.queue
-  opened_once = record { fit = is.ready.fit; none_waits = is.none_waits }
-
+module _ (tells : Bool) (old new : View) (shape : Shape) (logs : List Log) (late : LateData) (settled : Settled tells old shape new) (free : AreFree shape logs) (depth : ℕ) (is : IsOpened shape depth late) where
   pub opened_sound : IsSound tells new shape logs late false
   opened_sound = record {
     shaped = shape.in_range;
@@ -44,10 +41,10 @@ module _ (tells : Bool) (old new : View) (shape : Shape) (logs : List Log) (late
     many = free.many;
     kept = λ t log got. (free.free t log got).kept;
     ready = is.ready;
-    in_order = λ alive. record { tied = is.tied; before = λ t log got. once_before shape late.queue opened_once t log };
+    in_order = λ alive. record { tied = is.tied; before = λ t log got. empty_before shape late.queue is.none t log };
     told = λ told alive. record {
-      sure = record { waiting = clean_waiting shape late.queue opened_once new.content (settled.clean told); header = settled.header told };
-      shown = once_held shape late opened_once is.tied new.content.bytes;
+      sure = record { waiting = empty_waiting shape late.queue is.none new.content (settled.clean told); header = settled.header told };
+      shown = λ t lt. subst (λ (es : List Entry). ranges_of (parts_in shape new.content.bytes t es) ≡ ranges_in es) (sym (is.no_entry t)) refl;
       held = λ t log got. free_held shape log (free.free t log got) new.content.bytes t;
     };
   }
@@ -61,7 +58,7 @@ module _ (tells : Bool) (old new : View) (shape : Shape) (logs : List Log) (late
     shape_is = settled.shape_is;
     sized = settled.sized;
     good = settled.good;
-    bytes = λ told. data_alone shape late.queue opened_once new.content.bytes ∙ settled.bytes told;
+    bytes = λ told. empty_data shape late.queue is.none new.content.bytes ∙ settled.bytes told;
     free = λ t. ap (option_map ranges_in) (none_at t (slice_get logs t) refl);
     unlogged = λ t. ap (option_map (parts_in shape new.content.bytes t)) (none_at t (slice_get logs t) refl);
     alive = refl;
@@ -72,4 +69,4 @@ module _ (tells : Bool) (old new : View) (shape : Shape) (logs : List Log) (late
   pub found : FindsData tells old (view_of new shape logs late false)
   found told said bytes opens =
       let same = one_shape (header_of old.content.bytes) shape said (settled.shape_is told) opens.header in
-      (same, data_alone shape late.queue opened_once new.content.bytes ∙ settled.bytes told ∙ ap (λ (s : Shape). settled_data s old.content.bytes) same ∙ opens.stands.gives)
+      (same, empty_data shape late.queue is.none new.content.bytes ∙ settled.bytes told ∙ ap (λ (s : Shape). settled_data s old.content.bytes) same ∙ opens.stands.gives)

@@ -1,13 +1,16 @@
 -- A device of which some commits that wait are written back, and a command after that.
 use Rattle.std.proofs.Common.{◌≡◌, ℕ, ◌<◌, ◌≤◌, Bool, true, false, inl, inr, List, drop, length, Result, Ok, Err, refl, sym, ◌∙◌, ap, subst, arith}
-use Rattle.std.specs.Prelude.{IsTrue, Some, slice_get, slice_index, None}
+use Rattle.std.specs.Prelude.{IsTrue, Option, Some, slice_get, slice_index, None}
 use Rattle.std.proofs.lemmas.Bool.{cases_Bool, false≢true}
 use Rattle.std.proofs.lemmas.Option.{slice_get_within}
 use Rattle.std.proofs.lemmas.Result.{on_ok_weaker}
 use Rattle.mars_base.specs.Causes.{Rose}
+use Rattle.mars_base.specs.Check.{test}
 use Rattle.mars_base.proofs.Going.{then, weaker}
 use Rattle.pcm_media.specs.View.{View}
 use Rattle.array_shape.specs.declared.shape.Shape.{Shape}
+use Rattle.array_shape.specs.Logged.{ranges_of}
+use Rattle.array_shape.specs.Parts.{parts_of_write}
 use Rattle.array_shape.specs.Places.{media_len}
 use Rattle.array_image.specs.Image.{cell_of}
 use Rattle.row_bytes.specs.declared.ballot.Ballot.{Ballot}
@@ -16,13 +19,13 @@ use Rattle.late_commits.specs.Steps.{WritesBack}
 use Rattle.late_data.specs.declared.commits.LateData.{LateData}
 use Rattle.late_data.specs.Tied.{IsTied, Stays}
 use Rattle.late_data.proofs.Tying.{lacks_drop}
-use Rattle.eaw_face.specs.State.{State}
+use Rattle.eaw_face.specs.State.{Logs, State, listed}
 use Rattle.eaw_face.specs.StoreView.{StoreView, LeavesOnly}
-use Rattle.eaw_face.specs.Command.{Command, after, ranges_after}
-use Rattle.eaw_face.specs.Causes.{Cause, IsAlive, known, room_for}
+use Rattle.eaw_face.specs.Command.{Command, after, log_write, ranges_after}
+use Rattle.eaw_face.specs.Causes.{Cause, IsAlive, fit, known, room_for}
 use Rattle.eaw_face.specs.Does.{Does, IsEither}
 use Rattle.eaw_face.specs.declared.fault.EawFault.{EawFault}
-use Rattle.eaw_face.specs.declared.fault.EawFault.TheVariants.{Media}
+use Rattle.eaw_face.specs.declared.fault.EawFault.TheVariants.{Dead, LogFull, Media, UnknownTid}
 use Rattle.eaw_device.specs.declared.log.Log.{Log}
 use Rattle.eaw_device.specs.Laws.{alive_shown}
 use Rattle.eaw_device.specs.Opens.{Opens}
@@ -60,6 +63,25 @@ pub quiet_fails : {T : Type 0} (tells : Bool) (Opens : List ℕ → List ℕ →
     → IsAlive old → known old command None → room_for old command None → (let r : Result T EawFault = Err Media in Does tells Opens command old new r)
 quiet_fails {T} tells Opens command old new fault quiet alive knows room = failed tells Opens command old new quiet.shape quiet.later (λ told fine. weaker (λ image opens. inl opens) (quiet.time told)) {T = T}
     alive knows room quiet.failed.2 quiet.failed.1 (λ u other. ap (λ ranges. ranges u) quiet.ranges)
+
+-- a write into a log after a quiet step is that write: what it asks for stood before the step too
+pub quiet_write : {T : Type 0} (tells : Bool) (Opens : Shape → List ℕ → List ℕ → Type 0) (t addr : ℕ) (bytes : List ℕ) (old mid new : StoreView) → IsAlive old → (x : Unit {0}) → (let ok : Result (Unit {0}) EawFault = Ok x in IsQuiet tells (Opens old.shape) old mid ok)
+    → (r : Result T EawFault) → Does tells (Opens mid.shape) (log_write t addr bytes) mid new r → Does tells (Opens old.shape) (log_write t addr bytes) old new r
+quiet_write {T} tells Opens t addr bytes old mid new alive x quiet r does =
+    quiet_then tells (Opens old.shape) (log_write t addr bytes) old mid new x quiet r (cause_before r does.cause) (subst (λ (s : Shape). Does tells (Opens s) (log_write t addr bytes) mid new r) quiet.shape does)
+  where
+    known_before : (u : Option ℕ) → known mid (log_write t addr bytes) u → known old (log_write t addr bytes) u
+    known_before u knows = subst (λ (s : Shape). test (t < s.numbers) t u) quiet.shape knows
+
+    room_before : (full : Option (ℕ × ℕ × ℕ)) → room_for mid (log_write t addr bytes) full → room_for old (log_write t addr bytes) full
+    room_before full room = subst (λ (p : Shape × Logs (ℕ × ℕ)). fit p.0 (listed (p.1 t)) (ranges_of (parts_of_write addr bytes)) full) (λ i. (quiet.shape i, quiet.ranges i)) room
+
+    cause_before : (r : Result T EawFault) → Cause mid (log_write t addr bytes) new.faults r → Cause old (log_write t addr bytes) new.faults r
+    cause_before (Ok y) cause = (alive, known_before None cause.1, room_before None cause.2)
+    cause_before (Err (UnknownTid u)) cause = (alive, known_before (Some u) cause.1)
+    cause_before (Err (LogFull g h n)) cause = (alive, known_before None cause.1, room_before (Some (g, h, n)) cause.2)
+    cause_before (Err Media) cause = (alive, known_before None cause.1, room_before None cause.2, omega (arith, quiet.later, cause.3))
+    cause_before (Err Dead) cause = absurd (false≢true (sym quiet.alive ∙ cause))
 
 -- some commits are written back
 module _ (tells : Bool) (old new : View) (shape : Shape) (logs : List Log) (late late' : LateData) (is_dead : Bool) (sound : IsSound tells old shape logs late is_dead) (alive : is_dead ≡ false) {T E : Type 0} (some : ℕ) (r : Result T E)

@@ -7,6 +7,7 @@ use Rattle.std.proofs.lemmas.List.{nil_from_length, length-set}
 use Rattle.std.proofs.lemmas.Option.{slice_get_read}
 use Rattle.pcm_media.specs.View.{View}
 use Rattle.array_shape.specs.declared.shape.Shape.{Shape}
+use Rattle.array_image.specs.Standing.{SameCells}
 use Rattle.array_shape.specs.Logged.{Part, ranges_of}
 use Rattle.array_image.specs.Image.{cell_of, IsGoodCell}
 use Rattle.eaw_face.specs.State.{listed, with_log}
@@ -123,6 +124,9 @@ module _ (shape : Shape) (old new : List ℕ) (u : ℕ) (log : Log) (kept : IsKe
     good = λ g e lt below. subst (IsGoodCell shape g) (sym (same g e lt below)) (held.good g e lt below);
     heads = ap ranges_of parts_kept ∙ held.heads;
   }
+
+pub held_same : (shape : Shape) (old new : List ℕ) (t : ℕ) (log : Log) → t < shape.numbers → IsKept shape log → SameCells shape old new → IsHeld shape old t log → IsHeld shape new t log
+held_same shape old new t log lt kept cells held = held_kept shape old new t log kept (λ g e lt' below. cells g t e lt' lt (omega (arith, below, kept.fits g lt'))) held
 
 -- all logs of other numbers stay too
 pub others_kept : (shape : Shape) (logs : List Log) (old new : List ℕ) (u : ℕ) → ForSome (slice_get logs u) (IsKept shape)

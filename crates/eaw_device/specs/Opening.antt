@@ -28,13 +28,13 @@ pub record AreFree (shape : Shape) (logs : List Log) : Type 0 where
   pub many : length logs ≡ shape.numbers
   pub free : (t : ℕ) → ForSome (slice_get logs t) (IsFree shape)
 
--- no commit waits, and none may
-pub record IsOpened (shape : Shape) (late : LateData) : Type 0 where
+-- no commit waits, and so many may
+pub record IsOpened (shape : Shape) (depth : ℕ) (late : LateData) : Type 0 where
   pub ready : IsReady shape late
   pub tied : IsTied shape late (λ t. false)
   pub none : late.queue.ballots.items ≡ []
   pub no_entry : (t : ℕ) → entries_of late.parts t ≡ []
-  pub none_waits : late.queue.depth ≡ 0
+  pub depth_is : late.queue.depth ≡ depth
 
 -- From the medium as it was to what it is now: the array of the shape that its header says, settled and durable.
 pub record Settled (tells : Bool) (old : View) (shape : Shape) (new : View) : Type 0 where

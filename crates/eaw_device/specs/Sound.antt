@@ -10,7 +10,7 @@ use Rattle.array_image.specs.Image.{data_of}
 use Rattle.commit_queue.specs.Between.{IsAtRest}
 use Rattle.late_commits.specs.declared.queue.LateCommits.{LateCommits}
 use Rattle.coordinator.specs.Commits.{cells_in}
-use Rattle.late_commits.specs.Waiting.{AreWaiting, IsFit, data_with}
+use Rattle.late_commits.specs.Waiting.{AreWaiting, data_with}
 use Rattle.deferred_parts.specs.Entries.{AreHeld}
 use Rattle.deferred_parts.specs.Shown.{entries_of}
 use Rattle.deferred_parts.specs.Turns.{has_some}
@@ -60,11 +60,6 @@ pub record IsSound (tells : Bool) (media : View) (shape : Shape) (logs : List Lo
   pub ready : IsReady shape late
   pub in_order : is_dead ≡ false → IsInOrder shape late logs
   pub told : IsTrue tells → is_dead ≡ false → IsTold shape late media.content logs
-
--- Of the queue's commits none may wait: each is written back at once.
-pub record IsAtOnce (shape : Shape) (queue : LateCommits) : Type 0 where
-  pub fit : IsFit shape queue
-  pub none_waits : queue.depth ≡ 0
 
 -- how many commits wait
 abbrev pub deferred_of : LateData → ℕ

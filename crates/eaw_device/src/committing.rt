@@ -1,22 +1,22 @@
 // Commits of what logs have from positions on.
-ghost use Rattle.std.specs.Prelude.{◌≡◌, ◌≢◌, ◌+◌, ◌-◌, ◌^◌, ◌≤◌, ◌<◌, ℕ, true, false, ◌&&◌, nat_lt, Ok, drop, take, length, slice_index, slice_get, IsTrue, OnOk, OnErr};
+ghost use Rattle.std.specs.Prelude.{◌≡◌, ◌≢◌, ◌-◌, ◌^◌, ◌≤◌, ◌<◌, ℕ, Bool, List, [], ◌∷◌, true, false, ◌&&◌, ◌||◌, nat_eq, nat_lt, drop, take, length, slice_index, slice_get, IsTrue, OnOk, OnErr, filter};
 ghost use Rattle.std.specs.Option.{ForSome};
-ghost use Rattle.mars_base.specs.Costs.{Costs};
-ghost use Rattle.pcm_media.specs.View.{LeavesOnly};
+ghost use Rattle.pcm_media.specs.Images.{Content};
 ghost use Rattle.array_shape.specs.Places.{media_len};
-ghost use Rattle.array_shape.specs.Logged.{applied};
 ghost use Rattle.array_shape.specs.NumberSet.{has, members};
-ghost use Rattle.array_image.specs.Standing.{IsEither, SameCells};
 ghost use Rattle.coordinator.specs.Commits.{cells_in};
-ghost use Rattle.eaw_face.specs.State.{listed, group_log, count_on};
+ghost use Rattle.eaw_face.specs.State.{is_one_of, listed, group_log, count_on};
+ghost use Rattle.eaw_device.specs.declared.log.Log.{Log};
 ghost use Rattle.eaw_device.specs.Logs.{IsKept, IsHeld, ranges_logged, parts_logged};
-ghost use Rattle.deferred_parts.specs.Entries.{ranges_in, parts_in, cells_on};
-ghost use Rattle.eaw_device.specs.Sound.{IsAtOnce};
+ghost use Rattle.deferred_parts.specs.Entries.{AreHeld, ranges_in, parts_in, cells_on};
+ghost use Rattle.deferred_parts.specs.Shown.{entries_of};
+ghost use Rattle.eaw_device.specs.Sound.{IsBefore};
+ghost use Rattle.late_commits.specs.Orders.{IsFree};
 ghost use Rattle.late_commits.specs.Waiting.{AreWaiting, data_with};
-ghost use Rattle.late_data.specs.Tied.{IsReady, IsTied};
-ghost use Rattle.late_commits.specs.Steps.{WritesBehind};
-ghost use Rattle.eaw_device.specs.Costs.{numbers_with, commit_cost};
-ghost use Rattle.eaw_device.specs.Groups.{group_parts, group_calls, HaveCells, HaveParts};
+ghost use Rattle.late_data.specs.Steps.{Commits};
+ghost use Rattle.late_data.specs.Tied.{IsReady, IsTied, Stays};
+ghost use Rattle.eaw_device.specs.Costs.{commit_cost, with_entries};
+ghost use Rattle.eaw_device.specs.Groups.{CommitsGroup, HaveCells, HaveEntries, HaveParts, group_count};
 
 use crate::log::Log;
 use array_shape::{NumberSet, Shape};
@@ -25,7 +25,8 @@ use late_data::LateData;
 use mars_base::Failed;
 use pcm_media::Media;
 
-/// Commits the parts that number `tid` has logged from position `offset` on. The log itself stays as it is.
+/// Commits the parts that number `tid` has logged from position `offset` on, once what waits of the number is written back. The log itself
+/// stays as it is. If there is no such part, nothing is done.
 pub(crate) fn commit_log<M: Media>(
     media: &mut M,
     shape: &Shape,
@@ -38,31 +39,32 @@ pub(crate) fn commit_log<M: Media>(
     requires kept { IsKept shape.now log.now }
     requires offset { offset ≤ length log.now.entries.items }
     requires size { (M.view media.old).size ≡ media_len shape.now }
-    requires at_once { IsAtOnce shape.now late.old.queue }
     requires ready { IsReady shape.now late.old }
     requires tied { IsTied shape.now late.old (λ t. false) }
     requires waiting { IsTrue M.tells → AreWaiting shape.now late.old.queue (M.view media.old).content }
     requires held { IsTrue M.tells → IsHeld shape.now (M.view media.old).content.bytes tid log.now }
-    ensures any_moment { IsTrue M.tells → (let before = data_with shape.now late.old.queue (M.view media.old).content.bytes in
-        let parts = drop offset (parts_in shape.now (M.view media.old).content.bytes tid log.now.entries.items) in
-        LeavesOnly (IsEither shape.now before (applied parts before)) (M.view media.old) (M.view media.new)) }
-    ensures waiting { IsTrue M.tells → OnOk result (AreWaiting shape.now late.new.queue (M.view media.new).content) }
-    ensures committed { IsTrue M.tells → OnOk result (data_with shape.now late.new.queue (M.view media.new).content.bytes ≡
-        applied (drop offset (parts_in shape.now (M.view media.old).content.bytes tid log.now.entries.items)) (data_with shape.now late.old.queue (M.view media.old).content.bytes)) }
-    ensures cells { IsTrue M.tells → SameCells shape.now (M.view media.old).content.bytes (M.view media.new).content.bytes }
-    ensures at_once { IsAtOnce shape.now late.new.queue }
-    ensures ready { IsReady shape.now late.new }
+    ensures does { Commits M.tells shape.now (drop offset (parts_in shape.now (M.view media.old).content.bytes tid log.now.entries.items))
+        (commit_cost shape.now late.old.queue (tid ∷ []) (drop offset (ranges_in log.now.entries.items))) late.old.queue (M.view media.old) late.new.queue (M.view media.new) result }
+    ensures stays { Stays M.tells shape.now late.old (M.view media.old) late.new (M.view media.new) }
     ensures tied { OnOk result (IsTied shape.now late.new (λ t. false)) }
-    ensures does { WritesBehind M.tells (M.view media.old) (M.view media.new) result }
-    ensures costs { Costs M.tells (commit_cost shape.now 1 (drop offset (ranges_in log.now.entries.items))) (M.view media.old).moment (M.view media.new).moment result }
+    // The cells of the first entries come before those that are committed.
+    ensures before { OnOk result ((now : Log) → IsKept shape.now now → now.entries.items ≡ take offset log.now.entries.items → IsBefore shape.now late.old.queue tid log.now → IsBefore shape.now late.new.queue tid now) }
+    ensures others { OnOk result ((t : ℕ) (its : Log) → t ≢ tid → IsBefore shape.now late.old.queue t its → IsBefore shape.now late.new.queue t its) }
+    ensures waits { 0 < late.old.queue.depth → offset < length log.now.entries.items → OnOk result (0 < length late.new.queue.ballots.items) }
     ensures due { OnErr result (offset < length log.now.entries.items) }
     ensures idle { length log.now.entries.items ≡ offset → media.new ≡ media.old }
 {
-    name_cells(late, shape, tid, log, offset);
-    commit_cells(media, shape, late, 1 << tid)
+    if offset == log.entries.len() {
+        return Ok(());
+    }
+    let group = 1 << tid;
+    late.write_back_for(media, shape, group)?;
+    set_aside(late, shape, tid, log, offset);
+    commit_cells(media, shape, late, group)
 }
 
-/// Commits what the numbers of a set have logged, all at once. The logs themselves stay as they are.
+/// Commits what the numbers of a set have logged, all at once, once what waits of those with a part is written back. The logs themselves
+/// stay as they are. If there is no part, nothing is done.
 pub(crate) fn commit_logs<M: Media>(
     media: &mut M,
     shape: &Shape,
@@ -73,45 +75,35 @@ pub(crate) fn commit_logs<M: Media>(
     requires many { length logs.now ≡ shape.now.numbers }
     requires kept { (t : ℕ) → ForSome (slice_get logs.now t) (IsKept shape.now) }
     requires size { (M.view media.old).size ≡ media_len shape.now }
-    requires at_once { IsAtOnce shape.now late.old.queue }
     requires ready { IsReady shape.now late.old }
     requires tied { IsTied shape.now late.old (λ t. false) }
     requires waiting { IsTrue M.tells → AreWaiting shape.now late.old.queue (M.view media.old).content }
     requires held { IsTrue M.tells → (t : ℕ) → ForSome (slice_get logs.now t) (IsHeld shape.now (M.view media.old).content.bytes t) }
-    ensures any_moment { IsTrue M.tells → (let before = data_with shape.now late.old.queue (M.view media.old).content.bytes in
-        let parts = group_log (parts_logged shape.now (M.view media.old).content.bytes logs.now) (members tids) in
-        LeavesOnly (IsEither shape.now before (applied parts before)) (M.view media.old) (M.view media.new)) }
-    ensures waiting { IsTrue M.tells → OnOk result (AreWaiting shape.now late.new.queue (M.view media.new).content) }
-    ensures committed { IsTrue M.tells → OnOk result (data_with shape.now late.new.queue (M.view media.new).content.bytes ≡
-        applied (group_log (parts_logged shape.now (M.view media.old).content.bytes logs.now) (members tids)) (data_with shape.now late.old.queue (M.view media.old).content.bytes)) }
-    ensures cells { IsTrue M.tells → SameCells shape.now (M.view media.old).content.bytes (M.view media.new).content.bytes }
-    ensures at_once { IsAtOnce shape.now late.new.queue }
-    ensures ready { IsReady shape.now late.new }
+    ensures does { Commits M.tells shape.now (group_log (parts_logged shape.now (M.view media.old).content.bytes logs.now) (members tids))
+        (commit_cost shape.now late.old.queue (with_entries (ranges_logged logs.now) (members tids)) (group_log (ranges_logged logs.now) (members tids)))
+        late.old.queue (M.view media.old) late.new.queue (M.view media.new) result }
+    ensures stays { Stays M.tells shape.now late.old (M.view media.old) late.new (M.view media.new) }
     ensures tied { OnOk result (IsTied shape.now late.new (λ t. false)) }
-    ensures does { WritesBehind M.tells (M.view media.old) (M.view media.new) result }
-    ensures costs { Costs M.tells (commit_cost shape.now (numbers_with (ranges_logged logs.now) (members tids)) (group_log (ranges_logged logs.now) (members tids)))
-        (M.view media.old).moment (M.view media.new).moment result }
+    ensures others { OnOk result ((t : ℕ) (its : Log) → is_one_of (members tids) t ≡ false → IsBefore shape.now late.old.queue t its → IsBefore shape.now late.new.queue t its) }
+    ensures waits { 0 < late.old.queue.depth → 0 < length (group_log (ranges_logged logs.now) (members tids)) → OnOk result (0 < length late.new.queue.ballots.items) }
     ensures due { OnErr result (0 < length (group_log (ranges_logged logs.now) (members tids))) }
     ensures idle { length (group_log (ranges_logged logs.now) (members tids)) ≡ 0 → media.new ≡ media.old }
 {
-    let group = name_group(late, shape, logs, tids);
+    let group = logged(shape, logs, tids);
+    if group.bits == 0 {
+        return Ok(());
+    }
+    late.write_back_for(media, shape, group.bits)?;
+    set_group_aside(late, shape, logs, group);
     commit_cells(media, shape, late, group.bits)
 }
 
-// Puts the cells of the numbers of a set into their places. Returns those numbers that have logged anything.
-fn name_group(late: &mut LateData, shape: &Shape, logs: &[Log], tids: NumberSet) -> NumberSet
+// Those numbers of a set that have logged anything.
+fn logged(shape: &Shape, logs: &[Log], tids: NumberSet) -> NumberSet
     requires many { length logs.now ≡ shape.now.numbers }
     requires kept { (t : ℕ) → ForSome (slice_get logs.now t) (IsKept shape.now) }
-    requires at_once { IsAtOnce shape.now late.old.queue }
-    requires ready { IsReady shape.now late.old }
-    requires tied { IsTied shape.now late.old (λ t. false) }
-    ensures at_once { IsAtOnce shape.now late.new.queue }
-    ensures ready { IsReady shape.now late.new }
-    ensures tied { IsTied shape.now late.new (λ t. false) }
     ensures numbers { (t : ℕ) → t < shape.now.numbers → has result.bits t ≡ (has tids.bits t && nat_lt 0 (length (listed (ranges_logged logs.now t)))) }
     ensures beyond { (t : ℕ) → shape.now.numbers ≤ t → has result.bits t ≡ false }
-    ensures first { (g t : ℕ) → g < shape.now.loggers → t < shape.now.numbers → has result.bits t ≡ true → (cells_in late.new.queue.cells g t).first ≡ 0 }
-    ensures count { (g t : ℕ) → g < shape.now.loggers → t < shape.now.numbers → has result.bits t ≡ true → (cells_in late.new.queue.cells g t).count ≡ count_on shape.now g (listed (ranges_logged logs.now t)) }
 {
     let mut group = NumberSet::empty();
     for tid in 0..shape.numbers {
@@ -122,10 +114,61 @@ fn name_group(late: &mut LateData, shape: &Shape, logs: &[Log], tids: NumberSet)
         if log.entries.is_empty() {
             continue;
         }
-        name_cells(late, shape, tid, log, 0);
         group = group.with(tid);
     }
     group
+}
+
+// Sets aside all that the numbers of a group have logged.
+fn set_group_aside(late: &mut LateData, shape: &Shape, logs: &[Log], group: NumberSet)
+    requires many { length logs.now ≡ shape.now.numbers }
+    requires kept { (t : ℕ) → ForSome (slice_get logs.now t) (IsKept shape.now) }
+    requires ready { IsReady shape.now late.old }
+    requires tied { IsTied shape.now late.old (λ t. false) }
+    requires apart { (t : ℕ) → has group.bits t ≡ true → IsFree t late.old.queue.ballots.items }
+    ensures ready { IsReady shape.now late.new }
+    ensures ballots { late.new.queue.ballots ≡ late.old.queue.ballots }
+    ensures depth { late.new.queue.depth ≡ late.old.queue.depth }
+    ensures first { (g t : ℕ) → g < shape.now.loggers → t < shape.now.numbers → has group.bits t ≡ true → (cells_in late.new.queue.cells g t).first ≡ 0 }
+    ensures count { (g t : ℕ) → g < shape.now.loggers → t < shape.now.numbers → has group.bits t ≡ true → (cells_in late.new.queue.cells g t).count ≡ count_on shape.now g (listed (ranges_logged logs.now t)) }
+    ensures others { (g t : ℕ) → g < 8 → has group.bits t ≡ false → cells_in late.new.queue.cells g t ≡ cells_in late.old.queue.cells g t }
+    ensures entries { 0 < late.old.queue.depth → HaveEntries shape.now group.bits late.new.queue.cells (entries_of late.new.parts) }
+    ensures tied { IsTied shape.now late.new (λ t. nat_lt 0 late.old.queue.depth && (nat_lt t shape.now.numbers && has group.bits t)) }
+    ensures waiting { (now : Content) → AreWaiting shape.now late.old.queue now → AreWaiting shape.now late.new.queue now }
+    ensures same { (image : List ℕ) → data_with shape.now late.new.queue image ≡ data_with shape.now late.old.queue image }
+    ensures held { (image : List ℕ) → ((t : ℕ) → ForSome (slice_get logs.now t) (IsHeld shape.now image t)) → AreHeld shape.now image (entries_of late.old.parts) → AreHeld shape.now image (entries_of late.new.parts) }
+{
+    for tid in 0..shape.numbers {
+        if !group.contains(tid) {
+            continue;
+        }
+        set_aside(late, shape, tid, &logs[usize::from(tid)], 0);
+    }
+}
+
+// Names the cells that a log has from position `offset` on for its number's next commit, and keeps their entries. What waits stays as it is.
+fn set_aside(late: &mut LateData, shape: &Shape, tid: u8, log: &Log, offset: usize)
+    requires tid { tid < shape.now.numbers }
+    requires kept { IsKept shape.now log.now }
+    requires offset { offset ≤ length log.now.entries.items }
+    requires ready { IsReady shape.now late.old }
+    requires apart { IsFree tid late.old.queue.ballots.items }
+    requires none { entries_of late.old.parts tid ≡ [] }
+    ensures ready { IsReady shape.now late.new }
+    ensures ballots { late.new.queue.ballots ≡ late.old.queue.ballots }
+    ensures depth { late.new.queue.depth ≡ late.old.queue.depth }
+    ensures here { (g : ℕ) → g < shape.now.loggers → cells_in late.new.queue.cells g tid ≡
+        (let first = length (cells_on shape.now g (take offset log.now.entries.items)) in record { first = first; count = slice_index log.now.held g - first }) }
+    ensures others { (g t : ℕ) → g < 8 → t ≢ tid → cells_in late.new.queue.cells g t ≡ cells_in late.old.queue.cells g t }
+    ensures entries { 0 < late.old.queue.depth → entries_of late.new.parts tid ≡ drop offset log.now.entries.items }
+    ensures beside { (t : ℕ) → t ≢ tid → entries_of late.new.parts t ≡ entries_of late.old.parts t }
+    ensures tied { (aside : ℕ → Bool) → IsTied shape.now late.old (λ t. nat_lt 0 late.old.queue.depth && aside t) → IsTied shape.now late.new (λ t. nat_lt 0 late.old.queue.depth && (nat_eq t tid || aside t)) }
+    ensures waiting { (now : Content) → AreWaiting shape.now late.old.queue now → AreWaiting shape.now late.new.queue now }
+    ensures same { (image : List ℕ) → data_with shape.now late.new.queue image ≡ data_with shape.now late.old.queue image }
+    ensures held { (image : List ℕ) → IsHeld shape.now image tid log.now → AreHeld shape.now image (entries_of late.old.parts) → AreHeld shape.now image (entries_of late.new.parts) }
+{
+    name_cells(late, shape, tid, log, offset);
+    late.keep(shape, tid, &log.entries[offset..]);
 }
 
 // Puts the cells that a log has from position `offset` on into the places of its number: eight for each number, one for each logger.
@@ -133,15 +176,18 @@ fn name_cells(late: &mut LateData, shape: &Shape, tid: u8, log: &Log, offset: us
     requires tid { tid < shape.now.numbers }
     requires kept { IsKept shape.now log.now }
     requires offset { offset ≤ length log.now.entries.items }
-    requires at_once { IsAtOnce shape.now late.old.queue }
     requires ready { IsReady shape.now late.old }
-    requires tied { IsTied shape.now late.old (λ t. false) }
+    requires apart { IsFree tid late.old.queue.ballots.items }
+    ensures ready { IsReady shape.now late.new }
     ensures here { (g : ℕ) → g < shape.now.loggers → cells_in late.new.queue.cells g tid ≡
         (let first = length (cells_on shape.now g (take offset log.now.entries.items)) in record { first = first; count = slice_index log.now.held g - first }) }
-    ensures at_once { IsAtOnce shape.now late.new.queue }
-    ensures ready { IsReady shape.now late.new }
-    ensures tied { IsTied shape.now late.new (λ t. false) }
     ensures others { (g t : ℕ) → g < 8 → t ≢ tid → cells_in late.new.queue.cells g t ≡ cells_in late.old.queue.cells g t }
+    ensures ballots { late.new.queue.ballots ≡ late.old.queue.ballots }
+    ensures depth { late.new.queue.depth ≡ late.old.queue.depth }
+    ensures parts { late.new.parts ≡ late.old.parts }
+    ensures tied { (aside : ℕ → Bool) → IsTied shape.now late.old aside → IsTied shape.now late.new aside }
+    ensures waiting { (now : Content) → AreWaiting shape.now late.old.queue now → AreWaiting shape.now late.new.queue now }
+    ensures same { (image : List ℕ) → data_with shape.now late.new.queue image ≡ data_with shape.now late.old.queue image }
 {
     let firsts = log.counts_of_first(shape, offset);
     for logger in 0..shape.loggers {
@@ -152,7 +198,7 @@ fn name_cells(late: &mut LateData, shape: &Shape, tid: u8, log: &Log, offset: us
     }
 }
 
-// Commits the parts in the cells that a table names for the numbers of a group.
+// Commits the parts in the cells that a table names for the numbers of a group, which have no commit that waits.
 fn commit_cells<M: Media>(
     media: &mut M,
     shape: &Shape,
@@ -161,28 +207,19 @@ fn commit_cells<M: Media>(
 ) -> Result<(), Failed>
     requires group { group < 2 ^ shape.now.numbers }
     requires size { (M.view media.old).size ≡ media_len shape.now }
-    requires at_once { IsAtOnce shape.now late.old.queue }
     requires ready { IsReady shape.now late.old }
-    requires tied { IsTied shape.now late.old (λ t. false) }
+    requires tied { IsTied shape.now late.old (λ t. nat_lt 0 late.old.queue.depth && has group t) }
+    requires entries { 0 < late.old.queue.depth → HaveEntries shape.now group late.old.queue.cells (entries_of late.old.parts) }
+    requires apart { (t : ℕ) → has group t ≡ true → IsFree t late.old.queue.ballots.items }
     requires waiting { IsTrue M.tells → AreWaiting shape.now late.old.queue (M.view media.old).content }
     requires there { HaveCells shape.now group late.old.queue.cells }
     requires good { IsTrue M.tells → HaveParts shape.now (M.view media.old).content.bytes group late.old.queue.cells }
-    ensures any_moment { IsTrue M.tells → (let before = data_with shape.now late.old.queue (M.view media.old).content.bytes in
-        LeavesOnly (IsEither shape.now before (applied (group_parts shape.now (M.view media.old).content.bytes group late.old.queue.cells) before)) (M.view media.old) (M.view media.new)) }
-    ensures waiting { IsTrue M.tells → OnOk result (AreWaiting shape.now late.new.queue (M.view media.new).content) }
-    ensures committed { IsTrue M.tells → OnOk result (data_with shape.now late.new.queue (M.view media.new).content.bytes ≡
-        applied (group_parts shape.now (M.view media.old).content.bytes group late.old.queue.cells) (data_with shape.now late.old.queue (M.view media.old).content.bytes)) }
-    ensures cells { IsTrue M.tells → SameCells shape.now (M.view media.old).content.bytes (M.view media.new).content.bytes }
-    ensures at_once { IsAtOnce shape.now late.new.queue }
-    ensures ready { IsReady shape.now late.new }
+    requires some { 0 < group_count shape.now group late.old.queue.cells }
+    ensures does { CommitsGroup M.tells shape.now group late.old.queue (M.view media.old) late.new.queue (M.view media.new) result }
+    ensures waits { 0 < late.old.queue.depth → OnOk result (0 < length late.new.queue.ballots.items) }
+    ensures stays { Stays M.tells shape.now late.old (M.view media.old) late.new (M.view media.new) }
     ensures tied { OnOk result (IsTied shape.now late.new (λ t. false)) }
-    ensures does { WritesBehind M.tells (M.view media.old) (M.view media.new) result }
-    ensures costs { Costs M.tells (group_calls shape.now group late.old.queue.cells) (M.view media.old).moment (M.view media.new).moment result }
-    ensures idle { ((g t : ℕ) → g < shape.now.loggers → t < shape.now.numbers → has group t ≡ true → (cells_in late.old.queue.cells g t).count ≡ 0) → (result ≡ Ok tt) × (media.new ≡ media.old) }
 {
     let ballot = ballot_for(shape, late.cells(), group, 0);
-    if ballot.mask == 0 {
-        return Ok(());
-    }
     late.commit(media, shape, ballot)
 }

@@ -1,18 +1,20 @@
 // The commands, over all loggers.
-ghost use Rattle.std.specs.Prelude.{◌≡◌, ◌≢◌, ◌+◌, ◌≤◌, ◌<◌, ℕ, true, drop, take, false, None, IsTrue, IfOk, IfErr, OnOk, length};
+ghost use Rattle.std.specs.Prelude.{◌≡◌, ◌≢◌, ◌+◌, ◌^◌, ◌≤◌, ◌<◌, ℕ, true, drop, false, None, IsTrue, IsFalse, IfOk, IfErr, OnOk, length};
 ghost use Rattle.mars_base.specs.Costs.{Costs};
 ghost use Rattle.array_shape.specs.NumberSet.{has, members};
-ghost use Rattle.late_commits.specs.Costs.{calls_back};
+ghost use Rattle.array_shape.specs.Parts.{parts_of_write};
 ghost use Rattle.late_commits.specs.Orders.{IsFree, due_for};
 ghost use Rattle.array_shape.specs.Places.{data_len};
-ghost use Rattle.eaw_face.specs.StoreView.{IsLive};
-ghost use Rattle.eaw_face.specs.Command.{commit_group};
+ghost use Rattle.eaw_face.specs.StoreView.{IsLive, log_len};
+ghost use Rattle.eaw_face.specs.Command.{commit_group, log_write};
+ghost use Rattle.eaw_face.specs.Does.{Does};
 ghost use Rattle.eaw_face.specs.Causes.{known};
+ghost use Rattle.eaw_device.specs.Costs.{back_cost};
 ghost use Rattle.eaw_device.specs.Opens.{Attached, FindsData, AttachCause, AttachLeaves, KeepsData, Opens, OpensWithin, IsBehind};
 ghost use Rattle.eaw_device.specs.Steps.{IsQuiet, LogHasCells, RefusesWrite};
 ghost use Rattle.eaw_device.specs.Props.{IsSound-prop};
 ghost use Rattle.commit_queue.specs.Deferred.{deferred_orders};
-ghost use Rattle.eaw_device.specs.Sound.{IsAtOnce, IsSound, LacksLog, LacksGroup, deferred_of, view_of};
+ghost use Rattle.eaw_device.specs.Sound.{IsSound, LacksLog, LacksGroup, deferred_of, view_of};
 
 use crate::committing::{commit_log, commit_logs};
 use crate::fault::AttachFault;
@@ -37,7 +39,7 @@ pub struct Eaw<M: Media, W: WriteBack = AtOnce> {
     late: LateData,
     is_dead: bool,
     ghost sound: { IsSound M.tells (M.view media) shape logs.items late is_dead } by { IsSound-prop M.tells (M.view media) shape logs.items late is_dead },
-    ghost at_once: { IsAtOnce shape late.queue },
+    ghost depth: { late.queue.depth ≡ W.limit write_back },
 }
 
 impl<M: Media> Eaw<M, AtOnce> {
@@ -78,6 +80,7 @@ impl<M: Media> Eaw<M, Late> {
         ensures kept { IfErr result (λ e. e.0 ≢ AttachFault.Media → (M.view e.1).faults ≡ (M.view media).faults) }
         ensures within { IfErr result (λ e. OpensWithin M.tells (M.view media) (M.view e.1).moment) }
         ensures early { IfErr result (λ e. e.0 ≡ AttachFault.NoMemory → (M.view e.1).moment ≡ (M.view media).moment + 1) }
+        ensures limit { IfOk result (λ eaw. eaw.write_back.depth ≡ depth) }
     {
         Eaw::<M, Late>::attach_with(alloc, media, Late::new(depth))
     }
@@ -102,8 +105,9 @@ impl<M: Media, W: WriteBack> Eaw<M, W> {
         ensures kept { IfErr result (λ e. e.0 ≢ AttachFault.Media → (M.view e.1).faults ≡ (M.view media).faults) }
         ensures within { IfErr result (λ e. OpensWithin M.tells (M.view media) (M.view e.1).moment) }
         ensures early { IfErr result (λ e. e.0 ≡ AttachFault.NoMemory → (M.view e.1).moment ≡ (M.view media).moment + 1) }
+        ensures limit { IfOk result (λ eaw. eaw.write_back ≡ write_back) }
     {
-        match open_array(alloc, &mut media) {
+        match open_array(alloc, &mut media, write_back.depth()) {
             Ok((shape, logs, late)) => Ok(Eaw {
                 write_back,
                 media,
@@ -119,7 +123,8 @@ impl<M: Media, W: WriteBack> Eaw<M, W> {
     /// How many commits wait for their write-back: as many as there are different order numbers above 0 among the decided rows.
     pub fn deferred(&self) -> u8
         ensures many { result ≡ deferred_of self.now.late }
-        ensures most { result ≤ self.now.late.queue.depth }
+        ensures most { result ≤ W.limit self.now.write_back }
+        ensures none { IsFalse W.defers → result ≡ 0 }
         ensures counted { IsTrue M.tells → self.now.is_dead ≡ false → result ≡ length (deferred_orders self.now.shape (M.view self.now.media).content.bytes) }
     {
         self.late.len() as u8
@@ -149,7 +154,9 @@ impl<M: Media, W: WriteBack> Eaw<M, W> {
         ensures logs { self.new.logs ≡ self.old.logs }
         ensures free { OnOk result ((t : ℕ) → has group t ≡ true → IsFree t self.new.late.queue.ballots.items) }
         ensures left { OnOk result (self.new.late.queue.ballots.items ≡ drop (due_for group self.old.late.queue.ballots.items) self.old.late.queue.ballots.items) }
-        ensures costs { Costs M.tells (calls_back self.old.shape self.old.late.queue.cells (take (due_for group self.old.late.queue.ballots.items) self.old.late.queue.ballots.items)) (M.view self.old.media).moment (M.view self.new.media).moment result }
+        ensures table { self.new.late.queue.cells ≡ self.old.late.queue.cells }
+        ensures depth { self.new.late.queue.depth ≡ self.old.late.queue.depth }
+        ensures costs { Costs M.tells (back_cost self.old.shape self.old.late.queue group) (M.view self.old.media).moment (M.view self.new.media).moment result }
     {
         match self
             .late
@@ -161,6 +168,31 @@ impl<M: Media, W: WriteBack> Eaw<M, W> {
                 Err(EawFault::Media)
             }
         }
+    }
+
+    // Logs a write, once what waits of the number is written back.
+    fn write_log(&mut self, tid: u8, addr: u64, bytes: &[u8]) -> Result<u32, EawFault>
+        requires { addr + length bytes.now ≤ data_len self.old.shape }
+        ensures does { Does M.tells (Opens self.old.shape) (log_write tid addr bytes.now) (view_of (M.view self.old.media) self.old.shape self.old.logs.items self.old.late self.old.is_dead)
+            (view_of (M.view self.new.media) self.new.shape self.new.logs.items self.new.late self.new.is_dead) result }
+        ensures len { IfOk result (λ n. n ≡ log_len (view_of (M.view self.new.media) self.new.shape self.new.logs.items self.new.late self.new.is_dead) tid) }
+        ensures left { OnOk result (self.new.late.queue.ballots.items ≡ drop (due_for (2 ^ tid) self.old.late.queue.ballots.items) self.old.late.queue.ballots.items) }
+        ensures table { OnOk result (self.new.late.queue.cells ≡ self.old.late.queue.cells) }
+        ensures depth { OnOk result (self.new.late.queue.depth ≡ self.old.late.queue.depth) }
+        ensures costs { Costs M.tells (back_cost self.old.shape self.old.late.queue (2 ^ tid) + length (parts_of_write addr bytes.now)) (M.view self.old.media).moment (M.view self.new.media).moment result }
+        ensures refused { IfErr result (λ fault. fault ≢ EawFault.Media → self.new ≡ self.old) }
+    {
+        let len = bytes.len() as u64;
+        let at = self.find_room(tid, addr, len)?;
+        // The cells that the write takes may be those of a commit that waits.
+        self.settle_for(1 << tid)?;
+        let log = &self.logs[at];
+        if stage_all(&mut self.media, &self.shape, tid, log, addr, bytes).is_err() {
+            self.is_dead = true;
+            return Err(EawFault::Media);
+        }
+        self.logs[at].add_range(&self.shape, addr, len);
+        Ok(self.logs[at].entries.len() as u32)
     }
 
     // Where the log of a live number is in the table.
@@ -228,6 +260,10 @@ impl<M: Media, W: WriteBack> EawStore for Eaw<M, W> {
 
     ghost opens = { Opens };
 
+    ghost defers = { W.defers };
+
+    ghost waiting = { λ s. deferred_of s.late };
+
     ghost calls = { λ s command. calls_of command s.late (view_of (M.view s.media) s.shape s.logs.items s.late s.is_dead) };
 
     ghost shaped = { λ s. s.sound.shaped };
@@ -253,15 +289,7 @@ impl<M: Media, W: WriteBack> EawStore for Eaw<M, W> {
     }
 
     fn log_write(&mut self, tid: u8, addr: u64, bytes: &[u8]) -> Result<u32, EawFault> {
-        let len = bytes.len() as u64;
-        let at = self.find_room(tid, addr, len)?;
-        let log = &self.logs[at];
-        if stage_all(&mut self.media, &self.shape, tid, log, addr, bytes).is_err() {
-            self.is_dead = true;
-            return Err(EawFault::Media);
-        }
-        self.logs[at].add_range(&self.shape, addr, len);
-        Ok(self.logs[at].entries.len() as u32)
+        self.write_log(tid, addr, bytes)
     }
 
     fn commit(&mut self, tid: u8) -> Result<(), EawFault> {
@@ -334,7 +362,7 @@ impl<M: Media, W: WriteBack> EawStore for Eaw<M, W> {
     }
 
     fn atomic_write(&mut self, tid: u8, addr: u64, bytes: &[u8]) -> Result<(), EawFault> {
-        self.log_write(tid, addr, bytes)?;
+        self.write_log(tid, addr, bytes)?;
         self.commit(tid)
     }
 

@@ -12,15 +12,16 @@ use mars_base::NoMemory;
 use pcm_media::Media;
 use std::alloc::Global;
 
-/// Settles the array on the medium, and returns its shape, a free log for each number, and a queue of which no commit may wait.
+/// Settles the array on the medium, and returns its shape, a free log for each number, and a queue of which `depth` commits may wait.
 pub(crate) fn open_array<M: Media>(
     alloc: Global,
     media: &mut M,
+    depth: u8,
 ) -> Result<(Shape, Vec<Log>, LateData), AttachFault>
     ensures settled { IfOk result (λ opened. Settled M.tells (M.view media.old) opened.0 (M.view media.new)) }
     ensures free { IfOk result (λ opened. AreFree opened.0 opened.1.items) }
     ensures room { IfOk result (λ opened. vec_capacity opened.1 ≡ opened.0.numbers) }
-    ensures late { IfOk result (λ opened. IsOpened opened.0 opened.2) }
+    ensures late { IfOk result (λ opened. IsOpened opened.0 depth opened.2) }
     ensures cause { IfErr result (AttachCause M.tells (M.view media.old) (M.view media.new).faults) }
     ensures unwritten { IfErr result (AttachLeaves M.tells (M.view media.old) (M.view media.new)) }
     ensures keeps { KeepsData M.tells (M.view media.old) (M.view media.new).moment (M.view media.new).left_since }
@@ -30,7 +31,7 @@ pub(crate) fn open_array<M: Media>(
     ensures early { IfErr result (λ fault. fault ≡ AttachFault.NoMemory → (M.view media.new).moment ≡ (M.view media.old).moment + 1) }
 {
     let shape = read_header(media)?;
-    let (logs, late) = match free_tables(alloc, &shape) {
+    let (logs, late) = match free_tables(alloc, &shape, depth) {
         Ok(tables) => tables,
         Err(_) => return Err(AttachFault::NoMemory),
     };
@@ -41,13 +42,13 @@ pub(crate) fn open_array<M: Media>(
 }
 
 // A free log for each number, and the queue.
-fn free_tables(alloc: Global, shape: &Shape) -> Result<(Vec<Log>, LateData), NoMemory>
+fn free_tables(alloc: Global, shape: &Shape, depth: u8) -> Result<(Vec<Log>, LateData), NoMemory>
     ensures free { IfOk result (λ tables. AreFree shape.now tables.0.items) }
     ensures room { IfOk result (λ tables. vec_capacity tables.0 ≡ shape.now.numbers) }
-    ensures late { IfOk result (λ tables. IsOpened shape.now tables.1) }
+    ensures late { IfOk result (λ tables. IsOpened shape.now depth tables.1) }
 {
     let logs = free_logs(alloc, shape)?;
-    Ok((logs, LateData::new(alloc, shape, 0)?))
+    Ok((logs, LateData::new(alloc, shape, depth)?))
 }
 
 fn free_logs(alloc: Global, shape: &Shape) -> Result<Vec<Log>, NoMemory>

@@ -1,10 +1,10 @@
 -- Groups of numbers, one number after another.
-use Rattle.std.proofs.Common.{◌≡◌, ℕ, ◌+◌, Bool, true, false, cond, ◌||◌, nat_eq, inl, inr, ⊎_elim, List, [], ◌∷◌, ◌++◌, length, refl, sym, ◌∙◌, ap, subst, arith}
+use Rattle.std.proofs.Common.{◌≡◌, ℕ, Bool, true, false, cond, ◌||◌, nat_eq, inr, ⊎_elim, List, [], ◌∷◌, ◌++◌, length, refl, sym, ◌∙◌, ap, subst, arith}
 use Rattle.std.specs.Prelude.{Option, Some, None, is_some, filter}
 use Rattle.std.proofs.lemmas.Bool.{eqb-true, false≢true}
 use Rattle.std.proofs.lemmas.List.{length-append}
-use Rattle.array_shape.specs.Logged.{Part, applied, ranges_of}
-use Rattle.eaw_face.specs.State.{Logs, listed, is_one_of, with_each, with_log, group_log}
+use Rattle.array_shape.specs.Logged.{Part, applied}
+use Rattle.eaw_face.specs.State.{Logs, listed, is_one_of, with_each, group_log}
 use Rattle.eaw_face.specs.StoreView.{StoreView, IsLive}
 use Rattle.eaw_face.specs.Command.{commit_group}
 use Rattle.eaw_face.specs.Causes.{known}

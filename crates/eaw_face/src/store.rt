@@ -33,6 +33,12 @@ pub trait EawStore {
     /// How many calls of its medium a command costs now if it is done. Otherwise it makes at most this many.
     ghost calls: { Self → Command → ℕ };
 
+    /// Whether a commit may be answered before its data is written to its place.
+    ghost defers: { Bool } = { false };
+
+    /// How many commits were answered and wait for that.
+    ghost waiting: { Self → ℕ } = { λ _. 0 };
+
     fn shape(&self) -> Shape
         ensures { result ≡ (view self.now).shape };
 
@@ -52,6 +58,7 @@ pub trait EawStore {
         ensures due { IsErrOf result EawFault.Media → 0 < log_len (view self.old) tid }
         ensures idle { log_len (view self.old) tid ≡ 0 → (view self.new).moment ≡ (view self.old).moment }
         ensures costs { Costs tells (calls self.old (commit tid)) (view self.old).moment (view self.new).moment result }
+        ensures late { IsTrue defers → 0 < log_len (view self.old) tid → OnOk result (0 < waiting self.new) }
         ensures refused { IfErr result (λ fault. fault ≢ EawFault.Media → self.new ≡ self.old) };
 
     /// CommitGroup: commits several numbers at once. All that they have logged is written into the data, that of the lowest number first,
@@ -62,6 +69,7 @@ pub trait EawStore {
         ensures due { IsErrOf result EawFault.Media → 0 < length (group_log (view self.old).ranges (members tids)) }
         ensures idle { length (group_log (view self.old).ranges (members tids)) ≡ 0 → (view self.new).moment ≡ (view self.old).moment }
         ensures costs { Costs tells (calls self.old (commit_group (members tids))) (view self.old).moment (view self.new).moment result }
+        ensures late { IsTrue defers → 0 < length (group_log (view self.old).ranges (members tids)) → OnOk result (0 < waiting self.new) }
         ensures refused { IfErr result (λ fault. fault ≢ EawFault.Media → self.new ≡ self.old) };
 
     /// Abort: drops all that the number has logged, and frees the number.
@@ -80,6 +88,7 @@ pub trait EawStore {
         ensures due { IsErrOf result EawFault.Media → offset < log_len (view self.old) tid }
         ensures idle { log_len (view self.old) tid ≡ offset → (view self.new).moment ≡ (view self.old).moment }
         ensures costs { Costs tells (calls self.old (nested_top tid offset)) (view self.old).moment (view self.new).moment result }
+        ensures late { IsTrue defers → offset < log_len (view self.old) tid → OnOk result (0 < waiting self.new) }
         ensures refused { IfErr result (λ fault. fault ≢ EawFault.Media → self.new ≡ self.old) };
 
     /// PartialAbort: drops the parts from `offset` of the log on. The number stays live.
@@ -99,6 +108,7 @@ pub trait EawStore {
         requires free { (view self.old).ranges tid ≡ None }
         ensures does { Does tells (opens (view self.old).shape) (atomic_write tid addr bytes.now) (view self.old) (view self.new) result }
         ensures costs { Costs tells (calls self.old (atomic_write tid addr bytes.now)) (view self.old).moment (view self.new).moment result }
+        ensures late { IsTrue defers → OnOk result (0 < waiting self.new) }
         ensures refused { IfErr result (λ fault. fault ≢ EawFault.Media → self.new ≡ self.old) };
 
     /// Reads the part at position `pos` of the log into the front of the buffer. Returns its address and its length in bytes.

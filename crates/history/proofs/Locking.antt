@@ -1,15 +1,15 @@
 -- Strict locking: what a transaction replies and leaves depends only on what it touched, and it changes nothing else.
 use Rattle.std.proofs.Common.{◌≡◌, ℕ, zero, suc, ◌+◌, ◌-◌, Bool, true, false, cond, ◌&&◌, nat_eq, nat_lt, nat_le, List, [], ◌∷◌, ◌++◌, length, take, get_or, Option, Some, None, refl, sym, ap, subst, ◌∙◌, arith, lt-ltb, eq-eqb}
-use Rattle.std.specs.Prelude.{is_some}
 use Rattle.std.proofs.lemmas.Bool.{or_left, or_right, false_from_ne_true, both_ways}
 use Rattle.history.specs.Writes.{Table, set_or_remove, rows_within}
 use Rattle.history.specs.Table.{Granted, Work, begun, found, removed, has_save, Answers, after, worked, IsRightFrom, IsRight, left_by}
-use Rattle.history.specs.Locks.{Exclusive, stripe_of, touches, touched, has_touched, clash, AreApart, Agree, AgreeOff}
+use Rattle.history.specs.declared.locks.Mode.TheVariants.{Shared, Exclusive}
+use Rattle.history.specs.Locks.{key_stripe, touches, touched, has_touched, has_written, clash, AreApart, Agree, AgreeOff}
 use Rattle.history.specs.declared.call.Call.{Call}
 use Rattle.history.specs.declared.call.Call.TheVariants.{Begin, Get, Put, Del, Scan, Save, Back, Commit, Abort}
 use Rattle.history.specs.declared.call.Reply.{Reply}
 use Rattle.history.specs.declared.call.Reply.TheVariants.{Saved, Listed}
-use Rattle.history.proofs.Modes.{is_touch, clash_both}
+use Rattle.history.proofs.Modes.{clash_written}
 use Rattle.history.proofs.Tables.{agree-set, off-set, agree_all}
 
 -- two lists of tables are related pair by pair
@@ -46,128 +46,132 @@ module _ (P : Table → Table → Type 0) where
   pairs-get zero (x ∷ xs) (y ∷ ys) a b pairs pair = pairs.0
   pairs-get (suc n) (x ∷ xs) (y ∷ ys) a b pairs pair = pairs-get n xs ys a b pairs.1 pair
 
--- The two tables agree at the keys, and the second is like the start at every other key.
-record IsLike (keys : ℕ → Bool) (start one other : Table) : Type 0 where
+-- The two tables agree at the keys, and the second is like the start at every key that is not written.
+record IsLike (keys written : ℕ → Bool) (start one other : Table) : Type 0 where
   same : Agree keys one other
-  off : AgreeOff keys other start
+  off : AgreeOff written other start
 
 -- so are the tables of two transactions and their saves, pair by pair
-record IsAlike (keys : ℕ → Bool) (start : Table) (one other : Work) : Type 0 where
-  tables : IsLike keys start one.table other.table
-  saves : Pairwise (IsLike keys start) one.saves other.saves
+record IsAlike (keys written : ℕ → Bool) (start : Table) (one other : Work) : Type 0 where
+  tables : IsLike keys written start one.table other.table
+  saves : Pairwise (IsLike keys written start) one.saves other.saves
 
-module _ (keys : ℕ → Bool) (start : Table) where
-  -- every key that the call touches is among the keys
-  Within : Call → Type 0
-  Within call = (key : ℕ) → is_some (touches call (stripe_of key)) ≡ true → keys key ≡ true
+-- every key that the call touches is among the keys, and every key that it touches for writing among those written
+record Within (keys written : ℕ → Bool) (call : Call) : Type 0 where
+  reads : (key : ℕ) → touches call (key_stripe key) Shared ≡ true → keys key ≡ true
+  writes : (key : ℕ) → touches call (key_stripe key) Exclusive ≡ true → (keys key ≡ true) × (written key ≡ true)
 
-  like-set : (one other : Table) (k : ℕ) (v : Option (List ℕ)) → keys k ≡ true → IsLike keys start one other → IsLike keys start (set_or_remove one k v) (set_or_remove other k v)
-  like-set one other k v within like = record { same = agree-set keys one other k v like.same; off = off-set keys other start k v within like.off }
+-- every key that the calls touch is so
+record AllWithin (keys written : ℕ → Bool) (calls : Granted) : Type 0 where
+  reads : (key : ℕ) → touched calls (key_stripe key) Shared ≡ true → keys key ≡ true
+  writes : (key : ℕ) → touched calls (key_stripe key) Exclusive ≡ true → (keys key ≡ true) × (written key ≡ true)
 
-  alike-back : (n : ℕ) (one other : Work) (b : Bool) → IsAlike keys start one other
-      → IsAlike keys start (cond b (record { table = get_or one.saves (n - 1) one.table; saves = take n one.saves }) one)
+module _ (keys written : ℕ → Bool) (start : Table) where
+  like-set : (one other : Table) (k : ℕ) (v : Option (List ℕ)) → written k ≡ true → IsLike keys written start one other → IsLike keys written start (set_or_remove one k v) (set_or_remove other k v)
+  like-set one other k v within like = record { same = agree-set keys one other k v like.same; off = off-set written other start k v within like.off }
+
+  alike-back : (n : ℕ) (one other : Work) (b : Bool) → IsAlike keys written start one other
+      → IsAlike keys written start (cond b (record { table = get_or one.saves (n - 1) one.table; saves = take n one.saves }) one)
       (cond b (record { table = get_or other.saves (n - 1) other.table; saves = take n other.saves }) other)
   alike-back n one other false alike = alike
   alike-back n one other true alike = record {
-    tables = pairs-get (IsLike keys start) (n - 1) one.saves other.saves one.table other.table alike.saves alike.tables;
-    saves = pairs-take (IsLike keys start) n one.saves other.saves alike.saves;
+    tables = pairs-get (IsLike keys written start) (n - 1) one.saves other.saves one.table other.table alike.saves alike.tables;
+    saves = pairs-take (IsLike keys written start) n one.saves other.saves alike.saves;
   }
 
-  same_height : (one other : Work) → IsAlike keys start one other → length one.saves ≡ length other.saves
-  same_height one other alike = pairs-length (IsLike keys start) one.saves other.saves alike.saves
+  same_height : (one other : Work) → IsAlike keys written start one other → length one.saves ≡ length other.saves
+  same_height one other alike = pairs-length (IsLike keys written start) one.saves other.saves alike.saves
 
-  same_saves : (n : ℕ) (one other : Work) → IsAlike keys start one other → has_save one.saves n ≡ has_save other.saves n
+  same_saves : (n : ℕ) (one other : Work) → IsAlike keys written start one other → has_save one.saves n ≡ has_save other.saves n
   same_saves n one other alike = ap (λ (height : ℕ). nat_lt 0 n && nat_le n height) (same_height one other alike)
 
-  is_there : (b : Bool) → b ≡ true → is_some (cond b (Some Exclusive) None) ≡ true
-  is_there b is = ap (λ (b : Bool). is_some (cond b (Some Exclusive) None)) is
+  own_key : (k : ℕ) → nat_eq (key_stripe k) (key_stripe k) ≡ true
+  own_key k = eq-eqb (key_stripe k) (key_stripe k) refl
 
-  own_key : (k : ℕ) → is_some (touches (Get k) (stripe_of k)) ≡ true
-  own_key k = is_there (nat_eq (stripe_of k) (stripe_of k)) (eq-eqb (stripe_of k) (stripe_of k) refl)
+  any_key : (k : ℕ) → nat_lt (key_stripe k) 64 ≡ true
+  any_key k = lt-ltb (key_stripe k) 64 (omega arith)
 
-  any_key : (low high k : ℕ) → is_some (touches (Scan low high) (stripe_of k)) ≡ true
-  any_key low high k = is_there (nat_lt (stripe_of k) 64) (lt-ltb (stripe_of k) 64 (omega arith))
-
-  after-alike : (call : Call) (one other : Work) → Within call → IsAlike keys start one other → IsAlike keys start (after one call) (after other call)
-  unfolding Within
+  after-alike : (call : Call) (one other : Work) → Within keys written call → IsAlike keys written start one other → IsAlike keys written start (after one call) (after other call)
   after-alike Begin one other within alike = alike
   after-alike (Get k) one other within alike = alike
-  after-alike (Put k v) one other within alike = record { tables = like-set one.table other.table k (Some v) (within k (own_key k)) alike.tables; saves = alike.saves }
-  after-alike (Del k) one other within alike = record { tables = like-set one.table other.table k None (within k (own_key k)) alike.tables; saves = alike.saves }
+  after-alike (Put k v) one other within alike = record { tables = like-set one.table other.table k (Some v) (within.writes k (own_key k)).1 alike.tables; saves = alike.saves }
+  after-alike (Del k) one other within alike = record { tables = like-set one.table other.table k None (within.writes k (own_key k)).1 alike.tables; saves = alike.saves }
   after-alike (Scan low high) one other within alike = alike
-  after-alike Save one other within alike = record { tables = alike.tables; saves = pairs-push (IsLike keys start) one.saves other.saves one.table other.table alike.saves alike.tables }
+  after-alike Save one other within alike = record { tables = alike.tables; saves = pairs-push (IsLike keys written start) one.saves other.saves one.table other.table alike.saves alike.tables }
   after-alike (Back n) one other within alike =
-      subst (λ b. IsAlike keys start (after one (Back n)) (cond b (record { table = get_or other.saves (n - 1) other.table; saves = take n other.saves }) other))
+      subst (λ b. IsAlike keys written start (after one (Back n)) (cond b (record { table = get_or other.saves (n - 1) other.table; saves = take n other.saves }) other))
       (same_saves n one other alike) (alike-back n one other (has_save one.saves n) alike)
   after-alike Commit one other within alike = alike
   after-alike Abort one other within alike = alike
 
-  answers-alike : (call : Call) (reply : Reply) (one other : Work) → Within call → IsAlike keys start one other → Answers one call reply → Answers other call reply
-  unfolding Within
+  answers-alike : (call : Call) (reply : Reply) (one other : Work) → Within keys written call → IsAlike keys written start one other → Answers one call reply → Answers other call reply
   answers-alike Begin reply one other within alike answers = answers
-  answers-alike (Get k) reply one other within alike answers = answers ∙ ap found (alike.tables.same k (within k (own_key k)))
+  answers-alike (Get k) reply one other within alike answers = answers ∙ ap found (alike.tables.same k (within.reads k (own_key k)))
   answers-alike (Put k v) reply one other within alike answers = answers
-  answers-alike (Del k) reply one other within alike answers = answers ∙ ap removed (alike.tables.same k (within k (own_key k)))
+  answers-alike (Del k) reply one other within alike answers = answers ∙ ap removed (alike.tables.same k (within.writes k (own_key k)).0)
   answers-alike (Scan low high) reply one other within alike answers =
-      answers ∙ ap (λ (table : Table). Listed (rows_within low high table)) (agree_all keys one.table other.table (λ k. within k (any_key low high k)) alike.tables.same)
+      answers ∙ ap (λ (table : Table). Listed (rows_within low high table)) (agree_all keys one.table other.table (λ k. within.reads k (any_key k)) alike.tables.same)
   answers-alike Save reply one other within alike answers = answers ∙ ap (λ (height : ℕ). Saved (height + 1)) (same_height one other alike)
   answers-alike (Back n) reply one other within alike answers = (sym (same_saves n one other alike) ∙ answers.0, answers.1)
   answers-alike Commit reply one other within alike answers = answers
   answers-alike Abort reply one other within alike answers = answers
 
-  -- every key that the calls touch is among the keys
-  AllWithin : Granted → Type 0
-  AllWithin calls = (key : ℕ) → has_touched calls key ≡ true → keys key ≡ true
+  head_within : (entry : Call × Reply) (calls : Granted) → AllWithin keys written (entry ∷ calls) → Within keys written entry.0
+  head_within entry calls within = record {
+    reads = λ key at. within.reads key (or_left (touches entry.0 (key_stripe key) Shared) (touched calls (key_stripe key) Shared) at);
+    writes = λ key at. within.writes key (or_left (touches entry.0 (key_stripe key) Exclusive) (touched calls (key_stripe key) Exclusive) at);
+  }
 
-  head_within : (entry : Call × Reply) (calls : Granted) → AllWithin (entry ∷ calls) → Within entry.0
-  unfolding Within AllWithin
-  head_within entry calls within key at = within key
-      (is_touch (touches entry.0 (stripe_of key)) (touched calls (stripe_of key)) ∙ or_left (is_some (touches entry.0 (stripe_of key))) (has_touched calls key) at)
+  tail_within : (entry : Call × Reply) (calls : Granted) → AllWithin keys written (entry ∷ calls) → AllWithin keys written calls
+  tail_within entry calls within = record {
+    reads = λ key at. within.reads key (or_right (touches entry.0 (key_stripe key) Shared) (touched calls (key_stripe key) Shared) at);
+    writes = λ key at. within.writes key (or_right (touches entry.0 (key_stripe key) Exclusive) (touched calls (key_stripe key) Exclusive) at);
+  }
 
-  tail_within : (entry : Call × Reply) (calls : Granted) → AllWithin (entry ∷ calls) → AllWithin calls
-  unfolding AllWithin
-  tail_within entry calls within key at = within key
-      (is_touch (touches entry.0 (stripe_of key)) (touched calls (stripe_of key)) ∙ or_right (is_some (touches entry.0 (stripe_of key))) (has_touched calls key) at)
-
-  worked-alike : (calls : Granted) (one other : Work) → AllWithin calls → IsAlike keys start one other → IsAlike keys start (worked one calls) (worked other calls)
+  worked-alike : (calls : Granted) (one other : Work) → AllWithin keys written calls → IsAlike keys written start one other → IsAlike keys written start (worked one calls) (worked other calls)
   worked-alike [] one other within alike = alike
   worked-alike (entry ∷ calls) one other within alike =
       worked-alike calls (after one entry.0) (after other entry.0) (tail_within entry calls within) (after-alike entry.0 one other (head_within entry calls within) alike)
 
-  right-alike : (calls : Granted) (one other : Work) → AllWithin calls → IsAlike keys start one other → IsRightFrom one calls → IsRightFrom other calls
+  right-alike : (calls : Granted) (one other : Work) → AllWithin keys written calls → IsAlike keys written start one other → IsRightFrom one calls → IsRightFrom other calls
   right-alike [] one other within alike right = tt
   right-alike (entry ∷ calls) one other within alike right = (
     answers-alike entry.0 entry.1 one other (head_within entry calls within) alike right.0,
     right-alike calls (after one entry.0) (after other entry.0) (tail_within entry calls within) (after-alike entry.0 one other (head_within entry calls within) alike) right.1,
   )
 
-begun-alike : (keys : ℕ → Bool) (one other : Table) → Agree keys one other → IsAlike keys other (begun one) (begun other)
-begun-alike keys one other agree = record { tables = record { same = agree; off = λ key out. refl }; saves = tt }
+begun-alike : (keys written : ℕ → Bool) (one other : Table) → Agree keys one other → IsAlike keys written other (begun one) (begun other)
+begun-alike keys written one other agree = record { tables = record { same = agree; off = λ key out. refl }; saves = tt }
+
+all_within : (calls : Granted) → AllWithin (has_touched calls) (has_written calls) calls
+all_within calls = record {
+  reads = λ key at. or_left (touched calls (key_stripe key) Shared) (touched calls (key_stripe key) Exclusive) at;
+  writes = λ key at. (or_right (touched calls (key_stripe key) Shared) (touched calls (key_stripe key) Exclusive) at, at);
+}
 
 module _ (calls : Granted) (one other : Table) (agree : Agree (has_touched calls) one other) where
-  all_within : AllWithin (has_touched calls) other calls
-  unfolding AllWithin
-  all_within key at = at
+  start_alike : IsAlike (has_touched calls) (has_written calls) other (begun one) (begun other)
+  start_alike = begun-alike (has_touched calls) (has_written calls) one other agree
 
   -- Strict locking: calls that are right on a table are right, with the same replies, on a table that agrees with it at what they touched.
   pub locked_right : IsRight one calls → IsRight other calls
-  locked_right right = right-alike (has_touched calls) other calls (begun one) (begun other) all_within (begun-alike (has_touched calls) one other agree) right
+  locked_right right = right-alike (has_touched calls) (has_written calls) other calls (begun one) (begun other) (all_within calls) start_alike right
 
   -- Then what they leave of the two tables agrees at what they touched.
   pub locked_same : Agree (has_touched calls) (left_by one calls) (left_by other calls)
-  locked_same = (worked-alike (has_touched calls) other calls (begun one) (begun other) all_within (begun-alike (has_touched calls) one other agree)).tables.same
+  locked_same = (worked-alike (has_touched calls) (has_written calls) other calls (begun one) (begun other) (all_within calls) start_alike).tables.same
 
--- A transaction changes nothing that it did not touch.
-pub untouched_kept : (calls : Granted) (table : Table) → AgreeOff (has_touched calls) (left_by table calls) table
-untouched_kept calls table =
-    (worked-alike (has_touched calls) table calls (begun table) (begun table) (all_within calls table table (λ key at. refl))
-    (begun-alike (has_touched calls) table table (λ key at. refl))).tables.off
+-- A transaction changes nothing that it did not touch for writing.
+pub unwritten_kept : (calls : Granted) (table : Table) → AgreeOff (has_written calls) (left_by table calls) table
+unwritten_kept calls table =
+    (worked-alike (has_touched calls) (has_written calls) table calls (begun table) (begun table) (all_within calls)
+    (begun-alike (has_touched calls) (has_written calls) table table (λ key at. refl))).tables.off
 
 module _ (table : Table) (committed calls : Granted) (apart : AreApart committed calls) where
   -- a transaction changes nothing that another touched, if they clash nowhere
   pub agrees_after : Agree (has_touched calls) table (left_by table committed)
-  agrees_after key at = sym (untouched_kept committed table key (false_from_ne_true (has_touched committed key) (λ touches.
-      both_ways (clash (touched committed (stripe_of key)) (touched calls (stripe_of key))) (apart (stripe_of key)) (clash_both (touched committed (stripe_of key)) (touched calls (stripe_of key)) touches at))))
+  agrees_after key at = sym (unwritten_kept committed table key (false_from_ne_true (has_written committed key) (λ writes.
+      both_ways (clash (touched committed (key_stripe key)) (touched calls (key_stripe key))) (apart (key_stripe key)) (clash_written (touched committed (key_stripe key)) (touched calls (key_stripe key)) writes at))))
 
   -- So calls that are right stay right when such a transaction commits,
   pub right_after : IsRight table calls → IsRight (left_by table committed) calls

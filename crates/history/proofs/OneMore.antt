@@ -1,15 +1,20 @@
 -- One more call of a transaction, and one more transaction of a history.
-use Rattle.std.proofs.Common.{◌≡◌, ℕ, ◌+◌, List, [], ◌∷◌, ◌++◌, length, refl, ap, ◌∙◌, arith}
+use Rattle.std.proofs.Common.{◌≡◌, ℕ, Bool, true, false, ◌||◌, ◌+◌, List, [], ◌∷◌, ◌++◌, length, refl, ap, ◌∙◌, arith}
 use Rattle.std.specs.List.{fold}
 use Rattle.history.specs.Writes.{Table}
 use Rattle.history.specs.Table.{Granted, Work, begun, Answers, after, worked, left_by, IsRightFrom, IsRight}
 use Rattle.history.specs.Legal.{records, IsLegalFrom, IsLegal}
-use Rattle.history.specs.Locks.{touches, touched, stronger}
+use Rattle.history.specs.declared.locks.Mode.{Mode}
+use Rattle.history.specs.Locks.{touches, touched}
 use Rattle.history.specs.Log.{Log, log_after, log_of}
 use Rattle.history.specs.declared.call.Call.{Call}
 use Rattle.history.specs.declared.call.Reply.{Reply}
 use Rattle.history.specs.declared.transaction.Done.{Done}
-use Rattle.history.proofs.Modes.{stronger_none, stronger_next}
+use Rattle.std.proofs.lemmas.List.Folds.{list_any-append}
+
+or_none : (b : Bool) → (b || false) ≡ b
+or_none true = refl
+or_none false = refl
 
 fold-push : {A X : Type 0} (f : A → X → A) → (a : A) (xs : List X) (x : X) → fold f a (xs ++ x ∷ []) ≡ f (fold f a xs) x
 fold-push f a [] x = refl
@@ -31,12 +36,16 @@ left_by-push table calls call reply = ap (λ (work : Work). work.table) (worked-
 pub log_of-push : (calls : Granted) (call : Call) (reply : Reply) → log_of (calls ++ (call, reply) ∷ []) ≡ log_after (log_of calls) call reply
 log_of-push calls call reply = fold-push (λ (was : Log) (entry : Call × Reply). log_after was entry.0 entry.1) (record { writes = []; saved = [] }) calls (call, reply)
 
+touched_more : (calls : Granted) (call : Call) (reply : Reply) (stripe : ℕ) (mode : Mode)
+    → touched (calls ++ (call, reply) ∷ []) stripe mode ≡ (touched calls stripe mode || touches call stripe mode)
+touched_more calls call reply stripe mode =
+    list_any-append (λ (entry : Call × Reply). touches entry.0 stripe mode) calls ((call, reply) ∷ [])
+    ∙ ap (λ (b : Bool). touched calls stripe mode || b) (or_none (touches call stripe mode))
+
 -- the last call adds what it touches
 pub touched-push : (calls : Granted) (call : Call) (reply : Reply) (stripe : ℕ)
-    → touched (calls ++ (call, reply) ∷ []) stripe ≡ stronger (touched calls stripe) (touches call stripe)
-touched-push [] call reply stripe = stronger_none (touches call stripe)
-touched-push (entry ∷ calls) call reply stripe =
-    ap (stronger (touches entry.0 stripe)) (touched-push calls call reply stripe) ∙ stronger_next (touches entry.0 stripe) (touched calls stripe) (touches call stripe)
+    → touched (calls ++ (call, reply) ∷ []) stripe ≡ (λ mode. touched calls stripe mode || touches call stripe mode)
+touched-push calls call reply stripe i mode = touched_more calls call reply stripe mode i
 
 -- calls stay right with one more, whose reply is right for what they leave
 pub IsRightFrom-push : (work : Work) (calls : Granted) (call : Call) (reply : Reply)

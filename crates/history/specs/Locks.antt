@@ -1,50 +1,56 @@
 -- The locks: which stripes of keys calls touch, in which mode, and which touches clash.
-use Rattle.std.specs.Prelude.{ℕ, ◌≡◌, ◌%◌, Bool, true, false, nat_eq, nat_lt, if◌then◌else◌, IsTrue, IsFalse, [], ◌∷◌, Option, Some, None, is_some}
+use Rattle.std.specs.Prelude.{ℕ, ◌≡◌, ◌+◌, ◌*◌, ◌%◌, Bool, true, false, ◌&&◌, ◌||◌, nat_eq, nat_lt, IsTrue, IsFalse}
+use Rattle.std.specs.List.{list_any}
 use Rattle.std.specs.FinMap.{get}
 use Rattle.history.specs.Key.{Key}
 use Rattle.history.specs.Writes.{Table}
 use Rattle.history.specs.Table.{Granted}
 use Rattle.history.specs.declared.call.Call.{Call}
 use Rattle.history.specs.declared.call.Call.TheVariants.{Get, Put, Del, Scan}
+use Rattle.history.specs.declared.call.Reply.{Reply}
+use Rattle.history.specs.declared.locks.Mode.{Mode}
+use Rattle.history.specs.declared.locks.Mode.TheVariants.{Shared, Exclusive}
 
--- the stripe of a key, one of 64
-abbrev pub stripe_of : Key → ℕ
-stripe_of key = key % 64
+-- the stripe of a key of a table, one of 64
+abbrev pub stripe_of : ℕ → Key → ℕ
+stripe_of table key = (key % 64 + 8 * table) % 64
 
--- how a stripe is touched: by one caller alone
-pub data Mode : Type 0 where
-  Exclusive : Mode
+-- all keys are of table 0
+abbrev pub key_stripe : Key → ℕ
+key_stripe key = stripe_of 0 key
 
--- this touch, if so
-abbrev touch_if : Bool → Mode → Option Mode
-touch_if b mode = if b then Some mode else None
+-- in which modes a stripe is touched
+abbrev pub Touch : Type 0
+Touch = Mode → Bool
 
--- how a call touches a stripe, if it does: a call on a key touches the key's stripe, a scan all stripes, and other calls none
-abbrev pub touches : Call → ℕ → Option Mode
-touches (Get key) stripe = touch_if (nat_eq (stripe_of key) stripe) Exclusive
-touches (Put key value) stripe = touch_if (nat_eq (stripe_of key) stripe) Exclusive
-touches (Del key) stripe = touch_if (nat_eq (stripe_of key) stripe) Exclusive
-touches (Scan low high) stripe = touch_if (nat_lt stripe 64) Exclusive
-touches _ stripe = None
+-- How a call touches a stripe: a get the stripe of its key and a scan all stripes for reading, a put and a removal the stripe of their key
+-- for writing. Other calls touch none.
+abbrev pub touches : Call → ℕ → Touch
+touches (Get key) stripe Shared = nat_eq (key_stripe key) stripe
+touches (Scan low high) stripe Shared = nat_lt stripe 64
+touches (Put key value) stripe Exclusive = nat_eq (key_stripe key) stripe
+touches (Del key) stripe Exclusive = nat_eq (key_stripe key) stripe
+touches call stripe mode = false
 
--- the stronger of two touches
-abbrev pub stronger : Option Mode → Option Mode → Option Mode
-stronger None other = other
-stronger (Some Exclusive) other = Some Exclusive
+-- how granted calls touched it, also those that a way back undid
+abbrev pub touched : Granted → ℕ → Touch
+touched calls stripe mode = list_any (λ (entry : Call × Reply). touches entry.0 stripe mode) calls
 
--- the strongest touch of granted calls, even if a way back undid it
-abbrev pub touched : Granted → ℕ → Option Mode
-touched [] stripe = None
-touched (entry ∷ calls) stripe = stronger (touches entry.0 stripe) (touched calls stripe)
+-- for reading or for writing
+abbrev pub is_touch : Touch → Bool
+is_touch touch = touch Shared || touch Exclusive
 
 -- the stripe of the key was touched
 abbrev pub has_touched : Granted → Key → Bool
-has_touched calls key = is_some (touched calls (stripe_of key))
+has_touched calls key = is_touch (touched calls (key_stripe key))
 
--- two callers cannot touch a stripe so at a time
-abbrev pub clash : Option Mode → Option Mode → Bool
-clash (Some Exclusive) (Some Exclusive) = true
-clash _ _ = false
+-- it was touched for writing
+abbrev pub has_written : Granted → Key → Bool
+has_written calls key = touched calls (key_stripe key) Exclusive
+
+-- two callers touch a stripe, and one of them for writing
+abbrev pub clash : Touch → Touch → Bool
+clash one other = (one Exclusive && is_touch other) || (is_touch one && other Exclusive)
 
 -- a call clashes with the granted calls of another caller at some stripe
 abbrev pub Meets : Call → Granted → Type 0

@@ -37,7 +37,8 @@ pub enum Reply {
     NoSave { save: u32 },
     /// The transaction has 32 saves already.
     SavesFull,
-    /// Another caller's transaction has touched a stripe of the call. `holder` is the lowest such caller.
+    /// Another caller's transaction has touched a stripe of the call, and one of the two touches is for writing. `holder` is the lowest
+    /// such caller.
     Busy { holder: u8 },
     /// The logger holds `held` parts of the transaction and has no room for the `needed` ones of the call.
     LogFull { logger: u8, held: u16, needed: u16 },

@@ -4,15 +4,15 @@ ghost use Rattle.std.specs.FinMap.{get};
 ghost use Rattle.history.specs.Key.{Key};
 ghost use Rattle.history.specs.Writes.{Table, set_or_remove, all_written};
 ghost use Rattle.history.specs.Table.{Granted, IsRight, left_by};
-ghost use Rattle.history.specs.Locks.{has_touched, AreApart, Agree, AgreeOff};
+ghost use Rattle.history.specs.Locks.{has_touched, has_written, AreApart, Agree, AgreeOff};
 ghost use Rattle.history.specs.Log.{log_of};
 
 /// Calls that are right on a table are right, with the same replies, on each table that agrees with it at the keys that they touched. What
-/// they leave of the two tables agrees there too, and nothing else is changed.
+/// they leave of the two tables agrees there too, and nothing is changed but what they touched for writing.
 pub fn strict_locking()
     ensures right { (calls : Granted) (one other : Table) → Agree (has_touched calls) one other → IsRight one calls → IsRight other calls }
     ensures same { (calls : Granted) (one other : Table) → Agree (has_touched calls) one other → Agree (has_touched calls) (left_by one calls) (left_by other calls) }
-    ensures elsewhere { (calls : Granted) (table : Table) → AgreeOff (has_touched calls) (left_by table calls) table }
+    ensures unwritten { (calls : Granted) (table : Table) → AgreeOff (has_written calls) (left_by table calls) table }
 {}
 
 /// When a transaction commits, the calls of another transaction that clash with it at no stripe stay right and leave the same at what they

@@ -1,9 +1,9 @@
 -- Data along an insertion: what its steps make of it together.
-use Rattle.std.proofs.Common.{◌≡◌, ◌≢◌, ℕ, suc, ◌+◌, ◌≤◌, inl, inr, List, Some, sym, ◌∙◌, ap, subst, arith}
+use Rattle.std.proofs.Common.{◌≡◌, ℕ, suc, ◌+◌, ◌≤◌, inl, inr, List, Some, sym, ◌∙◌, ap, subst, arith}
 use Rattle.std.proofs.lemmas.Bool.Decides.{leb_tells}
 use Rattle.record_slots.specs.Places.{next_slot, next_page, slot_of, slot_due, tables_of}
 use Rattle.record_slots.specs.declared.super_page.TableEntry.{TableEntry}
-use Rattle.page_store.specs.Index.{Action, Index, IsTable, IsUntouched, Grows, Rests, Gains}
+use Rattle.page_store.specs.Index.{Action, Index, IsTable, Grows, Rests, Gains}
 use Rattle.page_store.specs.Pairs.{Pair, inserted}
 use Rattle.index_pages.specs.Within.{within}
 use Rattle.index_pages.proofs.Lifting.{Joins}

@@ -20,8 +20,11 @@ pub mod Slotted
 pub mod Parting
 pub mod Puts
 pub mod Stacks
+pub mod Removing
+pub mod Freeing
 pub mod Tabled
 pub mod Taken
+pub mod Released
 pub mod Added
 pub mod Members
 pub mod Left
@@ -34,3 +37,5 @@ pub mod Joining
 pub mod Tables
 pub mod Tests
 pub mod Extending
+pub mod Removals
+pub mod Even

@@ -1,6 +1,6 @@
 -- The test of a list of what is free, one member after another.
-use Rattle.std.proofs.Common.{◌≡◌, ◌≢◌, ℕ, zero, suc, ◌-◌, ◌<◌, ◌≤◌, inl, inr, List, Option, Some, None, refl, sym, ◌∙◌, ap, subst, arith}
-use Rattle.mars_base.specs.Check.{Check, test, both}
+use Rattle.std.proofs.Common.{◌≡◌, ◌≢◌, ℕ, zero, suc, ◌-◌, inl, inr, Option, Some, None, refl, sym, subst, arith}
+use Rattle.mars_base.specs.Check.{test, both}
 use Rattle.mars_base.proofs.Checks.{both_on}
 use Rattle.record_slots.specs.Free.{next_of}
 use Rattle.record_slots.specs.declared.free.Free.{Free}

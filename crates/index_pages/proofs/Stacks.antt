@@ -1,5 +1,6 @@
 -- Lists of what is free, which are used as stacks.
-use Rattle.std.proofs.Common.{◌≡◌, ◌≢◌, ℕ, zero, suc, ◌+◌, ◌-◌, ◌<◌, ◌≤◌, Bool, true, false, nat_eq, inl, inr, List, [], ◌∷◌, length, Option, Some, None, refl, sym, ◌∙◌, ap, subst, arith}
+use Rattle.std.proofs.Common.{◌≡◌, ◌≢◌, ℕ, zero, suc, ◌+◌, ◌-◌, ◌<◌, ◌≤◌, true, false, nat_eq, inl, inr, List, [], ◌∷◌, length, Option, Some, None, refl, sym, ◌∙◌, ap, subst, arith}
+use Rattle.std.specs.Prelude.{if◌then◌else◌}
 use Rattle.std.specs.List.{AllByRecursion, IsDistinct, list_any}
 use Rattle.std.proofs.lemmas.Bool.{cases_Bool}
 use Rattle.std.proofs.lemmas.Bool.Decides.{nat_tests}
@@ -119,6 +120,39 @@ module _ (said : ℕ → Option Free) (low end : ℕ) where
   list_few n named le l =
       let few = length-le_from_distinct_below (members said low n named) (end - low) (distinct n named l) (λ q has. inside n named q l has) in
       omega (arith, few, many n named, le)
+
+-- A list is a stack. One more member: it is named first now, names the one that was first, and ranks above them all.
+pub list_pushed : (said said' : ℕ → Option Free) (low end n named m : ℕ) → IsList said low end n named → low ≤ m → m < end → said' m ≡ Some (record { next = named; rank = suc n })
+    → ((x : ℕ) → low ≤ x → x < end → said x ≢ None → said' x ≡ said x) → IsList said' low end (suc n) (suc m)
+list_pushed said said' low end n named m l from to is same =
+    let kept = list_kept said low end said' end n named (omega arith) l (λ i lt.
+    let r = member_is said low end n i named l lt in
+    same (member_at said named i - 1) (omega (arith, r.0.0)) (omega (arith, r.0.0, r.0.1)) (rank_some (said (member_at said named i - 1)) (n - i) r.1)) in
+    let at : suc m - 1 ≡ m = omega arith in
+    let here : said' (suc m - 1) ≡ Some (record { next = named; rank = suc n }) = ap said' at ∙ is in (
+      (omega (arith, from), omega (arith, to)),
+      subst (λ (o : Option Free). HasRank (suc n) o) (sym here) refl,
+      subst (λ (o : Option Free). IsList said' low end n (next_of o)) (sym here) kept,
+    )
+
+-- one less: the first may say anything then
+pub list_popped : (said said' : ℕ → Option Free) (low end n named : ℕ) → IsList said low end (suc n) named → ((x : ℕ) → x ≢ named - 1 → said x ≢ None → said' x ≡ said x)
+    → IsList said' low end n (next_of (said (named - 1)))
+list_popped said said' low end n named l same =
+    list_kept said low end said' end n (next_of (said (named - 1))) (omega arith) l.2 (λ i lt.
+    let r = member_is said low end (suc n) (suc i) named l (omega (arith, lt)) in
+    same (member_at said named (suc i) - 1) (members_differ said low end (suc n) (suc i) 0 named l (omega (arith, lt)) (omega arith) (λ e. omega (arith, e))) (rank_some (said (member_at said named (suc i) - 1)) (suc n - suc i) r.1))
+
+-- if one of the range is not free, fewer are free than there are numbers
+pub list_room : (said : ℕ → Option Free) (low end n named m : ℕ) → IsList said low end n named → low ≤ m → m < end → said m ≡ None → n + low < end
+list_room said low end n named m l from to none =
+    let with_one : ℕ → Option Free = λ x. if nat_eq x m then Some (record { next = named; rank = suc n }) else said x in
+    let here : with_one m ≡ Some (record { next = named; rank = suc n }) = (let b : nat_eq m m ≡ true = grind (arith, nat_tests) in rw b refl) in
+    let same : (x : ℕ) → said x ≢ None → with_one x ≡ said x = λ x some.
+    let other : x ≢ m = λ e. some (ap said e ∙ none) in
+    (let b : nat_eq x m ≡ false = grind (arith, nat_tests, other) in rw b refl) in
+    let few = list_few with_one low end (suc n) (suc m) (omega (arith, from, to)) (list_pushed said with_one low end n named m l from to here (λ x low' high some. same x some)) in
+    omega (arith, few)
 
 -- a list has at most one verdict
 pub list_single : (said : ℕ → Option Free) (page_of : ℕ → ℕ) (low end n named page : ℕ) → IsSingle (list_check said page_of low end n named page)

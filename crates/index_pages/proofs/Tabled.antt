@@ -5,7 +5,7 @@ use Rattle.std.specs.Option.{option_map}
 use Rattle.std.proofs.lemmas.Bool.{cases_eq, cases_lt, eq-eqb, ne_eqb}
 use Rattle.mars_base.specs.Check.{Check, test, both, IsSingle}
 use Rattle.mars_base.proofs.Checks.{pass_single, test_single, both_single}
-use Rattle.record_slots.specs.Super.{AreTables, IsMain, main_table, tables_in, tables_used, version_said, entries_said, tables_said, next_slot_said, next_page_said, free_slots_in, free_pages_in, free_slot_in, free_page_in}
+use Rattle.record_slots.specs.Super.{AreTables, IsMain, main_table, tables_in, tables_used, entries_said, tables_said, next_slot_said, next_page_said, free_slots_in, free_pages_in, free_slot_in, free_page_in}
 use Rattle.record_slots.specs.Places.{page_bytes, next_page, next_slot, tables_of, version_of, free_slots, free_pages, free_slot, free_page, free_slot_of, free_page_of, slot_page, slot_due, IsSuper}
 use Rattle.record_slots.specs.declared.super_page.TableEntry.{TableEntry}
 use Rattle.page_store.specs.Index.{IsTable, HasCounts, KeepsIndex}

@@ -1,6 +1,6 @@
 -- Pages and slots that are taken: which they are, and what the data says once their super page is written.
-use Rattle.std.proofs.Common.{◌≡◌, ◌≢◌, ℕ, zero, suc, ◌+◌, ◌-◌, ◌*◌, ◌^◌, ◌<◌, ◌≤◌, ◌⊎◌, true, false, inl, inr, List, length, Option, Some, None, refl, sym, ◌∙◌, ap, subst, arith}
-use Rattle.std.specs.Prelude.{nat_eq, nat_lt, nat_le, if◌then◌else◌}
+use Rattle.std.proofs.Common.{◌≡◌, ◌≢◌, ℕ, zero, suc, ◌+◌, ◌-◌, ◌^◌, ◌<◌, ◌≤◌, ◌⊎◌, true, false, inl, inr, List, length, Option, Some, None, refl, sym, ◌∙◌, ap, subst, arith}
+use Rattle.std.specs.Prelude.{nat_eq, nat_lt, if◌then◌else◌}
 use Rattle.std.proofs.lemmas.Bool.{cases_eq, cases_lt}
 use Rattle.std.proofs.lemmas.Bool.Decides.{nat_tests}
 use Rattle.record_slots.specs.Free.{next_of, member_at, free_slot_said, free_page_said}
@@ -12,7 +12,7 @@ use Rattle.page_store.specs.Index.{IsFreePage}
 use Rattle.page_store.specs.Pairs.{Pair}
 use Rattle.index_pages.proofs.Carrying.{free_carries}
 use Rattle.index_pages.specs.Adding.{with_slot_taken, with_page_taken, page_for, first_page, slot_for, first_slot}
-use Rattle.index_pages.specs.Slots.{Names, HasRank}
+use Rattle.index_pages.specs.Slots.{HasRank}
 use Rattle.index_pages.proofs.Stacks.{IsList, list_after, list_kept, members_kept, members_differ, member_is, member_after, member_last, rank_some, list_few}
 use Rattle.index_pages.proofs.Fronts.{IsWritable}
 
@@ -300,6 +300,35 @@ module _ (old new : List ℕ) (n : ℕ) (a : IsAfter old new n) where
         inl (i - n, omega (arith, a.pages_free, lt, left), a.due (i - n) ∙ ap (λ (k : ℕ). page_due old k) e ∙ is)
   ]
 
+-- Data whose super page says the same of pages, and in which free pages are as they were.
+module _ (old new : List ℕ) (pages : FreePages old) (page_same : next_page new ≡ next_page old) (page_first_same : free_page new ≡ free_page old) (pages_same : free_pages new ≡ free_pages old)
+    (kept : (page : ℕ) → free_page_of old page ≢ None → 2 ≤ page → page < next_page old → page_bytes new page ≡ page_bytes old page) where
+  page_says : (i : ℕ) → i < free_pages old → free_page_of new (member_at (free_page_of old) (free_page old) i - 1) ≡ free_page_of old (member_at (free_page_of old) (free_page old) i - 1)
+  page_says i lt =
+      let m = member_is (free_page_of old) 2 (next_page old) (free_pages old) i (free_page old) pages lt in
+      ap free_page_said (kept (member_at (free_page_of old) (free_page old) i - 1) (rank_some (free_page_of old (member_at (free_page_of old) (free_page old) i - 1)) (free_pages old - i) m.1)
+      (omega (arith, m.0.0)) (omega (arith, m.0.0, m.0.1)))
+
+  pub free_pages_stay : FreePages new
+  free_pages_stay =
+      let l = list_kept (free_page_of old) 2 (next_page old) (free_page_of new) (next_page new) (free_pages old) (free_page old) (omega (arith, page_same)) pages page_says in
+      subst (λ (k : ℕ). IsList (free_page_of new) 2 (next_page new) (free_pages new) k) (sym page_first_same)
+      (subst (λ (k : ℕ). IsList (free_page_of new) 2 (next_page new) k (free_page old)) (sym pages_same) l)
+
+  pub pages_due_same : (i : ℕ) → page_due new i ≡ page_due old i
+  pages_due_same i = elim (cases_lt i (free_pages old)) [
+    | inl less ↦
+        let a : nat_lt i (free_pages new) ≡ true = grind (arith, nat_tests, pages_same, less) in
+        let b : nat_lt i (free_pages old) ≡ true = grind (arith, nat_tests, less) in
+        rw (a, b) (ap (λ (m : ℕ). m - 1) (ap (λ (m : ℕ). member_at (free_page_of new) m i) page_first_same
+        ∙ members_kept (free_page_of old) 2 (next_page old) (free_page_of new) (free_pages old) i (free_page old) (omega (arith, less)) page_says))
+    | inr more ↦
+        let a : nat_lt i (free_pages new) ≡ false = grind (arith, nat_tests, pages_same, more) in
+        let b : nat_lt i (free_pages old) ≡ false = grind (arith, nat_tests, more) in
+        let e : next_page new + (i - free_pages new) ≡ next_page old + (i - free_pages old) = omega (arith, page_same, pages_same) in
+        rw (a, b) e
+  ]
+
 -- Data whose super page was written after the slot that is due was taken. All other free slots, and the free pages, are as they were.
 pub record IsSlotAfter (old new : List ℕ) : Type 0 where
   pub in_use : used_slots new ≡ suc (used_slots old)
@@ -330,31 +359,11 @@ module _ (old new : List ℕ) (front after : Super) (slots : FreeSlots old) (pag
   pages_same : free_pages new ≡ free_pages old
   pages_same = sym says.free_pages ∙ ap (λ (f : Super). f.free_pages) is ∙ (same_pages (first_slot old front)).2 ∙ was.free_pages
 
-  page_says : (i : ℕ) → i < free_pages old → free_page_of new (member_at (free_page_of old) (free_page old) i - 1) ≡ free_page_of old (member_at (free_page_of old) (free_page old) i - 1)
-  page_says i lt =
-      let m = member_is (free_page_of old) 2 (next_page old) (free_pages old) i (free_page old) pages lt in
-      ap free_page_said (kept (member_at (free_page_of old) (free_page old) i - 1) (rank_some (free_page_of old (member_at (free_page_of old) (free_page old) i - 1)) (free_pages old - i) m.1)
-      (omega (arith, m.0.0)) (omega (arith, m.0.0, m.0.1)))
-
   pages_stay : FreePages new
-  pages_stay =
-      let l = list_kept (free_page_of old) 2 (next_page old) (free_page_of new) (next_page new) (free_pages old) (free_page old) (omega (arith, page_same)) pages page_says in
-      subst (λ (k : ℕ). IsList (free_page_of new) 2 (next_page new) (free_pages new) k) (sym page_first_same)
-      (subst (λ (k : ℕ). IsList (free_page_of new) 2 (next_page new) k (free_page old)) (sym pages_same) l)
+  pages_stay = free_pages_stay old new pages page_same page_first_same pages_same kept
 
   due_same : (i : ℕ) → page_due new i ≡ page_due old i
-  due_same i = elim (cases_lt i (free_pages old)) [
-    | inl less ↦
-        let a : nat_lt i (free_pages new) ≡ true = grind (arith, nat_tests, pages_same, less) in
-        let b : nat_lt i (free_pages old) ≡ true = grind (arith, nat_tests, less) in
-        rw (a, b) (ap (λ (m : ℕ). m - 1) (ap (λ (m : ℕ). member_at (free_page_of new) m i) page_first_same
-        ∙ members_kept (free_page_of old) 2 (next_page old) (free_page_of new) (free_pages old) i (free_page old) (omega (arith, less)) page_says))
-    | inr more ↦
-        let a : nat_lt i (free_pages new) ≡ false = grind (arith, nat_tests, pages_same, more) in
-        let b : nat_lt i (free_pages old) ≡ false = grind (arith, nat_tests, more) in
-        let e : next_page new + (i - free_pages new) ≡ next_page old + (i - free_pages old) = omega (arith, page_same, pages_same) in
-        rw (a, b) e
-  ]
+  due_same i = pages_due_same old new pages page_same page_first_same pages_same kept i
 
   slot_after : (o : Option Free) → first_slot old front ≡ o → IsSlotAfter old new
   slot_after o e = elim (cases_eq (free_slots old) 0) [ inl none ↦ with_next none | inr some ↦ with_free some ]

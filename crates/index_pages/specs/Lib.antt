@@ -9,5 +9,6 @@ pub mod Acts
 pub mod Faults
 pub mod Parts
 pub mod Adding
+pub mod Giving
 pub mod Slots
 pub mod Within

@@ -1,5 +1,5 @@
 -- Levels, changes that are local to a key, and data that keeps what an index rests on.
-use Rattle.std.specs.Prelude.{ℕ, zero, suc, ◌≡◌, ◌<◌, ◌≤◌, List, ◌++◌}
+use Rattle.std.specs.Prelude.{ℕ, zero, suc, ◌≡◌, ◌≢◌, ◌<◌, ◌≤◌, List, ◌++◌, length}
 use Rattle.page_store.specs.Pairs.{Pair, Rise}
 use Rattle.record_slots.specs.Places.{next_slot, next_page, Carries}
 
@@ -13,6 +13,13 @@ pub record Keeps (old new : List ℕ) : Type 0 where
   pub pages : next_page old ≤ next_page new
   pub slots : next_slot old ≤ next_slot new
   pub carried : (table : ℕ) (p : Pair) → p.1 < next_slot old → Carries old table p → Carries new table p
+
+-- no given page or slot is taken back, and each given slot that carries a key still carries it, but for one slot
+pub record KeepsBut (slot : ℕ) (old new : List ℕ) : Type 0 where
+  pub size : length new ≡ length old
+  pub pages : next_page old ≤ next_page new
+  pub slots : next_slot old ≤ next_slot new
+  pub carried : (table : ℕ) (p : Pair) → p.1 ≢ slot → p.1 < next_slot old → Carries old table p → Carries new table p
 
 -- A change is local to a key: of a list of two halves it changes the half in whose range the key lies. So what is done to the pairs
 -- below a page on the key's way is done to all pairs.

@@ -1,5 +1,5 @@
 // The action that adds a pair, and the parts that other actions share with it.
-ghost use Rattle.std.specs.Prelude.{◌≡◌, ◌<◌, None, IsErrOf, length};
+ghost use Rattle.std.specs.Prelude.{◌≡◌, ◌+◌, ◌*◌, ◌/◌, ◌%◌, ◌<◌, None, IsErrOf, length};
 ghost use Rattle.eaw_face.specs.Causes.{IsAlive};
 ghost use Rattle.page_store.specs.Index.{slots_of, index_pages_of};
 ghost use Rattle.page_store.specs.Pairs.{inserted};
@@ -53,12 +53,11 @@ pub fn add_pair<S: EawStore>(
     write_page(0, link, pairs.as_slice(), &mut bytes);
     let mut part = [0; PART_LEN];
     write_super_part(&taken.front, &mut part);
-    let slot_part = PagePart {
-        page: index_page_count(pages) + taken.number / SLOTS_IN_PAGE,
-        at: taken.number % SLOTS_IN_PAGE * SLOT_LEN as u32,
-        bytes: &slot,
-    };
-    let parts = [slot_part, whole_page(page, &bytes), front_part(&part)];
+    let parts = [
+        slot_part(pages, taken.number, &slot),
+        whole_page(page, &bytes),
+        front_part(&part),
+    ];
     act_all(pages, tid, &parts)
 }
 
@@ -71,6 +70,24 @@ pub fn with_pair(pairs: Pairs, key: u64, to: u32) -> Pairs
     let place = place_of(pairs.as_slice(), key);
     pairs.insert(place, (key, u64::from(to)));
     pairs
+}
+
+/// A slot as a part.
+pub fn slot_part<'a, S: EawStore>(
+    pages: &Pages<S>,
+    slot: u32,
+    bytes: &'a [u8; SLOT_LEN],
+) -> PagePart<'a>
+    requires { slot < slots_of (S.view pages.now.store).shape }
+    ensures page { result.page ≡ index_pages_of (S.view pages.now.store).shape + slot / 8 }
+    ensures at { result.at ≡ slot % 8 * 64 }
+    ensures bytes { result.bytes.now ≡ bytes.now }
+{
+    PagePart {
+        page: index_page_count(pages) + slot / SLOTS_IN_PAGE,
+        at: slot % SLOTS_IN_PAGE * SLOT_LEN as u32,
+        bytes,
+    }
 }
 
 /// A whole page as a part.

@@ -9,13 +9,14 @@ mod checking;
 mod cut;
 mod fault;
 mod fetch;
+mod giving;
 mod laws;
 mod page;
 mod place;
 mod taking;
 
 pub use action::{PagePart, act_all};
-pub use adding::{LeafPage, add_pair, front_part, whole_page, with_pair};
+pub use adding::{LeafPage, add_pair, front_part, slot_part, whole_page, with_pair};
 pub use checking::{check_lists, check_slot};
 pub use cut::{copy_of, middle_of};
 pub use fault::{check_fault, index_fault};
@@ -23,10 +24,11 @@ pub use fetch::{
     SLOTS_IN_PAGE, check_super, fetch_free_page, fetch_free_slot, fetch_page, fetch_slot,
     fetch_super, index_page_count,
 };
-pub use laws::{insertion_adds, pieces_answer};
+pub use giving::{Release, give_page, give_slot, remove_pair, without_pair};
+pub use laws::{free_lists_are_stacks, insertion_adds, pieces_answer};
 pub use page::{
     HALF, Head, LEVEL_MAX, PAGE_LEN, PAIRS_MAX, Pairs, next_pair, read_head, read_pair, read_pairs,
     write_page,
 };
-pub use place::place_of;
+pub use place::{place_found, place_of};
 pub use taking::{Claim, take_page, take_slot};

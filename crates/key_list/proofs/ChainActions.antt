@@ -24,7 +24,7 @@ use Rattle.index_pages.specs.Ways.{Keeps, IsLocal, IsOwn, above}
 use Rattle.page_store.specs.Pairs.{Pair, Rise, found, inserted}
 use Rattle.record_slots.specs.Places.{page_bytes, next_page, AreGiven}
 
-behind_bound : (low high : ℕ) (ps : List Pair) → Rise low high ps → behind low ps ≤ high
+pub behind_bound : (low high : ℕ) (ps : List Pair) → Rise low high ps → behind low ps ≤ high
 behind_bound low high [] r = r
 behind_bound low high (p ∷ ps) r = behind_bound (suc p.0) high ps r.1
 
@@ -162,7 +162,7 @@ module _ (table : ℕ) where
         ]
 
   -- the pages after one, when those up to it may have changed
-  rest_kept : (old new : List ℕ) → Keeps old new → (n q low low' : ℕ) → IsChain table (suc n) old q low → link_of old q ≢ 0 → low' ≤ first_key (page_pairs old (link_of old q))
+  pub rest_kept : (old new : List ℕ) → Keeps old new → (n q low low' : ℕ) → IsChain table (suc n) old q low → link_of old q ≢ 0 → low' ≤ first_key (page_pairs old (link_of old q))
       → ((x : ℕ) → 1 ≤ x → x < next_page old → kind_of old x ≡ 1 → x ≢ q → page_bytes new x ≡ page_bytes old x)
       → IsChain table n new (link_of old q) low' × ((from : ℕ) → joined (chain_pieces n new (link_of old q) from) ≡ joined (chain_pieces n old (link_of old q) from))
   rest_kept old new keeps n q low low' c linked le kept =

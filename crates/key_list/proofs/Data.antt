@@ -1,6 +1,7 @@
--- What the actions of an insertion make of the data.
-use Rattle.std.proofs.Common.{◌≡◌, ◌≢◌, ℕ, suc, ◌+◌, ◌-◌, ◌*◌, ◌^◌, ◌<◌, ◌≤◌, true, false, nat_lt, inl, inr, List, [], ◌∷◌, length, take, drop, None, refl, sym, ◌∙◌, ap, subst, arith}
-use Rattle.std.specs.Prelude.{if◌then◌else◌}
+-- What the actions of an insertion and of a removal make of the data.
+use Rattle.std.proofs.Common.{◌≡◌, ◌≢◌, ℕ, suc, ◌+◌, ◌-◌, ◌*◌, ◌^◌, ◌<◌, ◌≤◌, true, false, nat_lt, ◌/◌, inl, inr, List, [], ◌∷◌, length, take, drop, Option, Some, None, refl, sym, ◌∙◌, ap, subst, arith}
+use Rattle.std.specs.Prelude.{IsSome}
+use Rattle.std.specs.Option.{unwrap_or}
 use Rattle.std.proofs.lemmas.Bool.{cases_lt, cases_eq}
 use Rattle.std.proofs.lemmas.Bool.Decides.{eqb_tells, leb_tells, nat_tests}
 use Rattle.std.proofs.lemmas.List.{length-take-le, length-drop}
@@ -9,39 +10,49 @@ use Rattle.array_shape.specs.declared.shape.Shape.{Shape}
 use Rattle.array_shape.specs.Places.{data_len}
 use Rattle.array_shape.specs.Places as array
 use Rattle.array_shape.specs.Logged.{Part, applied, AllFit}
+use Rattle.record_slots.specs.Free.{free_slot_said}
 use Rattle.record_slots.specs.Slots.{slot_bytes}
 use Rattle.record_slots.specs.Super.{SaysSuper, part_bytes}
+use Rattle.record_slots.specs.declared.free.Free.{Free}
 use Rattle.record_slots.specs.declared.super_page.Super.{Super}
 use Rattle.record_slots.specs.declared.slot.Slot.TheVariants.{Absent}
-use Rattle.record_slots.specs.Places.{page_bytes, page_count, first_slot_page, slot_at, slot_page, slot_of, next_slot, next_page, free_slots, free_pages, free_page_of, slot_due, page_due, used_slots, used_pages, tables_of, IsSuper}
-use Rattle.page_store.specs.Index.{Action, IsTable, HasCounts, slots_of, index_pages_of, Grows, Rests, Gains}
-use Rattle.page_store.specs.Pairs.{Pair, found, inserted}
+use Rattle.record_slots.specs.Places.{page_bytes, page_count, first_slot_page, slot_at, slot_page, slot_of, next_slot, next_page, free_slots, free_page, free_pages, free_slot_of, free_page_of, slot_due, page_due, used_slots, used_pages, version_of, tables_of, IsSuper, Carries, AreGiven}
+use Rattle.page_store.specs.Index.{Action, IsTable, IsUntouched, HasCounts, slots_of, index_pages_of, Grows, Rests, Gains}
+use Rattle.page_store.specs.Removes.{FreesSlot, LosesKey}
+use Rattle.page_store.specs.Pairs.{Pair, found, inserted, removed}
 use Rattle.page_store.specs.Shown.{address}
-use Rattle.index_pages.specs.Adding.{adding_parts, TakesSlot, TakesPage, first_slot, with_slot_taken, first_page, with_page_taken}
-use Rattle.index_pages.specs.Fetched.{IsFront}
-use Rattle.index_pages.specs.Keys.{key_at, key_end}
-use Rattle.index_pages.specs.Page.{page_pairs, pairs_said, kind_said, level_said, link_said, kind_of, link_of, count_of}
-use Rattle.index_pages.specs.Ways.{Keeps, IsOwn}
-use Rattle.index_pages.specs.Written.{AreSmall, written_page}
-use Rattle.index_pages.proofs.Added.{IsAdded, added_is}
+use Rattle.index_pages.specs.Adding.{adding_parts, TakesSlot, TakesPage}
+use Rattle.index_pages.specs.Giving.{MayGive, GivesSlot, removing_pages, removing_parts}
+use Rattle.index_pages.specs.Keys.{key_at}
+use Rattle.index_pages.specs.Page.{page_pairs, pairs_said, kind_said, level_said, count_said, link_said, kind_of, link_of, count_of}
+use Rattle.index_pages.specs.Ways.{Keeps, KeepsBut, IsOwn}
+use Rattle.index_pages.specs.Written.{written_page}
+use Rattle.index_pages.proofs.Added.{IsAdded, IsRemoved, added_is, removed_is}
 use Rattle.index_pages.proofs.Carrying.{carries_on, carries_absent}
 use Rattle.index_pages.proofs.Claims.{entries_long}
 use Rattle.index_pages.proofs.Fronts.{IsWritable, length-part_bytes, super_written, super_kept, version_kept}
+use Rattle.index_pages.proofs.Freeing.{found_given, given_elsewhere}
 use Rattle.index_pages.proofs.PageFacts.{length-page_pairs}
 use Rattle.index_pages.proofs.Puts.{AllApart, Stand, applied_long, applied_away, applied_stand}
 use Rattle.index_pages.proofs.Ranges.{Apart}
+use Rattle.index_pages.proofs.Released.{carries_not_free, may_give_slot, read_writable, slot_given_writable, slot_given_said, slot_given_rest, slot_frees, slots_back}
+use Rattle.index_pages.proofs.Removing.{length-removed, small_removed}
 use Rattle.index_pages.proofs.Rising.{length-inserted}
+use Rattle.index_pages.proofs.Sizes.{slot_page_is}
 use Rattle.index_pages.proofs.Tabled.{IsWhole, whole_counts}
-use Rattle.index_pages.proofs.Taken.{HasTaken, IsAfter, IsSlotAfter, is_slot_after, slot_is_due, slot_writable, slot_due_next, due_carries, taken_none, taken_one, page_is_due, due_free, due_next, dues_differ, is_after, after_due, after_slots, after_pages, after_free, taken_writable}
+use Rattle.index_pages.proofs.Taken.{FreeSlots, FreePages, free_pages_stay, HasTaken, IsAfter, IsSlotAfter, is_slot_after, slot_is_due, slot_writable, slot_due_next, due_carries, taken_none, taken_one, page_is_due, due_free, due_next, dues_differ, is_after, after_due, after_slots, after_pages, after_free, taken_writable}
 use Rattle.index_pages.proofs.Writing.{small_take, small_inserted, written_kind, written_level, written_link, written_pairs, length-written_page}
 use Rattle.key_list.specs.Chain.{chain_check, IsSoundChain, pairs_of_chain, page_of_key}
-use Rattle.key_list.specs.Changes.{TakesPairInChain, SplitsPage}
-use Rattle.key_list.specs.Index.{chain, chain_actions, adding, by_half, IsPageOfChain}
+use Rattle.key_list.specs.Changes.{TakesPairInChain, SplitsPage, LosesPairInChain}
+use Rattle.key_list.specs.Index.{chain, chain_actions, adding, by_half, keeps_last, removing, chain_removal, IsPageOfChain}
 use Rattle.key_list.specs.Located.{IsLocated, Locates, cutting_parts}
-use Rattle.key_list.specs.Resting.{sound_table}
-use Rattle.key_list.proofs.ChainActions.{chain_of_table_takes, chain_of_table_splits, chain_of_table_more}
+use Rattle.key_list.specs.Resting.{sound_table, sound_chain_given}
+use Rattle.key_list.proofs.ChainActions.{chain_of_table_finds, chain_of_table_takes, chain_of_table_splits, chain_of_table_more}
 use Rattle.key_list.proofs.Chains.{key_page_own, pages_same, cut_keeps, cut_names, half_after}
-use Rattle.key_list.proofs.Others.{whole_of, root_own, member_of, free_apart, due_apart, tables_apart, one_changed, others_untouched}
+use Rattle.key_list.proofs.Holding.{found_before, kept_none, last_stays, more_of}
+use Rattle.key_list.proofs.Losing.{freed_chain_loses}
+use Rattle.key_list.proofs.Resting.{chain_stays}
+use Rattle.key_list.proofs.Others.{roots_one, whole_of, root_own, member_of, free_apart, due_apart, tables_apart, all_given, one_changed, others_untouched}
 
 module _ (shape : Shape) (old : List ℕ) (half : ℕ) (long : length old ≡ data_len shape) (half_is : half ≡ index_pages_of shape) (all : half + half ≡ array.page_count shape) (few : half ≤ 16384)
     (root table : ℕ) (front : Super) (page link : ℕ) (pairs : List Pair) (key : ℕ) (fits : key < 2 ^ 64) (loc : IsLocated shape front page link pairs)
@@ -179,11 +190,11 @@ module _ (shape : Shape) (old : List ℕ) (half : ℕ) (long : length old ≡ da
     unfolding added
     adding_grows = (
       record {
-        sound = one_changed old added table root sound named front_now.0 lists_now.slots lists_now.pages front_now.1 keeps adds.0 tables_kept;
+        sound = one_changed old added table root sound named front_now.0 lists_now.slots lists_now.pages front_now.1 keeps.pages adds.0 (λ t r named' ne. all_given old added sound keeps t r named') tables_kept;
         size = is.size;
         version = version_kept old added is.mark;
         tables = front_now.1;
-        others = others_untouched old added table root sound named front_now.0 lists_now.slots lists_now.pages front_now.1 keeps adds.0 tables_kept;
+        others = others_untouched old added table root sound named front_now.0 lists_now.slots lists_now.pages front_now.1 keeps.pages adds.0 (λ t r named' ne. all_given old added sound keeps t r named') tables_kept;
         slots = λ j lt ne. other_slots j ne;
         later = omega (arith, lists_now.pages_next);
         few = omega (arith, lists_now.pages_next);
@@ -430,11 +441,11 @@ module _ (shape : Shape) (old : List ℕ) (half : ℕ) (long : length old ≡ da
     unfolding cut
     cutting_grows = (
       record {
-        sound = one_changed old cut table root sound named cut_front.0 cut_lists.slots cut_lists.pages cut_front.1 cut_kept cuts.0 cut_tables;
+        sound = one_changed old cut table root sound named cut_front.0 cut_lists.slots cut_lists.pages cut_front.1 cut_kept.pages cuts.0 (λ t r named' ne. all_given old cut sound cut_kept t r named') cut_tables;
         size = cut_long;
         version = version_kept old cut zero_new;
         tables = cut_front.1;
-        others = others_untouched old cut table root sound named cut_front.0 cut_lists.slots cut_lists.pages cut_front.1 cut_kept cuts.0 cut_tables;
+        others = others_untouched old cut table root sound named cut_front.0 cut_lists.slots cut_lists.pages cut_front.1 cut_kept.pages cuts.0 (λ t r named' ne. all_given old cut sound cut_kept t r named') cut_tables;
         slots = λ j lt ne. cut_slots j;
         later = omega (arith, cut_lists.pages_next);
         few = omega (arith, cut_lists.pages_next);
@@ -517,3 +528,216 @@ module _ (shape : Shape) (old : List ℕ) (half : ℕ) (long : length old ≡ da
           | inl h ↦ let b : nat_lt key (key_at pairs 15) ≡ true = h.0 in rw b lower_many
           | inr h ↦ let b : nat_lt key (key_at pairs 15) ≡ false = h.0 in rw b upper_many
         ]
+
+  -- a pair is taken out, and its slot given back
+  module _ (slot : ℕ) (free : Free) (after : Super) (gives : GivesSlot front slot free after) (goes : keeps_last root page link (length pairs) ≡ false) (is_there : found pairs key ≡ Some slot) where
+    found_is : found (pairs_of_chain old root) key ≡ Some slot
+    found_is =
+        chain_of_table_finds old root table key chain_sound ∙ ap (λ (x : ℕ). found (page_pairs old x) key) (sym says.page_is) ∙ ap (λ (ps : List Pair). found ps key) (sym says.pairs_are) ∙ is_there
+
+    had : (slot < next_slot old) × Carries old table (key, slot)
+    had = found_given old table key slot (pairs_of_chain old root) found_is (sound_chain_given old root table chain_sound)
+
+    eight_slot : slot < 8 * half
+    eight_slot = omega (arith, had.0, slots_most)
+
+    read : IsWritable front
+    read = read_writable old front whole.slots whole.pages says.front_says long_entries (omega (arith, slots_most, few)) whole.front.some_pages (omega (arith, given_most, few))
+
+    now_writable : IsWritable after
+    now_writable = slot_given_writable front after slot free read gives
+
+    rest : (after.version ≡ front.version) × (after.form ≡ front.form) × (after.entries ≡ front.entries) × (after.next_slot ≡ front.next_slot) × (after.next_page ≡ front.next_page)
+        × (after.free_page ≡ front.free_page) × (after.free_pages ≡ front.free_pages)
+    rest = slot_given_rest front after slot free gives
+
+    lost : List ℕ
+    lost = applied (removing_parts half after slot free page link pairs key) old
+
+    lost_is : IsRemoved old lost half after slot free page link pairs key
+    unfolding lost
+    lost_is = removed_is old half size after now_writable.entries slot free page link pairs key eight_slot own_page.0 (omega (arith, own_page.1, given_most)) link_fits loc.most
+
+    says_lost : SaysSuper (page_bytes lost 0) after
+    says_lost = super_written old lost front after lost_is.mark lost_is.part says.front_says rest.0 rest.1 now_writable
+
+    next_slots : next_slot lost ≡ next_slot old
+    next_slots = sym says_lost.next_slot ∙ rest.3 ∙ says.front_says.next_slot
+
+    next_pages : next_page lost ≡ next_page old
+    next_pages = sym says_lost.next_page ∙ rest.4 ∙ says.front_says.next_page
+
+    pages_first : free_page lost ≡ free_page old
+    pages_first = sym says_lost.free_page ∙ rest.5 ∙ says.front_says.free_page
+
+    pages_many : free_pages lost ≡ free_pages old
+    pages_many = sym says_lost.free_pages ∙ rest.6 ∙ says.front_says.free_pages
+
+    front_lost : IsSuper 0 lost × (tables_of lost ≡ tables_of old)
+    front_lost = super_kept 0 old lost front after half (omega (arith, lost_is.size, size)) says.front_says says_lost rest.0 rest.1 rest.2
+        (omega (arith, says_lost.next_slot, next_slots, slots_most)) (omega (arith, rest.4)) (omega (arith, says_lost.next_page, next_pages, given_most)) whole.front
+
+    frees : FreesSlot slot old lost
+    frees = slot_frees old lost front after after slot free says.front_says says_lost gives refl refl (slot_given_said front after slot free read lost gives lost_is.slot_is)
+
+    slots_lost : FreeSlots lost
+    slots_lost = slots_back old lost slot whole.slots frees next_slots had.0
+        (λ x some. ap free_slot_said (lost_is.slots x (λ e. some (ap (λ (j : ℕ). free_slot_of old j) e ∙ carries_not_free old table (key, slot) had.1))))
+
+    pages_lost : FreePages lost
+    pages_lost = free_pages_stay old lost whole.pages next_pages pages_first pages_many
+        (λ x some from to. lost_is.pages x (omega (arith, from)) (omega (arith, to, given_most)) (λ e. free_apart old x (ap (λ (y : ℕ). kind_of old y) e ∙ page_kind) some))
+
+    but : KeepsBut slot old lost
+    but = record {
+      size = lost_is.size;
+      pages = omega (arith, next_pages);
+      slots = omega (arith, next_slots);
+      carried = λ t p other lt carries. carries_on old lost t p (lost_is.slots p.1 other) carries;
+    }
+
+    left_few : length (removed pairs key) ≤ 30
+    left_few = omega (arith, (length-removed key pairs).1, loc.most)
+
+    count_is : length pairs ≡ count_of old page
+    count_is = ap (λ (ps : List Pair). length ps) says.pairs_are ∙ length-page_pairs old page
+
+    left_pairs : page_pairs lost page ≡ removed (page_pairs old page) key
+    left_pairs = ap pairs_said lost_is.bytes ∙ written_pairs 0 link (removed pairs key) left_few link_fits (small_removed key pairs loc.small) ∙ ap (λ (ps : List Pair). removed ps key) says.pairs_are
+
+    loses_pair : LosesPairInChain old lost root page key
+    loses_pair = record {
+      more = elim (more_of root page link (length pairs) goes) [ inl two ↦ inl (omega (arith, two, count_is)) | inr alone ↦ inr (alone.0, sym says.link_is ∙ alone.1) ];
+      kind = ap kind_said lost_is.bytes ∙ written_kind 0 link (removed pairs key) left_few link_fits;
+      level = ap level_said lost_is.bytes ∙ written_level 0 link (removed pairs key) left_few link_fits;
+      link = ap link_said lost_is.bytes ∙ written_link 0 link (removed pairs key) left_few link_fits ∙ says.link_is;
+      pairs = left_pairs;
+    }
+
+    others_kept : (x : ℕ) → 1 ≤ x → x < next_page old → x ≢ page → page_bytes lost x ≡ page_bytes old x
+    others_kept x some lt ne = lost_is.pages x some (omega (arith, lt, given_most)) ne
+
+    loss : chain_check lost root table None × (pairs_of_chain lost root ≡ removed (pairs_of_chain old root) key)
+    loss = freed_chain_loses old lost root table key slot own chain_sound but counts found_is next_pages
+        (subst (λ (x : ℕ). LosesPairInChain old lost root x key) says.page_is loses_pair)
+        (subst (λ (x : ℕ). (y : ℕ) → 1 ≤ y → y < next_page old → kind_of old y ≡ 1 → y ≢ x → page_bytes lost y ≡ page_bytes old y) says.page_is (λ y some lt kind ne. others_kept y some lt ne))
+
+    links_lost : (x : ℕ) → 1 ≤ x → x < next_page old → link_of lost x ≡ link_of old x
+    links_lost x some lt = elim (eqb_tells x page) [
+      | inl same ↦ ap (λ (y : ℕ). link_of lost y) same.1 ∙ loses_pair.link ∙ ap (λ (y : ℕ). link_of old y) (sym same.1)
+      | inr other ↦ ap link_said (others_kept x some lt other.1)
+    ]
+
+    own_lost : IsOwn lost root
+    own_lost = (own.0, omega (arith, own.1, next_pages))
+
+    named_lost : (x : ℕ) → IsPageOfChain lost root x → IsPageOfChain old root x
+    named_lost = pages_same table lost old root own_lost loss.0 (sym next_pages) (λ p some lt kind. sym (links_lost p some (omega (arith, lt, next_pages))))
+
+    -- the chain of another table names no page and no slot that was written
+    tables_lost : (table' root' : ℕ) → IsTable old table' root' → root' ≢ root → (x : ℕ) → IsPageOfChain old root' x → page_bytes lost x ≡ page_bytes old x
+    tables_lost table' root' is' differ x on =
+        let m = member_of old table' root' x sound is' on in
+        others_kept x m.own.0 m.own.1 (λ e. tables_apart old table' root' table root x sound is' named differ on (subst (λ (y : ℕ). IsPageOfChain old root y) (sym e) on_page))
+
+    given_lost : (table' root' : ℕ) → IsTable old table' root' → root' ≢ root → AreGiven lost table' (pairs_of_chain old root')
+    given_lost table' root' is' differ =
+        given_elsewhere slot old lost but table table' key (pairs_of_chain old root') (λ same. differ (roots_one old table table' root root' same named is')) had.1
+        (sound_chain_given old root' table' (sound_table old table' root' sound is'))
+
+    sound_lost : IsSoundChain lost
+    sound_lost = one_changed old lost table root sound named front_lost.0 slots_lost pages_lost front_lost.1 (omega (arith, next_pages)) loss.0 given_lost tables_lost
+
+    untouched : (table' other : ℕ) → IsTable old table' other → other ≢ root → IsUntouched chain other old lost
+    untouched = others_untouched old lost table root sound named front_lost.0 slots_lost pages_lost front_lost.1 (omega (arith, next_pages)) loss.0 given_lost tables_lost
+
+    fewer : (x one : ℕ) → IsPageOfChain lost root x → IsSome (found (page_pairs lost x) one) → (count_of lost x ≤ count_of old x) × IsSome (found (page_pairs old x) one)
+    fewer x one on some = elim (eqb_tells x page) [
+      | inl same ↦
+          subst (λ (y : ℕ). (count_of lost y ≤ count_of old y) × IsSome (found (page_pairs old y) one)) (sym same.1) (
+            (let now : length (page_pairs lost page) ≡ length (removed (page_pairs old page) key) = ap (λ (ps : List Pair). length ps) left_pairs in
+                omega (arith, now, length-page_pairs lost page, length-page_pairs old page, (length-removed key (page_pairs old page)).1)),
+            found_before (page_pairs old page) key one
+                (subst (λ (ps : List Pair). IsSome (found ps one)) left_pairs (subst (λ (y : ℕ). IsSome (found (page_pairs lost y) one)) same.1 some)),
+          )
+      | inr other ↦
+          let m = member_of old table root x sound named (named_lost x on) in
+          let e : page_bytes lost x ≡ page_bytes old x = others_kept x m.own.0 m.own.1 other.1 in
+          (omega (arith, ap count_said e), subst (λ (b : List ℕ). IsSome (found (pairs_said b) one)) e some)
+    ]
+
+    -- what stays as the last pair of its page stays so, in this chain and in the others
+    last_here : (one : ℕ) → IsSome (found (pairs_of_chain lost root) one) → chain_removal old root one ≡ None → chain_removal lost root one ≡ None
+    last_here one = last_stays old lost root table one own_lost chain_sound loss.0 named_lost
+        (λ x on. let m = member_of old table root x sound named (named_lost x on) in links_lost x m.own.0 m.own.1) (λ x on some. fewer x one on some)
+
+    last_there : (table' other one : ℕ) → IsTable old table' other → other ≢ root → IsSome (found (pairs_of_chain lost other) one) → chain_removal old other one ≡ None → chain_removal lost other one ≡ None
+    last_there table' other one is' differ =
+        let was = sound_table old table' other sound is' in
+        let own' = root_own old table' other sound is' in
+        let own_now : IsOwn lost other = (own'.0, omega (arith, own'.1, next_pages)) in
+        let still = chain_stays old lost table' other own' was (omega (arith, next_pages)) (given_lost table' other is' differ) (tables_lost table' other is' differ) in
+        let back : (x : ℕ) → IsPageOfChain lost other x → IsPageOfChain old other x = pages_same table' lost old other own_now still.0 (sym next_pages) (λ p some lt kind. sym (links_lost p some (omega (arith, lt, next_pages)))) in
+        last_stays old lost other table' one own_now was still.0 back
+        (λ x on. ap link_said (tables_lost table' other is' differ x (back x on)))
+        (λ x on some.
+        let e : page_bytes lost x ≡ page_bytes old x = tables_lost table' other is' differ x (back x on) in
+        (omega (arith, ap count_said e), subst (λ (b : List ℕ). IsSome (found (pairs_said b) one)) e some))
+
+    -- what a pair that is taken out makes of the data
+    pub removing_loses : LosesKey chain root key old (applied (removing_parts half after slot free page link pairs key) old)
+    unfolding lost
+    removing_loses = (
+      slot,
+      found_is,
+      record {
+        sound = sound_lost;
+        size = lost_is.size;
+        version = version_kept old lost lost_is.mark;
+        tables = front_lost.1;
+        others = untouched;
+        pairs = loss.1;
+        slots = λ j ne. lost_is.slots j ne;
+        freed = frees;
+        next_slot_same = next_slots;
+        next_page_same = next_pages;
+        freed_page = inl (record { first = pages_first; many = pages_many });
+        kept = λ x on. inl (pages_same table old lost root own chain_sound next_pages (λ p some lt kind. links_lost p some lt) x on);
+        named = named_lost;
+        levels = refl;
+        last = λ table' other one is' some none. elim (cases_eq other root) [
+          | inl same ↦
+              subst (λ (r : ℕ). chain_removal lost r one ≡ None) (sym same) (last_here one (subst (λ (r : ℕ). IsSome (found (pairs_of_chain lost r) one)) same some) (subst (λ (r : ℕ). chain_removal old r one ≡ None) same none))
+          | inr differ ↦ last_there table' other one is' differ some none
+        ];
+      },
+    )
+
+    -- the parts lie in these pages
+    pub removing_at : chain_removal old root key ≡ Some (removing_pages half slot page)
+    removing_at =
+        let b : keeps_last root (page_of_key old root key) (link_of old (page_of_key old root key)) (count_of old (page_of_key old root key)) ≡ false =
+        subst (λ (x : ℕ). keeps_last root x (link_of old x) (count_of old x) ≡ false) says.page_is
+        (subst (λ (n : ℕ). keeps_last root page (link_of old page) n ≡ false) count_is (subst (λ (l : ℕ). keeps_last root page l (length pairs) ≡ false) says.link_is goes)) in
+        let slot_in : slot_page old slot ≡ half + slot / 8 = slot_page_is shape old long half slot all in
+        (rw b (ap (λ (o : Option ℕ). Some (removing old (unwrap_or o 0) (page_of_key old root key))) found_is
+        ∙ ap (λ (x : ℕ). Some (removing old slot x)) (sym says.page_is) ∙ ap (λ (s : ℕ). Some (s ∷ page ∷ 0 ∷ [])) slot_in))
+
+  -- the pair stays as the last of its page
+  pub staying_none : keeps_last root page link (length pairs) ≡ true → chain_removal old root key ≡ None
+  staying_none keeps =
+      let count_is : length pairs ≡ count_of old page = ap (λ (ps : List Pair). length ps) says.pairs_are ∙ length-page_pairs old page in
+      kept_none old root key (subst (λ (x : ℕ). keeps_last root x (link_of old x) (count_of old x) ≡ true) says.page_is
+      (subst (λ (n : ℕ). keeps_last root page (link_of old page) n ≡ true) count_is (subst (λ (l : ℕ). keeps_last root page l (length pairs) ≡ true) says.link_is keeps)))
+
+  -- the key is among the pairs, and its slot can be given back
+  pub key_there : (slot : ℕ) → found (pairs_of_chain old root) key ≡ Some slot → found pairs key ≡ Some slot
+  key_there slot is =
+      ap (λ (ps : List Pair). found ps key) says.pairs_are ∙ ap (λ (x : ℕ). found (page_pairs old x) key) says.page_is ∙ sym (chain_of_table_finds old root table key chain_sound) ∙ is
+
+  pub slot_may : (slot : ℕ) → version_of old ≡ 2 → found (pairs_of_chain old root) key ≡ Some slot → (slot < 8 * half) × MayGive front.version slot front.next_slot front.free_slots
+  slot_may slot two is =
+      let had = found_given old table key slot (pairs_of_chain old root) is (sound_chain_given old root table chain_sound) in (
+        omega (arith, had.0, slots_most),
+        may_give_slot old front slot whole.slots (says.front_says.version ∙ two) says.front_says.next_slot says.front_says.free_slots had.0 (carries_not_free old table (key, slot) had.1),
+      )

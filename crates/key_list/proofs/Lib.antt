@@ -1,8 +1,11 @@
 pub mod Walking
 pub mod Chains
 pub mod ChainActions
+pub mod Resting
+pub mod Losing
+pub mod Holding
 pub mod Others
 pub mod Data
 pub mod Whole
-pub mod Even
+pub mod Taking
 pub mod Testing

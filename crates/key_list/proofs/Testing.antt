@@ -1,11 +1,8 @@
 -- Tests of a chain, step by step.
-use Rattle.std.proofs.Common.{◌≡◌, ◌≢◌, ℕ, suc, ◌<◌, ◌≤◌, Bool, true, false, nat_eq, inl, inr, List, ◌∷◌, Option, Some, None, Result, Ok, Err, refl, sym, ◌∙◌, ap, subst, arith}
-use Rattle.std.specs.Prelude.{IsTrue, IsErrOf}
+use Rattle.std.proofs.Common.{◌≡◌, ◌≢◌, ℕ, suc, ◌<◌, ◌≤◌, true, false, nat_eq, inl, inr, List, ◌∷◌, Option, Some, None, Result, Ok, Err, refl, sym, ◌∙◌, ap, subst, arith}
 use Rattle.std.proofs.lemmas.Bool.Decides.{nat_tests}
 use Rattle.mars_base.specs.Check.{unless}
 use Rattle.mars_base.proofs.Checks.{both_on}
-use Rattle.eaw_face.specs.StoreView.{StoreView}
-use Rattle.eaw_face.specs.Causes.{IsAlive}
 use Rattle.record_slots.specs.Places.{next_page, page_bytes}
 use Rattle.page_store.specs.Pairs.{Pair}
 use Rattle.page_store.specs.declared.index_fault.CheckFault.{CheckFault}

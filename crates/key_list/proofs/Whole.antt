@@ -1,5 +1,5 @@
 -- An insertion as a whole, from what its steps give.
-use Rattle.std.proofs.Common.{◌≡◌, ◌≢◌, ℕ, suc, ◌+◌, ◌-◌, ◌*◌, ◌^◌, ◌<◌, ◌≤◌, Bool, true, false, nat_lt, inl, inr, List, [], ◌∷◌, length, take, drop, None, Result, Ok, Err, refl, sym, ◌∙◌, ap, subst, arith}
+use Rattle.std.proofs.Common.{◌≡◌, ℕ, suc, ◌+◌, ◌-◌, ◌^◌, ◌<◌, ◌≤◌, Bool, true, false, nat_lt, inl, inr, List, [], ◌∷◌, length, take, drop, None, Result, Ok, Err, refl, sym, ◌∙◌, ap, subst, arith}
 use Rattle.std.specs.Prelude.{IsTrue}
 use Rattle.std.proofs.lemmas.Bool.{cases_lt, cases_eq}
 use Rattle.std.proofs.lemmas.Bool.Decides.{leb_tells, nat_tests}
@@ -9,11 +9,11 @@ use Rattle.array_shape.specs.Places.{data_len, page_count}
 use Rattle.array_shape.specs.Logged.{applied}
 use Rattle.eaw_face.specs.State.{State}
 use Rattle.eaw_face.specs.Causes.{IsAlive}
-use Rattle.record_slots.specs.Places.{page_bytes, next_slot, next_page, slot_page, used_slots, used_pages, free_slots, free_pages, slot_due, page_due}
+use Rattle.record_slots.specs.Places.{next_slot, next_page, used_slots, used_pages, free_pages, slot_due, page_due}
 use Rattle.record_slots.specs.declared.super_page.Super.{Super}
 use Rattle.page_store.specs.Fits.{FitAll, IsFirstLacking}
 use Rattle.page_store.specs.Index.{Action, IsTable, Grows, Rests, Gains, slots_of, index_pages_of}
-use Rattle.page_store.specs.Inserts.{ActionFits, AllFit, LackPages, LackRoom, ComesTo, MayBecome, Inserts}
+use Rattle.page_store.specs.Inserts.{ActionFits, AllFit, LackRoom, MayBecome, Inserts}
 use Rattle.page_store.specs.Looks.{Looks, LookCause, is_failed}
 use Rattle.page_store.specs.Pairs.{Pair, found}
 use Rattle.page_store.specs.Shown.{PagesView}

@@ -1,7 +1,7 @@
 -- What one action makes of a chain.
-use Rattle.std.specs.Prelude.{ℕ, ◌≡◌, ◌<◌, ◌≤◌, List, take, drop, length}
+use Rattle.std.specs.Prelude.{ℕ, ◌≡◌, ◌<◌, ◌≤◌, ◌⊎◌, List, take, drop, length}
 use Rattle.index_pages.specs.Page.{kind_of, level_of, count_of, link_of, page_pairs}
-use Rattle.page_store.specs.Pairs.{inserted}
+use Rattle.page_store.specs.Pairs.{inserted, removed}
 use Rattle.record_slots.specs.Places.{next_slot, next_page, Carries}
 
 -- a page of a chain with room takes one more pair
@@ -27,3 +27,11 @@ pub record SplitsPage (old new : List ℕ) (page next : ℕ) : Type 0 where
   pub pairs' : page_pairs new next ≡ drop 15 (page_pairs old page)
   pub two : 2 ≤ next
   pub given : next < next_page new
+
+-- a page of a chain loses the pair of the key, and keeps others, or is the root and has no link
+pub record LosesPairInChain (old new : List ℕ) (root page key : ℕ) : Type 0 where
+  pub more : (2 ≤ count_of old page) ⊎ ((page ≡ root) × (link_of old page ≡ 0))
+  pub kind : kind_of new page ≡ 1
+  pub level : level_of new page ≡ 0
+  pub link : link_of new page ≡ link_of old page
+  pub pairs : page_pairs new page ≡ removed (page_pairs old page) key

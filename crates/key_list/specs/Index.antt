@@ -1,8 +1,9 @@
--- The chain as an index: its pages, and what an insertion makes.
-use Rattle.std.specs.Prelude.{ℕ, zero, suc, ◌≡◌, ◌≢◌, ◌⊎◌, nat_lt, if◌then◌else◌, List, [], ◌∷◌, Some, None}
+-- The chain as an index: its pages, and what an insertion and a removal make.
+use Rattle.std.specs.Prelude.{ℕ, zero, suc, ◌≡◌, ◌≢◌, ◌⊎◌, Bool, not, ◌&&◌, nat_eq, nat_lt, if◌then◌else◌, List, [], ◌∷◌, Option, Some, None}
+use Rattle.std.specs.Option.{unwrap_or}
 use Rattle.record_slots.specs.Places.{next_page, slot_page, slot_due, page_due}
 use Rattle.page_store.specs.Index.{Action, Index}
-use Rattle.page_store.specs.Pairs.{Pair}
+use Rattle.page_store.specs.Pairs.{Pair, found}
 use Rattle.key_list.specs.Chain.{chains_check, pairs_of_chain, page_of_key}
 use Rattle.index_pages.specs.Keys.{key_at}
 use Rattle.index_pages.specs.Page.{count_of, link_of, page_pairs}
@@ -37,6 +38,19 @@ chain_actions bytes root key =
     if nat_lt (count_of bytes (page_of_key bytes root key)) 30 then adding bytes (page_of_key bytes root key) ∷ []
     else cutting bytes (page_of_key bytes root key) ∷ adding bytes (half_for bytes (page_of_key bytes root key) key) ∷ []
 
+-- a page of so many pairs keeps its last one, unless it is the root and has no link
+abbrev pub keeps_last : ℕ → ℕ → ℕ → ℕ → Bool
+keeps_last root page link count = nat_lt count 2 && not (nat_eq page root && nat_eq link 0)
+
+-- a pair is taken out: its slot, the page, the super page
+abbrev pub removing : List ℕ → ℕ → ℕ → List ℕ
+removing bytes slot page = slot_page bytes slot ∷ page ∷ 0 ∷ []
+
+abbrev pub chain_removal : List ℕ → ℕ → ℕ → Option (List ℕ)
+chain_removal bytes root key =
+    if keeps_last root (page_of_key bytes root key) (link_of bytes (page_of_key bytes root key)) (count_of bytes (page_of_key bytes root key)) then None
+    else Some (removing bytes (unwrap_or (found (pairs_of_chain bytes root) key) 0) (page_of_key bytes root key))
+
 -- chains as indexes; they have no inner pages
 abbrev pub chain : Index
 chain = record {
@@ -46,6 +60,7 @@ chain = record {
   level = λ bytes root. 0;
   has_page = IsPageOfChain;
   actions = chain_actions;
+  removal = chain_removal;
 }
 
 -- what is left of an insertion once the page of the key has room, or is cut: so many pages are given out at most

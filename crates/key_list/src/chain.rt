@@ -5,14 +5,15 @@ ghost use Rattle.key_list.specs.Resting.{sound_table, sound_chain_given, sound_c
 ghost use Rattle.key_list.specs.Extending.{sound_chains_extend};
 ghost use Rattle.key_list.specs.Index.{chain};
 
-use crate::{checking, insertion, look};
+use crate::{checking, insertion, look, removal};
 use eaw_face::EawStore;
 use page_store::{CheckFault, IndexFault, KeyIndex, PageFault, Pages};
 
 /// Indexes that are chains of pages in the order of their keys, one for each table: it begins in the table's root and follows the links. A
 /// look-up reads each page of the chain up to that of its key. An insertion is one nested top action of three parts: the slot, the page and
 /// the super page. If the page has 30 pairs, it is cut first, by another action of three parts: the page, the page that is due, which
-/// takes the upper half and the link, and the super page.
+/// takes the upper half and the link, and the super page. A removal is one action of three parts too: the slot, which is free then, the
+/// page and the super page. A page keeps its last pair, unless it is the root and no page follows it: so no page is ever freed.
 #[derive(Clone, Copy, Debug)]
 pub struct KeyList {}
 
@@ -51,6 +52,16 @@ impl KeyIndex for KeyList {
         key: u64,
     ) -> Result<u32, IndexFault> {
         insertion::insert(pages, tid, root, table, key)
+    }
+
+    fn remove<S: EawStore>(
+        pages: &mut Pages<S>,
+        tid: u8,
+        root: u32,
+        table: u8,
+        key: u64,
+    ) -> Result<bool, PageFault> {
+        removal::remove(pages, tid, root, table, key)
     }
 
     ghost rises = { λ bytes table root sound is. sound_chain_rises bytes root table (sound_table bytes table root sound is) };

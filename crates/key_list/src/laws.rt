@@ -1,14 +1,15 @@
 // Laws of chains: each follows from the definitions alone.
-ghost use Rattle.std.specs.Prelude.{◌≡◌, ◌≢◌, ◌<◌, ◌≤◌, ℕ, List, [], None};
+ghost use Rattle.std.specs.Prelude.{◌≡◌, ◌≢◌, ◌<◌, ◌≤◌, ℕ, List, [], Some, None};
 ghost use Rattle.record_slots.specs.Places.{page_bytes, next_page, AreGiven};
-ghost use Rattle.page_store.specs.Index.{KeepsIndex, IsTable};
-ghost use Rattle.page_store.specs.Pairs.{Rise, found, inserted};
+ghost use Rattle.page_store.specs.Index.{HasCounts, KeepsIndex, IsTable};
+ghost use Rattle.page_store.specs.Pairs.{Rise, found, inserted, removed};
 ghost use Rattle.index_pages.specs.Keys.{key_end};
 ghost use Rattle.index_pages.specs.Page.{kind_of, level_of, count_of, link_of, page_pairs};
 ghost use Rattle.index_pages.specs.Pieces.{joined, Tile};
-ghost use Rattle.index_pages.specs.Ways.{Keeps, IsOwn};
+ghost use Rattle.index_pages.specs.Ways.{Keeps, KeepsBut, IsOwn};
 ghost use Rattle.key_list.specs.Chain.{chain_check, IsSoundChain, IsFirstDamagedOfChain, pieces_of_chain, pairs_of_chain, page_of_key};
-ghost use Rattle.key_list.specs.Changes.{TakesPairInChain, SplitsPage};
+ghost use Rattle.key_list.specs.Changes.{TakesPairInChain, SplitsPage, LosesPairInChain};
+ghost use Rattle.key_list.specs.Index.{IsPageOfChain};
 
 /// The pages of a sound chain of a table tile all keys, and have its pairs. These rise strictly, with slots that are given and carry the
 /// keys for that table.
@@ -31,6 +32,18 @@ pub fn chain_changes_keep()
         SplitsPage old new (page_of_key old root key) fresh →
         ((x : ℕ) → 1 ≤ x → x < next_page old → kind_of old x ≡ 1 → x ≢ page_of_key old root key → page_bytes new x ≡ page_bytes old x) →
         chain_check new root table None × (pairs_of_chain new root ≡ pairs_of_chain old root) }
+{}
+
+/// What a removal makes of the chain of a table, whatever the slot of the pair says then: the page of the key loses the pair, and keeps others
+/// or is the root alone, and just that pair is taken out of all. A chain is as it was on data where its own pages are, and where the slots of
+/// its pairs are given and carry their keys.
+pub fn chain_removals_keep()
+    ensures loses { (old new : List ℕ) (root table key slot : ℕ) → IsOwn old root → chain_check old root table None → KeepsBut slot old new → HasCounts old →
+        found (pairs_of_chain old root) key ≡ Some slot → next_page new ≡ next_page old → LosesPairInChain old new root (page_of_key old root key) key →
+        ((x : ℕ) → 1 ≤ x → x < next_page old → kind_of old x ≡ 1 → x ≢ page_of_key old root key → page_bytes new x ≡ page_bytes old x) →
+        chain_check new root table None × (pairs_of_chain new root ≡ removed (pairs_of_chain old root) key) }
+    ensures moved { (old new : List ℕ) (table root : ℕ) → IsOwn old root → chain_check old root table None → next_page old ≤ next_page new → AreGiven new table (pairs_of_chain old root) →
+        ((x : ℕ) → IsPageOfChain old root x → page_bytes new x ≡ page_bytes old x) → chain_check new root table None × (pairs_of_chain new root ≡ pairs_of_chain old root) }
 {}
 
 /// Writes into slots that leave their keys leave the chains of all tables as they are.

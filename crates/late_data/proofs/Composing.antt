@@ -1,10 +1,11 @@
 -- A commit behind what was written back for it.
-use Rattle.std.proofs.Common.{◌≡◌, ℕ, ◌+◌, Bool, inl, List, take, Result, Ok, refl, ◌∙◌, subst, arith}
+use Rattle.std.proofs.Common.{◌≡◌, ℕ, ◌+◌, Bool, inl, List, [], take, Result, Ok, refl, sym, ◌∙◌, ap, subst, arith}
 use Rattle.std.specs.Prelude.{IsErr, IsTrue}
 use Rattle.std.proofs.lemmas.Result.{on_ok_weaker}
 use Rattle.mars_base.specs.declared.Failed.{Failed}
 use Rattle.mars_base.proofs.Costing.{costs_err, costs_then}
-use Rattle.mars_base.proofs.Going.{then, weaker}
+use Rattle.mars_base.specs.Costs.{Costs}
+use Rattle.mars_base.proofs.Going.{stays, then, weaker}
 use Rattle.pcm_media.specs.View.{View, LeavesOnly}
 use Rattle.array_shape.specs.declared.shape.Shape.{Shape}
 use Rattle.array_shape.specs.Logged.{Part, applied}
@@ -15,8 +16,8 @@ use Rattle.coordinator.proofs.Applying.{all_same}
 use Rattle.late_commits.specs.declared.queue.LateCommits.{LateCommits}
 use Rattle.late_commits.specs.Costs.{calls_back, late_calls}
 use Rattle.late_commits.specs.Steps.{CommitsOne, WritesBack}
-use Rattle.late_commits.specs.Waiting.{data_with}
-use Rattle.late_commits.proofs.Steps.{behind_more, off_ok}
+use Rattle.late_commits.specs.Waiting.{AreWaiting, IsFit, data_with}
+use Rattle.late_commits.proofs.Steps.{behind_more, behind_none, off_ok}
 use Rattle.late_data.specs.Steps.{Commits}
 
 -- The queue is written back up to `due`, cells are named for the ballot's numbers, and it is committed.
@@ -56,4 +57,32 @@ back_fails tells shape due calls more parts queue back old mid r err is gone = r
   cells = gone.cells;
   does = gone.does;
   costs = costs_err tells _ _ _ r err (omega (arith, is, gone.costs.most));
+}
+
+-- other words for the parts and the calls
+pub commits_as : {T E : Type 0} (tells : Bool) (shape : Shape) (parts parts' : List Part) (count count' : ℕ) (queue : LateCommits) (old : View) (queue_new : LateCommits) (new : View) (r : Result T E)
+    → (IsTrue tells → applied parts (data_with shape queue old.content.bytes) ≡ applied parts' (data_with shape queue old.content.bytes)) → count ≡ count' → Commits tells shape parts count queue old queue_new new r → Commits tells shape parts' count' queue old queue_new new r
+commits_as tells shape parts parts' count count' queue old queue_new new r same count_same is = record {
+  fit = is.fit;
+  depth = is.depth;
+  any_moment = λ told. subst (λ (after : List ℕ). LeavesOnly (IsEither shape (data_with shape queue old.content.bytes) after) old new) (same told) (is.any_moment told);
+  waiting = is.waiting;
+  committed = λ told. on_ok_weaker r (λ done. done ∙ same told) (is.committed told);
+  cells = is.cells;
+  does = is.does;
+  costs = subst (λ (n : ℕ). Costs tells n old.moment new.moment r) count_same is.costs;
+}
+
+-- a commit of no part
+pub commits_none : (tells : Bool) (shape : Shape) (parts : List Part) (count : ℕ) (queue : LateCommits) (now : View) → IsFit shape queue → (IsTrue tells → AreWaiting shape queue now.content) → (IsTrue tells → parts ≡ []) → count ≡ 0
+    → (let ok : Result (Unit {0}) Failed = Ok tt in Commits tells shape parts count queue now queue now ok)
+commits_none tells shape parts count queue now fit waiting none no_calls = record {
+  fit = fit;
+  depth = refl;
+  any_moment = λ told. stays now.moment now.left_since _;
+  waiting = waiting;
+  committed = λ told. ap (λ (ps : List Part). applied ps (data_with shape queue now.content.bytes)) (sym (none told));
+  cells = λ told g t e lt lt' lt''. refl;
+  does = behind_none tells now tt;
+  costs = record { done = λ told. omega (arith, no_calls); most = omega arith };
 }

@@ -1,7 +1,7 @@
 -- Ballots that go and come, and the entries with them.
-use Rattle.std.proofs.Common.{◌≡◌, ℕ, zero, suc, ◌<◌, Bool, true, false, cond, ◌||◌, ◌⊎◌, inl, inr, List, [], ◌∷◌, ◌++◌, take, drop, map, refl, sym, ◌∙◌, ap}
+use Rattle.std.proofs.Common.{◌≡◌, ℕ, zero, suc, ◌<◌, Bool, true, false, cond, ◌&&◌, ◌||◌, ◌⊎◌, nat_eq, nat_lt, inl, inr, List, [], ◌∷◌, ◌++◌, take, drop, map, refl, sym, ◌∙◌, ap, arith}
 use Rattle.std.specs.List.{range_with_len}
-use Rattle.std.proofs.lemmas.Bool.{cases_Bool, or_parts, false≢true}
+use Rattle.std.proofs.lemmas.Bool.{cases_Bool, cases_eq, eq-eqb, ltb-false, ne_eqb, or_parts, false≢true}
 use Rattle.std.proofs.lemmas.List.Elements.{All-head, All-tail}
 use Rattle.array_shape.specs.declared.shape.Shape.{Shape}
 use Rattle.array_shape.specs.NumberSet.{has}
@@ -45,7 +45,7 @@ whole_lacks (suc n) [] t first rest = refl
 whole_lacks (suc n) (b ∷ bs) t first rest = let both = or_parts (has b.group t) (has_some (take n bs) t) first in λ i. both.0 i || whole_lacks n bs t both.1 rest i
 
 -- one more at the end
-pushed_lacks : (bs : List Ballot) (b : Ballot) (t : ℕ) → has_some bs t ≡ false → has b.group t ≡ false → has_some (bs ++ b ∷ []) t ≡ false
+pub pushed_lacks : (bs : List Ballot) (b : Ballot) (t : ℕ) → has_some bs t ≡ false → has b.group t ≡ false → has_some (bs ++ b ∷ []) t ≡ false
 pushed_lacks [] b t lacks none = λ i. none i || false
 pushed_lacks (c ∷ bs) b t lacks none = let both = or_parts (has c.group t) (has_some bs t) lacks in λ i. both.0 i || pushed_lacks bs b t both.1 none i
 
@@ -156,6 +156,25 @@ module _ (shape : Shape) (cells : List Cells) (entries : ℕ → List Entry) (bs
     apart = apart_push bs b tied.apart free;
     none = λ t lt beside lacks. let both = lacks_both bs b t lacks in tied.none t lt (aside_is t ∙ both.1) both.0;
   }
+
+-- the entries of one number come in, which is set aside with others; if none may wait, nothing comes in
+with_true : (b : Bool) → (b && true) ≡ false → b ≡ false
+with_true true is = is
+with_true false is = refl
+
+pub set_aside : (shape : Shape) (cells : List Cells) (old new : ℕ → List Entry) (bs : List Ballot) (depth tid : ℕ) (aside : ℕ → Bool) → has_some bs tid ≡ false → ((t : ℕ) → (t ≡ tid → ⊥) → new t ≡ old t) → (depth ≡ 0 → (t : ℕ) → new t ≡ old t)
+    → AreTied shape cells old bs (λ t. nat_lt 0 depth && aside t) → AreTied shape cells new bs (λ t. nat_lt 0 depth && (nat_eq t tid || aside t))
+set_aside shape cells old new bs depth tid aside lacks others none_waits tied = record {
+  named = all_named_same shape cells cells old new bs (λ t lt so. others t (λ is. false≢true (sym lacks ∙ ap (has_some bs) (sym is) ∙ so))) (λ g t lt lt' so. refl) tied.named;
+  apart = tied.apart;
+  none = λ t lt beside free. elim (cases_eq t tid) [
+    | inl is ↦
+        let off = with_true (nat_lt 0 depth) ((λ i. nat_lt 0 depth && (sym (eq-eqb t tid is) i || aside t)) ∙ beside) in
+        let zero_is : depth ≡ 0 = omega (arith, ltb-false 0 depth off) in
+        none_waits zero_is t ∙ tied.none t lt (ap (λ (b : Bool). b && aside t) off) free
+    | inr ne ↦ others t ne ∙ tied.none t lt ((λ i. nat_lt 0 depth && (sym (ne_eqb t tid ne) i || aside t)) ∙ beside) free
+  ];
+}
 
 -- the commits of the ballots have just the cells of the entries
 pub commits_have_cells : (shape : Shape) (image : List ℕ) (cells : List Cells) (entries : ℕ → List Entry) (bs : List Ballot) → HaveNamed shape cells entries bs → Each (HaveCells shape entries) (commits_of shape image cells bs)

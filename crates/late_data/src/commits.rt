@@ -20,7 +20,7 @@ pub struct LateData {
 }
 
 impl LateData {
-    ghost use Rattle.std.specs.Prelude.{◌≡◌, ◌+◌, ◌*◌, ◌≤◌, ◌<◌, ◌&&◌, Bool, ℕ, List, [], true, false, nat_lt, All, IfOk, IsTrue, OnOk, length};
+    ghost use Rattle.std.specs.Prelude.{◌≡◌, ◌+◌, ◌*◌, ◌≤◌, ◌<◌, ◌&&◌, ◌||◌, Bool, ℕ, List, [], true, false, nat_eq, nat_lt, All, IfOk, IsTrue, OnOk, length};
     ghost use Rattle.mars_base.specs.Bytes.{range};
     ghost use Rattle.mars_base.specs.Costs.{Costs};
     ghost use Rattle.pcm_media.specs.Images.{Content};
@@ -28,7 +28,8 @@ impl LateData {
     ghost use Rattle.array_shape.specs.NumberSet.{has};
     ghost use Rattle.array_shape.specs.Places.{data_len, media_len};
     ghost use Rattle.coordinator.specs.Commits.{AreGood, AreThere, cells_in};
-    ghost use Rattle.deferred_parts.specs.Entries.{AreHeld, IsEntry};
+    ghost use Rattle.array_shape.specs.Logged.{ranges_of};
+    ghost use Rattle.deferred_parts.specs.Entries.{AreHeld, IsEntry, parts_in, ranges_in};
     ghost use Rattle.deferred_parts.specs.Reading.{read_calls};
     ghost use Rattle.deferred_parts.specs.Shown.{entries_of};
     ghost use Rattle.late_commits.specs.Orders.{IsFree, due_for};
@@ -107,6 +108,7 @@ impl LateData {
     pub fn keep(&mut self, shape: &Shape, tid: u8, entries: &[Entry])
         requires ready { IsReady shape.now self.old }
         requires tid { tid < shape.now.numbers }
+        requires apart { IsFree tid self.old.queue.ballots.items }
         requires none { entries_of self.old.parts tid ≡ [] }
         requires entries { All (IsEntry shape.now) entries.now }
         requires few { length entries.now ≤ shape.now.loggers * shape.now.entries }
@@ -115,6 +117,8 @@ impl LateData {
         ensures here { 0 < self.old.queue.depth → entries_of self.new.parts tid ≡ entries.now }
         ensures others { (t : ℕ) → (t ≡ tid → ⊥) → entries_of self.new.parts t ≡ entries_of self.old.parts t }
         ensures at_once { self.old.queue.depth ≡ 0 → self.new.parts ≡ self.old.parts }
+        ensures tied { (aside : ℕ → Bool) → IsTied shape.now self.old (λ t. nat_lt 0 self.old.queue.depth && aside t) → IsTied shape.now self.new (λ t. nat_lt 0 self.old.queue.depth && (nat_eq t tid || aside t)) }
+        ensures held { (image : List ℕ) → ranges_of (parts_in shape.now image tid entries.now) ≡ ranges_in entries.now → AreHeld shape.now image (entries_of self.old.parts) → AreHeld shape.now image (entries_of self.new.parts) }
     {
         if self.queue.depth() == 0 {
             return;
@@ -141,6 +145,7 @@ impl LateData {
         requires numbers { 0 < ballot.group }
         requires apart { (t : ℕ) → has ballot.group t ≡ true → IsFree t self.old.queue.ballots.items }
         ensures does { CommitsOne M.tells shape.now ballot self.old.queue (M.view media.old) self.new.queue (M.view media.new) result }
+        ensures waits { 0 < self.old.queue.depth → OnOk result (0 < length self.new.queue.ballots.items) }
         ensures stays { Stays M.tells shape.now self.old (M.view media.old) self.new (M.view media.new) }
         ensures tied { OnOk result (IsTied shape.now self.new (λ t. false)) }
     {

@@ -1,6 +1,6 @@
 -- Cells that are written, in part or whole.
 use Rattle.std.proofs.Common.{◌≡◌, ℕ, zero, suc, ◌+◌, ◌*◌, ◌^◌, ◌<◌, ◌≤◌, inl, inr, List, [], ◌∷◌, ◌++◌, length, get_or, take, drop, refl, sym, ◌∙◌, ap, subst, arith}
-use Rattle.std.proofs.lemmas.List.{get_or_append_left, get_or-append-add, get_or-drop, get_or-take, length-take-le, length-drop, ext_get_or}
+use Rattle.std.proofs.lemmas.List.{length-append, get_or_append_left, get_or-append-add, get_or-drop, get_or-take, length-take-le, length-drop, ext_get_or}
 use Rattle.std.proofs.lemmas.Bool.{cases_lt, cases_eq}
 use Rattle.std.proofs.lemmas.Nat.{mul-le}
 use Rattle.mars_base.specs.Bytes.{put, range}
@@ -10,13 +10,15 @@ use Rattle.pcm_media.proofs.Left.{get_or-put_outside}
 use Rattle.pcm_media.proofs.Ranges.{get_or-range, length-range}
 use Rattle.array_shape.specs.declared.shape.Shape.{Shape}
 use Rattle.array_shape.specs.Places.{media_len, cell_at}
+use Rattle.array_shape.specs.Areas.{cell as cell_area}
+use Rattle.array_shape.proofs.Apart.{areas_apart}
 use Rattle.row_bytes.specs.declared.head.Head.{Head}
 use Rattle.row_bytes.specs.Written.{head_bytes}
 use Rattle.row_bytes.proofs.Saying.{head_said-same, head_said-bytes}
 use Rattle.array_shape.specs.Logged.{Part, applied, IsOwned, AllOwned}
-use Rattle.array_image.specs.Image.{cell_of, cell_head, cell_part, IsGoodCell}
+use Rattle.array_image.specs.Image.{cell_of, cell_head, cell_part, parts_from, IsGoodCell}
 use Rattle.array_image.proofs.Places.{cell_fits_in}
-use Rattle.array_image.proofs.Rows.{cell_away}
+use Rattle.array_image.proofs.Rows.{cell_away, parts_same}
 use Rattle.logger.specs.Cells.{cell_writes, cell_ranges, HoldsParts}
 
 -- a write within a range
@@ -142,4 +144,47 @@ module _ (shape : Shape) (g t : ℕ) (there : g < shape.loggers) (small : t < sh
           | inl is ↦ subst (λ (j : ℕ). IsGoodCell shape g (cell_of shape (applied (cell_writes shape g t (e + 1) ps) (put_one image e p)) g t j)) (sym is) (subst (IsGoodCell shape g) (sym kept) (one_good image e p long below short fits' owned.0))
           | inr ne ↦ rest.good k (omega arith) (omega arith)
         ];
+      }
+
+  parts_from_more : (image : List ℕ) (n e : ℕ) → parts_from shape image g t e (suc n) ≡ parts_from shape image g t e n ++ cell_part (cell_of shape image g t (e + n)) ∷ []
+  parts_from_more image zero e = ap (λ (k : ℕ). cell_part (cell_of shape image g t k) ∷ []) (let same : e ≡ e + 0 = omega arith in same)
+  parts_from_more image (suc n) e =
+      ap (λ (ps : List Part). cell_part (cell_of shape image g t e) ∷ ps) (parts_from_more image n (e + 1))
+      ∙ ap (λ (k : ℕ). cell_part (cell_of shape image g t e) ∷ parts_from shape image g t (e + 1) n ++ cell_part (cell_of shape image g t k) ∷ []) (let same : e + 1 + n ≡ e + suc n = omega arith in same)
+
+  -- one more part behind those that the cells hold
+  pub holds_more : (ps : List Part) (p : Part) (e : ℕ) (image : List ℕ) → length image ≡ media_len shape → e + length ps < shape.entries → IsOwned shape g p.0 (length p.1)
+      → HoldsParts shape image g t e ps → HoldsParts shape (applied (cell_writes shape g t (e + length ps) (p ∷ [])) image) g t e (ps ++ p ∷ [])
+  holds_more ps p e image long below owned holds =
+      let last = e + length ps in
+      let short : length p.1 ≤ 512 = omega (arith, owned.placed.page) in
+      let new = put_one image (e + length ps) p in
+      let fits = address_fits p owned in
+      let grown = length-append ps (p ∷ []) in
+      let one = one_away image last p long below short in
+      let same : (k : ℕ) → e ≤ k → k < e + length ps → cell_of shape (put_one image (e + length ps) p) g t k ≡ cell_of shape image g t k =
+      λ k le lt. cell_away shape ((cell_at shape g t (e + length ps), 528) ∷ []) image (put_one image (e + length ps) p) g t k one (λ i from to. ((λ from' to'. omega arith), tt)) in
+      record {
+        hold = ap (parts_from shape new g t e) (let many : length (ps ++ p ∷ []) ≡ suc (length ps) = omega (arith, grown) in many)
+            ∙ parts_from_more new (length ps) e
+            ∙ (λ i. (parts_same shape image new g t e (length ps) same ∙ holds.hold) i ++ one_part image last p long below short fits i ∷ []);
+        good = λ k le lt. elim (cases_eq k (e + length ps)) [
+          | inl is ↦ subst (λ (j : ℕ). IsGoodCell shape g (cell_of shape (put_one image (e + length ps) p) g t j)) (sym is) (one_good image last p long below short fits owned)
+          | inr ne ↦ subst (IsGoodCell shape g) (sym (same k le (omega (arith, grown)))) (holds.good k le (omega (arith, grown)))
+        ];
+      }
+
+  -- the cells of another logger stay
+  pub holds_beside : (h f : ℕ) → h < shape.loggers → f < shape.entries → (h ≡ g → ⊥) → (ps : List Part) (e : ℕ) (old new : List ℕ) → e + length ps ≤ shape.entries → SameOutside ((cell_at shape h t f, 528) ∷ []) old new
+      → HoldsParts shape old g t e ps → HoldsParts shape new g t e ps
+  holds_beside h f there' inside ne ps e old new fits same holds =
+      let stays : (k : ℕ) → e ≤ k → k < e + length ps → cell_of shape new g t k ≡ cell_of shape old g t k =
+      λ k le lt. cell_away shape ((cell_at shape h t f, 528) ∷ []) old new g t k same (λ i from to. (
+        (λ from' to'. elim (areas_apart shape (cell_area h t f) (cell_area g t k) (there', small, inside) (there, small, omega arith) (λ is. ne (let first : h ≡ g = cc in first)))
+            [ inl before ↦ omega arith | inr behind ↦ omega arith ]),
+        tt,
+      )) in
+      record {
+        hold = parts_same shape old new g t e (length ps) stays ∙ holds.hold;
+        good = λ k le lt. subst (IsGoodCell shape g) (sym (stays k le lt)) (holds.good k le lt);
       }

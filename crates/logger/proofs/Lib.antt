@@ -4,3 +4,4 @@ pub mod Heading
 pub mod Ranges
 pub mod Staging
 pub mod Applying
+pub mod Dealing

@@ -142,7 +142,7 @@ module _ (shape : Shape) (g t held addr : ℕ) (bytes : List ℕ) (tells : Bool)
 
 -- the pieces that a logger has are parts of it
 module _ (shape : Shape) (g addr : ℕ) (bytes : List ℕ) where
-  write_part_owned : (part : Part) → IsWithin shape addr (length bytes) part → part.logger ≡ g → IsOwned shape g part.addr (length (part_of_write addr bytes part).1)
+  pub write_part_owned : (part : Part) → IsWithin shape addr (length bytes) part → part.logger ≡ g → IsOwned shape g part.addr (length (part_of_write addr bytes part).1)
   write_part_owned part within is =
       let long = length-take-le part.len (drop (part.addr - addr) bytes) (omega (arith, length-drop (part.addr - addr) bytes, within.to, within.from)) in
       subst (λ (n : ℕ). IsOwned shape g part.addr n) (sym long) (record { placed = within.whole.placed; logger = sym within.whole.logger ∙ is })

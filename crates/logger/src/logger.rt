@@ -278,7 +278,7 @@ impl Logger {
         Ok(())
     }
 
-    fn put_cell<M: Media>(
+    pub(crate) fn put_cell<M: Media>(
         self,
         media: &mut M,
         tid: u8,
@@ -358,7 +358,7 @@ impl Logger {
 }
 
 // The bytes of a write that belong to one of its parts.
-fn bytes_of(part: Part, addr: u64, bytes: &[u8]) -> &[u8]
+pub(crate) fn bytes_of(part: Part, addr: u64, bytes: &[u8]) -> &[u8]
     requires from { addr ≤ part.addr }
     requires to { part.addr + part.len ≤ addr + length bytes.now }
     ensures { result.now ≡ (part_of_write addr bytes.now part).1 }

@@ -1,5 +1,5 @@
 -- What becomes of a call of a live transaction, which is out of its seat until the call is answered.
-use Rattle.std.proofs.Common.{◌≡◌, ℕ, inl, inr, Bool, nat_eq, List, ◌∷◌, [], ◌++◌, length, Option, Some, Result, Ok, Err, sym, ap, subst, ◌∙◌}
+use Rattle.std.proofs.Common.{◌≡◌, ℕ, inl, inr, Bool, true, false, refl, nat_eq, List, ◌∷◌, [], ◌++◌, length, Option, Some, Result, Ok, Err, sym, ap, subst, ◌∙◌}
 use Rattle.std.specs.Prelude.{IsErrOf}
 use Rattle.std.specs.Map.{update}
 use Rattle.array_shape.specs.declared.shape.Shape.{Shape}
@@ -12,14 +12,18 @@ use Rattle.history.specs.declared.call.Reply.{Reply}
 use Rattle.history.specs.declared.call.Reply.TheVariants as reply
 use Rattle.record_table.specs.Does.{Does}
 use Rattle.record_table.specs.declared.fault.TableFault.{TableFault}
-use Rattle.record_table.specs.declared.fault.TableFault.TheVariants.{Media, NoMemory}
+use Rattle.record_table.specs.declared.fault.TableFault.TheVariants.{SlotsFull, PagesFull, SavesFull, LogFull, Media, Dead, Damaged, NoMemory}
+use Rattle.record_table.specs.Faults.{reply_to}
+use Rattle.std.proofs.lemmas.Bool.{true≢false}
+use Rattle.history.specs.declared.call.Call.TheVariants.{Begin, Get, Put, Del, Scan, Save, Back, Commit, Abort}
+use Rattle.caller_steps.specs.Fate.{is_refusal, is_busy}
 use Rattle.caller_steps.specs.State.{State}
 use Rattle.caller_steps.specs.Locked.{IsFree}
 use Rattle.caller_steps.specs.Core.{Steps}
 use Rattle.mars_core.specs.Held.{core_over}
 use Rattle.mars_core.specs.Kept.{IsKept}
 use Rattle.mars_core.specs.Seats.{Seats, live_in, bare}
-use Rattle.mars_core.specs.Works.{IsShown, Works, IsAnswered, Unmade, Made}
+use Rattle.mars_core.specs.Works.{IsShown, IsSaveRefusal, Works, IsAnswered, Unmade, Made}
 use Rattle.mars_core.proofs.Answering.{IndexLaws, did, did_unkept, granted_keeps, granted_steps, refused_keeps, refused_steps}
 use Rattle.mars_core.proofs.Mirroring.{IsOfTable}
 use Rattle.mars_core.proofs.Prefixes.{StoreLaws}
@@ -28,6 +32,47 @@ use Rattle.mars_core.proofs.Stepping.{ShowsPages}
 
 no_media : (let r : Result Reply TableFault = Err NoMemory in IsErrOf r Media) → ⊥
 no_media is = absurd (cc)
+
+-- no reply of a table is that of a caller who finds a lock
+granted_plain : (answer : Reply) → is_refusal answer ≡ false → is_busy answer ≡ false
+granted_plain (reply.Busy holder) granted = absurd (true≢false granted)
+granted_plain _ granted = refl
+
+pub fault_plain : (fault : TableFault) → is_busy (reply_to fault) ≡ false
+fault_plain (SlotsFull n) = refl
+fault_plain (PagesFull n) = refl
+fault_plain SavesFull = refl
+fault_plain (LogFull g h n) = refl
+fault_plain Media = refl
+fault_plain Dead = refl
+fault_plain (Damaged page) = refl
+fault_plain NoMemory = refl
+
+save_plain : (saves : ℕ) (call : Call) (answer : Reply) → IsSaveRefusal saves call answer → is_busy answer ≡ false
+save_plain saves Save answer refused = ap is_busy refused.1
+save_plain saves (Back n) answer refused = ap is_busy refused.1
+save_plain saves (Get key) answer refused = absurd refused
+save_plain saves (Put key value) answer refused = absurd refused
+save_plain saves (Del key) answer refused = absurd refused
+save_plain saves (Scan low high) answer refused = absurd refused
+save_plain saves Begin answer refused = absurd refused
+save_plain saves Commit answer refused = absurd refused
+save_plain saves Abort answer refused = absurd refused
+
+-- a call that clashes with nobody's is not told so
+pub unmade_plain : (saves : ℕ) (seats : Seats) (t : ℕ) (call : Call) (answer : Reply) → IsFree (bare seats) t call → Unmade saves seats t call answer → is_busy answer ≡ false
+unmade_plain saves seats t call answer free (inl refused) = save_plain saves call answer refused
+unmade_plain saves seats t call answer free (inr (there, inl none)) = ap is_busy none
+unmade_plain saves seats t call answer free (inr (there, inr (holder, held, busy))) = absurd (free holder busy.0)
+
+pub made_plain : (tells : Bool) (Opens : List ℕ → List ℕ → Type 0) (index : below.Index) (saves : ℕ) (seats : Seats) (t : ℕ) (calls : Granted) (call : Call) (p q : PagesView) (left : Granted) (answer : Reply)
+    → Made tells Opens index saves seats t calls call p q left answer → is_busy answer ≡ false
+made_plain tells Opens index saves seats t calls call p q left answer made = go made.result made.works made.answered
+  where
+    go : (result : Result Reply TableFault) → Works tells Opens index t call p q result → IsAnswered calls call result left answer → is_busy answer ≡ false
+    go (Ok r) works (inl (more, told)) = ap is_busy told ∙ granted_plain r works.granted
+    go (Ok r) works (inr (listed_rows, same, still, told)) = ap is_busy told
+    go (Err f) works (still, told) = ap is_busy told ∙ fault_plain f
 
 -- A state s over pages p, of which the caller's transaction has these calls, and the seats without it.
 module _ (tells : Bool) (Opens : Shape → List ℕ → List ℕ → Type 0) (index : below.Index) (p : PagesView) (s : State) (shows : ShowsPages index p s) (count : ℕ) (rows : List (ℕ × List ℕ))

@@ -1,21 +1,18 @@
 -- Lists of live transactions.
-use Rattle.std.proofs.Common.{nat_eq, sym, ap, Bool, Some, get_or, ◌≡◌, ◌≤◌, ◌<◌, ◌+◌, ℕ, zero, suc, inl, inr, [], ◌∷◌, ◌++◌, length, Option, None, unwrap_or, refl, subst, ◌∙◌, arith, bit_and}
+use Rattle.std.proofs.Common.{false, nat_eq, sym, ap, Bool, Some, get_or, ◌≡◌, ◌≤◌, ◌<◌, ◌+◌, ℕ, zero, suc, inl, inr, [], ◌∷◌, ◌++◌, length, Option, None, unwrap_or, refl, subst, ◌∙◌, arith}
 use Rattle.std.proofs.Math.ListN.{set, length-set}
 use Rattle.std.specs.Prelude.{if◌then◌else◌}
 use Rattle.std.specs.Option.{option_and_then}
 use Rattle.std.proofs.lemmas.Bool.Decides.{eqb_tells}
 use Rattle.std.proofs.lemmas.Option.{slice_get-get_or}
-use Rattle.std.proofs.lemmas.List.{set-get_or}
 use Rattle.std.specs.Map.{update}
 use Rattle.std.proofs.lemmas.Bool.{cases_eq, cases_lt, both_ways}
 use Rattle.history.specs.Table.{Granted}
-use Rattle.history.specs.Locks.{touches, clash, Meets}
+use Rattle.history.specs.Locks.{touches, touched, clash, Meets}
 use Rattle.history.specs.declared.call.Call.{Call}
 use Rattle.history.proofs.Modes.{clash_none}
 use Rattle.caller_steps.specs.Locked.{Blocks}
-use Rattle.mars_core.specs.Masks.{mask_of, IsMaskOf}
 use Rattle.mars_core.specs.Seats.{Seats, live_in, calls_at, bare, Seated}
-use Rattle.mars_core.proofs.Touching.{masks_apart}
 
 pub length-push : (seats : Seats) (one : Option Granted) (n : ℕ) → length seats ≡ n → length (seats ++ one ∷ []) ≡ n + 1
 length-push [] one n is = omega (arith, is)
@@ -77,11 +74,13 @@ module _ (seats : Seats) (caller : ℕ) (call : Call) where
     | inr ne ↦ before holder (omega (arith, lt, ne)) blocks
   ]
 
-  -- nor is one whose mask shares no bit with the call's
-  pub free_apart : (n mask : ℕ) → ((holder : ℕ) → holder < n → Blocks (bare seats) caller call holder → ⊥) → IsMaskOf (calls_at seats n) mask → bit_and mask (mask_of call) ≡ 0
+  -- nor is one with whose transaction the call clashes nowhere
+  pub free_apart : (n : ℕ) → ((holder : ℕ) → holder < n → Blocks (bare seats) caller call holder → ⊥)
+      → ((stripe : ℕ) → clash (touches call stripe) (touched (calls_at seats n) stripe) ≡ false)
       → (holder : ℕ) → holder < n + 1 → Blocks (bare seats) caller call holder → ⊥
-  free_apart n mask before is none holder lt blocks = elim (cases_eq holder n) [
-    | inl e ↦ masks_apart (calls_at seats n) mask call is none (subst (λ (h : ℕ). Meets call (calls_at seats h)) e blocks.1)
+  free_apart n before none holder lt blocks = elim (cases_eq holder n) [
+    | inl e ↦ (let meets = subst (λ (h : ℕ). Meets call (calls_at seats h)) e blocks.1 in
+        both_ways (clash (touches call meets.0) (touched (calls_at seats n) meets.0)) (none meets.0) meets.1)
     | inr ne ↦ before holder (omega (arith, lt, ne)) blocks
   ]
 
@@ -90,5 +89,5 @@ module _ (seats : Seats) (caller : ℕ) (call : Call) where
   free_all n all before holder blocks = elim (cases_lt holder n) [
     | inl lt ↦ before holder lt blocks
     | inr le ↦ (let nothing : Meets call [] = subst (λ (o : Option Granted). Meets call (unwrap_or o [])) (none_beyond seats holder (omega (arith, all, le))) blocks.1 in
-        absurd (both_ways (clash (touches call nothing.0) None) (clash_none (touches call nothing.0)) nothing.1))
+        absurd (both_ways (clash (touches call nothing.0) (touched [] nothing.0)) (clash_none (touches call nothing.0)) nothing.1))
   ]

@@ -82,6 +82,9 @@ module _ (s mid : State) (t : ℕ) (x : Option Granted) (live : mid.live ≡ upd
   blocks_from : (holder : ℕ) → Blocks s t call holder → Blocks mid t call holder
   blocks_from holder (ne, meets) = (ne, subst (λ (cs : Granted). Meets call cs) (sym (calls_there s mid t x live holder ne)) meets)
 
+  pub free_after : IsFree s t call → IsFree mid t call
+  free_after free holder blocks = free holder (blocks_to holder blocks)
+
   pub free_before : IsFree mid t call → IsFree s t call
   free_before free holder blocks = free holder (blocks_from holder blocks)
 

@@ -1,26 +1,25 @@
 -- Masks of touched stripes.
-use Rattle.std.proofs.Common.{◌≡◌, ◌≢◌, ◌<◌, ◌⊎◌, ◌&&◌, ℕ, zero, suc, ◌-◌, ◌^◌, max, min, inl, inr, Bool, true, false, cond, ◌||◌, nat_eq, nat_lt, [], ◌∷◌, ◌++◌, Option, Some, None, bit_and, bit_or, refl, sym, ap, subst, ◌∙◌, arith, lt-ltb, le-ltb, eq-eqb, ne_eqb}
-use Rattle.std.specs.Prelude.{is_some}
+use Rattle.std.proofs.Common.{◌≡◌, ◌≢◌, ◌<◌, ◌⊎◌, ◌&&◌, ℕ, zero, suc, ◌-◌, ◌^◌, max, min, inl, inr, Bool, true, false, cond, not, ◌||◌, nat_eq, nat_lt, List, [], ◌∷◌, ◌++◌, bit_and, bit_or, refl, sym, ap, subst, ◌∙◌, arith, lt-ltb, le-ltb, eq-eqb, ne_eqb}
+use Rattle.std.specs.Prelude.{MatchBool, IsTrue, IsFalse}
 use Rattle.std.specs.Int.{bit_at}
+use Rattle.std.proofs.Math.Pow.{pow-lt}
 use Rattle.std.proofs.lemmas.Bool.{cases_eq, cases_lt}
 use Rattle.std.proofs.lemmas.Nat.Bits.{bit_at-zero, bit_at_and, bit_at_or, bit_at-pow_same, bit_at-pow_other, bit_at_ones, bit_at_ones_above, same_from_bits, bit_at_above}
 use Rattle.history.specs.Table.{Granted}
-use Rattle.history.specs.Locks.{Mode, Exclusive, stripe_of, touches, touched, Meets}
+use Rattle.history.specs.declared.locks.Mode.{Mode}
+use Rattle.history.specs.declared.locks.Mode.TheVariants.{Shared, Exclusive}
+use Rattle.history.specs.Locks.{Touch, key_stripe, touches, touched, is_touch, clash}
 use Rattle.history.specs.declared.call.Call.{Call}
-use Rattle.history.specs.declared.call.Call.TheVariants.{Begin, Get, Put, Del, Scan, Save, Back, Commit, Abort}
+use Rattle.history.specs.declared.call.Call.TheVariants.{Get, Put, Del, Scan}
 use Rattle.history.specs.declared.call.Reply.{Reply}
-use Rattle.history.proofs.Modes.{is_touch, clash_touches, clash_both}
 use Rattle.history.proofs.OneMore.{touched-push}
-use Rattle.mars_core.specs.Masks.{mask_of, IsMaskOf}
+use Rattle.mars_core.specs.declared.masks.Masks.{Masks}
+use Rattle.mars_core.specs.Masks.{IsMaskOf, AreMasksOf}
 
-is_there : (b : Bool) → b ≡ is_some (cond b (Some Exclusive) None)
-is_there true = refl
-is_there false = refl
-
-key_mask : (key stripe : ℕ) → bit_at (2 ^ stripe_of key) stripe ≡ cond (nat_eq (stripe_of key) stripe) 1 0
-key_mask key stripe = elim (cases_eq stripe (stripe_of key)) [
-  | inl is ↦ ap (bit_at (2 ^ stripe_of key)) is ∙ bit_at-pow_same (stripe_of key) ∙ ap (λ (b : Bool). cond b 1 0) (sym (eq-eqb (stripe_of key) stripe (sym is)))
-  | inr ne ↦ bit_at-pow_other (stripe_of key) stripe ne ∙ ap (λ (b : Bool). cond b 1 0) (sym (ne_eqb (stripe_of key) stripe (λ e. ne (sym e))))
+key_mask : (key stripe : ℕ) → bit_at (2 ^ key_stripe key) stripe ≡ cond (nat_eq (key_stripe key) stripe) 1 0
+key_mask key stripe = elim (cases_eq stripe (key_stripe key)) [
+  | inl is ↦ ap (bit_at (2 ^ key_stripe key)) is ∙ bit_at-pow_same (key_stripe key) ∙ ap (λ (b : Bool). cond b 1 0) (sym (eq-eqb (key_stripe key) stripe (sym is)))
+  | inr ne ↦ bit_at-pow_other (key_stripe key) stripe ne ∙ ap (λ (b : Bool). cond b 1 0) (sym (ne_eqb (key_stripe key) stripe (λ e. ne (sym e))))
 ]
 
 scan_mask : (stripe : ℕ) → bit_at (2 ^ 64 - 1) stripe ≡ cond (nat_lt stripe 64) 1 0
@@ -29,17 +28,21 @@ scan_mask stripe = elim (cases_lt stripe 64) [
   | inr le ↦ bit_at_ones_above 64 stripe le ∙ ap (λ (b : Bool). cond b 1 0) (sym (le-ltb stripe 64 le))
 ]
 
--- a call's mask has the stripes that it touches
-pub mask_of_call : (call : Call) (stripe : ℕ) → bit_at (mask_of call) stripe ≡ cond (is_some (touches call stripe)) 1 0
-mask_of_call (Get key) stripe = key_mask key stripe ∙ ap (λ (b : Bool). cond b 1 0) (is_there (nat_eq (stripe_of key) stripe))
-mask_of_call (Put key value) stripe = key_mask key stripe ∙ ap (λ (b : Bool). cond b 1 0) (is_there (nat_eq (stripe_of key) stripe))
-mask_of_call (Del key) stripe = key_mask key stripe ∙ ap (λ (b : Bool). cond b 1 0) (is_there (nat_eq (stripe_of key) stripe))
-mask_of_call (Scan low high) stripe = scan_mask stripe ∙ ap (λ (b : Bool). cond b 1 0) (is_there (nat_lt stripe 64))
-mask_of_call Begin stripe = bit_at-zero stripe
-mask_of_call Save stripe = bit_at-zero stripe
-mask_of_call (Back n) stripe = bit_at-zero stripe
-mask_of_call Commit stripe = bit_at-zero stripe
-mask_of_call Abort stripe = bit_at-zero stripe
+-- the masks of calls
+pub none_masks : AreMasksOf (λ stripe mode. false) (record { reads = 0; writes = 0 })
+none_masks = record { reads = bit_at-zero; writes = bit_at-zero }
+
+pub get_masks : (key : ℕ) → AreMasksOf (touches (Get key)) (record { reads = 2 ^ key_stripe key; writes = 0 })
+get_masks key = record { reads = key_mask key; writes = bit_at-zero }
+
+pub scan_masks : (low high : ℕ) → AreMasksOf (touches (Scan low high)) (record { reads = 2 ^ 64 - 1; writes = 0 })
+scan_masks low high = record { reads = scan_mask; writes = bit_at-zero }
+
+pub put_masks : (key : ℕ) (value : List ℕ) → AreMasksOf (touches (Put key value)) (record { reads = 0; writes = 2 ^ key_stripe key })
+put_masks key value = record { reads = bit_at-zero; writes = key_mask key }
+
+pub del_masks : (key : ℕ) → AreMasksOf (touches (Del key)) (record { reads = 0; writes = 2 ^ key_stripe key })
+del_masks key = record { reads = bit_at-zero; writes = key_mask key }
 
 either : (a b : Bool) → max (cond a 1 0) (cond b 1 0) ≡ cond (a || b) 1 0
 either true true = refl
@@ -47,25 +50,17 @@ either true false = refl
 either false true = refl
 either false false = refl
 
--- one more call adds its mask
-pub mask-push : (calls : Granted) (mask : ℕ) (call : Call) (reply : Reply) → IsMaskOf calls mask → IsMaskOf (calls ++ (call, reply) ∷ []) (bit_or mask (mask_of call))
-mask-push calls mask call reply is stripe =
-    bit_at_or mask (mask_of call) stripe ∙ ap (λ (n : ℕ). max n (bit_at (mask_of call) stripe)) (is stripe) ∙ ap (max (cond (is_some (touched calls stripe)) 1 0)) (mask_of_call call stripe)
-    ∙ either (is_some (touched calls stripe)) (is_some (touches call stripe))
-    ∙ ap (λ (b : Bool). cond b 1 0) (sym (ap (λ (o : Option Mode). is_some o) (touched-push calls call reply stripe) ∙ is_touch (touched calls stripe) (touches call stripe)))
+module _ (mode : Mode) (one other : ℕ → Touch) (mask more : ℕ) (is : IsMaskOf mode one mask) (are : IsMaskOf mode other more) where
+  or_mask : IsMaskOf mode (λ stripe mode. one stripe mode || other stripe mode) (bit_or mask more)
+  or_mask stripe = bit_at_or mask more stripe ∙ (λ i. max (is stripe i) (are stripe i)) ∙ either (one stripe mode) (other stripe mode)
 
-module _ (calls : Granted) (mask : ℕ) (call : Call) (is : IsMaskOf calls mask) where
-  both_bits : (stripe : ℕ) → bit_at (bit_and mask (mask_of call)) stripe ≡ min (cond (is_some (touched calls stripe)) 1 0) (cond (is_some (touches call stripe)) 1 0)
-  both_bits stripe =
-      bit_at_and mask (mask_of call) stripe ∙ ap (λ (n : ℕ). min n (bit_at (mask_of call) stripe)) (is stripe) ∙ ap (min (cond (is_some (touched calls stripe)) 1 0)) (mask_of_call call stripe)
-
-  -- if the masks share no bit, the call clashes with what was touched at no stripe
-  pub masks_apart : bit_and mask (mask_of call) ≡ 0 → Meets call calls → ⊥
-  masks_apart none (stripe, clashes) =
-      let touch = clash_touches (touches call stripe) (touched calls stripe) clashes in
-      let bit : min (cond (is_some (touched calls stripe)) 1 0) (cond (is_some (touches call stripe)) 1 0) ≡ 0 = sym (both_bits stripe) ∙ ap (λ (n : ℕ). bit_at n stripe) none ∙ bit_at-zero stripe in
-      let one : min 1 1 ≡ 0 = subst (λ b. min (cond b 1 0) 1 ≡ 0) touch.1 (subst (λ b. min (cond (is_some (touched calls stripe)) 1 0) (cond b 1 0) ≡ 0) touch.0 bit) in
-      omega (arith, one)
+-- what is touched together
+pub more_masks : (one other : ℕ → Touch) (a b : Masks) → AreMasksOf one a → AreMasksOf other b
+    → AreMasksOf (λ stripe mode. one stripe mode || other stripe mode) (record { reads = bit_or a.reads b.reads; writes = bit_or a.writes b.writes })
+more_masks one other a b first second = record {
+  reads = or_mask Shared one other a.reads b.reads first.reads second.reads;
+  writes = or_mask Exclusive one other a.writes b.writes first.writes second.writes;
+}
 
 -- some number below n passes a test, or none does
 search_below : (n : ℕ) (P : ℕ → Bool) → ((i : ℕ) × (P i ≡ true)) ⊎ ((i : ℕ) → i < n → P i ≡ false)
@@ -87,22 +82,65 @@ both true true e = (refl, refl)
 both true false e = absurd (cc)
 both false b e = absurd (cc)
 
-no_bits : (a b : Bool) → (a && b) ≡ false → min (cond b 1 0) (cond a 1 0) ≡ 0
-no_bits true true e = absurd (cc)
-no_bits true false e = refl
-no_bits false true e = refl
-no_bits false false e = refl
+all_bits : (a b : Bool) → min (cond a 1 0) (cond b 1 0) ≡ cond (a && b) 1 0
+all_bits true true = refl
+all_bits true false = refl
+all_bits false true = refl
+all_bits false false = refl
 
--- if the masks share a bit, the call clashes with what was touched
-pub masks_meet : (calls : Granted) (mask : ℕ) (call : Call) → IsMaskOf calls mask → mask_of call < 2 ^ 64 → bit_and mask (mask_of call) ≢ 0 → Meets call calls
-masks_meet calls mask call is small some = elim (search_below 64 (λ stripe. is_some (touches call stripe) && is_some (touched calls stripe))) [
-  | inl hit ↦ (let touch = both (is_some (touches call hit.0)) (is_some (touched calls hit.0)) hit.1 in (hit.0, clash_both (touches call hit.0) (touched calls hit.0) touch.0 touch.1))
-  | inr none ↦ absurd (some (same_from_bits (bit_and mask (mask_of call)) 0 (λ stripe. each none stripe ∙ sym (bit_at-zero stripe))))
+-- the bits of a word are those of a test
+abbrev Tests : (ℕ → Bool) → ℕ → Type 0
+Tests test word = (stripe : ℕ) → bit_at word stripe ≡ cond (test stripe) 1 0
+
+or_tests : (p q : ℕ → Bool) (m n : ℕ) → Tests p m → Tests q n → Tests (λ stripe. p stripe || q stripe) (bit_or m n)
+or_tests p q m n is are stripe = bit_at_or m n stripe ∙ (λ i. max (is stripe i) (are stripe i)) ∙ either (p stripe) (q stripe)
+
+and_tests : (p q : ℕ → Bool) (m n : ℕ) → Tests p m → Tests q n → Tests (λ stripe. p stripe && q stripe) (bit_and m n)
+and_tests p q m n is are stripe = bit_at_and m n stripe ∙ (λ i. min (is stripe i) (are stripe i)) ∙ all_bits (p stripe) (q stripe)
+
+on_bit : (b : Bool) → ◌≡◌ {A = ℕ} (cond b 1 0) 0 → b ≡ false
+on_bit true e = absurd (omega (arith, e))
+on_bit false e = refl
+
+off_bit : (b : Bool) → b ≡ false → ◌≡◌ {A = ℕ} (cond b 1 0) 0
+off_bit true e = absurd (cc)
+off_bit false e = refl
+
+-- a word is 0 exactly if its test holds nowhere
+pub zero_word : (test : ℕ → Bool) (word : ℕ) → Tests test word → word ≡ 0 → (stripe : ℕ) → test stripe ≡ false
+zero_word test word is none stripe = on_bit (test stripe) (sym (is stripe) ∙ ap (λ (n : ℕ). bit_at n stripe) none ∙ bit_at-zero stripe)
+
+below_power : (n : ℕ) → n < 2 ^ n
+below_power zero = omega arith
+below_power (suc n) = let here = below_power n in let next : 2 ^ n < 2 ^ suc n = pow-lt {i = n} {j = suc n} (omega arith) in omega (arith, here, next)
+
+pub some_bit : (test : ℕ → Bool) (word : ℕ) → Tests test word → word ≢ 0 → (stripe : ℕ) × (test stripe ≡ true)
+some_bit test word is some = elim (search_below word test) [
+  | inl hit ↦ hit
+  | inr none ↦ absurd (some (same_from_bits word 0 (λ stripe. elim (cases_lt stripe word) [
+    | inl lt ↦ is stripe ∙ off_bit (test stripe) (none stripe lt) ∙ sym (bit_at-zero stripe)
+    | inr le ↦ bit_at_above word word stripe (below_power word) le ∙ sym (bit_at-zero stripe)
+  ])))
 ]
-  where
-    each : ((i : ℕ) → i < 64 → (is_some (touches call i) && is_some (touched calls i)) ≡ false) → (stripe : ℕ) → bit_at (bit_and mask (mask_of call)) stripe ≡ 0
-    each none stripe = elim (cases_lt stripe 64) [
-      | inl lt ↦ both_bits calls mask call is stripe ∙ no_bits (is_some (touches call stripe)) (is_some (touched calls stripe)) (none stripe lt)
-      | inr le ↦ (let above : bit_at (mask_of call) stripe ≡ 0 = bit_at_above (mask_of call) 64 stripe small le in
-          bit_at_and mask (mask_of call) stripe ∙ ap (min (bit_at mask stripe)) above ∙ omega arith)
-    ]
+
+-- the bits of what two touches clash at
+pub clash_bits : (one other : ℕ → Touch) (a b : Masks) → AreMasksOf one a → AreMasksOf other b
+    → Tests (λ stripe. clash (one stripe) (other stripe)) (bit_or (bit_and a.writes (bit_or b.reads b.writes)) (bit_and (bit_or a.reads a.writes) b.writes))
+clash_bits one other a b first second =
+    or_tests (λ stripe. one stripe Exclusive && is_touch (other stripe)) (λ stripe. is_touch (one stripe) && other stripe Exclusive)
+    (bit_and a.writes (bit_or b.reads b.writes)) (bit_and (bit_or a.reads a.writes) b.writes)
+    (and_tests (λ stripe. one stripe Exclusive) (λ stripe. is_touch (other stripe)) a.writes (bit_or b.reads b.writes) first.writes
+    (or_tests (λ stripe. other stripe Shared) (λ stripe. other stripe Exclusive) b.reads b.writes second.reads second.writes))
+    (and_tests (λ stripe. is_touch (one stripe)) (λ stripe. other stripe Exclusive) (bit_or a.reads a.writes) b.writes
+    (or_tests (λ stripe. one stripe Shared) (λ stripe. one stripe Exclusive) a.reads a.writes first.reads first.writes) second.writes)
+
+-- whether a word of what clashes is 0
+pub clash_word : (one other : ℕ → Touch) (word : ℕ) (zero : Bool) → Tests (λ stripe. clash (one stripe) (other stripe)) word → (zero ≡ true → word ≡ 0) → (zero ≡ false → word ≢ 0)
+    → MatchBool (not zero) ((stripe : ℕ) × IsTrue (clash (one stripe) (other stripe))) ((stripe : ℕ) → IsFalse (clash (one stripe) (other stripe)))
+clash_word one other word true are none some = zero_word (λ stripe. clash (one stripe) (other stripe)) word are (none refl)
+clash_word one other word false are none some = some_bit (λ stripe. clash (one stripe) (other stripe)) word are (some refl)
+
+-- one more call adds its masks
+pub masks-push : (calls : Granted) (masks : Masks) (call : Call) (reply : Reply) → AreMasksOf (λ stripe mode. touched calls stripe mode || touches call stripe mode) masks
+    → AreMasksOf (touched (calls ++ (call, reply) ∷ [])) masks
+masks-push calls masks call reply are = subst (λ (t : ℕ → Touch). AreMasksOf t masks) (λ i stripe. sym (touched-push calls call reply stripe) i) are

@@ -1,19 +1,16 @@
 -- Sets of stripes as the bits of a number.
-use Rattle.std.specs.Prelude.{ℕ, ◌≡◌, ◌^◌, ◌-◌, if◌then◌else◌, is_some}
+use Rattle.std.specs.Prelude.{ℕ, ◌≡◌, if◌then◌else◌}
 use Rattle.std.specs.Int.{bit_at}
-use Rattle.history.specs.Table.{Granted}
-use Rattle.history.specs.Locks.{stripe_of, touched}
-use Rattle.history.specs.declared.call.Call.{Call}
-use Rattle.history.specs.declared.call.Call.TheVariants.{Get, Put, Del, Scan}
+use Rattle.history.specs.Locks.{Touch}
+use Rattle.history.specs.declared.locks.Mode.{Mode}
+use Rattle.history.specs.declared.locks.Mode.TheVariants.{Shared, Exclusive}
+use Rattle.mars_core.specs.declared.masks.Masks.{Masks}
 
--- the stripes of a call
-abbrev pub mask_of : Call → ℕ
-mask_of (Get key) = 2 ^ stripe_of key
-mask_of (Put key value) = 2 ^ stripe_of key
-mask_of (Del key) = 2 ^ stripe_of key
-mask_of (Scan low high) = 2 ^ 64 - 1
-mask_of _ = 0
+-- each stripe's bit says whether it is touched in the mode
+abbrev pub IsMaskOf : Mode → (ℕ → Touch) → ℕ → Type 0
+IsMaskOf mode touch mask = (stripe : ℕ) → bit_at mask stripe ≡ (if touch stripe mode then 1 else 0)
 
--- each stripe's bit says whether the calls touched it
-abbrev pub IsMaskOf : Granted → ℕ → Type 0
-IsMaskOf calls mask = (stripe : ℕ) → bit_at mask stripe ≡ (if is_some (touched calls stripe) then 1 else 0)
+-- one mask is of what is touched for reading, and one of what is touched for writing
+pub record AreMasksOf (touch : ℕ → Touch) (masks : Masks) : Type 0 where
+  pub reads : IsMaskOf Shared touch masks.reads
+  pub writes : IsMaskOf Exclusive touch masks.writes

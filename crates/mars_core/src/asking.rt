@@ -1,11 +1,15 @@
 // Makes the calls of a transaction on the records.
 ghost use Rattle.std.specs.Prelude.{◌≡◌, ◌<◌, ◌≤◌, ◌⊎◌, length, IfSome, IfNone};
 ghost use Rattle.page_store.specs.Shown.{counts_in, pages_of};
+ghost use Rattle.caller_steps.specs.Locked.{IsFree};
+ghost use Rattle.mars_core.specs.declared.locks.Locks.TheVariants.{Held};
+ghost use Rattle.mars_core.specs.Seats.{bare};
 ghost use Rattle.mars_core.specs.TableCall.{call_of};
 ghost use Rattle.mars_core.specs.Works.{Works, HasSaves, IsSaveRefusal, Unmade, Made};
 
 use crate::live::Live;
-use crate::masks::mask_of;
+use crate::locks::Locks;
+use crate::masks::Masks;
 use crate::replies::{copy_of, found, removed};
 use crate::seats::Seats;
 use crate::table_call::TableCall;
@@ -81,7 +85,7 @@ pub fn work<S: EawStore, K: KeyIndex>(
 }
 
 /// Answers a call of a live transaction, which comes back, with the call if it was granted. `asked` is what the call asks of the records, and
-/// `seats` has the transactions of the others.
+/// `seats` has the transactions of the others, which are not asked for locks if none of them is known to stand in the way.
 pub fn answer<S: EawStore, K: KeyIndex>(
     alloc: Global,
     records: &mut Records<S, K>,
@@ -90,10 +94,12 @@ pub fn answer<S: EawStore, K: KeyIndex>(
     live: Live,
     call: &Call,
     asked: TableCall<'_>,
+    locks: Locks,
 ) -> (Live, Reply)
     requires said { call_of asked ≡ call.now }
     requires inside { caller < (S.view records.old.store).shape.numbers }
     requires few { length seats.now ≤ 64 }
+    requires locked { locks ≡ Held → IsFree (bare seats.now) caller call.now }
     ensures answered { ((records.new ≡ records.old) × (result.0 ≡ live) × Unmade (length (counts_in records.old.marks caller)) seats.now caller call.now result.1)
         ⊎ Made S.tells (S.opens (S.view records.old.store).shape) K.index (length (counts_in records.old.marks caller)) seats.now caller live call.now
         (pages_of (S.view records.old.store) records.old) (pages_of (S.view records.new.store) records.new) result.0 result.1 }
@@ -101,23 +107,26 @@ pub fn answer<S: EawStore, K: KeyIndex>(
     if let Some(refusal) = refused_save(records.saves(caller), call) {
         return (live, refusal);
     }
-    let mask = live.touched();
+    let masks = live.touched();
     // Room is reserved before the call is made, so that nothing is written that there is no memory to keep.
     let calls = match live.into_calls().with_room() {
         Ok(calls) => calls,
-        Err(calls) => return (Live::of(calls, mask), Reply::NoMemory),
+        Err(calls) => return (Live::of(calls, masks), Reply::NoMemory),
     };
-    if let Some(holder) = seats.holder(caller, call) {
-        return (Live::of(calls.into_calls(), mask), Reply::Busy { holder });
+    if let Some(holder) = seats.holder_if(locks, caller, call) {
+        return (Live::of(calls.into_calls(), masks), Reply::Busy { holder });
     }
     match work(alloc, records, caller, asked) {
         Ok(reply) => match copy_of(&reply) {
             Ok(kept) => {
                 let calls = calls.push(*call, kept);
-                (Live::of(calls, mask | mask_of(call)), reply)
+                (
+                    Live::of(calls, masks.merged(Masks::touched_by(call))),
+                    reply,
+                )
             }
-            Err(_) => (Live::of(calls.into_calls(), mask), Reply::NoMemory),
+            Err(_) => (Live::of(calls.into_calls(), masks), Reply::NoMemory),
         },
-        Err(fault) => (Live::of(calls.into_calls(), mask), Reply::from(fault)),
+        Err(fault) => (Live::of(calls.into_calls(), masks), Reply::from(fault)),
     }
 }

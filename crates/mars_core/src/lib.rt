@@ -1,6 +1,7 @@
 //! `Core`: callers by turns over the records of any `EawStore` under any index, with locks on keys and the history of what was committed.
 //!
-//! Read first `turns.rt`, whose `step` is one step of `caller_steps`. `specs/Held` says what a core shows, `specs/Over` how that is tied to
+//! Read first `turns.rt`, whose `step` is one step of `caller_steps`. `step_locked` is the same where locks
+//! outside of the core have made sure that no other caller stands in the way. `specs/Held` says what a core shows, `specs/Over` how that is tied to
 //! the store below, and `specs/Kept` is the invariant.
 #![tactic(auto)]
 
@@ -8,6 +9,7 @@ mod asking;
 mod doubt;
 mod fault;
 mod live;
+mod locks;
 mod masks;
 mod replies;
 mod seats;

@@ -1,7 +1,9 @@
 // A live transaction: its granted calls and the stripes that they touched.
 ghost use Rattle.std.specs.Prelude.{◌≡◌, []};
-ghost use Rattle.mars_core.specs.Masks.{IsMaskOf};
+ghost use Rattle.history.specs.Locks.{touched};
+ghost use Rattle.mars_core.specs.Masks.{AreMasksOf};
 
+use crate::masks::Masks;
 use history::Calls;
 use std::alloc::Global;
 use std::marker::Model;
@@ -10,18 +12,19 @@ use std::marker::Model;
 #[derive(Drop)]
 pub struct Live {
     calls: Calls,
-    mask: u64,
+    masks: Masks,
 }
 
 impl Model for Live {
     ghost use Rattle.history.specs.Table.{Granted};
-    ghost use Rattle.mars_core.specs.Masks.{IsMaskOf};
+    ghost use Rattle.history.specs.Locks.{touched};
+    ghost use Rattle.mars_core.specs.Masks.{AreMasksOf};
 
     ghost Value = { Granted };
 
     ghost view = { λ l. l.calls };
 
-    ghost invariant = { λ l. IsMaskOf l.calls l.mask };
+    ghost invariant = { λ l. AreMasksOf (touched l.calls) l.masks };
 }
 
 impl Live {
@@ -30,29 +33,29 @@ impl Live {
     {
         Live {
             calls: Calls::new(alloc),
-            mask: 0,
+            masks: Masks::none(),
         }
     }
 
     /// A transaction again, from its calls and the stripes that they touched.
-    pub fn of(calls: Calls, mask: u64) -> Live
-        requires { IsMaskOf calls mask }
+    pub fn of(calls: Calls, masks: Masks) -> Live
+        requires { AreMasksOf (touched calls) masks }
         ensures { result ≡ calls }
     {
-        Live { calls, mask }
+        Live { calls, masks }
     }
 
-    /// A bit for each stripe that its calls touched.
-    pub fn touched(&self) -> u64
-        ensures { IsMaskOf self.now result }
+    /// The stripes that its calls touched.
+    pub fn touched(&self) -> Masks
+        ensures { AreMasksOf (touched self.now) result }
     {
-        self.mask
+        self.masks
     }
 
     pub fn into_calls(self) -> Calls
         ensures { result ≡ self }
     {
-        let Live { calls, mask: _ } = self;
+        let Live { calls, masks: _ } = self;
         calls
     }
 }

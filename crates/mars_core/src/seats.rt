@@ -2,11 +2,14 @@
 ghost use Rattle.std.specs.Prelude.{◌≡◌, ◌<◌, ◌≤◌, [], ◌∷◌, ◌++◌, List, ℕ, Some, None, IfOk, IfSome, IfNone, OnOk, OnErr, is_some, length};
 ghost use Rattle.history.specs.Table.{Granted};
 ghost use Rattle.caller_steps.specs.Locked.{IsFree, IsBusyWith};
-ghost use Rattle.mars_core.specs.Masks.{IsMaskOf};
+ghost use Rattle.history.specs.Locks.{touched};
+ghost use Rattle.mars_core.specs.Masks.{AreMasksOf};
+ghost use Rattle.mars_core.specs.declared.locks.Locks.TheVariants.{Held};
 ghost use Rattle.mars_core.specs.Seats.{live_in, calls_at, Seated, bare};
 
 use crate::live::Live;
-use crate::masks::mask_of;
+use crate::locks::Locks;
+use crate::masks::Masks;
 use history::{Call, Calls};
 use mars_base::NoMemory;
 use std::alloc::Global;
@@ -45,14 +48,14 @@ impl Seats {
         self.live[usize::from(caller)].is_some()
     }
 
-    /// A bit for each stripe that the caller's live transaction touched.
-    pub fn touched(&self, caller: u8) -> u64
+    /// The stripes that the caller's live transaction touched.
+    pub fn touched(&self, caller: u8) -> Masks
         requires { caller < length self.now }
-        ensures { IsMaskOf (calls_at self.now caller) result }
+        ensures { AreMasksOf (touched (calls_at self.now caller)) result }
     {
         match &self.live[usize::from(caller)] {
             Some(live) => live.touched(),
-            None => 0,
+            None => Masks::none(),
         }
     }
 
@@ -89,18 +92,31 @@ impl Seats {
         self.live[usize::from(caller)] = Some(live);
     }
 
-    /// The lowest other caller whose live transaction has touched a stripe of the call.
+    /// The lowest other caller whose live transaction has touched a stripe of the call, where one of the two touches is for writing.
     pub fn holder(&self, caller: u8, call: &Call) -> Option<u8>
         requires { length self.now ≤ 64 }
         ensures busy { IfSome result (IsBusyWith (bare self.now) caller call.now) }
         ensures free { IfNone result (IsFree (bare self.now) caller call.now) }
     {
-        let mask = mask_of(call);
+        let masks = Masks::touched_by(call);
         for other in 0..self.live.len() as u8 {
-            if other != caller && self.touched(other) & mask != 0 {
+            if other != caller && masks.clash(self.touched(other)) {
                 return Some(other);
             }
         }
         None
+    }
+
+    /// The same where it is not known that there is none.
+    pub fn holder_if(&self, locks: Locks, caller: u8, call: &Call) -> Option<u8>
+        requires few { length self.now ≤ 64 }
+        requires locked { locks ≡ Held → IsFree (bare self.now) caller call.now }
+        ensures busy { IfSome result (IsBusyWith (bare self.now) caller call.now) }
+        ensures free { IfNone result (IsFree (bare self.now) caller call.now) }
+    {
+        match locks {
+            Locks::Asked => self.holder(caller, call),
+            Locks::Held => None,
+        }
     }
 }

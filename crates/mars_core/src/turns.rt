@@ -1,14 +1,20 @@
 // Callers by turns over records.
-ghost use Rattle.std.specs.Prelude.{◌≡◌, ◌<◌, ◌≤◌, [], ℕ, IfOk, IfErr, IsTrue, is_some, length};
+ghost use Rattle.std.specs.Prelude.{◌≡◌, ◌<◌, ◌≤◌, [], ℕ, IfOk, IfErr, IsTrue, IsFalse, is_some, length};
 ghost use Rattle.std.specs.FinMap.{entries};
 ghost use Rattle.eaw_face.specs.Causes.{IsAlive};
 ghost use Rattle.eaw_face.specs.State.{listed};
 ghost use Rattle.page_store.specs.Shown.{pages_of};
+ghost use Rattle.history.specs.Locks.{touched};
 ghost use Rattle.history.specs.declared.call.Call.TheVariants.{Begin, Commit, Abort};
+ghost use Rattle.history.specs.declared.locks.Mode.TheVariants.{Shared, Exclusive};
+ghost use Rattle.history.specs.declared.call.Reply.TheVariants.{Dead};
 ghost use Rattle.caller_steps.specs.Core.{Steps};
+ghost use Rattle.caller_steps.specs.Fate.{is_busy};
+ghost use Rattle.caller_steps.specs.Locked.{IsLocked};
 ghost use Rattle.caller_steps.specs.State.{calls_of};
 ghost use Rattle.record_table.specs.Shown.{state_of};
 ghost use Rattle.mars_core.specs.Attached.{CoreCause, GivesBack, is_media_fault};
+ghost use Rattle.mars_core.specs.declared.locks.Locks.TheVariants.{Held};
 ghost use Rattle.mars_core.specs.Held.{core_of};
 ghost use Rattle.mars_core.specs.Masks.{IsMaskOf};
 ghost use Rattle.mars_core.specs.Over.{Begins, IsOver};
@@ -20,6 +26,7 @@ use crate::asking::answer;
 use crate::doubt::Doubt;
 use crate::fault::CoreFault;
 use crate::live::Live;
+use crate::locks::Locks;
 use crate::seats::Seats;
 use crate::table_call::{Asked, TableCall};
 use caller_steps::Core as Steps;
@@ -30,8 +37,8 @@ use record_table::Records;
 use std::alloc::Global;
 use std::marker::Model;
 
-/// Callers that take turns on records over a store, under an index. Each call locks the stripe of its key (of 64), and a scan locks all
-/// stripes, until the transaction ends.
+/// Callers that take turns on records over a store, under an index. Each call locks the stripe of its key (of 64), and a scan all
+/// stripes, until the transaction ends: a get and a scan beside other readers, a put and a removal alone.
 #[derive(Drop)]
 pub struct Core<S: EawStore, K: KeyIndex> {
     alloc: Global,
@@ -106,12 +113,20 @@ impl<S: EawStore, K: KeyIndex> Core<S, K> {
         self.seats.is_live(caller)
     }
 
-    /// A bit for each stripe that the caller's live transaction touched.
-    pub fn touched(&self, caller: u8) -> u64
+    /// A bit for each stripe that the caller's live transaction touched for reading.
+    pub fn touched_read(&self, caller: u8) -> u64
         requires { caller < (S.view self.now.records.store).shape.numbers }
-        ensures { IsMaskOf (calls_of (core_of S.opens K.index (S.view self.now.records.store) self.now).state caller) result }
+        ensures { IsMaskOf Shared (touched (calls_of (core_of S.opens K.index (S.view self.now.records.store) self.now).state caller)) result }
     {
-        self.seats.touched(caller)
+        self.seats.touched(caller).reads
+    }
+
+    /// A bit for each stripe that the caller's live transaction touched for writing.
+    pub fn touched_write(&self, caller: u8) -> u64
+        requires { caller < (S.view self.now.records.store).shape.numbers }
+        ensures { IsMaskOf Exclusive (touched (calls_of (core_of S.opens K.index (S.view self.now.records.store) self.now).state caller)) result }
+    {
+        self.seats.touched(caller).writes
     }
 
     /// The store below. What live transactions have written is still logged in it.
@@ -135,6 +150,7 @@ impl<S: EawStore, K: KeyIndex> Core<S, K> {
         requires alive { IsAlive (S.view self.old.records.store) }
         ensures steps { Steps S.tells caller Begin (core_of S.opens K.index (S.view self.old.records.store) self.old)
             (core_of S.opens K.index (S.view self.new.records.store) self.new) result }
+        ensures not_busy { IsFalse (is_busy result) }
     {
         if self.seats.is_live(caller) {
             return Reply::Already;
@@ -144,13 +160,15 @@ impl<S: EawStore, K: KeyIndex> Core<S, K> {
     }
 
     // Answers a call that the one-thread table answers. Meanwhile the transaction is out of its seat.
-    fn ask(&mut self, caller: u8, call: &Call, asked: TableCall<'_>) -> Reply
+    fn ask(&mut self, caller: u8, call: &Call, asked: TableCall<'_>, locks: Locks) -> Reply
         requires said { call_of asked ≡ call.now }
         requires inside { caller < (S.view self.old.records.store).shape.numbers }
         requires alive { IsAlive (S.view self.old.records.store) }
         requires shown { IsShown S.tells K.index (pages_of (S.view self.old.records.store) self.old.records) }
+        requires locked { locks ≡ Held → IsLocked (core_of S.opens K.index (S.view self.old.records.store) self.old).state caller call.now }
         ensures steps { Steps S.tells caller call.now (core_of S.opens K.index (S.view self.old.records.store) self.old)
             (core_of S.opens K.index (S.view self.new.records.store) self.new) result }
+        ensures not_busy { locks ≡ Held → IsFalse (is_busy result) }
     {
         let Some(live) = self.seats.take(caller) else {
             return Reply::NoTransaction;
@@ -163,6 +181,7 @@ impl<S: EawStore, K: KeyIndex> Core<S, K> {
             live,
             call,
             asked,
+            locks,
         );
         self.seats.put(caller, live);
         reply
@@ -173,12 +192,13 @@ impl<S: EawStore, K: KeyIndex> Core<S, K> {
         requires alive { IsAlive (S.view self.old.records.store) }
         ensures steps { Steps S.tells caller Commit (core_of S.opens K.index (S.view self.old.records.store) self.old)
             (core_of S.opens K.index (S.view self.new.records.store) self.new) result }
+        ensures not_busy { IsFalse (is_busy result) }
     {
         let at = self.history.as_slice().len() as u64 + 1;
         let Some(live) = self.seats.take(caller) else {
             return Reply::NoTransaction;
         };
-        let mask = live.touched();
+        let masks = live.touched();
         // The history takes the transaction first, so that nothing is committed that there is no memory to keep.
         match self.history.push(Done {
             caller,
@@ -187,7 +207,7 @@ impl<S: EawStore, K: KeyIndex> Core<S, K> {
         }) {
             Ok(()) => {}
             Err(failed) => {
-                self.seats.put(caller, Live::of(failed.value.calls, mask));
+                self.seats.put(caller, Live::of(failed.value.calls, masks));
                 return Reply::NoMemory;
             }
         }
@@ -205,6 +225,7 @@ impl<S: EawStore, K: KeyIndex> Core<S, K> {
         requires alive { IsAlive (S.view self.old.records.store) }
         ensures steps { Steps S.tells caller Abort (core_of S.opens K.index (S.view self.old.records.store) self.old)
             (core_of S.opens K.index (S.view self.new.records.store) self.new) result }
+        ensures not_busy { IsFalse (is_busy result) }
     {
         if !self.seats.is_live(caller) {
             return Reply::NoTransaction;
@@ -217,6 +238,25 @@ impl<S: EawStore, K: KeyIndex> Core<S, K> {
             Err(fault) => Reply::from(fault),
         }
     }
+
+    fn make(&mut self, caller: u8, call: &Call, locks: Locks) -> Reply
+        requires inside { caller < (S.view self.old.records.store).shape.numbers }
+        requires locked { locks ≡ Held → IsLocked (core_of S.opens K.index (S.view self.old.records.store) self.old).state caller call.now }
+        ensures steps { Steps S.tells caller call.now (core_of S.opens K.index (S.view self.old.records.store) self.old)
+            (core_of S.opens K.index (S.view self.new.records.store) self.new) result }
+        ensures dead { IsTrue (S.view self.old.records.store).is_dead → (result ≡ Dead) × (self.new ≡ self.old) }
+        ensures not_busy { locks ≡ Held → IsFalse (is_busy result) }
+    {
+        if self.records.is_dead() {
+            return Reply::Dead;
+        }
+        match Asked::of(call) {
+            Asked::Begin => self.begin(caller),
+            Asked::Commit => self.commit(caller),
+            Asked::Abort => self.abort(caller),
+            Asked::Table(asked) => self.ask(caller, call, asked, locks),
+        }
+    }
 }
 
 impl<S: EawStore, K: KeyIndex> Steps for Core<S, K> {
@@ -227,15 +267,11 @@ impl<S: EawStore, K: KeyIndex> Steps for Core<S, K> {
     ghost view = { λ core. core_of S.opens K.index (S.view core.records.store) core };
 
     fn step(&mut self, caller: u8, call: &Call) -> Reply {
-        if self.records.is_dead() {
-            return Reply::Dead;
-        }
-        match Asked::of(call) {
-            Asked::Begin => self.begin(caller),
-            Asked::Commit => self.commit(caller),
-            Asked::Abort => self.abort(caller),
-            Asked::Table(asked) => self.ask(caller, call, asked),
-        }
+        self.make(caller, call, Locks::Asked)
+    }
+
+    fn step_locked(&mut self, caller: u8, call: &Call) -> Reply {
+        self.make(caller, call, Locks::Held)
     }
 
     fn told(&self) -> u64 {

@@ -2,4 +2,5 @@ mod CountLemmas
 mod ServeLemmas
 mod ReadLemmas
 mod WriteLemmas
+mod FillLemmas
 mod ShowLemmas

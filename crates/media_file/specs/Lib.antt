@@ -5,3 +5,4 @@ pub mod Shown
 pub mod Honest
 pub mod AsListed
 pub mod InMemory
+pub mod Filled

@@ -2,9 +2,11 @@
 ghost use Rattle.std.specs.Prelude.{◌≡◌, ◌+◌, ◌-◌, ◌^◌, ◌≤◌, ◌<◌, ℕ, [], ◌∷◌, length, IsOk, IfOk, OnOk, OnErr, IfSome, IsSome, IsTrue};
 ghost use Rattle.mars_base.specs.Causes.{Rose};
 ghost use Rattle.mars_base.specs.Moments.{Ticks};
+ghost use Rattle.media_file.specs.Filled.{pieces};
 ghost use Rattle.media_file.specs.Past.{held, AreBefore};
 
 use crate::again::{measure, resize, sync};
+use crate::filling::write_zeros;
 use crate::reading::read_all;
 use crate::writing::write_all;
 use crate::{Calls, FileCalls};
@@ -30,13 +32,13 @@ impl<C: Calls + Drop> FileMedia<C> {
     ghost use Rattle.media_file.specs.Shown.{shown, opened};
 
     /// The medium over a file of which no call has been made. A file shorter than `least` bytes is extended to them with
-    /// zeros, and synced. Fails if one of these calls does.
+    /// zeros, which are written, and synced. Fails if one of these calls does.
     pub fn over(calls: C, least: u64) -> Result<FileMedia<C>, Failed>
         requires { IsTrue C.trusted → (C.past calls).calls ≡ [] }
         ensures long { IfOk result (λ media. least ≤ (shown media).size) }
         ensures anew { IfOk result (λ media. ((shown media).moment ≡ 0) × ((shown media).faults ≡ (C.faults calls).failed)) }
         ensures content { IsTrue C.trusted → IfOk result (λ media. (shown media).content ≡ opened least (C.past calls).first) }
-        ensures ready { (more_calls more : ℕ) → IsTrue (C.steady calls (more_calls + 1 + 1 + 1) more) → IsOk result }
+        ensures ready { (more_calls more : ℕ) → ((size : ℕ) → size ≤ least → IsTrue (C.steady calls (more_calls + 1 + pieces (least - size) + 1 + 1) (least - size + more))) → IsOk result }
     {
         let mut calls = calls;
         let size = measure(&mut calls, 0)?;
@@ -49,6 +51,7 @@ impl<C: Calls + Drop> FileMedia<C> {
             });
         }
         resize(&mut calls, 0, least)?;
+        write_zeros(&mut calls, 0, size, least - size)?;
         sync(&mut calls, 0)?;
         Ok(FileMedia {
             calls,
@@ -65,9 +68,9 @@ impl FileMedia<FileCalls> {
     /// The medium over the file at `path`, which stays locked until the medium is dropped. A file shorter than `least` bytes is
     /// extended to them with zeros. If there is no file, one is made, unless `least` is 0: then the answer is None.
     ///
-    /// Fails if the system refuses a call or another program holds the lock. The file is then as it was, or one that was made or
-    /// extended here.
-    pub fn attach<R: Files<File = File>>(
+    /// Fails if the system refuses a call, the folder is missing, another program holds the lock, or there is no memory for the path of
+    /// the folder. The file is then as it was, or one that was made or extended here.
+    pub fn attach<R: AllocGlobal + Files<File = File>>(
         rt: &R,
         path: &str,
         least: u64,

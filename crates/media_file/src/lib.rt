@@ -13,6 +13,7 @@ mod call_faults;
 mod calls;
 mod file_calls;
 mod file_media;
+mod filling;
 mod honest_call;
 mod honest_calls;
 mod reading;

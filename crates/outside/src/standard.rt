@@ -7,7 +7,7 @@ ghost use Rattle.mars_base.specs.Causes.{faults_after};
 
 use crate::{Sink, Source};
 use mars_base::Failed;
-use std::io::{Read, Write};
+use std::io::{ErrorKind, Read, Write};
 use std::marker::Model;
 
 /// A source over a reader. As a source it does not tell its bytes: no contract says what a reader over the outside gives.
@@ -49,14 +49,27 @@ impl<R: Read> Source for StdSource<R> {
         ensures faults { self.new.faults ≡ faults_after self.old.faults result }
         ensures cause { HasCause self.old.faults self.new.faults result }
     {
-        match self.reader.read(buf) {
-            Ok(count) => Ok(count),
-            Err(_) => {
-                self.faults = self.faults.saturating_add(1);
-                Err(Failed)
-            }
+        let answer = read_again(&mut self.reader, buf);
+        if answer.is_err() {
+            self.faults = self.faults.saturating_add(1);
+        }
+        answer
+    }
+}
+
+// A read that is made again if a signal came first.
+fn read_again<R: Read>(reader: &mut R, buf: &mut [u8]) -> Result<usize, Failed>
+    ensures bound { IfOk result (λ n. n ≤ length buf.new) }
+    ensures passed_on { ReadConsumes (R.remaining reader.old) (R.remaining reader.new) result buf.new }
+{
+    'turns: for _ in 0..u64::MAX {
+        match reader.read(buf) {
+            Ok(count) => return Ok(count),
+            Err(error) if error.kind() == ErrorKind::Interrupted => {}
+            Err(_) => return Err(Failed),
         }
     }
+    Err(Failed)
 }
 
 /// A sink over a writer. As a sink it does not tell its bytes: no contract says what a writer to the outside takes.
@@ -99,12 +112,25 @@ impl<W: Write> Sink for StdSink<W> {
         ensures faults { self.new.faults ≡ faults_after self.old.faults result }
         ensures cause { HasCause self.old.faults self.new.faults result }
     {
-        match self.writer.write(piece) {
-            Ok(count) if count > 0 || piece.is_empty() => Ok(count),
-            _ => {
-                self.faults = self.faults.saturating_add(1);
-                Err(Failed)
-            }
+        let answer = write_again(&mut self.writer, piece);
+        if answer.is_err() {
+            self.faults = self.faults.saturating_add(1);
+        }
+        answer
+    }
+}
+
+// A write that is made again if a signal came first.
+fn write_again<W: Write>(writer: &mut W, piece: &[u8]) -> Result<usize, Failed>
+    ensures part { TakesPart result piece.now }
+    ensures passed_on { WriteAppends (W.contents writer.old) (W.contents writer.new) result piece.now }
+{
+    'turns: for _ in 0..u64::MAX {
+        match writer.write(piece) {
+            Ok(count) if count > 0 || piece.is_empty() => return Ok(count),
+            Err(error) if error.kind() == ErrorKind::Interrupted => {}
+            _ => return Err(Failed),
         }
     }
+    Err(Failed)
 }

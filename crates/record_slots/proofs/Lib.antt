@@ -1,4 +1,5 @@
 pub mod SlotLemmas
+pub mod Freed
 pub mod WritingBack
 pub mod Front
 pub mod Used

@@ -1,8 +1,8 @@
 -- Entries of tables, one after another.
 use Rattle.std.proofs.Common.{◌≡◌, ◌≢◌, ℕ, zero, suc, ◌+◌, ◌-◌, ◌*◌, ◌<◌, ◌≤◌, Bool, true, false, ◌&&◌, inl, inr, List, [], ◌∷◌, length, drop, Option, Some, None, refl, sym, ◌∙◌, ap, subst, arith}
 use Rattle.byteorder.specs.Endian.{little_from}
-use Rattle.std.specs.Prelude.{codes, slice_index, slice_get, nat_eq, if◌then◌else◌}
-use Rattle.std.proofs.lemmas.Bool.{cases_eq, eq-eqb, ne_eqb, and_parts, false≢true, leb-true}
+use Rattle.std.specs.Prelude.{codes, slice_index, slice_get}
+use Rattle.std.proofs.lemmas.Bool.{cases_eq, eq-eqb, ne_eqb, and_parts, leb-true}
 use Rattle.std.proofs.lemmas.List.{drop-drop, get_or-drop, length-take, length-drop}
 use Rattle.record_slots.specs.Super.{IsApart, IsMain, entry_said, name_said, is_name, used_entries, tables_used, tables_in, are_free, are_entries, are_named}
 use Rattle.record_slots.specs.declared.super_page.TableEntry.{TableEntry}

@@ -1,6 +1,6 @@
 -- Slots and pages that were given back: each says the one that follows it in their list, and its rank.
-use Rattle.std.specs.Prelude.{ℕ, zero, suc, ◌-◌, nat_eq, if◌then◌else◌, List, Option, Some, None, slice_index}
-use Rattle.byteorder.specs.Endian.{little_from}
+use Rattle.std.specs.Prelude.{ℕ, zero, suc, ◌-◌, nat_eq, if◌then◌else◌, List, ◌∷◌, ◌++◌, replicate, Option, Some, None, slice_index}
+use Rattle.byteorder.specs.Endian.{little_from, little_bytes}
 use Rattle.record_slots.specs.declared.free.Free.{Free}
 
 -- a free slot: byte 0 is f0, bytes 2 to 5 are the next one plus 1, bytes 6 to 9 the rank
@@ -10,6 +10,13 @@ free_slot_said bytes = if nat_eq (slice_index bytes 0) 0xF0 then Some (record { 
 -- a free page: byte 0 is ff, bytes 4 to 7 are the next one plus 1, bytes 8 to 11 the rank
 unfoldable pub free_page_said : List ℕ → Option Free
 free_page_said bytes = if nat_eq (slice_index bytes 0) 0xFF then Some (record { next = little_from 4 4 bytes; rank = little_from 8 4 bytes }) else None
+
+-- the 64 bytes of a free slot, and the 512 of a free page, as they are written: all else in them is zero
+unfoldable pub free_slot_bytes : Free → List ℕ
+free_slot_bytes free = 0xF0 ∷ 0 ∷ (little_bytes 4 free.next ++ (little_bytes 4 free.rank ++ replicate 54 0))
+
+unfoldable pub free_page_bytes : Free → List ℕ
+free_page_bytes free = 0xFF ∷ 0 ∷ 0 ∷ 0 ∷ (little_bytes 4 free.next ++ (little_bytes 4 free.rank ++ replicate 500 0))
 
 -- the one that follows, by its number plus 1; 0 for none
 abbrev pub next_of : Option Free → ℕ

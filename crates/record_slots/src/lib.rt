@@ -16,7 +16,7 @@ mod super_page;
 mod value;
 
 pub use entries::{has_tables, table_root};
-pub use free::{Free, read_free_page, read_free_slot};
+pub use free::{Free, read_free_page, read_free_slot, write_free_page, write_free_slot};
 pub use fresh::fresh_page;
 pub use index_head::{INDEX_HEAD_LEN, IndexHead, index_head_bytes, read_index_head};
 pub use laws::slot_round_trip;

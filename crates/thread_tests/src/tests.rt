@@ -4,6 +4,7 @@ mod flags;
 mod held_media;
 mod holds;
 mod places;
+mod readers;
 mod samples;
 mod sharing;
 mod sleeping;

@@ -17,7 +17,8 @@ use Rattle.caller_steps.specs.Step.{StepIf, Runs}
 use Rattle.caller_steps.specs.Core.{CoreView, Continues}
 use Rattle.transactions.specs.Told.{reply_of}
 use Rattle.transactions.specs.Went.{turns_by, Went, Refuses, IsOfCore}
-use Rattle.transactions.specs.Tries.{is_busy, WentBusy, IsOften, was_busy}
+use Rattle.caller_steps.specs.Fate.{is_busy}
+use Rattle.transactions.specs.Tries.{WentBusy, IsOften, was_busy}
 use Rattle.transactions.specs.Adds.{Stays}
 use Rattle.transactions.specs.Makes.{IsGivenUp, IsMade, IsEnded, IsInDoubt, MayAdd}
 use Rattle.transactions.specs.declared.refusal.Refusal.TheVariants.{Busy, Media}

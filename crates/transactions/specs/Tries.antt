@@ -4,18 +4,13 @@ use Rattle.std.specs.List.{count_by}
 use Rattle.history.specs.Table.{Granted}
 use Rattle.history.specs.declared.call.Call.{Call}
 use Rattle.history.specs.declared.call.Reply.{Reply}
-use Rattle.history.specs.declared.call.Reply.TheVariants as reply
 use Rattle.caller_steps.specs.Core.{CoreView}
+use Rattle.caller_steps.specs.Fate.{is_busy}
 use Rattle.caller_steps.specs.Step.{Runs}
 use Rattle.transactions.specs.Went.{turns_by}
 use Rattle.transactions.specs.declared.refusal.Refusal.TheVariants.{Busy}
 use Rattle.transactions.specs.declared.work.Stop.{Stop}
 use Rattle.transactions.specs.declared.work.Stop.TheVariants.{Refused}
-
--- the reply says that another caller holds a stripe
-abbrev pub is_busy : Reply → Bool
-is_busy (reply.Busy holder) = true
-is_busy other = false
 
 -- calls of the caller, and nothing else, led from one state to the other, and at least so many of them were refused as busy
 pub record WentBusy (n caller : ℕ) (old new : CoreView) : Type 0 where

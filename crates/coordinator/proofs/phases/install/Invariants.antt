@@ -1,4 +1,4 @@
-use Rattle.std.proofs.Common.{◌≡◌, ◌*◌, IsTrue}
+use Rattle.std.proofs.Common.{◌≡◌, ℕ, ◌*◌, IsTrue}
 use Rattle.mars_base.proofs.Costing.{CostsSoFar}
 use Rattle.array_shape.specs.Logged.{applied, places_of}
 use Rattle.array_image.specs.Image.{data_of}
@@ -6,14 +6,16 @@ use Rattle.array_image.specs.Joined.{joined}
 use Rattle.array_image.proofs.Calls.{SoFar}
 use Rattle.coordinator.specs.Commits.{number_parts, parts_named}
 use Rattle.coordinator.specs.Costs.{total, parts_at}
+use Rattle.coordinator.proofs.Members.{AreLeft}
 use Rattle.coordinator.proofs.phases.install.Given as goal
 
 abbrev pub invariant-loop-tid : goal.invariant-loop-tid
 invariant-loop-tid g l =
     let m = g.M.Media in
     let base = (m.view l.fn.media).content.bytes in
-    record {
-      costs : CostsSoFar m.tells (2 * total (parts_at l.shape l.ballot l.cells) l.tid) (m.view l.fn.media).moment (m.view l.media).moment;
+    (at : ℕ) × record {
+      left : AreLeft l.shape.numbers l.ballot.group at l.tid-iterator;
+      costs : CostsSoFar m.tells (2 * total (parts_at l.shape l.ballot l.cells) at) (m.view l.fn.media).moment (m.view l.media).moment;
       does : SoFar m.tells (places_of l.shape (parts_named l.shape base l.ballot l.cells)) (m.view l.fn.media) (m.view l.media);
-      applied : IsTrue m.tells → data_of l.shape (m.view l.media).content.bytes ≡ applied (joined (number_parts l.shape base l.ballot l.cells) 0 l.tid) (data_of l.shape base);
+      applied : IsTrue m.tells → data_of l.shape (m.view l.media).content.bytes ≡ applied (joined (number_parts l.shape base l.ballot l.cells) 0 at) (data_of l.shape base);
     }

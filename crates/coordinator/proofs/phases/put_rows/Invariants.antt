@@ -5,13 +5,15 @@ use Rattle.array_image.proofs.Calls.{SoFar}
 use Rattle.commit_queue.specs.Between.{bodies_of}
 use Rattle.coordinator.specs.Commits.{Says}
 use Rattle.coordinator.specs.Costs.{total, rows_at}
+use Rattle.coordinator.proofs.Members.{AreLeft}
 use Rattle.coordinator.proofs.phases.put_rows.Given as goal
 
 abbrev pub invariant-loop-tid : goal.invariant-loop-tid
 invariant-loop-tid g l =
     let m = g.M.Media in
-    record {
-      costs : (m.view l.media).moment ≡ (m.view l.fn.media).moment + total (rows_at l.shape l.ballot) l.tid;
+    (at : ℕ) × record {
+      left : AreLeft l.shape.numbers l.ballot.group at l.tid-iterator;
+      costs : (m.view l.media).moment ≡ (m.view l.fn.media).moment + total (rows_at l.shape l.ballot) at;
       does : SoFar m.tells (bodies_of l.shape (has_row l.ballot)) (m.view l.fn.media) (m.view l.media);
-      names : IsTrue m.tells → (h t : ℕ) → h < l.shape.loggers → t < l.tid → has_row l.ballot h t ≡ true → Says l.ballot l.cells h t (row_of l.shape (m.view l.media).content.bytes h t);
+      names : IsTrue m.tells → (h t : ℕ) → h < l.shape.loggers → t < at → has_row l.ballot h t ≡ true → Says l.ballot l.cells h t (row_of l.shape (m.view l.media).content.bytes h t);
     }

@@ -5,13 +5,15 @@ use Rattle.array_image.proofs.Calls.{SoFar}
 use Rattle.coordinator.specs.Commits.{Says}
 use Rattle.coordinator.specs.Costs.{total}
 use Rattle.coordinator.specs.Places.{bodies_at}
+use Rattle.coordinator.proofs.Members.{AreLeft}
 use Rattle.coordinator.proofs.phases.put_rows_of.Given as goal
 
 abbrev pub invariant-loop-number : goal.invariant-loop-number
 invariant-loop-number g l =
     let m = g.M.Media in
-    record {
-      costs : (m.view l.media).moment ≡ (m.view l.fn.media).moment + total (λ h. cond (has_row l.ballot h l.tid) 1 0) l.number;
+    (at : ℕ) × record {
+      left : AreLeft l.shape.loggers l.ballot.mask at l.number-iterator;
+      costs : (m.view l.media).moment ≡ (m.view l.fn.media).moment + total (λ h. cond (has_row l.ballot h l.tid) 1 0) at;
       does : SoFar m.tells (bodies_at l.shape l.ballot l.tid) (m.view l.fn.media) (m.view l.media);
-      names : IsTrue m.tells → (h : ℕ) → h < l.number → has_row l.ballot h l.tid ≡ true → Says l.ballot l.cells h l.tid (row_of l.shape (m.view l.media).content.bytes h l.tid);
+      names : IsTrue m.tells → (h : ℕ) → h < at → has_row l.ballot h l.tid ≡ true → Says l.ballot l.cells h l.tid (row_of l.shape (m.view l.media).content.bytes h l.tid);
     }

@@ -1,43 +1,103 @@
-use Rattle.std.proofs.Common.{true, ◌≡◌, ℕ, ◌+◌, ◌<◌, refl, ap, arith}
+use Rattle.std.proofs.Common.{true, ◌≡◌, ℕ, ◌+◌, ◌<◌, refl, ◌∙◌, ap, arith}
 use Rattle.std.proofs.lemmas.Result.{on_ok_weaker}
+use Rattle.array_shape.specs.NumberSet.{numbers_from}
 use Rattle.row_bytes.specs.Ballots.{has_row}
 use Rattle.array_image.specs.Image.{row_of}
 use Rattle.array_image.proofs.Joined.{outside_at}
-use Rattle.array_image.proofs.Calls.{goes_on, hands_on, then_barrier, barrier_keeps}
+use Rattle.array_image.proofs.Calls.{goes_on, hands_on, none_yet, then_barrier, barrier_keeps}
 use Rattle.mars_base.proofs.Costing.{costs_one, costs_err, costs_then, so_far}
-use Rattle.coordinator.specs.Costs.{rows_at, rows_in_all, total}
+use Rattle.coordinator.specs.Costs.{rows_at, rows_in_all}
 use Rattle.coordinator.specs.Places.{votes_at}
+use Rattle.coordinator.proofs.Absent.{no_row, no_rows}
 use Rattle.coordinator.proofs.Calls.{votes_in_rows, numbers_more}
 use Rattle.coordinator.proofs.Costing.{total_le, total_more}
+use Rattle.coordinator.proofs.Members.{all_left, each_past, total_past, number_here, numbers_between, number_reached, number_below, numbers_left, numbers_behind}
 use Rattle.coordinator.proofs.phases.set_votes.Goals as goal
+
+pub loop-tid-init : goal.loop-tid-init
+loop-tid-init g c = (
+  0,
+  record {
+    left = all_left c.args.shape.now.numbers c.args.ballot.group (omega arith) c.requires.group _ (c.into_iter-tid-iterator.ensures.into_iter_gives ∙ c.members-tid-items.ensures ∙ ap (λ (bits : ℕ). numbers_from bits 0 64) c.group_of.ensures);
+    costs = omega arith;
+    does = none_yet g.M.Media.tells _ _;
+    votes = λ told h t lt lt'. absurd (omega arith);
+  },
+)
+
+pub set_votes_of-requires-clause-tid : goal.set_votes_of-requires-clause-tid
+set_votes_of-requires-clause-tid g c =
+    number_below c.args.shape.now c.args.ballot c.requires.group c.loop-tid.invariant.0 _ c.loop-tid.invariant.1.left c.in-Some.tid _ c.in-Some.ensures.steps
+
+pub set_votes_of-requires-clause-has : goal.set_votes_of-requires-clause-has
+set_votes_of-requires-clause-has g c =
+    number_here c.args.shape.now c.args.ballot c.requires.group c.loop-tid.invariant.0 _ c.loop-tid.invariant.1.left c.in-Some.tid _ c.in-Some.ensures.steps
 
 pub returns-in_err-set_votes_of-clause-does : goal.returns-in_err-set_votes_of-clause-does
 returns-in_err-set_votes_of-clause-does g c =
-    hands_on g.M.Media.tells _ _ _ _ _ (λ told i out. outside_at (votes_at c.args.shape.now c.args.ballot) i 0 c.args.shape.now.numbers out c.loop-tid.tid (omega arith) (omega arith)) c.loop-tid.invariant.does c.from_residual.result c.from_residual.ensures.0 c.in_err-set_votes_of.ensures.does
+    let n = c.in-Some.tid in
+    let below = number_below c.args.shape.now c.args.ballot c.requires.group c.loop-tid.invariant.0 _ c.loop-tid.invariant.1.left n _ c.in-Some.ensures.steps in
+    hands_on g.M.Media.tells _ _ _ _ _ (λ told i out. outside_at (votes_at c.args.shape.now c.args.ballot) i 0 c.args.shape.now.numbers out n (omega arith) (omega (arith, below))) c.loop-tid.invariant.1.does c.from_residual.result c.from_residual.ensures.0 c.in_err-set_votes_of.ensures.does
 
 pub loop-tid-preserved : goal.loop-tid-preserved
 loop-tid-preserved g c =
-    let one = c.in_ok-set_votes_of.ensures.costs.done refl in
-    record {
-      costs = omega (arith, one, c.loop-tid.invariant.costs, total_more (rows_at c.args.shape.now c.args.ballot) c.loop-tid.tid);
-      does = goes_on g.M.Media.tells _ _ _ _ _ (λ told i out. outside_at (votes_at c.args.shape.now c.args.ballot) i 0 c.args.shape.now.numbers out c.loop-tid.tid (omega arith) (omega arith)) c.loop-tid.invariant.does c.in_ok-set_votes_of.ensures.does refl;
-      votes = λ told. numbers_more c.args.shape.now (has_row c.args.ballot) (λ h t r. r.voted ≡ c.args.voted) c.loop-tid.tid (omega arith) (votes_at c.args.shape.now c.args.ballot c.loop-tid.tid) (votes_in_rows c.args.shape.now c.args.ballot c.loop-tid.tid)
-          _ _ (c.in_ok-set_votes_of.ensures.does.touched told).bytes (c.loop-tid.invariant.votes told) (c.in_ok-set_votes_of.ensures.votes told);
-    }
+    let shape = c.args.shape.now in
+    let ballot = c.args.ballot in
+    let at = c.loop-tid.invariant.0 in
+    let done = c.loop-tid.invariant.1 in
+    let n = c.in-Some.tid in
+    let steps = c.in-Some.ensures.steps in
+    let below = number_below shape ballot c.requires.group at _ done.left n _ steps in
+    let reached = number_reached shape ballot c.requires.group at _ done.left n _ steps in
+    let between = numbers_between shape ballot c.requires.group at _ done.left n _ steps in
+    let past = total_past at n reached (rows_at shape ballot) (λ u from under. no_rows shape ballot u (between u from under)) in
+    let one = c.in_ok-set_votes_of.ensures.costs.done refl in (
+      n + 1,
+      record {
+        left = numbers_left shape ballot c.requires.group at _ done.left n _ steps;
+        costs = omega (arith, one, done.costs, past, total_more (rows_at shape ballot) n);
+        does = goes_on g.M.Media.tells _ _ _ _ _ (λ told i out. outside_at (votes_at shape ballot) i 0 shape.numbers out n (omega arith) (omega (arith, below))) done.does c.in_ok-set_votes_of.ensures.does refl;
+        votes = λ told. numbers_more shape (has_row ballot) (λ h t r. r.voted ≡ c.args.voted) n below (votes_at shape ballot n) (votes_in_rows shape ballot n)
+            _ _ (c.in_ok-set_votes_of.ensures.does.touched told).bytes
+            (λ h t lt. each_past at n reached (has_row ballot h) (λ u. (row_of shape (g.M.Media.view c.loop-tid.media).content.bytes h u).voted ≡ c.args.voted) (λ u from under. no_row shape ballot u (between u from under) h) (λ u. done.votes told h u lt) t)
+            (c.in_ok-set_votes_of.ensures.votes told);
+      },
+    )
 
 pub returns-clause-does : goal.returns-clause-does
-returns-clause-does g c = then_barrier g.M.Media.tells _ _ _ _ c.barrier.result c.loop-tid.invariant.does c.barrier.ensures.does
+returns-clause-does g c = then_barrier g.M.Media.tells _ _ _ _ c.barrier.result c.loop-tid.invariant.1.does c.barrier.ensures.does
 
 pub returns-clause-votes : goal.returns-clause-votes
 returns-clause-votes g c told =
-    on_ok_weaker c.barrier.result (barrier_keeps (λ bytes. (h t : ℕ) → h < c.args.shape.now.loggers → t < c.args.shape.now.numbers → has_row c.args.ballot h t ≡ true → (row_of c.args.shape.now bytes h t).voted ≡ c.args.voted) (g.M.Media.view c.loop-tid.media).content (g.M.Media.view c.barrier.new.self).content (λ h t lt lt' has. c.loop-tid.invariant.votes told h t lt (omega arith) has)) (c.barrier.ensures.settled told)
+    let shape = c.args.shape.now in
+    let ballot = c.args.ballot in
+    let at = c.loop-tid.invariant.0 in
+    let done = c.loop-tid.invariant.1 in
+    let behind = numbers_behind shape ballot c.requires.group at _ done.left c.in-None.ensures.steps.0 in
+    on_ok_weaker c.barrier.result (barrier_keeps (λ bytes. (h t : ℕ) → h < shape.loggers → t < shape.numbers → has_row ballot h t ≡ true → (row_of shape bytes h t).voted ≡ c.args.voted) (g.M.Media.view c.loop-tid.media).content (g.M.Media.view c.barrier.new.self).content
+    (λ h t lt. each_past at shape.numbers done.left.most (has_row ballot h) (λ u. (row_of shape (g.M.Media.view c.loop-tid.media).content.bytes h u).voted ≡ c.args.voted) (λ u from under. no_row shape ballot u (behind u from under) h) (λ u. done.votes told h u lt) t)) (c.barrier.ensures.settled told)
 
 pub returns-in_err-set_votes_of-clause-costs : goal.returns-in_err-set_votes_of-clause-costs
 returns-in_err-set_votes_of-clause-costs g c =
-    let most = total_le (rows_at c.args.shape.now c.args.ballot) (c.loop-tid.tid + 1) c.args.shape.now.numbers (omega arith) in
-    costs_err true _ _ _ c.from_residual.result c.from_residual.ensures.0 (omega (arith, c.set_votes_of.ensures.costs.most, c.loop-tid.invariant.costs, total_more (rows_at c.args.shape.now c.args.ballot) c.loop-tid.tid, most))
+    let shape = c.args.shape.now in
+    let ballot = c.args.ballot in
+    let at = c.loop-tid.invariant.0 in
+    let done = c.loop-tid.invariant.1 in
+    let n = c.in-Some.tid in
+    let steps = c.in-Some.ensures.steps in
+    let below = number_below shape ballot c.requires.group at _ done.left n _ steps in
+    let reached = number_reached shape ballot c.requires.group at _ done.left n _ steps in
+    let between = numbers_between shape ballot c.requires.group at _ done.left n _ steps in
+    let past = total_past at n reached (rows_at shape ballot) (λ u from under. no_rows shape ballot u (between u from under)) in
+    let most = total_le (rows_at shape ballot) (n + 1) shape.numbers (omega (arith, below)) in
+    costs_err true _ _ _ c.from_residual.result c.from_residual.ensures.0 (omega (arith, c.set_votes_of.ensures.costs.most, done.costs, past, total_more (rows_at shape ballot) n, most))
 
 pub returns-clause-costs : goal.returns-clause-costs
 returns-clause-costs g c =
-    let all = ap (total (rows_at c.args.shape.now c.args.ballot)) (let e : c.loop-tid.tid ≡ c.args.shape.now.numbers = omega arith in e) in
-    costs_then true _ (rows_in_all c.args.shape.now c.args.ballot) 1 _ _ _ c.barrier.result refl (so_far true _ _ _ (omega (arith, c.loop-tid.invariant.costs, all))) (costs_one true _ _ _ c.barrier.ensures.ticks)
+    let shape = c.args.shape.now in
+    let ballot = c.args.ballot in
+    let at = c.loop-tid.invariant.0 in
+    let done = c.loop-tid.invariant.1 in
+    let behind = numbers_behind shape ballot c.requires.group at _ done.left c.in-None.ensures.steps.0 in
+    let all = total_past at shape.numbers done.left.most (rows_at shape ballot) (λ u from under. no_rows shape ballot u (behind u from under)) in
+    costs_then true _ (rows_in_all shape ballot) 1 _ _ _ c.barrier.result refl (so_far true _ _ _ (omega (arith, done.costs, all))) (costs_one true _ _ _ c.barrier.ensures.ticks)

@@ -4,13 +4,15 @@ use Rattle.array_image.specs.Image.{row_of}
 use Rattle.array_image.specs.Votes.{votes_of}
 use Rattle.array_image.proofs.Calls.{SoFar}
 use Rattle.coordinator.specs.Costs.{total, rows_at}
+use Rattle.coordinator.proofs.Members.{AreLeft}
 use Rattle.coordinator.proofs.phases.set_votes.Given as goal
 
 abbrev pub invariant-loop-tid : goal.invariant-loop-tid
 invariant-loop-tid g l =
     let m = g.M.Media in
-    record {
-      costs : (m.view l.media).moment ≡ (m.view l.fn.media).moment + total (rows_at l.shape l.ballot) l.tid;
+    (at : ℕ) × record {
+      left : AreLeft l.shape.numbers l.ballot.group at l.tid-iterator;
+      costs : (m.view l.media).moment ≡ (m.view l.fn.media).moment + total (rows_at l.shape l.ballot) at;
       does : SoFar m.tells (votes_of l.shape (has_row l.ballot)) (m.view l.fn.media) (m.view l.media);
-      votes : IsTrue m.tells → (h t : ℕ) → h < l.shape.loggers → t < l.tid → has_row l.ballot h t ≡ true → (row_of l.shape (m.view l.media).content.bytes h t).voted ≡ l.voted;
+      votes : IsTrue m.tells → (h t : ℕ) → h < l.shape.loggers → t < at → has_row l.ballot h t ≡ true → (row_of l.shape (m.view l.media).content.bytes h t).voted ≡ l.voted;
     }

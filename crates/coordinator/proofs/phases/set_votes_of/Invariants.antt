@@ -4,13 +4,15 @@ use Rattle.array_image.specs.Image.{row_of}
 use Rattle.array_image.proofs.Calls.{SoFar}
 use Rattle.coordinator.specs.Costs.{total}
 use Rattle.coordinator.specs.Places.{votes_at}
+use Rattle.coordinator.proofs.Members.{AreLeft}
 use Rattle.coordinator.proofs.phases.set_votes_of.Given as goal
 
 abbrev pub invariant-loop-number : goal.invariant-loop-number
 invariant-loop-number g l =
     let m = g.M.Media in
-    record {
-      costs : (m.view l.media).moment ≡ (m.view l.fn.media).moment + total (λ h. cond (has_row l.ballot h l.tid) 1 0) l.number;
-      does : SoFar m.tells (votes_at l.shape l.ballot l.tid) (m.view l.fn.media) (m.view l.media);
-      votes : IsTrue m.tells → (h : ℕ) → h < l.number → has_row l.ballot h l.tid ≡ true → (row_of l.shape (m.view l.media).content.bytes h l.tid).voted ≡ l.voted;
+    (at : ℕ) × record {
+      left : AreLeft l.shape.loggers l.fn.ballot.mask at l.number-iterator;
+      costs : (m.view l.media).moment ≡ (m.view l.fn.media).moment + total (λ h. cond (has_row l.fn.ballot h l.tid) 1 0) at;
+      does : SoFar m.tells (votes_at l.shape l.fn.ballot l.tid) (m.view l.fn.media) (m.view l.media);
+      votes : IsTrue m.tells → (h : ℕ) → h < at → has_row l.fn.ballot h l.tid ≡ true → (row_of l.shape (m.view l.media).content.bytes h l.tid).voted ≡ l.voted;
     }

@@ -7,7 +7,7 @@ use Rattle.array_image.proofs.Calls.{none_yet, goes_on, ends_with, hands_on}
 use Rattle.device_recovery.specs.Table.{RowsAre}
 use Rattle.device_recovery.specs.Recovered.{rows_good}
 use Rattle.mars_base.proofs.Costing.{costs_all}
-use Rattle.device_recovery.proofs.Lists.{none_decided}
+use Rattle.device_recovery.proofs.Lists.{table_has_none}
 use Rattle.device_recovery.proofs.Moments.{none_unsettled}
 use Rattle.device_recovery.proofs.recovery.read_sound.Goals as goal
 
@@ -66,7 +66,7 @@ returns-in_err-check_rows g c =
       sure = λ told. tt;
       costs = λ told none.
           let one = rows.costs.done refl in
-          let looked = checked.idle (none_decided shape base c.in_ok-rows.rows (subst (λ bytes. RowsAre shape bytes shape.numbers c.in_ok-rows.rows) (same_bytes _ _ (barrier.does.touched told)) (rows.rows told)) none) in
+          let looked = checked.idle (table_has_none shape base c.in_ok-rows.rows (subst (λ bytes. RowsAre shape bytes shape.numbers c.in_ok-rows.rows) (same_bytes _ _ (barrier.does.touched told)) (rows.rows told)) none) in
           costs_all true _ _ _ _ (omega (arith, barrier.ticks.next, barrier.ticks.last, one, looked));
       does = ends_with m.tells [] [] _ _ _ (λ told i out. out) read _ checked.does;
     })
@@ -93,7 +93,7 @@ returns g c =
           (checked.does.touched told).unsettled i tt ((rows.does.touched told).unsettled i tt (none_unsettled (m.view c.barrier.new.self).content settled i));
       costs = λ told none.
           let one = rows.costs.done refl in
-          let looked = checked.idle (none_decided shape base c.in_ok-rows.rows (are told) none) in
+          let looked = checked.idle (table_has_none shape base c.in_ok-rows.rows (are told) none) in
           costs_all true _ _ _ _ (omega (arith, barrier.ticks.next, barrier.ticks.last, one, looked));
       does = ends_with m.tells [] [] _ _ _ (λ told i out. out) read _ checked.does;
     }

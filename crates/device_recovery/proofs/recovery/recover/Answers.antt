@@ -1,5 +1,5 @@
 use Rattle.std.proofs.Common.{refl, inl, inr, ◌≡◌, ℕ, ◌∙◌, [], List, length, sym, ap, subst, arith}
-use Rattle.std.specs.Prelude.{IsTrue, None}
+use Rattle.std.specs.Prelude.{IsTrue, None, not, ◌&&◌}
 use Rattle.std.proofs.lemmas.Result.{err_from_is_err_and}
 use Rattle.mars_base.proofs.Going.{then}
 use Rattle.pcm_media.specs.Images.{IsOutside}
@@ -11,10 +11,10 @@ use Rattle.array_image.specs.Standing.{IsLawful}
 use Rattle.array_image.proofs.Calls.{none_yet, goes_on, ends_with, hands_on}
 use Rattle.commit_queue.specs.Between.{IsAtRest}
 use Rattle.device_recovery.proofs.Done.{all_done}
-use Rattle.device_recovery.specs.Table.{RowsAre}
-use Rattle.device_recovery.specs.Recovered.{rows_good, HasNoVote, recovered_places}
+use Rattle.device_recovery.specs.Table.{RowsAre, row_in, decided_in}
+use Rattle.device_recovery.specs.Recovered.{rows_good, HasNoVote, recovered_places, dropped_rows, at_rows, row_name, clear_calls}
 use Rattle.device_recovery.proofs.Clearing.{no_vote_settled}
-use Rattle.device_recovery.proofs.Lists.{decided_count, dropped_count, no_vote, no_count}
+use Rattle.device_recovery.proofs.Lists.{decided_count, dropped_count, no_vote, no_count, none_without_votes, table_has_none, no_clear_calls}
 use Rattle.device_recovery.proofs.Moments.{clean_from, reading_law, sense_law}
 use Rattle.device_recovery.proofs.recovery.recover.Goals as goal
 
@@ -36,7 +36,8 @@ returns-in_err-rows g c =
       unwritten = λ told h t is. read.does.touched told;
       spared = λ told. inl (read.does.touched told);
       idle = λ told none. read.does.touched told;
-      costs = λ told none. record { done = λ exact. tt; most = (read.costs told none).most };
+      costs = λ told none. let quiet = read.costs told (none_without_votes c.args.shape.now old.content.bytes none) in record { done = λ exact. tt; most = quiet.most };
+      dropping = λ told none. record { done = λ exact. tt; most = omega (arith, (read.costs told none).most) };
       any_moment = λ told lawful. reading_law c.args.shape.now old now lawful (read.does.time told);
       does = ends_with m.tells all [] old old now (λ told i out. tt) (none_yet m.tells all old) _ read.does;
     })
@@ -66,7 +67,11 @@ returns-then-report-eq0 g c =
       unwritten = λ told. tt;
       spared = λ told. tt;
       idle = λ told quiet. read.does.touched told;
-      costs = λ told quiet. record { done = (read.costs told quiet).done; most = (read.costs told quiet).most };
+      costs = λ told silent. let quiet = read.costs told (none_without_votes shape base silent) in record { done = quiet.done; most = quiet.most };
+      dropping = λ told undecided.
+          let zero = no_clear_calls (length (dropped_rows shape base)) (sym (dropped_count shape base rows (read.rows told)) ∙ (let none_dropped : length (at_rows shape (λ h t. (row_in rows h t).voted && not (decided_in shape rows h t)) row_name) ≡ 0 = omega (arith, c.if-report-eq0.true, report.dropped) in none_dropped)) in
+          let quiet = read.costs told undecided in
+          record { done = λ exact. let one = quiet.done exact in omega (arith, one, zero); most = omega (arith, quiet.most, zero) };
       any_moment = λ told lawful. reading_law shape old now lawful (read.does.time told);
       does = ends_with m.tells all [] old old now (λ told i out. tt) (none_yet m.tells all old) _ read.does;
     }
@@ -105,6 +110,10 @@ returns-in_err-settle g c =
       spared = λ told. inr (read.good told);
       idle = λ told none. absurd (voted told none);
       costs = λ told none. absurd (voted told none);
+      dropping = λ told undecided.
+          let cleared = settled.costs (table_has_none shape old.content.bytes c.in_ok-rows.rows (read.rows told) undecided) in
+          let quiet = (read.costs told undecided).done refl in
+          record { done = λ exact. tt; most = omega (arith, quiet, cleared.most, ap clear_calls (dropped_count shape old.content.bytes c.in_ok-rows.rows (read.rows told))) };
       any_moment = λ told lawful. then (reading_law shape old mid lawful (read.does.time told))
           (sense_law shape old mid (m.view c.settle.new.media) (same told) (settled.any_moment told (subst (IsLawful shape) (same told) (lawful old.content.bytes (left_as_read old.content)))));
       does =
@@ -138,6 +147,11 @@ returns g c =
       spared = λ told. tt;
       idle = λ told none. absurd (voted told none);
       costs = λ told none. absurd (voted told none);
+      dropping = λ told undecided.
+          let cleared = settled.costs (table_has_none shape old.content.bytes rows (read.rows told) undecided) in
+          let quiet = (read.costs told undecided).done refl in
+          let all_cleared = ap clear_calls (dropped_count shape old.content.bytes rows (read.rows told)) in
+          record { done = λ exact. let one = cleared.done exact in omega (arith, quiet, one, all_cleared); most = omega (arith, quiet, cleared.most, all_cleared) };
       any_moment = λ told lawful. then (reading_law shape old mid lawful (read.does.time told))
           (sense_law shape old mid (m.view c.settle.new.media) (same told) (settled.any_moment told (subst (IsLawful shape) (same told) (lawful old.content.bytes (left_as_read old.content)))));
       does =

@@ -1,5 +1,6 @@
-use Rattle.std.proofs.Common.{refl, ◌≡◌, ◌∙◌, length}
+use Rattle.std.proofs.Common.{true, refl, ◌≡◌, ◌∙◌, length, arith}
 use Rattle.std.proofs.lemmas.Result.{on_ok_weaker}
+use Rattle.mars_base.proofs.Costing.{costs_all, costs_err}
 use Rattle.mars_base.proofs.Going.{then}
 use Rattle.array_shape.specs.Places.{media_len}
 use Rattle.array_image.proofs.Calls.{none_yet, goes_on, ends_with, hands_on}
@@ -116,3 +117,12 @@ returns-clause-does g c =
     let data_done = goes_on m.tells all _ _ _ _ (λ told. data_within shape old.content.bytes) (none_yet m.tells all old) c.in_ok-settle_data.ensures.does refl in
     let dropped_done = goes_on m.tells all _ _ _ _ (λ told. dropped_within shape old.content.bytes c.args.rows.now (c.requires.rows told)) data_done c.in_ok-drop_votes.ensures.does refl in
     ends_with m.tells all _ _ _ _ (λ told. decided_within shape old.content.bytes c.args.rows.now (c.requires.rows told)) dropped_done c.clear_decided.result c.clear_decided.ensures.does
+
+pub returns-in_err-settle_data-clause-costs : goal.returns-in_err-settle_data-clause-costs
+returns-in_err-settle_data-clause-costs g c none = costs_err true _ _ _ c.from_residual.result c.from_residual.ensures.0 (omega (arith, c.settle_data.ensures.idle none))
+
+pub returns-in_err-drop_votes-clause-costs : goal.returns-in_err-drop_votes-clause-costs
+returns-in_err-drop_votes-clause-costs g c none = costs_err true _ _ _ c.from_residual-in_err-drop_votes.result c.from_residual-in_err-drop_votes.ensures.0 (omega (arith, c.settle_data.ensures.idle none, c.drop_votes.ensures.costs.most))
+
+pub returns-clause-costs : goal.returns-clause-costs
+returns-clause-costs g c none = costs_all true _ _ _ _ (omega (arith, c.settle_data.ensures.idle none, c.in_ok-drop_votes.ensures.costs.done refl, c.clear_decided.ensures.idle none))

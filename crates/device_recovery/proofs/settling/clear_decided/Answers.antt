@@ -9,6 +9,7 @@ use Rattle.array_image.proofs.Headers.{header_stays}
 use Rattle.device_recovery.specs.declared.which.Which.TheVariants.{DecidedAs}
 use Rattle.device_recovery.specs.Table.{row_in, RowsLeft, decided_in, is_one_of}
 use Rattle.device_recovery.proofs.Clearing.{fewer_votes}
+use Rattle.device_recovery.proofs.Lists.{no_order}
 use Rattle.device_recovery.proofs.Leaving.{cleared_left}
 use Rattle.device_recovery.proofs.Moments.{votes_behind}
 use Rattle.device_recovery.proofs.Phases.{order_left, clearing, still_recovering}
@@ -36,6 +37,9 @@ returns-in_err-clear_votes-clause-does g c =
     hands_on m.tells _ _ _ _ _ (λ told. fewer_votes shape (decided_in shape rows) (is_one_of shape rows (DecidedAs order)) (λ h t lt lt' so. (and_parts (decided_in shape rows h t) (nat_eq (row_in rows h t).order order) so).0))
     c.loop-order.invariant.does c.from_residual.result c.from_residual.ensures.0 c.in_err-clear_votes.ensures.does
 
+pub returns-in_err-clear_votes-clause-idle : goal.returns-in_err-clear_votes-clause-idle
+returns-in_err-clear_votes-clause-idle g c none = absurd (no_order c.args.shape.now c.args.rows.now none c.in-Some.order c.in-Some.ensures.found)
+
 pub loop-order-preserved : goal.loop-order-preserved
 loop-order-preserved g c =
     let m = g.M.Media in
@@ -51,6 +55,7 @@ loop-order-preserved g c =
     let next : order + 1 ≡ c.from-from.result + 1 = omega (arith, c.from-from.ensures) in
     record {
       most = omega (arith, next, some.1);
+      idle = λ none. absurd (no_order shape rows none order c.in-Some.ensures.found);
       does = goes_on m.tells _ _ _ _ _ (λ told. fewer_votes shape (decided_in shape rows) (is_one_of shape rows (DecidedAs order)) (λ h t lt lt' so. (and_parts (decided_in shape rows h t) (nat_eq (row_in rows h t).order order) so).0))
           so_far.does cleared.does refl;
       settled = λ told. (cleared.cleared told).0;

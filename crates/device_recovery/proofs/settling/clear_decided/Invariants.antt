@@ -1,10 +1,10 @@
-use Rattle.std.proofs.Common.{◌≤◌, ◌-◌, ℕ, List, IsTrue}
+use Rattle.std.proofs.Common.{◌≡◌, ◌≤◌, ◌-◌, ℕ, List, IsTrue}
 use Rattle.mars_base.specs.Bytes.{range}
 use Rattle.pcm_media.specs.View.{LeavesOnly}
 use Rattle.array_image.specs.Standing.{AllSettled, IsRecovering}
 use Rattle.array_image.specs.Votes.{votes_of}
 use Rattle.array_image.proofs.Calls.{SoFar}
-use Rattle.device_recovery.specs.Table.{RowsLeft, decided_in}
+use Rattle.device_recovery.specs.Table.{NoneDecided, RowsLeft, decided_in}
 use Rattle.device_recovery.specs.Recovered.{SettlesTo}
 use Rattle.device_recovery.proofs.settling.clear_decided.Given as goal
 
@@ -15,6 +15,7 @@ invariant-loop-order g l =
     let now = m.view l.media in
     record {
       most : l.from ≤ 65536;
+      idle : NoneDecided l.shape l.rows → now.moment ≡ old.moment;
       does : SoFar m.tells (votes_of l.shape (decided_in l.shape l.rows)) old now;
       settled : IsTrue m.tells → AllSettled now.content;
       left : IsTrue m.tells → RowsLeft l.shape now.content.bytes l.rows l.from;

@@ -1,4 +1,4 @@
-use Rattle.std.proofs.Common.{refl, ◌≡◌, ◌*◌, ◌<◌, ℕ, [], ◌∷◌, ◌∙◌, sym, ap, subst, arith, true, false, IsTrue}
+use Rattle.std.proofs.Common.{refl, ◌≡◌, ◌+◌, ◌*◌, ◌/◌, ◌%◌, ◌<◌, length, ℕ, [], ◌∷◌, ◌∙◌, sym, ap, subst, arith, true, false, IsTrue}
 use Rattle.std.proofs.lemmas.Bool.{false≢true}
 use Rattle.std.proofs.lemmas.Result.{IfOk-from_err, on_ok_weaker}
 use Rattle.pcm_media.specs.Images.{IsOutside, SameOutside}
@@ -9,6 +9,8 @@ use Rattle.array_image.proofs.Calls.{goes_on, hands_on, barrier_keeps, then_barr
 use Rattle.device_recovery.specs.Table.{is_one_of}
 use Rattle.device_recovery.proofs.Clearing.{vote_within}
 use Rattle.device_recovery.proofs.Moments.{none_unsettled}
+use Rattle.mars_base.proofs.Costing.{costs_one, costs_err, costs_then, so_far as so_far_costs}
+use Rattle.device_recovery.proofs.Lists.{first_rows, chosen_row, row_counts, row_counts_not, rows_counted, length_grows}
 use Rattle.device_recovery.proofs.Order.{place_of_row, before_more, before_all, other_place, number_below}
 use Rattle.device_recovery.proofs.Votes.{other_row}
 use Rattle.device_recovery.proofs.settling.clear_votes.Goals as goal
@@ -22,6 +24,7 @@ loop-nth-preserved-then-not-is_one_of g c =
     let at = c.nth_row-at.result in
     let is = c.nth_row-at.ensures in
     record {
+      costs = omega (arith, so_far.costs, row_counts_not shape (is_one_of shape c.args.rows.now c.args.which) c.loop-nth.nth at.logger at.tid is.logger is.tid (sym c.if-not-is_one_of.ensures));
       does = so_far.does;
       cleared = λ told. before_more shape.loggers (λ h t. is_one_of shape c.args.rows.now c.args.which h t ≡ true → (row_of shape cur h t).voted ≡ false) c.loop-nth.nth at.logger at.tid is.logger is.tid (so_far.cleared told)
           (λ so. absurd (false≢true (c.if-not-is_one_of.ensures ∙ so)));
@@ -39,6 +42,18 @@ returns-in_err-unvote-clause-does g c =
     subst (λ r. IsOutside (r ∷ []) i) (sym same) (vote_within shape (is_one_of shape c.args.rows.now c.args.which) at.logger at.tid is.one_logger is.one_number (sym c.if-not-is_one_of.ensures) i out))
     c.loop-nth.invariant.does c.from_residual.result c.from_residual.ensures.0 c.in_err-unvote.ensures.does
 
+pub returns-in_err-unvote-clause-costs : goal.returns-in_err-unvote-clause-costs
+returns-in_err-unvote-clause-costs g c =
+    let shape = c.args.shape.now in
+    let test = is_one_of shape c.args.rows.now c.args.which in
+    let n = c.loop-nth.nth in
+    let at = c.nth_row-at.result in
+    let is = c.nth_row-at.ensures in
+    let one = row_counts shape (is_one_of shape c.args.rows.now c.args.which) n at.logger at.tid is.logger is.tid (sym c.if-not-is_one_of.ensures) in
+    let most = length_grows (λ k. chosen_row shape (is_one_of shape c.args.rows.now c.args.which) (k % shape.loggers) (k / shape.loggers)) (n + 1) (shape.loggers * shape.numbers) (omega arith) in
+    let all = rows_counted shape (is_one_of shape c.args.rows.now c.args.which) (shape.loggers * shape.numbers) refl in
+    costs_err true _ _ _ c.from_residual.result c.from_residual.ensures.0 (omega (arith, c.unvote.ensures.costs.most, c.loop-nth.invariant.costs, one, most, all))
+
 pub loop-nth-preserved : goal.loop-nth-preserved
 loop-nth-preserved g c =
     let m = g.M.Media in
@@ -54,7 +69,9 @@ loop-nth-preserved g c =
     let same : (row_at c.new.result.shape c.new.result.number at.tid, 1) ≡ (row_at shape at.logger at.tid, 1) = (λ i. (row_at (logger.shape i) (logger.number i) at.tid, 1)) in
     let stays : IsTrue m.tells → (h t : ℕ) → t < shape.numbers → (h ≡ at.logger → t ≡ at.tid → ⊥) → row_of shape new h t ≡ row_of shape cur h t =
     λ told h t lt ne. other_row shape h t at.logger at.tid cur new lt is.one_number ne (subst (λ r. SameOutside (r ∷ []) cur new) same (c.in_ok-unvote.ensures.does.touched told).bytes) in
+    let one = c.in_ok-unvote.ensures.costs.done refl in
     record {
+      costs = omega (arith, one, so_far.costs, row_counts shape (is_one_of shape c.args.rows.now c.args.which) n at.logger at.tid is.logger is.tid (sym c.if-not-is_one_of.ensures));
       does = goes_on m.tells _ _ _ _ _ (λ told i out.
           subst (λ r. IsOutside (r ∷ []) i) (sym same) (vote_within shape (is_one_of shape c.args.rows.now c.args.which) at.logger at.tid is.one_logger is.one_number (sym c.if-not-is_one_of.ensures) i out))
           so_far.does c.in_ok-unvote.ensures.does refl;
@@ -81,5 +98,6 @@ returns g c =
           let done = barrier_keeps (λ bytes. (h t : ℕ) → h < shape.loggers → t < shape.numbers → is_one_of shape c.args.rows.now c.args.which h t ≡ true → (row_of shape bytes h t).voted ≡ false) mid.content new.content
           (before_all shape.loggers (λ h t. is_one_of shape c.args.rows.now c.args.which h t ≡ true → (row_of shape mid.content.bytes h t).voted ≡ false) c.loop-nth.nth shape.numbers all (so_far.cleared told)) settled in
           (none_unsettled new.content done.0, done.1)) (c.barrier.ensures.settled told);
+      costs = costs_then true _ (length (first_rows shape (is_one_of shape c.args.rows.now c.args.which) c.loop-nth.nth)) 1 _ _ _ c.barrier.result (omega (arith, rows_counted shape (is_one_of shape c.args.rows.now c.args.which) c.loop-nth.nth all)) (so_far_costs true _ _ _ so_far.costs) (costs_one true _ _ _ c.barrier.ensures.ticks);
       does = then_barrier m.tells _ (m.view c.args.media.now) mid new c.barrier.result so_far.does c.barrier.ensures.does;
     }

@@ -1,10 +1,11 @@
-use Rattle.std.proofs.Common.{◌≡◌, ◌-◌, ℕ, false, ◌<◌, inl, inr, length, take, sym, ◌∙◌, ap, arith}
+use Rattle.std.proofs.Common.{◌≡◌, ◌-◌, ℕ, ◌<◌, inl, inr, List, length, take, sym, ◌∙◌, ap, subst, arith}
 use Rattle.std.specs.Prelude.{slice_index}
 use Rattle.std.proofs.lemmas.Bool.{cases_eq}
 use Rattle.coordinator.specs.declared.cells.Cells.{Cells}
 use Rattle.coordinator.specs.Commits.{cells_in}
 use Rattle.deferred_parts.specs.Entries.{cells_on}
-use Rattle.eaw_device.proofs.NoneWaits.{all_free}
+use Rattle.row_bytes.specs.declared.ballot.Ballot.{Ballot}
+use Rattle.late_commits.specs.Orders.{IsFree}
 use Rattle.eaw_device.proofs.Keeping.{first_few}
 use Rattle.eaw_device.proofs.committing.name_cells.Goals as goal
 
@@ -18,7 +19,7 @@ overflow_sub-count c =
     omega (arith, first, held, c.counts_of_first-firsts.ensures.counts k lt, first_few c.args.shape.now c.args.offset log.entries.items log.held c.requires.kept.cells k lt)
 
 pub name-requires-clause-apart : goal.name-requires-clause-apart
-name-requires-clause-apart c = all_free c.args.shape.now c.loop-logger.late.queue c.loop-logger.invariant.at_once c.args.tid
+name-requires-clause-apart c = subst (λ (bs : List Ballot). IsFree c.args.tid bs) (λ i. (sym c.loop-logger.invariant.ballots i).items) c.requires.apart
 
 pub loop-logger-preserved : goal.loop-logger-preserved
 loop-logger-preserved c =
@@ -31,9 +32,13 @@ loop-logger-preserved c =
     ap (λ (i : ℕ). slice_index c.counts_of_first-firsts.result i) c.from-at.ensures ∙ c.counts_of_first-firsts.ensures.counts k lt in
     let held : slice_index log.held c.from-at.result ≡ slice_index log.held k = ap (λ (i : ℕ). slice_index log.held i) c.from-at.ensures in
     record {
-      at_once = record { fit = c.name.ensures.ready.fit; none_waits = c.name.ensures.depth ∙ at.at_once.none_waits };
       ready = c.name.ensures.ready;
-      tied = c.name.ensures.tied (λ t. false) at.tied;
+      ballots = c.name.ensures.ballots ∙ at.ballots;
+      depth = c.name.ensures.depth ∙ at.depth;
+      parts = c.name.ensures.parts ∙ at.parts;
+      tied = λ aside tied. c.name.ensures.tied aside (at.tied aside tied);
+      waiting = λ now waiting. c.name.ensures.waiting now (at.waiting now waiting);
+      same = λ image. c.name.ensures.same image ∙ at.same image;
       here = λ g below. elim (cases_eq g k) [
         | inl is ↦ ap (λ (h : ℕ). cells_in c.name.new.self.queue.cells h c.args.tid) is
             ∙ c.name.ensures.here

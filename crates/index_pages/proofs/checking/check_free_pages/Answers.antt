@@ -1,4 +1,4 @@
-use Rattle.std.proofs.Common.{◌≡◌, ◌≢◌, ◌+◌, ◌-◌, ◌/◌, ◌<◌, ◌≤◌, ℕ, suc, false, IsTrue, Option, Some, None, refl, sym, ◌∙◌, ap, subst, arith}
+use Rattle.std.proofs.Common.{◌≡◌, ◌+◌, ◌-◌, ℕ, false, Option, Some, refl, sym, ◌∙◌, ap, subst, arith}
 use Rattle.eaw_face.specs.State.{State}
 use Rattle.record_slots.specs.Free.{next_of}
 use Rattle.record_slots.specs.Places.{free_page_of}
@@ -6,7 +6,6 @@ use Rattle.record_slots.specs.declared.free.Free.{Free}
 use Rattle.page_store.specs.Shown.{pages_of}
 use Rattle.index_pages.specs.Slots.{Names, HasRank, list_check}
 use Rattle.index_pages.proofs.Looking.{looks_next}
-use Rattle.index_pages.proofs.Sizes.{slot_page_is}
 use Rattle.index_pages.proofs.Members.{names_fail, rank_fails, rank_on, rank_is}
 use Rattle.index_pages.proofs.checking.check_free_pages.Goals as goal
 

@@ -1,4 +1,4 @@
-use Rattle.std.proofs.Common.{ℕ, ◌≡◌, ◌-◌, false, IsTrue, Option}
+use Rattle.std.proofs.Common.{ℕ, ◌-◌, false, IsTrue, Option}
 use Rattle.eaw_face.specs.Causes.{IsAlive}
 use Rattle.record_slots.specs.Places.{page_bytes, slot_page, free_slot_of}
 use Rattle.record_slots.specs.Super.{SaysSuper}

@@ -1,7 +1,7 @@
-use Rattle.std.proofs.Common.{◌≡◌, ◌-◌, ℕ, IsTrue, Option, None, sym, ◌∙◌, subst, arith}
+use Rattle.std.proofs.Common.{ℕ, Option, sym, subst, arith}
 use Rattle.record_slots.specs.Places.{free_page_of}
 use Rattle.record_slots.specs.declared.free.Free.{Free}
-use Rattle.index_pages.specs.Slots.{Names, HasRank}
+use Rattle.index_pages.specs.Slots.{HasRank}
 use Rattle.index_pages.proofs.Members.{first_member}
 use Rattle.index_pages.proofs.taking.take_page.Goals as goal
 

@@ -1,4 +1,4 @@
-use Rattle.std.proofs.Common.{◌≡◌, false, IsTrue}
+use Rattle.std.proofs.Common.{false, IsTrue}
 use Rattle.eaw_face.specs.Causes.{IsAlive}
 use Rattle.record_slots.specs.Places.{page_bytes, tables_of}
 use Rattle.record_slots.specs.Super.{SaysSuper}

@@ -1,4 +1,4 @@
-use Rattle.std.proofs.Common.{◌≡◌, ◌^◌, ◌<◌, ℕ, Option, Result, Err, IsTrue, refl, sym, ◌∙◌, ap, subst, arith}
+use Rattle.std.proofs.Common.{◌^◌, ◌<◌, ℕ, Option, Result, Err, IsTrue, refl, sym, ◌∙◌, ap, subst, arith}
 use Rattle.array_shape.specs.declared.shape.Shape.{Shape}
 use Rattle.page_store.specs.Index.{slots_of, index_pages_of}
 use Rattle.page_store.specs.Inserts.{Inserts}
@@ -10,7 +10,7 @@ use Rattle.index_pages.proofs.Claims.{free_slots_pass}
 use Rattle.index_pages.proofs.Faulting.{look_of_index, act_of_index, dead_fault, dead_act, not_done}
 use Rattle.key_list.specs.Index.{chain_within}
 use Rattle.key_list.specs.Located.{IsLocated}
-use Rattle.key_list.proofs.Even.{halves, halves_few}
+use Rattle.index_pages.proofs.Even.{halves, halves_few}
 use Rattle.key_list.proofs.Others.{whole_of}
 use Rattle.key_list.proofs.Whole.{slot_err, add_done, add_err}
 use Rattle.key_list.proofs.insertion.insert_here.Goals as goal

@@ -1,4 +1,4 @@
-use Rattle.std.proofs.Common.{◌≡◌, ◌≤◌, ℕ, false, refl, sym, ◌∙◌, ap, subst, arith}
+use Rattle.std.proofs.Common.{◌≡◌, ℕ, false, refl, sym, ◌∙◌, ap, subst, arith}
 use Rattle.eaw_face.specs.State.{State}
 use Rattle.page_store.specs.Index.{index_pages_of}
 use Rattle.page_store.specs.Shown.{pages_of}

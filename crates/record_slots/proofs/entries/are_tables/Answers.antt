@@ -1,10 +1,10 @@
-use Rattle.std.proofs.Common.{ℕ, ◌≡◌, ◌<◌, ◌≤◌, Some, None, inl, inr, refl, sym, ◌∙◌, ap, subst, arith}
-use Rattle.std.specs.Prelude.{slice_get, codes}
+use Rattle.std.proofs.Common.{ℕ, ◌≡◌, ◌<◌, Some, None, inl, inr, refl, sym, ◌∙◌, ap, subst, arith}
+use Rattle.std.specs.Prelude.{slice_get}
 use Rattle.std.specs.Cmp.Lexicographic.{same_text, other_text}
 use Rattle.std.proofs.lemmas.Bool.{cases_eq, cases_lt, false≢true, not-true, not-false}
 use Rattle.record_slots.specs.Super.{tables_used, IsApart}
 use Rattle.record_slots.specs.declared.super_page.TableEntry.{TableEntry}
-use Rattle.record_slots.proofs.Used.{tables_used_at, named_used_at, none_main, main_first, first_main, root_used, beyond_used}
+use Rattle.record_slots.proofs.Used.{tables_used_at, named_used_at, main_first, first_main, root_used, beyond_used}
 use Rattle.record_slots.proofs.entries.are_tables.Goals as goal
 
 nothing : {table : TableEntry} → None ≡ Some table → ⊥

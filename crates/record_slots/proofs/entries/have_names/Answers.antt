@@ -1,4 +1,4 @@
-use Rattle.std.proofs.Common.{refl, sym, ◌∙◌, arith, ◌≡◌, ◌-◌}
+use Rattle.std.proofs.Common.{refl, sym, ◌∙◌, arith, ◌-◌}
 use Rattle.record_slots.proofs.Used.{named_first, left_on_free, left_on_gap, left_on_unnamed, left_on_named, left_at_end, from}
 use Rattle.record_slots.specs.Super.{are_named}
 use Rattle.record_slots.proofs.entries.have_names.Goals as goal

@@ -1,4 +1,4 @@
-use Rattle.std.proofs.Common.{ℕ, List, Some, None, ◌<◌, ap, sym, ◌∙◌, subst, arith, Option, length}
+use Rattle.std.proofs.Common.{ℕ, List, Some, ◌<◌, ap, sym, ◌∙◌, arith, Option, length}
 use Rattle.std.specs.Prelude.{slice_get}
 use Rattle.std.specs.Option.{option_map}
 use Rattle.record_slots.specs.Super.{tables_used}

@@ -8,10 +8,13 @@ use Rattle.late_commits.proofs.Orders.{rise_from}
 use Rattle.eaw_device.proofs.device.Eaw.deferred.Goals as goal
 
 pub overflow_cast-result : goal.overflow_cast-result
-overflow_cast-result g c = omega (arith, c.len.ensures, c.args.self.now.sound.ready.fit.few)
+overflow_cast-result g c = omega (arith, c.len.ensures, c.args.self.now.sound.ready.fit.few, c.args.self.now.depth, g.met.W.WriteBack.few c.args.self.now.write_back)
 
 pub returns-clause-most : goal.returns-clause-most
-returns-clause-most g c = omega (arith, c.len.ensures, c.args.self.now.sound.ready.fit.few)
+returns-clause-most g c = omega (arith, c.len.ensures, c.args.self.now.sound.ready.fit.few, c.args.self.now.depth)
+
+pub returns-clause-none : goal.returns-clause-none
+returns-clause-none g c = λ now. omega (arith, c.len.ensures, c.args.self.now.sound.ready.fit.few, c.args.self.now.depth, g.met.W.WriteBack.none c.args.self.now.write_back now)
 
 pub returns-clause-counted : goal.returns-clause-counted
 returns-clause-counted g c = λ told alive.

@@ -19,7 +19,7 @@ invariant_of-self g c =
     let said = c.in-Ok.ensures in
     record {
       sound = back_sound m.tells (m.view s.media) (m.view c.write_back_for.new.media) s.shape s.logs.items s.late c.write_back_for.new.self s.is_dead s.sound c.requires _ _ said.back said.stays (λ told. g.met.M.Media.long s.media told ∙ s.sound.sized) said.tied said.back.waiting said.back.left;
-      at_once = record { fit = said.back.fit; none_waits = said.back.depth ∙ s.at_once.none_waits };
+      depth = said.back.depth ∙ s.depth;
     }
 
 pub invariant_of-self-in-Err : goal.invariant_of-self-in-Err
@@ -29,7 +29,7 @@ invariant_of-self-in-Err g c =
     let said = c.in-Err.ensures in
     record {
       sound = sound_dead m.tells (m.view s.media) (m.view c.write_back_for.new.media) s.shape s.logs.items s.late c.write_back_for.new.self s.is_dead s.sound said.back.does.does.size said.stays.ready;
-      at_once = record { fit = said.back.fit; none_waits = said.back.depth ∙ s.at_once.none_waits };
+      depth = said.back.depth ∙ s.depth;
     }
 
 pub returns-in-Ok-clause-quiet : goal.returns-in-Ok-clause-quiet

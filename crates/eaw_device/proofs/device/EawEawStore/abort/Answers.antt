@@ -38,7 +38,7 @@ invariant_of-self g c =
     record {
       sound = abort_sound m.tells (m.view s.media) s.shape s.logs.items s.late s.is_dead s.sound c.in_ok-at.ensures.alive c.args.tid c.in_ok-at.ensures.live c.index_mut.result.now there
           c.clear.new.self c.clear.ensures.kept 0 c.clear.ensures.entries c.in_ok-at.at c.in_ok-at.ensures.at;
-      at_once = c.args.self.now.at_once;
+      depth = c.args.self.now.depth;
     }
 
 pub returns-clause-does : goal.returns-clause-does

@@ -1,4 +1,4 @@
-use Rattle.std.proofs.Common.{◌≡◌, ◌∙◌, sym, refl, arith, ℕ, List, drop, ap}
+use Rattle.std.proofs.Common.{◌≡◌, ◌∙◌, sym, refl, arith, ℕ, List, [], ◌∷◌, drop, ap}
 use Rattle.std.proofs.lemmas.Result.{err_from_is_err_and}
 use Rattle.eaw_face.specs.Command.{commit}
 use Rattle.eaw_face.specs.declared.fault.EawFault.TheVariants.{Media}
@@ -8,7 +8,7 @@ use Rattle.eaw_device.proofs.StagedCalls.{when_ok}
 use Rattle.eaw_device.proofs.Doing.{lacking, lacking_other, Found, found, when_err}
 use Rattle.eaw_device.specs.Costs.{commit_cost}
 use Rattle.eaw_device.proofs.Costing.{costs_done}
-use Rattle.eaw_device.proofs.NoneWaits.{once_before, once_held}
+use Rattle.eaw_device.proofs.Cutting.{order_cut}
 use Rattle.eaw_device.proofs.Tables.{ranges_there, sound_dead}
 use Rattle.eaw_device.proofs.Commits.{its_len, commit_failed, commit_sound, commit_done}
 use Rattle.eaw_device.proofs.device.EawEawStore.commit.Given.{Over}
@@ -27,6 +27,7 @@ returns-in_err-at g c =
       due = λ is. absurd (lacking_other store c.args.tid fault cause (let same : fault ≡ Media = cc in same));
       idle = λ none. refl;
       costs = record { done = λ exact. tt; most = omega arith };
+      late = λ defers more. tt;
       refused = λ ne. refl;
     })
 
@@ -56,7 +57,7 @@ returns-then-is_err-clause-does g c =
     let m = g.M.Media in
     let s = c.args.self.now in
     let there = found m.tells (m.view s.media) s.shape s.logs.items s.late s.is_dead s.sound c.in_ok-at.ensures.alive c.args.tid c.in_ok-at.at c.index.result.now c.in_ok-at.ensures.at c.in_ok-at.ensures.live c.index.ensures in
-    let said = c.commit_log.ensures in
+    let said = c.commit_log.ensures.does in
     commit_failed m.tells (m.view s.media) (m.view c.commit_log.new.media) s.shape s.logs.items s.late s.is_dead s.sound c.in_ok-at.ensures.alive c.args.tid c.in_ok-at.ensures.live c.index.result.now there
     c.commit_log.new.late 0 c.commit_log.result said.does (λ told. g.met.M.Media.long s.media told ∙ s.sound.sized) said.any_moment
     (when_err c.commit_log.result (sym c.is_err.ensures.value ∙ c.if-is_err.true) said.does.does.cause.failed) refl
@@ -80,10 +81,10 @@ pub invariant_of-self : goal.invariant_of-self
 invariant_of-self g c =
     let m = g.M.Media in
     let s = c.args.self.now in
-    let said = c.commit_log.ensures in
+    let said = c.commit_log.ensures.does in
     record {
-      sound = sound_dead m.tells (m.view s.media) (m.view c.commit_log.new.media) s.shape s.logs.items s.late c.commit_log.new.late s.is_dead s.sound said.does.does.size said.ready;
-      at_once = said.at_once;
+      sound = sound_dead m.tells (m.view s.media) (m.view c.commit_log.new.media) s.shape s.logs.items s.late c.commit_log.new.late s.is_dead s.sound said.does.does.size c.commit_log.ensures.stays.ready;
+      depth = said.depth ∙ s.depth;
     }
 
 pub invariant_of-self-2 : goal.invariant_of-self-2
@@ -91,15 +92,16 @@ invariant_of-self-2 g c =
     let m = g.M.Media in
     let s = c.args.self.now in
     let there = found m.tells (m.view s.media) s.shape s.logs.items s.late s.is_dead s.sound c.in_ok-at.ensures.alive c.args.tid c.in_ok-at.at c.index.result.now c.in_ok-at.ensures.at c.in_ok-at.ensures.live c.index.ensures in
-    let said = c.commit_log.ensures in
+    let said = c.commit_log.ensures.does in
     let fine = sym c.is_err.ensures.value ∙ c.if-is_err.false in
     record {
       sound = commit_sound m.tells (m.view s.media) (m.view c.commit_log.new.media) s.shape s.logs.items s.late s.is_dead s.sound c.in_ok-at.ensures.alive c.args.tid c.in_ok-at.ensures.live c.index.result.now there
           c.commit_log.new.late 0 c.commit_log.result said.does (λ told. g.met.M.Media.long s.media told ∙ s.sound.sized) said.any_moment
-          said.ready (λ told. when_ok c.commit_log.result fine (said.waiting told)) (λ told. once_held s.shape c.commit_log.new.late said.at_once (when_ok c.commit_log.result fine said.tied) (m.view c.commit_log.new.media).content.bytes)
+          c.commit_log.ensures.stays.ready (λ told. when_ok c.commit_log.result fine (said.waiting told)) (λ told. c.commit_log.ensures.stays.held told (s.sound.told told c.in_ok-at.ensures.alive).shown)
           (λ told. when_ok c.commit_log.result fine (said.committed told)) said.cells c.clear.new.self c.clear.ensures.kept c.clear.ensures.entries c.in_ok-at.at c.in_ok-at.ensures.at
-          (record { tied = when_ok c.commit_log.result fine said.tied; before = λ t l got. once_before s.shape c.commit_log.new.late.queue said.at_once t l });
-      at_once = c.commit_log.ensures.at_once;
+          (order_cut s.shape s.late c.commit_log.new.late s.logs.items c.args.tid 0 c.index.result.now c.clear.new.self there.there there.below c.clear.ensures.kept c.clear.ensures.entries
+          (s.sound.in_order c.in_ok-at.ensures.alive) (when_ok c.commit_log.result fine c.commit_log.ensures.tied) (when_ok c.commit_log.result fine c.commit_log.ensures.before) (when_ok c.commit_log.result fine c.commit_log.ensures.others));
+      depth = said.depth ∙ s.depth;
     }
 
 pub returns-clause-does : goal.returns-clause-does
@@ -107,11 +109,11 @@ returns-clause-does g c =
     let m = g.M.Media in
     let s = c.args.self.now in
     let there = found m.tells (m.view s.media) s.shape s.logs.items s.late s.is_dead s.sound c.in_ok-at.ensures.alive c.args.tid c.in_ok-at.at c.index.result.now c.in_ok-at.ensures.at c.in_ok-at.ensures.live c.index.ensures in
-    let said = c.commit_log.ensures in
+    let said = c.commit_log.ensures.does in
     let fine = sym c.is_err.ensures.value ∙ c.if-is_err.false in
     commit_done m.tells (m.view s.media) (m.view c.commit_log.new.media) s.shape s.logs.items s.late s.is_dead s.sound c.in_ok-at.ensures.alive c.args.tid c.in_ok-at.ensures.live c.index.result.now there
     c.commit_log.new.late 0 c.commit_log.result said.does (λ told. g.met.M.Media.long s.media told ∙ s.sound.sized) said.any_moment
-    said.ready (λ told. when_ok c.commit_log.result fine (said.waiting told)) (λ told. once_held s.shape c.commit_log.new.late said.at_once (when_ok c.commit_log.result fine said.tied) (m.view c.commit_log.new.media).content.bytes)
+    c.commit_log.ensures.stays.ready (λ told. when_ok c.commit_log.result fine (said.waiting told)) (λ told. c.commit_log.ensures.stays.held told (s.sound.told told c.in_ok-at.ensures.alive).shown)
     (λ told. when_ok c.commit_log.result fine (said.committed told)) said.cells c.clear.new.self c.clear.ensures.kept c.clear.ensures.entries c.in_ok-at.at c.in_ok-at.ensures.at
     (when_ok c.commit_log.result fine said.does.does.cause.kept) refl c.clear.ensures.free
 
@@ -140,7 +142,7 @@ returns-clause-costs g c =
     let there = found m.tells (m.view s.media) s.shape s.logs.items s.late s.is_dead s.sound c.in_ok-at.ensures.alive c.args.tid c.in_ok-at.at c.index.result.now c.in_ok-at.ensures.at c.in_ok-at.ensures.live c.index.ensures in
     let ranges = ranges_there s.shape s.logs.items c.args.tid c.index.result.now there.there there.kept in
     costs_done m.tells _ _ _ _ c.commit_log.result tt (sym c.is_err.ensures.value ∙ c.if-is_err.false)
-    (ap (λ (rs : List (ℕ × ℕ)). commit_cost s.shape 1 (drop 0 rs)) (sym ranges)) c.commit_log.ensures.costs
+    (ap (λ (rs : List (ℕ × ℕ)). commit_cost s.shape s.late.queue (c.args.tid ∷ []) (drop 0 rs)) (sym ranges)) c.commit_log.ensures.does.costs
 
 pub returns-then-is_err-clause-refused : goal.returns-then-is_err-clause-refused
 returns-then-is_err-clause-refused g c = λ ne. absurd (ne refl)
@@ -157,5 +159,13 @@ returns-then-is_err-clause-costs g c =
     let s = c.args.self.now in
     let there = found m.tells (m.view s.media) s.shape s.logs.items s.late s.is_dead s.sound c.in_ok-at.ensures.alive c.args.tid c.in_ok-at.at c.index.result.now c.in_ok-at.ensures.at c.in_ok-at.ensures.live c.index.ensures in
     let ranges = ranges_there s.shape s.logs.items c.args.tid c.index.result.now there.there there.kept in
-    let same = ap (λ (rs : List (ℕ × ℕ)). commit_cost s.shape 1 (drop 0 rs)) ranges in
-    record { done = λ exact. tt; most = omega (arith, c.commit_log.ensures.costs.most, same) }
+    let same = ap (λ (rs : List (ℕ × ℕ)). commit_cost s.shape s.late.queue (c.args.tid ∷ []) (drop 0 rs)) ranges in
+    record { done = λ exact. tt; most = omega (arith, c.commit_log.ensures.does.costs.most, same) }
+
+pub returns-clause-late : goal.returns-clause-late
+returns-clause-late g c = λ defers more.
+    let m = g.M.Media in
+    let s = c.args.self.now in
+    let there = found m.tells (m.view s.media) s.shape s.logs.items s.late s.is_dead s.sound c.in_ok-at.ensures.alive c.args.tid c.in_ok-at.at c.index.result.now c.in_ok-at.ensures.at c.in_ok-at.ensures.live c.index.ensures in
+    let len = its_len m.tells (m.view s.media) (m.view c.commit_log.new.media) s.shape s.logs.items s.late s.is_dead s.sound c.in_ok-at.ensures.alive c.args.tid c.in_ok-at.ensures.live c.index.result.now there in
+    when_ok c.commit_log.result (sym c.is_err.ensures.value ∙ c.if-is_err.false) (c.commit_log.ensures.waits (omega (arith, s.depth, g.met.W.WriteBack.some s.write_back defers)) (omega (arith, more, len)))

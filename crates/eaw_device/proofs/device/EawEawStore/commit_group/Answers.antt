@@ -7,12 +7,11 @@ use Rattle.eaw_face.proofs.Groups.{known_one}
 use Rattle.eaw_device.specs.declared.log.Log.{Log}
 use Rattle.eaw_device.specs.Opens.{Opens}
 use Rattle.eaw_device.specs.Sound.{view_of}
-use Rattle.eaw_device.proofs.Clearing.{written_over}
+use Rattle.eaw_device.proofs.Clearing.{group_order, written_over}
 use Rattle.eaw_device.proofs.Costing.{costs_done}
 use Rattle.eaw_device.proofs.Doing.{lacking_group, lacking_group_other, when_err}
 use Rattle.eaw_device.proofs.GroupCommits.{group_failed, group_now_sound, group_done}
 use Rattle.eaw_device.proofs.StagedCalls.{when_ok}
-use Rattle.eaw_device.proofs.NoneWaits.{once_before, once_held}
 use Rattle.eaw_device.proofs.Tables.{sound_dead}
 use Rattle.eaw_device.proofs.device.EawEawStore.commit_group.Goals as goal
 
@@ -29,6 +28,7 @@ returns-in_err-find_group g c =
       due = λ is. absurd (lacking_group_other store (members c.args.tids) fault cause (let same : fault ≡ Media = cc in same));
       idle = λ none. refl;
       costs = record { done = λ exact. tt; most = omega arith };
+      late = λ defers more. tt;
       refused = λ ne. refl;
     })
 
@@ -54,10 +54,9 @@ pub returns-then-is_err-clause-does : goal.returns-then-is_err-clause-does
 returns-then-is_err-clause-does g c =
     let m = g.M.Media in
     let s = c.args.self.now in
-    let said = c.commit_logs.ensures in
-    let any_moment = (rw (c.deref.ensures.value) at said.any_moment) in
+    let said = (rw (c.deref.ensures.value) at c.commit_logs.ensures.does) in
     group_failed m.tells (m.view s.media) (m.view c.commit_logs.new.media) s.shape s.logs.items s.late s.is_dead s.sound c.in_ok-find_group.ensures.alive (members c.args.tids) c.in_ok-find_group.ensures.live
-    c.commit_logs.new.late c.commit_logs.result said.does (λ told. g.met.M.Media.long s.media told ∙ s.sound.sized) any_moment
+    c.commit_logs.new.late c.commit_logs.result said.does (λ told. g.met.M.Media.long s.media told ∙ s.sound.sized) said.any_moment
     (when_err c.commit_logs.result (sym c.is_err.ensures.value ∙ c.if-is_err.true) said.does.does.cause.failed)
 
 pub returns-then-is_err-clause-idle : goal.returns-then-is_err-clause-idle
@@ -70,7 +69,7 @@ pub returns-then-is_err-clause-refused : goal.returns-then-is_err-clause-refused
 returns-then-is_err-clause-refused g c = λ ne. absurd (ne refl)
 
 pub returns-then-is_err-clause-costs : goal.returns-then-is_err-clause-costs
-returns-then-is_err-clause-costs g c = record { done = λ exact. tt; most = (rw (c.deref.ensures.value) at c.commit_logs.ensures.costs).most }
+returns-then-is_err-clause-costs g c = record { done = λ exact. tt; most = (rw (c.deref.ensures.value) at c.commit_logs.ensures.does).costs.most }
 
 pub clear_logs-requires-clause-there : goal.clear_logs-requires-clause-there
 clear_logs-requires-clause-there g c = rw (c.deref_mut.ensures.value) (λ t so.
@@ -85,49 +84,46 @@ pub invariant_of-self : goal.invariant_of-self
 invariant_of-self g c =
     let m = g.M.Media in
     let s = c.args.self.now in
-    let said = c.commit_logs.ensures in
+    let said = (rw (c.deref.ensures.value) at c.commit_logs.ensures.does) in
     record {
-      sound = sound_dead m.tells (m.view s.media) (m.view c.commit_logs.new.media) s.shape s.logs.items s.late c.commit_logs.new.late s.is_dead s.sound said.does.does.size said.ready;
-      at_once = said.at_once;
+      sound = sound_dead m.tells (m.view s.media) (m.view c.commit_logs.new.media) s.shape s.logs.items s.late c.commit_logs.new.late s.is_dead s.sound said.does.does.size c.commit_logs.ensures.stays.ready;
+      depth = said.depth ∙ s.depth;
     }
 
 pub invariant_of-self-2-clause-sound : goal.invariant_of-self-2-clause-sound
 invariant_of-self-2-clause-sound g c =
     let m = g.M.Media in
     let s = c.args.self.now in
-    let said = c.commit_logs.ensures in
-    let any_moment = (rw (c.deref.ensures.value) at said.any_moment) in
-    let committed = (rw (c.deref.ensures.value) at said.committed) in
+    let said = (rw (c.deref.ensures.value) at c.commit_logs.ensures.does) in
     let left = c.clear_logs.ensures in
     let lent = c.deref_mut.ensures.value in
     let many = left.many ∙ ap length lent in
     let same = written_over s.logs.len s.logs.items c.clear_logs.new.logs s.logs.ok.0 many in
     let fine = sym c.is_err.ensures.value ∙ c.if-is_err.false in
     rw (same) (group_now_sound m.tells (m.view s.media) (m.view c.commit_logs.new.media) s.shape s.logs.items s.late s.is_dead s.sound c.in_ok-find_group.ensures.alive (members c.args.tids) c.in_ok-find_group.ensures.live
-    c.commit_logs.new.late c.commit_logs.result said.does (λ told. g.met.M.Media.long s.media told ∙ s.sound.sized) any_moment
-    said.ready (λ told. when_ok c.commit_logs.result fine (said.waiting told)) (λ told. once_held s.shape c.commit_logs.new.late said.at_once (when_ok c.commit_logs.result fine said.tied) (m.view c.commit_logs.new.media).content.bytes)
-    (λ told. when_ok c.commit_logs.result fine (committed told)) said.cells c.clear_logs.new.logs many left.kept left.freed (λ t away. left.others t away ∙ ap (λ (ls : List Log). slice_get ls t) lent)
-    (record { tied = when_ok c.commit_logs.result fine said.tied; before = λ t l got. once_before s.shape c.commit_logs.new.late.queue said.at_once t l }))
+    c.commit_logs.new.late c.commit_logs.result said.does (λ told. g.met.M.Media.long s.media told ∙ s.sound.sized) said.any_moment
+    c.commit_logs.ensures.stays.ready (λ told. when_ok c.commit_logs.result fine (said.waiting told)) (λ told. c.commit_logs.ensures.stays.held told (s.sound.told told c.in_ok-find_group.ensures.alive).shown)
+    (λ told. when_ok c.commit_logs.result fine (said.committed told)) said.cells c.clear_logs.new.logs many left.kept left.freed (λ t away. left.others t away ∙ ap (λ (ls : List Log). slice_get ls t) lent)
+    (group_order s.shape s.late c.commit_logs.new.late s.logs.items c.clear_logs.new.logs (members c.args.tids) left.kept left.freed (λ t away. left.others t away ∙ ap (λ (ls : List Log). slice_get ls t) lent)
+    (s.sound.in_order c.in_ok-find_group.ensures.alive) (when_ok c.commit_logs.result fine c.commit_logs.ensures.tied) (when_ok c.commit_logs.result fine c.commit_logs.ensures.others)))
 
-pub invariant_of-self-2-clause-at_once : goal.invariant_of-self-2-clause-at_once
-invariant_of-self-2-clause-at_once g c = c.commit_logs.ensures.at_once
+pub invariant_of-self-2-clause-depth : goal.invariant_of-self-2-clause-depth
+invariant_of-self-2-clause-depth g c = c.commit_logs.ensures.does.depth ∙ c.args.self.now.depth
 
 pub returns-clause-does : goal.returns-clause-does
 returns-clause-does g c =
     let m = g.M.Media in
     let s = c.args.self.now in
-    let said = c.commit_logs.ensures in
-    let any_moment = (rw (c.deref.ensures.value) at said.any_moment) in
-    let committed = (rw (c.deref.ensures.value) at said.committed) in
+    let said = (rw (c.deref.ensures.value) at c.commit_logs.ensures.does) in
     let left = c.clear_logs.ensures in
     let lent = c.deref_mut.ensures.value in
     let many = left.many ∙ ap length lent in
     let same = written_over s.logs.len s.logs.items c.clear_logs.new.logs s.logs.ok.0 many in
     let fine = sym c.is_err.ensures.value ∙ c.if-is_err.false in
     rw (same) (group_done m.tells (m.view s.media) (m.view c.commit_logs.new.media) s.shape s.logs.items s.late s.is_dead s.sound c.in_ok-find_group.ensures.alive (members c.args.tids) c.in_ok-find_group.ensures.live
-    c.commit_logs.new.late c.commit_logs.result said.does (λ told. g.met.M.Media.long s.media told ∙ s.sound.sized) any_moment
-    said.ready (λ told. when_ok c.commit_logs.result fine (said.waiting told)) (λ told. once_held s.shape c.commit_logs.new.late said.at_once (when_ok c.commit_logs.result fine said.tied) (m.view c.commit_logs.new.media).content.bytes)
-    (λ told. when_ok c.commit_logs.result fine (committed told)) said.cells c.clear_logs.new.logs many left.kept left.freed (λ t away. left.others t away ∙ ap (λ (ls : List Log). slice_get ls t) lent)
+    c.commit_logs.new.late c.commit_logs.result said.does (λ told. g.met.M.Media.long s.media told ∙ s.sound.sized) said.any_moment
+    c.commit_logs.ensures.stays.ready (λ told. when_ok c.commit_logs.result fine (said.waiting told)) (λ told. c.commit_logs.ensures.stays.held told (s.sound.told told c.in_ok-find_group.ensures.alive).shown)
+    (λ told. when_ok c.commit_logs.result fine (said.committed told)) said.cells c.clear_logs.new.logs many left.kept left.freed (λ t away. left.others t away ∙ ap (λ (ls : List Log). slice_get ls t) lent)
     (when_ok c.commit_logs.result fine said.does.does.cause.kept))
 
 pub returns-clause-idle : goal.returns-clause-idle
@@ -140,4 +136,10 @@ pub returns-clause-refused : goal.returns-clause-refused
 returns-clause-refused g c = tt
 
 pub returns-clause-costs : goal.returns-clause-costs
-returns-clause-costs g c = costs_done g.M.Media.tells _ _ _ _ c.commit_logs.result tt (sym c.is_err.ensures.value ∙ c.if-is_err.false) refl (rw (c.deref.ensures.value) at c.commit_logs.ensures.costs)
+returns-clause-costs g c = costs_done g.M.Media.tells _ _ _ _ c.commit_logs.result tt (sym c.is_err.ensures.value ∙ c.if-is_err.false) refl (rw (c.deref.ensures.value) at c.commit_logs.ensures.does).costs
+
+pub returns-clause-late : goal.returns-clause-late
+returns-clause-late g c = λ defers more.
+    let s = c.args.self.now in
+    let waits = (rw (c.deref.ensures.value) at c.commit_logs.ensures.waits) in
+    when_ok c.commit_logs.result (sym c.is_err.ensures.value ∙ c.if-is_err.false) (waits (omega (arith, s.depth, g.met.W.WriteBack.some s.write_back defers)) more)

@@ -89,7 +89,7 @@ invariant_of-self g c =
       sound = edit_sound m.tells (m.view s.media) (m.view c.edit.new.media) s.shape s.logs.items s.late s.is_dead s.sound c.in_ok-number.ensures.alive c.args.tid c.in_ok-number.ensures.live
           c.index.result.now there c.args.pos e lt c.index-entry.ensures c.args.at c.args.bytes.now inner (omega (arith, page.page)) c.new-logger.result.shape c.new-logger.ensures.shape c.new-logger.result.number (c.new-logger.ensures.number ∙ c.place.ensures.logger)
           _ c.in-Ok.ensures.does (λ told. g.met.M.Media.long s.media told ∙ s.sound.sized) c.in-Ok.ensures.cell;
-      at_once = c.args.self.now.at_once;
+      depth = c.args.self.now.depth;
     }
 
 pub returns-in-Ok-clause-does : goal.returns-in-Ok-clause-does

@@ -61,7 +61,7 @@ pub invariant_of-self : goal.invariant_of-self
 invariant_of-self g c =
     let m = g.M.Media in
     let s = c.args.self.now in
-    record { sound = read_sound m.tells (m.view s.media) (m.view c.read_entry.new.media) s.shape s.logs.items s.late s.is_dead s.sound c.in_ok-at.ensures.alive _ c.in-Ok.ensures.does (λ told. g.met.M.Media.long s.media told ∙ s.sound.sized); at_once = c.args.self.now.at_once }
+    record { sound = read_sound m.tells (m.view s.media) (m.view c.read_entry.new.media) s.shape s.logs.items s.late s.is_dead s.sound c.in_ok-at.ensures.alive _ c.in-Ok.ensures.does (λ told. g.met.M.Media.long s.media told ∙ s.sound.sized); depth = c.args.self.now.depth }
 
 pub returns-in-Ok-clause-does : goal.returns-in-Ok-clause-does
 returns-in-Ok-clause-does g c =

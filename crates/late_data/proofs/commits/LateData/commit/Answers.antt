@@ -1,10 +1,11 @@
-use Rattle.std.proofs.Common.{◌≡◌, List, length, min, take, false, sym, ◌∙◌, subst, arith}
+use Rattle.std.proofs.Common.{◌≡◌, List, length, min, take, false, sym, ◌∙◌, ap, subst, arith}
 use Rattle.std.proofs.lemmas.Result.{on_ok_weaker}
 use Rattle.row_bytes.specs.declared.ballot.Ballot.{Ballot}
 use Rattle.coordinator.specs.declared.cells.Cells.{Cells}
 use Rattle.deferred_parts.specs.Shown.{entries_of}
 use Rattle.late_commits.specs.Orders.{due_for_place}
 use Rattle.late_data.specs.Tied.{AreTied, Forgets}
+use Rattle.late_data.proofs.OneMore.{one_waits}
 use Rattle.late_data.proofs.Together.{committed, still_held}
 use Rattle.late_data.proofs.commits.LateData.commit.Goals as goal
 
@@ -34,3 +35,8 @@ returns-clause-tied g c =
     (λ left. subst (λ (p : List Cells × List Ballot). AreTied shape p.0 (entries_of c.forget_first.new.parts) p.1 (λ t. false)) (λ i. (sym does.table i, sym left i))
     (committed shape kept.queue.cells (entries_of kept.parts) (entries_of c.forget_first.new.parts) kept.queue.depth bs c.requires.ready.fit.few c.args.ballot c.requires.some c.min-due.result due_is c.requires.tied c.requires.named c.requires.apart forgets))
     does.left_is
+
+pub returns-clause-waits : goal.returns-clause-waits
+returns-clause-waits g c = λ may.
+    let queue = c.args.self.now.queue in
+    on_ok_weaker c.commit.result (λ left. omega (arith, ap (λ (bs : List Ballot). length bs) left, one_waits queue.depth queue.ballots.items c.args.ballot may c.requires.some)) c.commit.ensures.does.left_is

@@ -1,21 +1,25 @@
-use Rattle.std.proofs.Common.{◌≡◌, ℕ, inl, inr, Option, Some, None, nat_eq, length, ap, subst, sym, ◌∙◌, refl}
+use Rattle.std.proofs.Common.{false, ◌≡◌, ℕ, inl, inr, Option, Some, None, nat_eq, length, ap, subst, sym, ◌∙◌, refl}
 use Rattle.std.specs.Map.{update}
 use Rattle.eaw_face.specs.Causes.{IsAlive}
 use Rattle.page_store.specs.Shown.{Shown, pages_of}
 use Rattle.history.specs.Rows.{table_of}
 use Rattle.history.specs.Table.{Granted}
 use Rattle.history.specs.declared.call.Reply.TheVariants.{NoTransaction}
+use Rattle.std.specs.Prelude.{is_some}
+use Rattle.history.specs.declared.call.Call.{Call}
+use Rattle.caller_steps.specs.State.{State}
+use Rattle.caller_steps.specs.Locked.{IsFree, IsLocked}
 use Rattle.caller_steps.specs.Core.{Steps}
 use Rattle.mars_core.specs.Held.{Held, core_of, state_at}
 use Rattle.mars_core.specs.Kept.{IsKept}
 use Rattle.mars_core.specs.Over.{limits_of}
-use Rattle.mars_core.specs.Seats.{Seats, live_in}
+use Rattle.mars_core.specs.Seats.{Seats, live_in, bare}
 use Rattle.mars_core.specs.Works.{IsShown}
-use Rattle.mars_core.proofs.Answered.{unmade_steps, made_keeps, made_steps}
+use Rattle.mars_core.proofs.Answered.{unmade_steps, unmade_plain, made_keeps, made_steps, made_plain}
 use Rattle.mars_core.proofs.Answering.{IndexLaws}
 use Rattle.mars_core.proofs.Mirroring.{is_of_table}
 use Rattle.mars_core.proofs.Prefixes.{StoreLaws}
-use Rattle.mars_core.proofs.Staying.{update_same, changed_back, changed_twice, kept_same, is_absent_at, absent_steps}
+use Rattle.mars_core.proofs.Staying.{update_same, free_after, changed_back, changed_twice, kept_same, is_absent_at, absent_steps}
 use Rattle.mars_core.proofs.turns.Core.ask.Given.{Over}
 use Rattle.mars_core.proofs.turns.Core.ask.Goals as goal
 
@@ -33,6 +37,10 @@ index_laws g = record { counts = g.met.K.KeyIndex.counts }
 -- without a live transaction nothing is taken out
 nothing : (old mid : Seats) (t : ℕ) (o : Option Granted) → o ≡ live_in old t → o ≡ None → live_in mid ≡ update nat_eq (live_in old) t None → live_in mid ≡ live_in old
 nothing old mid t o is none out = out ∙ update_same (live_in old) t None (sym is ∙ none)
+
+-- nobody stands in the way of a live caller, also while its own transaction is out of its seat
+free_of : (s : State) (mid : Seats) (t : ℕ) (call : Call) (calls : Granted) → s.is_dead ≡ false → s.live t ≡ Some calls → live_in mid ≡ update nat_eq s.live t None → IsLocked s t call → IsFree (bare mid) t call
+free_of s mid t call calls alive is out locked = free_after s (bare mid) t None out call (locked alive (ap (λ (o : Option Granted). is_some o) is))
 
 pub invariant_of-self : goal.invariant_of-self
 invariant_of-self g c =
@@ -55,6 +63,7 @@ returns-in_default g c =
           (subst (λ (h : Held g.row.S.Denot). IsAlive (g.S.EawStore.view h.records.store)) (sym c.self.view_is) c.requires.alive) c.args.caller c.args.call.now (sym c.take.ensures.live ∙ c.in_default.is)
           (is_absent_at (limits_of (g.S.EawStore.view i.records.store).shape) (state_at g.K.KeyIndex.index (g.S.EawStore.view i.records.store) (table_of i.base) i.history (live_in i.seats) i.doubt) c.args.caller c.args.asked c.args.call.now c.requires.said) _
           (ap (λ (live : ℕ → Option Granted). state_at g.K.KeyIndex.index (g.S.EawStore.view c.self.inside.records.store) (table_of c.self.inside.base) c.self.inside.history live c.self.inside.doubt) same));
+      not_busy = λ held. refl;
     }
 
 pub invariant_of-self-2 : goal.invariant_of-self-2
@@ -84,6 +93,13 @@ invariant_of-self-2 g c =
           new (record { indexed = refl; dead = refl }) refl refl refl (length c.put.new.self) count c.answer-live.result.0
           (changed_twice (live_in i.seats) t None (Some c.answer-live.result.0) (live_in c.take.new.self) (live_in c.put.new.self) c.take.ensures.out.live c.put.ensures.live) c.answer-live.result.1 made
     ]
+
+pub answer-live-requires-clause-locked : goal.answer-live-requires-clause-locked
+answer-live-requires-clause-locked g c held =
+    let i = c.self.inside in
+    free_of (state_at g.K.KeyIndex.index (g.S.EawStore.view i.records.store) (table_of i.base) i.history (live_in i.seats) i.doubt) c.take.new.self c.args.caller c.args.call.now c.in-Some.live
+    (subst (λ (h : Held g.row.S.Denot). IsAlive (g.S.EawStore.view h.records.store)) (sym c.self.view_is) c.requires.alive) (sym c.take.ensures.live ∙ c.in-Some.is) c.take.ensures.out.live
+    (subst (λ (h : Held g.row.S.Denot). IsLocked (core_of g.S.EawStore.opens g.K.KeyIndex.index (g.S.EawStore.view h.records.store) h).state c.args.caller c.args.call.now) (sym c.self.view_is) (c.requires.locked held))
 
 pub returns : goal.returns
 returns g c =
@@ -121,4 +137,10 @@ returns g c =
                 new (record { indexed = refl; dead = refl }) refl refl refl (length c.put.new.self) count c.answer-live.result.0
                 (changed_twice (live_in i.seats) t None (Some c.answer-live.result.0) (live_in c.take.new.self) (live_in c.put.new.self) c.take.ensures.out.live c.put.ensures.live) c.answer-live.result.1 made
           ]);
+      not_busy = λ held. elim c.answer-live.ensures.answered [
+        | inl unmade ↦ unmade_plain (length (p.counts t)) c.take.new.self t c.args.call.now c.answer-live.result.1 (free_of s c.take.new.self t c.args.call.now c.in-Some.live alive is c.take.ensures.out.live
+            (subst (λ (h : Held g.row.S.Denot). IsLocked (core_of g.S.EawStore.opens g.K.KeyIndex.index (g.S.EawStore.view h.records.store) h).state c.args.caller c.args.call.now) (sym c.self.view_is) (c.requires.locked held)))
+            unmade.2
+        | inr made ↦ made_plain T (E (V i.records.store).shape) I (length (p.counts t)) c.take.new.self t c.in-Some.live c.args.call.now p q c.answer-live.result.0 c.answer-live.result.1 made
+      ];
     }

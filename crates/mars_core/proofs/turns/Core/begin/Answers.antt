@@ -36,6 +36,7 @@ returns g c =
           (state_at g.K.KeyIndex.index (V store) (table_of i.base) i.history (live_in i.seats) i.doubt) _ (record { indexed = refl; dead = refl }) (length i.seats) (length c.begin.new.self) c.begin.ensures.count i.base c.self.invariant
           (subst (λ (h : Held g.row.S.Denot). IsAlive (V h.records.store)) (sym c.self.view_is) c.requires.alive) c.args.caller (none_of (live_in i.seats c.args.caller) (sym c.is_live.ensures ∙ c.if-is_live.false))
           (ap (λ (live : ℕ → Option Granted). state_at g.K.KeyIndex.index (V store) (table_of i.base) i.history live i.doubt) c.begin.ensures.live));
+      not_busy = refl;
     }
 
 pub is_live-requires : goal.is_live-requires

@@ -1,0 +1,63 @@
+use Rattle.std.proofs.Common.{◌≡◌, ◌<◌, ◌^◌, ℕ, List, Bool, true, Result, Ok, Err, sym, ◌∙◌, ap, subst, arith}
+use Rattle.page_store.specs.Index.{index_pages_of}
+use Rattle.page_store.specs.Pairs.{Pair}
+use Rattle.page_store.specs.Shown.{pages_of}
+use Rattle.page_store.specs.declared.fault.PageFault.{PageFault}
+use Rattle.index_pages.specs.Acts.{Acts}
+use Rattle.index_pages.proofs.Looking.{looks_none}
+use Rattle.index_pages.proofs.Removals.{removes_damaged}
+use Rattle.btree_laws.specs.Removals.{without_last}
+use Rattle.btree_pages.specs.Index.{tree}
+use Rattle.btree_pages.specs.Writes.{leaving_pages, leaving_parts}
+use Rattle.btree_pages.proofs.Ending.{leave_done, leave_err}
+use Rattle.btree_pages.proofs.Giveable.{leaf_may}
+use Rattle.btree_pages.proofs.removal.leave_parent.Goals as goal
+
+pub returns-in_default-clause-removes : goal.returns-in_default-clause-removes
+returns-in_default-clause-removes g c =
+    let V = g.S.EawStore.view in
+    let v0 = pages_of (V c.args.pages.now.store) c.args.pages.now in
+    let fits : c.args.key < 2 ^ 64 = omega arith in
+    removes_damaged g.S.EawStore.tells (g.S.EawStore.opens v0.store.shape) tree c.args.tid c.args.root.page c.args.key v0 v0 c.args.leaf (looks_none g.S.EawStore.tells (g.S.EawStore.opens v0.store.shape) v0) c.requires.alive
+    (λ told. c.in_default.ensures.none (leaf_may c.args.root v0.store.state.bytes c.args.key fits (c.requires.sound told) (c.requires.named told) c.args.parent.page c.args.parent.level c.args.parent.pairs.items c.requires.level (c.requires.reached told)
+    c.args.slot.now.number c.args.slot.now.free c.args.slot.now.front (c.requires.released told) c.args.leaf c.requires.leaf_is))
+
+pub returns-in-Ok-clause-removes : goal.returns-in-Ok-clause-removes
+returns-in-Ok-clause-removes g c =
+    let T = g.S.EawStore.tells in
+    let V = g.S.EawStore.view in
+    let E = g.S.EawStore.opens in
+    let v0 = pages_of (V c.args.pages.now.store) c.args.pages.now in
+    let v1 = pages_of (V c.drop_leaf.new.pages.store) c.drop_leaf.new.pages in
+    let fits : c.args.key < 2 ^ 64 = omega arith in
+    let freed = c.in-Some.freed in
+    let gives = c.in-Some.ensures.gives.1 in
+    let rest : c.without_end.result.items ≡ without_last c.args.parent.pairs.items = c.without_end.ensures in
+    let acted : Result (Unit {0}) PageFault = Ok tt in
+    leave_done T E c.args.tid c.args.root c.args.key v0 fits c.requires.alive (λ told. g.met.S.EawStore.long c.args.pages.now.store told) c.requires.sound c.requires.named
+    c.args.slot.now.number c.args.slot.now.free c.args.slot.now.front c.requires.released v1 c.requires.finds
+    c.args.leaf c.args.parent.page c.args.parent.level c.args.parent.pairs.items c.requires.leaf_is c.requires.alone c.requires.parent c.requires.level c.requires.reached
+    c.requires.last c.requires.several freed.free freed.front gives 
+    (subst (λ (x : ℕ × List Pair). Acts T (E v0.store.shape) c.args.tid (leaving_pages (index_pages_of v0.store.shape) c.args.slot.now.number c.args.parent.page x.0)
+    (leaving_parts (index_pages_of v0.store.shape) c.in-Some.freed.front c.args.slot.now.number c.args.slot.now.free c.args.parent.page x.1 x.0 c.in-Some.freed.free) v0 v1 acted)
+    (λ i. (c.in-Some.ensures.gives.0 i, rest i)) c.in-Ok.ensures.acts)
+
+pub returns-in-Err-clause-removes : goal.returns-in-Err-clause-removes
+returns-in-Err-clause-removes g c =
+    let T = g.S.EawStore.tells in
+    let V = g.S.EawStore.view in
+    let E = g.S.EawStore.opens in
+    let v0 = pages_of (V c.args.pages.now.store) c.args.pages.now in
+    let v1 = pages_of (V c.drop_leaf.new.pages.store) c.drop_leaf.new.pages in
+    let fits : c.args.key < 2 ^ 64 = omega arith in
+    let freed = c.in-Some.freed in
+    let gives = c.in-Some.ensures.gives.1 in
+    let rest : c.without_end.result.items ≡ without_last c.args.parent.pairs.items = c.without_end.ensures in
+    let acted : Result (Unit {0}) PageFault = Err c.in-Err.fault in
+    leave_err T E c.args.tid c.args.root c.args.key v0 fits c.requires.alive (λ told. g.met.S.EawStore.long c.args.pages.now.store told) c.requires.sound c.requires.named
+    c.args.slot.now.number c.args.slot.now.free c.args.slot.now.front c.requires.released v1 c.requires.finds
+    c.args.leaf c.args.parent.page c.args.parent.level c.args.parent.pairs.items c.requires.leaf_is c.requires.alone c.requires.parent c.requires.level c.requires.reached
+    c.requires.last c.requires.several freed.free freed.front gives c.in-Err.fault
+    (subst (λ (x : ℕ × List Pair). Acts T (E v0.store.shape) c.args.tid (leaving_pages (index_pages_of v0.store.shape) c.args.slot.now.number c.args.parent.page x.0)
+    (leaving_parts (index_pages_of v0.store.shape) c.in-Some.freed.front c.args.slot.now.number c.args.slot.now.free c.args.parent.page x.1 x.0 c.in-Some.freed.free) v0 v1 acted)
+    (λ i. (c.in-Some.ensures.gives.0 i, rest i)) c.in-Err.ensures.acts)

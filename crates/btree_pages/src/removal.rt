@@ -1,0 +1,354 @@
+// Removals from the tree of a table: the pair leaves its leaf, and a leaf that has no other is joined with a neighbour.
+ghost use Rattle.std.specs.Prelude.{◌≡◌, ◌≢◌, ◌<◌, ◌≤◌, ℕ, Some, IsSome, IfOk, IfSome, IfNone, IsErrOf, IsTrue, length, get_or};
+ghost use Rattle.std.specs.List.{remove};
+ghost use Rattle.eaw_face.specs.Causes.{IsAlive};
+ghost use Rattle.record_slots.specs.Places.{page_bytes, version_of};
+ghost use Rattle.record_slots.specs.Super.{SaysSuper};
+ghost use Rattle.page_store.specs.Index.{IsTable, index_pages_of, slots_of};
+ghost use Rattle.page_store.specs.Looks.{Looks, LookCause, is_failed};
+ghost use Rattle.page_store.specs.Pairs.{found};
+ghost use Rattle.page_store.specs.Removes.{HasAbsent, Removes};
+ghost use Rattle.page_store.specs.Shown.{pages_of, top_in};
+ghost use Rattle.index_pages.specs.Fetched.{IsFront};
+ghost use Rattle.index_pages.specs.Giving.{MayGive, GivesSlot};
+ghost use Rattle.index_pages.specs.Page.{count_of, page_pairs};
+ghost use Rattle.btree_laws.specs.Descent.{child_for};
+ghost use Rattle.btree_laws.specs.Removals.{right_of, without_right};
+ghost use Rattle.btree_laws.specs.Tree.{pairs_of_tree};
+ghost use Rattle.btree_pages.specs.Index.{tree, AreSoundTrees};
+ghost use Rattle.btree_pages.specs.OnWay.{IsReached};
+ghost use Rattle.btree_pages.specs.Writes.{IsRead, Releases};
+
+use crate::checking::FORM;
+use crate::parents::{place_behind, without_end, without_place};
+use crate::insertion::is_index_page;
+use crate::emptied::{NewPairs, drop_leaf, join_leaves};
+use crate::node::{Node, fetch_child, fetch_node};
+use crate::write::NO_LINK;
+use btree_laws::Root;
+use eaw_face::EawStore;
+use index_pages::{
+    LeafPage, Release, SLOTS_IN_PAGE, fetch_super, give_page, give_slot, index_page_count,
+    place_found, remove_pair,
+};
+use page_store::{PageFault, Pages};
+use record_slots::Super;
+
+// Takes out the pair of a key. Returns false, and leaves all as it was, exactly when it is the last pair of an only child.
+pub fn remove<S: EawStore>(
+    pages: &mut Pages<S>,
+    tid: u8,
+    root: Root,
+    key: u64,
+) -> Result<bool, PageFault>
+    requires tid { tid < (S.view pages.old.store).shape.numbers }
+    requires table { root.table < 8 }
+    requires closed { IsAlive (S.view pages.old.store) → top_in pages.old.marks tid ≡ None }
+    requires sound { IsTrue S.tells → IsAlive (S.view pages.old.store) → AreSoundTrees (S.view pages.old.store).state.bytes }
+    requires named { IsTrue S.tells → IsAlive (S.view pages.old.store) → IsTable (S.view pages.old.store).state.bytes root.table root.page }
+    requires lists { IsTrue S.tells → IsAlive (S.view pages.old.store) → version_of (S.view pages.old.store).state.bytes ≡ 2 }
+    requires absent { IsTrue S.tells → IsAlive (S.view pages.old.store) → HasAbsent tree root.page root.table key (S.view pages.old.store).state.bytes }
+    ensures removes { Removes S.tells (S.opens (S.view pages.old.store).shape) tree tid root.page key
+        (pages_of (S.view pages.old.store) pages.old) (pages_of (S.view pages.new.store) pages.new) result }
+    ensures dead { IsErrOf result PageFault.Dead → pages.new ≡ pages.old }
+{
+    let count = index_page_count(pages);
+    let front = match fetch_super(pages, FORM) {
+        Ok(front) => front,
+        Err(fault) => return Err(fault),
+    };
+    if !is_index_page(root.page, count) {
+        return Err(PageFault::Damaged { page: 0 });
+    }
+    let top = match fetch_node(pages, root.page) {
+        Ok(top) => top,
+        Err(fault) => return Err(fault),
+    };
+    if top.level > 0 {
+        return remove_below(pages, tid, root, key, &front, top);
+    }
+    let Some(slot) = release_slot(&front, &top, key) else {
+        return Err(PageFault::Damaged { page: top.page });
+    };
+    lose_pair(pages, tid, root, key, &slot, top)
+}
+
+// Goes on below the root, to the leaf of the key and the parent of that leaf.
+fn remove_below<S: EawStore>(
+    pages: &mut Pages<S>,
+    tid: u8,
+    root: Root,
+    key: u64,
+    front: &Super,
+    top: Node,
+) -> Result<bool, PageFault>
+    requires tid { tid < (S.view pages.old.store).shape.numbers }
+    requires closed { top_in pages.old.marks tid ≡ None }
+    requires alive { IsAlive (S.view pages.old.store) }
+    requires sound { IsTrue S.tells → AreSoundTrees (S.view pages.old.store).state.bytes }
+    requires named { IsTrue S.tells → IsTable (S.view pages.old.store).state.bytes root.table root.page }
+    requires lists { IsTrue S.tells → version_of (S.view pages.old.store).state.bytes ≡ 2 }
+    requires there { IsTrue S.tells → IsSome (found (pairs_of_tree (S.view pages.old.store).state.bytes root.page) key) }
+    requires front { IsFront (S.view pages.old.store).shape front.now }
+    requires says { IsTrue S.tells → SaysSuper (page_bytes (S.view pages.old.store).state.bytes 0) front.now }
+    requires read { IsRead (S.view pages.old.store).shape top.page top.level top.pairs.items }
+    requires some { 1 ≤ length top.pairs.items }
+    requires inner { top.level ≢ 0 }
+    requires reached { IsTrue S.tells → IsReached root (S.view pages.old.store).state.bytes key top.page top.level top.pairs.items }
+    ensures removes { Removes S.tells (S.opens (S.view pages.old.store).shape) tree tid root.page key
+        (pages_of (S.view pages.old.store) pages.old) (pages_of (S.view pages.new.store) pages.new) result }
+    ensures dead { IsErrOf result PageFault.Dead → ⊥ }
+{
+    let parent = match fetch_parent(pages, root, key, top) {
+        Ok(parent) => parent,
+        Err(fault) => return Err(fault),
+    };
+    let leaf = match fetch_child(pages, root, &parent, key) {
+        Ok(leaf) => leaf,
+        Err(fault) => return Err(fault),
+    };
+    let Some(slot) = release_slot(front, &leaf, key) else {
+        return Err(PageFault::Damaged { page: leaf.page });
+    };
+    if leaf.pairs.len() > 1 {
+        return lose_pair(pages, tid, root, key, &slot, leaf);
+    }
+    if let Some(place) = place_behind(parent.pairs.as_slice(), key) {
+        return join_right(pages, tid, root, key, &slot, leaf.page, parent, place);
+    }
+    if parent.pairs.len() > 1 {
+        return leave_parent(pages, tid, root, key, &slot, leaf.page, parent);
+    }
+    Ok(false)
+}
+
+// Goes down from an inner page on the way of a key to the parent of the key's leaf.
+fn fetch_parent<S: EawStore>(
+    pages: &mut Pages<S>,
+    root: Root,
+    key: u64,
+    top: Node,
+) -> Result<Node, PageFault>
+    requires alive { IsAlive (S.view pages.old.store) }
+    requires sound { IsTrue S.tells → AreSoundTrees (S.view pages.old.store).state.bytes }
+    requires named { IsTrue S.tells → IsTable (S.view pages.old.store).state.bytes root.table root.page }
+    requires read { IsRead (S.view pages.old.store).shape top.page top.level top.pairs.items }
+    requires some { 1 ≤ length top.pairs.items }
+    requires inner { top.level ≢ 0 }
+    requires reached { IsTrue S.tells → IsReached root (S.view pages.old.store).state.bytes key top.page top.level top.pairs.items }
+    ensures looks { Looks S.tells (S.opens (S.view pages.old.store).shape) (is_failed result)
+        (pages_of (S.view pages.old.store) pages.old) (pages_of (S.view pages.new.store) pages.new) }
+    ensures cause { LookCause S.tells (S.view pages.old.store) result }
+    ensures read { IfOk result (λ node. IsRead (S.view pages.old.store).shape node.page node.level node.pairs.items) }
+    ensures some { IfOk result (λ node. 1 ≤ length node.pairs.items) }
+    ensures level { IfOk result (λ node. node.level ≡ 1) }
+    ensures reached { IsTrue S.tells → IfOk result (λ node. IsReached root (S.view pages.old.store).state.bytes key node.page node.level node.pairs.items) }
+    ensures dead { IsErrOf result PageFault.Dead → ⊥ }
+{
+    let mut node = top;
+    while node.level > 1 {
+        node = match fetch_child(pages, root, &node, key) {
+            Ok(child) => child,
+            Err(fault) => return Err(fault),
+        };
+    }
+    Ok(node)
+}
+
+// Gives back the slot of the key's pair in its leaf. Nothing is written yet. `None` exactly when the leaf has no such pair, or its slot cannot
+// be given back.
+fn release_slot(front: &Super, leaf: &Node, key: u64) -> Option<Release>
+    ensures gives { IfSome result (λ slot. GivesSlot front.now slot.number slot.free slot.front) }
+    ensures finds { IfSome result (λ slot. found leaf.now.pairs.items key ≡ Some slot.number) }
+    ensures none { IfNone result ((slot : ℕ) → found leaf.now.pairs.items key ≡ Some slot → ¬ MayGive front.now.version slot front.now.next_slot front.now.free_slots) }
+{
+    let place = place_found(leaf.pairs.as_slice(), key)?;
+    let slot = below(leaf.pairs.as_slice()[place].1, front.next_slot)?;
+    give_slot(front, slot)
+}
+
+// A number, if it is below this one.
+fn below(number: u64, end: u32) -> Option<u32>
+    ensures some { IfSome result (λ small. small ≡ number) }
+    ensures none { IfNone result (end ≤ number) }
+{
+    if number >= u64::from(end) {
+        return None;
+    }
+    Some(number as u32)
+}
+
+// Takes the pair out of a leaf that keeps others, or is the root.
+fn lose_pair<S: EawStore>(
+    pages: &mut Pages<S>,
+    tid: u8,
+    root: Root,
+    key: u64,
+    slot: &Release,
+    leaf: Node,
+) -> Result<bool, PageFault>
+    requires tid { tid < (S.view pages.old.store).shape.numbers }
+    requires closed { top_in pages.old.marks tid ≡ None }
+    requires alive { IsAlive (S.view pages.old.store) }
+    requires sound { IsTrue S.tells → AreSoundTrees (S.view pages.old.store).state.bytes }
+    requires named { IsTrue S.tells → IsTable (S.view pages.old.store).state.bytes root.table root.page }
+    requires slot { slot.now.number < slots_of (S.view pages.old.store).shape }
+    requires released { IsTrue S.tells → Releases (S.view pages.old.store).state.bytes slot.now.number slot.now.free slot.now.front }
+    requires leaf { IsRead (S.view pages.old.store).shape leaf.page leaf.level leaf.pairs.items }
+    requires bottom { leaf.level ≡ 0 }
+    requires reached { IsTrue S.tells → IsReached root (S.view pages.old.store).state.bytes key leaf.page leaf.level leaf.pairs.items }
+    requires finds { found leaf.pairs.items key ≡ Some slot.now.number }
+    requires more { IsTrue S.tells → leaf.page ≢ root.page → 2 ≤ length leaf.pairs.items }
+    ensures removes { Removes S.tells (S.opens (S.view pages.old.store).shape) tree tid root.page key
+        (pages_of (S.view pages.old.store) pages.old) (pages_of (S.view pages.new.store) pages.new) result }
+    ensures dead { IsErrOf result PageFault.Dead → ⊥ }
+{
+    let Node { page, pairs, .. } = leaf;
+    let leaf = LeafPage {
+        page,
+        link: NO_LINK,
+        pairs,
+    };
+    match remove_pair(pages, tid, key, slot, leaf) {
+        Ok(()) => Ok(true),
+        Err(fault) => Err(fault),
+    }
+}
+
+// The leaf, which has no other pair, takes those of the page to its right.
+fn join_right<S: EawStore>(
+    pages: &mut Pages<S>,
+    tid: u8,
+    root: Root,
+    key: u64,
+    slot: &Release,
+    leaf: u32,
+    parent: Node,
+    place: usize,
+) -> Result<bool, PageFault>
+    requires tid { tid < (S.view pages.old.store).shape.numbers }
+    requires closed { top_in pages.old.marks tid ≡ None }
+    requires alive { IsAlive (S.view pages.old.store) }
+    requires sound { IsTrue S.tells → AreSoundTrees (S.view pages.old.store).state.bytes }
+    requires named { IsTrue S.tells → IsTable (S.view pages.old.store).state.bytes root.table root.page }
+    requires slot { slot.now.number < slots_of (S.view pages.old.store).shape }
+    requires released { IsTrue S.tells → Releases (S.view pages.old.store).state.bytes slot.now.number slot.now.free slot.now.front }
+    requires finds { IsTrue S.tells → found (pairs_of_tree (S.view pages.old.store).state.bytes root.page) key ≡ Some slot.now.number }
+    requires leaf { leaf < index_pages_of (S.view pages.old.store).shape }
+    requires leaf_is { leaf ≡ child_for parent.pairs.items key }
+    requires alone { IsTrue S.tells → count_of (S.view pages.old.store).state.bytes leaf ≡ 1 }
+    requires parent { IsRead (S.view pages.old.store).shape parent.page parent.level parent.pairs.items }
+    requires level { parent.level ≡ 1 }
+    requires reached { IsTrue S.tells → IsReached root (S.view pages.old.store).state.bytes key parent.page parent.level parent.pairs.items }
+    requires place { place < length parent.pairs.items }
+    requires names { right_of parent.pairs.items key ≡ (get_or parent.pairs.items place (0, 0)).1 }
+    requires leaves { remove parent.pairs.items place ≡ without_right parent.pairs.items key }
+    ensures removes { Removes S.tells (S.opens (S.view pages.old.store).shape) tree tid root.page key
+        (pages_of (S.view pages.old.store) pages.old) (pages_of (S.view pages.new.store) pages.new) result }
+    ensures dead { IsErrOf result PageFault.Dead → ⊥ }
+{
+    let right = match fetch_right(pages, root, key, &parent, place) {
+        Ok(right) => right,
+        Err(fault) => return Err(fault),
+    };
+    let Some(freed) = give_page(&slot.front, right.page) else {
+        return Err(PageFault::Damaged { page: right.page });
+    };
+    let leaf = NewPairs {
+        page: leaf,
+        pairs: right.pairs,
+    };
+    let parent = NewPairs {
+        page: parent.page,
+        pairs: without_place(parent.pairs, place),
+    };
+    match join_leaves(pages, tid, slot, &freed, leaf, parent) {
+        Ok(()) => Ok(true),
+        Err(fault) => Err(fault),
+    }
+}
+
+// Reads the leaf to the right of that of the key, which this entry of their parent names.
+fn fetch_right<S: EawStore>(
+    pages: &mut Pages<S>,
+    root: Root,
+    key: u64,
+    parent: &Node,
+    place: usize,
+) -> Result<Node, PageFault>
+    requires alive { IsAlive (S.view pages.old.store) }
+    requires sound { IsTrue S.tells → AreSoundTrees (S.view pages.old.store).state.bytes }
+    requires named { IsTrue S.tells → IsTable (S.view pages.old.store).state.bytes root.table root.page }
+    requires level { parent.now.level ≡ 1 }
+    requires reached { IsTrue S.tells → IsReached root (S.view pages.old.store).state.bytes key parent.now.page parent.now.level parent.now.pairs.items }
+    requires place { place < length parent.now.pairs.items }
+    requires names { right_of parent.now.pairs.items key ≡ (get_or parent.now.pairs.items place (0, 0)).1 }
+    ensures looks { Looks S.tells (S.opens (S.view pages.old.store).shape) (is_failed result)
+        (pages_of (S.view pages.old.store) pages.old) (pages_of (S.view pages.new.store) pages.new) }
+    ensures cause { LookCause S.tells (S.view pages.old.store) result }
+    ensures page { IfOk result (λ right. right.page ≡ right_of parent.now.pairs.items key) }
+    ensures read { IfOk result (λ right. IsRead (S.view pages.old.store).shape right.page right.level right.pairs.items) }
+    ensures level { IfOk result (λ right. right.level ≡ 0) }
+    ensures pairs { IsTrue S.tells → IfOk result (λ right. right.pairs.items ≡ page_pairs (S.view pages.old.store).state.bytes right.page) }
+    ensures dead { IsErrOf result PageFault.Dead → ⊥ }
+{
+    let count = index_page_count(pages);
+    let page = parent.pairs.as_slice()[place].1;
+    if page == 0 {
+        return Err(PageFault::Damaged { page: parent.page });
+    }
+    if page >= u64::from(count) {
+        return Err(PageFault::Damaged { page: parent.page });
+    }
+    let right = match fetch_node(pages, page as u32) {
+        Ok(right) => right,
+        Err(fault) => return Err(fault),
+    };
+    if right.level != 0 {
+        return Err(PageFault::Damaged { page: right.page });
+    }
+    Ok(right)
+}
+
+// The leaf, which has no other pair and is the last of several, goes.
+fn leave_parent<S: EawStore>(
+    pages: &mut Pages<S>,
+    tid: u8,
+    root: Root,
+    key: u64,
+    slot: &Release,
+    leaf: u32,
+    parent: Node,
+) -> Result<bool, PageFault>
+    requires tid { tid < (S.view pages.old.store).shape.numbers }
+    requires closed { top_in pages.old.marks tid ≡ None }
+    requires alive { IsAlive (S.view pages.old.store) }
+    requires sound { IsTrue S.tells → AreSoundTrees (S.view pages.old.store).state.bytes }
+    requires named { IsTrue S.tells → IsTable (S.view pages.old.store).state.bytes root.table root.page }
+    requires slot { slot.now.number < slots_of (S.view pages.old.store).shape }
+    requires released { IsTrue S.tells → Releases (S.view pages.old.store).state.bytes slot.now.number slot.now.free slot.now.front }
+    requires finds { IsTrue S.tells → found (pairs_of_tree (S.view pages.old.store).state.bytes root.page) key ≡ Some slot.now.number }
+    requires leaf { leaf < index_pages_of (S.view pages.old.store).shape }
+    requires leaf_is { leaf ≡ child_for parent.pairs.items key }
+    requires alone { IsTrue S.tells → count_of (S.view pages.old.store).state.bytes leaf ≡ 1 }
+    requires parent { IsRead (S.view pages.old.store).shape parent.page parent.level parent.pairs.items }
+    requires level { parent.level ≡ 1 }
+    requires reached { IsTrue S.tells → IsReached root (S.view pages.old.store).state.bytes key parent.page parent.level parent.pairs.items }
+    requires last { right_of parent.pairs.items key ≡ 0 }
+    requires several { 2 ≤ length parent.pairs.items }
+    ensures removes { Removes S.tells (S.opens (S.view pages.old.store).shape) tree tid root.page key
+        (pages_of (S.view pages.old.store) pages.old) (pages_of (S.view pages.new.store) pages.new) result }
+    ensures dead { IsErrOf result PageFault.Dead → ⊥ }
+{
+    let Some(freed) = give_page(&slot.front, leaf) else {
+        return Err(PageFault::Damaged { page: leaf });
+    };
+    let parent = NewPairs {
+        page: parent.page,
+        pairs: without_end(parent.pairs),
+    };
+    match drop_leaf(pages, tid, slot, &freed, parent) {
+        Ok(()) => Ok(true),
+        Err(fault) => Err(fault),
+    }
+}

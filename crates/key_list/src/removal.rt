@@ -1,0 +1,113 @@
+// Removals from the chain of a table.
+ghost use Rattle.std.specs.Prelude.{◌≡◌, ◌<◌, ◌≤◌, ℕ, None, Some, IfSome, IfNone, IsErrOf, IsTrue, length};
+ghost use Rattle.array_shape.specs.Places.{page_count};
+ghost use Rattle.eaw_face.specs.Causes.{IsAlive};
+ghost use Rattle.record_slots.specs.Places.{version_of};
+ghost use Rattle.page_store.specs.Index.{IsTable};
+ghost use Rattle.page_store.specs.Pairs.{found};
+ghost use Rattle.page_store.specs.Removes.{HasAbsent, Removes};
+ghost use Rattle.page_store.specs.Shown.{pages_of, top_in};
+ghost use Rattle.key_list.specs.Chain.{IsSoundChain};
+ghost use Rattle.key_list.specs.Index.{chain, keeps_last};
+ghost use Rattle.key_list.specs.Located.{IsLocated, Locates};
+
+use crate::place::{Located, locate};
+use eaw_face::EawStore;
+use index_pages::{
+    LeafPage, Pairs, SLOTS_IN_PAGE, give_slot, index_page_count, place_found, remove_pair,
+};
+use page_store::{PageFault, Pages};
+
+// Takes out the pair of a key, whose slot is absent, and frees the slot.
+pub fn remove<S: EawStore>(
+    pages: &mut Pages<S>,
+    tid: u8,
+    root: u32,
+    table: u8,
+    key: u64,
+) -> Result<bool, PageFault>
+    requires tid { tid < (S.view pages.old.store).shape.numbers }
+    requires table { table < 8 }
+    requires root { root < page_count (S.view pages.old.store).shape }
+    requires closed { IsAlive (S.view pages.old.store) → top_in pages.old.marks tid ≡ None }
+    requires sound { IsTrue S.tells → IsAlive (S.view pages.old.store) → IsSoundChain (S.view pages.old.store).state.bytes }
+    requires named { IsTrue S.tells → IsAlive (S.view pages.old.store) → IsTable (S.view pages.old.store).state.bytes table root }
+    requires lists { IsTrue S.tells → IsAlive (S.view pages.old.store) → version_of (S.view pages.old.store).state.bytes ≡ 2 }
+    requires absent { IsTrue S.tells → IsAlive (S.view pages.old.store) → HasAbsent chain root table key (S.view pages.old.store).state.bytes }
+    ensures removes { Removes S.tells (S.opens (S.view pages.old.store).shape) chain tid root key
+        (pages_of (S.view pages.old.store) pages.old) (pages_of (S.view pages.new.store) pages.new) result }
+    ensures dead { IsErrOf result PageFault.Dead → pages.new ≡ pages.old }
+{
+    let at = match locate(pages, root, table, key) {
+        Ok(at) => at,
+        Err(fault) => return Err(fault),
+    };
+    remove_here(pages, tid, root, table, key, at)
+}
+
+// Takes the pair out of its page, unless it is the last one and stays there.
+fn remove_here<S: EawStore>(
+    pages: &mut Pages<S>,
+    tid: u8,
+    root: u32,
+    table: u8,
+    key: u64,
+    at: Located,
+) -> Result<bool, PageFault>
+    requires tid { tid < (S.view pages.old.store).shape.numbers }
+    requires closed { top_in pages.old.marks tid ≡ None }
+    requires alive { IsAlive (S.view pages.old.store) }
+    requires sound { IsTrue S.tells → IsSoundChain (S.view pages.old.store).state.bytes }
+    requires named { IsTrue S.tells → IsTable (S.view pages.old.store).state.bytes table root }
+    requires lists { IsTrue S.tells → version_of (S.view pages.old.store).state.bytes ≡ 2 }
+    requires absent { IsTrue S.tells → HasAbsent chain root table key (S.view pages.old.store).state.bytes }
+    requires located { IsLocated (S.view pages.old.store).shape at.front at.page at.link at.pairs.items }
+    requires said { IsTrue S.tells → Locates (S.view pages.old.store).state.bytes root key at.front at.page at.link at.pairs.items }
+    ensures removes { Removes S.tells (S.opens (S.view pages.old.store).shape) chain tid root key
+        (pages_of (S.view pages.old.store) pages.old) (pages_of (S.view pages.new.store) pages.new) result }
+    ensures dead { IsErrOf result PageFault.Dead → ⊥ }
+{
+    if keeps_last(&at, root) {
+        return Ok(false);
+    }
+    let slots = SLOTS_IN_PAGE * index_page_count(pages);
+    let Some(slot) = slot_found(&at.pairs, key, slots) else {
+        return Err(PageFault::Damaged { page: at.page });
+    };
+    let Some(released) = give_slot(&at.front, slot) else {
+        return Err(PageFault::Damaged { page: 0 });
+    };
+    let leaf = LeafPage {
+        page: at.page,
+        link: at.link,
+        pairs: at.pairs,
+    };
+    match remove_pair(pages, tid, key, &released, leaf) {
+        Ok(()) => Ok(true),
+        Err(fault) => Err(fault),
+    }
+}
+
+// Whether a page has one pair at most and keeps it, since it is not the root, or pages follow it.
+fn keeps_last(at: &Located, root: u32) -> bool
+    ensures { result ≡ keeps_last root at.now.page at.now.link (length at.now.pairs.items) }
+{
+    at.pairs.len() < 2 && !(at.page == root && at.link == 0)
+}
+
+// The slot of a key, if it is there and one of so many.
+fn slot_found(pairs: &Pairs, key: u64, slots: u32) -> Option<u32>
+    ensures some { IfSome result (λ slot. (slot < slots) × (found pairs.now.items key ≡ Some slot)) }
+    ensures none { IfNone result ((slot : ℕ) → found pairs.now.items key ≡ Some slot → slots ≤ slot) }
+{
+    let pairs = pairs.as_slice();
+    let Some(place) = place_found(pairs, key) else {
+        return None;
+    };
+    let slot = pairs[place].1;
+    if slot < u64::from(slots) {
+        Some(slot as u32)
+    } else {
+        None
+    }
+}

@@ -1,0 +1,13 @@
+-- One more commit waits, where one may.
+use Rattle.std.proofs.Common.{◌≡◌, ℕ, ◌<◌, cond, ◌||◌, List, [], ◌∷◌, ◌++◌, length, drop, ap, arith}
+use Rattle.std.proofs.lemmas.Bool.{ne_eqb}
+use Rattle.std.proofs.lemmas.List.{length-append}
+use Rattle.row_bytes.specs.declared.ballot.Ballot.{Ballot}
+use Rattle.late_commits.specs.Orders.{behind, due_for_place, with_one_more}
+
+pub one_waits : (depth : ℕ) (bs : List Ballot) (ballot : Ballot) → 0 < depth → 0 < ballot.mask → 0 < length (with_one_more depth bs ballot)
+one_waits depth bs ballot may some =
+    let left = drop (due_for_place depth bs) bs in
+    let is : with_one_more depth bs ballot ≡ left ++ behind left ballot ∷ [] =
+    (λ i. cond (ne_eqb ballot.mask 0 (λ none. omega (arith, none, some)) i || ne_eqb depth 0 (λ none. omega (arith, none, may)) i) bs (left ++ behind left ballot ∷ [])) in
+    omega (arith, ap (λ (l : List Ballot). length l) is, length-append left (behind left ballot ∷ []))

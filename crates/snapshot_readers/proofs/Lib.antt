@@ -1,0 +1,10 @@
+pub mod Prefixes
+pub mod Adding
+pub mod Rooming
+pub mod Writings
+pub mod Standing
+pub mod Leading
+pub mod Cases
+pub mod Joining
+pub mod Numbering
+pub mod Copies

@@ -1,0 +1,28 @@
+-- Transactions as they were fed: each batch was fed at once.
+use Rattle.std.specs.Prelude.{ℕ, ◌≡◌, ◌+◌, List, [], ◌∷◌, ◌++◌}
+use Rattle.history.specs.Writes.{Table}
+use Rattle.history.specs.Legal.{records}
+use Rattle.history.specs.declared.transaction.Done.{Done}
+
+-- what was fed at once
+abbrev pub Batch : Type 0
+Batch = List Done
+
+-- the transactions of all batches, in order
+abbrev pub joined : List Batch → List Done
+joined [] = []
+joined (batch ∷ batches) = batch ++ joined batches
+
+-- the batches with one more, if it has a transaction
+abbrev pub with_batch : List Batch → Batch → List Batch
+with_batch batches [] = batches
+with_batch batches (done ∷ dones) = batches ++ (done ∷ dones) ∷ []
+
+-- the table after all batches
+abbrev pub records_after : Table → List Batch → Table
+records_after base batches = records base (joined batches)
+
+-- transactions numbered from n on
+abbrev pub AreNumberedFrom : ℕ → List Done → Type 0
+AreNumberedFrom n [] = Unit {0}
+AreNumberedFrom n (done ∷ dones) = (done.at ≡ n) × AreNumberedFrom (n + 1) dones
