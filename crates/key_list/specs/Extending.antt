@@ -45,8 +45,8 @@ module _ (old new : List ℕ) (sound : IsSoundChain old) (x : Extends old new) w
       let said = empty_root (page_bytes new root) is in
       fresh_chain new root table (omega (arith, w.front.some_pages, x.later)) said.0 said.1 said.2 said.3
 
-  pub sound_chains_extend : IsSoundChain new × ((table root : ℕ) → IsTable old table root → (pairs_of_chain new root ≡ pairs_of_chain old root) × (0 ≡ 0))
-      × ((table root : ℕ) → IsTable new table root → next_page old ≤ root → IsEmptyRoot (page_bytes new root) → (pairs_of_chain new root ≡ []) × (0 ≡ 0))
+  pub sound_chains_extend : IsSoundChain new × ((table root : ℕ) → IsTable old table root → (pairs_of_chain new root ≡ pairs_of_chain old root))
+      × ((table root : ℕ) → IsTable new table root → next_page old ≤ root → IsEmptyRoot (page_bytes new root) → pairs_of_chain new root ≡ [])
   sound_chains_extend =
       let w = whole_seen 0 chain_check old sound in
       let f = front_extends 0 chain_check old new w x in (
@@ -56,6 +56,6 @@ module _ (old new : List ℕ) (sound : IsSoundChain old) (x : Extends old new) w
           pages = f.pages;
           tables = λ table root is. elim (x.named table root is) [ inl was ↦ (kept_chain table root was).0 | inr fresh ↦ (empty_chain table root fresh.1).0 ];
         }),
-        λ table root is. ((kept_chain table root is).1, refl),
-        λ table root is later empty. ((empty_chain table root empty).1, refl),
+        λ table root is. (kept_chain table root is).1,
+        λ table root is later empty. (empty_chain table root empty).1,
       )

@@ -72,7 +72,8 @@ impl KeyIndex for KeyList {
 
     ghost rests = { λ old new sound keeps. ((sound_chains_rest old new sound keeps).0, λ table root is. ((sound_chains_rest old new sound keeps).1 table root is, λ i. 0)) };
 
-    ghost extends = { sound_chains_extend };
+    ghost extends = { λ old new sound extends. let all = sound_chains_extend old new sound extends in
+        (all.0, (λ table root is. (all.1 table root is, λ i. 0)), (λ table root is later empty. (all.2 table root is later empty, λ i. 0))) };
 
     ghost excluded = { chain_excludes };
 
