@@ -22,11 +22,11 @@ use Rattle.btree_laws.proofs.Pages.{had_before_loss, had_before_left, had_before
 use Rattle.btree_laws.proofs.Places.{join_place}
 use Rattle.index_pages.proofs.Removing.{found-removed, length-removed, small_removed}
 use Rattle.btree_laws.proofs.Staying.{StaysLast, last_kept, leaf_kept, leaf_page, parent_page, leaf_bottom, parent_bottom, parent_level_is, stays_but_right, stays_but_left}
-use Rattle.btree_laws.proofs.Ways.{sound_tree_finds, way_of}
+use Rattle.btree_laws.proofs.Ways.{sound_tree_finds}
 use Rattle.btree_laws.proofs.Whole.{freed_loses, freed_joins_left, freed_joins_right}
 use Rattle.btree_laws.specs.Descent.{child_for, leaf_for}
 use Rattle.btree_laws.specs.Removals.{IsJoinPlace, IsLeafWith, IsParentWith, JoinsLeft, JoinsRight, Lacks, LosesPair, parent_for, right_of, without_last, without_right}
-use Rattle.btree_laws.specs.Sound.{AreBelow, IsSoundTree, IsTree}
+use Rattle.btree_laws.specs.Sound.{IsSoundTree}
 use Rattle.btree_laws.specs.Tree.{pairs_of_tree, IsPageOfTree}
 use Rattle.btree_laws.specs.TreeFacts.{sound_tree_rises, under_own}
 use Rattle.btree_laws.specs.declared.root.Root.{Root}
