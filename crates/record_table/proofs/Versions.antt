@@ -126,7 +126,7 @@ module _ (tells : Bool) (Opens : List ℕ → List ℕ → Type 0) (index : Inde
       let moved = moved_by_look tells Opens index 0 old mid alive (holds alive) looks in
       let same = λ (told : IsTrue tells). ap (λ (s : State). s.bytes) ((looks.same refl).still.state told) in (
         moved_upgrades old mid r well cause moved (λ told. subst (λ (bytes : List ℕ). OnOk r (version_of bytes ≡ 2)) (sym (same told)) (version told)) (λ told. ap tables_of (same told))
-        (λ told. ap (keys_of index) (same told)) (λ told two. same told),
+            (λ told. ap (keys_of index) (same told)) (λ told two. same told),
         λ living. rests_moved tells Opens index 0 old mid (holds alive) moved,
       )
 
@@ -216,8 +216,8 @@ module _ (tells : Bool) (Opens : List ℕ → List ℕ → Type 0) (index : Inde
         let moved = moved_then tells Opens index 0 old mid new looked_moved then in
         let now = λ (told : IsTrue tells). ap (λ (s : PagesState). s.store.bytes) (does.done.state told) in (
           moved_upgrades old new (Ok tt) refl alive moved (λ told. ap version_of (now told) ∙ (facts told).version)
-          (λ told. ap tables_of (now told) ∙ (facts told).tables ∙ ap tables_of (same_bytes told)) (λ told. ap (keys_of index) (now told) ∙ (facts told).keys ∙ ap (keys_of index) (same_bytes told))
-          (λ told two. absurd (older ((says told).version ∙ two))),
+              (λ told. ap tables_of (now told) ∙ (facts told).tables ∙ ap tables_of (same_bytes told)) (λ told. ap (keys_of index) (now told) ∙ (facts told).keys ∙ ap (keys_of index) (same_bytes told))
+              (λ told two. absurd (older ((says told).version ∙ two))),
           λ _. rests_moved tells Opens index 0 old new (holds alive) moved,
         )
     wrote (Err fault.Media) does = (failed_upgrades old new alive (failed_then tells Opens index 0 old mid new looked_moved (broken does)), holds_dead new (does.dies refl))
