@@ -1,5 +1,5 @@
 -- A super page that has the table `main` alone.
-use Rattle.std.proofs.Common.{◌≡◌, ℕ, ◌^◌, ◌<◌, ◌≤◌, List, [], refl, sym, ◌∙◌, ap, subst, arith}
+use Rattle.std.proofs.Common.{◌≡◌, ℕ, ◌^◌, ◌<◌, List, [], refl, sym, ◌∙◌, ap, arith}
 use Rattle.byteorder.specs.Numbers.{little_number-reads_back}
 use Rattle.record_slots.specs.Super.{SaysSuper, main_entries, main_super, super_bytes, part_bytes, version_said, form_said, next_slot_said, next_page_said, entries_said, free_slot_in, free_page_in, free_slots_in, free_pages_in}
 use Rattle.record_slots.specs.declared.super_page.Super.{Super}
@@ -24,6 +24,5 @@ says_main form slot page fits pages_fit = record {
 abbrev pub main_with : (form slot page : ℕ) → List ℕ → Super
 main_with form slot page entries = record (main_super form slot page) { entries = entries }
 
-pub written_main : (form slot page : ℕ) (entries out : List ℕ) → entries ≡ main_entries → out ≡ super_bytes (main_with form slot page entries) → slot < 2 ^ 32 → page < 2 ^ 32 → SaysSuper out (main_super form slot page)
-written_main form slot page entries out same is fits pages_fit =
-    subst (λ (bytes : List ℕ). SaysSuper bytes (main_super form slot page)) (sym (is ∙ ap (λ (l : List ℕ). super_bytes (main_with form slot page l)) same)) (says_main form slot page fits pages_fit)
+pub written_main : (form slot page : ℕ) (entries out : List ℕ) → entries ≡ main_entries → out ≡ super_bytes (main_with form slot page entries) → out ≡ super_bytes (main_super form slot page)
+written_main form slot page entries out same is = is ∙ ap (λ (l : List ℕ). super_bytes (main_with form slot page l)) same

@@ -1,23 +1,13 @@
 -- The pages of data without records.
 use Rattle.std.specs.Prelude.{ℕ, zero, suc, List, ◌++◌, replicate}
-use Rattle.record_slots.specs.Super.{super_bytes}
+use Rattle.record_slots.specs.Super.{main_super, super_bytes}
 use Rattle.record_slots.specs.IndexHead.{index_head_bytes}
 use Rattle.record_slots.specs.declared.super_page.Super.{Super}
 use Rattle.record_slots.specs.declared.index_head.IndexHead.{IndexHead}
 
--- version 1 and form 1, a tree; no slot given out; 2 as the next page to give out; no entries, and nothing free
+-- form 1, a tree; no slot given out; 2 as the next page to give out
 abbrev pub fresh_super : Super
-fresh_super = record {
-  version = 1;
-  form = 1;
-  next_slot = 0;
-  next_page = 2;
-  entries = replicate 256 0;
-  free_slot = 0;
-  free_page = 0;
-  free_slots = 0;
-  free_pages = 0;
-}
+fresh_super = main_super 1 0 2
 
 -- the root, a leaf without pairs
 abbrev pub fresh_root : IndexHead

@@ -140,7 +140,8 @@ pub fn write_super_part(front: &Super, out: &mut [u8; PART_LEN])
 
 /// A super page of version 2 with this form and these counts, the table `main` alone, and nothing free.
 pub fn main_super(form: u8, next_slot: u32, next_page: u32) -> [u8; 512]
-    ensures { SaysSuper result (main_super form next_slot next_page) }
+    ensures says { SaysSuper result (main_super form next_slot next_page) }
+    ensures bytes { result ≡ super_bytes (main_super form next_slot next_page) }
 {
     let front = Super {
         version: VERSION,
