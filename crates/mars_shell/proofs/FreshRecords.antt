@@ -1,30 +1,28 @@
 -- A fresh array is a sound tree without records.
-use Rattle.std.proofs.Common.{◌≡◌, ℕ, ◌*◌, ◌<◌, ◌≤◌, List, take, refl, sym, ap, subst, ◌∙◌, arith}
+use Rattle.std.proofs.Common.{◌≡◌, ℕ, ◌*◌, ◌<◌, ◌≤◌, List, [], ◌∷◌, refl, sym, ap, subst, ◌∙◌, arith}
 use Rattle.std.proofs.Math.Nat.{le-mul_of_pos_right}
 use Rattle.array_shape.specs.declared.shape.Shape.{Shape}
 use Rattle.array_shape.specs.Places.{page_count}
 use Rattle.array_image.specs.Image.{data_of}
 use Rattle.array_image.proofs.Data.{length-data_of}
 use Rattle.eaw_device.specs.Fresh.{HasPages}
-use Rattle.record_slots.specs.Fresh.{fresh_page}
+use Rattle.record_slots.specs.Fresh.{fresh_page, fresh_super}
+use Rattle.record_slots.proofs.MainAlone.{says_main}
 use Rattle.page_store.specs.Pairs.{Pair}
-use Rattle.record_slots.specs.Places.{page_bytes, version_of, IsSuper}
-use Rattle.record_slots.specs.Super.{HasSuperMark, version_said, form_said, next_slot_said, next_page_said, part_bytes}
+use Rattle.record_slots.specs.Places.{page_bytes, next_page, tables_of, IsSuper}
+use Rattle.record_slots.specs.Super.{SaysSuper, HasTables, main_table, tables_in, tables_said}
 use Rattle.record_table.specs.Shown.{table_of, table_in}
 use Rattle.index_pages.specs.Page.{kind_said, level_said, count_said, link_said}
 use Rattle.record_table.proofs.Sharing.{main_pairs}
+use Rattle.record_table.proofs.Upgraded.{main_used, has_main}
 use Rattle.btree_pages.specs.Index.{tree}
 use Rattle.btree_pages.specs.Trees.{trees_count}
-use Rattle.btree_pages.proofs.Fresh.{fresh_trees}
+use Rattle.btree_pages.proofs.Fresh.{HasNoneFree, fresh_trees}
 use Rattle.mars_shell.specs.Formats.{HasNone}
 
 -- what the first two pages say
-front_fresh : (form_said (fresh_page 0) ≡ 1) × (next_slot_said (fresh_page 0) ≡ 0) × (next_page_said (fresh_page 0) ≡ 2) × (version_said (fresh_page 0) ≡ 1)
-unfolding form_said next_slot_said next_page_said version_said part_bytes
-front_fresh = (refl, refl, refl, refl)
-
-mark_fresh : HasSuperMark (fresh_page 0)
-mark_fresh = record { mark = refl; some = omega (arith, front_fresh.3); known = omega (arith, front_fresh.3) }
+front_fresh : SaysSuper (fresh_page 0) fresh_super
+front_fresh = says_main 1 0 2 (omega arith) (omega arith)
 
 root_fresh : (kind_said (fresh_page 1) ≡ 1) × (level_said (fresh_page 1) ≡ 0) × (link_said (fresh_page 1) ≡ 0) × (count_said (fresh_page 1) ≡ 0)
 unfolding kind_said level_said link_said count_said
@@ -39,26 +37,29 @@ module _ (shape : Shape) (bytes : List ℕ) (pages : HasPages shape (page_count 
   unfolding page_bytes
   has_page p less = pages p (omega (arith, some_pages shape))
 
-  first : version_of (data_of shape bytes) ≡ 1
-  first = ap version_said (has_page 0 (omega arith)) ∙ front_fresh.3
+  first : SaysSuper (page_bytes (data_of shape bytes) 0) fresh_super
+  first = subst (λ (page : List ℕ). SaysSuper page fresh_super) (sym (has_page 0 (omega arith))) front_fresh
+
+  alone : tables_of (data_of shape bytes) ≡ main_table ∷ []
+  unfolding tables_said
+  alone = (λ i. tables_in (sym first.version i) (sym first.entries i)) ∙ main_used
 
   front : IsSuper 1 (data_of shape bytes)
-  front =
-      let here = has_page 0 (omega arith) in
-      let next : next_page_said (page_bytes (data_of shape bytes) 0) ≡ 2 = ap next_page_said here ∙ front_fresh.2 in
-      let none : next_slot_said (page_bytes (data_of shape bytes) 0) ≡ 0 = ap next_slot_said here ∙ front_fresh.1 in
-      record {
-        has_mark = subst (λ (page : List ℕ). HasSuperMark page) (sym here) mark_fresh;
-        form_is = ap form_said here ∙ front_fresh.0;
-        slots = omega (arith, none);
-        some_pages = omega (arith, next);
-        pages = omega (arith, next, some_pages shape, length-data_of shape bytes);
-        tables = λ two. absurd (omega (arith, two, first));
-      }
+  front = record {
+    has_mark = first.has_mark;
+    form_is = sym first.form;
+    slots = omega (arith, first.next_slot);
+    some_pages = omega (arith, first.next_page);
+    pages = omega (arith, first.next_page, some_pages shape, length-data_of shape bytes);
+    tables = subst (λ (x : ℕ × List ℕ). HasTables x.0 (next_page (data_of shape bytes)) x.1) (λ i. (first.version i, first.entries i)) (has_main (next_page (data_of shape bytes)));
+  }
+
+  free : HasNoneFree (data_of shape bytes)
+  free = record { slot = sym first.free_slot; page = sym first.free_page; slots = sym first.free_slots; pages = sym first.free_pages }
 
   pub fresh_none : HasNone (data_of shape bytes)
   unfolding table_of
   fresh_none =
       let here = has_page 1 (omega arith) in
-      let fresh = fresh_trees (data_of shape bytes) front first (ap kind_said here ∙ root_fresh.0) (ap level_said here ∙ root_fresh.1) (ap link_said here ∙ root_fresh.2) (ap count_said here ∙ root_fresh.3) in
+      let fresh = fresh_trees (data_of shape bytes) front alone free (ap kind_said here ∙ root_fresh.0) (ap level_said here ∙ root_fresh.1) (ap link_said here ∙ root_fresh.2) (ap count_said here ∙ root_fresh.3) in
       record { sound = fresh.0; none = ap (λ (pairs : List Pair). table_in (data_of shape bytes) pairs) (main_pairs tree (data_of shape bytes) (trees_count (data_of shape bytes) fresh.0).main ∙ fresh.1) }

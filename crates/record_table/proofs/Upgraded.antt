@@ -27,7 +27,7 @@ main_named : IsTrue (are_named main_entries)
 unfolding are_named
 main_named = refl
 
-main_used : tables_used main_entries ≡ main_table ∷ []
+pub main_used : tables_used main_entries ≡ main_table ∷ []
 unfolding tables_used
 main_used = refl
 
@@ -38,7 +38,7 @@ are_main pages = record {
   other = λ j i one two lt is also. absurd (omega (arith, lt, one_table j two also));
 }
 
-has_main : (pages : ℕ) → HasTables 2 pages main_entries
+pub has_main : (pages : ℕ) → HasTables 2 pages main_entries
 has_main pages = λ two. (main_named, subst (AreTables pages) (sym main_used) (are_main pages))
 
 -- records whose slots are as they were
