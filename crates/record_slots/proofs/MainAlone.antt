@@ -1,5 +1,5 @@
 -- A super page that has the table `main` alone.
-use Rattle.std.proofs.Common.{◌≡◌, ℕ, ◌^◌, ◌<◌, List, [], refl, sym, ◌∙◌, ap, arith}
+use Rattle.std.proofs.Common.{◌≡◌, ℕ, ◌^◌, ◌<◌, List, [], length, refl, sym, ◌∙◌, ap, arith}
 use Rattle.byteorder.specs.Numbers.{little_number-reads_back}
 use Rattle.record_slots.specs.Super.{SaysSuper, main_entries, main_super, super_bytes, part_bytes, version_said, form_said, next_slot_said, next_page_said, entries_said, free_slot_in, free_page_in, free_slots_in, free_pages_in}
 use Rattle.record_slots.specs.declared.super_page.Super.{Super}
@@ -19,6 +19,11 @@ says_main form slot page fits pages_fit = record {
   free_slots = refl;
   free_pages = refl;
 }
+
+-- it has a page's bytes
+pub length-main : (form slot page : ℕ) → length (super_bytes (main_super form slot page)) ≡ 512
+unfolding part_bytes
+length-main form slot page = refl
 
 -- the same for what the writer was given
 abbrev pub main_with : (form slot page : ℕ) → List ℕ → Super

@@ -1,13 +1,15 @@
 -- Data of version 1 once its super page is of version 2.
-use Rattle.std.proofs.Common.{◌≡◌, ◌≢◌, ◌^◌, ℕ, zero, suc, ◌+◌, ◌-◌, ◌*◌, ◌/◌, ◌<◌, ◌≤◌, inl, inr, IsTrue, List, [], ◌∷◌, length, refl, sym, ◌∙◌, ap, subst, arith}
+use Rattle.std.proofs.Common.{◌≡◌, ◌≢◌, ◌^◌, ℕ, zero, suc, ◌+◌, ◌-◌, ◌*◌, ◌/◌, ◌<◌, ◌≤◌, true, false, inl, inr, IsTrue, List, [], ◌∷◌, length, refl, sym, ◌∙◌, ap, subst, arith, eq-eqb, ne_eqb}
 use Rattle.std.specs.Prelude.{nat_eq, if◌then◌else◌, slice_get, Option, Some, None}
 use Rattle.std.specs.Option.{option_map}
+use Rattle.std.proofs.lemmas.Bool.{cases_eq}
 use Rattle.mars_base.specs.Bytes.{range, put}
 use Rattle.mars_base.proofs.Puts.{length-put}
 use Rattle.pcm_media.proofs.Ranges.{range-put}
 use Rattle.record_slots.specs.Slots.{slot_said}
-use Rattle.record_slots.specs.Super.{SaysSuper, HasTables, AreTables, main_entries, main_super, main_table, are_named, tables_in, tables_used, tables_said, version_said, entries_said, next_slot_said, next_page_said, free_in, free_slot_in, free_page_in, free_slots_in, free_pages_in}
+use Rattle.record_slots.specs.Super.{SaysSuper, HasTables, AreTables, main_entries, main_super, main_table, are_named, tables_in, tables_used, tables_said, version_said, form_said, super_bytes, entries_said, next_slot_said, next_page_said, free_in, free_slot_in, free_page_in, free_slots_in, free_pages_in}
 use Rattle.record_slots.specs.Places.{page_bytes, slot_of, next_slot, next_page, tables_of, version_of, free_slot, free_page, free_slots, free_pages}
+use Rattle.record_slots.proofs.MainAlone.{says_main, length-main}
 use Rattle.record_slots.specs.declared.super_page.Super.{Super}
 use Rattle.record_slots.specs.declared.super_page.TableEntry.{TableEntry}
 use Rattle.page_store.specs.Index.{Index, IsTable, HasCounts, Extends}
@@ -16,6 +18,7 @@ use Rattle.page_store.proofs.Reading.{part_missed}
 use Rattle.history.specs.Writes.{Table, write_into}
 use Rattle.record_table.specs.Shown.{value_of, table_in, table_of, pairs_of, keys_of}
 use Rattle.record_table.specs.State.{Keys}
+use Rattle.record_table.specs.Upgrading.{upgraded}
 use Rattle.record_table.proofs.Sharing.{Laws, pairs_rest, level_same}
 
 -- the entries of `main` alone are those of tables
@@ -41,6 +44,10 @@ are_main pages = record {
 pub has_main : (pages : ℕ) → HasTables 2 pages main_entries
 has_main pages = λ two. (main_named, subst (AreTables pages) (sym main_used) (are_main pages))
 
+-- the super page of version 2 that data of version 1 gets
+abbrev pub front_of : List ℕ → Super
+front_of d = main_super (form_said (page_bytes d 0)) (next_slot d) (next_page d)
+
 -- records whose slots are as they were
 same_slots : (d e : List ℕ) → ((slot : ℕ) → slot_of e slot ≡ slot_of d slot) → (ps : List Pair) → table_in e ps ≡ table_in d ps
 same_slots d e same [] = refl
@@ -56,19 +63,27 @@ pub record Upgraded (index : Index) (d e : List ℕ) : Type 0 where
   pub records : table_of index e ≡ table_of index d
   pub keys : keys_of index e ≡ keys_of index d
 
-module _ (index : Index) (laws : Laws index) (d page : List ℕ) (front : Super) (sound : index.sound d) (long : length page ≡ 512)
-    (says : SaysSuper (page_bytes d 0) front) (older : front.version ≢ 2) (written : SaysSuper page (main_super front.form front.next_slot front.next_page)) where
+-- data of version 2 is as it is, and other data gets a super page
+pub two_upgraded : (d : List ℕ) → version_of d ≡ 2 → upgraded d ≡ d
+unfolding upgraded
+two_upgraded d two = (let b : nat_eq (version_of d) 2 ≡ true = eq-eqb (version_of d) 2 two in rw b refl)
+
+pub older_upgraded : (d : List ℕ) → version_of d ≢ 2 → upgraded d ≡ put d 0 (super_bytes (front_of d))
+unfolding upgraded
+older_upgraded d older = (let b : nat_eq (version_of d) 2 ≡ false = ne_eqb (version_of d) 2 older in rw b refl)
+
+module _ (index : Index) (laws : Laws index) (d page : List ℕ) (sound : index.sound d) (long : length page ≡ 512) (older : version_of d ≢ 2) (written : SaysSuper page (front_of d)) where
   abbrev e : List ℕ
   e = put d 0 page
 
   abbrev after : Super
-  after = main_super front.form front.next_slot front.next_page
+  after = front_of d
 
   counts : HasCounts d
   counts = laws.counts d sound
 
   one : version_said (page_bytes d 0) ≡ 1
-  one = omega (arith, says.version, older, counts.oldest, counts.newest)
+  one = omega (arith, older, counts.oldest, counts.newest)
 
   fits : 0 + length page ≤ length d
   fits = omega (arith, long, counts.some, counts.pages)
@@ -108,10 +123,10 @@ module _ (index : Index) (laws : Laws index) (d page : List ℕ) (front : Super)
   tables_same = tables_now ∙ sym tables_then
 
   slot_same : next_slot e ≡ next_slot d
-  slot_same = sym now.next_slot ∙ says.next_slot
+  slot_same = sym now.next_slot
 
   page_same : next_page e ≡ next_page d
-  page_same = sym now.next_page ∙ says.next_page
+  page_same = sym now.next_page
 
   none_then : (n : ℕ) → free_in (version_said (page_bytes d 0)) n ≡ 0
   none_then n = ap (λ (v : ℕ). free_in v n) one
@@ -136,7 +151,7 @@ module _ (index : Index) (laws : Laws index) (d page : List ℕ) (front : Super)
   extends = record {
     size = size;
     mark = now.has_mark;
-    form = sym now.form ∙ says.form;
+    form = sym now.form;
     tables = subst (λ (x : ℕ × List ℕ). HasTables x.0 (next_page e) x.1) (λ i. (now.version i, now.entries i)) (has_main (next_page e));
     named = λ table root is. inl (subst (λ (ts : List TableEntry). option_map (λ entry. entry.root) (slice_get ts table) ≡ Some root) tables_same is);
     next_slot_same = slot_same;
@@ -167,8 +182,8 @@ module _ (index : Index) (laws : Laws index) (d page : List ℕ) (front : Super)
     levels = λ table. level_same index d e table tables_same (λ root is. ((laws.extends d e sound extends).1 table root is).1) i;
   }
 
-  pub upgraded : Upgraded index d (put d 0 page)
-  upgraded = record {
+  pub is_upgraded : Upgraded index d (put d 0 page)
+  is_upgraded = record {
     sound = (laws.extends d e sound extends).0;
     size = size;
     version = sym now.version;
@@ -177,3 +192,13 @@ module _ (index : Index) (laws : Laws index) (d page : List ℕ) (front : Super)
     records = records_same;
     keys = keys_kept;
   }
+
+-- Indexes and records of sound data that is not too long are the same in version 2.
+pub upgrade_keeps : (index : Index) → Laws index → (d : List ℕ) → index.sound d → length d < 2 ^ 32 → Upgraded index d (upgraded d)
+upgrade_keeps index laws d sound short = elim (cases_eq (version_of d) 2) [
+  | inl two ↦ subst (Upgraded index d) (sym (two_upgraded d two)) (record { sound = sound; size = refl; version = two; tables = refl; pairs = refl; records = refl; keys = refl })
+  | inr older ↦
+      let counts = laws.counts d sound in
+      let front = says_main (form_said (page_bytes d 0)) (next_slot d) (next_page d) (omega (arith, counts.slots, short)) (omega (arith, counts.pages, short)) in
+      subst (Upgraded index d) (sym (older_upgraded d older)) (is_upgraded index laws d (super_bytes (front_of d)) sound (length-main (form_said (page_bytes d 0)) (next_slot d) (next_page d)) older front)
+]

@@ -5,7 +5,7 @@ use Rattle.std.proofs.lemmas.Bool.{false≢true}
 use Rattle.std.proofs.lemmas.List.{drop_all}
 use Rattle.mars_base.specs.Bytes.{put}
 use Rattle.mars_base.specs.Causes.{Rose}
-use Rattle.mars_base.proofs.Going.{stays, weaker}
+use Rattle.mars_base.proofs.Going.{stays, weaker, then}
 use Rattle.array_shape.specs.declared.shape.Shape.{Shape}
 use Rattle.array_shape.specs.Places.{logger_of}
 use Rattle.array_shape.specs.Parts.{parts_of_write, first_parts_of_write}
@@ -13,7 +13,7 @@ use Rattle.array_shape.specs.Logged.{ranges_of}
 use Rattle.eaw_face.specs.State.{State, listed, count_on}
 use Rattle.eaw_face.specs.StoreView.{LeavesOnly}
 use Rattle.eaw_face.specs.Causes.{IsAlive, fit}
-use Rattle.record_slots.specs.Super.{SaysSuper, main_super}
+use Rattle.record_slots.specs.Super.{SaysSuper, main_super, super_bytes}
 use Rattle.record_slots.specs.Places.{page_bytes, version_of, tables_of}
 use Rattle.record_slots.specs.declared.super_page.Super.{Super}
 use Rattle.page_store.specs.Command as page
@@ -33,13 +33,13 @@ use Rattle.record_table.specs.Invariant.{AreSlotParts, Rests, Holds}
 use Rattle.record_table.specs.Shown.{state_of, shown_by, keys_of, writes_of}
 use Rattle.record_table.specs.Sought.{LooksAs}
 use Rattle.record_table.specs.State.{TableState}
-use Rattle.record_table.specs.Upgrading.{Upgrades, UpgradeCause}
+use Rattle.record_table.specs.Upgrading.{upgraded, OpensUpgraded, Upgrades, UpgradeCause}
 use Rattle.record_table.specs.declared.fault.TableFault.{TableFault}
 use Rattle.record_table.specs.declared.fault.TableFault.TheVariants as refusal
 use Rattle.record_table.proofs.Moving.{Moved, Failed, moved_by_look, failed_by_look, moved_then, failed_then, rests_moved}
 use Rattle.record_table.proofs.Sharing.{Laws}
 use Rattle.record_table.proofs.SlotParts.{parts_carry}
-use Rattle.record_table.proofs.Upgraded.{Upgraded, upgraded}
+use Rattle.record_table.proofs.Upgraded.{Upgraded, front_of, two_upgraded, older_upgraded, is_upgraded}
 
 -- a write of one page is one part, which any log has room for
 no_parts : (n at : ℕ) → first_parts_of_write n at [] ≡ []
@@ -63,17 +63,25 @@ one_part shape g (b ∷ bs) long =
 pub page_fits : (shape : Shape) (bytes : List ℕ) (g h n : ℕ) → 8 ≤ shape.entries → length bytes ≡ 512 → fit shape [] (ranges_of (parts_of_write 0 bytes)) (Some (g, h, n)) → ⊥
 page_fits shape bytes g h n some long full = let one = one_part shape g bytes long in omega (arith, some, full.full, full.held_is, full.needed_is, one)
 
+-- what holds anyway holds after an Ok
+on_ok : {P : Type 0} (r : Result (Unit {0}) TableFault) → P → OnOk r P
+on_ok (Ok done) p = p
+on_ok (Err fault) p = tt
+
 module _ (tells : Bool) (Opens : List ℕ → List ℕ → Type 0) (index : Index) where
   -- an upgrade that leaves records, writes and saves as they were
   moved_upgrades : (old new : PagesView) (r : Result (Unit {0}) TableFault) → IsFalse (is_failed r) → UpgradeCause tells old r → Moved tells Opens index 0 old new
-      → (IsTrue tells → OnOk r (version_of new.store.state.bytes ≡ 2)) → (IsTrue tells → tables_of new.store.state.bytes ≡ tables_of old.store.state.bytes)
+      → (IsTrue tells → OnOk r (new.store.state.bytes ≡ upgraded old.store.state.bytes)) → (IsTrue tells → OnOk r (version_of new.store.state.bytes ≡ 2)) → (IsTrue tells → tables_of new.store.state.bytes ≡ tables_of old.store.state.bytes)
       → (IsTrue tells → keys_of index new.store.state.bytes ≡ keys_of index old.store.state.bytes)
-      → (IsTrue tells → version_of old.store.state.bytes ≡ 2 → new.store.state.bytes ≡ old.store.state.bytes) → Upgrades tells Opens index old new r
-  moved_upgrades old new r well cause moved version tables keys quiet = record {
+      → (IsTrue tells → version_of old.store.state.bytes ≡ 2 → new.store.state.bytes ≡ old.store.state.bytes)
+      → (IsTrue tells → LeavesOnly (OpensUpgraded Opens old.store.state.bytes) old.store new.store) → Upgrades tells Opens index old new r
+  moved_upgrades old new r well cause moved bytes_are version tables keys quiet exact = record {
     shape = moved.shape;
     cause = cause;
     faults = λ _. (moved.dead, moved.faults);
     dies = λ failed. absurd (false≢true (sym well ∙ failed));
+    bytes = bytes_are;
+    sound = λ told. on_ok r (moved.tied told).sound;
     version = version;
     tables = λ told _. tables told;
     state = λ told _. moved.state told;
@@ -82,14 +90,18 @@ module _ (tells : Bool) (Opens : List ℕ → List ℕ → Type 0) (index : Inde
     saves = moved.counts;
     others = moved.others;
     time = λ told _. moved.time told;
+    exact = λ told _. exact told;
   }
 
-  failed_upgrades : (old new : PagesView) → IsAlive old.store → Failed tells Opens index 0 old new → Upgrades tells Opens index old new (Err refusal.Media)
-  failed_upgrades old new alive failed = record {
+  failed_upgrades : (old new : PagesView) → IsAlive old.store → Failed tells Opens index 0 old new
+      → (IsTrue tells → LeavesOnly (OpensUpgraded Opens old.store.state.bytes) old.store new.store) → Upgrades tells Opens index old new (Err refusal.Media)
+  failed_upgrades old new alive failed exact = record {
     shape = failed.shape;
     cause = alive;
     faults = λ well. absurd (false≢true (sym well));
     dies = λ _. failed.dies;
+    bytes = λ told. tt;
+    sound = λ told. tt;
     version = λ told. tt;
     tables = λ told well. absurd (false≢true (sym well));
     state = λ told well. absurd (false≢true (sym well));
@@ -98,6 +110,7 @@ module _ (tells : Bool) (Opens : List ℕ → List ℕ → Type 0) (index : Inde
     saves = failed.counts;
     others = failed.others;
     time = λ told _. failed.time told;
+    exact = λ told _. exact told;
   }
 
   dead_upgrades : (old : PagesView) → old.store.is_dead ≡ true → Upgrades tells Opens index old old (Err refusal.Dead)
@@ -106,6 +119,8 @@ module _ (tells : Bool) (Opens : List ℕ → List ℕ → Type 0) (index : Inde
     cause = dead;
     faults = λ _. (refl, refl);
     dies = λ failed. absurd (false≢true failed);
+    bytes = λ told. tt;
+    sound = λ told. tt;
     version = λ told. tt;
     tables = λ told _. refl;
     state = λ told _. refl;
@@ -114,43 +129,50 @@ module _ (tells : Bool) (Opens : List ℕ → List ℕ → Type 0) (index : Inde
     saves = refl;
     others = λ u ne. refl;
     time = λ told _. stays old.store.moment old.store.left_since _;
+    exact = λ told _. stays old.store.moment old.store.left_since _;
   }
 
   holds_dead : (new : PagesView) → new.store.is_dead ≡ true → Holds tells index new
   holds_dead new dead = λ alive. absurd (false≢true (sym alive ∙ dead))
 
+  -- a look leaves the data
+  look_exact : (old mid : PagesView) (failed : Bool) → IsAlive old.store → LooksAs tells Opens 0 failed old mid → IsTrue tells → LeavesOnly (OpensUpgraded Opens old.store.state.bytes) old.store mid.store
+  look_exact old mid failed alive looks told = weaker (λ image opens. inl opens) (looks.time told alive)
+
   -- a look that tells all is as it was
   looked : (old mid : PagesView) (r : Result (Unit {0}) TableFault) → IsFalse (is_failed r) → UpgradeCause tells old r → IsAlive old.store → Holds tells index old → LooksAs tells Opens 0 false old mid
-      → (IsTrue tells → OnOk r (version_of old.store.state.bytes ≡ 2)) → Upgrades tells Opens index old mid r × Holds tells index mid
-  looked old mid r well cause alive holds looks version =
+      → (IsTrue tells → OnOk r (old.store.state.bytes ≡ upgraded old.store.state.bytes)) → (IsTrue tells → OnOk r (version_of old.store.state.bytes ≡ 2)) → Upgrades tells Opens index old mid r × Holds tells index mid
+  looked old mid r well cause alive holds looks bytes_are version =
       let moved = moved_by_look tells Opens index 0 old mid alive (holds alive) looks in
       let same = λ (told : IsTrue tells). ap (λ (s : State). s.bytes) ((looks.same refl).still.state told) in (
-        moved_upgrades old mid r well cause moved (λ told. subst (λ (bytes : List ℕ). OnOk r (version_of bytes ≡ 2)) (sym (same told)) (version told)) (λ told. ap tables_of (same told))
-            (λ told. ap (keys_of index) (same told)) (λ told two. same told),
+        moved_upgrades old mid r well cause moved (λ told. subst (λ (bytes : List ℕ). OnOk r (bytes ≡ upgraded old.store.state.bytes)) (sym (same told)) (bytes_are told))
+            (λ told. subst (λ (bytes : List ℕ). OnOk r (version_of bytes ≡ 2)) (sym (same told)) (version told)) (λ told. ap tables_of (same told))
+            (λ told. ap (keys_of index) (same told)) (λ told two. same told) (λ told. look_exact old mid false alive looks told),
         λ living. rests_moved tells Opens index 0 old mid (holds alive) moved,
       )
 
   -- the look at the super page was refused
   pub unread : (old mid : PagesView) (f : PageFault) → Holds tells index old → (let r : Result Super PageFault = Err f in LooksAs tells Opens 0 (look.is_failed r) old mid × LookCause tells old.store r)
       → (f ≡ fault.Dead → mid ≡ old) → Upgrades tells Opens index old mid (Err (as_table f)) × Holds tells index mid
-  unread old mid fault.Media holds both same = (failed_upgrades old mid both.1 (failed_by_look tells Opens index 0 old mid both.1 (holds both.1) both.0), holds_dead mid (both.0.dies refl).0)
+  unread old mid fault.Media holds both same = (failed_upgrades old mid both.1 (failed_by_look tells Opens index 0 old mid both.1 (holds both.1) both.0) (look_exact old mid true both.1 both.0), holds_dead mid (both.0.dies refl).0)
   unread old mid fault.Dead holds both same = (
     subst (λ (v : PagesView). Upgrades tells Opens index old v (Err refusal.Dead)) (sym (same refl)) (dead_upgrades old both.1),
     subst (Holds tells index) (sym (same refl)) holds,
   )
-  unread old mid (fault.Damaged bad) holds both same = looked old mid (Err (refusal.Damaged bad)) refl both.1 both.1.0 holds both.0 (λ told. tt)
+  unread old mid (fault.Damaged bad) holds both same = looked old mid (Err (refusal.Damaged bad)) refl both.1 both.1.0 holds both.0 (λ told. tt) (λ told. tt)
   unread old mid fault.SavesFull holds both same = absurd both.1
   unread old mid (fault.LogFull g h n) holds both same = absurd both.1
 
   -- the super page is of version 2
   pub already : (old mid : PagesView) (front : Super) → IsAlive old.store → Holds tells index old → LooksAs tells Opens 0 false old mid → (IsTrue tells → SaysSuper (page_bytes old.store.state.bytes 0) front) → front.version ≡ 2
       → Upgrades tells Opens index old mid (Ok tt) × Holds tells index mid
-  already old mid front alive holds looks says two = looked old mid (Ok tt) refl alive alive holds looks (λ told. sym (says told).version ∙ two)
+  already old mid front alive holds looks says two = looked old mid (Ok tt) refl alive alive holds looks
+      (λ told. sym (two_upgraded old.store.state.bytes (sym (says told).version ∙ two))) (λ told. sym (says told).version ∙ two)
 
   -- it is written
   module _ (laws : Laws index) (old mid new : PagesView) (bytes : List ℕ) (front : Super) (long : length bytes ≡ 512) (entries : 8 ≤ mid.store.shape.entries) (alive : IsAlive old.store) (holds : Holds tells index old)
       (looks : LooksAs tells Opens 0 false old mid) (says : IsTrue tells → SaysSuper (page_bytes old.store.state.bytes 0) front) (older : front.version ≢ 2)
-      (written : SaysSuper bytes (main_super front.form front.next_slot front.next_page)) where
+      (written : SaysSuper bytes (main_super front.form front.next_slot front.next_page)) (as_bytes : bytes ≡ super_bytes (main_super front.form front.next_slot front.next_page)) where
     looked_moved : Moved tells Opens index 0 old mid
     looked_moved = moved_by_look tells Opens index 0 old mid alive (holds alive) looks
 
@@ -163,10 +185,21 @@ module _ (tells : Bool) (Opens : List ℕ → List ℕ → Type 0) (index : Inde
     same_bytes : IsTrue tells → mid.store.state.bytes ≡ old.store.state.bytes
     same_bytes told = ap (λ (s : State). s.bytes) ((looks.same refl).still.state told)
 
+    -- the super page that data of version 1 gets
+    front_is : IsTrue tells → main_super front.form front.next_slot front.next_page ≡ front_of mid.store.state.bytes
+    front_is told =
+        (λ i. main_super ((says told).form i) ((says told).next_slot i) ((says told).next_page i)) ∙ ap front_of (sym (same_bytes told))
+
+    before : IsTrue tells → version_of mid.store.state.bytes ≢ 2
+    before told two = older ((says told).version ∙ ap version_of (sym (same_bytes told)) ∙ two)
+
     facts : IsTrue tells → Upgraded index mid.store.state.bytes (put mid.store.state.bytes 0 bytes)
-    facts told =
-        upgraded index laws mid.store.state.bytes bytes front (rests.tied told).sound long
-        (subst (λ (d : List ℕ). SaysSuper (page_bytes d 0) front) (sym (same_bytes told)) (says told)) older written
+    facts told = is_upgraded index laws mid.store.state.bytes bytes (rests.tied told).sound long (before told) (subst (SaysSuper bytes) (front_is told) written)
+
+    -- the data is that of version 2
+    put_is : IsTrue tells → put mid.store.state.bytes 0 bytes ≡ upgraded old.store.state.bytes
+    put_is told =
+        ap (put mid.store.state.bytes 0) (as_bytes ∙ ap super_bytes (front_is told)) ∙ sym (older_upgraded mid.store.state.bytes (before told)) ∙ ap upgraded (same_bytes told)
 
     behind : PagesState
     behind = page.after (page.atomic_write 0 0 bytes) (pages.state_of mid)
@@ -179,6 +212,16 @@ module _ (tells : Bool) (Opens : List ℕ → List ℕ → Type 0) (index : Inde
           | inl was ↦ record { bytes = mid.store.state.bytes; opened = was; sound = (rests.tied told).sound; shows = refl }
           | inr is ↦ record { bytes = put mid.store.state.bytes 0 bytes; opened = is; sound = (facts told).sound; shows = (facts told).records }
         ]) (does.time told living)
+
+    exact_of : (r : Result (Unit {0}) PageFault) → page_does.Does tells Opens (page.atomic_write 0 0 bytes) mid new r → IsTrue tells
+        → LeavesOnly (OpensUpgraded Opens old.store.state.bytes) old.store new.store
+    unfolding behind
+    exact_of r does told =
+        then (look_exact old mid false alive looks told)
+        (weaker (λ image either. elim either [
+          | inl was ↦ inl (subst (Opens image) (same_bytes told) was)
+          | inr is ↦ inr (subst (Opens image) (put_is told) is)
+        ]) (does.time told living))
 
     done : page_does.Does {T = Unit {0}} tells Opens (page.atomic_write 0 0 bytes) mid new (Ok tt) → Moved tells Opens index 0 mid new
     done does =
@@ -212,15 +255,15 @@ module _ (tells : Bool) (Opens : List ℕ → List ℕ → Type 0) (index : Inde
 
     pub wrote : (r : Result (Unit {0}) PageFault) → page_does.Does tells Opens (page.atomic_write 0 0 bytes) mid new r → Upgrades tells Opens index old new (told_as r) × Holds tells index new
     wrote (Ok tt) does =
-        let then = done does in
-        let moved = moved_then tells Opens index 0 old mid new looked_moved then in
+        let over = done does in
+        let moved = moved_then tells Opens index 0 old mid new looked_moved over in
         let now = λ (told : IsTrue tells). ap (λ (s : PagesState). s.store.bytes) (does.done.state told) in (
-          moved_upgrades old new (Ok tt) refl alive moved (λ told. ap version_of (now told) ∙ (facts told).version)
+          moved_upgrades old new (Ok tt) refl alive moved (λ told. now told ∙ put_is told) (λ told. ap version_of (now told) ∙ (facts told).version)
               (λ told. ap tables_of (now told) ∙ (facts told).tables ∙ ap tables_of (same_bytes told)) (λ told. ap (keys_of index) (now told) ∙ (facts told).keys ∙ ap (keys_of index) (same_bytes told))
-              (λ told two. absurd (older ((says told).version ∙ two))),
+              (λ told two. absurd (older ((says told).version ∙ two))) (exact_of (Ok tt) does),
           λ _. rests_moved tells Opens index 0 old new (holds alive) moved,
         )
-    wrote (Err fault.Media) does = (failed_upgrades old new alive (failed_then tells Opens index 0 old mid new looked_moved (broken does)), holds_dead new (does.dies refl))
+    wrote (Err fault.Media) does = (failed_upgrades old new alive (failed_then tells Opens index 0 old mid new looked_moved (broken does)) (exact_of (Err fault.Media) does), holds_dead new (does.dies refl))
     wrote (Err fault.Dead) does = absurd (false≢true (sym living ∙ does.cause))
     wrote (Err fault.SavesFull) does = absurd does.cause.1
     wrote (Err (fault.LogFull g h n)) does = absurd (page_fits mid.store.shape bytes g h n entries long does.cause.1)

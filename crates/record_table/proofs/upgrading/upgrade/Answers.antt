@@ -46,7 +46,7 @@ returns-clause-upgrades g c =
     let long : length bytes ≡ 512 = omega arith in
     let older : front.version ≢ 2 = λ e. omega (arith, e, c.if-front-eq-VERSION.false) in
     (wrote g.S.EawStore.tells (g.S.EawStore.opens (V old.store).shape) g.K.KeyIndex.index laws (pages_of (V old.store) old) (pages_of (V mid.store) mid) (pages_of (V new.store) new) bytes front long
-    (g.met.S.EawStore.shaped mid.store).some_entries c.in_ok-front.ensures.cause c.requires.holds c.in_ok-front.ensures.looks c.in_ok-front.ensures.says older c.main_super-bytes.ensures.says c.atomic_write.result
+    (g.met.S.EawStore.shaped mid.store).some_entries c.in_ok-front.ensures.cause c.requires.holds c.in_ok-front.ensures.looks c.in_ok-front.ensures.says older c.main_super-bytes.ensures.says c.main_super-bytes.ensures.bytes c.atomic_write.result
     (subst (λ (s : Shape). page_does.Does g.S.EawStore.tells (g.S.EawStore.opens s) (page.atomic_write 0 0 bytes) (pages_of (V mid.store) mid) (pages_of (V new.store) new) c.atomic_write.result) c.in_ok-front.ensures.looks.shape c.atomic_write.ensures.does)).0
 
 pub returns-clause-holds : goal.returns-clause-holds
@@ -62,5 +62,5 @@ returns-clause-holds g c =
     let long : length bytes ≡ 512 = omega arith in
     let older : front.version ≢ 2 = λ e. omega (arith, e, c.if-front-eq-VERSION.false) in
     (wrote g.S.EawStore.tells (g.S.EawStore.opens (V old.store).shape) g.K.KeyIndex.index laws (pages_of (V old.store) old) (pages_of (V mid.store) mid) (pages_of (V new.store) new) bytes front long
-    (g.met.S.EawStore.shaped mid.store).some_entries c.in_ok-front.ensures.cause c.requires.holds c.in_ok-front.ensures.looks c.in_ok-front.ensures.says older c.main_super-bytes.ensures.says c.atomic_write.result
+    (g.met.S.EawStore.shaped mid.store).some_entries c.in_ok-front.ensures.cause c.requires.holds c.in_ok-front.ensures.looks c.in_ok-front.ensures.says older c.main_super-bytes.ensures.says c.main_super-bytes.ensures.bytes c.atomic_write.result
     (subst (λ (s : Shape). page_does.Does g.S.EawStore.tells (g.S.EawStore.opens s) (page.atomic_write 0 0 bytes) (pages_of (V mid.store) mid) (pages_of (V new.store) new) c.atomic_write.result) c.in_ok-front.ensures.looks.shape c.atomic_write.ensures.does)).1
