@@ -1,24 +1,22 @@
 -- What an index guarantees of the pairs of all tables together.
-use Rattle.std.proofs.Common.{◌≡◌, ◌≢◌, ◌^◌, ℕ, ◌+◌, ◌-◌, ◌<◌, ◌≤◌, ◌⊎◌, Bool, true, false, cond, inl, inr, List, [], ◌∷◌, length, refl, sym, ◌∙◌, ap, subst, arith}
+use Rattle.std.proofs.Common.{◌≡◌, ◌≢◌, ◌^◌, ℕ, ◌+◌, ◌-◌, ◌<◌, ◌≤◌, Bool, true, false, cond, inl, inr, List, [], ◌∷◌, length, refl, sym, ◌∙◌, ap, subst, arith}
 use Rattle.std.specs.Prelude.{zero, suc, nat_eq, if◌then◌else◌, slice_get, map, take, Option, Some, None}
 use Rattle.std.specs.Option.{option_map}
-use Rattle.std.specs.Map.{update}
 use Rattle.std.proofs.lemmas.Bool.{cases_eq, eq-eqb}
 use Rattle.std.proofs.lemmas.Bool.Decides.{eqb_tells}
 use Rattle.std.proofs.lemmas.List.{append-nil}
 use Rattle.std.proofs.lemmas.Option.{same_Some}
 use Rattle.record_slots.specs.Slots.{slot_said}
 use Rattle.record_slots.specs.Super.{next_slot_said, next_page_said, tables_said, free_slot_in, free_slots_in, free_pages_in}
-use Rattle.record_slots.specs.Places.{page_bytes, slot_of, next_slot, next_page, tables_of, root_of, slot_due, used_slots, IsOfKey, Carries, AreGiven}
+use Rattle.record_slots.specs.Places.{page_bytes, slot_of, next_slot, next_page, tables_of, root_of, slot_due, IsOfKey, Carries, AreGiven}
 use Rattle.record_slots.specs.declared.super_page.TableEntry.{TableEntry}
 use Rattle.record_slots.specs.declared.slot.Slot.{Slot}
 use Rattle.record_slots.specs.declared.slot.Slot.TheVariants.{Absent, Present}
-use Rattle.history.specs.Key.{is_same_key}
 use Rattle.page_store.specs.Pairs.{Pair, Rise, found, next}
 use Rattle.page_store.specs.Index.{Index, IsTable, HasCounts, KeepsIndex, Grows, Rests, Gains, IsEmptyRoot, Extends}
 use Rattle.record_table.specs.State.{key_in, GainsKey, KeepsKeys, TakesPages}
 use Rattle.record_table.specs.Shown.{write_said, asked_tables, in_table, pairs_from, pairs_of, level_under, keys_of}
-use Rattle.record_table.proofs.Joint.{root_in, Each, each_of, Rises, IsPast, found_from, found_some, rises_from, next_from, next_none, pairs_same, found_inserted, gained_from, key_apart}
+use Rattle.record_table.proofs.Joint.{root_in, Each, each_of, Rises, IsPast, found_from, found_some, rises_from, next_from, next_none, pairs_same, found_inserted, gained_from}
 
 -- what an index guarantees about its data
 pub record Laws (index : Index) : Type 0 where
@@ -48,7 +46,7 @@ key_said (Some (Absent j k)) table key is = λ i. key_in (is.0 i) (is.1 i)
 key_said (Some (Present j k v)) table key is = λ i. key_in (is.0 i) (is.1 i)
 
 -- the slot of a key that is found
-found_given : (bytes : List ℕ) (table : ℕ) (ps : List Pair) (key slot : ℕ) → AreGiven bytes table ps → found ps key ≡ Some slot → (slot < next_slot bytes) × Carries bytes table (key, slot)
+pub found_given : (bytes : List ℕ) (table : ℕ) (ps : List Pair) (key slot : ℕ) → AreGiven bytes table ps → found ps key ≡ Some slot → (slot < next_slot bytes) × Carries bytes table (key, slot)
 found_given bytes table [] key slot given is = absurd (cc)
 found_given bytes table (p ∷ ps) key slot given is = elim (eqb_tells p.0 key) [
   | inl same ↦
@@ -73,6 +71,12 @@ first_has (suc n) [] j root lt is = is
 first_has (suc n) (entry ∷ entries) zero root lt is = is
 first_has (suc n) (entry ∷ entries) (suc j) root lt is = first_has n entries j root (omega arith) is
 
+first_below : (n : ℕ) (tables : List TableEntry) (j root : ℕ) → root_in (take n tables) j ≡ Some root → j < n
+first_below zero tables j root is = absurd (cc)
+first_below (suc n) [] j root is = absurd (cc)
+first_below (suc n) (entry ∷ entries) zero root is = omega arith
+first_below (suc n) (entry ∷ entries) (suc j) root is = omega (arith, first_below n entries j root is)
+
 -- the tables that can be asked for
 abbrev pub asked_of : List ℕ → List TableEntry
 asked_of d = take asked_tables (tables_of d)
@@ -86,6 +90,7 @@ module _ (index : Index) (laws : Laws index) where
     pub table : ℕ
     pub root : ℕ
     pub key : ℕ
+    pub asked : table < asked_tables
     pub there : IsTable d table root
     pub is : q ≡ key_in table key
     pub small : key < 2 ^ 64
@@ -103,6 +108,7 @@ module _ (index : Index) (laws : Laws index) where
         table = f.number;
         root = f.root;
         key = f.key;
+        asked = first_below asked_tables (tables_of d) f.number f.root f.there;
         there = named;
         is = f.is ∙ ap (λ (m : ℕ). key_in m f.key) (let z : 0 + f.number ≡ f.number = omega arith in z);
         small = f.small;
