@@ -6,6 +6,8 @@ mod histories;
 mod lists;
 mod opening;
 mod queues;
+mod removals;
 mod reply_texts;
 mod retries;
 mod samples;
+mod untold_media;

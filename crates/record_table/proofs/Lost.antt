@@ -2,8 +2,9 @@
 use Rattle.std.proofs.Common.{◌≡◌, ◌≢◌, ◌^◌, ℕ, suc, ◌+◌, ◌-◌, ◌*◌, ◌/◌, ◌<◌, ◌≤◌, Bool, true, false, cond, inl, inr, List, [], ◌∷◌, refl, sym, ◌∙◌, ap, subst, arith}
 use Rattle.std.specs.Prelude.{nat_eq, slice_get, Option, Some, None, IsSome}
 use Rattle.std.specs.Option.{option_map}
+use Rattle.std.specs.List.{list_any}
 use Rattle.std.specs.FinMap.{get}
-use Rattle.std.proofs.lemmas.Bool.{cases_eq, eq-eqb, ne_eqb}
+use Rattle.std.proofs.lemmas.Bool.{cases_eq, eq-eqb, ne_eqb, true≢false, or_parts}
 use Rattle.std.proofs.lemmas.Bool.Decides.{eqb_tells}
 use Rattle.array_shape.specs.Logged.{Part}
 use Rattle.record_slots.specs.Slots.{slot_said}
@@ -11,12 +12,13 @@ use Rattle.record_slots.specs.Places.{slot_of, next_slot, slot_due, free_slot, f
 use Rattle.record_slots.specs.declared.super_page.TableEntry.{TableEntry}
 use Rattle.record_slots.specs.declared.slot.Slot.{Slot}
 use Rattle.record_slots.specs.declared.slot.Slot.TheVariants.{Absent, Present}
+use Rattle.history.specs.Writes.{is_of}
 use Rattle.history.proofs.Tables.{same_table}
 use Rattle.page_store.specs.Index.{Index, IsTable}
 use Rattle.page_store.specs.Pairs.{Pair, Rise, found, removed}
 use Rattle.page_store.specs.Removes.{HasAbsent, Shrinks}
 use Rattle.record_table.specs.Invariant.{AreSlotParts}
-use Rattle.record_table.specs.Removing.{AreOther, IsKept, removal_under, Loses}
+use Rattle.record_table.specs.Removing.{IsKept, removal_under, Loses}
 use Rattle.record_table.specs.Shown.{value_of, table_in, table_of, write_of, writes_of, asked_tables, pairs_of, keys_of}
 use Rattle.record_table.specs.State.{LosesKey, key_in}
 use Rattle.record_table.proofs.Sharing.{Laws, Placed, placed, found_given, found_in, carries_one, level_same}
@@ -170,21 +172,22 @@ module _ (index : Index) (laws : Laws index) (table root key : ℕ) (asked : tab
               ∙ record_kept (found (pairs_of index d) q) q (λ x. ne (sym x)) refl ∙ sym (get-table_in d (pairs_of index d) q)
         ])
 
-    pub parts_kept : (log : List Part) → AreSlotParts index d log → AreOther (key_in table key) (writes_of log) → AreSlotParts index e log
+    pub parts_kept : (log : List Part) → AreSlotParts index d log → list_any (is_of (key_in table key)) (writes_of log) ≡ false → AreSlotParts index e log
     parts_kept [] parts other = tt
-    parts_kept (p ∷ ps) parts other = (
-      record {
-        slot = parts.0.slot;
-        named = still (write_of p).0 parts.0.slot other.0 parts.0.named;
-        place = parts.0.place ∙ ap (λ (n : ℕ). 64 * (4 * (n / 512) + parts.0.slot)) (sym shrinks.size);
-        size = parts.0.size;
-        table = parts.0.table;
-        key = parts.0.key;
-        small = parts.0.small;
-        says = parts.0.says;
-      },
-      parts_kept ps parts.1 other.1,
-    )
+    parts_kept (p ∷ ps) parts other =
+        let apart = or_parts (is_of (key_in table key) (write_of p)) (list_any (is_of (key_in table key)) (writes_of ps)) other in (
+          record {
+            slot = parts.0.slot;
+            named = still (write_of p).0 parts.0.slot (λ e. true≢false (sym (eq-eqb (write_of p).0 (key_in table key) e) ∙ apart.0)) parts.0.named;
+            place = parts.0.place ∙ ap (λ (n : ℕ). 64 * (4 * (n / 512) + parts.0.slot)) (sym shrinks.size);
+            size = parts.0.size;
+            table = parts.0.table;
+            key = parts.0.key;
+            small = parts.0.small;
+            says = parts.0.says;
+          },
+          parts_kept ps parts.1 apart.1,
+        )
 
     due_is : slot_due e ≡ slot
     due_is =

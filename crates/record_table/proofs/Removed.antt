@@ -4,10 +4,12 @@ use Rattle.std.specs.Prelude.{map, IsFalse}
 use Rattle.std.proofs.lemmas.Bool.{false≢true}
 use Rattle.mars_base.proofs.Going.{stays, weaker}
 use Rattle.array_shape.specs.Logged.{Part}
+use Rattle.std.specs.List.{list_any}
 use Rattle.eaw_face.specs.State.{listed}
 use Rattle.eaw_face.specs.StoreView.{LeavesOnly}
 use Rattle.eaw_face.specs.Causes.{IsAlive}
 use Rattle.record_slots.specs.Places.{version_of, tables_of}
+use Rattle.history.specs.Writes.{is_of}
 use Rattle.page_store.specs.Fits.{FitAll, IsFirstLacking}
 use Rattle.page_store.specs.Index.{Index, IsTable}
 use Rattle.page_store.specs.Looks.{is_failed}
@@ -19,7 +21,7 @@ use Rattle.record_table.specs.Does.{OpensWith}
 use Rattle.record_table.specs.Does as answers
 use Rattle.record_table.specs.Faults.{told_as}
 use Rattle.record_table.specs.Invariant.{AreSlotParts, Holds}
-use Rattle.record_table.specs.Removing.{AreOther, IsAbsent, IsUnwritten, Takes, RemoveCause, Lost, Removes, removal_under}
+use Rattle.record_table.specs.Removing.{IsAbsent, IsUnwritten, Takes, RemoveCause, Lost, Removes, removal_under}
 use Rattle.record_table.specs.Shown.{table_of, writes_of, state_of, asked_tables}
 use Rattle.record_table.specs.State.{key_in}
 use Rattle.record_table.specs.declared.fault.TableFault.TheVariants as refusal
@@ -33,7 +35,7 @@ record Alike (index : Index) (key : ℕ) (d e : List ℕ) : Type 0 where
   version : version_of e ≡ version_of d
   tables : tables_of e ≡ tables_of d
   records : table_of index e ≡ table_of index d
-  parts : (log : List Part) → AreSlotParts index d log → AreOther key (writes_of log) → AreSlotParts index e log
+  parts : (log : List Part) → AreSlotParts index d log → list_any (is_of key) (writes_of log) ≡ false → AreSlotParts index e log
 
 alike_same : (index : Index) (key : ℕ) (d e : List ℕ) → index.sound d → e ≡ d → Alike index key d e
 alike_same index key d e sound same = subst (λ (x : List ℕ). Alike index key d x) (sym same) (record { sound = sound; version = refl; tables = refl; records = refl; parts = λ log parts other. parts })
@@ -147,6 +149,7 @@ module _ (tells : Bool) (Opens : List ℕ → List ℕ → Type 0) (index : Inde
     version = λ told _. refl;
     tables = λ told _. refl;
     saves = refl;
+    ranges = λ _ u. refl;
     others = λ u ne. refl;
     time = λ told _. stays old.store.moment old.store.left_since _;
   }
@@ -169,6 +172,7 @@ module _ (tells : Bool) (Opens : List ℕ → List ℕ → Type 0) (index : Inde
             version = λ told _. (same told).version;
             tables = λ told _. (same told).tables;
             saves = moved.counts;
+            ranges = λ _. moved.ranges;
             others = moved.others;
             time = λ told _. moved.time told;
           },
@@ -189,6 +193,7 @@ module _ (tells : Bool) (Opens : List ℕ → List ℕ → Type 0) (index : Inde
             version = λ told well. absurd (false≢true (sym well));
             tables = λ told well. absurd (false≢true (sym well));
             saves = failed.counts;
+            ranges = λ well. absurd (false≢true (sym well));
             others = failed.others;
             time = λ told _. failed.time told;
           },

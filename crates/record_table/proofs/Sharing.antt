@@ -1,22 +1,24 @@
 -- What an index guarantees of the pairs of all tables together.
-use Rattle.std.proofs.Common.{◌≡◌, ◌≢◌, ◌^◌, ℕ, ◌+◌, ◌-◌, ◌<◌, ◌≤◌, Bool, true, false, cond, inl, inr, List, [], ◌∷◌, length, refl, sym, ◌∙◌, ap, subst, arith}
+use Rattle.std.proofs.Common.{◌≡◌, ◌≢◌, ◌^◌, ℕ, ◌+◌, ◌-◌, ◌<◌, ◌≤◌, ◌⊎◌, Bool, true, false, cond, inl, inr, List, [], ◌∷◌, length, refl, sym, ◌∙◌, ap, subst, arith}
 use Rattle.std.specs.Prelude.{zero, suc, nat_eq, if◌then◌else◌, slice_get, map, take, Option, Some, None}
 use Rattle.std.specs.Option.{option_map}
+use Rattle.std.specs.Map.{update}
 use Rattle.std.proofs.lemmas.Bool.{cases_eq, eq-eqb}
 use Rattle.std.proofs.lemmas.Bool.Decides.{eqb_tells}
 use Rattle.std.proofs.lemmas.List.{append-nil}
 use Rattle.std.proofs.lemmas.Option.{same_Some}
 use Rattle.record_slots.specs.Slots.{slot_said}
 use Rattle.record_slots.specs.Super.{next_slot_said, next_page_said, tables_said, free_slot_in, free_slots_in, free_pages_in}
-use Rattle.record_slots.specs.Places.{page_bytes, slot_of, next_slot, next_page, tables_of, root_of, slot_due, IsOfKey, Carries, AreGiven}
+use Rattle.record_slots.specs.Places.{page_bytes, slot_of, next_slot, next_page, tables_of, root_of, slot_due, used_slots, IsOfKey, Carries, AreGiven}
 use Rattle.record_slots.specs.declared.super_page.TableEntry.{TableEntry}
 use Rattle.record_slots.specs.declared.slot.Slot.{Slot}
 use Rattle.record_slots.specs.declared.slot.Slot.TheVariants.{Absent, Present}
+use Rattle.history.specs.Key.{is_same_key}
 use Rattle.page_store.specs.Pairs.{Pair, Rise, found, next}
 use Rattle.page_store.specs.Index.{Index, IsTable, HasCounts, KeepsIndex, Grows, Rests, Gains, IsEmptyRoot, Extends}
 use Rattle.record_table.specs.State.{key_in, GainsKey, KeepsKeys, TakesPages}
 use Rattle.record_table.specs.Shown.{write_said, asked_tables, in_table, pairs_from, pairs_of, level_under, keys_of}
-use Rattle.record_table.proofs.Joint.{root_in, Each, each_of, Rises, IsPast, found_from, found_some, rises_from, next_from, next_none, pairs_same, found_inserted, gained_from}
+use Rattle.record_table.proofs.Joint.{root_in, Each, each_of, Rises, IsPast, found_from, found_some, rises_from, next_from, next_none, pairs_same, found_inserted, gained_from, key_apart}
 
 -- what an index guarantees about its data
 pub record Laws (index : Index) : Type 0 where

@@ -1,12 +1,14 @@
 -- Which keys may be taken out of the indexes, how they are found, and what taking one out does.
 use Rattle.std.specs.Prelude.{ℕ, ◌≡◌, ◌≢◌, ◌^◌, ◌<◌, ◌≤◌, Bool, true, false, IsTrue, IsFalse, List, [], ◌∷◌, Option, Some, None, IsSome, Result, Ok, Err}
+use Rattle.std.specs.List.{list_any}
 use Rattle.std.specs.FinMap.{get}
 use Rattle.mars_base.specs.Causes.{Rose}
+use Rattle.eaw_face.specs.State.{listed}
 use Rattle.eaw_face.specs.StoreView.{LeavesOnly}
 use Rattle.eaw_face.specs.Causes.{IsAlive}
 use Rattle.record_slots.specs.Places.{version_of, tables_of, root_of}
 use Rattle.history.specs.Key.{Key}
-use Rattle.history.specs.Writes.{Write}
+use Rattle.history.specs.Writes.{is_of}
 use Rattle.page_store.specs.Fits.{FitAll, IsFirstLacking}
 use Rattle.page_store.specs.Index.{Index}
 use Rattle.page_store.specs.Pairs.{found}
@@ -23,14 +25,9 @@ use Rattle.record_table.specs.declared.scanning.Next.{Next}
 abbrev pub IsAbsent : Index → List ℕ → Key → Type 0
 IsAbsent index bytes key = IsSome (found (pairs_of index bytes) key) × (get (table_of index bytes) key ≡ None)
 
--- none of these writes is one of the key
-abbrev pub AreOther : Key → List Write → Type 0
-AreOther key [] = Unit {0}
-AreOther key (write ∷ writes) = (write.0 ≢ key) × AreOther key writes
-
 -- no number has written the key
 abbrev pub IsUnwritten : Index → PagesView → Key → Type 0
-IsUnwritten index old key = (t : ℕ) → AreOther key ((state_of index old).logs t).writes
+IsUnwritten index old key = (t : ℕ) → IsFalse (list_any (is_of key) ((state_of index old).logs t).writes)
 
 -- no key of a table from one to below another is absent
 abbrev pub HasNoAbsent : Index → List ℕ → ℕ → ℕ → ℕ → Type 0
@@ -107,5 +104,6 @@ pub record Removes (tells : Bool) (Opens : List ℕ → List ℕ → Type 0) (in
   pub version : IsTrue tells → IsFalse (is_failed result) → version_of new.store.state.bytes ≡ version_of old.store.state.bytes
   pub tables : IsTrue tells → IsFalse (is_failed result) → tables_of new.store.state.bytes ≡ tables_of old.store.state.bytes
   pub saves : new.counts ≡ old.counts
+  pub ranges : IsFalse (is_failed result) → (u : ℕ) → listed (new.store.ranges u) ≡ listed (old.store.ranges u)
   pub others : (u : ℕ) → u ≢ t → new.store.ranges u ≡ old.store.ranges u
   pub time : IsTrue tells → IsAlive old.store → LeavesOnly (λ image. OpensWith Opens index image (state_of index old).table) old.store new.store
