@@ -5,6 +5,7 @@ mod groups;
 mod histories;
 mod lists;
 mod opening;
+mod purges;
 mod queues;
 mod removals;
 mod reply_texts;

@@ -148,6 +148,7 @@ module _ (tells : Bool) (Opens : List ℕ → List ℕ → Type 0) (index : Inde
     lost = λ told alive. refl;
     version = λ told _. refl;
     tables = λ told _. refl;
+    sound = λ told living. absurd (false≢true (sym living ∙ dead));
     saves = refl;
     ranges = λ _ u. refl;
     others = λ u ne. refl;
@@ -171,6 +172,7 @@ module _ (tells : Bool) (Opens : List ℕ → List ℕ → Type 0) (index : Inde
             lost = λ told living. lost_so new told living r (does.made told living);
             version = λ told _. (same told).version;
             tables = λ told _. (same told).tables;
+            sound = λ told living. (same told).sound;
             saves = moved.counts;
             ranges = λ _. moved.ranges;
             others = moved.others;
@@ -192,6 +194,7 @@ module _ (tells : Bool) (Opens : List ℕ → List ℕ → Type 0) (index : Inde
             lost = λ told living. tt;
             version = λ told well. absurd (false≢true (sym well));
             tables = λ told well. absurd (false≢true (sym well));
+            sound = λ told living. absurd (false≢true (sym living ∙ failed.dies.0));
             saves = failed.counts;
             ranges = λ well. absurd (false≢true (sym well));
             others = failed.others;

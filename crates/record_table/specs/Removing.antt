@@ -92,7 +92,7 @@ Lost index table key old new (Err Media) = Unit {0}
 Lost index table key old new result = new ≡ old
 
 -- Taking a key of a table out of its index, as number t. The records of all tables, and what every number has written and saved, are as they
--- were, and so are version and tables. Media leaves the store dead. At each moment of a store that was not dead, a loss of power leaves what
+-- were, and so are version and tables; the data stays sound. Media leaves the store dead. At each moment of a store that was not dead, a loss of power leaves what
 -- it might have left before, or an image that opens with the records.
 pub record Removes (tells : Bool) (Opens : List ℕ → List ℕ → Type 0) (index : Index) (table t key : ℕ) (old new : PagesView) (result : Result Bool TableFault) : Type 0 where
   pub shape : new.store.shape ≡ old.store.shape
@@ -103,6 +103,7 @@ pub record Removes (tells : Bool) (Opens : List ℕ → List ℕ → Type 0) (in
   pub lost : IsTrue tells → IsAlive old.store → Lost index table key old.store.state.bytes new.store.state.bytes result
   pub version : IsTrue tells → IsFalse (is_failed result) → version_of new.store.state.bytes ≡ version_of old.store.state.bytes
   pub tables : IsTrue tells → IsFalse (is_failed result) → tables_of new.store.state.bytes ≡ tables_of old.store.state.bytes
+  pub sound : IsTrue tells → IsAlive new.store → index.sound new.store.state.bytes
   pub saves : new.counts ≡ old.counts
   pub ranges : IsFalse (is_failed result) → (u : ℕ) → listed (new.store.ranges u) ≡ listed (old.store.ranges u)
   pub others : (u : ℕ) → u ≢ t → new.store.ranges u ≡ old.store.ranges u

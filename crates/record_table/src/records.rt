@@ -1,5 +1,5 @@
 // Records over pages, under an index.
-ghost use Rattle.std.specs.Prelude.{◌≡◌, ◌<◌, ◌≤◌, ℕ, [], None, IfOk, IfErr, OnErr, IsErrOf, IsTrue, if◌then◌else◌, filter, length};
+ghost use Rattle.std.specs.Prelude.{◌≡◌, ◌<◌, ◌≤◌, ℕ, [], None, IfOk, IfErr, IfSome, OnErr, IsErrOf, IsTrue, if◌then◌else◌, filter, length};
 ghost use Rattle.array_shape.specs.NumberSet.{members};
 ghost use Rattle.eaw_face.specs.Causes.{IsAlive};
 ghost use Rattle.eaw_face.specs.State.{listed};
@@ -276,6 +276,7 @@ impl<S: EawStore, K: KeyIndex> Records<S, K> {
             (pages_of (S.view self.old.store) self.old) (pages_of (S.view self.new.store) self.new) }
         ensures cause { SearchCause S.tells (pages_of (S.view self.old.store) self.old) result }
         ensures next { IsTrue S.tells → IfOk result (IsNextAbsent K.index (S.view self.old.store).state.bytes table from) }
+        ensures inside { IfOk result (λ key. IfSome key (λ key. from ≤ key)) }
         ensures dead { IsErrOf result TableFault.Dead → self.new ≡ self.old }
     {
         if self.pages.is_dead() {

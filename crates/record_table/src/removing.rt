@@ -87,6 +87,7 @@ pub fn next_absent<S: EawStore, K: KeyIndex>(
         (pages_of (S.view pages.old.store) pages.old) (pages_of (S.view pages.new.store) pages.new) }
     ensures cause { LookCause S.tells (S.view pages.old.store) result }
     ensures next { IsTrue S.tells → IfOk result (IsNextAbsent K.index (S.view pages.old.store).state.bytes table from) }
+    ensures inside { IfOk result (λ key. IfSome key (λ key. from ≤ key)) }
 {
     let mut low = from;
     loop {

@@ -19,7 +19,7 @@ use std::test::Fail;
 
 // The numbers of forms in a super page.
 const CHAIN: u8 = 0;
-const TREE: u8 = 1;
+pub const TREE: u8 = 1;
 
 const MAIN: u8 = 0;
 
@@ -59,7 +59,7 @@ fn close<M: Media + Drop, K: KeyIndex>(records: Table<M, K>) -> M {
 }
 
 // Key 5 gets a record, which is then removed.
-fn key_5_without_record<K: KeyIndex>(alloc: Global, form: u8) -> Option<MemoryMedia> {
+pub fn key_5_without_record<K: KeyIndex>(alloc: Global, form: u8) -> Option<MemoryMedia> {
     let mut records = open::<MemoryMedia, K>(alloc, array_of(alloc, form)?)?;
     records.put(0, 5, Value::of(b"abc")?).ok()?;
     records.commit(0).ok()?;
