@@ -12,3 +12,6 @@ pub mod Answered
 pub mod Finishing
 pub mod Opening
 pub mod Attaching
+pub mod Unwritten
+pub mod Clearing
+pub mod Purged

@@ -6,3 +6,4 @@ pub mod Kept
 pub mod Attached
 pub mod TableCall
 pub mod Works
+pub mod Purging

@@ -11,6 +11,7 @@ mod fault;
 mod live;
 mod locks;
 mod masks;
+mod purging;
 mod replies;
 mod seats;
 mod table_call;

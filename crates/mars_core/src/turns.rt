@@ -10,14 +10,17 @@ ghost use Rattle.history.specs.declared.locks.Mode.TheVariants.{Shared, Exclusiv
 ghost use Rattle.history.specs.declared.call.Reply.TheVariants.{Dead};
 ghost use Rattle.caller_steps.specs.Core.{Steps};
 ghost use Rattle.caller_steps.specs.Fate.{is_busy};
+ghost use Rattle.caller_steps.specs.Purging.{Purges};
 ghost use Rattle.caller_steps.specs.Locked.{IsLocked};
 ghost use Rattle.caller_steps.specs.State.{calls_of};
+ghost use Rattle.record_slots.specs.Places.{version_of};
 ghost use Rattle.record_table.specs.Shown.{state_of};
 ghost use Rattle.mars_core.specs.Attached.{CoreCause, GivesBack, is_media_fault};
 ghost use Rattle.mars_core.specs.declared.locks.Locks.TheVariants.{Held};
 ghost use Rattle.mars_core.specs.Held.{core_of};
 ghost use Rattle.mars_core.specs.Masks.{IsMaskOf};
 ghost use Rattle.mars_core.specs.Over.{Begins, IsOver};
+ghost use Rattle.mars_core.specs.Purging.{Keeps};
 ghost use Rattle.mars_core.specs.Seats.{live_in};
 ghost use Rattle.mars_core.specs.TableCall.{call_of};
 ghost use Rattle.mars_core.specs.Works.{IsShown};
@@ -27,6 +30,7 @@ use crate::doubt::Doubt;
 use crate::fault::CoreFault;
 use crate::live::Live;
 use crate::locks::Locks;
+use crate::purging::clear;
 use crate::seats::Seats;
 use crate::table_call::{Asked, TableCall};
 use caller_steps::Core as Steps;
@@ -143,6 +147,27 @@ impl<S: EawStore, K: KeyIndex> Core<S, K> {
             doubt: _,
         } = self;
         records.into_pages().into_store()
+    }
+
+    /// Takes keys without records out of the index, so that their slots are given again: each key of `main` whose stripe no live transaction
+    /// touches is tried once, by rising key. Returns how many were taken out. A key stays whose pair its page keeps as the last one. What
+    /// callers see stays as it is. It is refused with `Dead`, then with `Already` if the caller has a live transaction, and with `Media`.
+    pub fn purge(&mut self, caller: u8) -> Result<u32, Reply>
+        requires inside { caller < (S.view self.old.records.store).shape.numbers }
+        requires lists { IsTrue S.tells → IsAlive (S.view self.old.records.store) → version_of (S.view self.old.records.store).state.bytes ≡ 2 }
+        ensures purges { Purges S.tells (Keeps K.index) caller (core_of S.opens K.index (S.view self.old.records.store) self.old)
+            (core_of S.opens K.index (S.view self.new.records.store) self.new) result }
+    {
+        if self.records.is_dead() {
+            return Err(Reply::Dead);
+        }
+        if self.seats.is_live(caller) {
+            return Err(Reply::Already);
+        }
+        match clear(&mut self.records, &self.seats, caller) {
+            Ok(taken) => Ok(taken),
+            Err(fault) => Err(Reply::from(fault)),
+        }
     }
 
     fn begin(&mut self, caller: u8) -> Reply

@@ -19,3 +19,6 @@ pub mod Fronts
 pub mod Main
 pub mod Upgraded
 pub mod Versions
+pub mod Following
+pub mod Lost
+pub mod Removed

@@ -173,7 +173,7 @@ module _ (tells : Bool) (Opens : List ℕ → List ℕ → Type 0) (index : Inde
       (λ told. found_fine (get (seen_by (state_of index old) t) (key_in table key)) (seen told)) (λ told. refl) keys (λ told g h n. keys told)
       (λ told _. look_bytes tells Opens index table t (Del (key_in table key)) old mid holds looks told) refl
 
-filter_short : (f : ℕ → Bool) (xs : List ℕ) → length (filter f xs) ≤ length xs
+pub filter_short : (f : ℕ → Bool) (xs : List ℕ) → length (filter f xs) ≤ length xs
 filter_short f [] = omega arith
 filter_short f (x ∷ xs) = go (f x) (filter_short f xs)
   where

@@ -29,11 +29,11 @@ use Rattle.record_table.proofs.Tables.{record_at}
 use Rattle.record_table.proofs.Sharing.{Laws, placed}
 use Rattle.record_table.proofs.SlotParts.{IsWritten, applied_parts, seen_at}
 
-slot_read : (e : List ℕ) (shape : Shape) (slot : ℕ) → length e ≡ data_len shape → range e (64 * (slots_of shape + slot)) 64 ≡ slot_of e slot
+pub slot_read : (e : List ℕ) (shape : Shape) (slot : ℕ) → length e ≡ data_len shape → range e (64 * (slots_of shape + slot)) 64 ≡ slot_of e slot
 unfolding slot_of
 slot_read e shape slot long = let at : 64 * (slots_of shape + slot) ≡ 64 * (4 * (length e / 512) + slot) = omega (arith, long) in ap (λ (n : ℕ). range e n 64) at
 
-no_slot : (table key : ℕ) (said : Option Slot) → said ≡ None → IsOfKey table key said → ⊥
+pub no_slot : (table key : ℕ) (said : Option Slot) → said ≡ None → IsOfKey table key said → ⊥
 no_slot table key said none of = subst (IsOfKey table key) none of
 
 module _ (index : Index) (laws : Laws index) (t key : ℕ) (old : PagesView) (tied : IsTied index old) where

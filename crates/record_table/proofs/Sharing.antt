@@ -48,7 +48,7 @@ key_said (Some (Absent j k)) table key is = λ i. key_in (is.0 i) (is.1 i)
 key_said (Some (Present j k v)) table key is = λ i. key_in (is.0 i) (is.1 i)
 
 -- the slot of a key that is found
-found_given : (bytes : List ℕ) (table : ℕ) (ps : List Pair) (key slot : ℕ) → AreGiven bytes table ps → found ps key ≡ Some slot → (slot < next_slot bytes) × Carries bytes table (key, slot)
+pub found_given : (bytes : List ℕ) (table : ℕ) (ps : List Pair) (key slot : ℕ) → AreGiven bytes table ps → found ps key ≡ Some slot → (slot < next_slot bytes) × Carries bytes table (key, slot)
 found_given bytes table [] key slot given is = absurd (cc)
 found_given bytes table (p ∷ ps) key slot given is = elim (eqb_tells p.0 key) [
   | inl same ↦
@@ -73,6 +73,12 @@ first_has (suc n) [] j root lt is = is
 first_has (suc n) (entry ∷ entries) zero root lt is = is
 first_has (suc n) (entry ∷ entries) (suc j) root lt is = first_has n entries j root (omega arith) is
 
+first_below : (n : ℕ) (tables : List TableEntry) (j root : ℕ) → root_in (take n tables) j ≡ Some root → j < n
+first_below zero tables j root is = absurd (cc)
+first_below (suc n) [] j root is = absurd (cc)
+first_below (suc n) (entry ∷ entries) zero root is = omega arith
+first_below (suc n) (entry ∷ entries) (suc j) root is = omega (arith, first_below n entries j root is)
+
 -- the tables that can be asked for
 abbrev pub asked_of : List ℕ → List TableEntry
 asked_of d = take asked_tables (tables_of d)
@@ -86,6 +92,7 @@ module _ (index : Index) (laws : Laws index) where
     pub table : ℕ
     pub root : ℕ
     pub key : ℕ
+    pub asked : table < asked_tables
     pub there : IsTable d table root
     pub is : q ≡ key_in table key
     pub small : key < 2 ^ 64
@@ -103,6 +110,7 @@ module _ (index : Index) (laws : Laws index) where
         table = f.number;
         root = f.root;
         key = f.key;
+        asked = first_below asked_tables (tables_of d) f.number f.root f.there;
         there = named;
         is = f.is ∙ ap (λ (m : ℕ). key_in m f.key) (let z : 0 + f.number ≡ f.number = omega arith in z);
         small = f.small;

@@ -11,3 +11,4 @@ pub mod Faults
 pub mod Scanned
 pub mod Form
 pub mod Upgrading
+pub mod Removing

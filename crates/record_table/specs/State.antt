@@ -1,5 +1,5 @@
 -- The model of records: a table, and what numbers have logged over it.
-use Rattle.std.specs.Prelude.{ℕ, zero, suc, ◌≡◌, ◌≤◌, ◌+◌, ◌^◌, List, map, Option, Some}
+use Rattle.std.specs.Prelude.{ℕ, zero, suc, ◌≡◌, ◌≤◌, ◌+◌, ◌^◌, map, Option, Some, None}
 use Rattle.std.specs.Map.{update}
 use Rattle.history.specs.Key.{Key, is_same_key}
 use Rattle.history.specs.Writes.{Table, all_written}
@@ -51,3 +51,14 @@ pub record TakesPages (old new : Keys) : Type 0 where
   pub few : new.next_page ≤ old.next_page + 9
   pub used : old.used_pages ≤ new.used_pages
   pub levels : (table : ℕ) → old.levels table ≤ new.levels table
+
+-- One key fewer: its slot is the one that is due now, and in use no more, and at most one page is given back. Nothing more is given out, and
+-- no level is lost.
+pub record LosesKey (key : Key) (old new : Keys) : Type 0 where
+  pub slot_of : new.slot_of ≡ update is_same_key old.slot_of key None
+  pub due : old.slot_of key ≡ Some new.due
+  pub slots : old.used_slots ≡ suc new.used_slots
+  pub fewer : new.used_pages ≤ old.used_pages
+  pub one_page : old.used_pages ≤ suc new.used_pages
+  pub next_page : new.next_page ≡ old.next_page
+  pub levels : new.levels ≡ old.levels

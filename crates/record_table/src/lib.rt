@@ -8,6 +8,7 @@
 mod fault;
 mod form;
 mod records;
+mod removing;
 mod scanning;
 mod slots;
 mod told;

@@ -1,5 +1,5 @@
 // Records over pages, under an index.
-ghost use Rattle.std.specs.Prelude.{◌≡◌, ◌<◌, ◌≤◌, ℕ, [], None, IfOk, IfErr, OnErr, IsErrOf, IsTrue, if◌then◌else◌, filter, length};
+ghost use Rattle.std.specs.Prelude.{◌≡◌, ◌<◌, ◌≤◌, ℕ, [], None, IfOk, IfErr, IfSome, OnErr, IsErrOf, IsTrue, if◌then◌else◌, filter, length};
 ghost use Rattle.array_shape.specs.NumberSet.{members};
 ghost use Rattle.eaw_face.specs.Causes.{IsAlive};
 ghost use Rattle.eaw_face.specs.State.{listed};
@@ -9,13 +9,17 @@ ghost use Rattle.history.specs.Table.{found};
 ghost use Rattle.history.specs.declared.call.Call.TheVariants.{Get, Put, Del, Scan, Save, Back, Commit, Abort};
 ghost use Rattle.history.specs.declared.call.Reply.TheVariants.{Fine, Absent, Listed, Saved, Committed};
 ghost use Rattle.record_table.specs.Attached.{Attached, AttachCause, is_refused_by_media};
+ghost use Rattle.record_slots.specs.Places.{version_of};
+ghost use Rattle.record_table.specs.Removing.{IsAbsent, IsUnwritten, IsNextAbsent, SearchCause, Removes};
+ghost use Rattle.record_table.specs.State.{key_in};
 ghost use Rattle.record_table.specs.Groups.{CommitsGroup, group_writes};
 ghost use Rattle.record_table.specs.Does.{Does, replied, is_failed};
-ghost use Rattle.record_table.specs.Shown.{state_of, pairs_of, held_on, is_write_on, AreNamed};
+ghost use Rattle.record_table.specs.Shown.{asked_tables, state_of, pairs_of, held_on, is_write_on, AreNamed};
 ghost use Rattle.record_table.specs.Sought.{LooksAs};
 ghost use Rattle.record_table.specs.Upgrading.{Upgrades};
 
 use crate::fault::{AttachRecords, TableFault};
+use crate::removing::{next_absent, remove};
 use crate::scanning::gather;
 use crate::slots::{seek, value_at, write_as};
 use crate::told::told;
@@ -262,6 +266,39 @@ impl<S: EawStore, K: KeyIndex> Records<S, K> {
         ensures dead { IsErrOf result TableFault.Dead → self.new ≡ self.old }
     {
         told(self.pages.end_group(tids))
+    }
+
+    /// The least key of a table from `from` on that has no record in the data, while the index of the table still has the key. Nothing is
+    /// changed.
+    pub fn next_absent(&mut self, table: u8, from: u64) -> Result<Option<u64>, TableFault>
+        requires { table < asked_tables }
+        ensures looks { Looks S.tells (S.opens (S.view self.old.store).shape) (is_failed result)
+            (pages_of (S.view self.old.store) self.old) (pages_of (S.view self.new.store) self.new) }
+        ensures cause { SearchCause S.tells (pages_of (S.view self.old.store) self.old) result }
+        ensures next { IsTrue S.tells → IfOk result (IsNextAbsent K.index (S.view self.old.store).state.bytes table from) }
+        ensures inside { IfOk result (λ key. IfSome key (λ key. from ≤ key)) }
+        ensures dead { IsErrOf result TableFault.Dead → self.new ≡ self.old }
+    {
+        if self.pages.is_dead() {
+            return Err(TableFault::Dead);
+        }
+        told(next_absent::<S, K>(&mut self.pages, table, MAIN_ROOT, from))
+    }
+
+    /// Takes a key of a table that has no record out of the index, as this number, and gives its slot back: the next key that is inserted
+    /// gets it. Returns whether it was taken out; a pair that its page keeps as its last one is not. No number may have written the key, and
+    /// the super page is of version 2.
+    pub fn remove(&mut self, tid: u8, table: u8, key: u64) -> Result<bool, TableFault>
+        requires tid { tid < (S.view self.old.store).shape.numbers }
+        requires table { table < asked_tables }
+        requires lists { IsTrue S.tells → IsAlive (S.view self.old.store) → version_of (S.view self.old.store).state.bytes ≡ 2 }
+        requires absent { IsTrue S.tells → IsAlive (S.view self.old.store) → IsAbsent K.index (S.view self.old.store).state.bytes (key_in table key) }
+        requires unwritten { IsTrue S.tells → IsAlive (S.view self.old.store) → IsUnwritten K.index (pages_of (S.view self.old.store) self.old) (key_in table key) }
+        ensures removes { Removes S.tells (S.opens (S.view self.old.store).shape) K.index table tid key
+            (pages_of (S.view self.old.store) self.old) (pages_of (S.view self.new.store) self.new) result }
+        ensures dead { IsErrOf result TableFault.Dead → self.new ≡ self.old }
+    {
+        told(remove::<S, K>(&mut self.pages, tid, table, MAIN_ROOT, key))
     }
 
     /// Discards what the number has written, and its saves.

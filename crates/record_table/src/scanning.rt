@@ -20,7 +20,7 @@ use mars_base::NoMemory;
 use page_store::{KeyIndex, PageFault, Pages};
 use record_slots::Value;
 
-/// A key of the index and the value that a number sees for it.
+/// A key of the index and the value that is seen for it.
 #[derive(Drop)]
 pub struct Next {
     pub key: u64,

@@ -20,7 +20,7 @@ use eaw_face::EawStore;
 use page_store::{KeyIndex, PageFault, Pages};
 use record_slots::{SLOT_LEN, Slot, Value, read_slot, write_slot};
 
-const SLOTS_IN_PAGE: u32 = 8;
+pub const SLOTS_IN_PAGE: u32 = 8;
 
 /// The slot of a key and the value that a number sees there.
 #[derive(Drop)]

@@ -1,0 +1,72 @@
+// Takes keys without records out of the index, but those that live transactions touch.
+ghost use Rattle.std.specs.Prelude.{◌≡◌, ◌<◌, ◌≤◌, [], IsTrue, length};
+ghost use Rattle.eaw_face.specs.Causes.{IsAlive};
+ghost use Rattle.page_store.specs.Shown.{pages_of};
+ghost use Rattle.record_table.specs.Removing.{IsAbsent};
+ghost use Rattle.mars_core.specs.Purging.{IsReady, Tries, Clears};
+ghost use Rattle.mars_core.specs.Seats.{calls_at};
+
+use crate::seats::Seats;
+use eaw_face::EawStore;
+use history::Call;
+use page_store::KeyIndex;
+use record_table::{Records, TableFault};
+
+// The number of the table `main`.
+const MAIN: u8 = 0;
+
+// Tries a key without a record, unless a live transaction touches its stripe. Returns whether it was taken out.
+fn try_key<S: EawStore, K: KeyIndex>(
+    records: &mut Records<S, K>,
+    seats: &Seats,
+    caller: u8,
+    key: u64,
+) -> Result<bool, TableFault>
+    requires inside { caller < (S.view records.old.store).shape.numbers }
+    requires few { length seats.now ≤ 64 }
+    requires alive { IsAlive (S.view records.old.store) }
+    requires idle { calls_at seats.now caller ≡ [] }
+    requires ready { IsTrue S.tells → IsReady K.index seats.now caller (pages_of (S.view records.old.store) records.old) }
+    requires absent { IsTrue S.tells → IsAbsent K.index (S.view records.old.store).state.bytes key }
+    ensures tries { Tries S.tells (S.opens (S.view records.old.store).shape) K.index seats.now key
+        (pages_of (S.view records.old.store) records.old) (pages_of (S.view records.new.store) records.new) result }
+{
+    match seats.holder(caller, &Call::Del { key }) {
+        Some(_) => Ok(false),
+        None => records.remove(caller, MAIN, key),
+    }
+}
+
+/// Tries each key of `main` that has no record, and whose stripe no live transaction touches, once, by rising key, as this caller's number.
+/// Returns how many were taken out.
+pub fn clear<S: EawStore, K: KeyIndex>(
+    records: &mut Records<S, K>,
+    seats: &Seats,
+    caller: u8,
+) -> Result<u32, TableFault>
+    requires inside { caller < (S.view records.old.store).shape.numbers }
+    requires few { length seats.now ≤ 64 }
+    requires alive { IsAlive (S.view records.old.store) }
+    requires idle { calls_at seats.now caller ≡ [] }
+    requires ready { IsTrue S.tells → IsReady K.index seats.now caller (pages_of (S.view records.old.store) records.old) }
+    ensures clears { Clears S.tells (S.opens (S.view records.old.store).shape) K.index seats.now
+        (pages_of (S.view records.old.store) records.old) (pages_of (S.view records.new.store) records.new) result }
+{
+    let mut taken: u32 = 0;
+    let mut from = 0;
+    loop {
+        let key = match records.next_absent(MAIN, from) {
+            Ok(Some(key)) => key,
+            Ok(None) => return Ok(taken),
+            Err(fault) => return Err(fault),
+        };
+        match try_key(records, seats, caller, key) {
+            Ok(was) => taken = taken.saturating_add(u32::from(was)),
+            Err(fault) => return Err(fault),
+        }
+        if key == u64::MAX {
+            return Ok(taken);
+        }
+        from = key + 1;
+    }
+}

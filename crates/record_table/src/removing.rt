@@ -1,0 +1,132 @@
+// Keys of a table that have no record any more: the next of them, and the removal of one from the index.
+ghost use Rattle.std.specs.Prelude.{◌≡◌, ◌^◌, ◌≤◌, ◌<◌, IfOk, IfSome, IsErrOf, IsTrue};
+ghost use Rattle.array_shape.specs.Places.{page_count};
+ghost use Rattle.eaw_face.specs.Causes.{IsAlive};
+ghost use Rattle.record_slots.specs.Slots.{slot_said};
+ghost use Rattle.record_slots.specs.Places.{slot_of, version_of};
+ghost use Rattle.page_store.specs.Index.{IsTable, slots_of};
+ghost use Rattle.page_store.specs.Looks.{Looks, LookCause, is_failed};
+ghost use Rattle.page_store.specs.Shown.{pages_of};
+ghost use Rattle.record_table.specs.Faults.{told_as};
+ghost use Rattle.record_table.specs.Invariant.{Holds};
+ghost use Rattle.record_table.specs.Removing.{IsAbsent, IsUnwritten, IsNextAbsent, ComesNext, Removes};
+ghost use Rattle.record_table.specs.Shown.{asked_tables};
+ghost use Rattle.record_table.specs.State.{key_in};
+
+use crate::scanning::Next;
+use crate::slots::{SLOTS_IN_PAGE, page_of, value_in};
+use eaw_face::EawStore;
+use page_store::{KeyIndex, PageFault, Pages};
+use record_slots::{SLOT_LEN, Slot, read_slot};
+
+// What the data says in a slot.
+fn read_said<S: EawStore>(pages: &mut Pages<S>, slot: u32) -> Result<Option<Slot>, PageFault>
+    requires { slot < slots_of (S.view pages.old.store).shape }
+    ensures looks { Looks S.tells (S.opens (S.view pages.old.store).shape) (is_failed result)
+        (pages_of (S.view pages.old.store) pages.old) (pages_of (S.view pages.new.store) pages.new) }
+    ensures cause { LookCause S.tells (S.view pages.old.store) result }
+    ensures said { IsTrue S.tells → IfOk result (λ said. said ≡ slot_said (slot_of (S.view pages.old.store).state.bytes slot)) }
+    ensures dead { IsErrOf result PageFault.Dead → pages.new ≡ pages.old }
+{
+    let page = page_of(pages, slot);
+    let mut bytes = [0; SLOT_LEN];
+    pages.read(page, slot % SLOTS_IN_PAGE * 64, &mut bytes)?;
+    Ok(read_slot(&bytes))
+}
+
+// The least key of a table from `from` on, with the record that the data has of it.
+fn next_in_data<S: EawStore, K: KeyIndex>(
+    pages: &mut Pages<S>,
+    table: u8,
+    root: u32,
+    from: u64,
+) -> Result<Option<Next>, PageFault>
+    requires table { table < asked_tables }
+    requires root { root < page_count (S.view pages.old.store).shape }
+    requires named { IsTrue S.tells → IsAlive (S.view pages.old.store) → IsTable (S.view pages.old.store).state.bytes table root }
+    requires holds { Holds S.tells K.index (pages_of (S.view pages.old.store) pages.old) }
+    ensures looks { Looks S.tells (S.opens (S.view pages.old.store).shape) (is_failed result)
+        (pages_of (S.view pages.old.store) pages.old) (pages_of (S.view pages.new.store) pages.new) }
+    ensures cause { LookCause S.tells (S.view pages.old.store) result }
+    ensures comes { IsTrue S.tells → IfOk result (ComesNext K.index (S.view pages.old.store).state.bytes table from) }
+    ensures inside { IfOk result (λ next. IfSome next (λ next. from ≤ next.key)) }
+    ensures dead { IsErrOf result PageFault.Dead → pages.new ≡ pages.old }
+{
+    let (key, slot) = match K::next_key(pages, root, table, from) {
+        Ok(Some(pair)) => pair,
+        Ok(None) => return Ok(None),
+        Err(fault) => return Err(fault),
+    };
+    if key < from {
+        return Err(PageFault::Damaged { page: 0 });
+    }
+    let page = page_of(pages, slot);
+    match read_said(pages, slot) {
+        Ok(Some(said)) => Ok(Some(Next {
+            key,
+            value: value_in(&said),
+        })),
+        Ok(None) => Err(PageFault::Damaged { page }),
+        Err(fault) => Err(fault),
+    }
+}
+
+/// The least key of a table from `from` on whose slot is absent in the data.
+pub fn next_absent<S: EawStore, K: KeyIndex>(
+    pages: &mut Pages<S>,
+    table: u8,
+    root: u32,
+    from: u64,
+) -> Result<Option<u64>, PageFault>
+    requires table { table < asked_tables }
+    requires root { root < page_count (S.view pages.old.store).shape }
+    requires named { IsTrue S.tells → IsAlive (S.view pages.old.store) → IsTable (S.view pages.old.store).state.bytes table root }
+    requires alive { IsAlive (S.view pages.old.store) }
+    requires holds { Holds S.tells K.index (pages_of (S.view pages.old.store) pages.old) }
+    ensures looks { Looks S.tells (S.opens (S.view pages.old.store).shape) (is_failed result)
+        (pages_of (S.view pages.old.store) pages.old) (pages_of (S.view pages.new.store) pages.new) }
+    ensures cause { LookCause S.tells (S.view pages.old.store) result }
+    ensures next { IsTrue S.tells → IfOk result (IsNextAbsent K.index (S.view pages.old.store).state.bytes table from) }
+    ensures inside { IfOk result (λ key. IfSome key (λ key. from ≤ key)) }
+{
+    let mut low = from;
+    loop {
+        let next = match next_in_data::<S, K>(pages, table, root, low) {
+            Ok(Some(next)) => next,
+            Ok(None) => return Ok(None),
+            Err(fault) => return Err(fault),
+        };
+        if next.value.is_none() {
+            return Ok(Some(next.key));
+        }
+        if next.key == u64::MAX {
+            return Ok(None);
+        }
+        low = next.key + 1;
+    }
+}
+
+/// Takes a key without a record out of the index of its table, as this number, and frees its slot. `false` is returned where the key's pair
+/// is the last that its page keeps.
+pub fn remove<S: EawStore, K: KeyIndex>(
+    pages: &mut Pages<S>,
+    tid: u8,
+    table: u8,
+    root: u32,
+    key: u64,
+) -> Result<bool, PageFault>
+    requires tid { tid < (S.view pages.old.store).shape.numbers }
+    requires table { table < asked_tables }
+    requires root { root < page_count (S.view pages.old.store).shape }
+    requires named { IsTrue S.tells → IsAlive (S.view pages.old.store) → IsTable (S.view pages.old.store).state.bytes table root }
+    requires holds { Holds S.tells K.index (pages_of (S.view pages.old.store) pages.old) }
+    requires lists { IsTrue S.tells → IsAlive (S.view pages.old.store) → version_of (S.view pages.old.store).state.bytes ≡ 2 }
+    requires absent { IsTrue S.tells → IsAlive (S.view pages.old.store) → IsAbsent K.index (S.view pages.old.store).state.bytes (key_in table key) }
+    requires unwritten { IsTrue S.tells → IsAlive (S.view pages.old.store) → IsUnwritten K.index (pages_of (S.view pages.old.store) pages.old) (key_in table key) }
+    ensures removes { Removes S.tells (S.opens (S.view pages.old.store).shape) K.index table tid key
+        (pages_of (S.view pages.old.store) pages.old) (pages_of (S.view pages.new.store) pages.new) (told_as result) }
+    ensures holds { Holds S.tells K.index (pages_of (S.view pages.new.store) pages.new) }
+    ensures dead { IsErrOf result PageFault.Dead → pages.new ≡ pages.old }
+{
+    K::remove(pages, tid, root, table, key)
+}
