@@ -19,3 +19,6 @@ pub mod Fronts
 pub mod Main
 pub mod Upgraded
 pub mod Versions
+pub mod SuperPages
+pub mod Extended
+pub mod Made

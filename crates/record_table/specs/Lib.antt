@@ -10,4 +10,6 @@ pub mod Sought
 pub mod Faults
 pub mod Scanned
 pub mod Form
+pub mod Names
 pub mod Upgrading
+pub mod Making

@@ -7,6 +7,7 @@
 
 mod fault;
 mod form;
+mod making;
 mod records;
 mod scanning;
 mod slots;
@@ -15,4 +16,5 @@ mod upgrading;
 
 pub use fault::{AttachRecords, TableFault};
 pub use form::{Form, form_of};
+pub use making::MakeFault;
 pub use records::Records;

@@ -14,8 +14,10 @@ ghost use Rattle.record_table.specs.Does.{Does, replied, is_failed};
 ghost use Rattle.record_table.specs.Shown.{state_of, pairs_of, held_on, is_write_on, AreNamed};
 ghost use Rattle.record_table.specs.Sought.{LooksAs};
 ghost use Rattle.record_table.specs.Upgrading.{Upgrades};
+ghost use Rattle.record_table.specs.Making.{Makes};
 
 use crate::fault::{AttachRecords, TableFault};
+use crate::making::{MakeFault, make};
 use crate::scanning::gather;
 use crate::slots::{seek, value_at, write_as};
 use crate::told::told;
@@ -24,7 +26,7 @@ use array_shape::{NumberSet, Shape};
 use eaw_face::EawStore;
 use history::Rows;
 use page_store::{CheckFault, KeyIndex, Pages};
-use record_slots::{Slot, Value};
+use record_slots::{Name, Slot, Value};
 use std::alloc::Global;
 use std::marker::{Model, PhantomData};
 
@@ -88,6 +90,17 @@ impl<S: EawStore, K: KeyIndex> Records<S, K> {
         ensures dead { IsErrOf result TableFault.Dead → self.new ≡ self.old }
     {
         told(upgrade::<S, K>(&mut self.pages))
+    }
+
+    /// Makes a table of this name, without records, and returns its number: it comes behind those that there are. The super page is brought
+    /// to version 2 first. No number may be live.
+    pub fn make(&mut self, name: &Name) -> Result<u8, MakeFault>
+        requires free { (S.view self.old.store).ranges 0 ≡ None }
+        ensures makes { Makes S.tells (S.opens (S.view self.old.store).shape) K.index name.now
+            (pages_of (S.view self.old.store) self.old) (pages_of (S.view self.new.store) self.new) result }
+        ensures dead { IsErrOf result MakeFault.Dead → self.new ≡ self.old }
+    {
+        make::<S, K>(&mut self.pages, name)
     }
 
     /// The pages below. What numbers have written is still in them.
