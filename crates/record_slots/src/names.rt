@@ -1,12 +1,12 @@
 // The names of the tables of an array, and a table more.
-ghost use Rattle.std.specs.Prelude.{◌≡◌, ◌≢◌, ◌+◌, ◌^◌, ◌<◌, ◌≤◌, ℕ, IfSome, IfNone, Some, length, slice_get};
+ghost use Rattle.std.specs.Prelude.{◌≡◌, ◌≢◌, ◌+◌, ◌^◌, ◌<◌, ◌≤◌, [], ◌∷◌, ◌++◌, ℕ, IfSome, IfNone, Some, length, slice_get};
 ghost use Rattle.record_slots.specs.Super.{HasTables, entry_bytes, tables_in, tables_used};
 ghost use Rattle.record_slots.specs.Names.{names_in, with_last, with_entries};
 ghost use Rattle.record_slots.specs.Text.{IsName};
 
 use crate::Name;
 use crate::entries::{NAME_AT, ROOT_AT, main_entries, name_at, used_count};
-use crate::super_page::{ENTRIES_LEN, ENTRY_LEN, Super, VERSION};
+use crate::super_page::{ENTRIES_LEN, ENTRY_LEN, Super, TABLES_MAX, VERSION};
 use byteorder::{ByteOrder, LittleEndian};
 use std::marker::Model;
 
@@ -54,6 +54,18 @@ impl Names {
         ensures most { result ≤ 8 }
     {
         used_count(&self.entries) as u8
+    }
+
+    /// Adds a name behind the others. Where there are eight, nothing changes.
+    pub fn push(&mut self, name: &Name)
+        ensures { length self.old < 8 → self.new ≡ self.old ++ name.now ∷ [] }
+    {
+        let count = used_count(&self.entries);
+        if count == TABLES_MAX {
+            return;
+        }
+        let at = ENTRY_LEN * count;
+        self.entries[at..at + ENTRY_LEN].copy_from_slice(&entry_of(name, 0));
     }
 
     /// The number of the table of this name, if there is one.

@@ -22,3 +22,4 @@ pub mod Versions
 pub mod SuperPages
 pub mod Extended
 pub mod Made
+pub mod KeptNames

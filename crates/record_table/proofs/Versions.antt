@@ -227,6 +227,7 @@ module _ (tells : Bool) (Opens : List ℕ → List ℕ → Type 0) (index : Inde
           tops = ap (λ (o : Outline). o.top) out;
           ranges = λ u. ap (λ (o : Outline). listed (o.ranges u)) out;
           others = λ u ne. ap (λ (o : Outline). o.ranges u) out;
+          tables = λ told. ap (λ (s : PagesState). tables_of s.store.bytes) (now told) ∙ (facts told).tables;
           state = λ told. ap (shown_by index) (now told) ∙ (λ i. record (state_of index mid) { table = (facts told).records i });
           tied = λ told. record {
             sound = subst (λ (s : PagesState). index.sound s.store.bytes) (sym (now told)) (facts told).sound;

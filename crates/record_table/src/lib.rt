@@ -8,6 +8,7 @@
 mod fault;
 mod form;
 mod making;
+mod names;
 mod records;
 mod scanning;
 mod slots;
