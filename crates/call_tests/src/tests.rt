@@ -9,3 +9,4 @@ mod queues;
 mod reply_texts;
 mod retries;
 mod samples;
+mod tables;
