@@ -11,4 +11,5 @@ mod removals;
 mod reply_texts;
 mod retries;
 mod samples;
+mod tables;
 mod untold_media;

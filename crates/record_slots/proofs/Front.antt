@@ -22,7 +22,7 @@ no_rest : (xs : List ℕ) → drop 4 (take 4 xs) ≡ []
 no_rest xs = drop_all 4 (take 4 xs) (omega (arith, length-take 4 xs))
 
 -- a number that was written into four bytes
-number_put : (n : ℕ) (buf old : List ℕ) → buf ≡ little_bytes 4 n ++ drop 4 (take 4 old) → buf ≡ little_bytes 4 n
+pub number_put : (n : ℕ) (buf old : List ℕ) → buf ≡ little_bytes 4 n ++ drop 4 (take 4 old) → buf ≡ little_bytes 4 n
 number_put n buf old is = is ∙ (rw (no_rest old) (append-nil (little_bytes 4 n)))
 
 -- a piece that is written behind what was written

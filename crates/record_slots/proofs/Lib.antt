@@ -4,3 +4,4 @@ pub mod WritingBack
 pub mod Front
 pub mod Used
 pub mod MainAlone
+pub mod Naming

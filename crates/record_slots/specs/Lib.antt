@@ -5,3 +5,4 @@ pub mod Super
 pub mod IndexHead
 pub mod Fresh
 pub mod Places
+pub mod Names

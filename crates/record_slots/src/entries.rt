@@ -8,9 +8,10 @@ use crate::Name;
 use crate::super_page::{ENTRIES_LEN, ENTRY_LEN, Super, TABLES_MAX, VERSION};
 use byteorder::{ByteOrder, LittleEndian};
 
-const NAME_AT: usize = 1;
+// Where the name of an entry begins, and its root.
+pub const NAME_AT: usize = 1;
 
-const ROOT_AT: usize = 20;
+pub const ROOT_AT: usize = 20;
 
 const MAIN: &[u8] = b"main";
 
@@ -123,7 +124,7 @@ fn is_apart(entries: &[u8; ENTRIES_LEN], j: usize) -> bool
 }
 
 // How many entries are used, up to the first that is free.
-fn used_count(entries: &[u8; ENTRIES_LEN]) -> usize
+pub fn used_count(entries: &[u8; ENTRIES_LEN]) -> usize
     ensures count { result ≡ length (tables_used entries.now) }
     ensures most { result ≤ 8 }
 {
@@ -144,7 +145,7 @@ fn root_at(entries: &[u8; ENTRIES_LEN], j: usize) -> u32
 }
 
 // The name in entry `j`.
-fn name_at(entries: &[u8; ENTRIES_LEN], j: usize) -> &[u8]
+pub fn name_at(entries: &[u8; ENTRIES_LEN], j: usize) -> &[u8]
     requires entry { j < 8 }
     requires short { slice_index entries.now (32 * j) ≤ 16 }
     ensures { result.now ≡ name_said (drop (32 * j) entries.now) }

@@ -11,6 +11,7 @@ mod fresh;
 mod index_head;
 mod laws;
 mod name;
+mod names;
 mod slot;
 mod super_page;
 mod value;
@@ -21,6 +22,7 @@ pub use fresh::fresh_page;
 pub use index_head::{INDEX_HEAD_LEN, IndexHead, index_head_bytes, read_index_head};
 pub use laws::slot_round_trip;
 pub use name::{NAME_MAX, Name};
+pub use names::{Names, with_table};
 pub use slot::{SLOT_LEN, Slot, read_slot, write_slot};
 pub use super_page::{
     ENTRIES_LEN, ENTRY_LEN, PART_AT, PART_LEN, Super, TABLES_MAX, TableEntry, VERSION, main_super,

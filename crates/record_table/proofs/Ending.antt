@@ -18,6 +18,7 @@ use Rattle.history.specs.declared.call.Reply.TheVariants.{Fine, Saved}
 use Rattle.page_store.specs.Command.{PageCommand}
 use Rattle.page_store.specs.Command as page
 use Rattle.page_store.specs.Does as page_does
+use Rattle.record_slots.specs.Places.{tables_of}
 use Rattle.page_store.specs.Index.{Index}
 use Rattle.page_store.specs.Kept.{IsOrdered}
 use Rattle.page_store.specs.Outline.{Outline, outline_after}
@@ -64,6 +65,7 @@ pub record IsCall (tells : Bool) (index : Index) (pc : PageCommand) (table t : �
   pub parts : IsTrue tells → (u : ℕ) → AreSlotParts index (page.after pc (pages.state_of old)).store.bytes (log_of (page.after pc (pages.state_of old)) u)
   pub shown : IsTrue tells → (reply : Reply) → shown_by index (page.after pc (pages.state_of old)) ≡ after t c reply (state_of index old)
   pub keys : IsTrue tells → keys_of index (page.after pc (pages.state_of old)).store.bytes ≡ keys_of index old.store.state.bytes
+  pub tables : IsTrue tells → tables_of (page.after pc (pages.state_of old)).store.bytes ≡ tables_of old.store.state.bytes
   pub indexed : (a b : Keys) (r : Result Reply TableFault) → b ≡ a → Indexed table c a b r
   pub quiet : IsTrue tells → IsQuiet index old t c → (page.after pc (pages.state_of old)).store.bytes ≡ old.store.state.bytes
   pub saves : length ((outline_after pc (outline_of old)).counts t) ≡ saves_after c (length (old.counts t))
@@ -100,6 +102,7 @@ module _ (tells : Bool) (Opens : List ℕ → List ℕ → Type 0) (index : Inde
           refused = λ told _. tt;
           indexed = λ told _ _. is.indexed _ _ (Ok (reply answer)) (ap (λ (s : PagesState). keys_of index s.store.bytes) (now told) ∙ is.keys told);
           quiet = λ told _ still. ap (λ (s : PagesState). s.store.bytes) (now told) ∙ is.quiet told still;
+          tables = λ told _. ap (λ (s : PagesState). tables_of s.store.bytes) (now told) ∙ is.tables told;
           saves = ap (λ (o : Outline). length (o.counts t)) out ∙ is.saves;
           same_saves = tt;
           others = λ u ne. (does.others u (λ e. ne (is.named u e)), ap (λ (o : Outline). o.counts u) out ∙ is.other_saves u ne);
@@ -126,6 +129,7 @@ module _ (tells : Bool) (Opens : List ℕ → List ℕ → Type 0) (index : Inde
           refused = λ told well. absurd (false≢true (sym well));
           indexed = λ told _ well. absurd (false≢true (sym well));
           quiet = λ told well. absurd (false≢true (sym well));
+          tables = λ told well. absurd (false≢true (sym well));
           saves = tt;
           same_saves = does.marks.0;
           others = λ u ne. (does.others u (λ e. ne (is.named u e)), ap (λ (f : ℕ → List ℕ). f u) does.marks.0);
@@ -147,6 +151,7 @@ module _ (tells : Bool) (Opens : List ℕ → List ℕ → Type 0) (index : Inde
           refused = λ told _. refl;
           indexed = λ told _ _. indexed_same Reply table c _ _ SavesFull tt refl;
           quiet = λ told _ _. refl;
+          tables = λ told _. refl;
           saves = tt;
           same_saves = refl;
           others = λ u ne. (refl, refl);
@@ -195,6 +200,7 @@ module _ (tells : Bool) (index : Index) (laws : Laws index) (old : PagesView) (r
     parts = λ told. (rests.tied told).parts;
     shown = λ told reply. shown_save index laws (pages.state_of old) t reply;
     keys = λ told. refl;
+    tables = λ told. refl;
     indexed = λ a b r same. same;
     quiet = λ told _. refl;
     saves = ap length (with_here old.counts t (old.counts t ++ length (listed (old.store.ranges t)) ∷ [])) ∙ length-append (old.counts t) (length (listed (old.store.ranges t)) ∷ []);
@@ -215,6 +221,7 @@ module _ (tells : Bool) (index : Index) (laws : Laws index) (old : PagesView) (r
         parts = λ told. parts_back index laws (pages.state_of old) t (rests.tied told).sound (rests.tied told).parts n (front told);
         shown = λ told reply. shown_back index laws (pages.state_of old) t n reply (has_save_is ((state_of index old).logs t).saved n some (subst (λ (k : ℕ). n ≤ k) (sym (length-saves index old t)) there)) (front told);
         keys = λ told. refl;
+        tables = λ told. refl;
         indexed = λ a b r same. same;
         quiet = λ told _. refl;
         saves = ap length (with_here old.counts t (take n (old.counts t))) ∙ length-take-le n (old.counts t) there;
@@ -233,6 +240,7 @@ module _ (tells : Bool) (index : Index) (laws : Laws index) (old : PagesView) (r
     parts = λ told. parts_abort index laws (pages.state_of old) t (rests.tied told).sound (rests.tied told).parts;
     shown = λ told reply. shown_abort index laws (pages.state_of old) t reply;
     keys = λ told. refl;
+    tables = λ told. refl;
     indexed = λ a b r same. same;
     quiet = λ told _. refl;
     saves = ap length (with_here old.counts t []);
@@ -253,6 +261,7 @@ module _ (tells : Bool) (index : Index) (laws : Laws index) (old : PagesView) (r
         parts = λ told. parts_commit index laws (pages.state_of old) t (rests.tied told).sound (rests.tied told).parts;
         shown = λ told reply. shown_commit index laws (pages.state_of old) t reply (rests.tied told).sound ((rests.tied told).parts t);
         keys = λ told. (w told).keys;
+        tables = λ told. (w told).tables;
         indexed = λ a b r same. same;
         quiet = λ told none. no_parts index (listed (old.store.state.logs t)) old.store.state.bytes none;
         saves = ap length (with_here old.counts t []);

@@ -9,7 +9,7 @@ use Rattle.eaw_face.specs.State.{State, listed}
 use Rattle.eaw_face.specs.StoreView.{LeavesOnly}
 use Rattle.eaw_face.specs.Causes.{IsAlive}
 use Rattle.record_slots.specs.Slots.{slot_said, slot_bytes}
-use Rattle.record_slots.specs.Places.{slot_of, next_slot, slot_due}
+use Rattle.record_slots.specs.Places.{slot_of, next_slot, slot_due, tables_of}
 use Rattle.record_slots.specs.declared.slot.Slot.TheVariants.{Absent}
 use Rattle.page_store.specs.Index.{Index, IsTable, Grows, Gains}
 use Rattle.page_store.specs.Index as face
@@ -37,6 +37,7 @@ pub record Moved (tells : Bool) (Opens : List ℕ → List ℕ → Type 0) (inde
   pub tops : new.top ≡ old.top
   pub ranges : (u : ℕ) → listed (new.store.ranges u) ≡ listed (old.store.ranges u)
   pub others : (u : ℕ) → u ≢ t → new.store.ranges u ≡ old.store.ranges u
+  pub tables : IsTrue tells → tables_of new.store.state.bytes ≡ tables_of old.store.state.bytes
   pub state : IsTrue tells → state_of index new ≡ state_of index old
   pub tied : IsTrue tells → IsTied index new
   pub time : IsTrue tells → LeavesOnly (λ image. OpensWith Opens index image (state_of index old).table) old.store new.store
@@ -66,6 +67,7 @@ module _ (tells : Bool) (Opens : List ℕ → List ℕ → Type 0) (index : Inde
     tops = refl;
     ranges = λ u. refl;
     others = λ u ne. refl;
+    tables = λ told. refl;
     state = λ told. refl;
     tied = rests.tied;
     time = λ told. stays old.store.moment old.store.left_since (λ image. OpensWith Opens index image (state_of index old).table);
@@ -83,6 +85,7 @@ module _ (tells : Bool) (Opens : List ℕ → List ℕ → Type 0) (index : Inde
     tops = b.tops ∙ a.tops;
     ranges = λ u. b.ranges u ∙ a.ranges u;
     others = λ u ne. b.others u ne ∙ a.others u ne;
+    tables = λ told. b.tables told ∙ a.tables told;
     state = λ told. b.state told ∙ a.state told;
     tied = b.tied;
     time = λ told. then (a.time told) (weaker (λ image. λ opens. subst (λ (s : TableState). OpensWith Opens index image s.table) (a.state told) opens) (b.time told));
@@ -112,6 +115,7 @@ module _ (tells : Bool) (Opens : List ℕ → List ℕ → Type 0) (index : Inde
           tops = looks.tops;
           ranges = λ u. ap (λ (f : ℕ → Option (List (ℕ × ℕ))). listed (f u)) same.ranges;
           others = looks.others;
+          tables = λ told. ap (λ (s : State). tables_of s.bytes) (same.still.state told);
           state = λ told. shown_same index old new (same.still.state told) looks.saves;
           tied = λ told. record {
             sound = subst (λ (s : State). index.sound s.bytes) (sym (same.still.state told)) (rests.tied told).sound;
@@ -242,6 +246,7 @@ module _ (tells : Bool) (Opens : List ℕ → List ℕ → Type 0) (index : Inde
         tops = kept.tops;
         ranges = kept.ranges;
         others = does.others;
+        tables = λ told. (made told).0.tables;
         state = λ told i. record {
           table = (keeps told).0 i;
           logs = λ u. record { writes = writes_of (kept.logs told u i); saved = map writes_of (saved_of (kept.logs told u i) (does.saves i u)) };

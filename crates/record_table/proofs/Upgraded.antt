@@ -49,7 +49,7 @@ abbrev pub front_of : List ℕ → Super
 front_of d = main_super (form_said (page_bytes d 0)) (next_slot d) (next_page d)
 
 -- records whose slots are as they were
-same_slots : (d e : List ℕ) → ((slot : ℕ) → slot_of e slot ≡ slot_of d slot) → (ps : List Pair) → table_in e ps ≡ table_in d ps
+pub same_slots : (d e : List ℕ) → ((slot : ℕ) → slot_of e slot ≡ slot_of d slot) → (ps : List Pair) → table_in e ps ≡ table_in d ps
 same_slots d e same [] = refl
 same_slots d e same (p ∷ ps) = λ i. write_into (same_slots d e same ps i) (p.0, value_of (slot_said (same p.1 i)))
 
@@ -59,6 +59,7 @@ pub record Upgraded (index : Index) (d e : List ℕ) : Type 0 where
   pub size : length e ≡ length d
   pub version : version_of e ≡ 2
   pub tables : tables_of e ≡ tables_of d
+  pub indexes : (table root : ℕ) → IsTable d table root → index.pairs e root ≡ index.pairs d root
   pub pairs : pairs_of index e ≡ pairs_of index d
   pub records : table_of index e ≡ table_of index d
   pub keys : keys_of index e ≡ keys_of index d
@@ -188,6 +189,7 @@ module _ (index : Index) (laws : Laws index) (d page : List ℕ) (sound : index.
     size = size;
     version = sym now.version;
     tables = tables_same;
+    indexes = λ table root is. ((laws.extends d e sound extends).1 table root is).0;
     pairs = pairs_same;
     records = records_same;
     keys = keys_kept;

@@ -13,12 +13,13 @@ use Rattle.array_shape.specs.Logged.{ranges_of}
 use Rattle.eaw_face.specs.State.{State, listed, count_on}
 use Rattle.eaw_face.specs.StoreView.{LeavesOnly}
 use Rattle.eaw_face.specs.Causes.{IsAlive, fit}
+use Rattle.record_slots.specs.Names.{names_in}
 use Rattle.record_slots.specs.Super.{SaysSuper, main_super, super_bytes}
 use Rattle.record_slots.specs.Places.{page_bytes, version_of, tables_of}
 use Rattle.record_slots.specs.declared.super_page.Super.{Super}
 use Rattle.page_store.specs.Command as page
 use Rattle.page_store.specs.Does as page_does
-use Rattle.page_store.specs.Index.{Index}
+use Rattle.page_store.specs.Index.{Index, IsTable}
 use Rattle.page_store.specs.Looks.{LookCause}
 use Rattle.page_store.specs.Looks as look
 use Rattle.page_store.specs.Outline.{Outline}
@@ -30,7 +31,8 @@ use Rattle.page_store.specs.declared.fault.PageFault.TheVariants as fault
 use Rattle.record_table.specs.Does.{OpensWith, is_failed}
 use Rattle.record_table.specs.Faults.{as_table, told_as}
 use Rattle.record_table.specs.Invariant.{AreSlotParts, Rests, Holds}
-use Rattle.record_table.specs.Shown.{state_of, shown_by, keys_of, writes_of}
+use Rattle.record_table.specs.Names.{names_of, OpensNamed}
+use Rattle.record_table.specs.Shown.{table_of, state_of, shown_by, keys_of, writes_of}
 use Rattle.record_table.specs.Sought.{LooksAs}
 use Rattle.record_table.specs.State.{TableState}
 use Rattle.record_table.specs.Upgrading.{upgraded, OpensUpgraded, Upgrades, UpgradeCause}
@@ -69,13 +71,23 @@ on_ok (Ok done) p = p
 on_ok (Err fault) p = tt
 
 module _ (tells : Bool) (Opens : List ℕ → List ℕ → Type 0) (index : Index) where
+  -- at each moment the records and the names are left
+  abbrev IsNamedTime : PagesView → PagesView → Type 0
+  IsNamedTime old new = LeavesOnly (λ image. OpensNamed Opens index image (names_of old.store.state.bytes) (state_of index old).table) old.store new.store
+
+  -- as by a look
+  named_by_look : (failed : Bool) (old new : PagesView) → IsAlive old.store → Holds tells index old → LooksAs tells Opens 0 failed old new → IsTrue tells → IsNamedTime old new
+  named_by_look failed old new alive holds looks told =
+      weaker (λ image opens. record { bytes = old.store.state.bytes; opened = opens; sound = ((holds alive).tied told).sound; named = refl; shows = refl }) (looks.time told alive)
+
   -- an upgrade that leaves records, writes and saves as they were
   moved_upgrades : (old new : PagesView) (r : Result (Unit {0}) TableFault) → IsFalse (is_failed r) → UpgradeCause tells old r → Moved tells Opens index 0 old new
       → (IsTrue tells → OnOk r (new.store.state.bytes ≡ upgraded old.store.state.bytes)) → (IsTrue tells → OnOk r (version_of new.store.state.bytes ≡ 2)) → (IsTrue tells → tables_of new.store.state.bytes ≡ tables_of old.store.state.bytes)
       → (IsTrue tells → keys_of index new.store.state.bytes ≡ keys_of index old.store.state.bytes)
       → (IsTrue tells → version_of old.store.state.bytes ≡ 2 → new.store.state.bytes ≡ old.store.state.bytes)
-      → (IsTrue tells → LeavesOnly (OpensUpgraded Opens old.store.state.bytes) old.store new.store) → Upgrades tells Opens index old new r
-  moved_upgrades old new r well cause moved bytes_are version tables keys quiet exact = record {
+      → (IsTrue tells → LeavesOnly (OpensUpgraded Opens old.store.state.bytes) old.store new.store) → new.store.ranges 0 ≡ old.store.ranges 0 → (IsTrue tells → IsNamedTime old new)
+      → (IsTrue tells → (table root : ℕ) → IsTable old.store.state.bytes table root → index.pairs new.store.state.bytes root ≡ index.pairs old.store.state.bytes root) → Upgrades tells Opens index old new r
+  moved_upgrades old new r well cause moved bytes_are version tables keys quiet exact ranges named indexes = record {
     shape = moved.shape;
     cause = cause;
     faults = λ _. (moved.dead, moved.faults);
@@ -86,16 +98,19 @@ module _ (tells : Bool) (Opens : List ℕ → List ℕ → Type 0) (index : Inde
     tables = λ told _. tables told;
     state = λ told _. moved.state told;
     keys = λ told _. keys told;
+    indexes = λ told _. indexes told;
     quiet = λ told _. quiet told;
     saves = moved.counts;
+    ranges = λ _. ranges;
     others = moved.others;
     time = λ told _. moved.time told;
     exact = λ told _. exact told;
+    named = λ told _. named told;
   }
 
   failed_upgrades : (old new : PagesView) → IsAlive old.store → Failed tells Opens index 0 old new
-      → (IsTrue tells → LeavesOnly (OpensUpgraded Opens old.store.state.bytes) old.store new.store) → Upgrades tells Opens index old new (Err refusal.Media)
-  failed_upgrades old new alive failed exact = record {
+      → (IsTrue tells → LeavesOnly (OpensUpgraded Opens old.store.state.bytes) old.store new.store) → (IsTrue tells → IsNamedTime old new) → Upgrades tells Opens index old new (Err refusal.Media)
+  failed_upgrades old new alive failed exact named = record {
     shape = failed.shape;
     cause = alive;
     faults = λ well. absurd (false≢true (sym well));
@@ -106,11 +121,14 @@ module _ (tells : Bool) (Opens : List ℕ → List ℕ → Type 0) (index : Inde
     tables = λ told well. absurd (false≢true (sym well));
     state = λ told well. absurd (false≢true (sym well));
     keys = λ told well. absurd (false≢true (sym well));
+    indexes = λ told well. absurd (false≢true (sym well));
     quiet = λ told well. absurd (false≢true (sym well));
     saves = failed.counts;
+    ranges = λ well. absurd (false≢true (sym well));
     others = failed.others;
     time = λ told _. failed.time told;
     exact = λ told _. exact told;
+    named = λ told _. named told;
   }
 
   dead_upgrades : (old : PagesView) → old.store.is_dead ≡ true → Upgrades tells Opens index old old (Err refusal.Dead)
@@ -125,11 +143,14 @@ module _ (tells : Bool) (Opens : List ℕ → List ℕ → Type 0) (index : Inde
     tables = λ told _. refl;
     state = λ told _. refl;
     keys = λ told _. refl;
+    indexes = λ told _ table root is. refl;
     quiet = λ told _ _. refl;
     saves = refl;
+    ranges = λ _. refl;
     others = λ u ne. refl;
     time = λ told _. stays old.store.moment old.store.left_since _;
     exact = λ told _. stays old.store.moment old.store.left_since _;
+    named = λ told _. stays old.store.moment old.store.left_since _;
   }
 
   holds_dead : (new : PagesView) → new.store.is_dead ≡ true → Holds tells index new
@@ -147,14 +168,18 @@ module _ (tells : Bool) (Opens : List ℕ → List ℕ → Type 0) (index : Inde
       let same = λ (told : IsTrue tells). ap (λ (s : State). s.bytes) ((looks.same refl).still.state told) in (
         moved_upgrades old mid r well cause moved (λ told. subst (λ (bytes : List ℕ). OnOk r (bytes ≡ upgraded old.store.state.bytes)) (sym (same told)) (bytes_are told))
             (λ told. subst (λ (bytes : List ℕ). OnOk r (version_of bytes ≡ 2)) (sym (same told)) (version told)) (λ told. ap tables_of (same told))
-            (λ told. ap (keys_of index) (same told)) (λ told two. same told) (λ told. look_exact old mid false alive looks told),
+            (λ told. ap (keys_of index) (same told)) (λ told two. same told) (λ told. look_exact old mid false alive looks told) (λ i. (looks.same refl).ranges i 0)
+            (named_by_look false old mid alive holds looks) (λ told table root is. ap (λ (b : List ℕ). index.pairs b root) (same told)),
         λ living. rests_moved tells Opens index 0 old mid (holds alive) moved,
       )
 
   -- the look at the super page was refused
   pub unread : (old mid : PagesView) (f : PageFault) → Holds tells index old → (let r : Result Super PageFault = Err f in LooksAs tells Opens 0 (look.is_failed r) old mid × LookCause tells old.store r)
       → (f ≡ fault.Dead → mid ≡ old) → Upgrades tells Opens index old mid (Err (as_table f)) × Holds tells index mid
-  unread old mid fault.Media holds both same = (failed_upgrades old mid both.1 (failed_by_look tells Opens index 0 old mid both.1 (holds both.1) both.0) (look_exact old mid true both.1 both.0), holds_dead mid (both.0.dies refl).0)
+  unread old mid fault.Media holds both same = (
+    failed_upgrades old mid both.1 (failed_by_look tells Opens index 0 old mid both.1 (holds both.1) both.0) (look_exact old mid true both.1 both.0) (named_by_look true old mid both.1 holds both.0),
+    holds_dead mid (both.0.dies refl).0,
+  )
   unread old mid fault.Dead holds both same = (
     subst (λ (v : PagesView). Upgrades tells Opens index old v (Err refusal.Dead)) (sym (same refl)) (dead_upgrades old both.1),
     subst (Holds tells index) (sym (same refl)) holds,
@@ -221,6 +246,20 @@ module _ (tells : Bool) (Opens : List ℕ → List ℕ → Type 0) (index : Inde
         (weaker (λ image either. elim either [
           | inl was ↦ inl (subst (Opens image) (same_bytes told) was)
           | inr is ↦ inr (subst (Opens image) (put_is told) is)
+          ]) (does.time told living))
+
+    named_of : (r : Result (Unit {0}) PageFault) → page_does.Does tells Opens (page.atomic_write 0 0 bytes) mid new r → IsTrue tells → IsNamedTime old new
+    named_of r does told =
+        let records : table_of index mid.store.state.bytes ≡ table_of index old.store.state.bytes = ap (table_of index) (same_bytes told) in
+        then (named_by_look false old mid alive holds looks told) (weaker (λ image either. elim either [
+          | inl was ↦ record { bytes = mid.store.state.bytes; opened = was; sound = (rests.tied told).sound; named = ap names_of (same_bytes told); shows = records }
+          | inr is ↦ record {
+            bytes = put mid.store.state.bytes 0 bytes;
+            opened = is;
+            sound = (facts told).sound;
+            named = ap names_in (facts told).tables ∙ ap names_of (same_bytes told);
+            shows = (facts told).records ∙ records;
+          }
         ]) (does.time told living))
 
     done : page_does.Does {T = Unit {0}} tells Opens (page.atomic_write 0 0 bytes) mid new (Ok tt) → Moved tells Opens index 0 mid new
@@ -235,6 +274,7 @@ module _ (tells : Bool) (Opens : List ℕ → List ℕ → Type 0) (index : Inde
           tops = ap (λ (o : Outline). o.top) out;
           ranges = λ u. ap (λ (o : Outline). listed (o.ranges u)) out;
           others = λ u ne. ap (λ (o : Outline). o.ranges u) out;
+          tables = λ told. ap (λ (s : PagesState). tables_of s.store.bytes) (now told) ∙ (facts told).tables;
           state = λ told. ap (shown_by index) (now told) ∙ (λ i. record (state_of index mid) { table = (facts told).records i });
           tied = λ told. record {
             sound = subst (λ (s : PagesState). index.sound s.store.bytes) (sym (now told)) (facts told).sound;
@@ -260,10 +300,12 @@ module _ (tells : Bool) (Opens : List ℕ → List ℕ → Type 0) (index : Inde
         let now = λ (told : IsTrue tells). ap (λ (s : PagesState). s.store.bytes) (does.done.state told) in (
           moved_upgrades old new (Ok tt) refl alive moved (λ told. now told ∙ put_is told) (λ told. ap version_of (now told) ∙ (facts told).version)
               (λ told. ap tables_of (now told) ∙ (facts told).tables ∙ ap tables_of (same_bytes told)) (λ told. ap (keys_of index) (now told) ∙ (facts told).keys ∙ ap (keys_of index) (same_bytes told))
-              (λ told two. absurd (older ((says told).version ∙ two))) (exact_of (Ok tt) does),
+              (λ told two. absurd (older ((says told).version ∙ two))) (exact_of (Ok tt) does) (ap (λ (o : Outline). o.ranges 0) does.done.outline ∙ (λ i. (looks.same refl).ranges i 0)) (named_of (Ok tt) does)
+              (λ told table root is.
+                  ap (λ (b : List ℕ). index.pairs b root) (now told) ∙ (facts told).indexes table root (subst (λ (b : List ℕ). IsTable b table root) (sym (same_bytes told)) is) ∙ ap (λ (b : List ℕ). index.pairs b root) (same_bytes told)),
           λ _. rests_moved tells Opens index 0 old new (holds alive) moved,
         )
-    wrote (Err fault.Media) does = (failed_upgrades old new alive (failed_then tells Opens index 0 old mid new looked_moved (broken does)) (exact_of (Err fault.Media) does), holds_dead new (does.dies refl))
+    wrote (Err fault.Media) does = (failed_upgrades old new alive (failed_then tells Opens index 0 old mid new looked_moved (broken does)) (exact_of (Err fault.Media) does) (named_of (Err fault.Media) does), holds_dead new (does.dies refl))
     wrote (Err fault.Dead) does = absurd (false≢true (sym living ∙ does.cause))
     wrote (Err fault.SavesFull) does = absurd does.cause.1
     wrote (Err (fault.LogFull g h n)) does = absurd (page_fits mid.store.shape bytes g h n entries long does.cause.1)

@@ -10,5 +10,7 @@ pub mod Sought
 pub mod Faults
 pub mod Scanned
 pub mod Form
+pub mod Names
 pub mod Upgrading
 pub mod Removing
+pub mod Making

@@ -1,4 +1,7 @@
 // Why calls on records are refused.
+ghost use Rattle.std.specs.Prelude.{◌≡◌};
+ghost use Rattle.record_table.specs.Faults.{IsOfAttach, as_attach};
+
 use history::Reply;
 use page_store::{IndexFault, PageFault};
 use thiserror::Error;
@@ -124,4 +127,17 @@ pub enum AttachRecords {
     /// An earlier call has met a fault of the medium.
     #[error("the array is dead")]
     Dead,
+}
+
+/// A refusal of pages, to which records were to be attached.
+pub fn unattached(fault: PageFault) -> AttachRecords
+    requires { IsOfAttach fault }
+    ensures { result ≡ as_attach fault }
+{
+    match fault {
+        PageFault::Media => AttachRecords::Media,
+        PageFault::Dead => AttachRecords::Dead,
+        PageFault::Damaged { page } => AttachRecords::Damaged { page },
+        PageFault::LogFull { .. } | PageFault::SavesFull => unreachable!(),
+    }
 }

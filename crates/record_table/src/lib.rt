@@ -7,6 +7,8 @@
 
 mod fault;
 mod form;
+mod making;
+mod names;
 mod records;
 mod removing;
 mod scanning;
@@ -16,4 +18,5 @@ mod upgrading;
 
 pub use fault::{AttachRecords, TableFault};
 pub use form::{Form, form_of};
+pub use making::MakeFault;
 pub use records::Records;

@@ -1,5 +1,5 @@
 // Records over pages, under an index.
-ghost use Rattle.std.specs.Prelude.{◌≡◌, ◌<◌, ◌≤◌, ℕ, [], None, IfOk, IfErr, IfSome, OnErr, IsErrOf, IsTrue, if◌then◌else◌, filter, length};
+ghost use Rattle.std.specs.Prelude.{◌≡◌, ◌<◌, ◌≤◌, ℕ, [], Some, None, IfOk, IfErr, IfSome, IfNone, OnErr, IsErrOf, IsTrue, if◌then◌else◌, filter, length, slice_get};
 ghost use Rattle.array_shape.specs.NumberSet.{members};
 ghost use Rattle.eaw_face.specs.Causes.{IsAlive};
 ghost use Rattle.eaw_face.specs.State.{listed};
@@ -17,8 +17,12 @@ ghost use Rattle.record_table.specs.Does.{Does, replied, is_failed};
 ghost use Rattle.record_table.specs.Shown.{asked_tables, state_of, pairs_of, held_on, is_write_on, AreNamed};
 ghost use Rattle.record_table.specs.Sought.{LooksAs};
 ghost use Rattle.record_table.specs.Upgrading.{Upgrades};
+ghost use Rattle.record_table.specs.Making.{Makes};
+ghost use Rattle.record_table.specs.Names.{IsNew, names_of};
 
-use crate::fault::{AttachRecords, TableFault};
+use crate::fault::{AttachRecords, TableFault, unattached};
+use crate::making::{MakeFault, make};
+use crate::names::read_names;
 use crate::removing::{next_absent, remove};
 use crate::scanning::gather;
 use crate::slots::{seek, value_at, write_as};
@@ -28,7 +32,7 @@ use array_shape::{NumberSet, Shape};
 use eaw_face::EawStore;
 use history::Rows;
 use page_store::{CheckFault, KeyIndex, Pages};
-use record_slots::{Slot, Value};
+use record_slots::{Name, Names, Slot, Value};
 use std::alloc::Global;
 use std::marker::{Model, PhantomData};
 
@@ -46,18 +50,20 @@ const MAIN_ROOT: u32 = 1;
 #[derive(Drop)]
 pub struct Records<S: EawStore, K: KeyIndex> {
     pages: Pages<S>,
+    names: Names,
     index: PhantomData<K>,
 }
 
 impl<S: EawStore, K: KeyIndex> Model for Records<S, K> {
     ghost use Rattle.page_store.specs.Shown.{Shown, pages_of};
     ghost use Rattle.record_table.specs.Invariant.{Holds};
+    ghost use Rattle.record_table.specs.Names.{KeepsNames};
 
     ghost Value = { Shown S };
 
     ghost view = { λ r. r.pages };
 
-    ghost invariant = { λ r. Holds S.tells K.index (pages_of (S.view r.pages.store) r.pages) };
+    ghost invariant = { λ r. Holds S.tells K.index (pages_of (S.view r.pages.store) r.pages) × KeepsNames S.tells (pages_of (S.view r.pages.store) r.pages) r.names };
 }
 
 impl<S: EawStore, K: KeyIndex> Records<S, K> {
@@ -74,13 +80,20 @@ impl<S: EawStore, K: KeyIndex> Records<S, K> {
     {
         let mut pages = pages;
         match K::check(&mut pages) {
-            Ok(()) => Ok(Records {
+            Ok(()) => {}
+            Err(CheckFault::Damaged { page }) => {
+                return Err((AttachRecords::Damaged { page }, pages));
+            }
+            Err(CheckFault::Media) => return Err((AttachRecords::Media, pages)),
+            Err(CheckFault::Dead) => return Err((AttachRecords::Dead, pages)),
+        }
+        match read_names(&mut pages) {
+            Ok(names) => Ok(Records {
                 pages,
+                names,
                 index: PhantomData,
             }),
-            Err(CheckFault::Damaged { page }) => Err((AttachRecords::Damaged { page }, pages)),
-            Err(CheckFault::Media) => Err((AttachRecords::Media, pages)),
-            Err(CheckFault::Dead) => Err((AttachRecords::Dead, pages)),
+            Err(fault) => Err((unattached(fault), pages)),
         }
     }
 
@@ -94,11 +107,47 @@ impl<S: EawStore, K: KeyIndex> Records<S, K> {
         told(upgrade::<S, K>(&mut self.pages))
     }
 
+    /// Makes a table of this name, without records, and returns its number: it comes behind those that there are. The super page is brought
+    /// to version 2 first. No number may be live.
+    pub fn make(&mut self, name: &Name) -> Result<u8, MakeFault>
+        requires free { (S.view self.old.store).ranges 0 ≡ None }
+        ensures makes { Makes S.tells (S.opens (S.view self.old.store).shape) K.index name.now
+            (pages_of (S.view self.old.store) self.old) (pages_of (S.view self.new.store) self.new) result }
+        ensures dead { IsErrOf result MakeFault.Dead → self.new ≡ self.old }
+    {
+        match make::<S, K>(&mut self.pages, name) {
+            Ok(number) => {
+                self.names.push(name);
+                Ok(number)
+            }
+            Err(fault) => Err(fault),
+        }
+    }
+
+    /// The number of the table of this name, if there is one: of those that the records were attached with, and those made since.
+    pub fn table_of(&self, name: &Name) -> Option<u8>
+        ensures some { IsTrue S.tells → IsAlive (S.view self.now.store) → IfSome result (λ j. slice_get (names_of (S.view self.now.store).state.bytes) j ≡ Some name.now) }
+        ensures none { IsTrue S.tells → IsAlive (S.view self.now.store) → IfNone result (IsNew name.now (names_of (S.view self.now.store).state.bytes)) }
+    {
+        self.names.number(name)
+    }
+
+    /// The name of the table of this number, if there is one.
+    pub fn name_at(&self, table: u8) -> Option<Name>
+        ensures { IsTrue S.tells → IsAlive (S.view self.now.store) → result ≡ slice_get (names_of (S.view self.now.store).state.bytes) table }
+    {
+        self.names.name(table)
+    }
+
     /// The pages below. What numbers have written is still in them.
     pub fn into_pages(self) -> Pages<S>
         ensures { result ≡ self }
     {
-        let Records { pages, index: _ } = self;
+        let Records {
+            pages,
+            names: _,
+            index: _,
+        } = self;
         pages
     }
 

@@ -1,5 +1,5 @@
 // The super page, brought to version 2.
-ghost use Rattle.std.specs.Prelude.{◌≡◌, ◌≢◌, None, IfOk, IfErr, IsErrOf, IsTrue};
+ghost use Rattle.std.specs.Prelude.{◌≡◌, ◌≢◌, ◌≤◌, None, IfOk, IfErr, IsErrOf, IsTrue};
 ghost use Rattle.eaw_face.specs.Causes.{IsAlive};
 ghost use Rattle.page_store.specs.Looks.{LookCause, is_failed};
 ghost use Rattle.page_store.specs.Shown.{pages_of};
@@ -20,12 +20,13 @@ const PAGE_LEN: usize = 512;
 const UPGRADER: u8 = 0;
 
 // What the super page says.
-fn read_front<S: EawStore, K: KeyIndex>(pages: &mut Pages<S>) -> Result<Super, PageFault>
+pub fn read_front<S: EawStore, K: KeyIndex>(pages: &mut Pages<S>) -> Result<Super, PageFault>
     requires holds { Holds S.tells K.index (pages_of (S.view pages.old.store) pages.old) }
     ensures looks { LooksAs S.tells (S.opens (S.view pages.old.store).shape) 0 (is_failed result)
         (pages_of (S.view pages.old.store) pages.old) (pages_of (S.view pages.new.store) pages.new) }
     ensures cause { LookCause S.tells (S.view pages.old.store) result }
     ensures says { IsTrue S.tells → IfOk result (SaysSuper (page_bytes (S.view pages.old.store).state.bytes 0)) }
+    ensures version { IfOk result (λ front. (1 ≤ front.version) × (front.version ≤ 2)) }
     ensures dead { IsErrOf result PageFault.Dead → pages.new ≡ pages.old }
 {
     let mut bytes = [0; PAGE_LEN];

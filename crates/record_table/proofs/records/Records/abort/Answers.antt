@@ -6,6 +6,7 @@ use Rattle.history.specs.declared.call.Call.TheVariants.{Abort}
 use Rattle.history.specs.declared.call.Reply.TheVariants.{Fine}
 use Rattle.record_table.proofs.Ending.{ended, err_same, always, abort_is, media_told}
 use Rattle.record_table.proofs.Sharing.{Laws}
+use Rattle.record_table.proofs.KeptNames.{kept_as}
 use Rattle.record_table.proofs.records.Records.abort.Goals as goal
 
 pub invariant_of-self : goal.invariant_of-self
@@ -14,9 +15,9 @@ invariant_of-self g c =
     let V = g.S.EawStore.view in
     let laws : Laws g.K.KeyIndex.index = record { rises = K.rises; given = K.given; counts = K.counts; rests = K.rests; extends = K.extends } in
     let inside = c.self.inside.pages in
-    (ended V g.S.EawStore.tells g.S.EawStore.opens g.K.KeyIndex.index 0 c.args.tid Abort c.args.self.now inside c.self.view_is (page.end c.args.tid false) c.end.new.self c.self.invariant
-    (λ alive. abort_is g.S.EawStore.tells g.K.KeyIndex.index laws (pages_of (V inside.store) inside) (c.self.invariant alive) 0 c.args.tid) (Unit {0}) (λ done. Fine) c.end.result c.end.ensures.does
-    (err_same c.end.result c.end.ensures.refused) (λ told. always c.end.result refl) c.told.result c.told.ensures).1
+    kept_as V c.args.self.now inside c.self.view_is (ended V g.S.EawStore.tells g.S.EawStore.opens g.K.KeyIndex.index 0 c.args.tid Abort c.args.self.now inside c.self.view_is (page.end c.args.tid false) c.end.new.self c.self.invariant.0
+    (λ alive. abort_is g.S.EawStore.tells g.K.KeyIndex.index laws (pages_of (V inside.store) inside) (c.self.invariant.0 alive) 0 c.args.tid) (Unit {0}) (λ done. Fine) c.end.result c.end.ensures.does
+    (err_same c.end.result c.end.ensures.refused) (λ told. always c.end.result refl) c.told.result c.told.ensures) c.self.invariant.1
 
 pub returns-clause-does : goal.returns-clause-does
 returns-clause-does g c =
@@ -24,8 +25,8 @@ returns-clause-does g c =
     let V = g.S.EawStore.view in
     let laws : Laws g.K.KeyIndex.index = record { rises = K.rises; given = K.given; counts = K.counts; rests = K.rests; extends = K.extends } in
     let inside = c.self.inside.pages in
-    (ended V g.S.EawStore.tells g.S.EawStore.opens g.K.KeyIndex.index 0 c.args.tid Abort c.args.self.now inside c.self.view_is (page.end c.args.tid false) c.end.new.self c.self.invariant
-    (λ alive. abort_is g.S.EawStore.tells g.K.KeyIndex.index laws (pages_of (V inside.store) inside) (c.self.invariant alive) 0 c.args.tid) (Unit {0}) (λ done. Fine) c.end.result c.end.ensures.does
+    (ended V g.S.EawStore.tells g.S.EawStore.opens g.K.KeyIndex.index 0 c.args.tid Abort c.args.self.now inside c.self.view_is (page.end c.args.tid false) c.end.new.self c.self.invariant.0
+    (λ alive. abort_is g.S.EawStore.tells g.K.KeyIndex.index laws (pages_of (V inside.store) inside) (c.self.invariant.0 alive) 0 c.args.tid) (Unit {0}) (λ done. Fine) c.end.result c.end.ensures.does
     (err_same c.end.result c.end.ensures.refused) (λ told. always c.end.result refl) c.told.result c.told.ensures).0
 
 pub returns-clause-due : goal.returns-clause-due

@@ -1,17 +1,40 @@
+use Rattle.std.proofs.Common.{false, refl, sym, ◌∙◌, ap, subst}
+use Rattle.array_shape.specs.declared.shape.Shape.{Shape}
+use Rattle.eaw_face.specs.State.{State}
+use Rattle.page_store.specs.Looks.{Looks}
 use Rattle.page_store.specs.Shown.{pages_of}
+use Rattle.index_pages.proofs.Looking.{looks_then}
+use Rattle.record_table.specs.Names.{names_of}
 use Rattle.record_table.proofs.Seeking.{attached, begins}
 use Rattle.record_table.proofs.records.Records.attach.Goals as goal
 
 pub invariant_of-result : goal.invariant_of-result
 invariant_of-result g c =
     let V = g.S.EawStore.view in
+    let T = g.S.EawStore.tells in
+    let E = g.S.EawStore.opens in
+    let O = g.S.EawStore.opens (V c.args.pages.store).shape in
+    let v0 = pages_of (V c.args.pages.store) c.args.pages in
+    let v1 = pages_of (V c.check.new.pages.store) c.check.new.pages in
+    let v2 = pages_of (V c.read_names.new.pages.store) c.read_names.new.pages in
     let alive = c.in-Ok.ensures.cause.0 in
-    begins g.S.EawStore.tells (g.S.EawStore.opens (V c.args.pages.store).shape) g.K.KeyIndex.index (pages_of (V c.args.pages.store) c.args.pages) (pages_of (V c.check.new.pages.store) c.check.new.pages)
-    c.in-Ok.ensures.looks alive (c.requires.closed alive) (c.requires.idle alive) (λ told t. g.met.S.EawStore.outlines c.args.pages.store t told alive) c.in-Ok.ensures.cause.1
+    let later = subst (λ (s : Shape). Looks T (E s) false v1 v2) c.in-Ok.ensures.looks.shape c.in-Ok-read_names.ensures.looks in
+    let looks = looks_then T O false v0 v1 v2 c.in-Ok.ensures.looks later in
+    (
+      begins T O g.K.KeyIndex.index v0 v2 looks alive (c.requires.closed alive) (c.requires.idle alive) (λ told t. g.met.S.EawStore.outlines c.args.pages.store t told alive) c.in-Ok.ensures.cause.1,
+      λ told living. c.in-Ok-read_names.ensures.names told ∙ ap (λ (s : State). names_of s.bytes) (sym ((later.still refl).state told)),
+    )
 
-pub returns-in-Ok-clause-attached : goal.returns-in-Ok-clause-attached
-returns-in-Ok-clause-attached g c =
+pub returns-in-Ok-read_names-clause-attached : goal.returns-in-Ok-read_names-clause-attached
+returns-in-Ok-read_names-clause-attached g c =
     let V = g.S.EawStore.view in
+    let T = g.S.EawStore.tells in
+    let E = g.S.EawStore.opens in
+    let O = g.S.EawStore.opens (V c.args.pages.store).shape in
+    let v0 = pages_of (V c.args.pages.store) c.args.pages in
+    let v1 = pages_of (V c.check.new.pages.store) c.check.new.pages in
+    let v2 = pages_of (V c.read_names.new.pages.store) c.read_names.new.pages in
     let alive = c.in-Ok.ensures.cause.0 in
-    attached g.S.EawStore.tells (g.S.EawStore.opens (V c.args.pages.store).shape) g.K.KeyIndex.index (pages_of (V c.args.pages.store) c.args.pages) (pages_of (V c.check.new.pages.store) c.check.new.pages)
-    c.in-Ok.ensures.looks alive (c.requires.closed alive) (c.requires.idle alive) (λ told t. g.met.S.EawStore.outlines c.args.pages.store t told alive) c.in-Ok.ensures.cause.1
+    let later = subst (λ (s : Shape). Looks T (E s) false v1 v2) c.in-Ok.ensures.looks.shape c.in-Ok-read_names.ensures.looks in
+    let looks = looks_then T O false v0 v1 v2 c.in-Ok.ensures.looks later in
+    attached T O g.K.KeyIndex.index v0 v2 looks alive (c.requires.closed alive) (c.requires.idle alive) (λ told t. g.met.S.EawStore.outlines c.args.pages.store t told alive) c.in-Ok.ensures.cause.1

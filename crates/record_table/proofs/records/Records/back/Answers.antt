@@ -5,6 +5,7 @@ use Rattle.history.specs.declared.call.Call.TheVariants.{Back}
 use Rattle.history.specs.declared.call.Reply.TheVariants.{Fine}
 use Rattle.record_table.proofs.Ending.{ended, on_err_same, always, back_is, back_right, media_told}
 use Rattle.record_table.proofs.Sharing.{Laws}
+use Rattle.record_table.proofs.KeptNames.{kept_as}
 use Rattle.record_table.proofs.records.Records.back.Goals as goal
 
 pub invariant_of-self : goal.invariant_of-self
@@ -13,11 +14,11 @@ invariant_of-self g c =
     let V = g.S.EawStore.view in
     let laws : Laws g.K.KeyIndex.index = record { rises = K.rises; given = K.given; counts = K.counts; rests = K.rests; extends = K.extends } in
     let inside = c.self.inside.pages in
-    (ended V g.S.EawStore.tells g.S.EawStore.opens g.K.KeyIndex.index 0 c.args.tid (Back c.args.n) c.args.self.now inside c.self.view_is (page.back c.args.tid c.args.n) c.back.new.self c.self.invariant
-    (λ alive. back_is g.S.EawStore.tells g.K.KeyIndex.index laws (pages_of (V inside.store) inside) (c.self.invariant alive) 0 c.args.tid c.args.n c.requires.some
+    kept_as V c.args.self.now inside c.self.view_is (ended V g.S.EawStore.tells g.S.EawStore.opens g.K.KeyIndex.index 0 c.args.tid (Back c.args.n) c.args.self.now inside c.self.view_is (page.back c.args.tid c.args.n) c.back.new.self c.self.invariant.0
+    (λ alive. back_is g.S.EawStore.tells g.K.KeyIndex.index laws (pages_of (V inside.store) inside) (c.self.invariant.0 alive) 0 c.args.tid c.args.n c.requires.some
     (subst (λ (p : Shown g.row.S.Denot). c.args.n ≤ length (counts_in p.marks c.args.tid)) (sym c.self.view_is) c.requires.there) (c.is_dead.ensures.ordered alive)
     (λ told. record { long = g.met.S.EawStore.long inside.store told; outlines = λ t. g.met.S.EawStore.outlines inside.store t told alive; placed = λ t. g.met.S.EawStore.placed inside.store t })) (Unit {0}) (λ done. Fine) c.back.result c.back.ensures.does
-    (on_err_same c.back.result c.back.ensures.refused) (λ told. always c.back.result (back_right g.K.KeyIndex.index (pages_of (V inside.store) inside) c.args.tid c.args.n c.requires.some (subst (λ (p : Shown g.row.S.Denot). c.args.n ≤ length (counts_in p.marks c.args.tid)) (sym c.self.view_is) c.requires.there))) c.told.result c.told.ensures).1
+    (on_err_same c.back.result c.back.ensures.refused) (λ told. always c.back.result (back_right g.K.KeyIndex.index (pages_of (V inside.store) inside) c.args.tid c.args.n c.requires.some (subst (λ (p : Shown g.row.S.Denot). c.args.n ≤ length (counts_in p.marks c.args.tid)) (sym c.self.view_is) c.requires.there))) c.told.result c.told.ensures) c.self.invariant.1
 
 pub returns-clause-does : goal.returns-clause-does
 returns-clause-does g c =
@@ -25,8 +26,8 @@ returns-clause-does g c =
     let V = g.S.EawStore.view in
     let laws : Laws g.K.KeyIndex.index = record { rises = K.rises; given = K.given; counts = K.counts; rests = K.rests; extends = K.extends } in
     let inside = c.self.inside.pages in
-    (ended V g.S.EawStore.tells g.S.EawStore.opens g.K.KeyIndex.index 0 c.args.tid (Back c.args.n) c.args.self.now inside c.self.view_is (page.back c.args.tid c.args.n) c.back.new.self c.self.invariant
-    (λ alive. back_is g.S.EawStore.tells g.K.KeyIndex.index laws (pages_of (V inside.store) inside) (c.self.invariant alive) 0 c.args.tid c.args.n c.requires.some
+    (ended V g.S.EawStore.tells g.S.EawStore.opens g.K.KeyIndex.index 0 c.args.tid (Back c.args.n) c.args.self.now inside c.self.view_is (page.back c.args.tid c.args.n) c.back.new.self c.self.invariant.0
+    (λ alive. back_is g.S.EawStore.tells g.K.KeyIndex.index laws (pages_of (V inside.store) inside) (c.self.invariant.0 alive) 0 c.args.tid c.args.n c.requires.some
     (subst (λ (p : Shown g.row.S.Denot). c.args.n ≤ length (counts_in p.marks c.args.tid)) (sym c.self.view_is) c.requires.there) (c.is_dead.ensures.ordered alive)
     (λ told. record { long = g.met.S.EawStore.long inside.store told; outlines = λ t. g.met.S.EawStore.outlines inside.store t told alive; placed = λ t. g.met.S.EawStore.placed inside.store t })) (Unit {0}) (λ done. Fine) c.back.result c.back.ensures.does
     (on_err_same c.back.result c.back.ensures.refused) (λ told. always c.back.result (back_right g.K.KeyIndex.index (pages_of (V inside.store) inside) c.args.tid c.args.n c.requires.some (subst (λ (p : Shown g.row.S.Denot). c.args.n ≤ length (counts_in p.marks c.args.tid)) (sym c.self.view_is) c.requires.there))) c.told.result c.told.ensures).0

@@ -8,6 +8,7 @@ use Rattle.record_table.specs.Shown.{state_of}
 use Rattle.record_table.proofs.Ending.{ended, err_same, always, commit_is, media_told}
 use Rattle.record_table.proofs.Holding.{as_many_writes}
 use Rattle.record_table.proofs.Sharing.{Laws}
+use Rattle.record_table.proofs.KeptNames.{kept_as}
 use Rattle.record_table.proofs.records.Records.commit.Goals as goal
 
 pub invariant_of-self : goal.invariant_of-self
@@ -16,9 +17,9 @@ invariant_of-self g c =
     let V = g.S.EawStore.view in
     let laws : Laws g.K.KeyIndex.index = record { rises = K.rises; given = K.given; counts = K.counts; rests = K.rests; extends = K.extends } in
     let inside = c.self.inside.pages in
-    (ended V g.S.EawStore.tells g.S.EawStore.opens g.K.KeyIndex.index 0 c.args.tid Commit c.args.self.now inside c.self.view_is (page.end c.args.tid true) c.end.new.self c.self.invariant
-    (λ alive. commit_is g.S.EawStore.tells g.K.KeyIndex.index laws (pages_of (V inside.store) inside) (c.self.invariant alive) 0 c.args.tid) (Unit {0}) (λ done. Committed 0) c.end.result c.end.ensures.does
-    (err_same c.end.result c.end.ensures.refused) (λ told. always c.end.result tt) c.told.result c.told.ensures).1
+    kept_as V c.args.self.now inside c.self.view_is (ended V g.S.EawStore.tells g.S.EawStore.opens g.K.KeyIndex.index 0 c.args.tid Commit c.args.self.now inside c.self.view_is (page.end c.args.tid true) c.end.new.self c.self.invariant.0
+    (λ alive. commit_is g.S.EawStore.tells g.K.KeyIndex.index laws (pages_of (V inside.store) inside) (c.self.invariant.0 alive) 0 c.args.tid) (Unit {0}) (λ done. Committed 0) c.end.result c.end.ensures.does
+    (err_same c.end.result c.end.ensures.refused) (λ told. always c.end.result tt) c.told.result c.told.ensures) c.self.invariant.1
 
 pub returns-clause-does : goal.returns-clause-does
 returns-clause-does g c n =
@@ -26,8 +27,8 @@ returns-clause-does g c n =
     let V = g.S.EawStore.view in
     let laws : Laws g.K.KeyIndex.index = record { rises = K.rises; given = K.given; counts = K.counts; rests = K.rests; extends = K.extends } in
     let inside = c.self.inside.pages in
-    (ended V g.S.EawStore.tells g.S.EawStore.opens g.K.KeyIndex.index 0 c.args.tid Commit c.args.self.now inside c.self.view_is (page.end c.args.tid true) c.end.new.self c.self.invariant
-    (λ alive. commit_is g.S.EawStore.tells g.K.KeyIndex.index laws (pages_of (V inside.store) inside) (c.self.invariant alive) 0 c.args.tid) (Unit {0}) (λ done. Committed n) c.end.result c.end.ensures.does
+    (ended V g.S.EawStore.tells g.S.EawStore.opens g.K.KeyIndex.index 0 c.args.tid Commit c.args.self.now inside c.self.view_is (page.end c.args.tid true) c.end.new.self c.self.invariant.0
+    (λ alive. commit_is g.S.EawStore.tells g.K.KeyIndex.index laws (pages_of (V inside.store) inside) (c.self.invariant.0 alive) 0 c.args.tid) (Unit {0}) (λ done. Committed n) c.end.result c.end.ensures.does
     (err_same c.end.result c.end.ensures.refused) (λ told. always c.end.result tt) c.told.result c.told.ensures).0
 
 pub returns-clause-due : goal.returns-clause-due

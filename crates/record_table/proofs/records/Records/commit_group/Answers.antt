@@ -7,6 +7,7 @@ use Rattle.record_table.specs.Shown.{state_of}
 use Rattle.record_table.proofs.Ending.{err_same, media_told}
 use Rattle.record_table.proofs.Grouping.{group_ended, as_many_in_group}
 use Rattle.record_table.proofs.Sharing.{Laws}
+use Rattle.record_table.proofs.KeptNames.{group_kept_as}
 use Rattle.record_table.proofs.records.Records.commit_group.Goals as goal
 
 pub invariant_of-self : goal.invariant_of-self
@@ -15,8 +16,8 @@ invariant_of-self g c =
     let V = g.S.EawStore.view in
     let laws : Laws g.K.KeyIndex.index = record { rises = K.rises; given = K.given; counts = K.counts; rests = K.rests; extends = K.extends } in
     let inside = c.self.inside.pages in
-    (group_ended V g.S.EawStore.tells g.S.EawStore.opens g.K.KeyIndex.index laws (members c.args.tids) c.args.self.now inside c.self.view_is c.end_group.new.self c.self.invariant c.end_group.result c.end_group.ensures.does
-    (err_same c.end_group.result c.end_group.ensures.refused) c.told.result c.told.ensures).1
+    group_kept_as V c.args.self.now inside c.self.view_is (group_ended V g.S.EawStore.tells g.S.EawStore.opens g.K.KeyIndex.index laws (members c.args.tids) c.args.self.now inside c.self.view_is c.end_group.new.self c.self.invariant.0 c.end_group.result c.end_group.ensures.does
+    (err_same c.end_group.result c.end_group.ensures.refused) c.told.result c.told.ensures) c.self.invariant.1
 
 pub returns-clause-does : goal.returns-clause-does
 returns-clause-does g c =
@@ -24,7 +25,7 @@ returns-clause-does g c =
     let V = g.S.EawStore.view in
     let laws : Laws g.K.KeyIndex.index = record { rises = K.rises; given = K.given; counts = K.counts; rests = K.rests; extends = K.extends } in
     let inside = c.self.inside.pages in
-    (group_ended V g.S.EawStore.tells g.S.EawStore.opens g.K.KeyIndex.index laws (members c.args.tids) c.args.self.now inside c.self.view_is c.end_group.new.self c.self.invariant c.end_group.result c.end_group.ensures.does
+    (group_ended V g.S.EawStore.tells g.S.EawStore.opens g.K.KeyIndex.index laws (members c.args.tids) c.args.self.now inside c.self.view_is c.end_group.new.self c.self.invariant.0 c.end_group.result c.end_group.ensures.does
     (err_same c.end_group.result c.end_group.ensures.refused) c.told.result c.told.ensures).0
 
 pub returns-clause-due : goal.returns-clause-due

@@ -19,51 +19,52 @@ use Rattle.record_table.proofs.Putting.{answered, removed}
 use Rattle.record_table.proofs.Sharing.{Laws}
 use Rattle.record_table.proofs.records.Records.del.Given.{Over}
 use Rattle.record_table.proofs.records.Records.del.Goals.{in-Ok, in-Err-write_as}
+use Rattle.record_table.proofs.KeptNames.{kept}
 use Rattle.record_table.proofs.records.Records.del.Goals as goal
 
 pub invariant_of-self : goal.invariant_of-self
 invariant_of-self g c =
     let V = g.S.EawStore.view in
     let inside = c.self.inside.pages in
-    (not_removed g.S.EawStore.tells (g.S.EawStore.opens (V inside.store).shape) g.K.KeyIndex.index 0 c.args.tid c.args.key (pages_of (V inside.store) inside) (pages_of (V c.seek.new.pages.store) c.seek.new.pages) c.self.invariant
-    c.in-Ok-None.ensures.cause c.in-Ok-None.ensures.looks (λ told. let f = rw c.in-Ok-None.field-0-is at (c.in-Ok-None.ensures.finds told) in f.1)).1
+    kept (not_removed g.S.EawStore.tells (g.S.EawStore.opens (V inside.store).shape) g.K.KeyIndex.index 0 c.args.tid c.args.key (pages_of (V inside.store) inside) (pages_of (V c.seek.new.pages.store) c.seek.new.pages) c.self.invariant.0
+    c.in-Ok-None.ensures.cause c.in-Ok-None.ensures.looks (λ told. let f = rw c.in-Ok-None.field-0-is at (c.in-Ok-None.ensures.finds told) in f.1)) c.self.invariant.1
 
 pub returns-in-Ok-None-clause-does : goal.returns-in-Ok-None-clause-does
 returns-in-Ok-None-clause-does g c =
     let V = g.S.EawStore.view in
     let inside = c.self.inside.pages in
     does_of V g.S.EawStore.tells g.S.EawStore.opens g.K.KeyIndex.index 0 c.args.tid (Del c.args.key) c.args.self.now inside c.self.view_is (pages_of (V c.seek.new.pages.store) c.seek.new.pages) (Ok reply.Absent)
-    (not_removed g.S.EawStore.tells (g.S.EawStore.opens (V inside.store).shape) g.K.KeyIndex.index 0 c.args.tid c.args.key (pages_of (V inside.store) inside) (pages_of (V c.seek.new.pages.store) c.seek.new.pages) c.self.invariant
+    (not_removed g.S.EawStore.tells (g.S.EawStore.opens (V inside.store).shape) g.K.KeyIndex.index 0 c.args.tid c.args.key (pages_of (V inside.store) inside) (pages_of (V c.seek.new.pages.store) c.seek.new.pages) c.self.invariant.0
     c.in-Ok-None.ensures.cause c.in-Ok-None.ensures.looks (λ told. let f = rw c.in-Ok-None.field-0-is at (c.in-Ok-None.ensures.finds told) in f.1)).0
 
 pub invariant_of-self-in-Err : goal.invariant_of-self-in-Err
 invariant_of-self-in-Err g c =
     let V = g.S.EawStore.view in
     let inside = c.self.inside.pages in
-    (look_refused g.S.EawStore.tells (g.S.EawStore.opens (V inside.store).shape) g.K.KeyIndex.index 0 c.args.tid (Del c.args.key) (pages_of (V inside.store) inside) (pages_of (V c.seek.new.pages.store) c.seek.new.pages) c.self.invariant _ c.in-Err.fault tt
-    c.in-Err.ensures.cause c.in-Err.ensures.looks (λ e. ap (λ (p : Shown g.row.S.Denot). pages_of (V p.store) p) (c.in-Err.ensures.dead e))).1
+    kept (look_refused g.S.EawStore.tells (g.S.EawStore.opens (V inside.store).shape) g.K.KeyIndex.index 0 c.args.tid (Del c.args.key) (pages_of (V inside.store) inside) (pages_of (V c.seek.new.pages.store) c.seek.new.pages) c.self.invariant.0 _ c.in-Err.fault tt
+    c.in-Err.ensures.cause c.in-Err.ensures.looks (λ e. ap (λ (p : Shown g.row.S.Denot). pages_of (V p.store) p) (c.in-Err.ensures.dead e))) c.self.invariant.1
 
 pub returns-in-Err-clause-does : goal.returns-in-Err-clause-does
 returns-in-Err-clause-does g c =
     let V = g.S.EawStore.view in
     let inside = c.self.inside.pages in
     rw c.from.ensures (does_of V g.S.EawStore.tells g.S.EawStore.opens g.K.KeyIndex.index 0 c.args.tid (Del c.args.key) c.args.self.now inside c.self.view_is (pages_of (V c.seek.new.pages.store) c.seek.new.pages) _
-    (look_refused g.S.EawStore.tells (g.S.EawStore.opens (V inside.store).shape) g.K.KeyIndex.index 0 c.args.tid (Del c.args.key) (pages_of (V inside.store) inside) (pages_of (V c.seek.new.pages.store) c.seek.new.pages) c.self.invariant _ c.in-Err.fault tt
+    (look_refused g.S.EawStore.tells (g.S.EawStore.opens (V inside.store).shape) g.K.KeyIndex.index 0 c.args.tid (Del c.args.key) (pages_of (V inside.store) inside) (pages_of (V c.seek.new.pages.store) c.seek.new.pages) c.self.invariant.0 _ c.in-Err.fault tt
     c.in-Err.ensures.cause c.in-Err.ensures.looks (λ e. ap (λ (p : Shown g.row.S.Denot). pages_of (V p.store) p) (c.in-Err.ensures.dead e))).0)
 
 pub invariant_of-self-then-is_none : goal.invariant_of-self-then-is_none
 invariant_of-self-then-is_none g c =
     let V = g.S.EawStore.view in
     let inside = c.self.inside.pages in
-    (not_removed g.S.EawStore.tells (g.S.EawStore.opens (V inside.store).shape) g.K.KeyIndex.index 0 c.args.tid c.args.key (pages_of (V inside.store) inside) (pages_of (V c.seek.new.pages.store) c.seek.new.pages) c.self.invariant
-    c.in-Ok-Some.ensures.cause c.in-Ok-Some.ensures.looks (λ told. let f = rw c.in-Ok-Some.field-0-is at (c.in-Ok-Some.ensures.finds told) in f.1 ∙ none_is c.in-Ok-Some.place.value c.if-is_none.ensures)).1
+    kept (not_removed g.S.EawStore.tells (g.S.EawStore.opens (V inside.store).shape) g.K.KeyIndex.index 0 c.args.tid c.args.key (pages_of (V inside.store) inside) (pages_of (V c.seek.new.pages.store) c.seek.new.pages) c.self.invariant.0
+    c.in-Ok-Some.ensures.cause c.in-Ok-Some.ensures.looks (λ told. let f = rw c.in-Ok-Some.field-0-is at (c.in-Ok-Some.ensures.finds told) in f.1 ∙ none_is c.in-Ok-Some.place.value c.if-is_none.ensures)) c.self.invariant.1
 
 pub returns-then-is_none-clause-does : goal.returns-then-is_none-clause-does
 returns-then-is_none-clause-does g c =
     let V = g.S.EawStore.view in
     let inside = c.self.inside.pages in
     does_of V g.S.EawStore.tells g.S.EawStore.opens g.K.KeyIndex.index 0 c.args.tid (Del c.args.key) c.args.self.now inside c.self.view_is (pages_of (V c.seek.new.pages.store) c.seek.new.pages) (Ok reply.Absent)
-    (not_removed g.S.EawStore.tells (g.S.EawStore.opens (V inside.store).shape) g.K.KeyIndex.index 0 c.args.tid c.args.key (pages_of (V inside.store) inside) (pages_of (V c.seek.new.pages.store) c.seek.new.pages) c.self.invariant
+    (not_removed g.S.EawStore.tells (g.S.EawStore.opens (V inside.store).shape) g.K.KeyIndex.index 0 c.args.tid c.args.key (pages_of (V inside.store) inside) (pages_of (V c.seek.new.pages.store) c.seek.new.pages) c.self.invariant.0
     c.in-Ok-Some.ensures.cause c.in-Ok-Some.ensures.looks (λ told. let f = rw c.in-Ok-Some.field-0-is at (c.in-Ok-Some.ensures.finds told) in f.1 ∙ none_is c.in-Ok-Some.place.value c.if-is_none.ensures)).0
 
 -- the reply to a removal
@@ -90,11 +91,11 @@ invariant_of-self-2 g c =
     let finds = λ (told : IsTrue g.S.EawStore.tells). rw c.in-Ok-Some.field-0-is at (c.in-Ok-Some.ensures.finds told) in
     let does = subst (λ (s : Shape). page.Does g.S.EawStore.tells (g.S.EawStore.opens s) (write_as c.args.tid (64 * (slots_of (V mid.store).shape + c.in-Ok-Some.place.slot)) (slot_bytes (Absent 0 c.args.key))) (pages_of (V mid.store) mid) (pages_of (V new.store) new) c.write_as.result)
     looks.shape c.write_as.ensures.does in
-    (removed g.S.EawStore.tells (g.S.EawStore.opens (V inside.store).shape) g.K.KeyIndex.index laws 0 c.args.tid c.args.key (omega arith) (pages_of (V inside.store) inside) alive c.self.invariant (pages_of (V mid.store) mid) looks (pages_of (V new.store) new) c.in-Ok-Some.place.slot
+    kept (removed g.S.EawStore.tells (g.S.EawStore.opens (V inside.store).shape) g.K.KeyIndex.index laws 0 c.args.tid c.args.key (omega arith) (pages_of (V inside.store) inside) alive c.self.invariant.0 (pages_of (V mid.store) mid) looks (pages_of (V new.store) new) c.in-Ok-Some.place.slot
     (λ told. (finds told).0) (λ told. ap is_some (finds told).1 ∙ c.if-is_none.ensures)
     (λ told. record { long = g.met.S.EawStore.long mid.store told; outlines = λ t. g.met.S.EawStore.outlines mid.store t told mid_alive; placed = λ t. g.met.S.EawStore.placed mid.store t })
     (c.write_as.ensures.ordered mid_alive) (c.write_as.ensures.reads_back mid_alive) (c.write_as.ensures.whole mid_alive) c.write_as.result does
-    (λ f e ne. ap (λ (p : Shown g.row.S.Denot). pages_of (V p.store) p) (err_same c.write_as.result c.write_as.ensures.refused f e ne))).1
+    (λ f e ne. ap (λ (p : Shown g.row.S.Denot). pages_of (V p.store) p) (err_same c.write_as.result c.write_as.ensures.refused f e ne))) c.self.invariant.1
 
 pub returns-clause-does : goal.returns-clause-does
 returns-clause-does g c =
@@ -111,7 +112,7 @@ returns-clause-does g c =
     let does = subst (λ (s : Shape). page.Does g.S.EawStore.tells (g.S.EawStore.opens s) (write_as c.args.tid (64 * (slots_of (V mid.store).shape + c.in-Ok-Some.place.slot)) (slot_bytes (Absent 0 c.args.key))) (pages_of (V mid.store) mid) (pages_of (V new.store) new) c.write_as.result)
     looks.shape c.write_as.ensures.does in
     rw (answer_is g c) (does_of V g.S.EawStore.tells g.S.EawStore.opens g.K.KeyIndex.index 0 c.args.tid (Del c.args.key) c.args.self.now inside c.self.view_is (pages_of (V new.store) new) (answered reply.Fine c.write_as.result)
-    (removed g.S.EawStore.tells (g.S.EawStore.opens (V inside.store).shape) g.K.KeyIndex.index laws 0 c.args.tid c.args.key (omega arith) (pages_of (V inside.store) inside) alive c.self.invariant (pages_of (V mid.store) mid) looks (pages_of (V new.store) new) c.in-Ok-Some.place.slot
+    (removed g.S.EawStore.tells (g.S.EawStore.opens (V inside.store).shape) g.K.KeyIndex.index laws 0 c.args.tid c.args.key (omega arith) (pages_of (V inside.store) inside) alive c.self.invariant.0 (pages_of (V mid.store) mid) looks (pages_of (V new.store) new) c.in-Ok-Some.place.slot
     (λ told. (finds told).0) (λ told. ap is_some (finds told).1 ∙ c.if-is_none.ensures)
     (λ told. record { long = g.met.S.EawStore.long mid.store told; outlines = λ t. g.met.S.EawStore.outlines mid.store t told mid_alive; placed = λ t. g.met.S.EawStore.placed mid.store t })
     (c.write_as.ensures.ordered mid_alive) (c.write_as.ensures.reads_back mid_alive) (c.write_as.ensures.whole mid_alive) c.write_as.result does

@@ -6,6 +6,7 @@ use Rattle.record_table.proofs.Seeking.{found_value}
 use Rattle.record_table.proofs.Doing.{got, look_refused}
 use Rattle.record_table.proofs.Ending.{does_of}
 use Rattle.record_table.proofs.records.Records.get.Goals.{in-Ok, in-Err}
+use Rattle.record_table.proofs.KeptNames.{kept}
 use Rattle.record_table.proofs.records.Records.get.Goals as goal
 
 pub invariant_of-self : goal.invariant_of-self
@@ -16,9 +17,9 @@ invariant_of-self g c =
     let T = g.S.EawStore.tells in
     let E = g.S.EawStore.opens (g.S.EawStore.view c.self.inside.pages.store).shape in
     elim c.match-seek.branch [
-      | in-Ok w ↦ (got T E g.K.KeyIndex.index 0 c.args.tid c.args.key (pages_of (V inside.store) inside) (pages_of (V new.store) new) c.self.invariant w.in-Ok.ensures.cause w.in-Ok.ensures.looks w.value_at.result (λ told. found_value g.K.KeyIndex.index c.args.tid c.args.key (pages_of (V inside.store) inside) w.in-Ok.found (w.in-Ok.ensures.finds told) ∙ sym w.value_at.ensures)).1
-      | in-Err w ↦ (look_refused T E g.K.KeyIndex.index 0 c.args.tid (Get c.args.key) (pages_of (V inside.store) inside) (pages_of (V new.store) new) c.self.invariant _ w.in-Err.fault tt w.in-Err.ensures.cause w.in-Err.ensures.looks
-          (λ e. ap (λ (p : Shown g.row.S.Denot). pages_of (V p.store) p) (w.in-Err.ensures.dead e))).1
+      | in-Ok w ↦ kept (got T E g.K.KeyIndex.index 0 c.args.tid c.args.key (pages_of (V inside.store) inside) (pages_of (V new.store) new) c.self.invariant.0 w.in-Ok.ensures.cause w.in-Ok.ensures.looks w.value_at.result (λ told. found_value g.K.KeyIndex.index c.args.tid c.args.key (pages_of (V inside.store) inside) w.in-Ok.found (w.in-Ok.ensures.finds told) ∙ sym w.value_at.ensures)) c.self.invariant.1
+      | in-Err w ↦ kept (look_refused T E g.K.KeyIndex.index 0 c.args.tid (Get c.args.key) (pages_of (V inside.store) inside) (pages_of (V new.store) new) c.self.invariant.0 _ w.in-Err.fault tt w.in-Err.ensures.cause w.in-Err.ensures.looks
+          (λ e. ap (λ (p : Shown g.row.S.Denot). pages_of (V p.store) p) (w.in-Err.ensures.dead e))) c.self.invariant.1
     ]
 
 pub returns-clause-does : goal.returns-clause-does
@@ -30,8 +31,8 @@ returns-clause-does g c =
     let E = g.S.EawStore.opens (g.S.EawStore.view c.self.inside.pages.store).shape in
     elim c.match-seek.branch [
       | in-Ok w ↦ rw w.result-is (does_of V T g.S.EawStore.opens g.K.KeyIndex.index 0 c.args.tid (Get c.args.key) c.args.self.now inside c.self.view_is (pages_of (V new.store) new) (Ok (found w.value_at.result))
-          (got T E g.K.KeyIndex.index 0 c.args.tid c.args.key (pages_of (V inside.store) inside) (pages_of (V new.store) new) c.self.invariant w.in-Ok.ensures.cause w.in-Ok.ensures.looks w.value_at.result (λ told. found_value g.K.KeyIndex.index c.args.tid c.args.key (pages_of (V inside.store) inside) w.in-Ok.found (w.in-Ok.ensures.finds told) ∙ sym w.value_at.ensures)).0)
+          (got T E g.K.KeyIndex.index 0 c.args.tid c.args.key (pages_of (V inside.store) inside) (pages_of (V new.store) new) c.self.invariant.0 w.in-Ok.ensures.cause w.in-Ok.ensures.looks w.value_at.result (λ told. found_value g.K.KeyIndex.index c.args.tid c.args.key (pages_of (V inside.store) inside) w.in-Ok.found (w.in-Ok.ensures.finds told) ∙ sym w.value_at.ensures)).0)
       | in-Err w ↦ rw (w.result-is, w.from.ensures) (does_of V T g.S.EawStore.opens g.K.KeyIndex.index 0 c.args.tid (Get c.args.key) c.args.self.now inside c.self.view_is (pages_of (V new.store) new) _
-          (look_refused T E g.K.KeyIndex.index 0 c.args.tid (Get c.args.key) (pages_of (V inside.store) inside) (pages_of (V new.store) new) c.self.invariant _ w.in-Err.fault tt w.in-Err.ensures.cause w.in-Err.ensures.looks
+          (look_refused T E g.K.KeyIndex.index 0 c.args.tid (Get c.args.key) (pages_of (V inside.store) inside) (pages_of (V new.store) new) c.self.invariant.0 _ w.in-Err.fault tt w.in-Err.ensures.cause w.in-Err.ensures.looks
           (λ e. ap (λ (p : Shown g.row.S.Denot). pages_of (V p.store) p) (w.in-Err.ensures.dead e))).0)
     ]

@@ -13,7 +13,7 @@ returns-clause-held g c = λ told alive.
     let living : IsAlive (g.S.EawStore.view c.self.inside.pages.store) = subst (λ (p : Shown g.row.S.Denot). IsAlive (V p.store)) (sym c.self.view_is) alive in
     subst (λ (p : Shown g.row.S.Denot). (t h : ℕ) → held_on (pages_of (V p.store) p) t h ≡ length (filter (is_write_on (V p.store).shape (pairs_of g.K.KeyIndex.index (V p.store).state.bytes) h) ((state_of g.K.KeyIndex.index (pages_of (V p.store) p)).logs t).writes)) c.self.view_is
     (held_is g.K.KeyIndex.index (pages_of (V inside.store) inside)
-    (record { long = g.met.S.EawStore.long inside.store told; outlines = λ t. g.met.S.EawStore.outlines inside.store t told living; placed = λ t. g.met.S.EawStore.placed inside.store t }) ((c.self.invariant living).tied told))
+    (record { long = g.met.S.EawStore.long inside.store told; outlines = λ t. g.met.S.EawStore.outlines inside.store t told living; placed = λ t. g.met.S.EawStore.placed inside.store t }) ((c.self.invariant.0 living).tied told))
 
 pub returns-clause-named : goal.returns-clause-named
 returns-clause-named g c = λ told alive.
@@ -21,4 +21,4 @@ returns-clause-named g c = λ told alive.
     let inside = c.self.inside.pages in
     let living : IsAlive (g.S.EawStore.view c.self.inside.pages.store) = subst (λ (p : Shown g.row.S.Denot). IsAlive (V p.store)) (sym c.self.view_is) alive in
     subst (λ (p : Shown g.row.S.Denot). (t : ℕ) → AreNamed (pairs_of g.K.KeyIndex.index (V p.store).state.bytes) ((state_of g.K.KeyIndex.index (pages_of (V p.store) p)).logs t).writes) c.self.view_is
-    (named_are g.K.KeyIndex.index (pages_of (V inside.store) inside) ((c.self.invariant living).tied told))
+    (named_are g.K.KeyIndex.index (pages_of (V inside.store) inside) ((c.self.invariant.0 living).tied told))

@@ -5,6 +5,7 @@ use Rattle.record_table.proofs.Doing.{scanned_as, scanned}
 use Rattle.record_table.proofs.Ending.{does_of}
 use Rattle.record_table.proofs.records.Records.scan.Given.{Over}
 use Rattle.record_table.proofs.records.Records.scan.Goals.{in-Ok, in-Err}
+use Rattle.record_table.proofs.KeptNames.{kept}
 use Rattle.record_table.proofs.records.Records.scan.Goals as goal
 
 answer_is : (g : Over) (c : goal.Joined-gather g) → c.match-gather.result ≡ scanned_as c.gather.new.rows c.gather.result
@@ -17,13 +18,13 @@ pub invariant_of-self : goal.invariant_of-self
 invariant_of-self g c =
     let V = g.S.EawStore.view in
     let inside = c.self.inside.pages in
-    (scanned g.S.EawStore.tells (g.S.EawStore.opens (V inside.store).shape) g.K.KeyIndex.index 0 c.args.tid c.args.low c.args.high (pages_of (V inside.store) inside) (pages_of (V c.gather.new.pages.store) c.gather.new.pages) c.self.invariant
-    (sym c.is_dead.ensures.dead ∙ c.if-is_dead.false) c.gather.new.rows c.gather.result c.gather.ensures.looks c.gather.ensures.cause c.gather.ensures.rows).1
+    kept (scanned g.S.EawStore.tells (g.S.EawStore.opens (V inside.store).shape) g.K.KeyIndex.index 0 c.args.tid c.args.low c.args.high (pages_of (V inside.store) inside) (pages_of (V c.gather.new.pages.store) c.gather.new.pages) c.self.invariant.0
+    (sym c.is_dead.ensures.dead ∙ c.if-is_dead.false) c.gather.new.rows c.gather.result c.gather.ensures.looks c.gather.ensures.cause c.gather.ensures.rows) c.self.invariant.1
 
 pub returns-clause-does : goal.returns-clause-does
 returns-clause-does g c =
     let V = g.S.EawStore.view in
     let inside = c.self.inside.pages in
     rw (answer_is g c) (does_of V g.S.EawStore.tells g.S.EawStore.opens g.K.KeyIndex.index 0 c.args.tid (Scan c.args.low c.args.high) c.args.self.now inside c.self.view_is (pages_of (V c.gather.new.pages.store) c.gather.new.pages) _
-    (scanned g.S.EawStore.tells (g.S.EawStore.opens (V inside.store).shape) g.K.KeyIndex.index 0 c.args.tid c.args.low c.args.high (pages_of (V inside.store) inside) (pages_of (V c.gather.new.pages.store) c.gather.new.pages) c.self.invariant
+    (scanned g.S.EawStore.tells (g.S.EawStore.opens (V inside.store).shape) g.K.KeyIndex.index 0 c.args.tid c.args.low c.args.high (pages_of (V inside.store) inside) (pages_of (V c.gather.new.pages.store) c.gather.new.pages) c.self.invariant.0
     (sym c.is_dead.ensures.dead ∙ c.if-is_dead.false) c.gather.new.rows c.gather.result c.gather.ensures.looks c.gather.ensures.cause c.gather.ensures.rows).0)
