@@ -44,15 +44,10 @@ impl Played<'_> {
         }
     }
 
-    // Whether the recovery behind a call that failed is stopped: it may have to settle several commits.
+    // Whether the recovery behind a call that failed is stopped: it may have to settle a group, or several commits.
     fn stops_recovery(&self, nth: usize) -> bool {
-        self.calls.depth > 0 || self.is_group(nth)
-    }
-
-    // Whether a call commits a group.
-    fn is_group(&self, nth: usize) -> bool {
         match self.calls.lines.get(nth) {
-            Some(line) => line.call.is_group(),
+            Some(line) => self.calls.depth > 0 || line.call.is_group(),
             None => false,
         }
     }

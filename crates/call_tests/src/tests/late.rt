@@ -1,9 +1,9 @@
 // Commits that wait for their write-back.
-use super::arrays::fresh_of;
+use super::arrays::{CHOICES, fresh_of, media_of};
 use array_shape::Shape;
 use eaw_device::Eaw;
 use eaw_face::EawStore;
-use pcm_media::MemoryMedia;
+use pcm_media::{FusedMedia, MemoryMedia};
 use std::alloc::Global;
 use std::process::Abort;
 use std::test::Fail;
@@ -11,9 +11,15 @@ use std::test::Fail;
 // The highest order number.
 const LAST: u32 = 65_535;
 
+// An address to which two numbers write.
+const SHARED: u64 = 102_400;
+
+// More calls than an opening of these arrays makes.
+const OPENING_CALLS: u64 = 1_000;
+
 // A fresh array of one logger and twelve numbers. Their rows lie from 512 on, 16 bytes each.
 fn array(alloc: Global) -> Option<MemoryMedia> {
-    fresh_of(alloc, &Shape::new(1, 12, 1, 2).ok()?)
+    fresh_of(alloc, &Shape::new(1, 12, 8, 4).ok()?)
 }
 
 // Makes the `n`-th transaction, if the array has room for it: one of twelve numbers in turn writes `n` over parts of the writes before it,
@@ -71,4 +77,74 @@ fn order_numbers_begin_again_behind_the_last(rt: HostRuntime) -> Result<(), Fail
     };
     assert_eq!(rt; front(&mut store), Some(data));
     Ok(())
+}
+
+// A number writes a byte at the shared address, and commits.
+fn commit_byte<S: EawStore>(store: &mut S, tid: u8, byte: u8) -> bool {
+    if store.shape().data_len() <= SHARED {
+        return false;
+    }
+    if store.log_write(tid, SHARED, &[byte]).is_err() {
+        return false;
+    }
+    store.commit(tid).is_ok()
+}
+
+// The array that `format` makes by default, behind two commits at the shared address that wait.
+fn both_wait(alloc: Global) -> Option<MemoryMedia> {
+    let media = fresh_of(alloc, &Shape::new(4, 8, 16, 64).ok()?)?;
+    let Ok(mut store) = Eaw::attach_late(alloc, media, 8) else {
+        return None;
+    };
+    if !commit_byte(&mut store, 0, 0x61) {
+        return None;
+    }
+    if !commit_byte(&mut store, 1, 0x62) || store.deferred() != 2 {
+        return None;
+    }
+    Some(store.into_media())
+}
+
+// The byte at the shared address, with which an image opens.
+fn shared_byte(alloc: Global, image: MemoryMedia) -> Option<u8> {
+    let Ok(mut store) = Eaw::attach(alloc, image) else {
+        return None;
+    };
+    if store.shape().data_len() <= SHARED {
+        return None;
+    }
+    let mut byte = [0];
+    store.read(SHARED, &mut byte).ok()?;
+    Some(byte[0])
+}
+
+// Whether all that a loss of power may leave opens with the later byte.
+fn keeps_later(alloc: Global, media: &MemoryMedia) -> bool {
+    for choice in CHOICES {
+        let Ok(left) = media.leave(choice) else {
+            return false;
+        };
+        if shared_byte(alloc, left) != Some(0x62) {
+            return false;
+        }
+    }
+    true
+}
+
+#[test]
+fn the_later_of_two_commits_that_wait_counts(rt: HostRuntime) -> Result<(), Fail> {
+    let media = both_wait(rt.alloc()).ok_or("both wait")?;
+    assert!(rt; keeps_later(rt.alloc(), &media));
+    for passes in 0..OPENING_CALLS {
+        let again = media_of(rt.alloc(), media.bytes()).ok_or("again")?;
+        match Eaw::attach(rt.alloc(), FusedMedia::wrap(again, passes)) {
+            Ok(_) => {
+                // The header, 32 rows, two heads, two cells, and writes of two parts and two votes, each with its barriers.
+                assert_eq!(rt; passes, 45);
+                return Ok(());
+            }
+            Err((_, left)) => assert!(rt; keeps_later(rt.alloc(), &left.into_inner())),
+        }
+    }
+    Err("a recovery that ends")?
 }
