@@ -276,15 +276,18 @@ module _ (tells : Bool) (Opens : List ℕ → List ℕ → Type 0) (index : Inde
     pub not_placed : (f : MakeFault) → PlaceCause name half front (Err f) → Makes tells Opens index name old now (Err f)
     not_placed unmade.Exists p = refused_ready old now unmade.Exists ready (refl, (ready.alive, λ told. (p.1, ap (λ (names : List (List ℕ)). slice_get names p.1) (sym (names_then told)) ∙ p.2)))
     not_placed unmade.TablesFull p = refused_ready old now unmade.TablesFull ready (refl, (ready.alive, λ told. (is_new told p.1, ap length (sym (names_then told)) ∙ p.2)))
-    not_placed (unmade.PagesFull n) p = refused_ready old now (unmade.PagesFull n) ready (refl, (
-      ready.alive,
-      p.4 ∙ ap (λ (k : ℕ). k - 1) half_then,
-      λ told. (
-        is_new told p.1,
-        subst (λ (names : List (List ℕ)). length names < 8) (names_then told) p.2,
-        omega (arith, next_then told, half_then, half_there told, p.3, (says told).next_page, (counted told).pages),
+    not_placed (unmade.PagesFull n) p = refused_ready old now (unmade.PagesFull n) ready (
+      refl,
+      (
+        ready.alive,
+        p.4 ∙ ap (λ (k : ℕ). k - 1) half_then,
+        λ told. (
+          is_new told p.1,
+          subst (λ (names : List (List ℕ)). length names < 8) (names_then told) p.2,
+          omega (arith, next_then told, half_then, half_there told, p.3, (says told).next_page, (counted told).pages),
+        ),
       ),
-    ))
+    )
     not_placed (unmade.Damaged bad) p = refused_ready old now (unmade.Damaged bad) ready (refl, (ready.alive, λ told. p (is_fit now.store.state.bytes front (says told) (ready.version told) (counted told))))
     not_placed unmade.Media p = absurd p
     not_placed unmade.Dead p = absurd p
@@ -384,12 +387,15 @@ module _ (tells : Bool) (Opens : List ℕ → List ℕ → Type 0) (index : Inde
             let bytes_are : IsTrue tells → new.store.state.bytes ≡ applied parts now.store.state.bytes = λ told. both.0.quiet told refl tt ∙ far_is told in (
               record {
                 shape = does.shape ∙ acts.shape ∙ ready.shape;
-                cause = (ready.alive, λ told. (
-                  is_new told placed.1,
-                  placed.2 ∙ ap length (names_then told),
-                  placed.3,
-                  omega (arith, placed.4, next_then told, half_then),
-                ));
+                cause = (
+                  ready.alive,
+                  λ told. (
+                    is_new told placed.1,
+                    placed.2 ∙ ap length (names_then told),
+                    placed.3,
+                    omega (arith, placed.4, next_then told, half_then),
+                  ),
+                );
                 faults = λ _. (does.done.alive ∙ sym ready.alive, (does.kept ∙ (acts.kept refl).faults) ∙ ready.faults);
                 dies = λ failed. absurd (false≢true failed);
                 version = λ told. ap version_of (bytes_are told) ∙ (facts told).version;

@@ -246,7 +246,7 @@ module _ (tells : Bool) (Opens : List ℕ → List ℕ → Type 0) (index : Inde
         (weaker (λ image either. elim either [
           | inl was ↦ inl (subst (Opens image) (same_bytes told) was)
           | inr is ↦ inr (subst (Opens image) (put_is told) is)
-          ]) (does.time told living))
+        ]) (does.time told living))
 
     named_of : (r : Result (Unit {0}) PageFault) → page_does.Does tells Opens (page.atomic_write 0 0 bytes) mid new r → IsTrue tells → IsNamedTime old new
     named_of r does told =
@@ -302,7 +302,7 @@ module _ (tells : Bool) (Opens : List ℕ → List ℕ → Type 0) (index : Inde
               (λ told. ap tables_of (now told) ∙ (facts told).tables ∙ ap tables_of (same_bytes told)) (λ told. ap (keys_of index) (now told) ∙ (facts told).keys ∙ ap (keys_of index) (same_bytes told))
               (λ told two. absurd (older ((says told).version ∙ two))) (exact_of (Ok tt) does) (ap (λ (o : Outline). o.ranges 0) does.done.outline ∙ (λ i. (looks.same refl).ranges i 0)) (named_of (Ok tt) does)
               (λ told table root is.
-                  ap (λ (b : List ℕ). index.pairs b root) (now told) ∙ (facts told).indexes table root (subst (λ (b : List ℕ). IsTable b table root) (sym (same_bytes told)) is) ∙ ap (λ (b : List ℕ). index.pairs b root) (same_bytes told)),
+              ap (λ (b : List ℕ). index.pairs b root) (now told) ∙ (facts told).indexes table root (subst (λ (b : List ℕ). IsTable b table root) (sym (same_bytes told)) is) ∙ ap (λ (b : List ℕ). index.pairs b root) (same_bytes told)),
           λ _. rests_moved tells Opens index 0 old new (holds alive) moved,
         )
     wrote (Err fault.Media) does = (failed_upgrades old new alive (failed_then tells Opens index 0 old mid new looked_moved (broken does)) (exact_of (Err fault.Media) does) (named_of (Err fault.Media) does), holds_dead new (does.dies refl))

@@ -93,11 +93,7 @@ fn place_for(front: &Super, name: &Name, half: u32) -> Result<u8, MakeFault>
 }
 
 // Writes an empty root and the super page, as one nested top action.
-fn write_table<S: EawStore>(
-    pages: &mut Pages<S>,
-    front: &Super,
-    root: u32,
-) -> Result<(), PageFault>
+fn write_table<S: EawStore>(pages: &mut Pages<S>, front: &Super, root: u32) -> Result<(), PageFault>
     requires closed { IsAlive (S.view pages.old.store) → top_in pages.old.marks 0 ≡ None }
     requires root { root < index_pages_of (S.view pages.old.store).shape }
     ensures acts { Acts S.tells (S.opens (S.view pages.old.store).shape) 0 (root ∷ 0 ∷ []) ((512 * root + 0, fresh_page 1) ∷ (512 * 0 + 0, super_bytes front.now) ∷ [])
@@ -107,14 +103,15 @@ fn write_table<S: EawStore>(
     let leaf = fresh_page(EMPTY_ROOT);
     let mut bytes = [0; PAGE_LEN];
     write_super(front, &mut bytes);
-    act_all(pages, MAKER, &[whole_page(root, &leaf), whole_page(0, &bytes)])
+    act_all(
+        pages,
+        MAKER,
+        &[whole_page(root, &leaf), whole_page(0, &bytes)],
+    )
 }
 
 // Makes a table of this name, behind those that there are, and returns its number.
-pub fn make<S: EawStore, K: KeyIndex>(
-    pages: &mut Pages<S>,
-    name: &Name,
-) -> Result<u8, MakeFault>
+pub fn make<S: EawStore, K: KeyIndex>(pages: &mut Pages<S>, name: &Name) -> Result<u8, MakeFault>
     requires free { (S.view pages.old.store).ranges 0 ≡ None }
     requires holds { Holds S.tells K.index (pages_of (S.view pages.old.store) pages.old) }
     ensures makes { Makes S.tells (S.opens (S.view pages.old.store).shape) K.index name.now

@@ -19,8 +19,7 @@ invariant_of-result g c =
     let v2 = pages_of (V c.read_names.new.pages.store) c.read_names.new.pages in
     let alive = c.in-Ok.ensures.cause.0 in
     let later = subst (λ (s : Shape). Looks T (E s) false v1 v2) c.in-Ok.ensures.looks.shape c.in-Ok-read_names.ensures.looks in
-    let looks = looks_then T O false v0 v1 v2 c.in-Ok.ensures.looks later in
-    (
+    let looks = looks_then T O false v0 v1 v2 c.in-Ok.ensures.looks later in (
       begins T O g.K.KeyIndex.index v0 v2 looks alive (c.requires.closed alive) (c.requires.idle alive) (λ told t. g.met.S.EawStore.outlines c.args.pages.store t told alive) c.in-Ok.ensures.cause.1,
       λ told living. c.in-Ok-read_names.ensures.names told ∙ ap (λ (s : State). names_of s.bytes) (sym ((later.still refl).state told)),
     )
