@@ -1,0 +1,11 @@
+//! A second array that follows the first, frame by frame.
+//!
+//! Read first `specs/Frame`: what a frame is, and its bytes.
+#![tactic(auto)]
+
+mod frame_test;
+mod partial_number;
+mod place;
+mod to_come;
+
+pub use frame_test::is_frame;
