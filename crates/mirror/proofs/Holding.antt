@@ -1,5 +1,5 @@
 -- How many parts of a group each logger holds.
-use Rattle.std.proofs.Common.{◌≡◌, ◌≢◌, ℕ, zero, suc, ◌+◌, ◌*◌, ◌%◌, ◌/◌, ◌<◌, ◌≤◌, Bool, true, false, cond, nat_eq, List, [], ◌∷◌, length, refl, sym, ◌∙◌, ap, subst, arith, inl, inr, ⊎_elim}
+use Rattle.std.proofs.Common.{◌≡◌, ◌≢◌, ℕ, zero, suc, ◌+◌, ◌*◌, ◌%◌, ◌/◌, ◌<◌, ◌≤◌, Bool, true, false, cond, nat_eq, List, [], ◌∷◌, ◌++◌, length, refl, sym, ◌∙◌, ap, subst, arith, inl, inr, ⊎_elim}
 use Rattle.std.specs.Prelude.{◌↔◌, ◌-◌, filter, slice_index, slice_set, replicate}
 use Rattle.std.proofs.Math.Nat.{mod-lt}
 use Rattle.std.proofs.lemmas.Bool.{eq-eqb, eqb-true, ne_eqb}
@@ -117,3 +117,8 @@ module _ (shape : Shape) where
 -- nothing is held at first
 pub none_held : (g : ℕ) → g < 8 → slice_index (replicate 8 0) g ≡ 0
 none_held g lt = get_or-replicate 8 g 0 0 lt
+
+-- parts are counted one list after another
+pub count_append : (shape : Shape) (g : ℕ) (rs more : List (ℕ × ℕ)) → count_on shape g (rs ++ more) ≡ count_on shape g rs + count_on shape g more
+count_append shape g [] more = omega arith
+count_append shape g (r ∷ rs) more = let rest = count_append shape g rs more in let here = counted shape g r (rs ++ more) in let there = counted shape g r rs in omega (arith, rest, here, there)

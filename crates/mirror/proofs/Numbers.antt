@@ -105,8 +105,9 @@ number_ends Then left left' value weight value' byte small some less last value_
 -- a number of which nothing has come
 pub number_begins : (Then : ℕ → List ℕ → Type 0) (k left value weight : ℕ) → left ≡ k → value ≡ 0 → weight ≡ 1 → (bytes : List ℕ) → NumberRest k 0 1 Then bytes ↔ NumberRest left value weight Then bytes
 number_begins Then k left value weight left_is value_is weight_is bytes = (
-    (λ r. subst (λ (p : ℕ × ℕ × ℕ). NumberRest p.0 p.1 p.2 Then bytes) (λ i. (sym left_is i, sym value_is i, sym weight_is i)) r),
-    (λ r. subst (λ (p : ℕ × ℕ × ℕ). NumberRest p.0 p.1 p.2 Then bytes) (λ i. (left_is i, value_is i, weight_is i)) r))
+  (λ r. subst (λ (p : ℕ × ℕ × ℕ). NumberRest p.0 p.1 p.2 Then bytes) (λ i. (sym left_is i, sym value_is i, sym weight_is i)) r),
+  (λ r. subst (λ (p : ℕ × ℕ × ℕ). NumberRest p.0 p.1 p.2 Then bytes) (λ i. (left_is i, value_is i, weight_is i)) r),
+)
 
 pub both_ways : {A B C : Type 0} → A ↔ B → B ↔ C → A ↔ C
 both_ways one two = ((λ a. two.0 (one.0 a)), (λ c. one.1 (two.1 c)))
@@ -114,8 +115,9 @@ both_ways one two = ((λ a. two.0 (one.0 a)), (λ c. one.1 (two.1 c)))
 -- a byte of several is taken, or the last one
 pub byte_more : (Then : List ℕ → Type 0) (n byte : ℕ) (bytes : List ℕ) → byte < 256 → BytesRest (suc n) Then (byte ∷ bytes) ↔ BytesRest n Then bytes
 byte_more Then n byte bytes small = (
-    (λ r. first r.first r.count r.small r.rest r.is r.after),
-    (λ r. record { first = byte ∷ r.first; count = omega (arith, r.count); small = All-cons IsByte byte r.first small r.small; rest = r.rest; is = ap (λ (l : List ℕ). byte ∷ l) r.is; after = r.after }))
+  (λ r. first r.first r.count r.small r.rest r.is r.after),
+  (λ r. record { first = byte ∷ r.first; count = omega (arith, r.count); small = All-cons IsByte byte r.first small r.small; rest = r.rest; is = ap (λ (l : List ℕ). byte ∷ l) r.is; after = r.after }),
+)
   where
     first : (l : List ℕ) → length l ≡ suc n → All IsByte l → (rest : List ℕ) → byte ∷ bytes ≡ l ++ rest → Then rest → BytesRest n Then bytes
     first [] count small rest is after = absurd (omega (arith, count))
@@ -123,8 +125,9 @@ byte_more Then n byte bytes small = (
 
 pub byte_last : (Then : List ℕ → Type 0) (byte : ℕ) (bytes : List ℕ) → byte < 256 → BytesRest 1 Then (byte ∷ bytes) ↔ Then bytes
 byte_last Then byte bytes small = both_ways (byte_more Then 0 byte bytes small) (
-    (λ r. none r.first r.count r.rest r.is r.after),
-    (λ after. record { first = []; count = refl; small = All-nil IsByte; rest = bytes; is = refl; after = after }))
+  (λ r. none r.first r.count r.rest r.is r.after),
+  (λ after. record { first = []; count = refl; small = All-nil IsByte; rest = bytes; is = refl; after = after }),
+)
   where
     none : (l : List ℕ) → length l ≡ 0 → (rest : List ℕ) → bytes ≡ l ++ rest → Then rest → Then bytes
     none [] count rest is after = subst Then (sym is) after

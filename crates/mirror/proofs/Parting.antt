@@ -43,17 +43,31 @@ module _ (shape : Shape) (shaped : IsShape shape) (parts : Parts) where
       let r2 = p.1 ++ (flat_map part_bytes ps ++ rest) in
       let free : slice_index parts.held k < shape.entries = free_here shape parts.held (p.0, length p.1) (ranges_of ps) within (room k logger) in
       let addr : p.0 < data_len shape = omega (arith, inside, is.some) in
-      number_first (AfterAddress shape parts) 8 bytes p.0 r1 is.addr (said ∙ four (little_bytes 8 p.0) (little_bytes 2 (length p.1)) p.1 (flat_map part_bytes ps) rest)
-      (addr, free,
-        number_first (AfterLength shape p.0 (parts.count - 1) held parts.behind) 2 r1 (length p.1) r2 (omega (arith, is.stripe)) refl
-        (is.some, is.stripe, record {
-          first = p.1; count = refl; small = is.bytes; rest = flat_map part_bytes ps ++ rest; is = refl;
-          after = record {
-            list = ps; count = omega (arith, count); are = are; inside = insides;
-            room = λ g lt. (room_over shape parts.held (p.0, length p.1) (ranges_of ps) within free g).0 (room g lt);
-            rest = rest; is = refl; after = after;
-          };
-        }))
+      number_first (AfterAddress shape parts) 8 bytes p.0 r1 is.addr (said ∙ four (little_bytes 8 p.0) (little_bytes 2 (length p.1)) p.1 (flat_map part_bytes ps) rest) (
+        addr,
+        free,
+        number_first (AfterLength shape p.0 (parts.count - 1) held parts.behind) 2 r1 (length p.1) r2 (omega (arith, is.stripe)) refl (
+          is.some,
+          is.stripe,
+          record {
+            first = p.1;
+            count = refl;
+            small = is.bytes;
+            rest = flat_map part_bytes ps ++ rest;
+            is = refl;
+            after = record {
+              list = ps;
+              count = omega (arith, count);
+              are = are;
+              inside = insides;
+              room = λ g lt. (room_over shape parts.held (p.0, length p.1) (ranges_of ps) within free g).0 (room g lt);
+              rest = rest;
+              is = refl;
+              after = after;
+            };
+          },
+        ),
+      )
 
   some_parts : (list : List Part) → length list ≡ parts.count → 0 < parts.count → All IsPart list → All (IsInside shape) list
       → HasRoom shape parts.held list
@@ -65,8 +79,8 @@ module _ (shape : Shape) (shaped : IsShape shape) (parts : Parts) where
   -- from a part on: its address, its length, its bytes, and what is behind it
   pub part_splits : 0 < parts.count → (bytes : List ℕ) → IsPartsRest shape parts bytes ↔ NumberRest 8 0 1 (AfterAddress shape parts) bytes
   part_splits some bytes = (
-      (λ r. some_parts r.list r.count some r.are r.inside r.room bytes r.rest r.is r.after),
-      (λ r.
+    (λ r. some_parts r.list r.count some r.are r.inside r.room bytes r.rest r.is r.after),
+    (λ r.
         let addressed = number_whole (AfterAddress shape parts) 8 bytes r in
         let k = logger_of shape r.high in
         let held = one_more parts.held k in
@@ -88,11 +102,12 @@ module _ (shape : Shape) (shaped : IsShape shape) (parts : Parts) where
               r.is
               ∙ ap (λ (l : List ℕ). little_bytes 8 r.high ++ l)
               (addressed.2.is
-                ∙ (λ i. little_bytes 2 (sym b.count i) ++ (b.is i))
-                ∙ ap (λ (l : List ℕ). little_bytes 2 (length b.first) ++ (b.first ++ l)) q.is)
+              ∙ (λ i. little_bytes 2 (sym b.count i) ++ (b.is i))
+              ∙ ap (λ (l : List ℕ). little_bytes 2 (length b.first) ++ (b.first ++ l)) q.is)
               ∙ sym (four (little_bytes 8 r.high) (little_bytes 2 (length b.first)) b.first (flat_map part_bytes q.list) q.rest);
           after = q.after;
-        }))
+        }),
+  )
 
 -- behind the last part come the groups
 module _ (shape : Shape) (parts : Parts) (none : parts.count ≡ 0) (bytes : List ℕ) where
@@ -102,10 +117,18 @@ module _ (shape : Shape) (parts : Parts) (none : parts.count ≡ 0) (bytes : Lis
 
   pub no_parts : IsPartsRest shape parts bytes ↔ GroupsRest shape parts.behind bytes
   no_parts = (
-      (λ r. nothing r.list (r.count ∙ none) r.rest r.is r.after),
-      (λ r. record {
-        list = []; count = sym none; are = All-nil IsPart; inside = All-nil (IsInside shape); room = λ g lt. omega arith; rest = bytes; is = refl; after = r;
-      }))
+    (λ r. nothing r.list (r.count ∙ none) r.rest r.is r.after),
+    (λ r. record {
+      list = [];
+      count = sym none;
+      are = All-nil IsPart;
+      inside = All-nil (IsInside shape);
+      room = λ g lt. omega arith;
+      rest = bytes;
+      is = refl;
+      after = r;
+    }),
+  )
 
 -- numbers that rise from `low` on, all of them of the shape
 pub rise_most : (shape : Shape) (low : ℕ) (groups : List Group) → low ≤ shape.numbers → Rise low groups → All (IsGroupIn shape) groups → low + length groups ≤ shape.numbers
@@ -122,15 +145,24 @@ module _ (shape : Shape) (shaped : IsShape shape) (groups : Groups) where
   first_group g gs count rise is are good goods bytes said =
       let r1 = little_bytes 2 (length g.parts) ++ (flat_map part_bytes g.parts ++ flat_map group_bytes gs) in
       record {
-        number = g.number; least = rise.0; most = good.number; rest = r1;
+        number = g.number;
+        least = rise.0;
+        most = good.number;
+        rest = r1;
         is = said ∙ ap (λ (l : List ℕ). g.number ∷ l) (append_assoc (little_bytes 2 (length g.parts)) (flat_map part_bytes g.parts) (flat_map group_bytes gs));
-        after = number_first (AfterPartCount shape (behind groups g.number)) 2 r1 (length g.parts) (flat_map part_bytes g.parts ++ flat_map group_bytes gs) is.few refl
-          (is.some, record {
-            list = g.parts; count = refl; are = is.parts; inside = good.inside;
+        after = number_first (AfterPartCount shape (behind groups g.number)) 2 r1 (length g.parts) (flat_map part_bytes g.parts ++ flat_map group_bytes gs) is.few refl (
+          is.some,
+          record {
+            list = g.parts;
+            count = refl;
+            are = is.parts;
+            inside = good.inside;
             room = λ k lt. let fits = good.room k lt in let none = none_held k (omega (arith, lt, shaped.most_loggers)) in omega (arith, fits, none);
-            rest = flat_map group_bytes gs; is = refl;
+            rest = flat_map group_bytes gs;
+            is = refl;
             after = record { list = gs; count = omega (arith, count); rise = rise.1; are = are; good = goods; is = refl };
-          });
+          },
+        );
       }
 
   some_groups : (list : List Group) → length list ≡ groups.count → 0 < groups.count → Rise groups.low list → All IsGroup list → All (IsGroupIn shape) list
@@ -141,15 +173,16 @@ module _ (shape : Shape) (shaped : IsShape shape) (groups : Groups) where
 
   pub group_splits : 0 < groups.count → (bytes : List ℕ) → GroupsRest shape groups bytes ↔ NumberThen shape groups bytes
   group_splits some bytes = (
-      (λ r. some_groups r.list r.count some r.rise r.are r.good bytes r.is),
-      (λ r.
+    (λ r. some_groups r.list r.count some r.rise r.are r.good bytes r.is),
+    (λ r.
         let counted = number_whole (AfterPartCount shape (behind groups r.number)) 2 r.rest r.after in
         let q = counted.1 in
         let next = q.after in
         let g : Group = record { number = r.number; parts = q.list } in
         let is : IsGroup g = record { number = omega (arith, r.most, shaped.most_numbers); some = omega (arith, counted.0, q.count); few = subst (λ (n : ℕ). n < 256 ^ 2) (sym q.count) r.after.fits; parts = q.are } in
         let good : IsGroupIn shape g = record {
-          number = r.most; inside = q.inside;
+          number = r.most;
+          inside = q.inside;
           room = λ k lt. let fits = q.room k lt in let none = none_held k (omega (arith, lt, shaped.most_loggers)) in omega (arith, fits, none);
         } in
         record {
@@ -162,10 +195,11 @@ module _ (shape : Shape) (shaped : IsShape shape) (groups : Groups) where
               r.is
               ∙ ap (λ (l : List ℕ). r.number ∷ l)
               (r.after.is
-                ∙ (λ i. little_bytes 2 (sym q.count i) ++ q.is i)
-                ∙ ap (λ (l : List ℕ). little_bytes 2 (length q.list) ++ (flat_map part_bytes q.list ++ l)) next.is
-                ∙ sym (append_assoc (little_bytes 2 (length q.list)) (flat_map part_bytes q.list) (flat_map group_bytes next.list)));
-        }))
+              ∙ (λ i. little_bytes 2 (sym q.count i) ++ q.is i)
+              ∙ ap (λ (l : List ℕ). little_bytes 2 (length q.list) ++ (flat_map part_bytes q.list ++ l)) next.is
+              ∙ sym (append_assoc (little_bytes 2 (length q.list)) (flat_map part_bytes q.list) (flat_map group_bytes next.list)));
+        }),
+  )
 
 -- behind the last group comes nothing
 module _ (shape : Shape) (groups : Groups) (none : groups.count ≡ 0) (bytes : List ℕ) where
@@ -175,5 +209,6 @@ module _ (shape : Shape) (groups : Groups) (none : groups.count ≡ 0) (bytes : 
 
   pub no_groups : GroupsRest shape groups bytes ↔ (bytes ≡ [])
   no_groups = (
-      (λ r. no_group r.list (r.count ∙ none) r.is),
-      (λ is. record { list = []; count = sym none; rise = tt; are = All-nil IsGroup; good = All-nil (IsGroupIn shape); is = is }))
+    (λ r. no_group r.list (r.count ∙ none) r.is),
+    (λ is. record { list = []; count = sym none; rise = tt; are = All-nil IsGroup; good = All-nil (IsGroupIn shape); is = is }),
+  )

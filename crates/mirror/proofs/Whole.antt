@@ -15,7 +15,7 @@ four a b c d = append_assoc (a ++ b) c d ∙ append_assoc a b (c ++ d)
 
 pub starts : (shape : Shape) (bytes : List ℕ) → AreFrame shape bytes ↔ MarkRest shape 0 bytes
 starts shape bytes = (
-    (λ f.
+  (λ f.
       let s = little_bytes 8 f.frame.sequence in
       let n = little_bytes 2 (length f.frame.groups) in
       let gs = flat_map group_bytes f.frame.groups in
@@ -23,10 +23,10 @@ starts shape bytes = (
         rest = s ++ (n ++ gs);
         is = sym f.is ∙ four mark s n gs;
         after = number_first (AfterSequence shape) 8 (s ++ (n ++ gs)) f.frame.sequence (n ++ gs) f.good.is.sequence refl
-          (number_first (AfterGroupCount shape) 2 (n ++ gs) (length f.frame.groups) gs f.good.is.few refl
+            (number_first (AfterGroupCount shape) 2 (n ++ gs) (length f.frame.groups) gs f.good.is.few refl
             (f.good.is.some, record { list = f.frame.groups; count = refl; rise = f.good.is.rise; are = f.good.is.groups; good = f.good.groups; is = refl }));
       }),
-    (λ r.
+  (λ r.
       let counted = number_whole (AfterSequence shape) 8 r.rest r.after in
       let all = number_whole (AfterGroupCount shape) 2 r.after.rest counted in
       let g = all.1 in
@@ -39,9 +39,10 @@ starts shape bytes = (
         is =
             four mark (little_bytes 8 r.after.high) (little_bytes 2 (length g.list)) (flat_map group_bytes g.list)
             ∙ sym (r.is ∙ ap (λ (l : List ℕ). mark ++ l)
-              (r.after.is ∙ ap (λ (l : List ℕ). little_bytes 8 r.after.high ++ l)
-                (counted.is ∙ (λ i. little_bytes 2 (sym g.count i) ++ g.is i))));
-      }))
+            (r.after.is ∙ ap (λ (l : List ℕ). little_bytes 8 r.after.high ++ l)
+            (counted.is ∙ (λ i. little_bytes 2 (sym g.count i) ++ g.is i))));
+      }),
+)
 
 -- at an open place at least one byte is to come
 pub open_needs : (shape : Shape) (place : Place) → IsOpen place → (place ≡ End → ⊥) → Rest shape place [] → ⊥

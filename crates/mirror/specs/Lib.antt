@@ -1,3 +1,4 @@
 pub mod Partial
 pub mod Frame
 pub mod Rest
+pub mod Applying

@@ -3,9 +3,12 @@
 //! Read first `specs/Frame`: what a frame is, and its bytes.
 #![tactic(auto)]
 
+mod apply;
 mod frame_test;
+mod laws;
 mod partial_number;
 mod place;
 mod to_come;
 
 pub use frame_test::is_frame;
+pub use laws::frames_are_cut_in_one_way;

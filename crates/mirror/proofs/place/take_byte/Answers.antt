@@ -15,5 +15,5 @@ returns-clause-same c shape shaped bytes =
     let is : 1 ≡ c.args.left = omega (arith, c.if-left-gt1.false, c.requires) in
     both_ways
     (subst (λ (n : ℕ). BytesRest n (IsPartsRest shape c.args.parts) (c.args.byte ∷ bytes) ↔ IsPartsRest shape c.args.parts bytes) is
-      (byte_last (IsPartsRest shape c.args.parts) c.args.byte bytes c.ranges.byte.fits))
+    (byte_last (IsPartsRest shape c.args.parts) c.args.byte bytes c.ranges.byte.fits))
     (c.after_part.ensures.same shape shaped bytes)

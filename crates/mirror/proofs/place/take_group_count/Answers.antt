@@ -8,9 +8,11 @@ use Rattle.mirror.proofs.place.take_group_count.Goals as goal
 pub returns-then-number-gt0 : goal.returns-then-number-gt0
 returns-then-number-gt0 c =
     let n = c.args.number in
-    let next = c.take-number.result in
-    (c.if-number-gt0.true, λ bytes.
-      number_goes (AfterGroupCount c.args.shape) n.left next.left n.value n.weight next.value next.weight c.args.byte c.ranges.byte.fits c.requires c.take-number.ensures.left c.take-number.ensures.value c.take-number.ensures.weight bytes)
+    let next = c.take-number.result in (
+      c.if-number-gt0.true,
+      λ bytes.
+          number_goes (AfterGroupCount c.args.shape) n.left next.left n.value n.weight next.value next.weight c.args.byte c.ranges.byte.fits c.requires c.take-number.ensures.left c.take-number.ensures.value c.take-number.ensures.weight bytes,
+    )
 
 pub returns-then-number-from : goal.returns-then-number-from
 returns-then-number-from c bytes r =
@@ -26,9 +28,11 @@ returns c =
     let n = c.args.number in
     let next = c.take-number.result in
     let last : 0 < next.left → ⊥ = λ some. omega (arith, some, c.if-number-gt0.false) in
-    let some : 0 < next.value = omega (arith, c.if-number-eq0.false) in
-    (some, λ bytes.
-      let split = group_splits c.args.shape c.args.shape.in_range (record { count = next.value; low = 0 }) some bytes in
-      both_ways
-      (number_ends (AfterGroupCount c.args.shape) n.left next.left n.value n.weight next.value c.args.byte c.ranges.byte.fits c.requires c.take-number.ensures.left last c.take-number.ensures.value bytes)
-      ((λ all. split.0 all.1), (λ first. (some, split.1 first))))
+    let some : 0 < next.value = omega (arith, c.if-number-eq0.false) in (
+      some,
+      λ bytes.
+          let split = group_splits c.args.shape c.args.shape.in_range (record { count = next.value; low = 0 }) some bytes in
+          both_ways
+          (number_ends (AfterGroupCount c.args.shape) n.left next.left n.value n.weight next.value c.args.byte c.ranges.byte.fits c.requires c.take-number.ensures.left last c.take-number.ensures.value bytes)
+          ((λ all. split.0 all.1), (λ first. (some, split.1 first))),
+    )

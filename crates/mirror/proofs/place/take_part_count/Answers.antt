@@ -8,9 +8,11 @@ use Rattle.mirror.proofs.place.take_part_count.Goals as goal
 pub returns-then-number-gt0 : goal.returns-then-number-gt0
 returns-then-number-gt0 c =
     let n = c.args.number in
-    let next = c.take-number.result in
-    (c.if-number-gt0.true, λ bytes.
-      number_goes (AfterPartCount c.args.shape c.args.groups) n.left next.left n.value n.weight next.value next.weight c.args.byte c.ranges.byte.fits c.requires c.take-number.ensures.left c.take-number.ensures.value c.take-number.ensures.weight bytes)
+    let next = c.take-number.result in (
+      c.if-number-gt0.true,
+      λ bytes.
+          number_goes (AfterPartCount c.args.shape c.args.groups) n.left next.left n.value n.weight next.value next.weight c.args.byte c.ranges.byte.fits c.requires c.take-number.ensures.left c.take-number.ensures.value c.take-number.ensures.weight bytes,
+    )
 
 pub returns-then-number-most : goal.returns-then-number-most
 returns-then-number-most c bytes r =
@@ -27,9 +29,11 @@ returns c =
     let n = c.args.number in
     let next = c.take-number.result in
     let last : 0 < next.left → ⊥ = λ some. omega (arith, some, c.if-number-gt0.false) in
-    let some : 0 < next.value = omega (arith, c.if-number-eq0.false) in
-    (c.after_part.ensures.ready, λ bytes.
-      both_ways
-      (number_ends (AfterPartCount c.args.shape c.args.groups) n.left next.left n.value n.weight next.value c.args.byte c.ranges.byte.fits c.requires c.take-number.ensures.left last c.take-number.ensures.value bytes)
-      (let same = c.after_part.ensures.same c.args.shape c.args.shape.in_range bytes in
-        ((λ all. same.0 all.1), (λ rest. (some, same.1 rest)))))
+    let some : 0 < next.value = omega (arith, c.if-number-eq0.false) in (
+      c.after_part.ensures.ready,
+      λ bytes.
+          both_ways
+          (number_ends (AfterPartCount c.args.shape c.args.groups) n.left next.left n.value n.weight next.value c.args.byte c.ranges.byte.fits c.requires c.take-number.ensures.left last c.take-number.ensures.value bytes)
+          (let same = c.after_part.ensures.same c.args.shape c.args.shape.in_range bytes in
+          ((λ all. same.0 all.1), (λ rest. (some, same.1 rest)))),
+    )
