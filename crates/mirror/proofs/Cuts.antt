@@ -15,13 +15,15 @@ IsCut {A} bytes_of Is = (a b : A) (x y : List ℕ) → Is a → Is b → bytes_o
 
 front_same : (k : ℕ) (a b x y : List ℕ) → length a ≡ k → length b ≡ k → a ++ x ≡ b ++ y → (a ≡ b) × (x ≡ y)
 front_same k a b x y one two same = (
-    sym (take_at a x k one) ∙ ap (λ (l : List ℕ). take k l) same ∙ take_at b y k two,
-    sym (drop_at a x k one) ∙ ap (λ (l : List ℕ). drop k l) same ∙ drop_at b y k two)
+  sym (take_at a x k one) ∙ ap (λ (l : List ℕ). take k l) same ∙ take_at b y k two,
+  sym (drop_at a x k one) ∙ ap (λ (l : List ℕ). drop k l) same ∙ drop_at b y k two,
+)
 
 number_cut : (k a b : ℕ) (x y : List ℕ) → a < 256 ^ k → b < 256 ^ k → little_bytes k a ++ x ≡ little_bytes k b ++ y → (a ≡ b) × (x ≡ y)
 number_cut k a b x y small less same = (
-    sym (little_number-reads_back k a x small) ∙ ap (λ (l : List ℕ). little_number k l) same ∙ little_number-reads_back k b y less,
-    (front_same k (little_bytes k a) (little_bytes k b) x y (length-bytes_low_first 0 k a) (length-bytes_low_first 0 k b) same).1)
+  sym (little_number-reads_back k a x small) ∙ ap (λ (l : List ℕ). little_number k l) same ∙ little_number-reads_back k b y less,
+  (front_same k (little_bytes k a) (little_bytes k b) x y (length-bytes_low_first 0 k a) (length-bytes_low_first 0 k b) same).1,
+)
 
 pub part_cut : IsCut part_bytes IsPart
 part_cut a b x y is also same =

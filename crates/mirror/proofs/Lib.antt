@@ -4,3 +4,4 @@ pub mod Parting
 pub mod Whole
 pub mod Logging
 pub mod Cuts
+pub mod Grouping

@@ -106,7 +106,7 @@ ranges_append [] qs = refl
 ranges_append (p ∷ ps) qs = ap (λ (l : List (ℕ × ℕ)). (p.0, length p.1) ∷ l) (ranges_append ps qs)
 
 -- what a free number has logged after some parts
-listed_more : {A : Type 0} (logs : Logs A) (t : ℕ) (xs : List A) → logs t ≡ None → listed (logged_more logs t xs t) ≡ xs
+pub listed_more : {A : Type 0} (logs : Logs A) (t : ℕ) (xs : List A) → logs t ≡ None → listed (logged_more logs t xs t) ≡ xs
 listed_more logs t [] free = ap listed free
 listed_more {A} logs t (x ∷ xs) free =
     ap (λ (b : Bool). listed (cond b (Some (listed (logs t) ++ x ∷ xs)) (logs t))) (eq-eqb t t refl)
@@ -116,8 +116,18 @@ module _ (tells : Bool) (Opens : Shape → List ℕ → List ℕ → Type 0) (nu
   -- the loop begins
   pub logs_first : (parts : HasParts old.shape count bytes) → old.is_dead ≡ false → LogsOn tells (Opens old.shape) number count 0 bytes bytes old old
   logs_first parts alive = record {
-    gone = []; left = parts.list; tail = parts.rest; so_many = refl; all = omega (arith, parts.is_count); are = parts.are; are_left = parts.are;
-    inside = parts.inside; inside_left = parts.inside; room = parts.room; said = refl; said_left = parts.is;
+    gone = [];
+    left = parts.list;
+    tail = parts.rest;
+    so_many = refl;
+    all = omega (arith, parts.is_count);
+    are = parts.are;
+    are_left = parts.are;
+    inside = parts.inside;
+    inside_left = parts.inside;
+    room = parts.room;
+    said = refl;
+    said_left = parts.is;
     wrote = record { shape = refl; alive = alive; faults = refl; ranges = refl; bytes = λ told. refl; logs = λ told. refl };
     moments = λ told. stays old.moment old.left_since (λ image. Opens old.shape image old.state.bytes);
   }
@@ -131,10 +141,13 @@ module _ (tells : Bool) (Opens : Shape → List ℕ → List ℕ → Type 0) (nu
           let whole = append-nil on.gone in
           record {
             parts = record {
-              list = on.gone; is_count = omega (arith, on.so_many, on.all, le);
-              are = subst (All IsPart) whole are; inside = subst (All (IsInside old.shape)) whole inside;
+              list = on.gone;
+              is_count = omega (arith, on.so_many, on.all, le);
+              are = subst (All IsPart) whole are;
+              inside = subst (All (IsInside old.shape)) whole inside;
               room = subst (λ (ps : List Part). fit old.shape [] (ranges_of ps) None) whole room;
-              rest = rest; is = on.said;
+              rest = rest;
+              is = on.said;
             };
             behind = refl;
             wrote = on.wrote;
@@ -154,7 +167,9 @@ module _ (tells : Bool) (Opens : Shape → List ℕ → List ℕ → Type 0) (nu
       go : (left : List Part) → on.left ≡ left → All IsPart left → All (IsInside old.shape) left → rest ≡ flat_map part_bytes left ++ on.tail → Next on
       go [] same are inside said = let none = ap (λ (l : List Part). length l) same in absurd (omega (arith, none, on.so_many, on.all, lt))
       go (p ∷ ps) same are inside said = record {
-        part = p; parts = ps; are = same;
+        part = p;
+        parts = ps;
+        are = same;
         next = record { is = All-head IsPart p ps are; inside = All-head (IsInside old.shape) p ps inside; said = said ∙ append_assoc (part_bytes p) (flat_map part_bytes ps) on.tail };
       }
 
@@ -215,10 +230,15 @@ module _ (tells : Bool) (Opens : Shape → List ℕ → List ℕ → Type 0) (nu
           let more : length (on.gone ++ p ∷ []) ≡ length on.gone + 1 = length-append on.gone (p ∷ []) in
           let fewer = ap (λ (l : List Part). length l) next.are in
           record {
-            gone = on.gone ++ p ∷ []; left = next.parts; tail = on.tail;
-            so_many = omega (arith, more, on.so_many); all = omega (arith, more, fewer, on.all);
-            are = subst (All IsPart) whole on.are; are_left = All-tail IsPart p next.parts (subst (All IsPart) next.are on.are_left);
-            inside = subst (All (IsInside old.shape)) whole on.inside; inside_left = All-tail (IsInside old.shape) p next.parts (subst (All (IsInside old.shape)) next.are on.inside_left);
+            gone = on.gone ++ p ∷ [];
+            left = next.parts;
+            tail = on.tail;
+            so_many = omega (arith, more, on.so_many);
+            all = omega (arith, more, fewer, on.all);
+            are = subst (All IsPart) whole on.are;
+            are_left = All-tail IsPart p next.parts (subst (All IsPart) next.are on.are_left);
+            inside = subst (All (IsInside old.shape)) whole on.inside;
+            inside_left = All-tail (IsInside old.shape) p next.parts (subst (All (IsInside old.shape)) next.are on.inside_left);
             room = subst (λ (ps : List Part). fit old.shape [] (ranges_of ps) None) whole on.room;
             said =
                 on.said
@@ -227,7 +247,10 @@ module _ (tells : Bool) (Opens : Shape → List ℕ → List ℕ → Type 0) (nu
                 ∙ ap (λ (l : List ℕ). l ++ rest') (ap (λ (l : List ℕ). flat_map part_bytes on.gone ++ l) (sym (append-nil (part_bytes p))) ∙ sym (flat_map-append part_bytes on.gone (p ∷ [])));
             said_left = behind;
             wrote = record {
-              shape = does.shape ∙ on.wrote.shape; alive = does.done.alive; faults = does.kept ∙ on.wrote.faults; ranges = ranges_now;
+              shape = does.shape ∙ on.wrote.shape;
+              alive = does.done.alive;
+              faults = does.kept ∙ on.wrote.faults;
+              ranges = ranges_now;
               bytes = λ told. ap (λ (s : State). s.bytes) (does.done.state told) ∙ on.wrote.bytes told;
               logs = logs_now;
             };

@@ -1,5 +1,5 @@
 -- A frame that is written into a store, part by part and number by number.
-use Rattle.std.specs.Prelude.{ℕ, ◌≡◌, ◌<◌, Bool, false, IsTrue, List, [], ◌∷◌, ◌++◌, length, flat_map, All, Option, Some, None}
+use Rattle.std.specs.Prelude.{ℕ, ◌≡◌, ◌<◌, ◌⊎◌, Bool, false, IsTrue, List, [], ◌∷◌, ◌++◌, length, flat_map, All, Option, Some, None}
 use Rattle.mars_base.specs.Causes.{Rose}
 use Rattle.array_shape.specs.declared.shape.Shape.{Shape}
 use Rattle.array_shape.specs.Logged.{Part, applied, ranges_of}
@@ -8,7 +8,7 @@ use Rattle.eaw_face.specs.StoreView.{StoreView, LeavesOnly}
 use Rattle.eaw_face.specs.Causes.{fit}
 use Rattle.eaw_face.specs.declared.fault.EawFault.{EawFault}
 use Rattle.eaw_face.specs.declared.fault.EawFault.TheVariants.{Media}
-use Rattle.mirror.specs.Frame.{part_bytes, IsPart, IsInside}
+use Rattle.mirror.specs.Frame.{part_bytes, written_by, IsPart, IsInside, AreFrame}
 
 -- bytes that begin with so many parts, for which an empty log has room
 pub record HasParts (shape : Shape) (count : ℕ) (bytes : List ℕ) : Type 0 where
@@ -43,3 +43,20 @@ pub record WroteParts (tells : Bool) (number count : ℕ) (bytes rest : List ℕ
 -- the medium has failed in this call: the store has no other reason
 abbrev pub IsNewFault : StoreView → StoreView → EawFault → Type 0
 IsNewFault old new fault = (fault ≡ Media) × Rose old.faults new.faults
+
+-- no number is live
+abbrev pub IsFree : StoreView → Type 0
+IsFree store = (t : ℕ) → store.ranges t ≡ None
+
+-- from one view of a store to a later one, the one frame that these bytes are was applied
+pub record Applied (tells : Bool) (bytes : List ℕ) (old new : StoreView) : Type 0 where
+  pub frame : AreFrame old.shape bytes
+  pub shape : new.shape ≡ old.shape
+  pub alive : new.is_dead ≡ false
+  pub faults : new.faults ≡ old.faults
+  pub free : IsFree new
+  pub data_is : IsTrue tells → new.state.bytes ≡ applied (written_by frame.frame) old.state.bytes
+
+-- an image opens with the data before, or with the one frame applied that these bytes are
+abbrev pub OpensEither : (Shape → List ℕ → List ℕ → Type 0) → List ℕ → StoreView → List ℕ → Type 0
+OpensEither Opens bytes old image = Opens old.shape image old.state.bytes ⊎ ((f : AreFrame old.shape bytes) × Opens old.shape image (applied (written_by f.frame) old.state.bytes))

@@ -83,3 +83,7 @@ pub record AreFrame (shape : Shape) (bytes : List ℕ) : Type 0 where
   pub frame : Frame
   pub good : IsFrameIn shape frame
   pub is : frame_bytes frame ≡ bytes
+
+-- all that a frame writes, in its order
+abbrev pub written_by : Frame → List Part
+written_by frame = flat_map (λ group. group.parts) frame.groups
