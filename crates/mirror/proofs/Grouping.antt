@@ -216,10 +216,29 @@ module _ (tells : Bool) (Opens : Shape → List ℕ → List ℕ → Type 0) (k 
   pub groups_first : AreFrame old.shape frame → old.is_dead ≡ false → IsFree old → (IsTrue tells → (u : ℕ) → old.state.logs u ≡ None) → rest ≡ drop 14 frame → numbers_in bits ≡ [] → ((u : ℕ) → has bits u ≡ false)
       → GroupsOn tells Opens 0 frame rest bits old old
   groups_first f alive free unlogged rest_is none lacks = record {
-    whole = f; gone = []; left = f.frame.groups; so_many = refl; all = refl; are = f.good.is.groups; good = f.good.groups; low = 0; rise = f.good.is.rise;
-    gone_low = All-nil (λ (g : Group). g.number < 0); said = rest_is ∙ groups_said old.shape frame f; members = none; above = λ u le. lacks u;
-    shape = refl; alive = alive; faults = refl; live = tt; free = λ u le. free u; others = λ u no. free u; unlogged = λ told u le. unlogged told u;
-    logged = λ told. refl; data_is = λ told. refl; moments = λ told. stays old.moment old.left_since (OpensEither Opens frame old);
+    whole = f;
+    gone = [];
+    left = f.frame.groups;
+    so_many = refl;
+    all = refl;
+    are = f.good.is.groups;
+    good = f.good.groups;
+    low = 0;
+    rise = f.good.is.rise;
+    gone_low = All-nil (λ (g : Group). g.number < 0);
+    said = rest_is ∙ groups_said old.shape frame f;
+    members = none;
+    above = λ u le. lacks u;
+    shape = refl;
+    alive = alive;
+    faults = refl;
+    live = tt;
+    free = λ u le. free u;
+    others = λ u no. free u;
+    unlogged = λ told u le. unlogged told u;
+    logged = λ told. refl;
+    data_is = λ told. refl;
+    moments = λ told. stays old.moment old.left_since (OpensEither Opens frame old);
   }
 
   module _ (on : GroupsOn tells Opens k frame rest bits old now) where
@@ -240,7 +259,9 @@ module _ (tells : Bool) (Opens : Shape → List ℕ → List ℕ → Type 0) (k 
             let none = ap (λ (l : List Group). length l) same in
             absurd (omega (arith, lt, count_said old.shape frame on.whole, all, split, none, on.so_many))
         go (g ∷ gs) same are good rise said = record {
-          group = g; more = gs; are = same;
+          group = g;
+          more = gs;
+          are = same;
           next = record { least = rise.0; rise = rise.1; is = All-head IsGroup g gs are; good = All-head (IsGroupIn old.shape) g gs good; said = said };
         }
 
@@ -249,9 +270,13 @@ module _ (tells : Bool) (Opens : Shape → List ℕ → List ℕ → Type 0) (k 
     has_parts n number count behind number_is count_is behind_is =
         let g = n.group in
         subst (λ (shape : Shape). HasParts shape count behind) (sym on.shape) (record {
-          list = g.parts; is_count = sym (count_is ∙ parts_counted old.shape on.low g n.more rest n.next);
-          are = n.next.is.parts; inside = n.next.good.inside; room = n.next.good.room;
-          rest = flat_map group_bytes n.more; is = behind_is ∙ parts_said old.shape on.low g n.more rest n.next;
+          list = g.parts;
+          is_count = sym (count_is ∙ parts_counted old.shape on.low g n.more rest n.next);
+          are = n.next.is.parts;
+          inside = n.next.good.inside;
+          room = n.next.good.room;
+          rest = flat_map group_bytes n.more;
+          is = behind_is ∙ parts_said old.shape on.low g n.more rest n.next;
         })
 
     -- the next group is logged
@@ -311,12 +336,15 @@ module _ (tells : Bool) (Opens : Shape → List ℕ → List ℕ → Type 0) (k 
       groups_next =
           let more_numbers = numbers_more on.gone g in
           record {
-            whole = on.whole; gone = on.gone ++ g ∷ []; left = n.more;
+            whole = on.whole;
+            gone = on.gone ++ g ∷ [];
+            left = n.more;
             so_many = let m = length-append on.gone (g ∷ []) in omega (arith, m, on.so_many);
             all = on.all ∙ ap (λ (l : List Group). on.gone ++ l) n.are ∙ sym (append_assoc on.gone (g ∷ []) n.more);
             are = All-tail IsGroup g n.more (subst (All IsGroup) n.are on.are);
             good = All-tail (IsGroupIn old.shape) g n.more (subst (All (IsGroupIn old.shape)) n.are on.good);
-            low = g.number + 1; rise = n.next.rise;
+            low = g.number + 1;
+            rise = n.next.rise;
             gone_low = All-push (λ (h : Group). h.number < g.number + 1) on.gone g (All-weaker (λ (h : Group). h.number < g.number) (λ (h : Group). h.number < g.number + 1) (λ h lt. omega (arith, lt)) on.gone below_now) (omega arith);
             said = sym w.behind ∙ same_parts.1;
             members =
@@ -324,7 +352,9 @@ module _ (tells : Bool) (Opens : Shape → List ℕ → List ℕ → Type 0) (k 
                 (subst (λ (m : ℕ). has bits' m ≡ true) is_number here) (λ u other. same_bits u (λ same. other (same ∙ is_number)))
                 ∙ ap (λ (l : List ℕ). l ++ g.number ∷ []) on.members ∙ sym more_numbers;
             above = λ u le. same_bits u (λ same. omega (arith, le, same, is_number)) ∙ on.above u (omega (arith, le, n.next.least));
-            shape = wrote.shape ∙ on.shape; alive = wrote.alive; faults = wrote.faults ∙ on.faults;
+            shape = wrote.shape ∙ on.shape;
+            alive = wrote.alive;
+            faults = wrote.faults ∙ on.faults;
             live = subst (λ (ts : List ℕ). known new (commit_group ts) None) (sym more_numbers) (known_more new (numbers on.gone) g.number (known_there now new live_there (numbers on.gone) on.live) live_here);
             free = λ u le. other_ranges u (higher u le) ∙ on.free u (omega (arith, le, n.next.least));
             others = λ u no.
@@ -385,7 +415,10 @@ module _ (tells : Bool) (Opens : Shape → List ℕ → List ℕ → Type 0) (k 
           go : (r : Result (Unit {0}) EawFault) → OnOk r (Becomes tells (commit_group ts) now new) → OnOk r (new.faults ≡ now.faults) → OnOk r (Applied tells frame old new)
           go (Err fault) done kept = tt
           go (Ok x) done kept = record {
-            frame = on.whole; shape = does.shape ∙ on.shape; alive = done.alive; faults = kept ∙ on.faults;
+            frame = on.whole;
+            shape = does.shape ∙ on.shape;
+            alive = done.alive;
+            faults = kept ∙ on.faults;
             free = λ u. ap (λ (f : Logs (ℕ × ℕ)). f u) done.ranges ∙ none_left u;
             data_is = λ told. ap (λ (s : State). s.bytes) (done.state told) ∙ written told;
           }
@@ -403,7 +436,7 @@ module _ (tells : Bool) (Opens : Shape → List ℕ → List ℕ → Type 0) (k 
       pub commit_moments : IsTrue tells → LeavesOnly (OpensEither Opens frame old) old new
       commit_moments told = then (on.moments told) (weaker
           (λ image either. ⊎_elim
-            (λ opens. inl (subst (λ (q : Shape × List ℕ). Opens q.0 image q.1) (λ i. (on.shape i, on.data_is told i)) opens))
-            (λ opens. inr (on.whole, subst (λ (q : Shape × List ℕ). Opens q.0 image q.1) (λ i. (on.shape i, written told i)) opens))
-            either)
+          (λ opens. inl (subst (λ (q : Shape × List ℕ). Opens q.0 image q.1) (λ i. (on.shape i, on.data_is told i)) opens))
+          (λ opens. inr (on.whole, subst (λ (q : Shape × List ℕ). Opens q.0 image q.1) (λ i. (on.shape i, written told i)) opens))
+          either)
           (does.time told on.alive))

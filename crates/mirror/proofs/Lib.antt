@@ -5,3 +5,5 @@ pub mod Whole
 pub mod Logging
 pub mod Cuts
 pub mod Grouping
+pub mod Streams
+pub mod Joining

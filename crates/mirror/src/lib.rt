@@ -4,11 +4,15 @@
 #![tactic(auto)]
 
 mod apply;
+mod follow_fault;
+mod following;
 mod frame_test;
 mod laws;
 mod partial_number;
 mod place;
+mod reader;
 mod to_come;
 
+pub use follow_fault::FollowFault;
 pub use frame_test::is_frame;
 pub use laws::frames_are_cut_in_one_way;
