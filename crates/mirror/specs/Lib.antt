@@ -4,3 +4,4 @@ pub mod Rest
 pub mod Applying
 pub mod Following
 pub mod Reading
+pub mod FollowerView

@@ -5,6 +5,7 @@
 
 mod apply;
 mod follow_fault;
+mod follower;
 mod following;
 mod frame_test;
 mod laws;
@@ -14,5 +15,6 @@ mod reader;
 mod to_come;
 
 pub use follow_fault::FollowFault;
+pub use follower::Follower;
 pub use frame_test::is_frame;
 pub use laws::frames_are_cut_in_one_way;
