@@ -1,0 +1,34 @@
+use Rattle.std.proofs.Common.{ℕ, List, ◌≡◌, ◌<◌, ◌≤◌, ◌∷◌, ◌+◌, ◌-◌, ◌*◌, arith, ◌∙◌, length, subst, sym}
+use Rattle.std.specs.Prelude.{◌↔◌, slice_index, slice_set}
+use Rattle.array_shape.specs.Places.{data_len, logger_of}
+use Rattle.mirror.specs.Rest.{NumberRest, AfterAddress, AfterLength, one_more}
+use Rattle.mirror.proofs.Numbers.{number_goes, number_ends, number_begins, both_ways}
+use Rattle.mirror.proofs.place.take_address.Goals as goal
+
+pub returns-then-number-gt0 : goal.returns-then-number-gt0
+returns-then-number-gt0 c =
+    let n = c.args.number in
+    let next = c.take-number.result in (
+      (c.if-number-gt0.true, c.requires.parts),
+      λ bytes.
+          number_goes (AfterAddress c.args.shape c.args.parts) n.left next.left n.value n.weight next.value next.weight c.args.byte c.ranges.byte.fits c.requires.number c.take-number.ensures.left c.take-number.ensures.value c.take-number.ensures.weight bytes,
+    )
+
+pub returns : goal.returns
+returns c =
+    let n = c.args.number in
+    let next = c.take-number.result in
+    let last : 0 < next.left → ⊥ = λ some. omega (arith, some, c.if-number-gt0.false) in
+    let shape = c.args.shape in
+    let parts = c.args.parts in
+    let logger : c.from-logger.result ≡ logger_of shape next.value = c.from-logger.ensures ∙ c.place.ensures.logger in
+    let within : next.value < data_len shape = omega (arith, c.if-addr-data_len.false, c.data_len.ensures) in
+    let free : slice_index parts.held (logger_of shape next.value) < shape.entries = subst (λ (k : ℕ). slice_index parts.held k < shape.entries) logger (omega (arith, c.if-parts-logger.false)) in (
+      omega (arith, c.new.ensures.left),
+      λ bytes.
+          let begins = number_begins (AfterLength shape next.value (parts.count - 1) (one_more parts.held (logger_of shape next.value)) parts.behind) 2 c.new.result.left c.new.result.value c.new.result.weight c.new.ensures.left c.new.ensures.value c.new.ensures.weight bytes in
+          both_ways
+          (number_ends (AfterAddress c.args.shape c.args.parts) n.left next.left n.value n.weight next.value c.args.byte c.ranges.byte.fits c.requires.number c.take-number.ensures.left last c.take-number.ensures.value bytes)
+          (subst (λ (k : ℕ). AfterAddress shape parts next.value bytes ↔ NumberRest c.new.result.left c.new.result.value c.new.result.weight (AfterLength shape next.value (parts.count - 1) (one_more parts.held k) parts.behind) bytes)
+          (sym logger) ((λ all. begins.0 all.2), (λ rest. (within, free, begins.1 rest)))),
+    )

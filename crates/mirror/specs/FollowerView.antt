@@ -1,0 +1,18 @@
+-- What a follower shows.
+use Rattle.std.specs.Prelude.{ℕ, ◌≡◌, Bool, true, false, List}
+use Rattle.eaw_face.specs.StoreView.{StoreView}
+use Rattle.mirror.specs.Following.{stand, StopCause}
+use Rattle.mirror.specs.declared.follow_fault.FollowFault.{FollowFault}
+use Rattle.mirror.specs.declared.follow_fault.FollowFault.TheVariants.{BadFrame, Gap, Media, Dead, NoMemory}
+
+-- its store; how many frames it has applied; the bytes that it keeps of the next; and whether a feed has answered a fault
+pub record FollowerView (S : Type 0) : Type 0 where
+  pub store : S
+  pub applied : ℕ
+  pub rest : List ℕ
+  pub is_dead : Bool
+
+-- Why a feed answered this fault. Dead comes just where an earlier feed answered a fault, and then nothing changes.
+abbrev pub FeedCause : {S : Type 0} → Bool → (S → StoreView) → (old new : FollowerView S) → List ℕ → FollowFault → Type 0
+FeedCause tells view old new piece Dead = (old.is_dead ≡ true) × (new ≡ old)
+FeedCause tells view old new piece fault = (old.is_dead ≡ false) × StopCause tells (stand (view old.store) old.applied old.rest) (view new.store) piece fault

@@ -1,0 +1,19 @@
+-- A frame of which some bytes have come.
+use Rattle.std.specs.Prelude.{ℕ, ◌≡◌, ◌↔◌, List, ◌++◌}
+use Rattle.array_shape.specs.declared.shape.Shape.{Shape}
+use Rattle.eaw_face.specs.StoreView.{StoreView}
+use Rattle.mirror.specs.Frame.{AreFrame}
+use Rattle.mirror.specs.Following.{stand, IsReady}
+use Rattle.mirror.specs.Rest.{Rest, IsOpen}
+use Rattle.mirror.specs.declared.place.Place.{Place}
+
+-- the bytes lead to this place
+pub record LeadTo (shape : Shape) (place : Place) (bytes : List ℕ) : Type 0 where
+  pub ready : IsOpen place
+  pub same : (more : List ℕ) → AreFrame shape (bytes ++ more) ↔ Rest shape place more
+
+-- what a follower keeps while no feed has answered a fault
+pub record IsGoing (store : StoreView) (applied : ℕ) (shape : Shape) (place : Place) (bytes : List ℕ) : Type 0 where
+  pub ready : IsReady (stand store applied bytes)
+  pub leads : LeadTo shape place bytes
+  pub shape_is : shape ≡ store.shape

@@ -1,0 +1,20 @@
+//! A second array that follows the first, frame by frame.
+//!
+//! Read first `specs/Frame`: what a frame is, and its bytes.
+#![tactic(auto)]
+
+mod apply;
+mod follow_fault;
+mod follower;
+mod following;
+mod frame_test;
+mod laws;
+mod partial_number;
+mod place;
+mod reader;
+mod to_come;
+
+pub use follow_fault::FollowFault;
+pub use follower::Follower;
+pub use frame_test::is_frame;
+pub use laws::frames_are_cut_in_one_way;
