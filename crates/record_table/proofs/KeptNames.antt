@@ -4,6 +4,7 @@ use Rattle.std.specs.Prelude.{IsFalse}
 use Rattle.std.proofs.lemmas.Bool.{false≢true}
 use Rattle.mars_base.specs.Causes.{Rose}
 use Rattle.array_shape.specs.declared.shape.Shape.{Shape}
+use Rattle.eaw_face.specs.State.{State}
 use Rattle.eaw_face.specs.StoreView.{StoreView}
 use Rattle.eaw_face.specs.Causes.{IsAlive}
 use Rattle.history.specs.declared.call.Call.{Call}
@@ -11,6 +12,7 @@ use Rattle.history.specs.declared.call.Reply.{Reply}
 use Rattle.record_slots.specs.Names.{names_in}
 use Rattle.record_slots.specs.Places.{tables_of}
 use Rattle.page_store.specs.Index.{Index}
+use Rattle.page_store.specs.Looks.{Looks}
 use Rattle.page_store.specs.Shown.{PagesView, Shown, pages_of}
 use Rattle.record_table.specs.Does.{Does, is_failed}
 use Rattle.record_table.specs.Groups.{CommitsGroup}
@@ -23,6 +25,10 @@ pub tables_kept : (tells : Bool) (old new : PagesView) (names : List (List ℕ))
     → (IsTrue failed → (new.store.is_dead ≡ true) × Rose old.store.faults new.store.faults) → (IsTrue tells → IsFalse failed → tables_of new.store.state.bytes ≡ tables_of old.store.state.bytes) → KeepsNames tells old names → KeepsNames tells new names
 tables_kept tells old new names false same dies tables keeps told alive = keeps told (sym (same refl).0 ∙ alive) ∙ ap names_in (sym (tables told refl))
 tables_kept tells old new names true same dies tables keeps told alive = absurd (false≢true (sym alive ∙ (dies refl).0))
+
+-- a look
+pub kept_by_look : (tells : Bool) (Opens : List ℕ → List ℕ → Type 0) (old new : PagesView) (names : List (List ℕ)) (failed : Bool) → Looks tells Opens failed old new → KeepsNames tells old names → KeepsNames tells new names
+kept_by_look tells Opens old new names failed looks = tables_kept tells old new names failed (λ well. ((looks.still well).dead, (looks.still well).faults)) looks.dies (λ told well. ap (λ (s : State). tables_of s.bytes) ((looks.still well).state told))
 
 -- a caller's call
 pub kept : {tells : Bool} {Opens : List ℕ → List ℕ → Type 0} {index : Index} {table t : ℕ} {call : Call} {old new : PagesView} {result : Result Reply TableFault} {names : List (List ℕ)}

@@ -92,6 +92,7 @@ module _ (tells : Bool) (Opens : List ℕ → List ℕ → Type 0) (index : Inde
             tops = kept.tops;
             ranges = kept.ranges;
             others = does.others;
+            tables = λ told. (same told).tables;
             state = λ told i. record {
               table = (same told).records i;
               logs = λ u. record { writes = writes_of (kept.logs told u i); saved = map writes_of (saved_of (kept.logs told u i) (does.saves i u)) };

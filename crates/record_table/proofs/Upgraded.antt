@@ -198,7 +198,7 @@ module _ (index : Index) (laws : Laws index) (d page : List ℕ) (sound : index.
 -- Indexes and records of sound data that is not too long are the same in version 2.
 pub upgrade_keeps : (index : Index) → Laws index → (d : List ℕ) → index.sound d → length d < 2 ^ 32 → Upgraded index d (upgraded d)
 upgrade_keeps index laws d sound short = elim (cases_eq (version_of d) 2) [
-  | inl two ↦ subst (Upgraded index d) (sym (two_upgraded d two)) (record { sound = sound; size = refl; version = two; tables = refl; pairs = refl; records = refl; keys = refl })
+  | inl two ↦ subst (Upgraded index d) (sym (two_upgraded d two)) (record { sound = sound; size = refl; version = two; tables = refl; indexes = λ table root is. refl; pairs = refl; records = refl; keys = refl })
   | inr older ↦
       let counts = laws.counts d sound in
       let front = says_main (form_said (page_bytes d 0)) (next_slot d) (next_page d) (omega (arith, counts.slots, short)) (omega (arith, counts.pages, short)) in
