@@ -13,7 +13,11 @@ use std::test::Fail;
 // Key 5 has no record any more. Caller 1 reads it, and then ends.
 fn spares_what_is_touched(alloc: Global) -> Option<bool> {
     let media = key_5_without_record::<BTreePages>(alloc, TREE)?;
-    let mut core = open::<UntoldMedia<MemoryMedia>, BTreePages>(alloc, UntoldMedia::wrap(media), 2).ok()?;
+    let mut core = open::<UntoldMedia<MemoryMedia>, BTreePages>(
+        alloc,
+        UntoldMedia::wrap(media),
+        2,
+    ).ok()?;
     let begun = core.step(1, &Call::Begin) == Reply::Fine;
     let read = core.step(1, &Call::Get { key: 5 }) == Reply::Absent;
     let by_live = core.purge(1) == Err(Reply::Already);

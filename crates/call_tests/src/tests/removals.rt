@@ -19,6 +19,7 @@ use std::test::Fail;
 
 // The numbers of forms in a super page.
 const CHAIN: u8 = 0;
+
 pub const TREE: u8 = 1;
 
 const MAIN: u8 = 0;
