@@ -1,6 +1,6 @@
 -- What a command does, from what its calls do.
 use Rattle.std.proofs.Common.{◌≡◌, ℕ, ◌<◌, ◌≤◌, Bool, true, false, List, length, get_or, Result, Ok, Err, refl, sym, ◌∙◌, ap, subst, arith}
-use Rattle.std.specs.Prelude.{None, IsTrue, OnErr, IsErrAnd, is_err, slice_get, Some}
+use Rattle.std.specs.Prelude.{None, IsTrue, OnOk, OnErr, IsErrAnd, is_err, slice_get, Some}
 use Rattle.std.proofs.lemmas.Bool.{false≢true}
 use Rattle.mars_base.specs.Causes.{Rose}
 use Rattle.mars_base.proofs.Going.{stays}
@@ -79,6 +79,10 @@ lacking_other store t (UnknownTid u) lacks is = cc
 lacking_other store t Dead lacks is = cc
 lacking_other store t Media lacks is = lacks
 lacking_other store t (LogFull g h n) lacks is = lacks
+
+pub when_ok : {T E P : Type 0} (r : Result T E) → is_err r ≡ false → OnOk r P → P
+when_ok (Ok x) fine p = p
+when_ok (Err e) fine p = absurd (false≢true (sym fine))
 
 pub when_err : {T E P : Type 0} (r : Result T E) → is_err r ≡ true → OnErr r P → P
 when_err (Ok x) broke p = absurd (false≢true broke)

@@ -13,7 +13,6 @@ pub mod LogParts
 pub mod Alone
 pub mod Members
 pub mod Staged
-pub mod StagedCalls
 pub mod Tables
 pub mod Sure
 pub mod Doing

@@ -22,7 +22,7 @@ use Rattle.deferred_parts.specs.Turns.{has_some}
 use Rattle.late_data.specs.Spared.{AreSpared}
 use Rattle.eaw_device.proofs.Cells.{AreInCells}
 use Rattle.logger.specs.Cells.{cell_ranges, HoldsParts}
-use Rattle.eaw_device.specs.Steps.{staged_places}
+use Rattle.logger.specs.Staging.{staged_places}
 
 -- a place that none of the cells has
 pub outside_cells : (shape : Shape) (g t from n x : ℕ) → ((e : ℕ) → from ≤ e → e < from + n → cell_at shape g t e ≤ x → x < cell_at shape g t e + 528 → ⊥) → IsOutside (cell_ranges shape g t from n) x

@@ -31,7 +31,8 @@ use Rattle.late_data.specs.declared.commits.LateData.{LateData}
 use Rattle.eaw_device.specs.Opens.{Opens}
 use Rattle.eaw_device.specs.Logs.{IsKept, IsHeld, Adds, entries_at}
 use Rattle.deferred_parts.specs.Entries.{ranges_in, parts_in, cells_on}
-use Rattle.eaw_device.specs.Steps.{cells_fit, RefusesWrite, staged_places}
+use Rattle.logger.specs.Staging.{staged_places}
+use Rattle.eaw_device.specs.Steps.{cells_fit, RefusesWrite}
 use Rattle.eaw_device.specs.Laws.{alive_shown}
 use Rattle.deferred_parts.specs.Turns.{has_some}
 use Rattle.late_data.specs.Spared.{AreSpared}

@@ -6,9 +6,7 @@ use Rattle.std.specs.Option.{ForSome}
 use Rattle.mars_base.specs.Check.{Check}
 use Rattle.mars_base.specs.Room.{room}
 use Rattle.array_shape.specs.declared.shape.Shape.{Shape}
-use Rattle.array_shape.specs.Parts.{parts_on, write_parts_on}
-use Rattle.array_image.specs.Joined.{joined}
-use Rattle.logger.specs.Cells.{cell_ranges}
+use Rattle.array_shape.specs.Parts.{parts_on}
 use Rattle.eaw_face.specs.declared.fault.EawFault.{EawFault}
 use Rattle.eaw_face.specs.declared.fault.EawFault.TheVariants.{UnknownTid, LogFull, Media, Dead}
 use Rattle.eaw_device.specs.declared.log.Log.{Log}
@@ -38,10 +36,6 @@ RefusesWrite shape logs is_dead t addr len (UnknownTid u) = (is_dead ≡ false) 
 RefusesWrite shape logs is_dead t addr len (LogFull g h n) = (is_dead ≡ false) × (t < shape.numbers) × LogLacksCells shape logs t addr len (LogFull g h n)
 RefusesWrite shape logs is_dead t addr len Media = ⊥
 RefusesWrite shape logs is_dead t addr len Dead = is_dead ≡ true
-
--- the cells of number t, after the held ones, that a write takes at all loggers
-abbrev pub staged_places : Shape → ℕ → List ℕ → ℕ → List ℕ → List (ℕ × ℕ)
-staged_places shape t held addr bytes = joined (λ g. cell_ranges shape g t (slice_index held g) (length (write_parts_on shape g addr bytes))) 0 shape.loggers
 
 -- A write-back changes nothing that a device shows but its moment, and what might have been left opens with its data. If the medium fails, the
 -- device is dead.

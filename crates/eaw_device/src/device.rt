@@ -20,12 +20,12 @@ use crate::committing::{commit_log, commit_logs};
 use crate::fault::AttachFault;
 use crate::log::{Log, clear_logs};
 use crate::opening::open_array;
-use crate::staging::{check_room, stage_all};
+use crate::staging::check_room;
 use crate::write_back::{AtOnce, Late, WriteBack};
 use array_shape::{NumberSet, Shape};
 use eaw_face::{EawFault, EawStore};
 use late_data::LateData;
-use logger::Logger;
+use logger::{Logger, stage_write};
 use pcm_media::Media;
 use std::alloc::Global;
 
@@ -187,7 +187,7 @@ impl<M: Media, W: WriteBack> Eaw<M, W> {
         // The cells that the write takes may be those of a commit that waits.
         self.settle_for(1 << tid)?;
         let log = &self.logs[at];
-        if stage_all(&mut self.media, &self.shape, tid, log, addr, bytes).is_err() {
+        if stage_write(&mut self.media, &self.shape, tid, &log.held, addr, bytes).is_err() {
             self.is_dead = true;
             return Err(EawFault::Media);
         }

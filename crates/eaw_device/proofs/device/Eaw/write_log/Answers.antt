@@ -17,9 +17,8 @@ use Rattle.eaw_device.specs.Logs.{Adds}
 use Rattle.eaw_device.specs.Opens.{Opens}
 use Rattle.eaw_device.specs.Sound.{view_of}
 use Rattle.eaw_device.specs.Steps.{LogHasCells, cells_fit}
-use Rattle.eaw_device.proofs.StagedCalls.{when_ok}
 use Rattle.eaw_device.proofs.Alone.{has_own, own_bit}
-use Rattle.eaw_device.proofs.Doing.{when_err, one_log}
+use Rattle.eaw_device.proofs.Doing.{when_ok, when_err, one_log}
 use Rattle.eaw_device.proofs.Gathering.{log_there}
 use Rattle.eaw_device.proofs.Quiet.{quiet_fails, quiet_write}
 use Rattle.eaw_device.proofs.Tables.{found_log}
@@ -98,14 +97,9 @@ module _ (g : Over) (c : After-index-log g) where
   long : IsTrue g.M.Media.tells → length (g.M.Media.view c.settle_for.new.self.media).content.bytes ≡ media_len c.settle_for.new.self.shape
   long told = g.met.M.Media.long c.settle_for.new.self.media told ∙ c.settle_for.new.self.sound.sized
 
-pub stage_all-requires-clause-kept : goal.stage_all-requires-clause-kept
-stage_all-requires-clause-kept g c =
-    let at = (goal.at.stage_all-requires-clause-kept g c).After-index-log in
-    c.settle_for.new.self.sound.kept c.args.tid c.index-log.result.now (there g at)
-
-pub stage_all-requires-clause-room : goal.stage_all-requires-clause-room
-stage_all-requires-clause-room g c =
-    let at = (goal.at.stage_all-requires-clause-room g c).After-index-log in
+pub stage_write-requires-clause-room : goal.stage_write-requires-clause-room
+stage_write-requires-clause-room g c =
+    let at = (goal.at.stage_write-requires-clause-room g c).After-index-log in
     let m = g.M.Media in
     let s = c.settle_for.new.self in
     write_parts_fit m.tells (m.view s.media) s.shape s.logs.items s.late s.is_dead s.sound c.in_ok-settle_for.ensures.quiet.alive c.args.tid (small g at) c.index-log.result.now (there g at) c.args.addr c.args.bytes.now (inside g at) (apart g at) (room g at)
@@ -118,9 +112,9 @@ returns-then-is_err-clause-does g c =
     let s = c.settle_for.new.self in
     let quiet = c.in_ok-settle_for.ensures.quiet in
     quiet_write m.tells Opens c.args.tid c.args.addr c.args.bytes.now (view_of (m.view first.media) first.shape first.logs.items first.late first.is_dead) (view_of (m.view s.media) s.shape s.logs.items s.late s.is_dead)
-    (view_of (m.view c.stage_all.new.media) s.shape s.logs.items s.late true) c.in_ok-at.ensures.alive c.in_ok-settle_for.field-0 quiet _
+    (view_of (m.view c.stage_write.new.media) s.shape s.logs.items s.late true) c.in_ok-at.ensures.alive c.in_ok-settle_for.field-0 quiet _
     (write_failed m.tells (m.view s.media) s.shape s.logs.items s.late s.is_dead s.sound quiet.alive c.args.tid (small g at) c.index-log.result.now (there g at) c.args.addr c.args.bytes.now (inside g at) (apart g at) (room g at)
-    (m.view c.stage_all.new.media) c.stage_all.result c.stage_all.ensures.does (long g at) (when_err c.stage_all.result (sym c.is_err.ensures.value ∙ c.if-is_err.true) c.stage_all.ensures.does.cause.failed))
+    (m.view c.stage_write.new.media) c.stage_write.result c.stage_write.ensures.does (long g at) (when_err c.stage_write.result (sym c.is_err.ensures.value ∙ c.if-is_err.true) c.stage_write.ensures.does.cause.failed))
 
 pub returns-then-is_err-clause-len : goal.returns-then-is_err-clause-len
 returns-then-is_err-clause-len g c = tt
@@ -129,7 +123,7 @@ pub returns-then-is_err-clause-refused : goal.returns-then-is_err-clause-refused
 returns-then-is_err-clause-refused g c = λ ne. absurd (ne refl)
 
 pub returns-then-is_err-clause-costs : goal.returns-then-is_err-clause-costs
-returns-then-is_err-clause-costs g c = record { done = λ exact. tt; most = omega (arith, c.in_ok-settle_for.ensures.costs.most, c.stage_all.ensures.costs.most, settled_calls g (goal.at.returns-then-is_err-clause-costs g c).After-settle_for) }
+returns-then-is_err-clause-costs g c = record { done = λ exact. tt; most = omega (arith, c.in_ok-settle_for.ensures.costs.most, c.stage_write.ensures.costs.most, settled_calls g (goal.at.returns-then-is_err-clause-costs g c).After-settle_for) }
 
 pub add_range-requires-clause-kept : goal.add_range-requires-clause-kept
 add_range-requires-clause-kept g c =
@@ -150,7 +144,7 @@ add_range-requires-clause-room g c =
 
 -- the log with the write
 module _ (g : Over) (c : After-add_range g) where
-  fine : is_err c.stage_all.result ≡ false
+  fine : is_err c.stage_write.result ≡ false
   fine = sym c.is_err.ensures.value ∙ c.if-is_err.false
 
   adds : Adds c.index-log.result.now.entries.items c.add_range.new.self.entries.items (map (λ (p : Part). (p.addr, p.len)) (parts_of c.settle_for.new.self.shape c.args.addr (length c.args.bytes.now)))
@@ -169,7 +163,7 @@ invariant_of-self-2 g c =
     let s = c.settle_for.new.self in
     record {
       sound = write_sound m.tells (m.view s.media) s.shape s.logs.items s.late s.is_dead s.sound c.in_ok-settle_for.ensures.quiet.alive c.args.tid (small g at) c.index-log.result.now (there g at) c.args.addr c.args.bytes.now (inside g at) (apart g at) (room g at)
-          (m.view c.stage_all.new.media) c.stage_all.result c.stage_all.ensures.does (long g at) (λ told. when_ok c.stage_all.result (fine g (goal.at.invariant_of-self-2 g c).After-add_range) (c.stage_all.ensures.holds told)) c.add_range.new.self c.add_range.ensures.kept c.add_range.ensures.live (adds g (goal.at.invariant_of-self-2 g c).After-add_range) c.in_ok-at.at c.in_ok-at.ensures.at;
+          (m.view c.stage_write.new.media) c.stage_write.result c.stage_write.ensures.does (long g at) (λ told. when_ok c.stage_write.result (fine g (goal.at.invariant_of-self-2 g c).After-add_range) (c.stage_write.ensures.holds told)) c.add_range.new.self c.add_range.ensures.kept c.add_range.ensures.live (adds g (goal.at.invariant_of-self-2 g c).After-add_range) c.in_ok-at.at c.in_ok-at.ensures.at;
       depth = s.depth;
     }
 
@@ -193,10 +187,10 @@ returns-clause-does g c =
     let s = c.settle_for.new.self in
     let quiet = c.in_ok-settle_for.ensures.quiet in
     quiet_write m.tells Opens c.args.tid c.args.addr c.args.bytes.now (view_of (m.view first.media) first.shape first.logs.items first.late first.is_dead) (view_of (m.view s.media) s.shape s.logs.items s.late s.is_dead)
-    (view_of (m.view c.stage_all.new.media) s.shape (slice_set s.logs.items c.in_ok-at.at c.add_range.new.self) s.late s.is_dead) c.in_ok-at.ensures.alive c.in_ok-settle_for.field-0 quiet _
+    (view_of (m.view c.stage_write.new.media) s.shape (slice_set s.logs.items c.in_ok-at.at c.add_range.new.self) s.late s.is_dead) c.in_ok-at.ensures.alive c.in_ok-settle_for.field-0 quiet _
     (write_done m.tells (m.view s.media) s.shape s.logs.items s.late s.is_dead s.sound quiet.alive c.args.tid (small g at) c.index-log.result.now (there g at) c.args.addr c.args.bytes.now (inside g at) (apart g at) (room g at)
-    (m.view c.stage_all.new.media) c.stage_all.result c.stage_all.ensures.does (long g at) (λ told. when_ok c.stage_all.result (fine g (goal.at.returns-clause-does g c).After-add_range) (c.stage_all.ensures.holds told)) c.add_range.new.self c.add_range.ensures.kept c.add_range.ensures.live (adds g (goal.at.returns-clause-does g c).After-add_range) c.in_ok-at.at c.in_ok-at.ensures.at
-    c.len.result (when_ok c.stage_all.result (fine g (goal.at.returns-clause-does g c).After-add_range) c.stage_all.ensures.does.cause.kept))
+    (m.view c.stage_write.new.media) c.stage_write.result c.stage_write.ensures.does (long g at) (λ told. when_ok c.stage_write.result (fine g (goal.at.returns-clause-does g c).After-add_range) (c.stage_write.ensures.holds told)) c.add_range.new.self c.add_range.ensures.kept c.add_range.ensures.live (adds g (goal.at.returns-clause-does g c).After-add_range) c.in_ok-at.at c.in_ok-at.ensures.at
+    c.len.result (when_ok c.stage_write.result (fine g (goal.at.returns-clause-does g c).After-add_range) c.stage_write.ensures.does.cause.kept))
 
 pub returns-clause-len : goal.returns-clause-len
 returns-clause-len g c =
@@ -206,7 +200,7 @@ returns-clause-len g c =
     let is = written s.logs.items c.in_ok-at.at c.args.tid c.add_range.new.self c.index.result.now c.in_ok-at.ensures.at (below g at) c.index.ensures in
     c.len.ensures ∙ c.index.result.now.entries.ok.0 ∙ ap (λ (l : Log). length l.entries.items) is
     ∙ sym (write_len m.tells (m.view s.media) s.shape s.logs.items s.late s.is_dead s.sound c.in_ok-settle_for.ensures.quiet.alive c.args.tid (small g at) c.index-log.result.now (there g at) c.args.addr c.args.bytes.now (inside g at) (apart g at) (room g at)
-    (m.view c.stage_all.new.media) c.stage_all.result c.stage_all.ensures.does (long g at) (λ told. when_ok c.stage_all.result (fine g (goal.at.returns-clause-len g c).After-add_range) (c.stage_all.ensures.holds told)) c.add_range.new.self c.add_range.ensures.kept c.add_range.ensures.live (adds g (goal.at.returns-clause-len g c).After-add_range) c.in_ok-at.at c.in_ok-at.ensures.at)
+    (m.view c.stage_write.new.media) c.stage_write.result c.stage_write.ensures.does (long g at) (λ told. when_ok c.stage_write.result (fine g (goal.at.returns-clause-len g c).After-add_range) (c.stage_write.ensures.holds told)) c.add_range.new.self c.add_range.ensures.kept c.add_range.ensures.live (adds g (goal.at.returns-clause-len g c).After-add_range) c.in_ok-at.at c.in_ok-at.ensures.at)
 
 pub returns-clause-refused : goal.returns-clause-refused
 returns-clause-refused g c = tt
@@ -220,5 +214,5 @@ returns-clause-left g c =
 pub returns-clause-costs : goal.returns-clause-costs
 returns-clause-costs g c =
     let settled = c.in_ok-settle_for.ensures.costs in
-    let staged = when_ok c.stage_all.result (fine g (goal.at.returns-clause-costs g c).After-add_range) (c.stage_all.ensures.costs.done refl) in
+    let staged = when_ok c.stage_write.result (fine g (goal.at.returns-clause-costs g c).After-add_range) (c.stage_write.ensures.costs.done refl) in
     record { done = λ told. let one = settled.done told in omega (arith, one, staged, settled_calls g (goal.at.returns-clause-costs g c).After-settle_for); most = omega (arith, settled.most, staged, settled_calls g (goal.at.returns-clause-costs g c).After-settle_for) }

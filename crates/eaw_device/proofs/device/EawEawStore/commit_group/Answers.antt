@@ -9,9 +9,8 @@ use Rattle.eaw_device.specs.Opens.{Opens}
 use Rattle.eaw_device.specs.Sound.{view_of}
 use Rattle.eaw_device.proofs.Clearing.{group_order, written_over}
 use Rattle.eaw_device.proofs.Costing.{costs_done}
-use Rattle.eaw_device.proofs.Doing.{lacking_group, lacking_group_other, when_err}
+use Rattle.eaw_device.proofs.Doing.{when_ok, lacking_group, lacking_group_other, when_err}
 use Rattle.eaw_device.proofs.GroupCommits.{group_failed, group_now_sound, group_done}
-use Rattle.eaw_device.proofs.StagedCalls.{when_ok}
 use Rattle.eaw_device.proofs.Tables.{sound_dead}
 use Rattle.eaw_device.proofs.device.EawEawStore.commit_group.Goals as goal
 

@@ -5,8 +5,7 @@ use Rattle.eaw_face.specs.declared.fault.EawFault.TheVariants.{Media}
 use Rattle.eaw_device.specs.Opens.{Opens}
 use Rattle.eaw_device.specs.Sound.{view_of}
 use Rattle.eaw_device.specs.declared.log.Log.{Log}
-use Rattle.eaw_device.proofs.StagedCalls.{when_ok}
-use Rattle.eaw_device.proofs.Doing.{lacking, lacking_other, Found, found, one_log, when_err}
+use Rattle.eaw_device.proofs.Doing.{when_ok, lacking, lacking_other, Found, found, one_log, when_err}
 use Rattle.eaw_device.specs.Costs.{commit_cost}
 use Rattle.eaw_device.proofs.Costing.{costs_done}
 use Rattle.eaw_device.proofs.Cutting.{order_cut}
