@@ -29,6 +29,8 @@ pub enum Play {
     },
     /// Calls of pages, and bytes that the array has behind them.
     Pages {
+        /// How many commits of the array may wait for their write-back.
+        depth: u8,
         lines: Vec<PageLine>,
         has: Vec<Placed>,
     },
@@ -75,6 +77,7 @@ impl Case {
             "image" => self.image = read_image(alloc, rest)?,
             "pages" => {
                 self.play = Play::Pages {
+                    depth: 0,
                     lines: Vec::new(alloc),
                     has: Vec::new(alloc),
                 };
@@ -97,6 +100,10 @@ impl Play {
                 has.push(Placed::read(alloc, rest)?)?;
                 Ok(())
             }
+            Play::Pages { depth, .. } if word == "late" => {
+                *depth = read_depth(rest)?;
+                Ok(())
+            }
             Play::Pages { lines, .. } => take_page_line(alloc, lines, word, rest),
         }
     }
@@ -116,6 +123,13 @@ fn take_run_line(
     match runs.last_mut() {
         Some(run) => run.take(alloc, word, rest),
         None => Err(LineFault::Word),
+    }
+}
+
+fn read_depth(text: &str) -> Result<u8, LineFault> {
+    match text.parse::<u8>() {
+        Ok(depth) if 0 < depth && depth <= 64 => Ok(depth),
+        Ok(_) | Err(_) => Err(LineFault::Number),
     }
 }
 

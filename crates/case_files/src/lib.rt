@@ -10,6 +10,7 @@
 //! | `image zeros N` | at first there are N zeros |
 //! | `file` | each run goes over a file in memory, once for each way in which its calls are answered: wholly, in parts, with interruptions, and a mixture of these. There `fail medium` counts the calls of the file, and no `calls` and no `call` are said. It comes to what the same run over memory does; where a call failed, to what that does whose same call fails |
 //! | `pages` | the case makes calls of pages, as below, and no runs |
+//! | `late D` | behind `pages`: over an array on which D commits may wait for their write-back |
 //!
 //! A run over the image, and what goes wrong in it. Numbers are counted from 1, and `A to B` may be one number alone:
 //!
@@ -48,8 +49,8 @@
 //! In a case of pages `> T CALL` is a call for the number T, and `< ANSWER` what the call before it answers: `ok`, a number, bytes as
 //! digits, why it is refused, or `not now` where it may not be made. Where nothing is said, it answers what it does over plain memory. The
 //! case is played over plain memory, and then over an array, which has to answer the same; there also with each call of the medium failing
-//! once, and with power lost at each. Where that was within a group, its recovery is stopped in the same way at each of its own calls. A
-//! line `has AT HEX` says what the array has behind all calls.
+//! once, and with power lost at each. Where that was within a group, or on an array on which commits may wait, its recovery is stopped in the
+//! same way at each of its own calls. A line `has AT HEX` says what the array has behind all calls.
 //!
 //! | call | does |
 //! |---|---|

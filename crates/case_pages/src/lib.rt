@@ -15,6 +15,6 @@ mod plain;
 mod progress;
 
 pub use image::{first_media, image_before, media_of};
-pub use page_cases::play_pages;
+pub use page_cases::{PageCalls, play_pages};
 pub use plain::{compare_plain, has_twin};
 pub use progress::{Plays, Progress, Trial};

@@ -1,18 +1,28 @@
 // A case of calls of pages.
 use crate::image::{first_media, media_of};
 use crate::page_steps::{Step, play, steps_of};
-use crate::page_stores::{device, device_pages, media_below, plain_pages};
+use crate::page_stores::{Device, device, pages_over, plain_pages};
 use crate::plain::data_in;
 use crate::progress::Progress;
 use case_files::{CaseFault, Image, PageLine, Placed, compare_places};
-use pcm_media::{Media, MemoryMedia};
+use eaw_device::{AttachFault, Eaw, WriteBack};
+use pcm_media::{FusedMedia, Media, MemoryMedia};
 use std::alloc::Global;
+
+/// The calls of a case.
+#[derive(Clone, Copy)]
+pub struct PageCalls<'a> {
+    /// How many commits of the array may wait for their write-back.
+    pub depth: u8,
+    pub lines: &'a [PageLine],
+    /// What the array has behind them.
+    pub has: &'a [Placed],
+}
 
 // The calls of a case, and what they come to over plain memory.
 #[derive(Drop)]
 struct Played<'a> {
-    lines: &'a [PageLine],
-    has: &'a [Placed],
+    calls: PageCalls<'a>,
     first: Vec<u8>,
     steps: Vec<Step>,
 }
@@ -34,10 +44,10 @@ impl Played<'_> {
         }
     }
 
-    // Whether a call commits a group.
-    fn is_group(&self, nth: usize) -> bool {
-        match self.lines.get(nth) {
-            Some(line) => line.call.is_group(),
+    // Whether the recovery behind a call that failed is stopped: it may have to settle a group, or several commits.
+    fn stops_recovery(&self, nth: usize) -> bool {
+        match self.calls.lines.get(nth) {
+            Some(line) => self.calls.depth > 0 || line.call.is_group(),
             None => false,
         }
     }
@@ -47,13 +57,12 @@ impl Played<'_> {
 pub fn play_pages(
     alloc: Global,
     image: Image,
-    lines: &[PageLine],
-    has: &[Placed],
+    calls: PageCalls,
     progress: &mut Progress,
 ) -> Result<(), CaseFault> {
     let image = first_media(alloc, image)?;
     let image = image.bytes();
-    let played = play_plainly(alloc, lines, has, image, progress)?;
+    let played = play_plainly(alloc, calls, image, progress)?;
     for passes in 0..play_wholly(alloc, &played, image, progress)? {
         let mut failing = media_of(alloc, image)?;
         failing.fail(passes + 1)?;
@@ -65,18 +74,16 @@ pub fn play_pages(
 
 fn play_plainly<'a>(
     alloc: Global,
-    lines: &'a [PageLine],
-    has: &'a [Placed],
+    calls: PageCalls<'a>,
     image: &[u8],
     progress: &mut Progress,
 ) -> Result<Played<'a>, CaseFault> {
     progress.plays.of_pages = progress.plays.of_pages.saturating_add(1);
     let first = data_in(alloc, media_of(alloc, image)?)?;
     let mut pages = plain_pages(alloc, image)?;
-    let steps = steps_of(alloc, lines, &mut pages, &mut progress.report)?;
+    let steps = steps_of(alloc, calls.lines, &mut pages, &mut progress.report)?;
     Ok(Played {
-        lines,
-        has,
+        calls,
         first,
         steps,
     })
@@ -92,7 +99,7 @@ fn play_wholly(
     let media = media_of(alloc, image)?;
     match play_device(alloc, played, media, u64::MAX, progress)? {
         (None, media) => {
-            compare_places(played.has, media.bytes(), &mut progress.report)?;
+            compare_places(played.calls.has, media.bytes(), &mut progress.report)?;
             Ok(media.moment())
         }
         (Some(_), _) => Err(CaseFault::Differs {
@@ -128,17 +135,40 @@ fn play_device(
     progress: &mut Progress,
 ) -> Result<(Option<usize>, MemoryMedia), CaseFault> {
     progress.plays.of_pages = progress.plays.of_pages.saturating_add(1);
-    match device_pages(alloc, media, passes)? {
-        Ok(mut pages) => {
-            let Played { lines, steps, .. } = played;
-            let failed = play(alloc, lines, steps, &mut pages, &mut progress.report)?;
-            Ok((failed, media_below(pages)))
+    let media = FusedMedia::wrap(media, passes);
+    match played.calls.depth {
+        0 => play_opened(alloc, played, Eaw::attach(alloc, media), progress),
+        depth if depth <= 64 => {
+            let opened = Eaw::attach_late(alloc, media, depth);
+            play_opened(alloc, played, opened, progress)
         }
-        Err(media) => Ok((Some(0), media)),
+        _ => Err(CaseFault::Opening),
     }
 }
 
-// Compares what each choice of the bytes that are not sure leaves. Behind a call that commits a group its recovery is stopped as well.
+fn play_opened<W: WriteBack>(
+    alloc: Global,
+    played: &Played,
+    opened: Result<Device<W>, (AttachFault, FusedMedia<MemoryMedia>)>,
+    progress: &mut Progress,
+) -> Result<(Option<usize>, MemoryMedia), CaseFault> {
+    let store = match opened {
+        Ok(store) => store,
+        Err((_, media)) => return Ok((Some(0), media.into_inner())),
+    };
+    let mut pages = pages_over(alloc, store)?;
+    let lines = played.calls.lines;
+    let failed = play(
+        alloc,
+        lines,
+        &played.steps,
+        &mut pages,
+        &mut progress.report,
+    )?;
+    Ok((failed, pages.into_store().into_media().into_inner()))
+}
+
+// Compares what each choice of the bytes that are not sure leaves, and what recoveries leave that are stopped.
 fn compare_left(
     alloc: Global,
     played: &Played,
@@ -148,7 +178,7 @@ fn compare_left(
     let choices: [&[u8]; 4] = [&[], &[0], &[0xc3], &[1, 2, 3]];
     for choice in choices {
         let left = media.leave(choice)?;
-        if played.is_group(failed) {
+        if played.stops_recovery(failed) {
             stop_recovery(alloc, played, failed, left.bytes(), choice)?;
         }
         compare_data(alloc, played, failed, left)?;

@@ -1,6 +1,5 @@
 // Calls of pages over plain memory, and the same calls over an array.
 use crate::page_answers::{Answer, perform, read};
-use crate::page_stores::Device;
 use case_files::{CaseFault, PageLine, Report};
 use eaw_face::EawStore;
 use memory_eaw::MemoryEaw;
@@ -47,11 +46,11 @@ fn answer_of(
 
 /// Makes the same calls over an array, and gives the number of the call that found the medium failed. Each call before it has to answer
 /// the same, and where there is none the data is the same in the end.
-pub fn play(
+pub fn play<S: EawStore>(
     alloc: Global,
     lines: &[PageLine],
     steps: &[Step],
-    pages: &mut Pages<Device>,
+    pages: &mut Pages<S>,
     report: &mut Report,
 ) -> Result<Option<usize>, CaseFault> {
     for (i, (line, step)) in lines.iter().zip(steps).enumerate() {
@@ -68,11 +67,11 @@ pub fn play(
 }
 
 // Whether the medium lets a call go through. It has to answer as over plain memory then.
-fn answers_same(
+fn answers_same<S: EawStore>(
     alloc: Global,
     line: &PageLine,
     step: &Step,
-    pages: &mut Pages<Device>,
+    pages: &mut Pages<S>,
     report: &mut Report,
 ) -> Result<bool, CaseFault> {
     let was = perform(alloc, pages, line.tid, &line.call)?;
@@ -88,10 +87,10 @@ fn answers_same(
 }
 
 // Whether the medium lets all data be read. It has to be that behind the last call then.
-fn has_same_data(
+fn has_same_data<S: EawStore>(
     alloc: Global,
     steps: &[Step],
-    pages: &mut Pages<Device>,
+    pages: &mut Pages<S>,
     report: &mut Report,
 ) -> Result<bool, CaseFault> {
     let Some(data) = data_of(alloc, pages)? else {
@@ -113,10 +112,10 @@ fn is_media(answer: &Answer) -> bool {
 }
 
 // Behind a fault of the medium nothing is done any more.
-fn answers_dead(
+fn answers_dead<S: EawStore>(
     alloc: Global,
     lines: &[PageLine],
-    pages: &mut Pages<Device>,
+    pages: &mut Pages<S>,
 ) -> Result<(), CaseFault> {
     for line in lines {
         if !is_dead(&perform(alloc, pages, line.tid, &line.call)?) {
