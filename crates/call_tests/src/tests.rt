@@ -3,6 +3,7 @@ mod arrays;
 mod counting;
 mod groups;
 mod histories;
+mod late;
 mod lists;
 mod opening;
 mod queues;
