@@ -158,7 +158,13 @@ fn play_opened<W: WriteBack>(
     };
     let mut pages = pages_over(alloc, store)?;
     let lines = played.calls.lines;
-    let failed = play(alloc, lines, &played.steps, &mut pages, &mut progress.report)?;
+    let failed = play(
+        alloc,
+        lines,
+        &played.steps,
+        &mut pages,
+        &mut progress.report,
+    )?;
     Ok((failed, pages.into_store().into_media().into_inner()))
 }
 

@@ -17,7 +17,11 @@ pub fn plain_pages(alloc: Global, image: &[u8]) -> Result<Pages<MemoryEaw>, Case
 }
 
 /// The array on a medium, so many calls of which are passed on; or the medium, if it is not opened.
-pub fn device(alloc: Global, media: MemoryMedia, passes: u64) -> Result<Device<AtOnce>, MemoryMedia> {
+pub fn device(
+    alloc: Global,
+    media: MemoryMedia,
+    passes: u64,
+) -> Result<Device<AtOnce>, MemoryMedia> {
     match Eaw::attach(alloc, FusedMedia::wrap(media, passes)) {
         Ok(store) => Ok(store),
         Err((_, media)) => Err(media.into_inner()),

@@ -3,7 +3,9 @@ use crate::once::{failing_call, run_over_memory};
 use crate::over_file::{compare_memory, run_over_file};
 use crate::way::{WAYS, Way};
 use case_files::{Case, CaseFault, Image, Play, Ran, Run, compare};
-use case_pages::{PageCalls, Progress, Trial, compare_plain, first_media, has_twin, image_before, play_pages};
+use case_pages::{
+    PageCalls, Progress, Trial, compare_plain, first_media, has_twin, image_before, play_pages,
+};
 use pcm_media::MemoryMedia;
 use std::alloc::Global;
 use std::sync::Wait;
@@ -28,7 +30,11 @@ pub fn play_case<R: AllocGlobal + Threads + Wait + Sync>(
             make_runs(rt, case.image, runs, *is_over_file, progress)
         }
         Play::Pages { depth, lines, has } => {
-            let calls = PageCalls { depth: *depth, lines, has };
+            let calls = PageCalls {
+                depth: *depth,
+                lines,
+                has,
+            };
             play_pages(rt.alloc(), case.image, calls, progress)
         }
     }

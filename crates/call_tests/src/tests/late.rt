@@ -30,7 +30,10 @@ fn commit_nth<S: EawStore>(store: &mut S, n: u32) -> bool {
     if at + 8 > store.shape().data_len() {
         return false;
     }
-    if store.log_write(tid, at, &u64::from(n).to_le_bytes()).is_err() {
+    if store
+        .log_write(tid, at, &u64::from(n).to_le_bytes())
+        .is_err()
+    {
         return false;
     }
     store.commit(tid).is_ok()
@@ -66,12 +69,12 @@ fn order_numbers_begin_again_behind_the_last(rt: HostRuntime) -> Result<(), Fail
     assert_eq!(rt; front(&mut store), Some(data));
     let media = store.into_media();
     let rows = media.bytes().get(560..608).ok_or("rows")?;
-    let last = [0, 1, 0, 0, 1, 0, 0, 0, 0, 0, 0, 0, 0, 0, 255, 255];
-    let first = [0xC3, 1, 0, 0, 1, 0, 0, 0, 0, 0, 0, 0, 0, 0, 1, 0];
-    let second = [0xC3, 1, 0, 0, 1, 0, 0, 0, 0, 0, 0, 0, 0, 0, 2, 0];
-    assert_eq!(rt; rows[..16], last);
-    assert_eq!(rt; rows[16..32], first);
-    assert_eq!(rt; rows[32..], second);
+    let last: [u8; 16] = [0, 1, 0, 0, 1, 0, 0, 0, 0, 0, 0, 0, 0, 0, 255, 255];
+    let first: [u8; 16] = [0xC3, 1, 0, 0, 1, 0, 0, 0, 0, 0, 0, 0, 0, 0, 1, 0];
+    let second: [u8; 16] = [0xC3, 1, 0, 0, 1, 0, 0, 0, 0, 0, 0, 0, 0, 0, 2, 0];
+    assert_eq!(rt; &rows[..16], last.as_slice());
+    assert_eq!(rt; &rows[16..32], first.as_slice());
+    assert_eq!(rt; &rows[32..], second.as_slice());
     let Ok(mut store) = Eaw::attach(rt.alloc(), media) else {
         return Err("opened again")?;
     };
