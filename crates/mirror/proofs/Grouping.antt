@@ -1,10 +1,10 @@
 -- A frame that is written into a store, number by number.
-use Rattle.std.proofs.Common.{◌≡◌, ◌≢◌, ℕ, zero, suc, ◌+◌, ◌-◌, ◌^◌, ◌<◌, ◌≤◌, ◌⊎◌, inl, inr, ⊎_elim, Bool, true, false, cond, ◌||◌, nat_eq, List, [], ◌∷◌, ◌++◌, length, take, drop, Result, Ok, Err, refl, sym, ◌∙◌, ap, subst, arith, append_assoc, slice_index}
+use Rattle.std.proofs.Common.{◌≡◌, ◌≢◌, ℕ, zero, suc, ◌+◌, ◌-◌, ◌<◌, ◌≤◌, inl, inr, ⊎_elim, Bool, true, false, cond, ◌||◌, nat_eq, List, [], ◌∷◌, ◌++◌, length, drop, Result, Ok, Err, refl, sym, ◌∙◌, ap, subst, arith, append_assoc, slice_index}
 use Rattle.std.specs.Prelude.{IsTrue, IsSome, OnOk, IfErr, All, flat_map, Option, Some, None}
 use Rattle.std.specs.Option.{option_map}
-use Rattle.std.proofs.lemmas.Bool.{eq-eqb, ne_eqb, eqb-true, false≢true}
-use Rattle.std.proofs.lemmas.List.{append-nil, length-append, take_at, drop_at}
-use Rattle.std.proofs.lemmas.List.Elements.{All-nil, All-cons, All-head, All-tail, All-push, All-weaker}
+use Rattle.std.proofs.lemmas.Bool.{eq-eqb, false≢true}
+use Rattle.std.proofs.lemmas.List.{append-nil, length-append, drop_at}
+use Rattle.std.proofs.lemmas.List.Elements.{All-nil, All-head, All-tail, All-push, All-weaker}
 use Rattle.std.proofs.lemmas.List.Concat.{flat_map-append}
 use Rattle.mars_base.proofs.Going.{stays, weaker, then}
 use Rattle.byteorder.specs.Endian.{little_number, little_bytes}
@@ -13,16 +13,16 @@ use Rattle.array_shape.specs.declared.shape.Shape.{Shape}
 use Rattle.array_shape.specs.Logged.{Part, applied, ranges_of}
 use Rattle.array_shape.specs.NumberSet.{has, numbers_from, numbers_in}
 use Rattle.array_shape.proofs.Sets.{from_here, from_next, from_past, from_end}
-use Rattle.eaw_face.specs.State.{State, Logs, listed, with_log, group_log, with_each, is_one_of}
+use Rattle.eaw_face.specs.State.{State, Logs, listed, group_log, with_each, is_one_of}
 use Rattle.eaw_face.specs.StoreView.{StoreView, IsLive, LeavesOnly}
 use Rattle.eaw_face.specs.Command.{commit_group, after}
 use Rattle.eaw_face.specs.Causes.{Cause, known}
-use Rattle.eaw_face.specs.Does.{IsEither, Becomes, Does}
+use Rattle.eaw_face.specs.Does.{Becomes, Does}
 use Rattle.eaw_face.proofs.Groups.{known_there, known_whole}
 use Rattle.eaw_face.proofs.Others.{with_log_other}
 use Rattle.eaw_face.specs.declared.fault.EawFault.{EawFault}
 use Rattle.eaw_face.specs.declared.fault.EawFault.TheVariants.{UnknownTid, LogFull, Media, Dead}
-use Rattle.mirror.specs.Frame.{Group, Frame, mark, part_bytes, group_bytes, frame_bytes, written_by, IsPart, IsGroup, IsFrameIn, Rise, IsInside, IsGroupIn, AreFrame}
+use Rattle.mirror.specs.Frame.{Group, mark, part_bytes, group_bytes, written_by, IsPart, IsGroup, Rise, IsGroupIn, AreFrame}
 use Rattle.mirror.specs.Applying.{HasParts, Wrote, WroteParts, logged_more, IsNewFault, IsFree, Applied, OpensEither}
 use Rattle.mirror.proofs.Logging.{listed_more}
 use Rattle.mirror.proofs.Cuts.{part_cut, list_cut}

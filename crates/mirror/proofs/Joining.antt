@@ -1,17 +1,17 @@
 -- Pieces of a stream that are fed one after another are fed as one.
-use Rattle.std.proofs.Common.{◌≡◌, ℕ, suc, ◌+◌, ◌<◌, ◌≤◌, Bool, List, [], ◌∷◌, ◌++◌, length, take, drop, refl, sym, ◌∙◌, ap, subst, arith, append_assoc, slice_index}
+use Rattle.std.proofs.Common.{◌≡◌, ℕ, suc, ◌+◌, ◌<◌, Bool, List, [], ◌∷◌, ◌++◌, length, take, drop, refl, sym, ◌∙◌, ap, subst, arith, append_assoc, slice_index}
 use Rattle.std.specs.Prelude.{IsTrue, All, flat_map}
-use Rattle.std.proofs.lemmas.List.{append-nil, length-append, take_all, take_more, take-append-drop, drop_more}
+use Rattle.std.proofs.lemmas.List.{append-nil, length-append, take_more, take-append-drop}
 use Rattle.std.proofs.lemmas.List.Elements.{All-nil, All-append}
 use Rattle.std.proofs.lemmas.List.Concat.{flat_map-append}
-use Rattle.mars_base.proofs.Going.{stays, weaker, then}
+use Rattle.mars_base.proofs.Going.{weaker, then}
 use Rattle.array_shape.specs.declared.shape.Shape.{Shape}
 use Rattle.array_shape.specs.Logged.{applied}
 use Rattle.eaw_face.specs.StoreView.{StoreView, LeavesOnly}
 use Rattle.mirror.specs.declared.follow_fault.FollowFault.{FollowFault}
 use Rattle.mirror.specs.declared.follow_fault.FollowFault.TheVariants.{BadFrame, Gap, Media, Dead, NoMemory}
 use Rattle.mirror.specs.Frame.{Frame, frame_bytes, written_by, IsFrameIn}
-use Rattle.mirror.specs.Following.{AreInSequence, followed, HasNoFrame, IsBroken, Stand, IsReady, Cuts, HasFollowed, Follows, LeavesFirst, IsGap, StopsAt, StopsBroken, StopsAtGap, StopsSomewhere, StopCause}
+use Rattle.mirror.specs.Following.{AreInSequence, followed, HasNoFrame, IsBroken, Stand, IsReady, Cuts, HasFollowed, Follows, LeavesFirst, IsGap, StopCause}
 
 sequence_append : (n : ℕ) (f1 f2 : List Frame) → AreInSequence n f1 → AreInSequence (n + length f1) f2 → AreInSequence n (f1 ++ f2)
 sequence_append n [] f2 one two = subst (λ (m : ℕ). AreInSequence m f2) (let same : n + 0 ≡ n = omega arith in same) two

@@ -1,19 +1,16 @@
 -- What may still come of a frame, part by part and group by group.
-use Rattle.std.proofs.Common.{◌≡◌, ℕ, zero, suc, ◌+◌, ◌-◌, ◌*◌, ◌%◌, ◌/◌, ◌^◌, ◌<◌, ◌≤◌, List, [], ◌∷◌, ◌++◌, length, refl, sym, ◌∙◌, ap, subst, arith, append_assoc}
-use Rattle.std.specs.Prelude.{◌↔◌, All, flat_map, slice_index, replicate}
-use Rattle.std.proofs.Math.Nat.{mod-lt, div-lt_iff_lt-mul, div-add-mod', mul-le-mul_left}
-use Rattle.std.proofs.lemmas.List.{get_or-set_same}
+use Rattle.std.proofs.Common.{◌≡◌, ℕ, suc, ◌+◌, ◌-◌, ◌%◌, ◌/◌, ◌^◌, ◌<◌, ◌≤◌, List, [], ◌∷◌, ◌++◌, length, refl, sym, ◌∙◌, ap, subst, arith, append_assoc}
+use Rattle.std.specs.Prelude.{◌↔◌, All, flat_map, slice_index}
+use Rattle.std.proofs.Math.Nat.{mod-lt, div-lt_iff_lt-mul, div-add-mod'}
 use Rattle.std.proofs.lemmas.List.Elements.{All-nil, All-cons, All-head, All-tail}
-use Rattle.mars_base.specs.Room.{HaveRoom}
 use Rattle.byteorder.specs.Endian.{little_bytes}
 use Rattle.array_shape.specs.declared.shape.Shape.{Shape}
 use Rattle.array_shape.specs.Places.{IsShape, data_len, page_count, logger_of}
 use Rattle.array_shape.specs.Logged.{Part, ranges_of}
-use Rattle.eaw_face.specs.State.{count_on}
 use Rattle.mirror.specs.declared.to_come.Groups.{Groups}
 use Rattle.mirror.specs.declared.to_come.Parts.{Parts}
-use Rattle.mirror.specs.Frame.{Group, part_bytes, group_bytes, IsByte, IsPart, IsGroup, Rise, IsInside, IsGroupIn}
-use Rattle.mirror.specs.Rest.{NumberRest, BytesRest, GroupsRest, PartsRest, IsPartsRest, NumberThen, HasRoom, AfterLength, AfterAddress, AfterPartCount, one_more, behind}
+use Rattle.mirror.specs.Frame.{Group, part_bytes, group_bytes, IsPart, IsGroup, Rise, IsInside, IsGroupIn}
+use Rattle.mirror.specs.Rest.{NumberRest, GroupsRest, IsPartsRest, NumberThen, HasRoom, AfterLength, AfterAddress, AfterPartCount, one_more, behind}
 use Rattle.mirror.proofs.Numbers.{number_first, number_whole}
 use Rattle.mirror.proofs.Holding.{room_over, free_here, none_held}
 

@@ -1,21 +1,18 @@
 -- A stream of frames that is followed, byte by byte.
-use Rattle.std.proofs.Common.{◌≡◌, ◌≢◌, ℕ, zero, suc, ◌+◌, ◌-◌, ◌^◌, ◌<◌, ◌≤◌, ◌⊎◌, inl, inr, ⊎_elim, List, [], ◌∷◌, ◌++◌, length, take, drop, Result, Ok, Err, refl, sym, ◌∙◌, ap, subst, arith, append_assoc}
-use Rattle.std.specs.Prelude.{IsTrue, OnOk, IfErr, All, flat_map, Bool}
-use Rattle.std.proofs.lemmas.List.{append-nil, length-append, take_at, drop_at, take-append-le, take-append-drop, nil_from_length}
-use Rattle.std.proofs.lemmas.List.Elements.{All-nil, All-cons, All-append}
-use Rattle.std.proofs.lemmas.List.Concat.{flat_map-append}
-use Rattle.mars_base.proofs.Going.{stays, weaker, then}
-use Rattle.mars_base.specs.Causes.{Rose}
+use Rattle.std.proofs.Common.{◌≡◌, ℕ, ◌+◌, ◌≤◌, ◌⊎◌, inl, inr, ⊎_elim, List, [], ◌∷◌, ◌++◌, length, take, drop, refl, sym, ◌∙◌, ap, subst, arith, append_assoc}
+use Rattle.std.specs.Prelude.{flat_map, Bool}
+use Rattle.std.proofs.lemmas.List.{append-nil, length-append, take_at, take-append-le, take-append-drop}
+use Rattle.std.proofs.lemmas.List.Elements.{All-nil, All-cons}
+use Rattle.mars_base.proofs.Going.{weaker}
 use Rattle.byteorder.specs.Endian.{little_number, little_bytes}
 use Rattle.byteorder.specs.Numbers.{little_number-reads_back}
 use Rattle.array_shape.specs.declared.shape.Shape.{Shape}
-use Rattle.array_shape.specs.Logged.{applied}
 use Rattle.eaw_face.specs.StoreView.{StoreView, LeavesOnly}
 use Rattle.mirror.specs.declared.follow_fault.FollowFault.{FollowFault}
 use Rattle.mirror.specs.declared.follow_fault.FollowFault.TheVariants.{BadFrame, Gap, Media, Dead, NoMemory}
-use Rattle.mirror.specs.Frame.{Frame, mark, frame_bytes, group_bytes, written_by, IsFrameIn, AreFrame}
-use Rattle.mirror.specs.Applying.{IsFree, Applied, OpensEither}
-use Rattle.mirror.specs.Following.{AreInSequence, followed, HasNoFrame, IsBroken, Stand, IsReady, Cuts, HasFollowed, Follows, LeavesFirst, IsGap, StopsAt, StopsBroken, StopsAtGap, StopsSomewhere, StopCause, AppliesNext, NotApplied, OpensNext}
+use Rattle.mirror.specs.Frame.{mark, frame_bytes, group_bytes, IsFrameIn, AreFrame}
+use Rattle.mirror.specs.Applying.{Applied, OpensEither}
+use Rattle.mirror.specs.Following.{HasNoFrame, IsBroken, Stand, IsReady, Cuts, HasFollowed, Follows, LeavesFirst, IsGap, StopCause, AppliesNext, NotApplied, OpensNext}
 use Rattle.mirror.proofs.Grouping.{head_long}
 
 -- the sequence that a frame's bytes say

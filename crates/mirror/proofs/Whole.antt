@@ -1,11 +1,11 @@
 -- A whole frame, and the places of its bytes.
-use Rattle.std.proofs.Common.{◌≡◌, ℕ, zero, suc, ◌+◌, ◌^◌, ◌<◌, ◌≤◌, List, [], ◌∷◌, ◌++◌, length, drop, refl, sym, ◌∙◌, ap, subst, arith, append_assoc}
-use Rattle.std.specs.Prelude.{◌↔◌, All, flat_map}
+use Rattle.std.proofs.Common.{◌≡◌, ℕ, suc, ◌^◌, ◌<◌, List, [], ◌++◌, length, drop, refl, sym, ◌∙◌, ap, subst, arith, append_assoc}
+use Rattle.std.specs.Prelude.{◌↔◌, flat_map}
 use Rattle.std.proofs.lemmas.List.{length-append, length-drop}
 use Rattle.byteorder.specs.Endian.{little_bytes}
 use Rattle.array_shape.specs.declared.shape.Shape.{Shape}
-use Rattle.mirror.specs.Frame.{Frame, Group, mark, frame_bytes, group_bytes, IsFrame, IsFrameIn, AreFrame}
-use Rattle.mirror.specs.Rest.{Rest, IsOpen, NumberRest, MarkRest, AfterSequence, AfterGroupCount, AfterPartCount, AfterAddress, AfterLength, IsPartsRest}
+use Rattle.mirror.specs.Frame.{mark, group_bytes, AreFrame}
+use Rattle.mirror.specs.Rest.{Rest, IsOpen, MarkRest, AfterSequence, AfterGroupCount, AfterPartCount, AfterAddress, AfterLength, IsPartsRest}
 use Rattle.mirror.specs.declared.place.Place.{Place}
 use Rattle.mirror.specs.declared.place.Place.TheVariants.{Mark, Sequence, GroupCount, Number, PartCount, Address, Length, Bytes, End}
 use Rattle.mirror.proofs.Numbers.{number_first, number_whole, number_needs, bytes_need}

@@ -3,7 +3,7 @@ use Rattle.std.specs.Prelude.{ℕ, ◌≡◌, Bool, true, false, List}
 use Rattle.eaw_face.specs.StoreView.{StoreView}
 use Rattle.mirror.specs.Following.{stand, StopCause}
 use Rattle.mirror.specs.declared.follow_fault.FollowFault.{FollowFault}
-use Rattle.mirror.specs.declared.follow_fault.FollowFault.TheVariants.{BadFrame, Gap, Media, Dead, NoMemory}
+use Rattle.mirror.specs.declared.follow_fault.FollowFault.TheVariants.{Dead}
 
 -- its store; how many frames it has applied; the bytes that it keeps of the next; and whether a feed has answered a fault
 pub record FollowerView (S : Type 0) : Type 0 where

@@ -5,8 +5,7 @@ use Rattle.array_shape.specs.declared.shape.Shape.{Shape}
 use Rattle.array_shape.specs.Places.{data_len, logger_of}
 use Rattle.array_shape.specs.Logged.{Part, ranges_of}
 use Rattle.eaw_face.specs.State.{count_on}
-use Rattle.mirror.specs.Frame.{Group, Frame, mark, part_bytes, group_bytes, IsByte, IsPart, IsGroup, Rise, IsInside, IsGroupIn}
-use Rattle.mirror.specs.declared.partial_number.PartialNumber.{PartialNumber}
+use Rattle.mirror.specs.Frame.{Group, mark, part_bytes, group_bytes, IsByte, IsPart, IsGroup, Rise, IsInside, IsGroupIn}
 use Rattle.mirror.specs.declared.to_come.Groups.{Groups}
 use Rattle.mirror.specs.declared.to_come.Parts.{Parts}
 use Rattle.mirror.specs.declared.place.Place.{Place}
@@ -57,6 +56,7 @@ pub record PartsRest (shape : Shape) (parts : ℕ) (held : List ℕ) (behind : G
 abbrev pub IsPartsRest : Shape → Parts → List ℕ → Type 0
 IsPartsRest shape parts bytes = PartsRest shape parts.count parts.held parts.behind bytes
 
+-- a length that keeps the part within its stripe, and then so many bytes
 abbrev pub AfterLength : Shape → (addr parts : ℕ) → List ℕ → Groups → ℕ → List ℕ → Type 0
 AfterLength shape addr parts held behind len bytes = (0 < len) × (addr % 512 + len ≤ 512) × BytesRest len (PartsRest shape parts held behind) bytes
 
@@ -64,11 +64,13 @@ AfterLength shape addr parts held behind len bytes = (0 < len) × (addr % 512 + 
 abbrev pub one_more : List ℕ → ℕ → List ℕ
 one_more held g = slice_set held g (slice_index held g + 1)
 
+-- an address in the data, of a logger that has room, and then the length
 abbrev pub AfterAddress : Shape → Parts → ℕ → List ℕ → Type 0
 AfterAddress shape parts addr bytes =
     (addr < data_len shape) × (slice_index parts.held (logger_of shape addr) < shape.entries)
     × NumberRest 2 0 1 (AfterLength shape addr (parts.count - 1) (one_more parts.held (logger_of shape addr)) parts.behind) bytes
 
+-- a count of parts, at least one, and then so many
 abbrev pub AfterPartCount : Shape → Groups → ℕ → List ℕ → Type 0
 AfterPartCount shape groups count bytes = (0 < count) × PartsRest shape count (replicate 8 0) groups bytes
 
@@ -85,9 +87,11 @@ pub record NumberThen (shape : Shape) (groups : Groups) (bytes : List ℕ) : Typ
   pub is : bytes ≡ number ∷ rest
   pub after : NumberRest 2 0 1 (AfterPartCount shape (behind groups number)) rest
 
+-- a count of numbers, at least one, and then so many
 abbrev pub AfterGroupCount : Shape → ℕ → List ℕ → Type 0
 AfterGroupCount shape count bytes = (0 < count) × GroupsRest shape (record { count = count; low = 0 }) bytes
 
+-- any sequence, and then the count of numbers
 abbrev pub AfterSequence : Shape → ℕ → List ℕ → Type 0
 AfterSequence shape sequence bytes = NumberRest 2 0 1 (AfterGroupCount shape) bytes
 

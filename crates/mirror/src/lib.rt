@@ -1,6 +1,8 @@
 //! A second array that follows the first, frame by frame.
 //!
-//! Read first `specs/Frame`: what a frame is, and its bytes.
+//! Read first `specs/Frame`, what a frame is and its bytes; then `specs/Following`, what of a stream of frames is applied, and
+//! `follower.rt`. Below it `place.rt` reads a frame byte by byte (`specs/Rest` says what may still come), and `apply.rt` writes a whole one
+//! into a store.
 #![tactic(auto)]
 
 mod apply;
@@ -18,3 +20,6 @@ pub use follow_fault::FollowFault;
 pub use follower::Follower;
 pub use frame_test::is_frame;
 pub use laws::frames_are_cut_in_one_way;
+
+#[cfg(test)]
+mod tests;

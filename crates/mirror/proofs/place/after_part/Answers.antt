@@ -1,4 +1,4 @@
-use Rattle.std.proofs.Common.{◌<◌, ◌≡◌, arith}
+use Rattle.std.proofs.Common.{◌≡◌, arith}
 use Rattle.mirror.specs.Rest.{AfterAddress}
 use Rattle.mirror.proofs.Numbers.{number_begins, both_ways}
 use Rattle.mirror.proofs.Parting.{part_splits, no_parts, group_splits, no_groups}

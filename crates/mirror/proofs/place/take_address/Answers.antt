@@ -1,5 +1,5 @@
-use Rattle.std.proofs.Common.{ℕ, List, ◌≡◌, ◌<◌, ◌≤◌, ◌∷◌, ◌+◌, ◌-◌, ◌*◌, arith, ◌∙◌, length, subst, sym}
-use Rattle.std.specs.Prelude.{◌↔◌, slice_index, slice_set}
+use Rattle.std.proofs.Common.{ℕ, ◌≡◌, ◌<◌, ◌-◌, arith, ◌∙◌, subst, sym}
+use Rattle.std.specs.Prelude.{◌↔◌, slice_index}
 use Rattle.array_shape.specs.Places.{data_len, logger_of}
 use Rattle.mirror.specs.Rest.{NumberRest, AfterAddress, AfterLength, one_more}
 use Rattle.mirror.proofs.Numbers.{number_goes, number_ends, number_begins, both_ways}

@@ -1,4 +1,4 @@
-use Rattle.std.proofs.Common.{ℕ, suc, List, ◌≡◌, ◌<◌, ◌≤◌, ◌∷◌, ◌-◌, arith, subst}
+use Rattle.std.proofs.Common.{ℕ, suc, ◌≡◌, ◌∷◌, ◌-◌, arith, subst}
 use Rattle.std.specs.Prelude.{◌↔◌}
 use Rattle.mirror.specs.Rest.{BytesRest, IsPartsRest}
 use Rattle.mirror.proofs.Numbers.{byte_more, byte_last, both_ways}

@@ -1,6 +1,5 @@
-use Rattle.std.proofs.Common.{ℕ, List, ◌<◌, ◌≤◌, ◌∷◌, ◌+◌, ◌%◌, arith, length}
-use Rattle.std.specs.Prelude.{◌↔◌}
-use Rattle.mirror.specs.Rest.{NumberRest, AfterLength}
+use Rattle.std.proofs.Common.{◌<◌, ◌≤◌, ◌+◌, ◌%◌, arith}
+use Rattle.mirror.specs.Rest.{AfterLength}
 use Rattle.mirror.proofs.Numbers.{number_goes, number_ends, both_ways}
 use Rattle.mirror.proofs.place.take_length.Goals as goal
 

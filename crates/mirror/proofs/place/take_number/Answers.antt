@@ -1,4 +1,4 @@
-use Rattle.std.proofs.Common.{ℕ, List, ◌≡◌, ◌<◌, ◌≤◌, ◌∷◌, ◌+◌, ◌-◌, arith, length}
+use Rattle.std.proofs.Common.{◌≡◌, ◌+◌, arith}
 use Rattle.mirror.specs.Rest.{AfterPartCount, behind}
 use Rattle.mirror.proofs.Numbers.{number_whole, first_same}
 use Rattle.mirror.proofs.Parting.{rise_most}

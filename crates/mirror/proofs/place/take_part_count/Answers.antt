@@ -1,6 +1,6 @@
-use Rattle.std.proofs.Common.{ℕ, List, ◌≡◌, ◌<◌, ◌≤◌, ◌∷◌, ◌+◌, ◌*◌, arith, length}
-use Rattle.std.specs.Prelude.{◌↔◌, replicate}
-use Rattle.mirror.specs.Rest.{NumberRest, AfterPartCount}
+use Rattle.std.proofs.Common.{◌≡◌, ◌<◌, ◌*◌, arith}
+use Rattle.std.specs.Prelude.{replicate}
+use Rattle.mirror.specs.Rest.{AfterPartCount}
 use Rattle.mirror.proofs.Numbers.{number_goes, number_ends, both_ways}
 use Rattle.mirror.proofs.Holding.{room_most}
 use Rattle.mirror.proofs.place.take_part_count.Goals as goal

@@ -1,6 +1,5 @@
 use Rattle.std.proofs.Common.{◌<◌, arith}
 use Rattle.mirror.specs.Rest.{AfterSequence, AfterGroupCount}
-use Rattle.mirror.proofs.Holding.{none_held}
 use Rattle.mirror.proofs.Numbers.{number_goes, number_ends, number_begins, both_ways}
 use Rattle.mirror.proofs.place.take_sequence.Goals as goal
 

@@ -1,6 +1,6 @@
-use Rattle.std.proofs.Common.{ℕ, List, ◌≡◌, ◌+◌, ◌-◌, ◌^◌, ◌<◌, ◌≤◌, length, take, drop, inl, inr, ⊎_elim, refl, sym, ◌∙◌, ap, arith}
+use Rattle.std.proofs.Common.{ℕ, List, ◌≡◌, ◌-◌, length, take, drop, inl, inr, refl, sym, ◌∙◌, ap, arith}
 use Rattle.std.proofs.lemmas.List.{take_all, length-drop}
-use Rattle.mars_base.proofs.Going.{stays, weaker}
+use Rattle.mars_base.proofs.Going.{stays}
 use Rattle.byteorder.specs.Endian.{little_number}
 use Rattle.mirror.specs.Following.{OpensNext}
 use Rattle.mirror.proofs.Streams.{sequence_said, applied_next, next_moments}

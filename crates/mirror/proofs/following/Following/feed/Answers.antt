@@ -1,4 +1,4 @@
-use Rattle.std.proofs.Common.{ℕ, List, [], ◌∷◌, ◌++◌, ◌≡◌, ◌+◌, take, drop, subst, slice_index}
+use Rattle.std.proofs.Common.{ℕ, List, [], ◌∷◌, ◌++◌, ◌+◌, take, drop, subst, slice_index}
 use Rattle.std.proofs.lemmas.List.{take_all}
 use Rattle.mars_base.proofs.Going.{stays}
 use Rattle.eaw_face.specs.StoreView.{LeavesOnly}

@@ -1,9 +1,9 @@
-use Rattle.std.proofs.Common.{ℕ, List, [], ◌∷◌, ◌++◌, ◌≡◌, ◌≢◌, ◌+◌, ◌⊎◌, refl, sym, ◌∙◌, ap, subst, arith}
+use Rattle.std.proofs.Common.{ℕ, [], ◌∷◌, ◌++◌, ◌≡◌, ◌+◌, ◌⊎◌, sym, ◌∙◌, ap, subst}
 use Rattle.std.proofs.lemmas.Bool.{false≢true}
 use Rattle.mars_base.proofs.Going.{stays}
 use Rattle.array_shape.specs.declared.shape.Shape.{Shape}
 use Rattle.mirror.specs.Frame.{AreFrame}
-use Rattle.mirror.specs.Following.{Stand, stand, LeavesFirst, IsBroken}
+use Rattle.mirror.specs.Following.{stand, LeavesFirst, IsBroken}
 use Rattle.mirror.specs.declared.follow_fault.FollowFault.TheVariants.{BadFrame, NoMemory}
 use Rattle.mirror.proofs.Streams.{byte_kept, byte_refused, frame_refused, byte_moments, frame_applied}
 use Rattle.mirror.proofs.following.Following.take.Goals as goal

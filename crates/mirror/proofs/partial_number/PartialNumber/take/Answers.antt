@@ -1,4 +1,4 @@
-use Rattle.std.proofs.Common.{sym, subst, ℕ, suc, ◌≡◌, ◌+◌, ◌-◌, ◌^◌, ◌≤◌, ◌<◌, ◌*◌, ap, ◌∙◌, arith}
+use Rattle.std.proofs.Common.{sym, subst, ℕ, suc, ◌≡◌, ◌-◌, ◌^◌, ◌≤◌, ◌<◌, ◌*◌, ap, ◌∙◌, arith}
 use Rattle.std.proofs.Math.Nat.{pow-suc, pow-le-pow_right, one-le-pow, mul-le-mul_left}
 use Rattle.mirror.proofs.partial_number.PartialNumber.take.Goals as goal
 use Rattle.mirror.proofs.partial_number.PartialNumber.take.Goals.{then-left-gt0, else-left-gt0}
