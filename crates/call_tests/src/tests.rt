@@ -9,4 +9,3 @@ mod queues;
 mod reply_texts;
 mod retries;
 mod samples;
-mod tables;
