@@ -12,5 +12,4 @@ mod removals;
 mod reply_texts;
 mod retries;
 mod samples;
-mod tables;
 mod untold_media;
