@@ -1,8 +1,9 @@
 // The trait of callers by turns.
-ghost use Rattle.std.specs.Prelude.{◌≡◌, ◌<◌, ℕ, Bool, IsTrue, IsFalse, length};
+ghost use Rattle.std.specs.Prelude.{◌≡◌, ◌<◌, ◌⊎◌, ℕ, Bool, IsTrue, IsFalse, is_some, length};
+ghost use Rattle.history.specs.declared.call.Call.TheVariants.{Begin};
 ghost use Rattle.history.specs.declared.call.Reply.TheVariants.{Dead};
 ghost use Rattle.caller_steps.specs.Core.{CoreView, Steps};
-ghost use Rattle.caller_steps.specs.Fate.{is_busy};
+ghost use Rattle.caller_steps.specs.Fate.{is_busy, is_refusal};
 ghost use Rattle.caller_steps.specs.Locked.{IsLocked};
 
 use history::{Call, Reply};
@@ -21,13 +22,14 @@ pub trait Core {
         ensures dead { IsTrue (view self.old).state.is_dead → (result ≡ Dead) × (self.new ≡ self.old) };
 
     /// Answers a caller's call that clashes with no other caller's live transaction, as locks outside of the core have made sure. It makes
-    /// the step that `step` would make, without a search for a holder.
+    /// the step that `step` would make, without a search for a holder. A caller that is not live is granted nothing but a begin.
     fn step_locked(&mut self, caller: u8, call: &Call) -> Reply
         requires inside { caller < (view self.old).limits.callers }
         requires locked { IsLocked (view self.old).state caller call.now }
         ensures steps { Steps tells caller call.now (view self.old) (view self.new) result }
         ensures dead { IsTrue (view self.old).state.is_dead → (result ≡ Dead) × (self.new ≡ self.old) }
-        ensures not_busy { IsFalse (is_busy result) };
+        ensures not_busy { IsFalse (is_busy result) }
+        ensures begun { IsFalse (is_refusal result) → IsTrue (is_some ((view self.old).state.live caller)) ⊎ (call.now ≡ Begin) };
 
     /// How many transactions have committed since the opening.
     fn told(&self) -> u64
@@ -54,6 +56,7 @@ impl<C: Core> Core for Box<C> {
         ensures steps { Steps C.tells caller call.now (C.view self.old.value) (C.view self.new.value) result }
         ensures dead { IsTrue (C.view self.old.value).state.is_dead → (result ≡ Dead) × (self.new ≡ self.old) }
         ensures not_busy { IsFalse (is_busy result) }
+        ensures begun { IsFalse (is_refusal result) → IsTrue (is_some ((C.view self.old.value).state.live caller)) ⊎ (call.now ≡ Begin) }
     {
         self.as_mut().step_locked(caller, call)
     }

@@ -1,21 +1,27 @@
 -- What a pass was told grows by one list after another.
-use Rattle.std.proofs.Common.{◌≡◌, Bool, [], ◌∷◌, ◌++◌, append_assoc, refl, sym, ap, ◌∙◌}
+use Rattle.std.proofs.Common.{◌≡◌, [], ◌∷◌, ◌++◌, append_assoc, refl, sym, ap, ◌∙◌}
 use Rattle.std.proofs.lemmas.List.{append-nil}
 use Rattle.history.specs.Table.{Granted}
 use Rattle.history.specs.declared.call.Call.{Call}
 use Rattle.history.specs.declared.call.Reply.{Reply}
-use Rattle.caller_steps.specs.Core.{CoreView}
+use Rattle.std.specs.Prelude.{not}
+use Rattle.std.proofs.lemmas.List.Elements.{filter-append}
+use Rattle.caller_steps.specs.Fate.{is_busy}
 use Rattle.mars_manager.specs.declared.view.Known.{Known}
 use Rattle.mars_manager.specs.Pass.{PassView, told_of}
-use Rattle.mars_manager.specs.Sharing.{Called}
+use Rattle.mars_manager.specs.Locks.{steps_of}
 use Rattle.caller_work.specs.Standing.{IsSame, Adds}
 
+-- the replies that came of turns, of one list after another
+pub steps_both : (xs ys : Granted) → steps_of (xs ++ ys) ≡ steps_of xs ++ steps_of ys
+steps_both xs ys = filter-append (λ (entry : Call × Reply). not (is_busy entry.1)) xs ys
+
 module _ {C : Type 0} where
-  -- one call of a pass adds one turn
-  pub adds_one : (tells : Bool) (show : C → CoreView) (was now : PassView C) (call : Call) (reply : Reply) → Called tells show was.known call reply now.known → told_of now.known ≡ told_of was.known ++ (call, reply) ∷ [] → now.table ≡ was.table
+  -- one call of a pass adds one reply
+  pub adds_one : (was now : PassView C) (call : Call) (reply : Reply) → (now.known.number ≡ was.known.number) × (now.known.setup ≡ was.known.setup) → told_of now.known ≡ told_of was.known ++ steps_of ((call, reply) ∷ []) → now.table ≡ was.table
       → (Holds : Granted → Type 0) → Holds ((call, reply) ∷ []) → Adds was now Holds
-  adds_one tells show was now call reply called told table Holds holds = record {
-    same = record { table = table; number = ap (λ (k : Known C). k.number) called.after; setup = ap (λ (k : Known C). k.setup) called.after };
+  adds_one was now call reply same told table Holds holds = record {
+    same = record { table = table; number = same.0; setup = same.1 };
     more = (call, reply) ∷ [];
     told = told;
     holds = holds;
@@ -37,7 +43,7 @@ module _ {C : Type 0} where
   adds_on was mid now First Second Both one other both = record {
     same = same_on was mid now one.same other.same;
     more = one.more ++ other.more;
-    told = other.told ∙ ap (λ (l : Granted). l ++ other.more) one.told ∙ append_assoc (told_of was.known) one.more other.more;
+    told = other.told ∙ ap (λ (l : Granted). l ++ steps_of other.more) one.told ∙ append_assoc (told_of was.known) (steps_of one.more) (steps_of other.more) ∙ ap (λ (l : Granted). told_of was.known ++ l) (sym (steps_both one.more other.more));
     holds = both one.more other.more one.holds other.holds;
   }
 

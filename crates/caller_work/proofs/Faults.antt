@@ -9,6 +9,7 @@ use Rattle.history.specs.declared.call.Call.TheVariants.{Begin, Abort}
 use Rattle.history.specs.declared.call.Reply.{Reply}
 use Rattle.history.specs.declared.call.Reply.TheVariants as says
 use Rattle.caller_steps.specs.Fate.{is_media, is_refusal}
+use Rattle.mars_manager.specs.Locks.{steps_of}
 use Rattle.caller_steps.specs.Own.{has_media}
 use Rattle.caller_plans.specs.declared.plan.Plan.{Plan}
 use Rattle.caller_plans.specs.declared.plan.PlanEnd.{PlanEnd}
@@ -110,3 +111,28 @@ pub in_work : (tries : Tries) (plans : List Plan) (told : Granted) (fates : List
 in_work tries plans told fates stopped (inl works) = in_works tries plans told fates stopped works ∙ fault_at stopped
 in_work tries plans told fates stopped (inr (front, back, early, late, holder, is, are, first, last)) =
     ap has_media is ∙ in_both front back ∙ ap (λ (b : Bool). b || has_media back) (in_works tries plans front early (Some (says.Busy holder)) first) ∙ in_works NoLimit (drop (length early) plans) back late stopped last ∙ fault_at stopped
+
+-- a `Busy` reports no fault
+media_at : (call : Call) (reply : Reply) (told : Granted) → has_media (steps_of told) ≡ has_media told → has_media (steps_of ((call, reply) ∷ told)) ≡ has_media ((call, reply) ∷ told)
+media_at call says.Fine told rest = rest
+media_at call (says.Found v) told rest = rest
+media_at call says.Absent told rest = rest
+media_at call (says.Listed v) told rest = rest
+media_at call (says.Saved v) told rest = rest
+media_at call (says.Committed v) told rest = rest
+media_at call says.NoTransaction told rest = rest
+media_at call says.Already told rest = rest
+media_at call (says.NoSave v) told rest = rest
+media_at call says.SavesFull told rest = rest
+media_at call (says.Busy v) told rest = rest
+media_at call (says.LogFull l h n) told rest = rest
+media_at call (says.SlotsFull v) told rest = rest
+media_at call (says.PagesFull v) told rest = rest
+media_at call says.Media told rest = refl
+media_at call says.Dead told rest = rest
+media_at call (says.Damaged v) told rest = rest
+media_at call says.NoMemory told rest = rest
+
+pub steps_media : (told : Granted) → has_media (steps_of told) ≡ has_media told
+steps_media [] = refl
+steps_media ((call, reply) ∷ told) = media_at call reply told (steps_media told)

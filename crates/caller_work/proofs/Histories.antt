@@ -1,6 +1,6 @@
 -- A caller's transactions in a history, from the turns that its plans ask for.
 use Rattle.std.proofs.Common.{◌≡◌, inl, inr, ℕ, zero, suc, Bool, true, false, List, [], ◌∷◌, ◌++◌, append_assoc, All, length, map, Option, Some, None, unwrap_or, Result, Ok, Err, drop, arith, refl, sym, ap, ◌∙◌, subst}
-use Rattle.std.specs.Prelude.{IsTrue, ◌≢◌, nat_eq, filter, if◌then◌else◌, MatchBool}
+use Rattle.std.specs.Prelude.{IsTrue, not, ◌≢◌, nat_eq, filter, if◌then◌else◌, MatchBool}
 use Rattle.std.specs.List.{fold}
 use Rattle.std.proofs.lemmas.Bool.{true≢false}
 use Rattle.std.proofs.lemmas.List.{append-nil, map-append}
@@ -15,7 +15,7 @@ use Rattle.history.specs.declared.transaction.Done.{Done}
 use Rattle.caller_steps.specs.State.{State}
 use Rattle.caller_steps.specs.Room.{Limits}
 use Rattle.caller_steps.specs.Step.{Step, Runs}
-use Rattle.caller_steps.specs.Fate.{is_refusal, is_media, is_committed, live_with}
+use Rattle.caller_steps.specs.Fate.{is_refusal, is_media, is_busy, is_committed, live_with}
 use Rattle.caller_steps.specs.Run.{Turn, turns_of, commits_of}
 use Rattle.caller_steps.specs.Own.{is_commit, Own, nothing_own, own_after, live_after, number_of}
 use Rattle.caller_steps.proofs.Fates.{Fate as Moved, step_fate, refusal_none, answer_plain}
@@ -30,7 +30,8 @@ use Rattle.caller_plans.specs.declared.fate.Fate.TheVariants.{Committed, Aborted
 use Rattle.caller_plans.specs.Plans.{is_of_table, IsPlain, ArePlain}
 use Rattle.caller_work.specs.declared.tries.Tries.{Tries}
 use Rattle.caller_work.specs.declared.tries.Tries.TheVariants.{NoLimit}
-use Rattle.caller_work.specs.Tries.{end_call, is_last, end_outcome, refusal_outcome, IsOne, GivesUp, Takes, IsTry, AreHeldUp, IsMade, Works, IsWork}
+use Rattle.caller_work.specs.Tries.{end_call, is_last, end_outcome, refusal_outcome, IsOne, GivesUp, Takes, IsTry, AreHeldUp, IsMade, Works, IsWork, IsWorkOf}
+use Rattle.mars_manager.specs.Locks.{steps_of}
 use Rattle.caller_work.specs.Fated.{IsDoneAs, AreFated}
 
 -- only commits are answered with a number of the history
@@ -280,9 +281,49 @@ module _ (caller : ℕ) where
       subst (λ (x : List Fate × List Done). Adds plans x.0 own.mine x.1) (λ k. (sym are k, (ap (λ (o : Own). o.mine) (sym (after_both own front back)) ∙ ap (λ (l : Granted). (after own l).mine) (sym is)) k))
       (one.0 ++ other.0, other.1 ∙ ap (λ (l : List Done). l ++ other.0) one.1 ∙ append_assoc own.mine one.0 other.0, fated_both plans early late one.0 other.0 one.2 other.2)
 
+-- a `Busy` changes nothing of a caller's transactions
+own_at : (caller : ℕ) (own : Own) (call : Call) (reply : Reply) (told : Granted) → ((own : Own) → fold (own_after caller) own (steps_of told) ≡ fold (own_after caller) own told)
+    → fold (own_after caller) own (steps_of ((call, reply) ∷ told)) ≡ fold (own_after caller) own ((call, reply) ∷ told)
+own_at caller own call says.Fine told rest = rest (own_after caller own (call, says.Fine))
+own_at caller own call (says.Found v) told rest = rest (own_after caller own (call, says.Found v))
+own_at caller own call says.Absent told rest = rest (own_after caller own (call, says.Absent))
+own_at caller own call (says.Listed v) told rest = rest (own_after caller own (call, says.Listed v))
+own_at caller own call (says.Saved v) told rest = rest (own_after caller own (call, says.Saved v))
+own_at caller own call (says.Committed v) told rest = rest (own_after caller own (call, says.Committed v))
+own_at caller own call says.NoTransaction told rest = rest (own_after caller own (call, says.NoTransaction))
+own_at caller own call says.Already told rest = rest (own_after caller own (call, says.Already))
+own_at caller own call (says.NoSave v) told rest = rest (own_after caller own (call, says.NoSave v))
+own_at caller own call says.SavesFull told rest = rest (own_after caller own (call, says.SavesFull))
+own_at caller own call (says.Busy v) told rest = rest (own_after caller own (call, says.Busy v))
+own_at caller own call (says.LogFull l h n) told rest = rest (own_after caller own (call, says.LogFull l h n))
+own_at caller own call (says.SlotsFull v) told rest = rest (own_after caller own (call, says.SlotsFull v))
+own_at caller own call (says.PagesFull v) told rest = rest (own_after caller own (call, says.PagesFull v))
+own_at caller own call says.Media told rest = rest (own_after caller own (call, says.Media))
+own_at caller own call says.Dead told rest = rest (own_after caller own (call, says.Dead))
+own_at caller own call (says.Damaged v) told rest = rest (own_after caller own (call, says.Damaged v))
+own_at caller own call says.NoMemory told rest = rest (own_after caller own (call, says.NoMemory))
+
+steps_own : (caller : ℕ) (told : Granted) (own : Own) → fold (own_after caller) own (steps_of told) ≡ fold (own_after caller) own told
+steps_own caller [] own = refl
+steps_own caller ((call, reply) ∷ told) own = own_at caller own call reply told (steps_own caller told)
+
+busy_sure : (reply : Reply) → is_busy reply ≡ true → is_committed reply ≡ false
+busy_sure (says.Busy holder) e = refl
+busy_sure reply e = absurd (true≢false (sym e))
+
+commits_at : (call : Call) (reply : Reply) (told : Granted) (b : Bool) → is_busy reply ≡ b → (AreCommits (steps_of told) → AreCommits told) → AreCommits (if not b then (call, reply) ∷ steps_of told else steps_of told) → AreCommits ((call, reply) ∷ told)
+commits_at call reply told true e rest all = ((λ sure. absurd (true≢false (sym sure ∙ busy_sure reply e))), rest all)
+commits_at call reply told false e rest all = (all.0, rest all.1)
+
+-- and is no commit
+steps_commits : (told : Granted) → AreCommits (steps_of told) → AreCommits told
+steps_commits [] all = tt
+steps_commits ((call, reply) ∷ told) all = commits_at call reply told (is_busy reply) refl (steps_commits told) all
+
 pub fated : (limits : Limits) (caller : ℕ) (first now : State) (turns : List Turn) → Runs limits first turns now → first.live caller ≡ None → commits_of caller first.history ≡ [] → (tries : Tries) (plans : List Plan)
-    (fates : List Fate) (stopped : Option Reply) → ArePlain plans → IsWork tries plans (turns_of caller turns) fates stopped → AreFated caller plans fates (commits_of caller now.history)
+    (fates : List Fate) (stopped : Option Reply) → ArePlain plans → IsWorkOf tries plans (turns_of caller turns) fates stopped → AreFated caller plans fates (commits_of caller now.history)
 fated limits caller first now turns run none nothing tries plans fates stopped plain work =
-    let its = work_adds caller tries plans (turns_of caller turns) fates stopped work plain (runs_commit limits caller turns first now run) nothing_own in
+    let its = work_adds caller tries plans work.0 fates stopped work.2 plain (steps_commits work.0 (subst (λ (l : Granted). AreCommits l) work.1 (runs_commit limits caller turns first now run))) nothing_own in
+    let same : fold (own_after caller) nothing_own (turns_of caller turns) ≡ fold (own_after caller) nothing_own work.0 = ap (λ (l : Granted). fold (own_after caller) nothing_own l) work.1 ∙ steps_own caller work.0 nothing_own in
     let mine = turns_mine true limits caller first now turns nothing_own (turns_of_runs limits first now turns run) refl none nothing in
-    subst (λ (l : List Done). AreFated caller plans fates l) (sym (mine ∙ its.1)) its.2
+    subst (λ (l : List Done). AreFated caller plans fates l) (sym (mine ∙ ap (λ (o : Own). o.mine) same ∙ its.1)) its.2

@@ -1,9 +1,11 @@
 -- What is left for last, once it is done.
-use Rattle.std.proofs.Common.{◌≡◌, ◌⊎◌, inl, inr, ℕ, List, length, drop, Option, Some, None, refl, sym, ap, ◌∙◌, subst}
+use Rattle.std.proofs.Common.{◌≡◌, ◌⊎◌, inl, inr, ℕ, List, ◌++◌, length, drop, Option, Some, None, refl, sym, ap, ◌∙◌, subst}
 use Rattle.history.specs.declared.call.Reply.{Reply}
 use Rattle.history.specs.declared.call.Reply.TheVariants as says
 use Rattle.std.specs.Prelude.{option_map}
-use Rattle.mars_manager.specs.Pass.{PassView, told_of}
+use Rattle.history.specs.Table.{Granted}
+use Rattle.mars_manager.specs.Pass.{PassView}
+use Rattle.mars_manager.specs.Locks.{steps_of}
 use Rattle.mars_manager.specs.Sharing.{MarsView}
 use Rattle.caller_work.specs.declared.stop.Stop.TheVariants as stop
 use Rattle.caller_plans.specs.declared.plan.Plan.{Plan}
@@ -17,6 +19,7 @@ use Rattle.caller_work.specs.Standing.{stop_for}
 use Rattle.caller_work.specs.Tries.{Works}
 use Rattle.caller_work.specs.Worked.{end_of, worse}
 use Rattle.caller_work.specs.Crew.{IsLeft, IsDone, WentOn}
+use Rattle.caller_work.proofs.Adding.{steps_both}
 use Rattle.caller_work.proofs.TriesLemmas.{endless}
 use Rattle.caller_work.proofs.Ending.{worth_same, worth_now, left_busy, whole_none}
 
@@ -52,7 +55,7 @@ module _ {C : Type 0} (mars : MarsView C) (caller : ℕ) (was now : Worker C) (e
       ap (λ (w : Worker C). w.stop) same ∙ left.stop_is,
       subst (λ (w : Worker C). IsDone next caller was.tries was.plans w.fates.items left.stopped w.pass) (sym same) (record {
         number = left.number;
-        works = inl left.works;
+        works = (left.works.0, left.works.1, inl left.works.2);
         whole = λ all. none_at left.stopped (sym left.stop_is ∙ none why (sym is ∙ all));
       }),
     )
@@ -67,16 +70,20 @@ module _ {C : Type 0} (mars : MarsView C) (caller : ℕ) (was now : Worker C) (e
           worked.stop_is,
           record {
             number = worked.works.same.number ∙ left.number;
-            works = inr (
-              told_of was.pass.known,
-              worked.works.more,
-              was.fates.items,
-              worked.made,
-              held.0,
-              worked.works.told,
-              worked.fates,
-              subst (λ (s : Option Reply). Works was.tries was.plans (told_of was.pass.known) was.fates.items s) (busy_at left.stopped held.0 (sym left.stop_is ∙ held.1)) left.works,
-              worked.works.holds,
+            works = (
+              left.works.0 ++ worked.works.more,
+              worked.works.told ∙ ap (λ (l : Granted). l ++ steps_of worked.works.more) left.works.1 ∙ sym (steps_both left.works.0 worked.works.more),
+              inr (
+                left.works.0,
+                worked.works.more,
+                was.fates.items,
+                worked.made,
+                held.0,
+                refl,
+                worked.fates,
+                subst (λ (s : Option Reply). Works was.tries was.plans left.works.0 was.fates.items s) (busy_at left.stopped held.0 (sym left.stop_is ∙ held.1)) left.works.2,
+                worked.works.holds,
+              ),
             );
             whole = λ ended. none_at worked.stopped (sym worked.stop_is ∙ whole_none now.stop
                 (λ holder stops. endless late worked.works.more worked.made holder

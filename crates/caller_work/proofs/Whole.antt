@@ -9,6 +9,7 @@ use Rattle.caller_steps.specs.State.{State}
 use Rattle.caller_steps.specs.Room.{Limits}
 use Rattle.caller_steps.specs.Core.{CoreView}
 use Rattle.caller_steps.specs.Fate.{is_media}
+use Rattle.caller_steps.specs.Own.{has_media}
 use Rattle.caller_steps.specs.Run.{Turn, AreOf, turns_of, has_fault}
 use Rattle.caller_steps.proofs.Running.{turns_dead}
 use Rattle.caller_steps.proofs.Telling.{told_by_some, some_line}
@@ -22,11 +23,11 @@ use Rattle.caller_work.specs.declared.stop.Stop.{Stop}
 use Rattle.caller_work.specs.declared.tries.Tries.TheVariants.{Times}
 use Rattle.caller_work.specs.declared.end.WorkEnd.{WorkEnd}
 use Rattle.caller_work.specs.Standing.{stop_for}
-use Rattle.caller_work.specs.Tries.{IsWork}
+use Rattle.caller_work.specs.Tries.{IsWorkOf}
 use Rattle.caller_work.specs.Crew.{IsDone}
 use Rattle.caller_work.specs.Worked.{of_caller, end_of, worst, is_fault, Worked}
 use Rattle.caller_work.proofs.Ending.{fault_of_one, one_of_fault}
-use Rattle.caller_work.proofs.Faults.{in_work}
+use Rattle.caller_work.proofs.Faults.{in_work, steps_media}
 
 alike : (a b : Bool) → (a ≡ true → b ≡ true) → (b ≡ true → a ≡ true) → a ≡ b
 alike true b f g = sym (f refl)
@@ -85,11 +86,16 @@ module _ {C : Type 0} where
     turns = gathered.turns
 
     -- each caller's turns are those that its plans ask for
-    works : (k : ℕ) → k < length plans → IsWork (Times tries) (of_caller plans k) (turns_of k turns) (of_caller told k) (get_or stopped k None)
+    works : (k : ℕ) → k < length plans → IsWorkOf (Times tries) (of_caller plans k) (turns_of k turns) (of_caller told k) (get_or stopped k None)
     works k within =
         let d = done k somebody within in
         let fits = fits_at tells show mars.setup turns now passes k somebody gathered.each (omega arith) in
-        subst (λ (l : Granted). IsWork (Times tries) (of_caller plans k) l (of_caller told k) (get_or stopped k None)) (told_all tells show mars.setup turns now (get_or passes k somebody).known fits ∙ ap (λ (n : ℕ). turns_of n turns) d.number) d.works
+        subst (λ (l : Granted). IsWorkOf (Times tries) (of_caller plans k) l (of_caller told k) (get_or stopped k None)) (told_all tells show mars.setup turns now (get_or passes k somebody).known fits ∙ ap (λ (n : ℕ). turns_of n turns) d.number) d.works
+
+    media_work : (k : ℕ) → k < length plans → has_media (turns_of k turns) ≡ is_fault (end_of (option_map stop_for (get_or stopped k None)))
+    media_work k within =
+        let w = works k within in
+        ap has_media w.1 ∙ steps_media w.0 ∙ in_work (Times tries) (of_caller plans k) w.0 (of_caller told k) (get_or stopped k None) w.2
 
     -- the stop of each, from its reply
     stop_at : (k : ℕ) → get_or (map (option_map stop_for) stopped) k None ≡ option_map stop_for (get_or stopped k None)
@@ -107,13 +113,13 @@ module _ {C : Type 0} where
     fault_told fault =
         let cause = told_by_some (λ (entry : Call × Reply). is_media entry.1) mars.setup.callers turns gathered.whose fault in
         let within : cause.0 < length plans = (let l = cause.1 in omega arith) in
-        ap is_fault end_is ∙ fault_of_one (map (option_map stop_for) stopped) cause.0 None (let e = length-map stopped (option_map stop_for) in omega arith) (ap (λ (s : Option Stop). is_fault (end_of s)) (stop_at cause.0) ∙ sym (in_work (Times tries) (of_caller plans cause.0) (turns_of cause.0 turns) (of_caller told cause.0) (get_or stopped cause.0 None) (works cause.0 within)) ∙ cause.2)
+        ap is_fault end_is ∙ fault_of_one (map (option_map stop_for) stopped) cause.0 None (let e = length-map stopped (option_map stop_for) in omega arith) (ap (λ (s : Option Stop). is_fault (end_of s)) (stop_at cause.0) ∙ sym (media_work cause.0 within) ∙ cause.2)
 
     fault_true : is_fault end ≡ true → has_fault turns ≡ true
     fault_true fault =
         let one = one_of_fault (map (option_map stop_for) stopped) None (sym (ap is_fault end_is) ∙ fault) in
         let within : one.0 < length plans = (let l = one.1 in let e = length-map stopped (option_map stop_for) in omega arith) in
-        some_line (λ (entry : Call × Reply). is_media entry.1) one.0 turns (in_work (Times tries) (of_caller plans one.0) (turns_of one.0 turns) (of_caller told one.0) (get_or stopped one.0 None) (works one.0 within) ∙ sym (ap (λ (s : Option Stop). is_fault (end_of s)) (stop_at one.0)) ∙ one.2)
+        some_line (λ (entry : Call × Reply). is_media entry.1) one.0 turns (media_work one.0 within ∙ sym (ap (λ (s : Option Stop). is_fault (end_of s)) (stop_at one.0)) ∙ one.2)
 
     fault_as : has_fault turns ≡ is_fault end
     fault_as = alike (has_fault turns) (is_fault end) fault_told fault_true

@@ -6,6 +6,7 @@ use Rattle.history.specs.declared.call.Call.TheVariants.{Begin, Commit, Abort}
 use Rattle.history.specs.declared.call.Reply.{Reply}
 use Rattle.history.specs.declared.call.Reply.TheVariants as says
 use Rattle.caller_steps.specs.Fate.{is_refusal}
+use Rattle.mars_manager.specs.Locks.{steps_of}
 use Rattle.caller_plans.specs.declared.plan.Plan.{Plan}
 use Rattle.caller_plans.specs.declared.plan.PlanEnd.{PlanEnd}
 use Rattle.caller_plans.specs.declared.plan.PlanEnd.TheVariants as end
@@ -85,3 +86,11 @@ abbrev pub IsWork : Tries → List Plan → Granted → List Fate → Option Rep
 IsWork tries plans told fates stopped = Works tries plans told fates stopped
     ⊎ ((front : Granted) × (back : Granted) × (early : List Fate) × (late : List Fate) × (holder : ℕ) × (told ≡ front ++ back) × (fates ≡ early ++ late)
     × Works tries plans front early (Some (says.Busy holder)) × Works NoLimit (drop (length early) plans) back late stopped)
+
+-- the turns of a caller whose work this is: what it was told has besides them the replies `Busy`, which came of words of stripes
+abbrev pub IsWorkOf : Tries → List Plan → Granted → List Fate → Option Reply → Type 0
+IsWorkOf tries plans turns fates stopped = (told : Granted) × (turns ≡ steps_of told) × IsWork tries plans told fates stopped
+
+-- the same for the plans that were made one after another
+abbrev pub WorksOf : Tries → List Plan → Granted → List Fate → Option Reply → Type 0
+WorksOf tries plans turns fates stopped = (told : Granted) × (turns ≡ steps_of told) × Works tries plans told fates stopped

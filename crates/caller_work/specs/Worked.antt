@@ -12,7 +12,7 @@ use Rattle.caller_work.specs.declared.tries.Tries.TheVariants.{Times}
 use Rattle.caller_work.specs.declared.end.WorkEnd.{WorkEnd}
 use Rattle.caller_work.specs.declared.end.WorkEnd.TheVariants as work
 use Rattle.caller_work.specs.Standing.{stop_for}
-use Rattle.caller_work.specs.Tries.{IsWork}
+use Rattle.caller_work.specs.Tries.{IsWorkOf}
 
 -- the list of one caller, empty if there is none
 abbrev pub of_caller : {A : Type 0} → List (List A) → ℕ → List A
@@ -55,6 +55,6 @@ pub record Worked (tells : Bool) (tries : ℕ) (plans : List (List Plan)) (first
   pub each : length fates ≡ length plans
   pub stopped : List (Option Reply)
   pub each_stopped : length stopped ≡ length plans
-  pub works : (caller : ℕ) → caller < length plans → IsWork (Times tries) (of_caller plans caller) (turns_of caller turns) (of_caller fates caller) (slice_index_or stopped caller None)
+  pub works : (caller : ℕ) → caller < length plans → IsWorkOf (Times tries) (of_caller plans caller) (turns_of caller turns) (of_caller fates caller) (slice_index_or stopped caller None)
   pub end_is : end ≡ worst (map (option_map stop_for) stopped)
   pub whole : end ≡ work.All → (caller : ℕ) → caller < length plans → slice_index_or stopped caller None ≡ None

@@ -1,5 +1,5 @@
 // Callers by turns over records.
-ghost use Rattle.std.specs.Prelude.{◌≡◌, ◌<◌, ◌≤◌, [], ℕ, IfOk, IfErr, IsTrue, IsFalse, is_some, length};
+ghost use Rattle.std.specs.Prelude.{◌≡◌, ◌<◌, ◌≤◌, ◌⊎◌, [], ℕ, IfOk, IfErr, IsTrue, IsFalse, is_some, length};
 ghost use Rattle.std.specs.FinMap.{entries};
 ghost use Rattle.eaw_face.specs.Causes.{IsAlive};
 ghost use Rattle.eaw_face.specs.State.{listed};
@@ -9,7 +9,7 @@ ghost use Rattle.history.specs.declared.call.Call.TheVariants.{Begin, Commit, Ab
 ghost use Rattle.history.specs.declared.locks.Mode.TheVariants.{Shared, Exclusive};
 ghost use Rattle.history.specs.declared.call.Reply.TheVariants.{Dead};
 ghost use Rattle.caller_steps.specs.Core.{Steps};
-ghost use Rattle.caller_steps.specs.Fate.{is_busy};
+ghost use Rattle.caller_steps.specs.Fate.{is_busy, is_refusal};
 ghost use Rattle.caller_steps.specs.Purging.{Purges};
 ghost use Rattle.caller_steps.specs.Locked.{IsLocked};
 ghost use Rattle.caller_steps.specs.State.{calls_of};
@@ -194,6 +194,7 @@ impl<S: EawStore, K: KeyIndex> Core<S, K> {
         ensures steps { Steps S.tells caller call.now (core_of S.opens K.index (S.view self.old.records.store) self.old)
             (core_of S.opens K.index (S.view self.new.records.store) self.new) result }
         ensures not_busy { locks ≡ Held → IsFalse (is_busy result) }
+        ensures begun { IsFalse (is_refusal result) → IsTrue (is_some ((core_of S.opens K.index (S.view self.old.records.store) self.old).state.live caller)) }
     {
         let Some(live) = self.seats.take(caller) else {
             return Reply::NoTransaction;
@@ -218,6 +219,7 @@ impl<S: EawStore, K: KeyIndex> Core<S, K> {
         ensures steps { Steps S.tells caller Commit (core_of S.opens K.index (S.view self.old.records.store) self.old)
             (core_of S.opens K.index (S.view self.new.records.store) self.new) result }
         ensures not_busy { IsFalse (is_busy result) }
+        ensures begun { IsFalse (is_refusal result) → IsTrue (is_some ((core_of S.opens K.index (S.view self.old.records.store) self.old).state.live caller)) }
     {
         let at = self.history.as_slice().len() as u64 + 1;
         let Some(live) = self.seats.take(caller) else {
@@ -251,6 +253,7 @@ impl<S: EawStore, K: KeyIndex> Core<S, K> {
         ensures steps { Steps S.tells caller Abort (core_of S.opens K.index (S.view self.old.records.store) self.old)
             (core_of S.opens K.index (S.view self.new.records.store) self.new) result }
         ensures not_busy { IsFalse (is_busy result) }
+        ensures begun { IsFalse (is_refusal result) → IsTrue (is_some ((core_of S.opens K.index (S.view self.old.records.store) self.old).state.live caller)) }
     {
         if !self.seats.is_live(caller) {
             return Reply::NoTransaction;
@@ -271,6 +274,7 @@ impl<S: EawStore, K: KeyIndex> Core<S, K> {
             (core_of S.opens K.index (S.view self.new.records.store) self.new) result }
         ensures dead { IsTrue (S.view self.old.records.store).is_dead → (result ≡ Dead) × (self.new ≡ self.old) }
         ensures not_busy { locks ≡ Held → IsFalse (is_busy result) }
+        ensures begun { IsFalse (is_refusal result) → IsTrue (is_some ((core_of S.opens K.index (S.view self.old.records.store) self.old).state.live caller)) ⊎ (call.now ≡ Begin) }
     {
         if self.records.is_dead() {
             return Reply::Dead;

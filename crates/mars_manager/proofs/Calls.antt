@@ -1,6 +1,6 @@
 -- What a whole turn guarantees, given what its steps guarantee and what the core's step does.
-use Rattle.std.proofs.Common.{◌≡◌, inr, ℕ, ◌+◌, List, Bool, true, false, [], ◌∷◌, ◌++◌, length, Option, Some, None, refl, sym, ap, ◌∙◌, subst, arith, map, length-append}
-use Rattle.std.specs.Prelude.{IsTrue, MatchBool, unwrap_or}
+use Rattle.std.proofs.Common.{◌≡◌, ◌⊎◌, inl, inr, ⊎_elim, ℕ, ◌+◌, List, Bool, true, false, [], ◌∷◌, ◌++◌, length, Option, Some, None, refl, sym, ap, ◌∙◌, subst, arith, map, length-append, append_assoc}
+use Rattle.std.specs.Prelude.{IsTrue, IsFalse, is_some, MatchBool, unwrap_or}
 use Rattle.std.proofs.lemmas.Bool.{true≢false, cond-true, cond-false}
 use Rattle.history.specs.Table.{Granted}
 use Rattle.history.specs.declared.call.Call.{Call}
@@ -8,7 +8,8 @@ use Rattle.history.specs.declared.call.Reply.{Reply}
 use Rattle.history.specs.declared.call.Reply.TheVariants.{Committed, Dead}
 use Rattle.history.specs.Legal.{IsLegal}
 use Rattle.caller_steps.specs.State.{State, calls_of, done_by}
-use Rattle.caller_steps.specs.Fate.{is_committed}
+use Rattle.caller_steps.specs.Fate.{is_committed, is_refusal, is_busy}
+use Rattle.history.specs.declared.call.Call.TheVariants.{Begin}
 use Rattle.caller_steps.specs.Prefix.{Grows}
 use Rattle.caller_steps.specs.Step.{Step}
 use Rattle.caller_steps.specs.Core.{CoreView, Steps}
@@ -19,13 +20,15 @@ use Rattle.caller_steps.proofs.Running.{own_commits, last_here, turn_run, turn_t
 use Rattle.caller_steps.proofs.Owning.{number_of_commit, turns_live}
 use Rattle.atomic_table.specs.Table.{rest}
 use Rattle.mars_manager.specs.declared.view.Known.{Known}
+use Rattle.mars_manager.specs.declared.view.Met.{Met}
 use Rattle.mars_manager.specs.declared.setup.Setup.{Setup}
-use Rattle.mars_manager.specs.Pass.{Fits, AllFit, finds, told_of}
+use Rattle.mars_manager.specs.Pass.{Fits, AllFit, live_of, finds, told_of}
+use Rattle.mars_manager.specs.Locks.{with_locks, IsAgain, HasAfter}
 use Rattle.mars_manager.specs.Sharing.{CanShare, Since, Called, IsLegalIn, done_of, mine_of, HasCommitted, Commits}
-use Rattle.mars_manager.specs.Seat.{SeatOf, shared_view}
+use Rattle.mars_manager.specs.Seat.{SeatOf, shared_view, Makes}
 use Rattle.mars_manager.specs.Rule.{Face, shown, Took, Told}
 use Rattle.mars_manager.proofs.Past.{since_step}
-use Rattle.mars_manager.proofs.Turns.{out, top_of, some_same, found_fit, Moved}
+use Rattle.mars_manager.proofs.Turns.{out, top_of, some_same, found_fit, live_at, Moved}
 
 module _ {C : Type 0} where
   -- a pass was told all of its caller's turns
@@ -50,9 +53,10 @@ module _ {C : Type 0} (f : Face C) where
     step = λ told. subst (λ limits. Step limits (f.show old).state n call reply (f.show new).state) since.limits (s.step told);
   }
 
-  pub moved : (setup : Setup C) (n : ℕ) (call : Call) (reply : Reply) (old new : C) → Steps f.tells n call (f.show old) (f.show new) reply → (IsTrue (f.show old).state.is_dead → (reply ≡ Dead) × (new ≡ old))
+  pub moved : (setup : Setup C) (n : ℕ) (call : Call) (reply : Reply) (old new : C) → Steps f.tells n call (f.show old) (f.show new) reply → (IsTrue (f.show old).state.is_dead → (reply ≡ Dead) × (new ≡ old)) → (IsFalse (is_refusal reply) → IsTrue (is_some ((f.show old).state.live n)) ⊎ (call ≡ Begin))
       → Moved f setup n call reply old new
-  moved setup n call reply old new s dead = record {
+  moved setup n call reply old new s dead begun = record {
+    begun = begun;
     grows = subst (λ h. Grows (f.show old).state.history h) (sym s.moves.history) (after_grows (f.show old).state n reply);
     since = since_step f.tells n call reply (f.show setup.first) (f.show old) (f.show new) s;
     goes = goes_on setup n call reply old new s dead;
@@ -128,17 +132,6 @@ module _ {C : Type 0} (f : Face C) where
       pub commits : Commits f.tells k reply (shown f call reply turns new k)
       commits = commits_at (is_committed reply) refl
 
-  -- what a turn leaves in a seat
-  pub record Made (was : Known C) (call : Call) (reply : Reply) (m : SeatOf C) : Type 0 where
-    pub now : Known C
-    pub idle : m ≡ (shared_view (now ∷ []) None, [])
-    pub number : now.number ≡ was.number
-    pub called : Called f.tells f.show was call reply now
-    pub told : told_of now ≡ told_of was ++ (call, reply) ∷ []
-    pub seen : Grows was.seen now.seen
-    pub legal : IsTrue f.tells → IsLegalIn f.show now
-    pub commits : Commits f.tells was reply now
-
   -- the core that the seat takes out of its slot
   pub core_is : (m0 m1 : SeatOf C) (core : C) (home : Option C) (took : Took f m0 m1) → m1.1 ≡ (0, home) ∷ rest m1.1 → home ≡ Some core → took.core ≡ core
   core_is m0 m1 core home took taken is = some_same took.core core (ap (λ (l : List (ℕ × Option C)). top_of l) (sym (ap (λ (m : SeatOf C). m.1) took.now) ∙ taken) ∙ is)
@@ -153,12 +146,19 @@ module _ {C : Type 0} (f : Face C) where
         let H : C → SeatOf C → SeatOf C = λ c m. (shared_view (map (finds 0) m.0.passes) (Some c), out c) in
         back ∙ ap F out_is ∙ ap (λ (m : SeatOf C). F (G m)) took.now ∙ (λ i. F (G (H (core_is m0 m1 core home took taken is i) (idle i))))
 
-    module _ (n : ℕ) (call : Call) (reply : Reply) (number : k.number ≡ n) (steps : Steps f.tells n call (f.show core) (f.show new) reply) (dead : IsTrue (f.show core).state.is_dead → (reply ≡ Dead) × (new ≡ core)) where
+    module _ (n : ℕ) (call : Call) (reply : Reply) (number : k.number ≡ n) (steps : Steps f.tells n call (f.show core) (f.show new) reply) (dead : IsTrue (f.show core).state.is_dead → (reply ≡ Dead) × (new ≡ core))
+        (begun : IsFalse (is_refusal reply) → IsTrue (is_some ((f.show core).state.live n)) ⊎ (call ≡ Begin)) (sure : IsFalse (is_busy reply)) where
       steps_as : Steps f.tells k.number call (f.show core) (f.show new) reply
       steps_as = subst (λ n. Steps f.tells n call (f.show core) (f.show new) reply) (sym number) steps
 
       pub moves : (setup : Setup C) → Moved f setup k.number call reply core new
-      moves setup = moved setup k.number call reply core new steps_as dead
+      moves setup = moved setup k.number call reply core new steps_as dead (subst (λ (i : ℕ). IsFalse (is_refusal reply) → IsTrue (is_some ((f.show core).state.live i)) ⊎ (call ≡ Begin)) (sym number) begun)
+
+      begun_at : (setup : Setup C) (turns : List Turn) → Fits f.tells f.show setup turns (f.show core).state k → (f.show setup.first).state.live k.number ≡ None → (b : Bool) → (f.show core).state.is_dead ≡ b → IsFalse (is_refusal reply) → IsTrue (is_some (live_of k)) ⊎ (call ≡ Begin)
+      begun_at setup turns fit fresh true is granted = absurd (true≢false (sym (ap is_refusal (dead is).0) ∙ granted))
+      begun_at setup turns fit fresh false is granted = ⊎_elim
+          (λ (live : IsTrue (is_some ((f.show core).state.live n))). inl (subst (λ (o : Option Granted). is_some o ≡ true) (ap (λ (i : ℕ). (f.show core).state.live i) (sym number) ∙ live_at f setup turns core k fresh fit is) live))
+          inr (begun granted)
 
       -- the step is recorded, and the turn is given back
       module _ (m4 : SeatOf C) (tells : (was now : C) → m3.0.held ≡ Some was → m3.1 ≡ out now → Told f call reply was now m3 m4) where
@@ -170,44 +170,61 @@ module _ {C : Type 0} (f : Face C) where
         told_seat = let F : SeatOf C → SeatOf C = λ m. (shared_view (map (shown f call reply record_of.turns new) m.0.passes) (Some new), m.1) in record_of.now ∙ ap F homed
 
         -- the seat once the turn is given back
-        pub made : (m5 : SeatOf C) → m5 ≡ (shared_view m4.0.passes None, []) → Made k call reply m5
+        pub made : (m5 : SeatOf C) → m5 ≡ (shared_view m4.0.passes None, []) → Makes f.tells f.show k call reply m5
         made m5 give =
             let t = record_of in
             let all = subst (λ (ks : List (Known C)). AllFit f.tells f.show t.setup t.turns (f.show core).state ks) (ap (λ (m : SeatOf C). m.0.passes) homed) t.fit in
             let fit : Fits f.tells f.show t.setup t.turns (f.show core).state k = found_fit f t.setup t.turns core k.found (finds 0 k) all.0 in
             let F : SeatOf C → SeatOf C = λ m. (shared_view m.0.passes None, []) in record {
               now = shown f call reply t.turns new k;
-              idle = give ∙ ap F told_seat;
-              number = refl;
-              called = called t.setup t.turns core new k call reply fit steps_as dead t.since t.whose t.ready;
-              told = told_on f.tells f.show k call reply (shown f call reply t.turns new k) (called t.setup t.turns core new k call reply fit steps_as dead t.since t.whose t.ready);
-              seen = seen_grows t.setup t.turns core new k call reply fit steps_as dead;
-              legal = legal_now t.setup t.turns core new k call reply fit steps_as dead t.since;
-              commits = commits t.setup t.turns core new k call reply fit steps_as dead (t.ready.live k.number);
+              is = give ∙ ap F told_seat;
+              made = record {
+                number = refl;
+                holds = refl;
+                met = refl;
+                sure = sure;
+                begun = begun_at t.setup t.turns fit (t.ready.live k.number) (f.show core).state.is_dead refl;
+                called = called t.setup t.turns core new k call reply fit steps_as dead t.since t.whose t.ready;
+                told = told_on f.tells f.show k call reply (shown f call reply t.turns new k) (called t.setup t.turns core new k call reply fit steps_as dead t.since t.whose t.ready);
+                seen = seen_grows t.setup t.turns core new k call reply fit steps_as dead;
+                legal = legal_now t.setup t.turns core new k call reply fit steps_as dead t.since;
+                commits = commits t.setup t.turns core new k call reply fit steps_as dead (t.ready.live k.number);
+              };
             }
 
-module _ {C : Type 0} where
-  -- what a pass found does not matter to its next call
-  pub called_since : (tells : Bool) (show : C → CoreView) (was : Known C) (found : ℕ) (call : Call) (reply : Reply) (now : Known C) → Called tells show (finds found was) call reply now → Called tells show was call reply now
-  called_since tells show was found call reply now c = record {
-    setup = c.setup;
-    turns = c.turns;
-    old = c.old;
-    new = c.new;
-    setup_is = c.setup_is;
-    since = c.since;
-    comes = c.comes;
-    whose = c.whose;
-    ready = c.ready;
-    last = c.last;
-    steps = c.steps;
-    dead = c.dead;
-    after = c.after;
-  }
+-- what a pass found, and what it has of the stripes, does not matter to its next call
+module _ {C : Type 0} (tells : Bool) (show : C → CoreView) (was last now : Known C) (call : Call) (reply : Reply) (n : ℕ) (a : IsAgain n was last) where
+  pub called_since : Called tells show last call reply now → Called tells show was call reply now
+  called_since made =
+      let c : Called tells show (finds n (with_locks was.holds (was.met ++ a.more) was)) call reply now = subst (λ (j : Known C). Called tells show j call reply now) a.is made in record {
+        setup = c.setup;
+        turns = c.turns;
+        old = c.old;
+        new = c.new;
+        setup_is = c.setup_is;
+        since = c.since;
+        comes = c.comes;
+        whose = c.whose;
+        ready = c.ready;
+        last = c.last;
+        steps = c.steps;
+        dead = c.dead;
+        after = c.after;
+      }
 
-  pub commits_since : (tells : Bool) (was : Known C) (found : ℕ) (reply : Reply) (now : Known C) → Commits tells (finds found was) reply now → Commits tells was reply now
-  commits_since tells was found reply now c = go (is_committed reply) c
-    where
-      go : (b : Bool) → MatchBool b (HasCommitted tells (finds found was) reply now) (mine_of now ≡ mine_of (finds found was)) → MatchBool b (HasCommitted tells was reply now) (mine_of now ≡ mine_of was)
-      go true h = record { before = h.before; seen = h.seen; mine = h.mine; told = h.told }
-      go false h = h
+  commits_if : (b : Bool) → MatchBool b (HasCommitted tells (finds n (with_locks was.holds (was.met ++ a.more) was)) reply now) (mine_of now ≡ mine_of was) → MatchBool b (HasCommitted tells was reply now) (mine_of now ≡ mine_of was)
+  commits_if true h = record { before = h.before; seen = h.seen; mine = h.mine; told = h.told }
+  commits_if false h = h
+
+  pub commits_since : Commits tells last reply now → Commits tells was reply now
+  commits_since made = commits_if (is_committed reply) (subst (λ (j : Known C). Commits tells j reply now) a.is made)
+
+  pub after_since : HasAfter call reply last now → HasAfter call reply was now
+  after_since h = subst (λ (j : Known C). HasAfter call reply j now) a.is h
+
+module _ {C : Type 0} where
+  pub again_twice : (was last now : Known C) (m n : ℕ) → IsAgain m was last → IsAgain n last now → IsAgain n was now
+  again_twice was last now m n a b = record {
+    more = a.more ++ b.more;
+    is = b.is ∙ ap (λ (j : Known C). finds n (with_locks j.holds (j.met ++ b.more) j)) a.is ∙ ap (λ (ms : List Met). finds n (with_locks was.holds ms was)) (append_assoc was.met a.more b.more);
+  }

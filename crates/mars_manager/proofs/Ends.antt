@@ -1,6 +1,6 @@
 -- Opening the table, dealing out the passes, taking them in, and the end.
-use Rattle.std.proofs.Common.{◌≡◌, ◌≢◌, ◌⊎◌, ℕ, zero, suc, ◌+◌, ◌-◌, ◌<◌, ◌≤◌, eqb, List, [], ◌∷◌, ◌++◌, length, set, get_or, false, Option, Some, None, refl, sym, ap, ◌∙◌, subst, inl, inr, ⊎_elim, arith, length-set, map, eq-eqb, ne_eqb, append_assoc}
-use Rattle.std.specs.Prelude.{if◌then◌else◌, IfSome}
+use Rattle.std.proofs.Common.{◌≡◌, ◌≢◌, ◌⊎◌, ℕ, zero, suc, ◌+◌, ◌-◌, ◌<◌, ◌≤◌, eqb, List, [], ◌∷◌, ◌++◌, length, set, get_or, replicate, unwrap_or, false, Option, Some, None, refl, sym, ap, ◌∙◌, subst, inl, inr, ⊎_elim, arith, length-set, map, eq-eqb, ne_eqb, append_assoc}
+use Rattle.std.specs.Prelude.{if◌then◌else◌, IfSome, is_some}
 use Rattle.std.specs.Option.{option_to_list}
 use mathlib.Core.Logic.{dite}
 use mathlib.Core.List.{append-nil}
@@ -19,13 +19,29 @@ use Rattle.mars_manager.specs.declared.view.View.{View}
 use Rattle.mars_manager.specs.declared.setup.Setup.{Setup}
 use Rattle.caller_steps.specs.Run.{Turn, GoesAlong, AreOf, LastTurn}
 use Rattle.caller_steps.proofs.Running.{turn_none}
-use Rattle.mars_manager.specs.Pass.{AllFit, AreSo, times, newcomer, PassView, PassesView, AllOf, dealt, known_of}
+use Rattle.mars_manager.specs.Pass.{AllFit, live_of, AreSo, times, newcomer, PassView, PassesView, AllOf, dealt, known_of}
 use Rattle.mars_manager.specs.Sharing.{CanShare, Since}
-use Rattle.mars_manager.specs.Seat.{TableOf, SeatOf, view, shared_view, opener, newcomers, behind, front, joined, spent}
-use Rattle.mars_manager.specs.Rule.{Face, count, IsFree, IsHeld, IsKept, IsFresh, IsOpening, Rule, began, gives_turn}
+use Rattle.mars_manager.specs.Seat.{TableOf, SeatOf, IsIdle, first_of, seat_of, view, shared_view, opener, newcomers, behind, front, joined, spent}
+use Rattle.history.specs.Table.{Granted}
+use Rattle.history.specs.Locks.{touched}
+use Rattle.stripe_words.specs.declared.hold.Hold.{Hold}
+use Rattle.stripe_words.specs.declared.hold.Hold.TheVariants.{Free, Trying}
+use Rattle.stripe_words.specs.Words.{Stands}
+use Rattle.stripe_words.proofs.Steps.{stands_free}
+use Rattle.mars_manager.specs.Locks.{IsCovered, hold_of}
+use Rattle.mars_manager.proofs.Locked.{covered_none}
+use Rattle.mars_manager.specs.Rule.{Face, AllHave, count, IsFree, IsHeld, IsKept, IsFresh, IsOpening, Rule, began, gives_turn}
 use Rattle.mars_manager.proofs.Past.{since_shared}
 use Rattle.mars_manager.proofs.Seats.{times_append, at_only, each_set, total_set, total_two, total_snoc, total_has}
 use Rattle.mars_manager.proofs.Turns.{same_run, out, some_same, some≢none, is_open, vacant≢shared, opening≢shared, vacant≢opening}
+
+repeated : {A : Type 0} (n t : ℕ) (a : A) → get_or (replicate n a) t a ≡ a
+repeated zero t a = refl
+repeated (suc n) zero a = refl
+repeated (suc n) (suc t) a = repeated n t a
+
+no_try : Free ≢ Trying
+no_try e = absurd (cc)
 
 only_zero : {A : Type 0} (x : A) (i : ℕ) (a : A) → get_elem? (x ∷ []) i ≡ some a → i ≡ 0
 only_zero x zero a e = refl
@@ -55,7 +71,7 @@ module _ {C : Type 0} where
 
 module _ {C : Type 0} (f : Face C) (setup : Setup C) where
   -- the rule holds at the start
-  pub begins : Rule f setup (opening (0 ∷ 0 ∷ []) (None ∷ []) (opener Vacant setup))
+  pub begins : Rule f setup (opening (replicate 66 0) (None ∷ []) (opener Vacant setup))
   begins = inl (record { words = refl; homes = refl; views = refl })
 
   stage_of : (s : TableOf C) (id : ℕ) (v : View C) (stage : Stage) → s.views ≡ opener stage setup ∷ [] → get_elem? s.views id ≡ some v → (v.stage ≡ stage) × (id ≡ 0)
@@ -75,7 +91,7 @@ module _ {C : Type 0} (f : Face C) (setup : Setup C) where
       (λ (y : IsOpening setup s ⊎ IsKept f setup s). ⊎_elim (λ (x : IsOpening setup s). (x, (stage_of s id v Opening x.views at).1)) (λ (k : IsKept f setup s). opening≢shared (sym z ∙ k.staged id v at)) y)
       rule
 
-  pub begins_keeps : (slots id : ℕ) → Allows (Rule f setup) slots id (opener Vacant setup, []) 0 (λ _. 1) (λ _. began (step slots 0 1 0 none) (opener Vacant setup, []) 1)
+  pub begins_keeps : (slots id : ℕ) → Allows (Rule f setup) slots id (opener Vacant setup, []) 64 (λ _. 1) (λ _. began (step slots 64 1 0 none) (opener Vacant setup, []) 1)
   begins_keeps slots id s rule wide at _ =
       let x = is_fresh s id (opener Vacant setup) rule at refl in
       let w : View C = opener Opening setup in (
@@ -83,7 +99,7 @@ module _ {C : Type 0} (f : Face C) (setup : Setup C) where
         takes 0 None,
         subst (λ l. get_elem? l 0 ≡ some (some None)) (sym x.0.homes) refl,
         inr (inl (record {
-          words = ap (λ l. set l 0 1) x.0.words;
+          words = ap (λ l. set l 64 1) x.0.words;
           one = length-set s.homes 0 none ∙ ap length x.0.homes;
           views = ap (λ l. set l id w) x.0.views ∙ ap (λ i. set (opener Vacant setup ∷ []) i w) x.1;
         })),
@@ -102,14 +118,18 @@ module _ {C : Type 0} (f : Face C) (setup : Setup C) where
     fresh_fit (suc m) n none_done,
   )
 
-  pub opens_keeps : (slots id : ℕ) → CanShare f.tells setup.callers (f.show setup.first) → setup.callers < 256
-      → Allows (Rule f setup) slots id (opener Opening setup, (0, Some setup.first) ∷ []) 0 (λ _. 0) (λ _. gives_turn (step slots 0 0 0 none) (opener Opening setup, (0, Some setup.first) ∷ []) 0)
+  fresh_have : (m n : ℕ) → AllHave (λ i. replicate 64 Free) (newcomers setup m n)
+  fresh_have m zero = tt
+  fresh_have m (suc n) = (refl, fresh_have (suc m) n)
+
+  pub opens_keeps : (slots id : ℕ) → CanShare f.tells setup.callers (f.show setup.first) → setup.callers ≤ 32
+      → Allows (Rule f setup) slots id (opener Opening setup, (0, Some setup.first) ∷ []) 64 (λ _. 0) (λ _. gives_turn (step slots 64 0 0 none) (opener Opening setup, (0, Some setup.first) ∷ []) 0)
   opens_keeps slots id can few s rule wide at _ =
       let core = setup.first in
       let x = is_opening s id (opener Opening setup) rule at refl in
       let w : View C = opener Shared setup in
       let views : set s.views id w ≡ w ∷ [] = ap (λ l. set l id w) x.0.views ∙ ap (λ i. set (opener Opening setup ∷ []) i w) x.1 in
-      let words : set s.words 0 0 ≡ 0 ∷ 0 ∷ [] = ap (λ l. set l 0 0) x.0.words in
+      let words : set s.words 64 0 ≡ replicate 66 0 = ap (λ l. set l 64 0) x.0.words in
       let only : (P : View C → Type 0) → P w → (i : ℕ) (v : View C) → get_elem? (set s.views id w) i ≡ some v → P v = λ P p i v e. subst P (at_only w i v (subst (λ l. get_elem? l i ≡ some v) views e)) p in (
         w,
         gives,
@@ -117,11 +137,19 @@ module _ {C : Type 0} (f : Face C) (setup : Setup C) where
         inr (inr (record {
           core = core;
           turns = [];
-          two = ap length words;
+          wide = ap length words;
+          holds = λ n. replicate 64 Free;
+          locks = record {
+            have = only (λ v. AllHave (λ n. replicate 64 Free) v.passes) (fresh_have 0 setup.callers);
+            strangers = λ n le. refl;
+            long = λ n. refl;
+            stripes = λ t l. subst (λ w. Stands w (λ n. get_or (replicate 64 Free) t Free)) (sym (ap (λ ws. get_or ws t 0) words ∙ repeated 66 t 0)) (stands_free (λ n. get_or (replicate 64 Free) t Free) (λ h. repeated 64 t Free));
+            covered = λ alive n. subst (λ (live : Option Granted). IsCovered (touched (unwrap_or live [])) (replicate 64 Free)) (sym (can.live n)) (covered_none (replicate 64 Free));
+          };
           one = length-set s.homes 0 (some (Some core)) ∙ x.0.one;
-          told = ap (λ l. get_or l 1 0) words ∙ sym (ap length can.history);
+          told = ap (λ l. get_or l 65 0) words ∙ sym (ap length can.history);
           place = inl (record {
-            turn = ap (λ l. get_or l 0 0) words;
+            turn = ap (λ l. get_or l 64 0) words;
             home = set_here s.homes 0 (some (Some core)) (let o = x.0.one in omega arith);
             nobody = only (λ v. v.held ≡ None) refl;
           });
@@ -165,7 +193,7 @@ module _ {C : Type 0} (f : Face C) (setup : Setup C) where
       let b = total_snoc (λ (v : View C). times n v.passes) (set s.views id left) right in
       let c = times_append n (k ∷ []) ks in
       omega arith) in
-      same_run f setup s h s.words s.homes vs h.two h.one h.told
+      same_run f setup s h s.words s.homes vs h.wide h.one h.told
       (⊎_elim
       (λ (x : IsFree h.core s). inl (record { turn = x.turn; home = x.home; nobody = after_deal (λ _ u. u.held ≡ None) s.views id left right refl (λ _. refl) x.nobody }))
       (λ (x : IsHeld h.core s). let ne = not_holder s h.core x id v at refl in inr (record {
@@ -179,7 +207,7 @@ module _ {C : Type 0} (f : Face C) (setup : Setup C) where
         others = λ i u apart e. after_deal (λ i u. i ≢ x.seat → u.held ≡ None) s.views id left right (λ _. refl) (λ _ _. refl) (λ i u e apart. x.others i u apart e) i u e apart;
       }))
       h.place)
-      (after_deal (λ _ u. u.stage ≡ Shared) s.views id left right refl (λ _. refl) h.staged) (after_deal (λ _ u. AllFit f.tells f.show setup h.turns (f.show h.core).state u.passes) s.views id left right fit.1 (λ _. (fit.0, tt)) h.fit) counts
+      (after_deal (λ _ u. u.stage ≡ Shared) s.views id left right refl (λ _. refl) h.staged) (after_deal (λ _ u. AllFit f.tells f.show setup h.turns (f.show h.core).state u.passes) s.views id left right fit.1 (λ _. (fit.0, tt)) h.fit) counts (λ t l. refl) (after_deal (λ _ u. AllHave h.holds u.passes) s.views id left right (h.locks.have id v at).1 (λ _. ((h.locks.have id v at).0, tt)) h.locks.have)
 
   pub deals_keeps : (id : ℕ) (k : Known C) (ks : List (Known C)) → Splits (Rule f setup) id (shared_view (k ∷ ks) None) (shared_view ks None) (shared_view (k ∷ []) None)
   deals_keeps id k ks s rule at = inr (inr (dealt_by s id k ks (is_open f setup s id (shared_view (k ∷ ks) None) rule at refl) at))
@@ -187,6 +215,10 @@ module _ {C : Type 0} (f : Face C) (setup : Setup C) where
   all_append : (turns : List Turn) (state : CoreState) (ks ls : List (Known C)) → AllFit f.tells f.show setup turns state ks → AllFit f.tells f.show setup turns state ls → AllFit f.tells f.show setup turns state (ks ++ ls)
   all_append turns state [] ls a b = b
   all_append turns state (k ∷ ks) ls a b = (a.0, all_append turns state ks ls a.1 b)
+
+  have_append : (holds : ℕ → List Hold) (ks ls : List (Known C)) → AllHave holds ks → AllHave holds ls → AllHave holds (ks ++ ls)
+  have_append holds [] ls a b = b
+  have_append holds (k ∷ ks) ls a b = (a.0, have_append holds ks ls a.1 b)
 
   after_join : (P : ℕ → View C → Type 0) (vs : List (View C)) (id other : ℕ) (both gone : View C) → P id both → P other gone → ((j : ℕ) (v : View C) → get_elem? vs j ≡ some v → P j v) → (j : ℕ) (v : View C) → get_elem? (set (set vs id both) other gone) j ≡ some v → P j v
   after_join P vs id other both gone a b each = each_set P (set vs id both) other gone b (λ j v _ e. each_set P vs id both a (λ j v _ e. each j v e) j v e)
@@ -205,7 +237,7 @@ module _ {C : Type 0} (f : Face C) (setup : Setup C) where
       let b = total_set (λ (v : View C). times n v.passes) (set s.views id both) other w rest still in
       let c = times_append n ks ls in
       omega arith) in
-      same_run f setup s h s.words s.homes vs h.two h.one h.told
+      same_run f setup s h s.words s.homes vs h.wide h.one h.told
       (⊎_elim
       (λ (x : IsFree h.core s). inl (record { turn = x.turn; home = x.home; nobody = after_join (λ _ u. u.held ≡ None) s.views id other both rest refl refl x.nobody }))
       (λ (x : IsHeld h.core s). inr (record {
@@ -219,7 +251,7 @@ module _ {C : Type 0} (f : Face C) (setup : Setup C) where
         others = λ i u ne e. after_join (λ i u. i ≢ x.seat → u.held ≡ None) s.views id other both rest (λ _. refl) (λ _. refl) (λ i u e ne. x.others i u ne e) i u e ne;
       }))
       h.place)
-      (after_join (λ _ u. u.stage ≡ Shared) s.views id other both rest refl refl h.staged) (after_join (λ _ u. AllFit f.tells f.show setup h.turns (f.show h.core).state u.passes) s.views id other both rest (all_append h.turns (f.show h.core).state ks ls (h.fit id v at) (h.fit other w there)) tt h.fit) counts
+      (after_join (λ _ u. u.stage ≡ Shared) s.views id other both rest refl refl h.staged) (after_join (λ _ u. AllFit f.tells f.show setup h.turns (f.show h.core).state u.passes) s.views id other both rest (all_append h.turns (f.show h.core).state ks ls (h.fit id v at) (h.fit other w there)) tt h.fit) counts (λ t l. refl) (after_join (λ _ u. AllHave h.holds u.passes) s.views id other both rest (have_append h.holds ks ls (h.locks.have id v at) (h.locks.have other w there)) tt h.locks.have)
 
   pub gathers_keeps : (id other : ℕ) (ks ls : List (Known C)) → Joins (Rule f setup) id (shared_view ks None) other (shared_view ls None) (shared_view (ks ++ ls) None) (shared_view [] None)
   gathers_keeps id other ks ls s rule at apart there =
@@ -253,14 +285,14 @@ module _ {C : Type 0} (f : Face C) (setup : Setup C) where
       h.place
 
   -- the moves at a given seat
-  pub begins_as : (slots id : ℕ) (m : SeatOf C) → m ≡ (opener Vacant setup, []) → Allows (Rule f setup) slots id m 0 (λ _. 1) (λ _. began (step slots 0 1 0 none) m 1)
-  begins_as slots id m e = subst (λ (m : SeatOf C). Allows (Rule f setup) slots id m 0 (λ _. 1) (λ _. began (step slots 0 1 0 none) m 1)) (sym e) (begins_keeps slots id)
+  pub begins_as : (slots id : ℕ) (m : SeatOf C) → m ≡ (opener Vacant setup, []) → Allows (Rule f setup) slots id m 64 (λ _. 1) (λ _. began (step slots 64 1 0 none) m 1)
+  begins_as slots id m e = subst (λ (m : SeatOf C). Allows (Rule f setup) slots id m 64 (λ _. 1) (λ _. began (step slots 64 1 0 none) m 1)) (sym e) (begins_keeps slots id)
 
-  pub opens_as : (slots id : ℕ) (core : C) (m : SeatOf C) → m ≡ (opener Opening setup, out core) → core ≡ setup.first → CanShare f.tells setup.callers (f.show core) → setup.callers < 256
-      → Allows (Rule f setup) slots id m 0 (λ _. 0) (λ _. gives_turn (step slots 0 0 0 none) m 0)
+  pub opens_as : (slots id : ℕ) (core : C) (m : SeatOf C) → m ≡ (opener Opening setup, out core) → core ≡ setup.first → CanShare f.tells setup.callers (f.show core) → setup.callers ≤ 32
+      → Allows (Rule f setup) slots id m 64 (λ _. 0) (λ _. gives_turn (step slots 64 0 0 none) m 0)
   opens_as slots id core m e same can few =
       let now : C → SeatOf C = λ c. (opener Opening setup, out c) in
-      subst (λ (m : SeatOf C). Allows (Rule f setup) slots id m 0 (λ _. 0) (λ _. gives_turn (step slots 0 0 0 none) m 0)) (sym (e ∙ ap now same))
+      subst (λ (m : SeatOf C). Allows (Rule f setup) slots id m 64 (λ _. 0) (λ _. gives_turn (step slots 64 0 0 none) m 0)) (sym (e ∙ ap now same))
       (opens_keeps slots id (subst (λ c. CanShare f.tells setup.callers (f.show c)) same can) few)
 
   pub deals_as : (id : ℕ) (k : Known C) (ks : List (Known C)) (v : View C) → v ≡ shared_view (k ∷ ks) None → Splits (Rule f setup) id v (view v.stage (behind v.passes) v.held) (view v.stage (front v.passes) None)
@@ -277,6 +309,15 @@ module _ {C : Type 0} where
       let more : callers - n ≡ suc (callers - (n + 1)) = omega arith in
       let one : suc n ≡ n + 1 = omega arith in
       ap (λ c. newcomers setup n c) more ∙ ap (λ m. newcomer setup n ∷ newcomers setup m (callers - (n + 1))) one
+
+  -- a pass that was just dealt out
+  pub new_idle : (setup : Setup C) (n : ℕ) (m : SeatOf C) → m ≡ seat_of (newcomer setup n) → n < 32 → IsIdle n (replicate 64 Free) false m
+  new_idle setup n m e l = record {
+    seat = record { known = newcomer setup n; is = e; number = refl; small = l; long = refl; covered = covered_none (replicate 64 Free) };
+    same = ap (λ (m : SeatOf C). (first_of m.0.passes).holds) e;
+    settled = λ t z. no_try (sym (ap (λ (m : SeatOf C). hold_of t (first_of m.0.passes)) e ∙ repeated 64 t Free) ∙ z);
+    live_is = ap (λ (m : SeatOf C). is_some (live_of (first_of m.0.passes))) e;
+  }
 
   pub dealt_more : (table : TableId) (setup : Setup C) (n : ℕ) → dealt table setup (n + 1) ≡ dealt table setup n ++ record { table = table; known = newcomer setup n } ∷ []
   dealt_more table setup n = let one : n + 1 ≡ suc n = omega arith in ap (dealt table setup) one

@@ -1,5 +1,5 @@
 -- What a pass knows.
-use Rattle.std.specs.Prelude.{ℕ, zero, suc, ◌≡◌, ◌≢◌, ◌+◌, ◌<◌, ◌≤◌, ◌==◌, if◌then◌else◌, Bool, List, [], ◌∷◌, ◌++◌, map, length, Some}
+use Rattle.std.specs.Prelude.{ℕ, zero, suc, ◌≡◌, ◌≢◌, ◌+◌, ◌<◌, ◌≤◌, ◌==◌, if◌then◌else◌, Bool, List, [], ◌∷◌, ◌++◌, map, length, replicate, Option, Some}
 use Rattle.atomic_table.specs.Seated.{TableId}
 use Rattle.history.specs.Table.{Granted}
 use Rattle.history.specs.declared.call.Call.{Call}
@@ -7,6 +7,8 @@ use Rattle.history.specs.declared.call.Reply.{Reply}
 use Rattle.caller_steps.specs.State.{State}
 use Rattle.caller_steps.specs.Core.{CoreView}
 use Rattle.caller_steps.specs.Run.{Turn, turns_of, LastTurn}
+use Rattle.caller_steps.specs.Own.{live_by}
+use Rattle.stripe_words.specs.declared.hold.Hold.TheVariants.{Free}
 use Rattle.mars_manager.specs.declared.setup.Setup.{Setup}
 use Rattle.mars_manager.specs.declared.view.Known.{Known}
 
@@ -22,6 +24,10 @@ module _ {C : Type 0} where
   abbrev pub told_of : Known C → Granted
   told_of known = turns_of known.number known.past
 
+  -- the live transaction of its caller, as its turns say
+  abbrev pub live_of : Known C → Option Granted
+  live_of known = live_by known.number (told_of known)
+
   -- what each of these passes knows is true
   abbrev pub AllFit : Bool → (C → CoreView) → Setup C → List Turn → State → List (Known C) → Type 0
   AllFit tells show setup turns state [] = Unit {0}
@@ -33,7 +39,7 @@ module _ {C : Type 0} where
 
   -- a pass that was told nothing
   abbrev pub newcomer : Setup C → ℕ → Known C
-  newcomer setup caller = record { number = caller; setup = Some setup; past = []; seen = []; heard = 0; found = 0 }
+  newcomer setup caller = record { number = caller; setup = Some setup; past = []; seen = []; heard = 0; found = 0; holds = replicate 64 Free; met = [] }
 
   -- what a pass knows after a step of its caller that came after these turns and left this state
   abbrev pub known_after : Known C → List Turn → State → Call → Reply → Known C

@@ -1,6 +1,6 @@
--- The rule of the table, and what each step guarantees. Word 0 is the turn: 0, or one more than the number of the pass that has it. Word 1
--- is the length of the history as last published. The slot has the core while the turn is free.
-use Rattle.std.specs.Prelude.{ℕ, ◌≡◌, ◌≢◌, ◌⊎◌, ◌+◌, ◌<◌, ◌≤◌, Bool, List, [], ◌∷◌, map, length, slice_index, Option, Some, None}
+-- The rule of the table, and what each step guarantees. Words 0 to 63 are those of the stripes. Word 64 is the turn: 0, or one more than the
+-- number of the pass that has it. Word 65 is the length of the history as last published. The slot has the core while the turn is free.
+use Rattle.std.specs.Prelude.{ℕ, ◌≡◌, ◌≢◌, ◌⊎◌, ◌+◌, ◌<◌, ◌≤◌, ◌/◌, ◌^◌, Bool, IsTrue, IsFalse, List, [], ◌∷◌, map, length, replicate, slice_index, slice_index_or, slice_set, Option, Some, None}
 use mathlib.Core.Option.{some}
 use lib.ListN.{get_elem?}
 use Rattle.history.specs.declared.call.Call.{Call}
@@ -12,9 +12,16 @@ use Rattle.mars_manager.specs.declared.view.Stage.TheVariants.{Vacant, Opening, 
 use Rattle.mars_manager.specs.declared.view.View.{View}
 use Rattle.mars_manager.specs.declared.setup.Setup.{Setup}
 use Rattle.caller_steps.specs.Run.{Turn, GoesAlong, AreOf}
-use Rattle.mars_manager.specs.Pass.{AllFit, known_after, finds, hears, times}
+use Rattle.mars_manager.specs.Pass.{AllFit, known_after, live_of, finds, hears, times}
 use Rattle.mars_manager.specs.Sharing.{CanShare, Since}
-use Rattle.mars_manager.specs.Seat.{TableOf, SeatOf, view, shared_view, opener}
+use Rattle.mars_manager.specs.Seat.{TableOf, SeatOf, view, shared_view, seat_of, first_of, opener}
+use Rattle.mars_manager.specs.Locks.{IsCovered, Finds, FindsOther, hold_of, with_hold, marked_by, excluded_by, noted}
+use Rattle.stripe_words.specs.declared.hold.Hold.{Hold}
+use Rattle.stripe_words.specs.declared.hold.Hold.TheVariants as hold
+use Rattle.stripe_words.specs.Words.{Stands, granted, locked}
+use Rattle.caller_steps.specs.State.{State, calls_of}
+use Rattle.history.specs.Locks.{touched, is_touch}
+use Rattle.history.specs.declared.locks.Mode.TheVariants as mode
 
 -- how a kind of core is seen
 pub record Face (C : Type 0) : Type 1 where
@@ -45,7 +52,7 @@ module _ {C : Type 0} where
 
   -- the turn is free, and the core is in its slot
   pub record IsFree (core : C) (s : TableOf C) : Type 0 where
-    pub turn : slice_index s.words 0 ≡ 0
+    pub turn : slice_index s.words 64 ≡ 0
     pub home : get_elem? s.homes 0 ≡ some (some (Some core))
     pub nobody : (i : ℕ) (v : View C) → get_elem? s.views i ≡ some v → v.held ≡ None
 
@@ -54,38 +61,55 @@ module _ {C : Type 0} where
     pub number : ℕ
     pub seat : ℕ
     pub holder : View C
-    pub turn : slice_index s.words 0 ≡ number + 1
+    pub turn : slice_index s.words 64 ≡ number + 1
     pub there : get_elem? s.views seat ≡ some holder
     pub holds : holder.held ≡ Some core
     pub has : 0 < times number holder.passes
     pub others : (i : ℕ) (v : View C) → i ≢ seat → get_elem? s.views i ≡ some v → v.held ≡ None
 
+  -- what each of these passes has is what its number has
+  abbrev pub AllHave : (ℕ → List Hold) → List (Known C) → Type 0
+  AllHave holds [] = Unit {0}
+  AllHave holds (known ∷ others) = (known.holds ≡ holds known.number) × AllHave holds others
+
+  -- `holds n` is what the pass n has of each stripe. Each word of a stripe stands for what all have of it. While the medium has not failed,
+  -- what a live transaction reads its pass has shared or exclusive, and what it writes its pass has exclusive.
+  pub record AreLocked (callers : ℕ) (state : State) (holds : ℕ → List Hold) (words : List ℕ) (views : List (View C)) : Type 0 where
+    pub have : (i : ℕ) (v : View C) → get_elem? views i ≡ some v → AllHave holds v.passes
+    pub strangers : (n : ℕ) → callers ≤ n → holds n ≡ replicate 64 hold.Free
+    pub long : (n : ℕ) → length (holds n) ≡ 64
+    pub stripes : (t : ℕ) → t < 64 → Stands (slice_index words t) (λ n. slice_index_or (holds n) t hold.Free)
+    pub covered : IsFalse state.is_dead → (n : ℕ) → IsCovered (touched (calls_of state n)) (holds n)
+
   -- nothing has happened yet: the only seat is the opener's
   pub record IsFresh (setup : Setup C) (s : TableOf C) : Type 0 where
-    pub words : s.words ≡ 0 ∷ 0 ∷ []
+    pub words : s.words ≡ replicate 66 0
     pub homes : s.homes ≡ some None ∷ []
     pub views : s.views ≡ opener Vacant setup ∷ []
 
   pub record IsOpening (setup : Setup C) (s : TableOf C) : Type 0 where
-    pub words : s.words ≡ 1 ∷ 0 ∷ []
+    pub words : s.words ≡ slice_set (replicate 66 0) 64 1
     pub one : length s.homes ≡ 1
     pub views : s.views ≡ opener Opening setup ∷ []
 
   module _ (f : Face C) where
     -- From the opening on: the core that was reported last is one that the shared core has come to by a run of these callers. The length of
-    -- its history is published, and what each pass knows is true of the run. No caller has two passes.
+    -- its history is published, and what each pass knows is true of the run. No caller has two passes. The words of the stripes say what the
+    -- passes have, and that covers what their live transactions touched.
     pub record IsKept (setup : Setup C) (s : TableOf C) : Type 0 where
       pub core : C
       pub turns : List Turn
-      pub two : length s.words ≡ 2
+      pub holds : ℕ → List Hold
+      pub wide : length s.words ≡ 66
       pub one : length s.homes ≡ 1
-      pub told : slice_index s.words 1 ≡ length (f.show core).state.history
+      pub told : slice_index s.words 65 ≡ length (f.show core).state.history
       pub place : IsFree core s ⊎ IsHeld core s
       pub staged : (i : ℕ) (v : View C) → get_elem? s.views i ≡ some v → v.stage ≡ Shared
       pub fit : (i : ℕ) (v : View C) → get_elem? s.views i ≡ some v → AllFit f.tells f.show setup turns (f.show core).state v.passes
       pub once : (n : ℕ) → count n s.views ≤ 1
       pub below : (n : ℕ) → setup.callers ≤ n → count n s.views ≡ 0
-      pub few : setup.callers < 256
+      pub few : setup.callers ≤ 32
+      pub locks : AreLocked setup.callers (f.show core).state holds s.words s.views
       pub ready : CanShare f.tells setup.callers (f.show setup.first)
       pub since : Since f.tells (f.show setup.first) (f.show core)
       pub run : GoesAlong f.tells (f.show setup.first).limits (f.show setup.first).state turns (f.show core).state
@@ -98,11 +122,19 @@ module _ {C : Type 0} where
     abbrev pub shown : Call → Reply → List Turn → C → Known C → Known C
     shown call reply turns core known = known_after known turns (f.show core).state call reply
 
+    -- While the medium has not failed, the core's live transaction of a pass is that which it was told of. Another caller's touches for writing
+    -- no stripe that the pass may read, and touches none that it may write.
+    pub record HasAlone (core : C) (known : Known C) : Type 0 where
+      pub mine : (f.show core).state.live known.number ≡ live_of known
+      pub reads : (t h : ℕ) → t < 64 → h ≢ known.number → granted (hold_of t known) ≡ 1 → IsFalse (touched (calls_of (f.show core).state h) t mode.Exclusive)
+      pub writes : (t h : ℕ) → t < 64 → h ≢ known.number → locked (hold_of t known) ≡ 1 → IsFalse (is_touch (touched (calls_of (f.show core).state h) t))
+
     -- the turn was taken, with this core
     pub record Took (m n : SeatOf C) : Type 0 where
       pub core : C
       pub now : n ≡ (shared_view (map (finds 0) m.0.passes) (Some core), (0, Some core) ∷ [])
       pub few : (k : ℕ) → 0 < times k m.0.passes → k < (f.show core).limits.callers
+      pub alone : IsFalse (f.show core).state.is_dead → HasAlone core (first_of m.0.passes)
 
     -- The step from one core to another was recorded as the last turn of a run. The shared core had come to the first of them by the turns
     -- before, and what the seat knew was true of these.
@@ -118,7 +150,7 @@ module _ {C : Type 0} where
     -- What a step guarantees, by the step, the seat before, the number found and the seat after. If the turn was not free, another pass had
     -- it, and the seat just notes what it found.
     abbrev pub takes_turn : Step (Option C) → SeatOf C → ℕ → SeatOf C → Type 0
-    takes_turn st m r n = (r ≡ 0 → Took m n) × (r ≢ 0 → (n ≡ (shared_view (map (finds r) m.0.passes) None, [])) × (r < 256) × ((k : ℕ) → r ≡ k + 1 → times k m.0.passes ≡ 0) × AreAbove r m.0.passes)
+    takes_turn st m r n = (r ≡ 0 → Took m n) × (r ≢ 0 → (n ≡ (shared_view (map (finds r) m.0.passes) None, [])) × (r ≤ 32) × ((k : ℕ) → r ≡ k + 1 → times k m.0.passes ≡ 0) × AreAbove r m.0.passes)
 
     abbrev pub tells_length : Call → Reply → Step (Option C) → SeatOf C → ℕ → SeatOf C → Type 0
     tells_length call reply st m r n = (old new : C) → m.0.held ≡ Some old → m.1 ≡ (0, Some new) ∷ [] → Told call reply old new m n
@@ -132,3 +164,17 @@ module _ {C : Type 0} where
 
   abbrev pub looks : Step (Option C) → SeatOf C → ℕ → SeatOf C → Type 0
   looks st m r n = (n ≡ (shared_view (map (hears r) m.0.passes) m.0.held, m.1)) × AllHeard r m.0.passes
+
+  -- a mark was set, and the stripe is shared where no exclusive lock was found
+  abbrev pub marks : Step (Option C) → SeatOf C → ℕ → SeatOf C → Type 0
+  marks st m r n = (n ≡ seat_of (marked_by st.word r (first_of m.0.passes))) × Finds (first_of m.0.passes).number r
+
+  -- the exclusive lock was taken, or a bit of another was found
+  abbrev pub excludes : Step (Option C) → SeatOf C → ℕ → SeatOf C → Type 0
+  excludes st m r n = (r ≡ st.first → n ≡ seat_of (excluded_by st.word r (first_of m.0.passes))) × (r ≢ st.first → (n ≡ seat_of (noted st.word r (first_of m.0.passes))) × FindsOther (first_of m.0.passes).number r)
+
+  abbrev pub releases : Step (Option C) → SeatOf C → ℕ → SeatOf C → Type 0
+  releases st m r n = n ≡ seat_of (with_hold st.word hold.Free (first_of m.0.passes))
+
+  abbrev pub backs : Step (Option C) → SeatOf C → ℕ → SeatOf C → Type 0
+  backs st m r n = n ≡ seat_of (with_hold st.word hold.Shared (first_of m.0.passes))

@@ -13,10 +13,10 @@ use Rattle.caller_steps.specs.Fate.{is_committed}
 use Rattle.caller_steps.specs.Sound.{IsSound}
 use Rattle.caller_steps.specs.Core.{CoreView, IsSafe, Steps, Continues}
 use Rattle.caller_steps.specs.Run.{Turn, GoesAlong, AreOf, commits_of, LastTurn}
-use Rattle.caller_steps.specs.Own.{live_by}
 use Rattle.mars_manager.specs.declared.setup.Setup.{Setup}
 use Rattle.mars_manager.specs.declared.view.Known.{Known}
-use Rattle.mars_manager.specs.Pass.{PassView, AreSo, known_after, told_of}
+use Rattle.mars_manager.specs.Locks.{with_locks}
+use Rattle.mars_manager.specs.Pass.{PassView, AreSo, known_after, live_of}
 
 -- what contracts see of a shared core: its table and how it was shared
 pub record MarsView (C : Type 0) : Type 0 where
@@ -60,7 +60,7 @@ module _ {C : Type 0} where
     pub last : LastTurn tells (show setup.first).limits was.number was.past was.seen (show setup.first).state turns (show old).state
     pub steps : Steps tells was.number call (show old) (show new) reply
     pub dead : IsTrue (show old).state.is_dead → (reply ≡ Dead) × (new ≡ old)
-    pub after : now ≡ known_after was turns (show new).state call reply
+    pub after : now ≡ with_locks now.holds now.met (known_after was turns (show new).state call reply)
 
   -- The core that comes back was reached by a run of these callers, and what these passes know is true of it: the past of each is this one run
   -- up to its last turn.
@@ -74,10 +74,6 @@ module _ {C : Type 0} where
   -- what a pass has seen is a legal history on the records at the opening
   abbrev pub IsLegalIn : (C → CoreView) → Known C → Type 0
   IsLegalIn show known = (setup : Setup C) → known.setup ≡ Some setup → IsLegal (show setup.first).state.base known.seen
-
-  -- the live transaction of its caller, as its turns say
-  abbrev pub live_of : Known C → Option Granted
-  live_of known = live_by known.number (told_of known)
 
   -- the transaction that a pass commits
   abbrev pub done_of : Known C → ℕ → Done

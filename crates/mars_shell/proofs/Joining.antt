@@ -18,7 +18,7 @@ use Rattle.caller_plans.specs.Plans.{AllSay, planned, calls_by, faults_from, pla
 use Rattle.caller_work.specs.declared.end.WorkEnd.{WorkEnd}
 use Rattle.caller_work.specs.declared.end.WorkEnd.TheVariants as work
 use Rattle.caller_work.specs.declared.tries.Tries.TheVariants.{Times}
-use Rattle.caller_work.specs.Tries.{IsWork}
+use Rattle.caller_work.specs.Tries.{IsWorkOf}
 use Rattle.caller_work.specs.Worked.{Worked, is_fault, of_caller}
 use Rattle.history_text.specs.Text.{done_lines, work_text}
 use Rattle.script_run.specs.Lines.{lines_of}
@@ -82,7 +82,7 @@ module _ (tells : Bool) (core last : CoreView) (callers tries : ℕ) (input : Li
     works = λ caller less.
         let within : caller < length plans = omega (arith, less, counted) in (
           get_or worked.stopped caller None,
-          subst (λ (his : List Plan). IsWork (Times tries) his (turns_of caller worked.turns) (of_caller fates caller) (get_or worked.stopped caller None)) (ap (λ (all : List (List Plan)). of_caller all caller) plans_are ∙ plans_at 0 callers caller caller said less (omega arith)) (worked.works caller within),
+          subst (λ (his : List Plan). IsWorkOf (Times tries) his (turns_of caller worked.turns) (of_caller fates caller) (get_or worked.stopped caller None)) (ap (λ (all : List (List Plan)). of_caller all caller) plans_are ∙ plans_at 0 callers caller caller said less (omega arith)) (worked.works caller within),
           (λ unfailed remembered. worked.whole (whole unfailed remembered) caller within),
         );
     fault = (λ is. worked.dead ∙ ap is_fault (fault.0 is), λ has. fault.1 (fault_of end (sym worked.dead ∙ has)));

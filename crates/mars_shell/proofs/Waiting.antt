@@ -1,6 +1,6 @@
 -- How many commits may wait for their write-back, by what words ask for.
-use Rattle.std.proofs.Common.{ℕ, List, Option, Some, None, arith}
-use Rattle.command_words.specs.Asked.{GivesWriting, AsksFor}
+use Rattle.std.proofs.Common.{ℕ, ◌≤◌, List, Option, Some, None, arith}
+use Rattle.command_words.specs.Asked.{IsNumber, GivesWriting, AsksFor}
 use Rattle.command_words.specs.declared.words.CallersNumbers.{CallersNumbers}
 use Rattle.command_words.specs.declared.words.DrillNumbers.{DrillNumbers}
 use Rattle.command_words.specs.declared.words.RunOptions.{RunOptions}
@@ -19,6 +19,13 @@ run_depth words given asks = given_depth _ given.writing asks.4.1.writing
 
 pub callers_depth : (words : List (List ℕ)) (numbers : CallersNumbers) → AsksFor words (Callers numbers) → HasDepth numbers.writing
 callers_depth words numbers asks = given_depth _ numbers.writing asks.4.1.writing
+
+given_few : (first : Option (List ℕ)) (number : ℕ) → IsNumber 1 32 None first number → number ≤ 32
+given_few None number gives = absurd (cc gives)
+given_few (Some value) number gives = gives.1
+
+pub callers_few : (words : List (List ℕ)) (numbers : CallersNumbers) → AsksFor words (Callers numbers) → numbers.callers ≤ 32
+callers_few words numbers asks = given_few _ numbers.callers asks.4.1.callers
 
 pub drill_depth : (words : List (List ℕ)) (numbers : DrillNumbers) → AsksFor words (Drill numbers) → HasDepth numbers.writing
 drill_depth words numbers asks = given_depth _ numbers.writing asks.4.1.writing

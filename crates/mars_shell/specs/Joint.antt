@@ -10,7 +10,7 @@ use Rattle.caller_steps.specs.Run.{Turn, AreOf, turns_of}
 use Rattle.caller_plans.specs.declared.fate.Fate.{Fate}
 use Rattle.caller_plans.specs.Plans.{planned, calls_by, AllSay, faults_from}
 use Rattle.caller_work.specs.declared.tries.Tries.TheVariants.{Times}
-use Rattle.caller_work.specs.Tries.{IsWork}
+use Rattle.caller_work.specs.Tries.{IsWorkOf}
 use Rattle.caller_work.specs.Worked.{of_caller}
 use Rattle.history_text.specs.Text.{done_lines, work_text}
 use Rattle.script_run.specs.Lines.{lines_of}
@@ -31,7 +31,7 @@ pub record JointWork (callers tries : ℕ) (input : List ℕ) (ended : Ended) (c
   pub whose : AreOf callers turns
   pub fates : List (List Fate)
   pub each : length fates ≡ callers
-  pub works : (caller : ℕ) → caller < callers → (stopped : Option Reply) × IsWork (Times tries) (planned None (calls_by caller said)) (turns_of caller turns) (of_caller fates caller) stopped
+  pub works : (caller : ℕ) → caller < callers → (stopped : Option Reply) × IsWorkOf (Times tries) (planned None (calls_by caller said)) (turns_of caller turns) (of_caller fates caller) stopped
       × (ended ≢ MediaFault → ended ≢ NoMemory → stopped ≡ None)
   pub fault : (ended ≡ MediaFault) ↔ IsTrue final.is_dead
   pub tells : TellsEnd ended cut text (work_text (faults_from 1 (λ caller. false) said) final.history fates (entries (records final.base final.history)))

@@ -56,6 +56,7 @@ pub fn run_callers<
     G: Gate + Sync,
 >(alloc: Global, source: &mut S, sink: &mut K, media: M, crew: &Crew<R, G>) -> (Status, M)
     requires some { 0 < crew.now.numbers.callers }
+    requires few { crew.now.numbers.callers ≤ 32 }
     requires tries { 1 ≤ crew.now.numbers.tries }
     requires depth { HasDepth crew.now.numbers.writing }
     ensures early { IsEarly result.0 → result.1 ≡ media }
@@ -92,6 +93,7 @@ fn run_callers_on<
     crew: &Crew<R, G>,
 ) -> (Status, M)
     requires some { 0 < crew.now.numbers.callers }
+    requires few { crew.now.numbers.callers ≤ 32 }
     requires tries { 1 ≤ crew.now.numbers.tries }
     ensures early { IsEarly result.0 → result.1 ≡ media }
     ensures silent { IsEarly result.0 ⊎ IsRefusal result.0 → sink.new ≡ sink.old }
@@ -125,6 +127,7 @@ fn serve_jointly<R: Threads + Wait + Sync, K: Sink, S: EawStore + Drop + Send, G
     requires alive { IsAlive (S.view store) }
     requires free { (t : ℕ) → (S.view store).ranges t ≡ None }
     requires some { 0 < crew.now.numbers.callers }
+    requires few { crew.now.numbers.callers ≤ 32 }
     requires enough { crew.now.numbers.callers ≤ (S.view store).shape.numbers }
     requires tries { 1 ≤ crew.now.numbers.tries }
     ensures served { Wrote K.tells (K.written sink.old) (K.written sink.new) (K.faults sink.old) (K.faults sink.new)
@@ -163,6 +166,7 @@ fn work_under<
     requires alive { IsAlive (S.view store) }
     requires free { (t : ℕ) → (S.view store).ranges t ≡ None }
     requires some { 0 < crew.now.numbers.callers }
+    requires few { crew.now.numbers.callers ≤ 32 }
     requires enough { crew.now.numbers.callers ≤ (S.view store).shape.numbers }
     requires tries { 1 ≤ crew.now.numbers.tries }
     ensures served { Wrote K.tells (K.written sink.old) (K.written sink.new) (K.faults sink.old) (K.faults sink.new)
@@ -197,6 +201,7 @@ fn work_jointly<
     crew: &Crew<R, G>,
 ) -> (Result<Ended, NoMemory>, Core<S, I>)
     requires some { 0 < crew.now.numbers.callers }
+    requires few { crew.now.numbers.callers ≤ 32 }
     requires tries { 1 ≤ crew.now.numbers.tries }
     requires ready { CanShare S.tells crew.now.numbers.callers (core_of S.opens I.index (S.view core.records.store) core) }
     ensures works { Wrote K.tells (K.written sink.old) (K.written sink.new) (K.faults sink.old) (K.faults sink.new)

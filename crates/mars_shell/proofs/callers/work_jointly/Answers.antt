@@ -10,7 +10,7 @@ pub work-requires-clause-few : goal.work-requires-clause-few
 work-requires-clause-few g c κs within =
     let read = c.in-Ok.ensures in
     let counted : length c.in-Ok.script.plans.items ≡ c.args.crew.now.numbers.callers = ap length read.3 ∙ as_many 0 c.args.crew.now.numbers.callers read.0 in
-    omega (arith, counted, c.requires.ready.enough, (g.S.EawStore.view c.args.core.records.store).shape.in_range.most_numbers)
+    omega (arith, counted, c.requires.few)
 
 pub work-requires-clause-ready : goal.work-requires-clause-ready
 work-requires-clause-ready g c κs within =

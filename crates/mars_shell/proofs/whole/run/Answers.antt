@@ -13,7 +13,7 @@ use Rattle.mars_shell.specs.Run.{TakesTurns, Answers}
 use Rattle.mars_shell.specs.Served.{TakesTurnsFor}
 use Rattle.mars_shell.proofs.Completing.{words_say, callers_say, nothing_read, complete_of, complete_records}
 use Rattle.mars_shell.proofs.Outcomes.{turns_only, turns_spared}
-use Rattle.mars_shell.proofs.Waiting.{run_depth, callers_depth, drill_depth}
+use Rattle.mars_shell.proofs.Waiting.{run_depth, callers_depth, callers_few, drill_depth}
 use Rattle.mars_shell.proofs.whole.run.Goals as goal
 
 pub returns-in-Err-NoCommand-clause-words : goal.returns-in-Err-NoCommand-clause-words
@@ -294,6 +294,9 @@ returns-in-Ok-Format-clause-dumps g c = words_say (map string_bytes c.args.words
 
 pub over_records-requires-clause-depth : goal.over_records-requires-clause-depth
 over_records-requires-clause-depth g c = λ κs lives. run_depth (map string_bytes c.args.words.now) c.in-Ok-Run.options (rw c.in-Ok-Run.field-0-is at c.in-Ok-Run.ensures.asked)
+
+pub run_callers-requires-clause-few : goal.run_callers-requires-clause-few
+run_callers-requires-clause-few g c = λ κs lives. callers_few (map string_bytes c.args.words.now) c.in-Ok-Callers.numbers (rw c.in-Ok-Callers.field-0-is at c.in-Ok-Callers.ensures.asked)
 
 pub run_callers-requires-clause-depth : goal.run_callers-requires-clause-depth
 run_callers-requires-clause-depth g c = λ κs lives. callers_depth (map string_bytes c.args.words.now) c.in-Ok-Callers.numbers (rw c.in-Ok-Callers.field-0-is at c.in-Ok-Callers.ensures.asked)

@@ -47,6 +47,7 @@ returns-in-Ok g c = record {
       refl (length c.self.inside.seats) (length c.end.new.self) c.end.ensures.count c.self.inside.base c.self.invariant
       (subst (λ (h : Held g.row.S.Denot). IsAlive (g.S.EawStore.view h.records.store)) (sym c.self.view_is) c.requires.alive) c.args.caller (calls_at c.self.inside.seats c.args.caller) (live_is c.self.inside.seats c.args.caller (sym c.if-not-is_live.ensures)) refl refl c.in-Ok.ensures.does c.end.ensures.live);
   not_busy = refl;
+  begun = λ _. subst (λ (h : Held g.row.S.Denot). is_some ((core_of g.S.EawStore.opens g.K.KeyIndex.index (g.S.EawStore.view h.records.store) h).state.live c.args.caller) ≡ true) c.self.view_is (sym c.if-not-is_live.ensures);
 }
 
 pub returns-in-Err : goal.returns-in-Err

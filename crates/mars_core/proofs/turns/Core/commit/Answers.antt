@@ -1,7 +1,8 @@
 use Rattle.caller_steps.specs.Fate.{is_busy}
 use Rattle.mars_core.proofs.Answered.{fault_plain}
-use Rattle.std.proofs.Common.{◌≡◌, ◌<◌, ℕ, ◌+◌, List, Option, Some, None, nat_eq, length, Result, Err, ap, subst, sym, ◌∙◌, refl}
-use Rattle.std.specs.Prelude.{IsNone}
+use Rattle.std.proofs.lemmas.Bool.{true≢false}
+use Rattle.std.proofs.Common.{true, ◌≡◌, ◌<◌, ℕ, ◌+◌, List, Option, Some, None, nat_eq, length, Result, Err, ap, subst, sym, ◌∙◌, refl}
+use Rattle.std.specs.Prelude.{IsNone, is_some}
 use Rattle.std.specs.Map.{update}
 use Rattle.std.specs.Option.{option_to_list}
 use Rattle.eaw_face.specs.Causes.{IsAlive}
@@ -48,6 +49,7 @@ returns-in-Err g c = record {
       (c.put.ensures.live ∙ ap (λ (cs : Granted). update nat_eq (live_in c.take.new.self) c.args.caller (Some cs)) (c.of.ensures ∙ ap (λ (d : Done). d.calls) c.in-Err.ensures.given_back ∙ c.into_calls.ensures)) (sym c.take.ensures.live ∙ c.in-Some.is) in
       λ j. state_at g.K.KeyIndex.index (g.S.EawStore.view c.self.inside.records.store) (table_of c.self.inside.base) (c.in-Err.ensures.err j) (back j) c.self.inside.doubt));
   not_busy = refl;
+  begun = λ _. subst (λ (h : Held g.row.S.Denot). is_some ((core_of g.S.EawStore.opens g.K.KeyIndex.index (g.S.EawStore.view h.records.store) h).state.live c.args.caller) ≡ true) c.self.view_is (ap (λ (o : Option Granted). is_some o) (sym c.take.ensures.live ∙ c.in-Some.is));
 }
 
 pub invariant_of-self-in-Ok-commit : goal.invariant_of-self-in-Ok-commit
@@ -66,6 +68,7 @@ returns-in-Ok-commit g c = record {
       refl (length c.self.inside.seats) (length c.take.new.self) c.take.ensures.out.count c.self.inside.base c.self.invariant
       (subst (λ (h : Held g.row.S.Denot). IsAlive (g.S.EawStore.view h.records.store)) (sym c.self.view_is) c.requires.alive) c.args.caller c.in-Some.live (sym c.take.ensures.live ∙ c.in-Some.is) (record { caller = c.args.caller; calls = c.into_calls.result; at = length c.as_slice.result.now + 1 }) (λ j. record { caller = c.args.caller; calls = c.into_calls.ensures j; at = length (c.as_slice.ensures j) + 1 }) 0 (c.in-Ok-commit.ensures.does 0) c.take.ensures.out.live c.in-Ok.ensures.ok refl (length c.as_slice.result.now + 1) (ap (λ (hs : List Done). length hs + 1) c.as_slice.ensures));
   not_busy = refl;
+  begun = λ _. subst (λ (h : Held g.row.S.Denot). is_some ((core_of g.S.EawStore.opens g.K.KeyIndex.index (g.S.EawStore.view h.records.store) h).state.live c.args.caller) ≡ true) c.self.view_is (ap (λ (o : Option Granted). is_some o) (sym c.take.ensures.live ∙ c.in-Some.is));
 }
 
 pub invariant_of-self-in-Err-commit : goal.invariant_of-self-in-Err-commit
@@ -89,6 +92,7 @@ returns-in-Err-commit g c = record {
       (subst (λ (h : Held g.row.S.Denot). IsAlive (g.S.EawStore.view h.records.store)) (sym c.self.view_is) c.requires.alive) c.args.caller c.in-Some.live (sym c.take.ensures.live ∙ c.in-Some.is) (record { caller = c.args.caller; calls = c.into_calls.result; at = length c.as_slice.result.now + 1 }) (λ j. record { caller = c.args.caller; calls = c.into_calls.ensures j; at = length (c.as_slice.ensures j) + 1 }) (subst (λ (f : TableFault). Does g.S.EawStore.tells (g.S.EawStore.opens (g.S.EawStore.view c.self.inside.records.store).shape) g.K.KeyIndex.index 0 c.args.caller Commit
       (pages_of (g.S.EawStore.view c.self.inside.records.store) c.self.inside.records) (pages_of (g.S.EawStore.view c.commit.new.self.store) c.commit.new.self) (Err f)) (commit_fails g.S.EawStore.tells g.K.KeyIndex.index (pages_of (g.S.EawStore.view c.self.inside.records.store) c.self.inside.records) c.args.caller (subst (λ (h : Held g.row.S.Denot). IsAlive (g.S.EawStore.view h.records.store)) (sym c.self.view_is) c.requires.alive) c.in-Err-commit.fault (c.in-Err-commit.ensures.does 0).cause) (c.in-Err-commit.ensures.does 0)) c.take.ensures.out.live (sym (last_is c.self.inside.history c.pop.new.self (record { caller = c.args.caller; calls = c.into_calls.result; at = length c.as_slice.result.now + 1 }) c.pop.result (sym c.in-Ok.ensures.ok ∙ c.pop.ensures.last) (λ none. sym c.in-Ok.ensures.ok ∙ c.pop.ensures.empty.0 (subst (λ (o : Option Done). IsNone o) (sym none) refl))).0) (c.holding.ensures ∙ ap option_to_list (last_is c.self.inside.history c.pop.new.self (record { caller = c.args.caller; calls = c.into_calls.result; at = length c.as_slice.result.now + 1 }) c.pop.result (sym c.in-Ok.ensures.ok ∙ c.pop.ensures.last) (λ none. sym c.in-Ok.ensures.ok ∙ c.pop.ensures.empty.0 (subst (λ (o : Option Done). IsNone o) (sym none) refl))).1) (λ told. c.commit.ensures.due told (subst (λ (h : Held g.row.S.Denot). IsAlive (g.S.EawStore.view h.records.store)) (sym c.self.view_is) c.requires.alive) (c.in-Err-commit.is ∙ ap (λ (f : TableFault). (let r : Result (Unit {0}) TableFault = Err f in r)) (commit_fails g.S.EawStore.tells g.K.KeyIndex.index (pages_of (g.S.EawStore.view c.self.inside.records.store) c.self.inside.records) c.args.caller (subst (λ (h : Held g.row.S.Denot). IsAlive (g.S.EawStore.view h.records.store)) (sym c.self.view_is) c.requires.alive) c.in-Err-commit.fault (c.in-Err-commit.ensures.does 0).cause)))));
   not_busy = ap is_busy c.from.ensures ∙ fault_plain c.in-Err-commit.fault;
+  begun = λ _. subst (λ (h : Held g.row.S.Denot). is_some ((core_of g.S.EawStore.opens g.K.KeyIndex.index (g.S.EawStore.view h.records.store) h).state.live c.args.caller) ≡ true) c.self.view_is (ap (λ (o : Option Granted). is_some o) (sym c.take.ensures.live ∙ c.in-Some.is));
 }
 
 pub take-requires : goal.take-requires
@@ -125,4 +129,5 @@ returns-in_default g c =
           (subst (λ (h : Held g.row.S.Denot). IsAlive (g.S.EawStore.view h.records.store)) (sym c.self.view_is) c.requires.alive) c.args.caller Commit (sym c.take.ensures.live ∙ c.in_default.is) (refl, refl) _
           (ap (λ (live : ℕ → Option Granted). state_at g.K.KeyIndex.index (g.S.EawStore.view c.self.inside.records.store) (table_of c.self.inside.base) c.self.inside.history live c.self.inside.doubt) same));
       not_busy = refl;
+      begun = λ granted. absurd (true≢false granted);
     }

@@ -1,0 +1,134 @@
+-- What passes have of the stripes covers what their live transactions touched.
+use Rattle.std.proofs.Common.{◌≡◌, ◌≢◌, ◌⊎◌, ◌||◌, ℕ, ◌+◌, ◌*◌, ◌%◌, ◌<◌, ◌≤◌, mod-lt, eqb, Bool, true, false, List, [], ◌∷◌, ◌++◌, length, get_or, Option, Some, None, unwrap_or, refl, sym, ap, ◌∙◌, subst, inl, inr, ⊎_elim, arith, eq-eqb, ne_eqb}
+use Rattle.std.specs.Prelude.{if◌then◌else◌, IsTrue, IsFalse, is_some}
+use Rattle.std.proofs.lemmas.Bool.{eqb-true, ltb-true, true≢false, false≢true, or_cases, or_parts, false_from_ne_true}
+use mathlib.Core.Logic.{dite}
+use mathlib.Core.Option.{some}
+use native.Mathlib.Decide.{ℕ_discrete}
+use lib.ListN.{get_elem?}
+use Rattle.history.specs.Table.{Granted}
+use Rattle.history.specs.Locks.{Touch, touches, touched, key_stripe, clash, is_touch}
+use Rattle.history.proofs.Modes.{clash_parts}
+use Rattle.history.specs.declared.call.Call.{Call}
+use Rattle.history.specs.declared.call.Call.TheVariants.{Begin, Get, Put, Del, Scan, Save, Back, Commit, Abort}
+use Rattle.history.specs.declared.call.Reply.{Reply}
+use Rattle.history.specs.declared.locks.Mode.{Mode}
+use Rattle.history.specs.declared.locks.Mode.TheVariants as mode
+use Rattle.history.proofs.OneMore.{touched-push}
+use Rattle.caller_steps.specs.State.{State, calls_of}
+use Rattle.caller_steps.specs.Locked.{IsLocked}
+use Rattle.caller_steps.specs.Fate.{is_refusal, is_media, live_with, Moves}
+use Rattle.stripe_words.specs.declared.hold.Hold.{Hold}
+use Rattle.stripe_words.specs.declared.hold.Hold.TheVariants.{Free, Trying, Shared, Exclusive}
+use Rattle.stripe_words.specs.Words.{granted, locked, Stands}
+use Rattle.mars_manager.specs.declared.view.Known.{Known}
+use Rattle.mars_manager.specs.declared.view.View.{View}
+use Rattle.mars_manager.specs.Pass.{live_of}
+use Rattle.mars_manager.specs.Locks.{IsCovered, hold_of}
+use Rattle.mars_manager.specs.Rule.{Face, HasAlone, AllHave, AreLocked}
+
+pub locked_granted : (x : Hold) → locked x ≡ 1 → granted x ≡ 1
+locked_granted Free e = absurd (omega arith)
+locked_granted Trying e = absurd (omega arith)
+locked_granted Shared e = absurd (omega arith)
+locked_granted Exclusive e = refl
+
+-- nothing is touched by no call
+pub covered_none : (holds : List Hold) → IsCovered (touched []) holds
+covered_none holds = record { reads = λ t e. absurd (false≢true e); writes = λ t e. absurd (false≢true e) }
+
+touched_parts : (calls : Granted) (call : Call) (reply : Reply) (t : ℕ) (m : Mode) → touched (calls ++ (call, reply) ∷ []) t m ≡ true → (touched calls t m ≡ true) ⊎ (touches call t m ≡ true)
+touched_parts calls call reply t m e = or_cases (touched calls t m) (touches call t m) (sym (ap (λ (f : Touch). f m) (touched-push calls call reply t)) ∙ e)
+
+covered_more : (calls : Granted) (call : Call) (reply : Reply) (holds : List Hold) → IsCovered (touched calls) holds → IsCovered (touches call) holds → IsCovered (touched (calls ++ (call, reply) ∷ [])) holds
+covered_more calls call reply holds a b = record {
+  reads = λ t e. ⊎_elim (a.reads t) (b.reads t) (touched_parts calls call reply t mode.Shared e);
+  writes = λ t e. ⊎_elim (a.writes t) (b.writes t) (touched_parts calls call reply t mode.Exclusive e);
+}
+
+-- a call that was done
+pub covered_with : (calls : Granted) (call : Call) (reply : Reply) (holds : List Hold) → IsCovered (touched calls) holds → IsCovered (touches call) holds → IsCovered (touched (unwrap_or (live_with calls call reply) [])) holds
+covered_with calls Begin reply holds a b = covered_none holds
+covered_with calls (Get key) reply holds a b = covered_more calls (Get key) reply holds a b
+covered_with calls (Put key value) reply holds a b = covered_more calls (Put key value) reply holds a b
+covered_with calls (Del key) reply holds a b = covered_more calls (Del key) reply holds a b
+covered_with calls (Scan low high) reply holds a b = covered_more calls (Scan low high) reply holds a b
+covered_with calls Save reply holds a b = covered_more calls Save reply holds a b
+covered_with calls (Back save) reply holds a b = covered_more calls (Back save) reply holds a b
+covered_with calls Commit reply holds a b = covered_none holds
+covered_with calls Abort reply holds a b = covered_none holds
+
+untouching : (call : Call) (holds : List Hold) → call ≡ Begin → IsCovered (touches call) holds
+untouching call holds e = subst (λ (c : Call). IsCovered (touches c) holds) (sym e) (record { reads = λ t z. absurd (false≢true z); writes = λ t z. absurd (false≢true z) })
+
+-- the call is covered if it was done: its caller is live, or it is a begin
+pub covered_call : (call : Call) (live : Option Granted) (holds : List Hold) → (IsTrue (is_some live) → IsCovered (touches call) holds) → IsTrue (is_some live) ⊎ (call ≡ Begin) → IsCovered (touches call) holds
+covered_call call live holds a b = ⊎_elim a (untouching call holds) b
+
+-- only stripes are touched
+pub small_touch : (call : Call) (t : ℕ) (m : Mode) → touches call t m ≡ true → t < 64
+small_touch Begin t m e = absurd (false≢true e)
+small_touch (Get key) t mode.Shared e = (let same = eqb-true (key_stripe key) t e in let small : (key % 64 + 8 * 0) % 64 < 64 = mod-lt (key % 64 + 8 * 0) (omega arith) in omega arith)
+small_touch (Get key) t mode.Exclusive e = absurd (false≢true e)
+small_touch (Put key value) t mode.Shared e = absurd (false≢true e)
+small_touch (Put key value) t mode.Exclusive e = (let same = eqb-true (key_stripe key) t e in let small : (key % 64 + 8 * 0) % 64 < 64 = mod-lt (key % 64 + 8 * 0) (omega arith) in omega arith)
+small_touch (Del key) t mode.Shared e = absurd (false≢true e)
+small_touch (Del key) t mode.Exclusive e = (let same = eqb-true (key_stripe key) t e in let small : (key % 64 + 8 * 0) % 64 < 64 = mod-lt (key % 64 + 8 * 0) (omega arith) in omega arith)
+small_touch (Scan low high) t mode.Shared e = ltb-true t 64 e
+small_touch (Scan low high) t mode.Exclusive e = absurd (false≢true e)
+small_touch Save t m e = absurd (false≢true e)
+small_touch (Back save) t m e = absurd (false≢true e)
+small_touch Commit t m e = absurd (false≢true e)
+small_touch Abort t m e = absurd (false≢true e)
+
+-- what a pass has that covers its call locks out all other live transactions
+module _ {C : Type 0} (f : Face C) (core : C) (k : Known C) (call : Call) (alone : HasAlone f core k) (c : IsCovered (touches call) k.holds) where
+  no_clash : (h t : ℕ) → h ≢ k.number → (writes reads : Bool) → touches call t mode.Exclusive ≡ writes → touches call t mode.Shared ≡ reads → clash (touches call t) (touched (calls_of (f.show core).state h) t) ≡ true → ⊥
+  no_clash h t ne writes reads w r e =
+      let theirs : Touch = touched (calls_of (f.show core).state h) t in
+      ⊎_elim
+      (λ (p : (touches call t mode.Exclusive ≡ true) × (is_touch theirs ≡ true)). false≢true (sym (alone.writes t h (small_touch call t mode.Exclusive p.0) ne (c.writes t p.0)) ∙ p.1))
+      (λ (p : (is_touch (touches call t) ≡ true) × (theirs mode.Exclusive ≡ true)).
+      ⊎_elim
+      (λ (read : touches call t mode.Shared ≡ true). false≢true (sym (alone.reads t h (small_touch call t mode.Shared read) ne (c.reads t read)) ∙ p.1))
+      (λ (write : touches call t mode.Exclusive ≡ true). false≢true (sym (alone.reads t h (small_touch call t mode.Exclusive write) ne (locked_granted (hold_of t k) (c.writes t write))) ∙ p.1))
+      (or_cases (touches call t mode.Shared) (touches call t mode.Exclusive) p.0))
+      (clash_parts (touches call t) theirs e)
+
+module _ {C : Type 0} (f : Face C) (core : C) (k : Known C) (call : Call) where
+  pub locked_by : (IsFalse (f.show core).state.is_dead → HasAlone f core k) → (IsTrue (is_some (live_of k)) → IsCovered (touches call) k.holds) → IsLocked (f.show core).state k.number call
+  locked_by alone has alive live h b =
+      let a = alone alive in
+      no_clash f core k call a (has (subst (λ (o : Option Granted). is_some o ≡ true) a.mine live)) h b.1.0 b.0 (touches call b.1.0 mode.Exclusive) (touches call b.1.0 mode.Shared) refl refl b.1.1
+
+own_covered : (old new : State) (n : ℕ) (call : Call) (reply : Reply) (holds : List Hold) → Moves old n call reply new → (IsTrue (is_some (old.live n)) → IsCovered (touches call) holds)
+    → (IsFalse (is_refusal reply) → IsTrue (is_some (old.live n)) ⊎ (call ≡ Begin)) → is_media reply ≡ false → (b : Bool) → is_refusal reply ≡ b → IsCovered (touched (calls_of old n)) holds → IsCovered (touched (calls_of new n)) holds
+own_covered old new n call reply holds m call_covered begun sure true is c = subst (λ (live : Option Granted). IsCovered (touched (unwrap_or live [])) holds) (sym (ap (λ (f : ℕ → Option Granted). f n) (m.refused is sure))) c
+own_covered old new n call reply holds m call_covered begun sure false is c = subst (λ (live : Option Granted). IsCovered (touched (unwrap_or live [])) holds) (sym (m.own is))
+    (covered_with (calls_of old n) call reply holds c (covered_call call (old.live n) holds call_covered (begun is)))
+
+module _ {C : Type 0} (callers : ℕ) where
+  -- the words of the stripes stay, and the passes have what they had
+  pub locked_same : (state : State) (holds : ℕ → List Hold) (words words' : List ℕ) (views views' : List (View C)) → AreLocked callers state holds words views → ((t : ℕ) → t < 64 → get_or words' t 0 ≡ get_or words t 0)
+      → ((i : ℕ) (v : View C) → get_elem? views' i ≡ some v → AllHave holds v.passes) → AreLocked callers state holds words' views'
+  locked_same state holds words words' views views' h same have = record {
+    have = have;
+    strangers = h.strangers;
+    long = h.long;
+    stripes = λ t l. subst (λ w. Stands w (λ n. get_or (holds n) t Free)) (sym (same t l)) (h.stripes t l);
+    covered = h.covered;
+  }
+
+  -- a call of the pass n, which has what the call touches
+  pub locked_step : (old new : State) (holds : ℕ → List Hold) (words : List ℕ) (views : List (View C)) (n : ℕ) (call : Call) (reply : Reply) → AreLocked callers old holds words views → Moves old n call reply new
+      → (IsFalse old.is_dead → IsTrue (is_some (old.live n)) → IsCovered (touches call) (holds n)) → (IsFalse (is_refusal reply) → IsTrue (is_some (old.live n)) ⊎ (call ≡ Begin)) → AreLocked callers new holds words views
+  locked_step old new holds words views n call reply h m call_covered begun = record {
+    have = h.have;
+    strangers = h.strangers;
+    long = h.long;
+    stripes = h.stripes;
+    covered = λ alive k. (let both = or_parts old.is_dead (is_media reply) (sym m.dead ∙ alive) in
+        dite (ℕ_discrete k n)
+        (λ (e : k ≡ n). subst (λ i. IsCovered (touched (calls_of new i)) (holds i)) (sym e) (own_covered old new n call reply (holds n) m (call_covered both.0) begun both.1 (is_refusal reply) refl (h.covered both.0 n)))
+        (λ (ne : k ≢ n). subst (λ (live : Option Granted). IsCovered (touched (unwrap_or live [])) (holds k)) (sym (m.others k ne)) (h.covered both.0 k)));
+  }

@@ -1,0 +1,170 @@
+-- What a whole call guarantees: what it locks, its turn, and what it gives back.
+use Rattle.std.proofs.Common.{◌≡◌, ◌≢◌, ◌&&◌, ℕ, ◌+◌, ◌<◌, ◌≤◌, not, Bool, true, false, List, [], ◌∷◌, ◌++◌, length, get_or, replicate, Option, Some, None, unwrap_or, Result, Ok, Err, ⊎_elim, refl, sym, ap, ◌∙◌, subst, arith}
+use Rattle.std.specs.Prelude.{IsTrue, IsFalse, IfOk, is_some, MatchBool, if◌then◌else◌}
+use Rattle.std.proofs.lemmas.Bool.{true≢false, false≢true, cond-true, cond-false}
+use Rattle.std.specs.List.{fold}
+use mathlib.Core.List.{append-nil}
+use Rattle.history.specs.Table.{Granted}
+use Rattle.history.specs.Locks.{Touch, touches, touched}
+use Rattle.history.specs.declared.call.Call.{Call}
+use Rattle.history.specs.declared.call.Call.TheVariants.{Begin, Get, Put, Del, Scan, Save, Back, Commit, Abort}
+use Rattle.history.specs.declared.call.Reply.{Reply}
+use Rattle.history.specs.declared.call.Reply.TheVariants as says
+use Rattle.history.specs.declared.locks.Mode.TheVariants as mode
+use Rattle.caller_steps.specs.Core.{CoreView}
+use Rattle.caller_steps.specs.Fate.{is_refusal, is_media, is_busy, is_committed, live_with}
+use Rattle.caller_steps.specs.Own.{Own, own_after, nothing_own, is_commit, live_after, live_by}
+use Rattle.caller_steps.specs.Prefix.{Grows}
+use Rattle.stripe_words.specs.declared.hold.Hold.{Hold}
+use Rattle.stripe_words.specs.declared.hold.Hold.TheVariants.{Free, Trying, Shared, Exclusive}
+use Rattle.stripe_words.specs.Words.{granted, locked, raised}
+use Rattle.mars_manager.specs.declared.view.Known.{Known}
+use Rattle.mars_manager.specs.declared.view.Met.{Met}
+use Rattle.mars_manager.specs.Pass.{told_of, live_of, known_after, finds}
+use Rattle.mars_manager.specs.Locks.{IsCovered, IsBelow, raised_for, is_end, is_live_after, steps_of, touched_by, hold_of, with_holds, with_locks, HasLockedFor, HasReadied, HasAfter, IsAgain}
+use Rattle.mars_manager.specs.Sharing.{Called, Commits, IsLegalIn, HasCommitted, mine_of}
+use Rattle.mars_manager.specs.Seat.{HasMade}
+use Rattle.mars_manager.proofs.Knowns.{below_raised, below_same}
+use Rattle.mars_manager.proofs.Locked.{covered_with, covered_none}
+
+fold-push : {A X : Type 0} (f : A → X → A) → (a : A) (xs : List X) (x : X) → fold f a (xs ++ x ∷ []) ≡ f (fold f a xs) x
+fold-push f a [] x = refl
+fold-push f a (y ∷ xs) x = fold-push f (f a y) xs x
+
+-- what a pass locks for a call covers the call
+raised_reads : (touch : Touch) (x : Hold) → touch mode.Shared ≡ true → granted (raised_for touch x) ≡ 1
+raised_reads touch x e = go (touch mode.Exclusive) (touch mode.Shared) x e
+  where
+    go : (writes reads : Bool) (x : Hold) → reads ≡ true → granted (if writes then raised mode.Exclusive x else if reads then raised mode.Shared x else x) ≡ 1
+    go true reads x e = refl
+    go false true Free e = refl
+    go false true Trying e = refl
+    go false true Shared e = refl
+    go false true Exclusive e = refl
+    go false false x e = absurd (false≢true e)
+
+raised_writes : (touch : Touch) (x : Hold) → touch mode.Exclusive ≡ true → locked (raised_for touch x) ≡ 1
+raised_writes touch x e = go (touch mode.Exclusive) (touch mode.Shared) x e
+  where
+    go : (writes reads : Bool) (x : Hold) → writes ≡ true → locked (if writes then raised mode.Exclusive x else if reads then raised mode.Shared x else x) ≡ 1
+    go true reads x e = refl
+    go false reads x e = absurd (false≢true e)
+
+-- whether a caller is live after a call
+live_some : (calls : Granted) (call : Call) (reply : Reply) → is_some (live_with calls call reply) ≡ not (is_end call)
+live_some calls Begin reply = refl
+live_some calls (Get key) reply = refl
+live_some calls (Put key value) reply = refl
+live_some calls (Del key) reply = refl
+live_some calls (Scan low high) reply = refl
+live_some calls Save reply = refl
+live_some calls (Back save) reply = refl
+live_some calls Commit reply = refl
+live_some calls Abort reply = refl
+
+lives : (o : Option Granted) (call : Call) (reply : Reply) → is_some (live_after o call reply) ≡ is_live_after (is_some o) call reply
+lives o call reply = go (is_media reply) (is_commit call) (is_refusal reply) (is_some o) refl
+  where
+    media : (commit live : Bool) → is_some o ≡ live → is_some (if commit then None else o) ≡ (live && not commit)
+    media true true e = refl
+    media true false e = refl
+    media false true e = e
+    media false false e = e
+
+    go : (media_ commit refused live : Bool) → is_some o ≡ live → is_some (if media_ then (if commit then None else o) else (if refused then o else live_with (unwrap_or o []) call reply)) ≡ (if media_ then is_some o && not commit else (if refused then is_some o else not (is_end call)))
+    go true commit refused live e = media commit live e ∙ ap (λ b. b && not commit) (sym e)
+    go false commit true live e = refl
+    go false commit false live e = live_some (unwrap_or o []) call reply
+
+-- what covers a transaction before a call that is refused, or what it touches too, covers it after the call
+covered_live : (o : Option Granted) (call : Call) (reply : Reply) (hs : List Hold) → IsCovered (touched (unwrap_or o [])) hs → (is_refusal reply ≡ false → IsCovered (touches call) hs) → (media_ commit refused : Bool) → is_refusal reply ≡ refused
+    → IsCovered (touched (unwrap_or (if media_ then (if commit then None else o) else (if refused then o else live_with (unwrap_or o []) call reply)) [])) hs
+covered_live o call reply hs a b true true refused e = covered_none hs
+covered_live o call reply hs a b true false refused e = a
+covered_live o call reply hs a b false commit true e = a
+covered_live o call reply hs a b false commit false e = covered_with (unwrap_or o []) call reply hs a (b e)
+
+pub if_ok : {A B : Type 0} (P Q : A → Type 0) (r : Result A B) → ((a : A) → P a → Q a) → IfOk r P → IfOk r Q
+if_ok P Q (Ok a) h p = h a p
+if_ok P Q (Err b) h p = tt
+
+module _ {C : Type 0} where
+  -- the live transaction after one more turn
+  pub live_on : (was now : Known C) (call : Call) (reply : Reply) → now.number ≡ was.number → told_of now ≡ told_of was ++ (call, reply) ∷ [] → live_of now ≡ live_after (live_of was) call reply
+  live_on was now call reply number told =
+      (λ i. live_by (number i) (told i)) ∙ ap (λ (o : Own). o.live) (fold-push (own_after was.number) nothing_own (told_of was) (call, reply))
+
+  pub lives_on : (was now : Known C) (call : Call) (reply : Reply) → now.number ≡ was.number → told_of now ≡ told_of was ++ (call, reply) ∷ [] → is_some (live_of now) ≡ is_live_after (is_some (live_of was)) call reply
+  lives_on was now call reply number told = ap (λ (o : Option Granted). is_some o) (live_on was now call reply number told) ∙ lives (live_of was) call reply
+
+  pub covered_on : (was now : Known C) (call : Call) (reply : Reply) (hs : List Hold) → now.number ≡ was.number → told_of now ≡ told_of was ++ (call, reply) ∷ [] → IsCovered (touched_by was) hs → (is_refusal reply ≡ false → IsCovered (touches call) hs) → IsCovered (touched_by now) hs
+  covered_on was now call reply hs number told a b = subst (λ (o : Option Granted). IsCovered (touched (unwrap_or o [])) hs) (sym (live_on was now call reply number told))
+      (covered_live (live_of was) call reply hs a b (is_media reply) (is_commit call) (is_refusal reply) refl)
+
+  -- what a call locks
+  pub readied : (call : Call) (was now : Known C) → ((t : ℕ) → hold_of t was ≢ Trying) → HasLockedFor call was now → IsTrue (is_some (live_of was)) → HasReadied call was now
+  readied call was now settled h live = record {
+    more = h.more;
+    same = h.same;
+    below = λ t. subst (IsBelow (hold_of t was)) (sym (h.each t)) (below_raised (touches call t) (hold_of t was) (settled t));
+    covered = λ _. record {
+      reads = λ t e. ap granted (h.each t) ∙ raised_reads (touches call t) (hold_of t was) e;
+      writes = λ t e. ap locked (h.each t) ∙ raised_writes (touches call t) (hold_of t was) e;
+    };
+    each = λ _ t. h.each t;
+    idle = λ dead. absurd (true≢false (sym live ∙ dead));
+  }
+
+  pub unreadied : (call : Call) (was : Known C) → ((t : ℕ) → hold_of t was ≢ Trying) → IsFalse (is_some (live_of was)) → HasReadied call was was
+  unreadied call was settled dead = record {
+    more = [];
+    same = λ i. with_locks was.holds (sym (append-nil was.met) i) was;
+    below = λ t. below_same (hold_of t was) (settled t);
+    covered = λ live. absurd (true≢false (sym live ∙ dead));
+    each = λ live. absurd (true≢false (sym live ∙ dead));
+    idle = λ _. refl;
+  }
+
+  module _ (tells : Bool) (show : C → CoreView) (k k1 k2 : Known C) (call : Call) (reply : Reply) (r : HasReadied call k k1) (m : HasMade tells show k1 call reply k2) where
+    -- a call is a step, whatever is locked before it and given back after it
+    pub called_locks : (k3 : Known C) (hs : List Hold) → k3 ≡ with_holds hs k2 → Called tells show k call reply k3
+    called_locks k3 hs e =
+        let c : Called tells show (with_locks k1.holds (k.met ++ r.more) k) call reply k2 = subst (λ (j : Known C). Called tells show j call reply k2) r.same m.called in
+        let holds : k3.holds ≡ hs = ap (λ (j : Known C). j.holds) e in
+        let met : k3.met ≡ k2.met = ap (λ (j : Known C). j.met) e in record {
+          setup = c.setup;
+          turns = c.turns;
+          old = c.old;
+          new = c.new;
+          setup_is = c.setup_is;
+          since = c.since;
+          comes = c.comes;
+          whose = c.whose;
+          ready = c.ready;
+          last = c.last;
+          steps = c.steps;
+          dead = c.dead;
+          after = e ∙ ap (with_holds hs) c.after ∙ (λ i. with_locks (sym holds i) (sym met i) (known_after k c.turns (show c.new).state call reply));
+        }
+
+    pub after_refusal : (k3 : Known C) → is_refusal reply ≡ true → k3.holds ≡ k.holds → HasAfter call reply k k3
+    after_refusal k3 e h = subst (λ b. MatchBool b (k3.holds ≡ k.holds) (MatchBool (is_end call) (k3.holds ≡ replicate 64 Free) ((t : ℕ) → hold_of t k3 ≡ raised_for (touches call t) (hold_of t k)))) (sym e) h
+
+    pub after_end : (k3 : Known C) → is_refusal reply ≡ false → is_end call ≡ true → k3.holds ≡ replicate 64 Free → HasAfter call reply k k3
+    after_end k3 e d h = subst (λ b. MatchBool b (k3.holds ≡ k.holds) (MatchBool (is_end call) (k3.holds ≡ replicate 64 Free) ((t : ℕ) → hold_of t k3 ≡ raised_for (touches call t) (hold_of t k)))) (sym e)
+        (subst (λ b. MatchBool b (k3.holds ≡ replicate 64 Free) ((t : ℕ) → hold_of t k3 ≡ raised_for (touches call t) (hold_of t k))) (sym d) h)
+
+    same_live : live_of k1 ≡ live_of k
+    same_live = ap (λ (j : Known C). live_of j) r.same
+
+    each_if : (b : Bool) → is_some (live_of k) ≡ b → is_refusal reply ≡ false → (t : ℕ) → hold_of t k2 ≡ raised_for (touches call t) (hold_of t k)
+    each_if true live e t = ap (λ hs. get_or hs t Free) m.holds ∙ r.each live t
+    each_if false dead e t = ap (λ hs. get_or hs t Free) m.holds ∙ ap (λ hs. get_or hs t Free) (r.idle dead)
+        ∙ sym (⊎_elim
+        (λ (live : IsTrue (is_some (live_of k1))). absurd (true≢false (sym live ∙ ap (λ (o : Option Granted). is_some o) same_live ∙ dead)))
+        (λ (begin : call ≡ Begin). ap (λ (c : Call). raised_for (touches c t) (hold_of t k)) begin)
+        (m.begun e))
+
+    pub after_done : is_refusal reply ≡ false → is_end call ≡ false → HasAfter call reply k k2
+    after_done e d = subst (λ b. MatchBool b (k2.holds ≡ k.holds) (MatchBool (is_end call) (k2.holds ≡ replicate 64 Free) ((t : ℕ) → hold_of t k2 ≡ raised_for (touches call t) (hold_of t k)))) (sym e)
+        (subst (λ b. MatchBool b (k2.holds ≡ replicate 64 Free) ((t : ℕ) → hold_of t k2 ≡ raised_for (touches call t) (hold_of t k))) (sym d) (each_if (is_some (live_of k)) refl e))

@@ -1,0 +1,278 @@
+-- Each step on the word of a stripe keeps the rule.
+use Rattle.std.proofs.Common.{◌≡◌, ◌≢◌, ◌⊎◌, ℕ, ◌+◌, ◌/◌, ◌^◌, ◌<◌, ◌≤◌, eqb, Bool, List, [], ◌∷◌, length, set, get_or, replicate, Option, Some, None, unwrap_or, refl, sym, ap, ◌∙◌, subst, inl, inr, ⊎_elim, arith, w64, length-set, get_or-set_same, get_or-set_other, eq-eqb, ne_eqb}
+use Rattle.std.specs.Prelude.{if◌then◌else◌}
+use Rattle.std.specs.Int.{bit_not}
+use Rattle.std.specs.Int.RustNames.{bit_or}
+use lib.Bits.{bit_and}
+use mathlib.Core.Logic.{dite}
+use mathlib.Core.Option.{some, none}
+use native.Mathlib.Decide.{ℕ_discrete}
+use lib.ListN.{get_elem?}
+use prog.Atomic.{either}
+use Rattle.history.specs.Table.{Granted}
+use Rattle.history.specs.Locks.{touched}
+use Rattle.atomic_table.specs.Table.{step, Act, keeps, stepped, Valid, carried_after, Allows}
+use Rattle.atomic_table.proofs.Lists.{exchanged, set_else}
+use Rattle.stripe_words.specs.declared.hold.Hold.{Hold}
+use Rattle.stripe_words.specs.declared.hold.Hold.TheVariants.{Free, Trying, Shared, Exclusive}
+use Rattle.stripe_words.specs.Words.{Stands, gained, marked, locked}
+use Rattle.stripe_words.proofs.Steps.{stands_same, is_word, marks_word, undoes_word, unlocks_word, backs_word, locks_word, finds_other, finds_lock}
+use Rattle.mars_manager.specs.declared.view.Known.{Known}
+use Rattle.mars_manager.specs.declared.view.Stage.TheVariants as stage
+use Rattle.mars_manager.specs.declared.view.View.{View}
+use Rattle.mars_manager.specs.declared.setup.Setup.{Setup}
+use Rattle.mars_manager.specs.Pass.{Fits, AllFit, times}
+use Rattle.mars_manager.specs.Locks.{IsCovered, IsPass, touched_by, hold_of, with_hold, noted, marked_by, excluded_by, IsUnwritten, IsUntouched}
+use Rattle.mars_manager.specs.Seat.{TableOf, SeatOf, IsSeat, IsIdle, first_of, seat_of, shared_view}
+use Rattle.mars_manager.specs.Rule.{Face, AllHave, IsFree, IsHeld, IsKept, Rule, marks, excludes, releases, backs}
+use Rattle.mars_manager.proofs.Seats.{times_first, inside, each_set}
+use Rattle.mars_manager.proofs.Knowns.{Covered, Moves, number_moves, moves_mark, moves_exclude, moves_note, moves_release, moves_undo, moves_back}
+use Rattle.mars_manager.proofs.Turns.{some≢none, is_open, same_at, same_count, number_below, one_seat, live_at}
+
+-- what all passes have where that of one has changed
+now_holds : (ℕ → List Hold) → ℕ → List Hold → ℕ → List Hold
+now_holds holds number hs n = if eqb n number then hs else holds n
+
+now_own : (holds : ℕ → List Hold) (number : ℕ) (hs : List Hold) → now_holds holds number hs number ≡ hs
+unfolding now_holds
+now_own holds number hs = ap (λ b. if b then hs else holds number) (eq-eqb number number refl)
+
+now_other : (holds : ℕ → List Hold) (number : ℕ) (hs : List Hold) (n : ℕ) → n ≢ number → now_holds holds number hs n ≡ holds n
+unfolding now_holds
+now_other holds number hs n ne = ap (λ b. if b then hs else holds n) (ne_eqb n number ne)
+
+-- a fact of what each has
+each_now : (P : ℕ → List Hold → Type 0) (holds : ℕ → List Hold) (number : ℕ) (hs : List Hold) → P number hs → ((n : ℕ) → P n (holds n)) → (n : ℕ) → P n (now_holds holds number hs n)
+each_now P holds number hs own all n = dite (ℕ_discrete n number)
+    (λ (e : n ≡ number). subst (λ m. P m (now_holds holds number hs m)) (sym e) (subst (P number) (sym (now_own holds number hs)) own))
+    (λ (ne : n ≢ number). subst (P n) (sym (now_other holds number hs n ne)) (all n))
+
+module _ {C : Type 0} where
+  others_have : (holds : ℕ → List Hold) (number : ℕ) (hs : List Hold) (ks : List (Known C)) → times number ks ≡ 0 → AllHave holds ks → AllHave (now_holds holds number hs) ks
+  others_have holds number hs [] z a = tt
+  others_have holds number hs (k ∷ ks) z a =
+      let ne : k.number ≢ number = (λ e. let one = times_first k ks in let same : times k.number (k ∷ ks) ≡ times number (k ∷ ks) = ap (λ n. times n (k ∷ ks)) e in absurd (omega arith)) in
+      (a.0 ∙ sym (now_other holds number hs k.number ne), others_have holds number hs ks (omega arith) a.1)
+
+  pub first_is : (n : ℕ) (m : SeatOf C) (i : IsSeat n m) → first_of m.0.passes ≡ i.known
+  first_is n m i = ap (λ (m : SeatOf C). first_of m.0.passes) i.is
+
+  pub at_known : (n : ℕ) (m : SeatOf C) (i : IsSeat n m) (t : ℕ) (x : Hold) → hold_of t (first_of m.0.passes) ≡ x → hold_of t i.known ≡ x
+  at_known n m i t x e = ap (hold_of t) (sym (first_is n m i)) ∙ e
+
+  pub number_is : (n : ℕ) (m : SeatOf C) (i : IsSeat n m) → (first_of m.0.passes).number ≡ n
+  number_is n m i = ap (λ (k : Known C). k.number) (first_is n m i) ∙ i.number
+
+  pub long_is : (n : ℕ) (m : SeatOf C) (i : IsSeat n m) → length (first_of m.0.passes).holds ≡ 64
+  long_is n m i = ap (λ (k : Known C). length k.holds) (first_is n m i) ∙ i.long
+
+  pub pass_is : (n : ℕ) (hs : List Hold) (live : Bool) (m : SeatOf C) → IsIdle n hs live m → IsPass (first_of m.0.passes)
+  pass_is n hs live m i = record { long = long_is n m i.seat; covered = subst (λ (k : Known C). IsCovered (touched_by k) k.holds) (sym (first_is n m i.seat)) i.seat.covered; settled = i.settled }
+
+  -- a seat after its pass has moved
+  pub seated : (n t : ℕ) (x : Hold) (m m' : SeatOf C) (i : IsSeat n m) (F : Known C → Known C) → m' ≡ seat_of (F (first_of m.0.passes)) → Moves t x i.known (F i.known) → IsSeat n m'
+  seated n t x m m' i F e mv = record { known = F i.known; is = e ∙ ap (λ (m : SeatOf C). seat_of (F (first_of m.0.passes))) i.is; number = number_moves t x i.known (F i.known) mv ∙ i.number; small = i.small; long = mv.long; covered = mv.covered }
+
+module _ {C : Type 0} (f : Face C) (setup : Setup C) where
+  -- a step on a stripe's word leaves the turn and the core
+  place_kept : (s : TableOf C) (core : C) (id t w : ℕ) (v u : View C) → t < 64 → get_elem? s.views id ≡ some v → v.held ≡ None → u.held ≡ None → IsFree core s ⊎ IsHeld core s → IsFree core (stepped s t w id [] u keeps) ⊎ IsHeld core (stepped s t w id [] u keeps)
+  place_kept s core id t w v u l at idle still place =
+      ⊎_elim
+      (λ (p : IsFree core s). inl (record {
+        turn = get_or-set_other s.words t 64 w 0 (λ e. omega arith) ∙ p.turn;
+        home = p.home;
+        nobody = each_set (λ i z. z.held ≡ None) s.views id u still (λ j z _ e. p.nobody j z e);
+      }))
+      (λ (p : IsHeld core s).
+      let ne : p.seat ≢ id = (λ e. some≢none core (sym p.holds ∙ ap (λ (u : View C). u.held) (same_at f setup s.views id p.holder v (subst (λ i. get_elem? s.views i ≡ some p.holder) e p.there) at) ∙ idle)) in
+      inr (record {
+        number = p.number;
+        seat = p.seat;
+        holder = p.holder;
+        turn = get_or-set_other s.words t 64 w 0 (λ e. omega arith) ∙ p.turn;
+        there = set_else s.views id p.seat u ne ∙ p.there;
+        holds = p.holds;
+        has = p.has;
+        others = λ i z apart e. each_set (λ i z. i ≢ p.seat → z.held ≡ None) s.views id u (λ _. still) (λ j z _ e apart. p.others j z apart e) i z e apart;
+      }))
+      place
+
+  moved_fit : (s : TableOf C) (h : IsKept f setup s) (t : ℕ) (x : Hold) (k k' : Known C) → Moves t x k k' → Fits f.tells f.show setup h.turns (f.show h.core).state k → Fits f.tells f.show setup h.turns (f.show h.core).state k'
+  moved_fit s h t x k k' m fit = subst (λ (j : Known C). Fits f.tells f.show setup h.turns (f.show h.core).state j) (sym m.same) (record { setup_is = fit.setup_is; last = fit.last; heard = fit.heard })
+
+  -- a step on a stripe's word changes what its pass has of the stripe
+  changed : (s : TableOf C) (id t w : ℕ) (x : Hold) (k k' : Known C) (h : IsKept f setup s) → t < 64 → get_elem? s.views id ≡ some (shared_view (k ∷ []) None) → Moves t x k k'
+      → ((has : ℕ → Hold) → has k.number ≡ x → ((n : ℕ) → n ≢ k.number → has n ≡ get_or (h.holds n) t Free) → Stands w has) → IsKept f setup (stepped s t w id [] (shared_view (k' ∷ []) None) keeps)
+  changed s id t w x k k' h l at m word =
+      let v : View C = shared_view (k ∷ []) None in
+      let u : View C = shared_view (k' ∷ []) None in
+      let number : k'.number ≡ k.number = number_moves t x k k' m in
+      let own : k.holds ≡ h.holds k.number = (h.locks.have id v at).0 in
+      let hs : ℕ → List Hold = now_holds h.holds k.number k'.holds in
+      let fit = moved_fit s h t x k k' m (h.fit id v at).0 in
+      let small : k.number < setup.callers = number_below f setup s h k.number id v at (times_first k []) in
+      let same_times : (n : ℕ) → times n (k' ∷ []) ≡ times n (k ∷ []) = (λ n. ap (λ i. (if eqb i n then 1 else 0) + 0) number) in
+      let counts = (λ (n : ℕ). same_count f setup n s.views id v u at (same_times n)) in record {
+        core = h.core;
+        turns = h.turns;
+        holds = hs;
+        wide = length-set s.words t w ∙ h.wide;
+        one = h.one;
+        told = get_or-set_other s.words t 65 w 0 (λ e. omega arith) ∙ h.told;
+        place = place_kept s h.core id t w v u l at refl refl h.place;
+        staged = each_set (λ i z. z.stage ≡ stage.Shared) s.views id u refl (λ j z _ e. h.staged j z e);
+        fit = each_set (λ i z. AllFit f.tells f.show setup h.turns (f.show h.core).state z.passes) s.views id u (fit, tt) (λ j z _ e. h.fit j z e);
+        once = λ n. (let t = counts n in let o = h.once n in omega arith);
+        below = λ n b. counts n ∙ h.below n b;
+        few = h.few;
+        ready = h.ready;
+        since = h.since;
+        run = h.run;
+        whose = h.whose;
+        locks = record {
+          have = each_set (λ i z. AllHave (now_holds h.holds k.number k'.holds) z.passes) s.views id u
+              (sym (ap (now_holds h.holds k.number k'.holds) number ∙ now_own h.holds k.number k'.holds), tt)
+              (λ j z ne e. others_have h.holds k.number k'.holds z.passes
+              (dite (ℕ_discrete (times k.number z.passes) 0) (λ (o : times k.number z.passes ≡ 0). o) (λ (nz : times k.number z.passes ≢ 0). absurd (ne (one_seat f setup s h k.number j id z v e at (omega arith) (times_first k [])))))
+              (h.locks.have j z e));
+          strangers = λ n le. now_other h.holds k.number k'.holds n (λ e. omega arith) ∙ h.locks.strangers n le;
+          long = each_now (λ n hs. length hs ≡ 64) h.holds k.number k'.holds m.long h.locks.long;
+          stripes = λ r lr. dite (ℕ_discrete r t)
+              (λ (e : r ≡ t). subst (λ i. Stands (get_or (set s.words t w) i 0) (λ n. get_or (now_holds h.holds k.number k'.holds n) i Free)) (sym e)
+              (subst (λ i. Stands i (λ n. get_or (now_holds h.holds k.number k'.holds n) t Free)) (sym (get_or-set_same s.words t w 0 (let z = h.wide in omega arith)))
+              (word (λ n. get_or (now_holds h.holds k.number k'.holds n) t Free) (ap (λ hs. get_or hs t Free) (now_own h.holds k.number k'.holds) ∙ m.here) (λ n ne. ap (λ hs. get_or hs t Free) (now_other h.holds k.number k'.holds n ne)))))
+              (λ (ne : r ≢ t). subst (λ i. Stands i (λ n. get_or (now_holds h.holds k.number k'.holds n) r Free)) (sym (get_or-set_other s.words t r w 0 ne))
+              (stands_same (get_or s.words r 0) (λ n. get_or (h.holds n) r Free) (λ n. get_or (now_holds h.holds k.number k'.holds n) r Free)
+              (each_now (λ n hs. get_or hs r Free ≡ get_or (h.holds n) r Free) h.holds k.number k'.holds (m.there r ne ∙ ap (λ hs. get_or hs r Free) own) (λ n. refl))
+              (h.locks.stripes r lr)));
+          covered = λ alive. each_now (λ n hs. IsCovered (touched (unwrap_or ((f.show h.core).state.live n) [])) hs) h.holds k.number k'.holds
+              (subst (λ (live : Option Granted). IsCovered (touched (unwrap_or live [])) k'.holds)
+              (sym (ap (λ (i : ℕ). (f.show h.core).state.live i) (sym number) ∙ live_at f setup h.turns h.core k' (h.ready.live k'.number) fit alive)) m.covered)
+              (h.locks.covered alive);
+        };
+      }
+
+  has_own : (s : TableOf C) (h : IsKept f setup s) (id t : ℕ) (k : Known C) (x : Hold) → get_elem? s.views id ≡ some (shared_view (k ∷ []) None) → hold_of t k ≡ x → get_or (h.holds k.number) t Free ≡ x
+  has_own s h id t k x at e = ap (λ hs. get_or hs t Free) (sym (h.locks.have id (shared_view (k ∷ []) None) at).0) ∙ e
+
+  small_at : (s : TableOf C) (h : IsKept f setup s) (id : ℕ) (k : Known C) → get_elem? s.views id ≡ some (shared_view (k ∷ []) None) → k.number < 32
+  small_at s h id k at = let l = number_below f setup s h k.number id (shared_view (k ∷ []) None) at (times_first k []) in let m = h.few in omega arith
+
+  marks_keeps : (slots id t n b : ℕ) (k : Known C) → t < 64 → k.number ≡ n → length k.holds ≡ 64 → Covered k → hold_of t k ≡ Free → b ≡ 2 ^ n
+      → Allows (Rule f setup) slots id (seat_of k) t (λ w. bit_or w b) (marks (step slots t b 0 none) (seat_of k))
+  marks_keeps slots id t n b k l is long c free bit s rule wide at small =
+      let h : IsKept f setup s = is_open f setup s id (shared_view (k ∷ []) None) rule at refl in
+      let w : ℕ = get_or s.words t 0 in
+      let few = small_at s h id k at in
+      let st = h.locks.stripes t l in
+      let free' = has_own s h id t k Free at free in
+      let has : ℕ → Hold = λ m. get_or (h.holds m) t Free in
+      let bit' : 2 ^ k.number ≡ b = ap (λ i. 2 ^ i) is ∙ sym bit in (
+        shared_view (marked_by t w k ∷ []) None,
+        keeps,
+        tt,
+        inr (inr (changed s id t (bit_or w b) (gained (eqb (w / 2 ^ 32) 0)) k (marked_by t w k) h l at (moves_mark t w k l long c free)
+            (λ has' own same. subst (λ i. Stands (bit_or w i) has') bit' (marks_word w k.number has has' few st free' own same)))),
+        (refl, record { word = is_word w has st; not_mine = st.locks k.number few ∙ ap locked free'; other = λ nz. finds_lock w k.number has few small st free' nz }),
+      )
+
+  Excluding : (s : TableOf C) (slots id t old new : ℕ) (k : Known C) → ℕ → Type 0
+  Excluding s slots id t old new k x = (w : View C) × (a : Act (Option C)) × Valid s.homes [] a × Rule f setup (stepped s t x id [] w a) × excludes (step slots t old new none) (seat_of k) (get_or s.words t 0) (w, carried_after [] a)
+
+  exclude_hit : (s : TableOf C) (slots id t old new : ℕ) (k : Known C) (h : IsKept f setup s) → t < 64 → length k.holds ≡ 64 → Covered k → old ≡ 2 ^ k.number → new ≡ bit_or (2 ^ k.number) (2 ^ (32 + k.number)) → get_elem? s.views id ≡ some (shared_view (k ∷ []) None) → get_or s.words t 0 ≡ old → Excluding s slots id t old new k new
+  unfolding Excluding
+  exclude_hit s slots id t old new k h l long c bit both at found =
+      let w : ℕ = get_or s.words t 0 in
+      let has : ℕ → Hold = λ m. get_or (h.holds m) t Free in (
+        shared_view (excluded_by t w k ∷ []) None,
+        keeps,
+        tt,
+        inr (inr (changed s id t new Exclusive k (excluded_by t w k) h l at (moves_exclude t w k l long c)
+            (λ has' own same. subst (λ i. Stands i has') (sym both) (locks_word w k.number has has' (small_at s h id k at) (h.locks.stripes t l) (found ∙ bit) own same)))),
+        ((λ _. refl), (λ ne. absurd (ne found))),
+      )
+
+  exclude_miss : (s : TableOf C) (slots id t old new : ℕ) (k : Known C) (h : IsKept f setup s) → t < 64 → length k.holds ≡ 64 → Covered k → hold_of t k ≡ Shared → old ≡ 2 ^ k.number → get_elem? s.views id ≡ some (shared_view (k ∷ []) None) → get_or s.words t 0 < 18446744073709551616 → get_or s.words t 0 ≢ old
+      → Excluding s slots id t old new k (get_or s.words t 0)
+  unfolding Excluding
+  exclude_miss s slots id t old new k h l long c mine bit at wide found =
+      let w : ℕ = get_or s.words t 0 in
+      let st = h.locks.stripes t l in
+      let mine' = has_own s h id t k Shared at mine in
+      let has : ℕ → Hold = λ m. get_or (h.holds m) t Free in (
+        shared_view (noted t w k ∷ []) None,
+        keeps,
+        tt,
+        inr (inr (changed s id t w (hold_of t k) k (noted t w k) h l at (moves_note t w k long c)
+            (λ has' own same. stands_same w has has' (λ n. dite (ℕ_discrete n k.number) (λ (e : n ≡ k.number). ap has' e ∙ own ∙ sym (has_own s h id t k (hold_of t k) at refl) ∙ ap has (sym e)) (λ (ne : n ≢ k.number). same n ne)) st))),
+        ((λ e. absurd (found e)), (λ _. (refl, record { word = is_word w has st; other = finds_other w k.number has (small_at s h id k at) wide st mine' (λ e. found (e ∙ sym bit)) }))),
+      )
+
+  excludes_keeps : (slots id t old new : ℕ) (k : Known C) → t < 64 → length k.holds ≡ 64 → Covered k → hold_of t k ≡ Shared → old ≡ 2 ^ k.number → new ≡ bit_or (2 ^ k.number) (2 ^ (32 + k.number))
+      → Allows (Rule f setup) slots id (seat_of k) t (λ w. either (eqb w old) new w) (excludes (step slots t old new none) (seat_of k))
+  unfolding Excluding
+  excludes_keeps slots id t old new k l long c mine bit both s rule wide at small =
+      let h : IsKept f setup s = is_open f setup s id (shared_view (k ∷ []) None) rule at refl in
+      exchanged (get_or s.words t 0) old new (Excluding s slots id t old new k) (exclude_hit s slots id t old new k h l long c bit both at) (exclude_miss s slots id t old new k h l long c mine bit at small)
+
+  -- a step that clears bits and leaves x
+  clears_keeps : (id t b : ℕ) (x : Hold) (k : Known C) → t < 64 → Moves t x k (with_hold t x k)
+      → ((w : ℕ) (has has' : ℕ → Hold) → k.number < 32 → Stands w has → has k.number ≡ hold_of t k → has' k.number ≡ x → ((n : ℕ) → n ≢ k.number → has' n ≡ has n) → Stands (bit_and w b) has')
+      → (s : TableOf C) → Rule f setup s → get_elem? s.views id ≡ some (shared_view (k ∷ []) None) → Rule f setup (stepped s t (bit_and (get_or s.words t 0) b) id [] (shared_view (with_hold t x k ∷ []) None) keeps)
+  clears_keeps id t b x k l m word s rule at =
+      let h : IsKept f setup s = is_open f setup s id (shared_view (k ∷ []) None) rule at refl in
+      let w : ℕ = get_or s.words t 0 in
+      let has : ℕ → Hold = λ m. get_or (h.holds m) t Free in
+      inr (inr (changed s id t (bit_and w b) x k (with_hold t x k) h l at m (λ has' own same. word w has has' (small_at s h id k at) (h.locks.stripes t l) (has_own s h id t k (hold_of t k) at refl) own same)))
+
+  undoes_keeps : (slots id t b : ℕ) (k : Known C) → t < 64 → length k.holds ≡ 64 → Covered k → hold_of t k ≡ Trying → b ≡ bit_not w64 (2 ^ k.number)
+      → Allows (Rule f setup) slots id (seat_of k) t (λ w. bit_and w b) (releases (step slots t b 0 none) (seat_of k))
+  undoes_keeps slots id t b k l long c try bit s rule wide at small = (
+    shared_view (with_hold t Free k ∷ []) None,
+    keeps,
+    tt,
+    clears_keeps id t b Free k l (moves_undo t k l long c try) (λ w has has' sm st own new same. subst (λ i. Stands (bit_and w i) has') (sym bit) (undoes_word w k.number has has' sm st (own ∙ try) new same)) s rule at,
+    refl,
+  )
+
+  releases_keeps : (slots id t b : ℕ) (k : Known C) → t < 64 → length k.holds ≡ 64 → Covered k → IsUntouched t k → b ≡ bit_not w64 (bit_or (2 ^ k.number) (2 ^ (32 + k.number)))
+      → Allows (Rule f setup) slots id (seat_of k) t (λ w. bit_and w b) (releases (step slots t b 0 none) (seat_of k))
+  releases_keeps slots id t b k l long c u bit s rule wide at small = (
+    shared_view (with_hold t Free k ∷ []) None,
+    keeps,
+    tt,
+    clears_keeps id t b Free k l (moves_release t k l long c u) (λ w has has' sm st own new same. subst (λ i. Stands (bit_and w i) has') (sym bit) (unlocks_word w k.number has has' sm st new same)) s rule at,
+    refl,
+  )
+
+  backs_keeps : (slots id t b : ℕ) (k : Known C) → t < 64 → length k.holds ≡ 64 → Covered k → hold_of t k ≡ Exclusive → IsUnwritten t k → b ≡ bit_not w64 (2 ^ (32 + k.number))
+      → Allows (Rule f setup) slots id (seat_of k) t (λ w. bit_and w b) (backs (step slots t b 0 none) (seat_of k))
+  backs_keeps slots id t b k l long c full u bit s rule wide at small = (
+    shared_view (with_hold t Shared k ∷ []) None,
+    keeps,
+    tt,
+    clears_keeps id t b Shared k l (moves_back t k l long c u) (λ w has has' sm st own new same. subst (λ i. Stands (bit_and w i) has') (sym bit) (backs_word w k.number has has' sm st (own ∙ full) new same)) s rule at,
+    refl,
+  )
+
+  -- the same at a seat of the pass with the number
+  pub marks_as : (slots id t n b : ℕ) (m : SeatOf C) (i : IsSeat n m) → t < 64 → hold_of t (first_of m.0.passes) ≡ Free → b ≡ 2 ^ n → Allows (Rule f setup) slots id m t (λ w. bit_or w b) (marks (step slots t b 0 none) m)
+  marks_as slots id t n b m i l free bit = subst (λ (m : SeatOf C). Allows (Rule f setup) slots id m t (λ w. bit_or w b) (marks (step slots t b 0 none) m)) (sym i.is)
+      (marks_keeps slots id t n b i.known l i.number i.long i.covered (at_known n m i t Free free) bit)
+
+  pub excludes_as : (slots id t n old new : ℕ) (m : SeatOf C) (i : IsSeat n m) → t < 64 → hold_of t (first_of m.0.passes) ≡ Shared → old ≡ 2 ^ n → new ≡ bit_or (2 ^ n) (2 ^ (32 + n))
+      → Allows (Rule f setup) slots id m t (λ w. either (eqb w old) new w) (excludes (step slots t old new none) m)
+  excludes_as slots id t n old new m i l mine bit both = subst (λ (m : SeatOf C). Allows (Rule f setup) slots id m t (λ w. either (eqb w old) new w) (excludes (step slots t old new none) m)) (sym i.is)
+      (excludes_keeps slots id t old new i.known l i.long i.covered (at_known n m i t Shared mine) (bit ∙ ap (λ j. 2 ^ j) (sym i.number)) (both ∙ ap (λ j. bit_or (2 ^ j) (2 ^ (32 + j))) (sym i.number)))
+
+  pub undoes_as : (slots id t n b : ℕ) (m : SeatOf C) (i : IsSeat n m) → t < 64 → hold_of t (first_of m.0.passes) ≡ Trying → b ≡ bit_not w64 (2 ^ n) → Allows (Rule f setup) slots id m t (λ w. bit_and w b) (releases (step slots t b 0 none) m)
+  undoes_as slots id t n b m i l try bit = subst (λ (m : SeatOf C). Allows (Rule f setup) slots id m t (λ w. bit_and w b) (releases (step slots t b 0 none) m)) (sym i.is)
+      (undoes_keeps slots id t b i.known l i.long i.covered (at_known n m i t Trying try) (bit ∙ ap (λ j. bit_not w64 (2 ^ j)) (sym i.number)))
+
+  pub releases_as : (slots id t n b : ℕ) (m : SeatOf C) (i : IsSeat n m) → t < 64 → IsUntouched t (first_of m.0.passes) → b ≡ bit_not w64 (bit_or (2 ^ n) (2 ^ (32 + n))) → Allows (Rule f setup) slots id m t (λ w. bit_and w b) (releases (step slots t b 0 none) m)
+  releases_as slots id t n b m i l u bit = subst (λ (m : SeatOf C). Allows (Rule f setup) slots id m t (λ w. bit_and w b) (releases (step slots t b 0 none) m)) (sym i.is)
+      (releases_keeps slots id t b i.known l i.long i.covered (subst (λ (k : Known C). IsUntouched t k) (first_is n m i) u) (bit ∙ ap (λ j. bit_not w64 (bit_or (2 ^ j) (2 ^ (32 + j)))) (sym i.number)))
+
+  pub backs_as : (slots id t n b : ℕ) (m : SeatOf C) (i : IsSeat n m) → t < 64 → hold_of t (first_of m.0.passes) ≡ Exclusive → IsUnwritten t (first_of m.0.passes) → b ≡ bit_not w64 (2 ^ (32 + n)) → Allows (Rule f setup) slots id m t (λ w. bit_and w b) (backs (step slots t b 0 none) m)
+  backs_as slots id t n b m i l full u bit = subst (λ (m : SeatOf C). Allows (Rule f setup) slots id m t (λ w. bit_and w b) (backs (step slots t b 0 none) m)) (sym i.is)
+      (backs_keeps slots id t b i.known l i.long i.covered (at_known n m i t Exclusive full) (subst (λ (k : Known C). IsUnwritten t k) (first_is n m i) u) (bit ∙ ap (λ j. bit_not w64 (2 ^ (32 + j))) (sym i.number)))

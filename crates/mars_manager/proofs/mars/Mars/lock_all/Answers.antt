@@ -1,0 +1,26 @@
+use Rattle.std.proofs.Common.{◌≡◌, ap, ◌∙◌, sym, subst, arith}
+use Rattle.history.specs.declared.locks.Mode.TheVariants as mode
+use Rattle.stripe_words.specs.declared.hold.Hold.{Hold}
+use Rattle.mars_manager.specs.declared.view.Known.{Known}
+use Rattle.mars_manager.specs.Pass.{PassView}
+use Rattle.mars_manager.specs.Locks.{with_holds}
+use Rattle.mars_manager.proofs.Knowns.{readable_more, refused_after}
+use Rattle.mars_manager.proofs.mars.Mars.lock_all.Goals as goal
+
+pub loop-stripe-preserved : goal.loop-stripe-preserved
+loop-stripe-preserved g c =
+    let i = c.loop-stripe.invariant in record {
+      table = c.try_lock.ensures.table ∙ i.table;
+      known = readable_more c.loop-stripe.stripe c.args.pass.now.known c.loop-stripe.pass.known c.try_lock.new.pass.known (let l = i.known.long in let m = c.number.ensures.stands.long in let t = c.loop-stripe-test.true in omega arith) i.known c.in_default.ensures.held;
+    }
+
+pub returns-in-Err-clause-busy : goal.returns-in-Err-clause-busy
+returns-in-Err-clause-busy g c =
+    let i = c.loop-stripe.invariant in
+    let k = c.args.pass.now.known in
+    let k2 = c.try_lock.new.pass.known in
+    let hs = ap (λ (p : PassView g.row.C.Denot). p.known.holds) (sym c.pass.view_is) ∙ c.pass.invariant.same in (
+      (let t = c.loop-stripe-test.true in omega arith),
+      refused_after mode.Shared c.loop-stripe.stripe c.loop-stripe.stripe c.in-Err.way.holder c.args.pass.now.known c.loop-stripe.pass.known c.try_lock.new.pass.known c.restore.new.pass.known i.known c.in-Err.ensures.busy
+          (c.restore.ensures.known ∙ ap (λ (xs : _). with_holds xs c.try_lock.new.pass.known) (sym hs)),
+    )

@@ -1,0 +1,129 @@
+use Rattle.std.proofs.Common.{◌≡◌, ℕ, ◌+◌, ◌-◌, ◌%◌, ◌<◌, List, [], ◌∷◌, ◌++◌, Option, Some, None, refl, sym, ap, ◌∙◌, subst, arith, map}
+use Rattle.std.specs.Prelude.{IsTrue, IsFalse, is_some}
+use mathlib.Core.Option.{none}
+use Rattle.history.specs.Table.{Granted}
+use Rattle.history.specs.Locks.{touches}
+use Rattle.caller_steps.specs.Locked.{IsLocked}
+use Rattle.atomic_table.specs.Table.{rest, Allows, step}
+use Rattle.mars_manager.specs.declared.view.Known.{Known}
+use Rattle.mars_manager.specs.Pass.{live_of, times, finds}
+use Rattle.mars_manager.specs.Locks.{IsCovered}
+use Rattle.mars_manager.specs.Sharing.{MarsView}
+use Rattle.mars_manager.specs.Seat.{SeatOf, first_of, seat_of, shared_view, Makes}
+use Rattle.mars_manager.specs.Rule.{face, Rule, HasAlone, tells_length, AreAbove}
+use Rattle.mars_manager.proofs.Seats.{times_first}
+use Rattle.mars_manager.proofs.Locked.{locked_by}
+use Rattle.mars_manager.proofs.Turns.{takes_turn_as, tells_as, gives_as}
+use Rattle.mars_manager.proofs.Calls.{core_is, homed, moves, told_seat, made}
+use Rattle.mars_manager.proofs.mars.Mars.turn.Goals as goal
+
+pub compare_exchange-found-requires : goal.compare_exchange-found-requires
+compare_exchange-found-requires g c =
+    let f = face g.C.Core.tells g.C.Core.view in
+    let i = c.requires.seat in (
+      c.requires.table ∙ sym (ap (λ (m : MarsView g.row.C.Denot). m.table) c.self.view_is),
+      (let w = c.self.invariant.0 in omega arith),
+      takes_turn_as f c.self.inside.table.shared.key _ _ _ i.known _ i.is (ap (λ n. n + 1) (c.from-turn.ensures ∙ sym i.number)),
+    )
+
+pub returns-then-found-ne0-clause-again : goal.returns-then-found-ne0-clause-again
+returns-then-found-ne0-clause-again g c =
+    let i = c.requires.seat in
+    let e = c.compare_exchange-found.ensures in
+    let missed = e.2.1 c.if-found-ne0.true in
+    let known : i.known ≡ first_of c.args.seat.now.me.0.passes = sym (ap (λ (m : SeatOf g.row.C.Denot). first_of m.0.passes) i.is) in (
+      (
+        (λ same.
+            let ne = c.if-found-ne0.true in
+            let number = ap (λ (k : Known g.row.C.Denot). k.number) known in
+            let none = missed.2 i.known.number (omega arith) in
+            let first = times_first i.known [] in
+            let same_times = ap (λ (m : SeatOf g.row.C.Denot). times i.known.number m.0.passes) i.is in
+            omega arith),
+        (λ setup is.
+            let ne = c.if-found-ne0.true in
+            let above = (subst (λ (ks : List (Known g.row.C.Denot)). AreAbove c.compare_exchange-found.result ks) (ap (λ (m : SeatOf g.row.C.Denot). m.0.passes) i.is) missed.3).0 setup (ap (λ (k : Known g.row.C.Denot). k.setup) known ∙ is) in
+            omega arith),
+      ),
+      (let one : c.compare_exchange-found.result - 1 + 1 ≡ c.compare_exchange-found.result = (let ne = c.if-found-ne0.true in omega arith) in
+          let now : List (Known g.row.C.Denot) → SeatOf g.row.C.Denot = λ ks. (shared_view (map (finds c.compare_exchange-found.result) ks) None, []) in
+          missed.0 ∙ ap (λ (m : SeatOf g.row.C.Denot). now m.0.passes) i.is ∙ (λ j. seat_of (finds (sym one j) (known j)))),
+    )
+
+pub exchange-requires : goal.exchange-requires
+exchange-requires g c =
+    let e = c.compare_exchange-found.ensures in
+    let took = e.2.0 c.if-found-ne0.false in
+    let carried = ap (λ (m : SeatOf g.row.C.Denot). m.1) took.now in (
+      e.0 ∙ c.requires.table ∙ sym (ap (λ (m : MarsView g.row.C.Denot). m.table) c.self.view_is),
+      (Some took.core, carried ∙ ap (λ (l : List (ℕ × Option g.row.C.Denot)). (0, Some took.core) ∷ rest l) (sym carried)),
+    )
+
+pub step_locked-reply-requires : goal.step_locked-reply-requires
+step_locked-reply-requires g c =
+    let f = face g.C.Core.tells g.C.Core.view in
+    let i = c.requires.seat in
+    let took = c.compare_exchange-found.ensures.2.0 c.if-found-ne0.false in
+    let core = core_is f _ _ c.unwrap-core.result _ took c.exchange.ensures.2 c.unwrap-core.ensures in
+    let has = times_first i.known [] in
+    let same_times = ap (λ (m : SeatOf g.row.C.Denot). times i.known.number m.0.passes) i.is in
+    let few : i.known.number < (g.C.Core.view took.core).limits.callers = took.few i.known.number (omega arith) in
+    let known : i.known ≡ first_of c.args.seat.now.me.0.passes = sym (ap (λ (m : SeatOf g.row.C.Denot). first_of m.0.passes) i.is) in
+    let lock : IsLocked (g.C.Core.view took.core).state i.known.number c.args.call.now =
+    locked_by f took.core i.known c.args.call.now (subst (λ (k : Known g.row.C.Denot). IsFalse (g.C.Core.view took.core).state.is_dead → HasAlone f took.core k) (sym known) took.alone)
+    (subst (λ (k : Known g.row.C.Denot). IsTrue (is_some (live_of k)) → IsCovered (touches c.args.call.now) k.holds) (sym known) c.requires.covered) in record {
+      inside = subst (λ (n : ℕ). n < (g.C.Core.view c.unwrap-core.result).limits.callers) i.number (subst (λ (x : g.row.C.Denot). i.known.number < (g.C.Core.view x).limits.callers) core few);
+      locked = subst (λ (n : ℕ). IsLocked (g.C.Core.view c.unwrap-core.result).state n c.args.call.now) i.number (subst (λ (x : g.row.C.Denot). IsLocked (g.C.Core.view x).state i.known.number c.args.call.now) core lock);
+    }
+
+pub tell-requires : goal.tell-requires
+tell-requires g c =
+    let f = face g.C.Core.tells g.C.Core.view in
+    let i = c.requires.seat in
+    let e = c.compare_exchange-found.ensures in
+    let took = e.2.0 c.if-found-ne0.false in
+    let new = c.step_locked-reply.new.self in
+    let call = c.args.call.now in
+    let reply = c.step_locked-reply.result in
+    let seat = c.exchange-2.new.seat in
+    let home = homed f _ _ _ _ i.known c.unwrap-core.result new _ i.is took c.exchange.ensures.2 c.unwrap-core.ensures c.exchange.ensures.3 c.exchange-2.ensures.3 in
+    let s = c.step_locked-reply.ensures in
+    let does = moves f _ _ _ _ i.known c.unwrap-core.result new _ i.is took c.exchange.ensures.2 c.unwrap-core.ensures c.exchange.ensures.3 c.exchange-2.ensures.3 _ call reply i.number s.steps s.dead s.begun s.not_busy in
+    let core = core_is f _ _ c.unwrap-core.result _ took c.exchange.ensures.2 c.unwrap-core.ensures in
+    let known : i.known ≡ first_of c.args.seat.now.me.0.passes = sym (ap (λ (m : SeatOf g.row.C.Denot). first_of m.0.passes) i.is) in
+    let has : IsFalse (g.C.Core.view c.unwrap-core.result).state.is_dead → IsTrue (is_some ((g.C.Core.view c.unwrap-core.result).state.live i.known.number)) → IsCovered (touches call) i.known.holds =
+    (λ alive live.
+    let alone = took.alone (subst (λ (x : g.row.C.Denot). IsFalse (g.C.Core.view x).state.is_dead) (sym core) alive) in
+    subst (λ (k : Known g.row.C.Denot). IsCovered (touches call) k.holds) (sym known)
+    (c.requires.covered (sym (ap (λ (o : Option Granted). is_some o) alone.mine) ∙ (λ j. is_some ((g.C.Core.view (core j)).state.live (sym (ap (λ (k : Known g.row.C.Denot). k.number) known) j))) ∙ live))) in
+    let key = c.self.inside.table.shared.key in
+    let rule = tells_as f key c.self.inside.table.shared.table_id.slots seat.id c.told-told.result (finds 0 i.known) call reply c.unwrap-core.result new seat.me home (does key) has c.told-told.ensures in record {
+      table = c.exchange-2.ensures.0 ∙ c.exchange.ensures.0 ∙ e.0 ∙ c.requires.table;
+      picked = (refl, refl);
+      rule = subst (λ (m : MarsView g.row.C.Denot). Allows (Rule f m.setup) m.table.slots seat.id seat.me 65 (λ _. c.told-told.result) (λ _. tells_length f call reply (step m.table.slots 65 c.told-told.result 0 none) seat.me c.told-told.result)) c.self.view_is rule;
+    }
+
+pub store-requires : goal.store-requires
+store-requires g c =
+    let f = face g.C.Core.tells g.C.Core.view in
+    let i = c.requires.seat in
+    let e = c.compare_exchange-found.ensures in
+    let took = e.2.0 c.if-found-ne0.false in
+    let s = c.step_locked-reply.ensures in
+    let told = told_seat f _ _ _ _ i.known c.unwrap-core.result c.step_locked-reply.new.self _ i.is took c.exchange.ensures.2 c.unwrap-core.ensures c.exchange.ensures.3 c.exchange-2.ensures.3
+    _ c.args.call.now c.step_locked-reply.result i.number s.steps s.dead s.begun s.not_busy _ c.tell.ensures.told in (
+      c.tell.ensures.same.0 ∙ c.exchange-2.ensures.0 ∙ c.exchange.ensures.0 ∙ e.0 ∙ c.requires.table ∙ sym (ap (λ (m : MarsView g.row.C.Denot). m.table) c.self.view_is),
+      (let w = c.self.invariant.0 in omega arith),
+      gives_as f c.self.inside.table.shared.key _ _ _ c.step_locked-reply.new.self _ told,
+    )
+
+pub returns-clause-made : goal.returns-clause-made
+returns-clause-made g c =
+    let f = face g.C.Core.tells g.C.Core.view in
+    let i = c.requires.seat in
+    let took = c.compare_exchange-found.ensures.2.0 c.if-found-ne0.false in
+    let s = c.step_locked-reply.ensures in
+    let m = made f _ _ _ _ i.known c.unwrap-core.result c.step_locked-reply.new.self _ i.is took c.exchange.ensures.2 c.unwrap-core.ensures c.exchange.ensures.3 c.exchange-2.ensures.3
+    _ c.args.call.now c.step_locked-reply.result i.number s.steps s.dead s.begun s.not_busy _ c.tell.ensures.told _ c.store.ensures.2 in
+    let known : i.known ≡ first_of c.args.seat.now.me.0.passes = sym (ap (λ (m : SeatOf g.row.C.Denot). first_of m.0.passes) i.is) in
+    subst (λ (k : Known g.row.C.Denot). Makes g.C.Core.tells g.C.Core.view k c.args.call.now c.step_locked-reply.result c.store.new.seat.me) known m

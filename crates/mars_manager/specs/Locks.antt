@@ -1,0 +1,174 @@
+-- What a pass has of the stripes of keys, and how its steps change that.
+use Rattle.std.specs.Prelude.{ℕ, ◌≡◌, ◌≢◌, ◌<◌, ◌≤◌, ◌+◌, ◌/◌, ◌^◌, ◌==◌, Bool, true, false, not, ◌&&◌, IsTrue, IsFalse, MatchBool, is_some, filter, Option, None, if◌then◌else◌, List, [], ◌∷◌, ◌++◌, length, replicate, slice_index_or, slice_set, unwrap_or}
+use Rattle.std.specs.Int.{bit_at}
+use Rattle.history.specs.Table.{Granted}
+use Rattle.history.specs.Locks.{Touch, touches, touched}
+use Rattle.history.specs.declared.call.Call.{Call}
+use Rattle.history.specs.declared.call.Call.TheVariants.{Commit, Abort}
+use Rattle.history.specs.declared.call.Reply.{Reply}
+use Rattle.history.specs.declared.call.Reply.TheVariants as says
+use Rattle.history.specs.declared.locks.Mode.{Mode}
+use Rattle.history.specs.declared.locks.Mode.TheVariants as mode
+use Rattle.caller_steps.specs.Fate.{is_refusal, is_busy, is_media}
+use Rattle.caller_steps.specs.Own.{is_commit}
+use Rattle.stripe_words.specs.declared.hold.Hold.{Hold}
+use Rattle.stripe_words.specs.declared.hold.Hold.TheVariants.{Free, Trying, Shared, Exclusive}
+use Rattle.stripe_words.specs.Words.{granted, locked, gained, raised, IsWord, Refuses}
+use Rattle.mars_manager.specs.declared.locking.Lock.{Lock}
+use Rattle.mars_manager.specs.declared.locking.Lock.TheVariants.{Held, Busy, NoTransaction}
+use Rattle.mars_manager.specs.declared.view.Met.{Met}
+use Rattle.mars_manager.specs.declared.view.Known.{Known}
+use Rattle.mars_manager.specs.Pass.{live_of, finds}
+
+-- what is touched for reading is shared or exclusive, and what is touched for writing is exclusive
+pub record IsCovered (touch : ℕ → Touch) (holds : List Hold) : Type 0 where
+  pub reads : (t : ℕ) → IsTrue (touch t mode.Shared) → granted (slice_index_or holds t Free) ≡ 1
+  pub writes : (t : ℕ) → IsTrue (touch t mode.Exclusive) → locked (slice_index_or holds t Free) ≡ 1
+
+-- what a pass may give back: from y down to x
+abbrev pub IsBelow : Hold → Hold → Type 0
+IsBelow Free y = Unit {0}
+IsBelow Trying y = ⊥
+IsBelow Shared y = granted y ≡ 1
+IsBelow Exclusive y = locked y ≡ 1
+
+abbrev pub met : ℕ → ℕ → Met
+met stripe found = record { stripe = stripe; found = found }
+
+-- what a pass has of a stripe once it has what a call touches
+abbrev pub raised_for : Touch → Hold → Hold
+raised_for touch has = if touch mode.Exclusive then raised mode.Exclusive has else if touch mode.Shared then raised mode.Shared has else has
+
+-- the call ends its caller's transaction
+abbrev pub is_end : Call → Bool
+is_end Commit = true
+is_end Abort = true
+is_end call = false
+
+-- whether a caller has a live transaction after a call
+abbrev pub is_live_after : Bool → Call → Reply → Bool
+is_live_after live call reply = if is_media reply then live && not (is_commit call) else (if is_refusal reply then live else not (is_end call))
+
+-- the replies that came of a turn; a `Busy` comes of the word of a stripe
+abbrev pub steps_of : Granted → Granted
+steps_of told = filter (λ (entry : Call × Reply). not (is_busy entry.1)) told
+
+-- another pass has its mark in the word
+abbrev pub HasOther : ℕ → ℕ → Type 0
+HasOther n w = (h : ℕ) × (h < 32) × (h ≢ n) × (bit_at w h ≡ 1)
+
+-- what a pass that has nothing of a stripe finds
+pub record Finds (n found : ℕ) : Type 0 where
+  pub word : IsWord found
+  pub not_mine : bit_at found (32 + n) ≡ 0
+  pub other : found / 2 ^ 32 ≢ 0 → HasOther n found
+
+-- what a pass finds that is refused an exclusive lock
+pub record FindsOther (n found : ℕ) : Type 0 where
+  pub word : IsWord found
+  pub other : HasOther n found
+
+module _ {C : Type 0} where
+  -- how the live transaction of its caller has touched a stripe
+  abbrev pub touched_by : Known C → ℕ → Touch
+  touched_by known = touched (unwrap_or (live_of known) [])
+
+  abbrev pub hold_of : ℕ → Known C → Hold
+  hold_of t known = slice_index_or known.holds t Free
+
+  abbrev pub with_holds : List Hold → Known C → Known C
+  with_holds holds known = record known { holds = holds }
+
+  abbrev pub with_hold : ℕ → Hold → Known C → Known C
+  with_hold t x known = with_holds (slice_set known.holds t x) known
+
+  abbrev pub with_locks : List Hold → List Met → Known C → Known C
+  with_locks holds met known = record known { holds = holds; met = met }
+
+  -- a step found a word
+  abbrev pub noted : ℕ → ℕ → Known C → Known C
+  noted t found known = record known { met = known.met ++ met t found ∷ [] }
+
+  abbrev pub marked_by : ℕ → ℕ → Known C → Known C
+  marked_by t found known = noted t found (with_hold t (gained (found / 2 ^ 32 == 0)) known)
+
+  abbrev pub excluded_by : ℕ → ℕ → Known C → Known C
+  excluded_by t found known = noted t found (with_hold t Exclusive known)
+
+  abbrev pub IsUnwritten : ℕ → Known C → Type 0
+  IsUnwritten t known = IsTrue (touched_by known t mode.Exclusive) → ⊥
+
+  abbrev pub IsUntouched : ℕ → Known C → Type 0
+  IsUntouched t known = (IsTrue (touched_by known t mode.Shared) → ⊥) × IsUnwritten t known
+
+  -- between two calls a pass tries nothing
+  abbrev pub IsSettled : Known C → Type 0
+  IsSettled known = (t : ℕ) → hold_of t known ≢ Trying
+
+  -- what is so of each pass at hand
+  pub record IsPass (known : Known C) : Type 0 where
+    pub long : length known.holds ≡ 64
+    pub covered : IsCovered (touched_by known) known.holds
+    pub settled : IsSettled known
+
+  -- a stripe was locked, or was before
+  pub record HasLocked (asked : Mode) (t : ℕ) (was now : Known C) : Type 0 where
+    pub more : List Met
+    pub is : now ≡ with_locks (slice_set was.holds t (raised asked (hold_of t was))) (was.met ++ more) was
+
+  -- A pass has what it had. The last word that it found is why, and h the lowest pass that this word has in its way
+  pub record IsRefused (asked : Mode) (t h : ℕ) (was now : Known C) : Type 0 where
+    pub found : ℕ
+    pub before : List Met
+    pub is : now ≡ with_locks was.holds (was.met ++ (before ++ met t found ∷ [])) was
+    pub why : Refuses asked found was.number h
+
+  -- the stripes below n were locked for reading, or were before
+  pub record HasReadable (n : ℕ) (was now : Known C) : Type 0 where
+    pub more : List Met
+    pub same : now ≡ with_locks now.holds (was.met ++ more) was
+    pub long : length now.holds ≡ length was.holds
+    pub each : (t : ℕ) → t < n → hold_of t now ≡ raised mode.Shared (hold_of t was)
+    pub others : (t : ℕ) → n ≤ t → hold_of t now ≡ hold_of t was
+
+  -- what a call touches was locked, or was before
+  pub record HasLockedFor (call : Call) (was now : Known C) : Type 0 where
+    pub more : List Met
+    pub same : now ≡ with_locks now.holds (was.met ++ more) was
+    pub each : (t : ℕ) → hold_of t now ≡ raised_for (touches call t) (hold_of t was)
+
+  -- A pass with a live transaction has what a call touches. One without has what it had.
+  pub record HasReadied (call : Call) (was now : Known C) : Type 0 where
+    pub more : List Met
+    pub same : now ≡ with_locks now.holds (was.met ++ more) was
+    pub below : (t : ℕ) → IsBelow (hold_of t was) (hold_of t now)
+    pub covered : IsTrue (is_some (live_of was)) → IsCovered (touches call) now.holds
+    pub each : IsTrue (is_some (live_of was)) → (t : ℕ) → hold_of t now ≡ raised_for (touches call t) (hold_of t was)
+    pub idle : IsFalse (is_some (live_of was)) → now.holds ≡ was.holds
+
+  -- one of the stripes that a call touches was refused
+  pub record IsRefusedFor (call : Call) (h : ℕ) (was now : Known C) : Type 0 where
+    pub stripe : ℕ
+    pub asked : Mode
+    pub touches_it : IsTrue (touches call stripe asked)
+    pub refused : IsRefused asked stripe h was now
+
+  -- a `Busy` comes where the pass has a live transaction, of a word that was in the call's way at its own step
+  abbrev pub IsBusyBy : Call → Reply → Known C → Known C → Type 0
+  IsBusyBy call (says.Busy h) was now = IsTrue (is_some (live_of was)) × IsRefusedFor call h was now
+  IsBusyBy call reply was now = Unit {0}
+
+  -- another pass had the turn: but for what the pass found it knows and has what it did before
+  pub record IsAgain (n : ℕ) (was now : Known C) : Type 0 where
+    pub more : List Met
+    pub is : now ≡ finds n (with_locks was.holds (was.met ++ more) was)
+
+  -- What a pass has after a call: what it had if the call was refused, nothing if it ended the transaction, and else also what it touches.
+  abbrev pub HasAfter : Call → Reply → Known C → Known C → Type 0
+  HasAfter call reply was now = MatchBool (is_refusal reply) (now.holds ≡ was.holds) (MatchBool (is_end call) (now.holds ≡ replicate 64 Free) ((t : ℕ) → hold_of t now ≡ raised_for (touches call t) (hold_of t was)))
+
+  -- what a try to lock a stripe comes to, by the live transaction of the pass and the word that it found
+  abbrev pub Locks : Mode → ℕ → Known C → Lock → Known C → Type 0
+  Locks asked t was Held now = IsTrue (is_some (live_of was)) × HasLocked asked t was now
+  Locks asked t was (Busy h) now = IsTrue (is_some (live_of was)) × IsRefused asked t h was now
+  Locks asked t was NoTransaction now = (live_of was ≡ None) × (now ≡ was)
