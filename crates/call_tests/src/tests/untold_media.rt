@@ -1,5 +1,5 @@
 // A medium of whose bytes contracts say nothing.
-ghost use Rattle.std.specs.Prelude.{false};
+ghost use Rattle.std.specs.Prelude.{◌≡◌, false};
 
 use mars_base::Failed;
 use pcm_media::Media;
