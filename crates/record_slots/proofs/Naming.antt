@@ -116,9 +116,9 @@ module _ (t : TableEntry) (name : IsName t.name) (small : t.root < 2 ^ 32) where
   entry_root rest =
       let split : drop 20 (b ++ rest) ≡ little_bytes 4 t.root ++ (replicate 8 0 ++ rest) =
       ap (drop 19) (
-        append_assoc t.name (replicate (19 - length t.name) 0 ++ tail) rest
-        ∙ ap (λ (l : List ℕ). t.name ++ l) (append_assoc (replicate (19 - length t.name) 0) tail rest)
-        ∙ sym (append_assoc t.name (replicate (19 - length t.name) 0) (tail ++ rest))
+      append_assoc t.name (replicate (19 - length t.name) 0 ++ tail) rest
+      ∙ ap (λ (l : List ℕ). t.name ++ l) (append_assoc (replicate (19 - length t.name) 0) tail rest)
+      ∙ sym (append_assoc t.name (replicate (19 - length t.name) 0) (tail ++ rest))
       )
       ∙ drop_at (t.name ++ replicate (19 - length t.name) 0) (tail ++ rest) 19 long-zeros
       ∙ append_assoc (little_bytes 4 t.root) (replicate 8 0) rest in

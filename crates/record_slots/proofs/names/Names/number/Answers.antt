@@ -24,9 +24,9 @@ loop-j-preserved c = λ k lt is. elim (cases_eq k c.loop-j.j) [
   | inl here ↦
       let used : c.loop-j.j < length (tables_used c.self.inside.entries) = omega (arith, c.loop-j-test.true, c.used_count-j-end.ensures.count) in
       other_text _ _ c.if-eq.ensures (
-        c.name_at.ensures
-        ∙ some_is _ _ (sym (name_used c.self.inside.entries c.loop-j.j used) ∙ (λ i. slice_get (c.self.view_is i) (sym here i)) ∙ is)
-        ∙ sym c.as_bytes.ensures.text
+      c.name_at.ensures
+      ∙ some_is _ _ (sym (name_used c.self.inside.entries c.loop-j.j used) ∙ (λ i. slice_get (c.self.view_is i) (sym here i)) ∙ is)
+      ∙ sym c.as_bytes.ensures.text
       )
   | inr other ↦ c.loop-j.invariant k (omega (arith, lt, other)) is
 ]
