@@ -71,12 +71,7 @@ fn readers_row<C: Core + Drop>(mars: &Mars<C>, zero: &mut Pass<C>, one: &mut Pas
         && mars.call(one, &Call::Del { key: 69 }) == Ok(Reply::Absent)
 }
 
-fn row_of<C: Core + Drop>(
-    mars: &Mars<C>,
-    zero: &mut Pass<C>,
-    one: &mut Pass<C>,
-    row: Row,
-) -> bool
+fn row_of<C: Core + Drop>(mars: &Mars<C>, zero: &mut Pass<C>, one: &mut Pass<C>, row: Row) -> bool
     requires { (zero.old.table ≡ mars.now.table) × (one.old.table ≡ mars.now.table) }
     ensures zero { (zero.new.table ≡ zero.old.table) × (zero.new.known.number ≡ zero.old.known.number) }
     ensures one { (one.new.table ≡ one.old.table) × (one.new.known.number ≡ one.old.known.number) }
