@@ -3,7 +3,6 @@ mod callers;
 mod flags;
 mod held_media;
 mod holds;
-mod locks;
 mod places;
 mod readers;
 mod samples;
