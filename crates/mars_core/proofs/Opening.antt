@@ -47,7 +47,7 @@ all_within (e ∷ es) none = elim (cases_lt (2 ^ 64 - 1) e.0) [
     no_some v is = absurd (cc)
 
 module _ (m : Table) (none : (q : ℕ) → 2 ^ 64 - 1 < q → get m q ≡ None) (rows : List (ℕ × List ℕ)) (is : rows ≡ rows_within 0 (2 ^ 64 - 1) m) where
-  rows_are : rows ≡ entries m
+  pub rows_are : rows ≡ entries m
   rows_are = is ∙ all_within (entries m) (λ q lt. sym (get-entries m q) ∙ none q lt)
 
   -- the rows of a table are that table's
