@@ -8,12 +8,15 @@ ghost use Rattle.page_store.specs.Inserts.{Inserts};
 ghost use Rattle.page_store.specs.Removes.{HasAbsent, Removes};
 ghost use Rattle.page_store.specs.Looks.{Looks, LookCause, CheckCause, is_failed, is_check_failed};
 ghost use Rattle.page_store.specs.Pairs.{Rise, found, next};
+ghost use Rattle.page_store.specs.Records.{records_of};
 ghost use Rattle.page_store.specs.Shown.{pages_of, top_in};
 
 use crate::fault::PageFault;
 use crate::index_fault::{CheckFault, IndexFault};
 use crate::pages::Pages;
+use crate::table_rows::TableRows;
 use eaw_face::EawStore;
+use std::alloc::Global;
 
 /// Indexes of u64 keys in the data of pages, one for each table, told by the page of its root: for each key the slot that holds its record.
 /// They have no state of their own.
@@ -28,11 +31,13 @@ pub trait KeyIndex {
     /// There is at most one proof of soundness.
     ghost alone: { (bytes : List ℕ) → IsProp (index.sound bytes) };
 
-    /// Tests the super page, the lists of what is free, and the index of each table by its number, and names the first page that fails.
-    fn check<S: EawStore>(pages: &mut Pages<S>) -> Result<(), CheckFault>
+    /// Tests the super page, the lists of what is free, and the index of each table by its number, and names the first page that fails. The
+    /// records of all tables, which it meets on the way, are returned.
+    fn check<S: EawStore>(alloc: Global, pages: &mut Pages<S>) -> Result<TableRows, CheckFault>
         ensures looks { Looks S.tells (S.opens (S.view pages.old.store).shape) (is_check_failed result)
             (pages_of (S.view pages.old.store) pages.old) (pages_of (S.view pages.new.store) pages.new) }
         ensures cause { CheckCause S.tells index (S.view pages.old.store) result }
+        ensures records { IsTrue S.tells → IfOk result (λ rows. rows ≡ records_of index (S.view pages.old.store).state.bytes) }
         ensures dead { IsErrOf result CheckFault.Dead → pages.new ≡ pages.old };
 
     /// The slot of a key of a table, if its index has the key.
