@@ -20,7 +20,8 @@ use crate::page::read_node_head;
 use btree_laws::Root;
 use eaw_face::EawStore;
 use index_pages::{
-    LEVEL_MAX, PAGE_LEN, check_fault, check_lists, check_slot, check_super, fetch_page, read_pair,
+    HeldPage, LEVEL_MAX, PAGE_LEN, check_fault, check_lists, check_slot, check_super, fetch_page,
+    read_pair,
 };
 use page_store::{CheckFault, Pages};
 use record_slots::{Super, TABLES_MAX, table_root};
@@ -344,9 +345,10 @@ fn check_slots<S: EawStore>(
         → IsVerdict (each (slot_check (S.view pages.old.store).state.bytes table page) (pairs_said bytes.now)) result }
     ensures dead { IsErrOf result CheckFault.Dead → ⊥ }
 {
+    let mut held = HeldPage::none();
     for i in 0..count {
         let pair = read_pair(bytes, i);
-        match check_slot(pages, table, page, pair, slots) {
+        match check_slot(pages, &mut held, table, page, pair, slots) {
             Ok(()) => {}
             Err(fault) => return Err(fault),
         }

@@ -1,5 +1,5 @@
 // The test of the whole chain.
-ghost use Rattle.std.specs.Prelude.{◌≡◌, ◌<◌, ◌≤◌, ◌↔◌, ◌^◌, IfOk, IfSome, IfNone, IsErrOf, IsTrue};
+ghost use Rattle.std.specs.Prelude.{◌≡◌, ◌<◌, ◌≤◌, ◌↔◌, ◌^◌, IfOk, IfSome, IfNone, OnOk, IsErrOf, IsTrue};
 ghost use Rattle.eaw_face.specs.Causes.{IsAlive};
 ghost use Rattle.array_shape.specs.Places.{page_count};
 ghost use Rattle.record_slots.specs.Places.{next_slot, page_bytes, tables_of, IsSuper};
@@ -8,6 +8,7 @@ ghost use Rattle.page_store.specs.Index.{slots_of, index_pages_of};
 ghost use Rattle.page_store.specs.Looks.{Looks, CheckCause, is_check_failed};
 ghost use Rattle.page_store.specs.Shown.{pages_of};
 ghost use Rattle.index_pages.specs.Fetched.{IsFront};
+ghost use Rattle.index_pages.specs.Held.{IsHeld};
 ghost use Rattle.index_pages.specs.Page.{count_said, pairs_said};
 ghost use Rattle.key_list.specs.Linked.{SaysLeaf};
 ghost use Rattle.index_pages.specs.Slots.{IsVerdict, tables_check};
@@ -19,7 +20,8 @@ use crate::page::read_leaf_head;
 use crate::place::FORM;
 use eaw_face::EawStore;
 use index_pages::{
-    Head, PAGE_LEN, check_fault, check_lists, check_slot, check_super, fetch_page, read_pair,
+    Head, HeldPage, PAGE_LEN, check_fault, check_lists, check_slot, check_super, fetch_page,
+    read_pair,
 };
 use page_store::{CheckFault, Pages};
 use record_slots::{Super, TABLES_MAX, table_root};
@@ -164,9 +166,10 @@ fn check_pairs<S: EawStore>(
     ensures dead { IsErrOf result CheckFault.Dead → ⊥ }
 {
     let mut last = last;
+    let mut held = HeldPage::none();
     for i in 0..count {
         let (key, slot) = read_pair(bytes, i);
-        match check_pair(pages, table, page, (key, slot), last, slots) {
+        match check_pair(pages, &mut held, table, page, (key, slot), last, slots) {
             Ok(()) => {}
             Err(fault) => return Err(fault),
         }
@@ -178,6 +181,7 @@ fn check_pairs<S: EawStore>(
 // Tests a pair of a page after a last key: its key, its slot, and what that slot says.
 fn check_pair<S: EawStore>(
     pages: &mut Pages<S>,
+    held: &mut HeldPage,
     table: u8,
     page: u32,
     pair: (u64, u64),
@@ -186,8 +190,10 @@ fn check_pair<S: EawStore>(
 ) -> Result<(), CheckFault>
     requires alive { IsAlive (S.view pages.old.store) }
     requires slots { slots ≤ slots_of (S.view pages.old.store).shape }
+    requires held { IsTrue S.tells → IsHeld (S.view pages.old.store).state.bytes held.old }
     ensures looks { Looks S.tells (S.opens (S.view pages.old.store).shape) (is_check_failed result)
         (pages_of (S.view pages.old.store) pages.old) (pages_of (S.view pages.new.store) pages.new) }
+    ensures held { IsTrue S.tells → OnOk result (IsHeld (S.view pages.old.store).state.bytes held.new) }
     ensures cause { IsTrue S.tells → slots ≡ next_slot (S.view pages.old.store).state.bytes
         → IsVerdict (pair_check (S.view pages.old.store).state.bytes table page (low_of last) pair) result }
     ensures dead { IsErrOf result CheckFault.Dead → ⊥ }
@@ -195,7 +201,7 @@ fn check_pair<S: EawStore>(
     if !is_above(last, pair.0) {
         return Err(CheckFault::Damaged { page });
     }
-    check_slot(pages, table, page, pair, slots)
+    check_slot(pages, held, table, page, pair, slots)
 }
 
 // Whether the key may follow the last one.
