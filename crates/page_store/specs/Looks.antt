@@ -45,7 +45,7 @@ LookCause tells old (Err _) = ⊥
 LookCause tells old (Ok answer) = IsAlive old
 
 -- why a check gets this answer: over a store that tells its data, exactly whether it is sound, and else the page that fails first
-abbrev pub CheckCause : {T : Type 0} → Bool → Index → StoreView → Result T CheckFault → Type 0
+abbrev pub CheckCause : Bool → Index → StoreView → Result (Unit {0}) CheckFault → Type 0
 CheckCause tells index old (Ok answer) = IsAlive old × (IsTrue tells → index.sound old.state.bytes)
 CheckCause tells index old (Err (check.Damaged bad)) = IsAlive old × (IsTrue tells → index.fails old.state.bytes bad)
 CheckCause tells index old (Err check.Media) = IsAlive old

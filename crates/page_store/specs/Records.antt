@@ -17,10 +17,13 @@ abbrev pub row_at : ℕ → Option (List ℕ) → List (ℕ × List ℕ)
 row_at key None = []
 row_at key (Some value) = (key, value) ∷ []
 
--- the records of pairs
+-- the record of a pair, if its slot holds a value, and those of pairs
+abbrev pub row_of : List ℕ → Pair → List (ℕ × List ℕ)
+row_of bytes pair = row_at pair.0 (value_of (slot_said (slot_of bytes pair.1)))
+
 abbrev pub rows_of : List ℕ → List Pair → List (ℕ × List ℕ)
 rows_of bytes [] = []
-rows_of bytes (pair ∷ pairs) = row_at pair.0 (value_of (slot_said (slot_of bytes pair.1))) ++ rows_of bytes pairs
+rows_of bytes (pair ∷ pairs) = row_of bytes pair ++ rows_of bytes pairs
 
 -- the records of each table, by its number
 abbrev pub records_of : Index → List ℕ → List (List (ℕ × List ℕ))

@@ -1,5 +1,5 @@
 // An index over pages, as the layers above see it.
-ghost use Rattle.std.specs.Prelude.{◌≡◌, ◌^◌, ◌<◌, ◌≤◌, List, [], ℕ, None, IfOk, IfSome, IsErrOf, IsTrue};
+ghost use Rattle.std.specs.Prelude.{◌≡◌, ◌^◌, ◌<◌, ◌≤◌, ◌++◌, List, [], ℕ, None, IfOk, IfSome, OnOk, IsErrOf, IsTrue};
 ghost use Rattle.array_shape.specs.Places.{page_count};
 ghost use Rattle.eaw_face.specs.Causes.{IsAlive};
 ghost use Rattle.record_slots.specs.Places.{next_page, page_bytes, version_of, AreGiven};
@@ -32,12 +32,16 @@ pub trait KeyIndex {
     ghost alone: { (bytes : List ℕ) → IsProp (index.sound bytes) };
 
     /// Tests the super page, the lists of what is free, and the index of each table by its number, and names the first page that fails. The
-    /// records of all tables, which it meets on the way, are returned.
-    fn check<S: EawStore>(alloc: Global, pages: &mut Pages<S>) -> Result<TableRows, CheckFault>
+    /// records of each table, which are met on the way, come behind those that were gathered before.
+    fn check<S: EawStore>(
+        alloc: Global,
+        pages: &mut Pages<S>,
+        tables: &mut TableRows,
+    ) -> Result<(), CheckFault>
         ensures looks { Looks S.tells (S.opens (S.view pages.old.store).shape) (is_check_failed result)
             (pages_of (S.view pages.old.store) pages.old) (pages_of (S.view pages.new.store) pages.new) }
         ensures cause { CheckCause S.tells index (S.view pages.old.store) result }
-        ensures records { IsTrue S.tells → IfOk result (λ rows. rows ≡ records_of index (S.view pages.old.store).state.bytes) }
+        ensures records { IsTrue S.tells → OnOk result (tables.new ≡ tables.old ++ records_of index (S.view pages.old.store).state.bytes) }
         ensures dead { IsErrOf result CheckFault.Dead → pages.new ≡ pages.old };
 
     /// The slot of a key of a table, if its index has the key.
