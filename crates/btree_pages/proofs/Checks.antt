@@ -13,7 +13,8 @@ use Rattle.index_pages.proofs.Reading.{from_first, from_step, from_end}
 use Rattle.index_pages.specs.Slots.{slot_check, IsVerdict}
 use Rattle.mars_base.specs.Check.{each}
 use Rattle.mars_base.proofs.Checks.{both_on, each_on}
-use Rattle.btree_laws.specs.Tree.{AreChildren, IsInner, IsLeafPage, children_check, next_low, tree_check, tree_from}
+use Rattle.index_pages.specs.Pieces.{joined}
+use Rattle.btree_laws.specs.Tree.{pieces_with, pairs_under, AreChildren, IsInner, IsLeafPage, children_check, next_low, tree_check, tree_from}
 use Rattle.btree_pages.specs.Node.{IsNode}
 use Rattle.btree_laws.specs.declared.root.Root.{Root}
 
@@ -90,6 +91,11 @@ module _ (root : Root) (l : ℕ) (bytes : List ℕ) (all : List Pair) (e : Pair)
   children_fail Media f = tt
   children_fail Dead f = tt
   children_fail NoMemory f = tt
+
+-- the pairs under a page that is no leaf
+pub under_inner : (l : ℕ) (bytes : List ℕ) (page : ℕ) → l ≢ 0 → pairs_under l bytes page ≡ joined (pieces_with (pairs_under (l - 1) bytes) (page_pairs bytes page))
+under_inner zero bytes page some = absurd (some refl)
+under_inner (suc l) bytes page some = ap (λ (n : ℕ). joined (pieces_with (pairs_under n bytes) (page_pairs bytes page))) (let e : l ≡ suc l - 1 = omega arith in e)
 
 -- a page's own tests, once its bytes were read
 module _ (root : Root) (bytes buf : List ℕ) (page low high : ℕ) (is : buf ≡ page_bytes bytes page) where
