@@ -1,7 +1,8 @@
 use Rattle.std.proofs.Common.{false, ◌≡◌, suc, ◌++◌, sym, ◌∙◌, ap, arith}
+use Rattle.page_store.specs.Records.{row_at}
 use Rattle.page_store.specs.Shown.{pages_of}
 use Rattle.history.specs.Writes.{rows_within}
-use Rattle.record_table.specs.Scanned.{row_at, rows_seen, rows_in}
+use Rattle.record_table.specs.Scanned.{rows_seen, rows_in}
 use Rattle.record_table.specs.State.{TableState, seen_by, key_in}
 use Rattle.record_table.proofs.Joint.{key_sum}
 use Rattle.record_table.proofs.Looking.{looks_next}
