@@ -1,11 +1,11 @@
 // Reads of slots that lie beside each other, by whole pages.
-ghost use Rattle.std.specs.Prelude.{◌≡◌, ◌*◌, ◌<◌, ◌↔◌, None, Some, IfOk, OnOk, IsErrOf, IsTrue};
+ghost use Rattle.std.specs.Prelude.{◌≡◌, ◌+◌, ◌*◌, ◌/◌, ◌<◌, ◌↔◌, None, Some, IfOk, OnOk, IsErrOf, IsTrue};
 ghost use Rattle.mars_base.specs.Bytes.{range};
 ghost use Rattle.array_shape.specs.Places.{page_count};
 ghost use Rattle.eaw_face.specs.Causes.{IsAlive};
 ghost use Rattle.record_slots.specs.Places.{page_bytes, slot_of};
 ghost use Rattle.record_slots.specs.Slots.{slot_said};
-ghost use Rattle.page_store.specs.Index.{slots_of};
+ghost use Rattle.page_store.specs.Index.{slots_of, index_pages_of};
 ghost use Rattle.page_store.specs.Looks.{Looks, is_failed};
 ghost use Rattle.page_store.specs.Shown.{pages_of};
 ghost use Rattle.index_pages.specs.Fetched.{ReadCause};
@@ -51,6 +51,8 @@ pub fn fetch_held_slot<S: EawStore>(
     ensures cause { ReadCause (S.view pages.old.store) result }
     ensures said { IsTrue S.tells → IfOk result (λ said. said ≡ slot_said (slot_of (S.view pages.old.store).state.bytes slot)) }
     ensures held { IsTrue S.tells → OnOk result (IsHeld (S.view pages.old.store).state.bytes held.new) }
+    ensures page { OnOk result (held.new.page ≡ Some (index_pages_of (S.view pages.old.store).shape + slot / 8)) }
+    ensures unread { held.old.page ≡ Some (index_pages_of (S.view pages.old.store).shape + slot / 8) → pages.new ≡ pages.old }
     ensures dead { IsErrOf result PageFault.Dead → pages.new ≡ pages.old }
 {
     let page = index_page_count(pages) + slot / SLOTS_IN_PAGE;
