@@ -11,8 +11,8 @@ use Rattle.record_table.proofs.Seeking.{attached, begins}
 use Rattle.record_table.proofs.Sharing.{Laws}
 use Rattle.record_table.proofs.records.Records.attach.Goals as goal
 
-pub invariant_of-result : goal.invariant_of-result
-invariant_of-result g c =
+pub invariant_of-records : goal.invariant_of-records
+invariant_of-records g c =
     let V = g.S.EawStore.view in
     let T = g.S.EawStore.tells in
     let E = g.S.EawStore.opens in
