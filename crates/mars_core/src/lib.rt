@@ -10,12 +10,16 @@ mod doubt;
 mod fault;
 mod live;
 mod locks;
+mod making;
 mod masks;
 mod purging;
+mod reading;
 mod replies;
 mod seats;
 mod table_call;
 mod turns;
 
 pub use fault::CoreFault;
+pub use making::make_table;
+pub use reading::read_records;
 pub use turns::Core;
