@@ -14,6 +14,7 @@ mod held;
 mod laws;
 mod page;
 mod place;
+mod rest;
 mod taking;
 
 pub use action::{PagePart, act_all};
@@ -33,4 +34,5 @@ pub use page::{
     write_page,
 };
 pub use place::{place_found, place_of};
+pub use rest::rest_of;
 pub use taking::{Claim, take_page, take_slot};

@@ -7,7 +7,7 @@ ghost use Rattle.key_list.specs.Index.{chain};
 
 use crate::{checking, insertion, look, removal};
 use eaw_face::EawStore;
-use page_store::{CheckFault, IndexFault, KeyIndex, PageFault, Pages, TableRows};
+use page_store::{CheckFault, IndexFault, KeyIndex, NextPairs, PageFault, Pages, TableRows};
 use std::alloc::Global;
 
 /// Indexes that are chains of pages in the order of their keys, one for each table: it begins in the table's root and follows the links. A
@@ -40,12 +40,12 @@ impl KeyIndex for KeyList {
         look::find(pages, root, table, key)
     }
 
-    fn next_key<S: EawStore>(
+    fn next_pairs<S: EawStore>(
         pages: &mut Pages<S>,
         root: u32,
         table: u8,
         from: u64,
-    ) -> Result<Option<(u64, u32)>, PageFault> {
+    ) -> Result<NextPairs, PageFault> {
         look::next(pages, root, table, from)
     }
 
