@@ -6,14 +6,15 @@ use Rattle.record_slots.specs.declared.super_page.Super.{Super}
 use Rattle.btree_pages.specs.Checked.{IsFrontOf}
 use Rattle.page_store.specs.Pairs.{Pair, Rise}
 use Rattle.page_store.specs.declared.index_fault.CheckFault.{CheckFault}
-use Rattle.page_store.specs.declared.index_fault.CheckFault.TheVariants.{Damaged, Media, Dead}
+use Rattle.page_store.specs.declared.index_fault.CheckFault.TheVariants.{Damaged, Media, Dead, NoMemory}
 use Rattle.index_pages.specs.Keys.{key_end}
 use Rattle.index_pages.specs.Page.{pairs_from, pair_said, pairs_said, page_pairs, kind_said, level_said, level_of, count_said, link_said}
 use Rattle.index_pages.proofs.Reading.{from_first, from_step, from_end}
 use Rattle.index_pages.specs.Slots.{slot_check, IsVerdict}
 use Rattle.mars_base.specs.Check.{each}
 use Rattle.mars_base.proofs.Checks.{both_on, each_on}
-use Rattle.btree_laws.specs.Tree.{AreChildren, IsInner, IsLeafPage, children_check, next_low, tree_check, tree_from}
+use Rattle.index_pages.specs.Pieces.{joined}
+use Rattle.btree_laws.specs.Tree.{pieces_with, pairs_under, AreChildren, IsInner, IsLeafPage, children_check, next_low, tree_check, tree_from}
 use Rattle.btree_pages.specs.Node.{IsNode}
 use Rattle.btree_laws.specs.declared.root.Root.{Root}
 
@@ -74,6 +75,7 @@ module _ (bytes : List ℕ) (table page : ℕ) (pairs : List Pair) (p : Pair) (r
   slots_fail (Damaged bad) f = left (Some bad) (inl f)
   slots_fail Media f = tt
   slots_fail Dead f = tt
+  slots_fail NoMemory f = tt
 
 -- the same for the children of a page
 abbrev pub ChildrenLeft : Root → ℕ → List ℕ → List Pair → List Pair → ℕ → Type 0
@@ -88,6 +90,12 @@ module _ (root : Root) (l : ℕ) (bytes : List ℕ) (all : List Pair) (e : Pair)
   children_fail (Damaged bad) f = left (Some bad) (inl f)
   children_fail Media f = tt
   children_fail Dead f = tt
+  children_fail NoMemory f = tt
+
+-- the pairs under a page that is no leaf
+pub under_inner : (l : ℕ) (bytes : List ℕ) (page : ℕ) → l ≢ 0 → pairs_under l bytes page ≡ joined (pieces_with (pairs_under (l - 1) bytes) (page_pairs bytes page))
+under_inner zero bytes page some = absurd (some refl)
+under_inner (suc l) bytes page some = ap (λ (n : ℕ). joined (pieces_with (pairs_under n bytes) (page_pairs bytes page))) (let e : l ≡ suc l - 1 = omega arith in e)
 
 -- a page's own tests, once its bytes were read
 module _ (root : Root) (bytes buf : List ℕ) (page low high : ℕ) (is : buf ≡ page_bytes bytes page) where
@@ -136,6 +144,7 @@ module _ (root : Root) (bytes buf : List ℕ) (page low high : ℕ) (is : buf �
     leaf_slots zero none level tests (Err (Damaged bad)) cause = inr (leaf_tests level tests, subst (λ (b : List ℕ). each (slot_check bytes root.table page) (pairs_said b) (Some bad)) is cause)
     leaf_slots zero none level tests (Err Media) cause = tt
     leaf_slots zero none level tests (Err Dead) cause = tt
+    leaf_slots zero none level tests (Err NoMemory) cause = tt
 
     module _ (pages : ℕ) (pages_is : pages ≡ next_page bytes) where
       inner_tests : (l : ℕ) → level_said buf ≡ suc l → (next_low (pairs_said buf) low ≡ low) × Rise low key_end (pairs_said buf) × AreChildren pages (pairs_said buf) → IsInner bytes (suc l) page low
@@ -171,6 +180,7 @@ module _ (root : Root) (bytes buf : List ℕ) (page low high : ℕ) (is : buf �
           go (Err (Damaged bad)) c = inr (inner_tests l level tests, subst (λ (b : List ℕ). children_check (tree_from root l bytes) (pairs_said b) high (Some bad)) is c)
           go (Err Media) c = tt
           go (Err Dead) c = tt
+          go (Err NoMemory) c = tt
 
 -- the level of the root, and then the tree under it
 module _ (root : Root) (bytes : List ℕ) (level : ℕ) (is : level ≡ level_of bytes root.page) where
@@ -185,6 +195,7 @@ module _ (root : Root) (bytes : List ℕ) (level : ℕ) (is : level ≡ level_of
       go (Err (Damaged bad)) c = inr (omega (arith, is, le), c)
       go (Err Media) c = tt
       go (Err Dead) c = tt
+      go (Err NoMemory) c = tt
 
 -- the counts that the super page says
 pub front_of : (bytes : List ℕ) (front : Super) → SaysSuper (page_bytes bytes 0) front → IsFrontOf bytes front

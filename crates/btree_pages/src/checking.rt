@@ -1,5 +1,5 @@
 // Tests the whole tree.
-ghost use Rattle.std.specs.Prelude.{◌≡◌, ◌≢◌, ◌<◌, ◌≤◌, ◌-◌, ◌^◌, ◌↔◌, suc, IsErrOf, IsTrue};
+ghost use Rattle.std.specs.Prelude.{◌≡◌, ◌≢◌, ◌<◌, ◌≤◌, ◌-◌, ◌^◌, ◌↔◌, ◌++◌, suc, OnOk, IsErrOf, IsTrue};
 ghost use Rattle.mars_base.specs.Check.{each};
 ghost use Rattle.eaw_face.specs.Causes.{IsAlive};
 ghost use Rattle.record_slots.specs.Places.{next_slot, page_bytes, tables_of, IsSuper};
@@ -8,22 +8,27 @@ ghost use Rattle.page_store.specs.Index.{slots_of, index_pages_of};
 ghost use Rattle.page_store.specs.Looks.{Looks, CheckCause, is_check_failed};
 ghost use Rattle.page_store.specs.Shown.{pages_of};
 ghost use Rattle.page_store.specs.Pairs.{Rise};
+ghost use Rattle.page_store.specs.Records.{rows_of, records_of};
 ghost use Rattle.index_pages.specs.Fetched.{IsFront};
 ghost use Rattle.index_pages.specs.Page.{count_said, level_said, pairs_said, pairs_from};
 ghost use Rattle.btree_pages.specs.Checked.{high_of, least_of, IsFrontOf};
 ghost use Rattle.index_pages.specs.Keys.{key_end};
+ghost use Rattle.index_pages.specs.Pieces.{joined};
 ghost use Rattle.index_pages.specs.Slots.{slot_check, tables_check, IsVerdict};
 ghost use Rattle.btree_pages.specs.Index.{tree, tree_of};
-ghost use Rattle.btree_laws.specs.Tree.{AreChildren, next_low, children_check, tree_from, tree_check};
+ghost use Rattle.btree_laws.specs.Tree.{AreChildren, next_low, children_check, tree_from, tree_check, pieces_with, pairs_under, pairs_of_tree};
 
 use crate::page::read_node_head;
 use btree_laws::Root;
 use eaw_face::EawStore;
+use history::Rows;
 use index_pages::{
-    LEVEL_MAX, PAGE_LEN, check_fault, check_lists, check_slot, check_super, fetch_page, read_pair,
+    HeldPage, LEVEL_MAX, PAGE_LEN, check_fault, check_lists, check_slot, check_super, fetch_page,
+    read_pair,
 };
-use page_store::{CheckFault, Pages};
+use page_store::{CheckFault, Pages, TableRows};
 use record_slots::{Super, TABLES_MAX, table_root};
+use std::alloc::Global;
 
 // The form that the super page of trees names.
 pub const FORM: u8 = 1;
@@ -39,11 +44,16 @@ struct Spot {
     high: Option<u64>,
 }
 
-// Tests the super page, the lists of what is free, and then the tree of each table by its number.
-pub fn check<S: EawStore>(pages: &mut Pages<S>) -> Result<(), CheckFault>
+// Tests the super page, the lists of what is free, and then the tree of each table by its number, and gathers the records.
+pub fn check<S: EawStore>(
+    alloc: Global,
+    pages: &mut Pages<S>,
+    tables: &mut TableRows,
+) -> Result<(), CheckFault>
     ensures looks { Looks S.tells (S.opens (S.view pages.old.store).shape) (is_check_failed result)
         (pages_of (S.view pages.old.store) pages.old) (pages_of (S.view pages.new.store) pages.new) }
     ensures cause { CheckCause S.tells tree (S.view pages.old.store) result }
+    ensures records { IsTrue S.tells → OnOk result (tables.new ≡ tables.old ++ records_of tree (S.view pages.old.store).state.bytes) }
     ensures dead { IsErrOf result CheckFault.Dead → pages.new ≡ pages.old }
 {
     let front = match check_super(pages, FORM) {
@@ -54,11 +64,16 @@ pub fn check<S: EawStore>(pages: &mut Pages<S>) -> Result<(), CheckFault>
         Ok(()) => {}
         Err(fault) => return Err(fault),
     }
-    check_tables(pages, &front)
+    check_tables(alloc, pages, tables, &front)
 }
 
 // Tests the tree of each table by its number.
-fn check_tables<S: EawStore>(pages: &mut Pages<S>, front: &Super) -> Result<(), CheckFault>
+fn check_tables<S: EawStore>(
+    alloc: Global,
+    pages: &mut Pages<S>,
+    tables: &mut TableRows,
+    front: &Super,
+) -> Result<(), CheckFault>
     requires alive { IsAlive (S.view pages.old.store) }
     requires front { IsFront (S.view pages.old.store).shape front.now }
     requires sound { IsTrue S.tells → IsSuper 1 (S.view pages.old.store).state.bytes }
@@ -66,6 +81,8 @@ fn check_tables<S: EawStore>(pages: &mut Pages<S>, front: &Super) -> Result<(), 
         (pages_of (S.view pages.old.store) pages.old) (pages_of (S.view pages.new.store) pages.new) }
     ensures cause { IsTrue S.tells → SaysSuper (page_bytes (S.view pages.old.store).state.bytes 0) front.now
         → IsVerdict (tables_check (tree_of (S.view pages.old.store).state.bytes) 0 (tables_of (S.view pages.old.store).state.bytes)) result }
+    ensures records { IsTrue S.tells → SaysSuper (page_bytes (S.view pages.old.store).state.bytes 0) front.now
+        → OnOk result (tables.new ≡ tables.old ++ records_of tree (S.view pages.old.store).state.bytes) }
     ensures dead { IsErrOf result CheckFault.Dead → ⊥ }
 {
     for table in 0..TABLES_MAX as u8 {
@@ -75,9 +92,14 @@ fn check_tables<S: EawStore>(pages: &mut Pages<S>, front: &Super) -> Result<(), 
         if page >= front.next_page {
             return Err(CheckFault::Damaged { page: 0 });
         }
-        match check_tree(pages, front, Root { page, table }) {
+        let mut rows = Rows::new(alloc);
+        match check_tree(pages, &mut rows, front, Root { page, table }) {
             Ok(()) => {}
             Err(fault) => return Err(fault),
+        }
+        match tables.push(rows) {
+            Ok(()) => {}
+            Err(_) => return Err(CheckFault::NoMemory),
         }
     }
     Ok(())
@@ -86,6 +108,7 @@ fn check_tables<S: EawStore>(pages: &mut Pages<S>, front: &Super) -> Result<(), 
 // Tests the pages of a tree from the root down, children from left to right.
 fn check_tree<S: EawStore>(
     pages: &mut Pages<S>,
+    rows: &mut Rows,
     front: &Super,
     root: Root,
 ) -> Result<(), CheckFault>
@@ -96,6 +119,7 @@ fn check_tree<S: EawStore>(
         (pages_of (S.view pages.old.store) pages.old) (pages_of (S.view pages.new.store) pages.new) }
     ensures cause { IsTrue S.tells → IsFrontOf (S.view pages.old.store).state.bytes front.now
         → IsVerdict (tree_check root (S.view pages.old.store).state.bytes) result }
+    ensures rows { IsTrue S.tells → OnOk result (rows.new ≡ rows.old ++ rows_of (S.view pages.old.store).state.bytes (pairs_of_tree (S.view pages.old.store).state.bytes root.page)) }
     ensures dead { IsErrOf result CheckFault.Dead → ⊥ }
 {
     let page = root.page;
@@ -113,7 +137,7 @@ fn check_tree<S: EawStore>(
         low: 0,
         high: None,
     };
-    check_page(pages, front, root, level, top, &bytes)
+    check_page(pages, rows, front, root, level, top, &bytes)
 }
 
 fn level_in(page: &[u8; PAGE_LEN]) -> u8
@@ -126,6 +150,7 @@ fn level_in(page: &[u8; PAGE_LEN]) -> u8
 #[cycle(under)]
 fn check_under<S: EawStore>(
     pages: &mut Pages<S>,
+    rows: &mut Rows,
     front: &Super,
     root: Root,
     level: u8,
@@ -139,6 +164,7 @@ fn check_under<S: EawStore>(
         (pages_of (S.view pages.old.store) pages.old) (pages_of (S.view pages.new.store) pages.new) }
     ensures cause { IsTrue S.tells → IsFrontOf (S.view pages.old.store).state.bytes front.now
         → IsVerdict (tree_from root level (S.view pages.old.store).state.bytes spot.page spot.low (high_of spot.high)) result }
+    ensures rows { IsTrue S.tells → OnOk result (rows.new ≡ rows.old ++ rows_of (S.view pages.old.store).state.bytes (pairs_under level (S.view pages.old.store).state.bytes spot.page)) }
     ensures dead { IsErrOf result CheckFault.Dead → ⊥ }
 {
     let mut bytes = [0; PAGE_LEN];
@@ -146,13 +172,14 @@ fn check_under<S: EawStore>(
         Ok(()) => {}
         Err(fault) => return Err(check_fault(fault)),
     }
-    check_page(pages, front, root, level, spot, &bytes)
+    check_page(pages, rows, front, root, level, spot, &bytes)
 }
 
 // Tests a page of this level that has been read and all pages below it.
 #[cycle(under)]
 fn check_page<S: EawStore>(
     pages: &mut Pages<S>,
+    rows: &mut Rows,
     front: &Super,
     root: Root,
     level: u8,
@@ -166,6 +193,8 @@ fn check_page<S: EawStore>(
         (pages_of (S.view pages.old.store) pages.old) (pages_of (S.view pages.new.store) pages.new) }
     ensures cause { IsTrue S.tells → IsFrontOf (S.view pages.old.store).state.bytes front.now → bytes.now ≡ page_bytes (S.view pages.old.store).state.bytes spot.page
         → IsVerdict (tree_from root level (S.view pages.old.store).state.bytes spot.page spot.low (high_of spot.high)) result }
+    ensures rows { IsTrue S.tells → bytes.now ≡ page_bytes (S.view pages.old.store).state.bytes spot.page
+        → OnOk result (rows.new ≡ rows.old ++ rows_of (S.view pages.old.store).state.bytes (pairs_under level (S.view pages.old.store).state.bytes spot.page)) }
     ensures dead { IsErrOf result CheckFault.Dead → ⊥ }
 {
     let page = spot.page;
@@ -179,18 +208,29 @@ fn check_page<S: EawStore>(
         if !is_leaf(bytes, head.count, root.page, &spot) {
             return Err(CheckFault::Damaged { page });
         }
-        return check_slots(pages, root.table, page, bytes, head.count, front.next_slot);
+        return check_slots(
+            pages,
+            rows,
+            root.table,
+            page,
+            bytes,
+            head.count,
+            front.next_slot,
+        );
     }
     if !is_inner(bytes, head.count, spot.low, front.next_page) {
         return Err(CheckFault::Damaged { page });
     }
-    check_children(pages, front, root, level, bytes, head.count, spot.high)
+    check_children(
+        pages, rows, front, root, level, bytes, head.count, spot.high,
+    )
 }
 
 // Tests the children of a page of this level, one after another.
 #[cycle(under)]
 fn check_children<S: EawStore>(
     pages: &mut Pages<S>,
+    rows: &mut Rows,
     front: &Super,
     root: Root,
     level: u8,
@@ -209,6 +249,8 @@ fn check_children<S: EawStore>(
         (pages_of (S.view pages.old.store) pages.old) (pages_of (S.view pages.new.store) pages.new) }
     ensures cause { IsTrue S.tells → IsFrontOf (S.view pages.old.store).state.bytes front.now
         → IsVerdict (children_check (tree_from root (level - 1) (S.view pages.old.store).state.bytes) (pairs_said bytes.now) (high_of high)) result }
+    ensures rows { IsTrue S.tells → OnOk result (rows.new ≡ rows.old ++ rows_of (S.view pages.old.store).state.bytes
+        (joined (pieces_with (pairs_under (level - 1) (S.view pages.old.store).state.bytes) (pairs_said bytes.now)))) }
     ensures dead { IsErrOf result CheckFault.Dead → ⊥ }
 {
     for i in 0..count {
@@ -218,7 +260,7 @@ fn check_children<S: EawStore>(
             low,
             high: end_of(bytes, count, i, high),
         };
-        match check_under(pages, front, root, level - 1, spot) {
+        match check_under(pages, rows, front, root, level - 1, spot) {
             Ok(()) => {}
             Err(fault) => return Err(fault),
         }
@@ -325,9 +367,10 @@ fn are_named(bytes: &[u8; PAGE_LEN], count: u16, pages: u32) -> bool
     true
 }
 
-// Tests the slots of a leaf.
+// Tests the slots of a leaf, and gathers what they hold.
 fn check_slots<S: EawStore>(
     pages: &mut Pages<S>,
+    rows: &mut Rows,
     table: u8,
     page: u32,
     bytes: &[u8; PAGE_LEN],
@@ -342,11 +385,13 @@ fn check_slots<S: EawStore>(
         (pages_of (S.view pages.old.store) pages.old) (pages_of (S.view pages.new.store) pages.new) }
     ensures cause { IsTrue S.tells → slots ≡ next_slot (S.view pages.old.store).state.bytes
         → IsVerdict (each (slot_check (S.view pages.old.store).state.bytes table page) (pairs_said bytes.now)) result }
+    ensures rows { IsTrue S.tells → OnOk result (rows.new ≡ rows.old ++ rows_of (S.view pages.old.store).state.bytes (pairs_said bytes.now)) }
     ensures dead { IsErrOf result CheckFault.Dead → ⊥ }
 {
+    let mut held = HeldPage::none();
     for i in 0..count {
         let pair = read_pair(bytes, i);
-        match check_slot(pages, table, page, pair, slots) {
+        match check_slot(pages, &mut held, rows, table, page, pair, slots) {
             Ok(()) => {}
             Err(fault) => return Err(fault),
         }

@@ -5,7 +5,8 @@ ghost use Rattle.btree_pages.specs.Index.{tree};
 use crate::{checking, insertion, look, removal};
 use btree_laws::Root;
 use eaw_face::EawStore;
-use page_store::{CheckFault, IndexFault, KeyIndex, NextPairs, PageFault, Pages};
+use page_store::{CheckFault, IndexFault, KeyIndex, NextPairs, PageFault, Pages, TableRows};
+use std::alloc::Global;
 
 /// Indexes that are B+ trees of pages, one for each table. A look-up reads the pages from the root down to the leaf of its key, eight at
 /// most. To find the next pairs from a key on, it may go down once more, to the next leaf. An insertion splits each full page on its way
@@ -23,8 +24,12 @@ impl KeyIndex for BTreePages {
 
     ghost alone = { AreSoundTrees-prop };
 
-    fn check<S: EawStore>(pages: &mut Pages<S>) -> Result<(), CheckFault> {
-        checking::check(pages)
+    fn check<S: EawStore>(
+        alloc: Global,
+        pages: &mut Pages<S>,
+        tables: &mut TableRows,
+    ) -> Result<(), CheckFault> {
+        checking::check(alloc, pages, tables)
     }
 
     fn find<S: EawStore>(

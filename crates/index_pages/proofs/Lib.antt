@@ -35,6 +35,7 @@ pub mod Halved
 pub mod Owned
 pub mod Joining
 pub mod Tables
+pub mod Gathered
 pub mod Tests
 pub mod Removals
 pub mod Even

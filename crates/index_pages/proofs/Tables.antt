@@ -10,7 +10,7 @@ use Rattle.record_slots.specs.Super.{SaysSuper, tables_in, tables_used, used_ent
 use Rattle.record_slots.specs.declared.super_page.Super.{Super}
 use Rattle.record_slots.specs.declared.super_page.TableEntry.{TableEntry}
 use Rattle.page_store.specs.declared.index_fault.CheckFault.{CheckFault}
-use Rattle.page_store.specs.declared.index_fault.CheckFault.TheVariants.{Damaged, Media, Dead}
+use Rattle.page_store.specs.declared.index_fault.CheckFault.TheVariants.{Damaged, Media, Dead, NoMemory}
 use Rattle.index_pages.specs.Slots.{tables_check, IsVerdict}
 use Rattle.index_pages.proofs.Tabled.{root_in}
 
@@ -22,12 +22,12 @@ pub all_left : (check : ℕ → ℕ → Check ℕ) (tables : List TableEntry) �
 all_left check tables = λ verdict told. told
 
 -- the entry of a number, and those behind it
-entry_at : (tables : List TableEntry) (j root : ℕ) → root_in tables j ≡ Some root → (t : TableEntry) × (drop j tables ≡ t ∷ drop (suc j) tables) × (t.root ≡ root)
+pub entry_at : (tables : List TableEntry) (j root : ℕ) → root_in tables j ≡ Some root → (t : TableEntry) × (drop j tables ≡ t ∷ drop (suc j) tables) × (t.root ≡ root)
 entry_at [] j root is = absurd (cc)
 entry_at (t ∷ ts) zero root is = (t, refl, (let e : t.root ≡ root = cc in e))
 entry_at (t ∷ ts) (suc j) root is = entry_at ts j root is
 
-none_at : (tables : List TableEntry) (j : ℕ) → root_in tables j ≡ None → drop j tables ≡ []
+pub none_at : (tables : List TableEntry) (j : ℕ) → root_in tables j ≡ None → drop j tables ≡ []
 none_at [] zero is = refl
 none_at [] (suc j) is = refl
 none_at (t ∷ ts) zero is = absurd (cc)
@@ -52,6 +52,7 @@ module _ (check : ℕ → ℕ → Check ℕ) (tables : List TableEntry) (j : ℕ
         left (Some bad) (subst (λ (ts : List TableEntry). tables_check check j ts (Some bad)) (sym e.1) (inl (subst (λ (r : ℕ). check r j (Some bad)) (sym e.2) f)))
     tables_fail Media f = tt
     tables_fail Dead f = tt
+    tables_fail NoMemory f = tt
 
 -- the root of a table, as the super page says it
 pub root_says : (bytes : List ℕ) (front : Super) (table : ℕ) → SaysSuper (page_bytes bytes 0) front → root_in (tables_of bytes) table ≡ root_in (tables_in front.version front.entries) table
@@ -71,8 +72,12 @@ tables_few : (version : ℕ) (entries : List ℕ) → length (tables_in version 
 unfolding tables_used
 tables_few version entries = elim (cases_Bool (nat_eq version 1)) [ inl b ↦ rw b (omega arith) | inr b ↦ rw b (used_few 8 entries) ]
 
-pub tables_end : (check : ℕ → ℕ → Check ℕ) (bytes : List ℕ) (j : ℕ) → 8 ≤ j → TablesLeft check (tables_of bytes) j → tables_check check 0 (tables_of bytes) None
+-- so none is left after eight
+pub none_behind : (bytes : List ℕ) (j : ℕ) → 8 ≤ j → drop j (tables_of bytes) ≡ []
 unfolding tables_said
-tables_end check bytes j all left =
+none_behind bytes j all =
     let few = tables_few (version_said (page_bytes bytes 0)) (entries_said (page_bytes bytes 0)) in
-    left None (subst (λ (ts : List TableEntry). tables_check check j ts None) (sym (drop_all j (tables_in (version_said (page_bytes bytes 0)) (entries_said (page_bytes bytes 0))) (omega (arith, few, all)))) tt)
+    drop_all j (tables_in (version_said (page_bytes bytes 0)) (entries_said (page_bytes bytes 0))) (omega (arith, few, all))
+
+pub tables_end : (check : ℕ → ℕ → Check ℕ) (bytes : List ℕ) (j : ℕ) → 8 ≤ j → TablesLeft check (tables_of bytes) j → tables_check check 0 (tables_of bytes) None
+tables_end check bytes j all left = left None (subst (λ (ts : List TableEntry). tables_check check j ts None) (sym (none_behind bytes j all)) tt)

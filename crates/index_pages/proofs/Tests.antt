@@ -90,6 +90,7 @@ module _ (ix : Index) (form : ℕ) (test : List ℕ → ℕ → ℕ → Check �
     lists_fail (check.Damaged bad) cause dead = (alive, λ t. fails_is old.state.bytes bad (inr (super t, inl (cause t))))
     lists_fail check.Media cause dead = alive
     lists_fail check.Dead cause dead = absurd (dead refl)
+    lists_fail check.NoMemory cause dead = alive
 
     -- then the tables
     pub tables_tell : (IsTrue tells → both (slots_check old.state.bytes) (pages_check old.state.bytes) None) → (r : Result (Unit {0}) CheckFault)
@@ -98,3 +99,4 @@ module _ (ix : Index) (form : ℕ) (test : List ℕ → ℕ → ℕ → Check �
     tables_tell lists (Err (check.Damaged bad)) cause dead = (alive, λ t. fails_is old.state.bytes bad (inr (super t, inr (lists t, cause t))))
     tables_tell lists (Err check.Media) cause dead = alive
     tables_tell lists (Err check.Dead) cause dead = absurd (dead refl)
+    tables_tell lists (Err check.NoMemory) cause dead = alive

@@ -5,6 +5,7 @@ pub mod Ways
 pub mod Props
 pub mod Written
 pub mod Fetched
+pub mod Held
 pub mod Acts
 pub mod Faults
 pub mod Parts

@@ -1,28 +1,36 @@
 // The tests of what all indexes stand on: slots that pairs name, and the lists of what is free.
-ghost use Rattle.std.specs.Prelude.{◌≡◌, ◌≤◌, ◌↔◌, IsErrOf, IsTrue};
+ghost use Rattle.std.specs.Prelude.{◌≡◌, ◌≤◌, ◌↔◌, ◌++◌, OnOk, IsErrOf, IsTrue};
 ghost use Rattle.mars_base.specs.Check.{both};
 ghost use Rattle.eaw_face.specs.Causes.{IsAlive};
 ghost use Rattle.record_slots.specs.Places.{next_slot, page_bytes, IsOfKey};
 ghost use Rattle.record_slots.specs.Super.{SaysSuper};
 ghost use Rattle.page_store.specs.Index.{slots_of};
 ghost use Rattle.page_store.specs.Looks.{Looks, is_check_failed};
+ghost use Rattle.page_store.specs.Records.{value_of, row_at, row_of};
 ghost use Rattle.page_store.specs.Shown.{pages_of};
 ghost use Rattle.index_pages.specs.Fetched.{IsFront};
+ghost use Rattle.index_pages.specs.Held.{IsHeld};
 ghost use Rattle.index_pages.specs.Slots.{slot_check, slots_check, pages_check, IsVerdict};
 
 use crate::fault::check_fault;
-use crate::fetch::{SLOTS_IN_PAGE, fetch_free_page, fetch_free_slot, fetch_slot, index_page_count};
+use crate::fetch::{SLOTS_IN_PAGE, fetch_free_page, fetch_free_slot, index_page_count};
+use crate::held::{HeldPage, fetch_held_slot};
 use crate::taking::ranked;
 use eaw_face::EawStore;
+use history::Rows;
+use mars_base::NoMemory;
 use page_store::{CheckFault, Pages};
 use record_slots::{Slot, Super};
 
 /// Tests the slot of a pair of a table on a page of leaves, where so many slots are given out: it is one of them and carries the key for
-/// that table.
+/// that table. The record that it holds, if any, comes behind the rows.
 ///
-/// If it is not given out, the pair's page is damaged. If it carries another key, or none, or is another table's, the slot's own page is.
+/// If it is not given out, the pair's page is damaged. If it carries another key, or none, or is another table's, the slot's own page is. That
+/// page is read unless it is held, and is held then.
 pub fn check_slot<S: EawStore>(
     pages: &mut Pages<S>,
+    held: &mut HeldPage,
+    rows: &mut Rows,
     table: u8,
     page: u32,
     pair: (u64, u64),
@@ -30,10 +38,13 @@ pub fn check_slot<S: EawStore>(
 ) -> Result<(), CheckFault>
     requires alive { IsAlive (S.view pages.old.store) }
     requires slots { slots ≤ slots_of (S.view pages.old.store).shape }
+    requires held { IsTrue S.tells → IsHeld (S.view pages.old.store).state.bytes held.old }
     ensures looks { Looks S.tells (S.opens (S.view pages.old.store).shape) (is_check_failed result)
         (pages_of (S.view pages.old.store) pages.old) (pages_of (S.view pages.new.store) pages.new) }
     ensures cause { IsTrue S.tells → slots ≡ next_slot (S.view pages.old.store).state.bytes
         → IsVerdict (slot_check (S.view pages.old.store).state.bytes table page pair) result }
+    ensures rows { IsTrue S.tells → OnOk result (rows.new ≡ rows.old ++ row_of (S.view pages.old.store).state.bytes pair) }
+    ensures held { IsTrue S.tells → OnOk result (IsHeld (S.view pages.old.store).state.bytes held.new) }
     ensures dead { IsErrOf result CheckFault.Dead → ⊥ }
 {
     if pair.1 >= u64::from(slots) {
@@ -41,17 +52,28 @@ pub fn check_slot<S: EawStore>(
     }
     let slot = pair.1 as u32;
     let count = index_page_count(pages);
-    match fetch_slot(pages, slot) {
-        Ok(said) => {
-            if is_of_key(&said, table, pair.0) {
-                Ok(())
-            } else {
-                Err(CheckFault::Damaged {
-                    page: count + slot / SLOTS_IN_PAGE,
-                })
-            }
-        }
-        Err(fault) => Err(check_fault(fault)),
+    let said = match fetch_held_slot(pages, held, slot) {
+        Ok(said) => said,
+        Err(fault) => return Err(check_fault(fault)),
+    };
+    if !is_of_key(&said, table, pair.0) {
+        return Err(CheckFault::Damaged {
+            page: count + slot / SLOTS_IN_PAGE,
+        });
+    }
+    match push_record(rows, pair.0, &said) {
+        Ok(()) => Ok(()),
+        Err(_) => Err(CheckFault::NoMemory),
+    }
+}
+
+// Adds the record of a key if its slot holds one.
+fn push_record(rows: &mut Rows, key: u64, said: &Option<Slot>) -> Result<(), NoMemory>
+    ensures { OnOk result (rows.new ≡ rows.old ++ row_at key (value_of said.now)) }
+{
+    match said {
+        Some(Slot::Present { value, .. }) => rows.push(key, *value),
+        _ => Ok(()),
     }
 }
 

@@ -10,6 +10,7 @@ mod cut;
 mod fault;
 mod fetch;
 mod giving;
+mod held;
 mod laws;
 mod page;
 mod place;
@@ -26,6 +27,7 @@ pub use fetch::{
     fetch_super, index_page_count,
 };
 pub use giving::{Release, give_page, give_slot, remove_pair, without_pair};
+pub use held::{HeldPage, fetch_held_slot};
 pub use laws::{free_lists_are_stacks, insertion_adds, pieces_answer};
 pub use page::{
     HALF, Head, LEVEL_MAX, PAGE_LEN, PAIRS_MAX, Pairs, next_pair, read_head, read_pair, read_pairs,

@@ -9,3 +9,4 @@ pub mod Data
 pub mod Whole
 pub mod Taking
 pub mod Testing
+pub mod Gathering

@@ -6,7 +6,7 @@ use Rattle.mars_base.proofs.Checks.{both_on}
 use Rattle.record_slots.specs.Places.{next_page, page_bytes}
 use Rattle.page_store.specs.Pairs.{Pair}
 use Rattle.page_store.specs.declared.index_fault.CheckFault.{CheckFault}
-use Rattle.page_store.specs.declared.index_fault.CheckFault.TheVariants.{Damaged, Media, Dead}
+use Rattle.page_store.specs.declared.index_fault.CheckFault.TheVariants.{Damaged, Media, Dead, NoMemory}
 use Rattle.index_pages.specs.Page.{page_pairs, pairs_said, link_of, link_said}
 use Rattle.index_pages.specs.Slots.{slot_check, IsVerdict}
 use Rattle.key_list.specs.Chain.{behind, IsChainHead, pair_check, pairs_check, chain_from, chain_check}
@@ -19,6 +19,7 @@ pair_told bytes table page low pair le (Ok tt) cause = (le, cause)
 pair_told bytes table page low pair le (Err (Damaged bad)) cause = inr (le, cause)
 pair_told bytes table page low pair le (Err Media) cause = tt
 pair_told bytes table page low pair le (Err Dead) cause = tt
+pair_told bytes table page low pair le (Err NoMemory) cause = tt
 
 -- Of all pairs after a lower bound these are left after another: their verdict is that of all.
 abbrev pub PairsLeft : List ℕ → ℕ → ℕ → ℕ → List Pair → ℕ → List Pair → Type 0
@@ -32,6 +33,7 @@ module _ (bytes : List ℕ) (table page low : ℕ) (pairs : List Pair) (low' : �
   left_fails (Damaged bad) f = left (Some bad) (inl f)
   left_fails Media f = tt
   left_fails Dead f = tt
+  left_fails NoMemory f = tt
 
 -- Of a chain at most n pages are left from this one on, after keys below a lower bound: their verdict is that of the whole chain.
 abbrev pub ChainLeft : List ℕ → ℕ → ℕ → ℕ → ℕ → ℕ → Type 0
@@ -55,6 +57,7 @@ module _ (bytes buf : List ℕ) (root table page low n : ℕ) (is : buf ≡ page
         subst (λ (b : ℕ). chain_check bytes root table (Some b)) same (left (Some bad') (inr (head_there, inl there)))
     pairs_fail Media bad e f = absurd (cc)
     pairs_fail Dead bad e f = absurd (cc)
+    pairs_fail NoMemory bad e f = absurd (cc)
 
     module _ (well : pairs_check bytes table page low (pairs_said buf) None) where
       pairs_there : pairs_check bytes table page low (page_pairs bytes page) None
@@ -101,4 +104,5 @@ pub table_err : (bytes : List ℕ) (root table : ℕ) (fault : CheckFault) → (
     → (let s : Result (Unit {0}) CheckFault = Err fault in IsVerdict (chain_check bytes root table) s)
 table_err bytes root table Media fails = tt
 table_err bytes root table Dead fails = tt
+table_err bytes root table NoMemory fails = tt
 table_err bytes root table (Damaged bad) fails = fails bad refl

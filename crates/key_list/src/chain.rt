@@ -7,7 +7,8 @@ ghost use Rattle.key_list.specs.Index.{chain};
 
 use crate::{checking, insertion, look, removal};
 use eaw_face::EawStore;
-use page_store::{CheckFault, IndexFault, KeyIndex, NextPairs, PageFault, Pages};
+use page_store::{CheckFault, IndexFault, KeyIndex, NextPairs, PageFault, Pages, TableRows};
+use std::alloc::Global;
 
 /// Indexes that are chains of pages in the order of their keys, one for each table: it begins in the table's root and follows the links. A
 /// look-up reads each page of the chain up to that of its key. An insertion is one nested top action of three parts: the slot, the page and
@@ -22,8 +23,12 @@ impl KeyIndex for KeyList {
 
     ghost alone = { IsSoundChain-prop };
 
-    fn check<S: EawStore>(pages: &mut Pages<S>) -> Result<(), CheckFault> {
-        checking::check(pages)
+    fn check<S: EawStore>(
+        alloc: Global,
+        pages: &mut Pages<S>,
+        tables: &mut TableRows,
+    ) -> Result<(), CheckFault> {
+        checking::check(alloc, pages, tables)
     }
 
     fn find<S: EawStore>(

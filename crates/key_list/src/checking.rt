@@ -1,34 +1,44 @@
 // The test of the whole chain.
-ghost use Rattle.std.specs.Prelude.{◌≡◌, ◌<◌, ◌≤◌, ◌↔◌, ◌^◌, IfOk, IfSome, IfNone, IsErrOf, IsTrue};
+ghost use Rattle.std.specs.Prelude.{◌≡◌, ◌<◌, ◌≤◌, ◌↔◌, ◌^◌, ◌++◌, IfOk, IfSome, IfNone, OnOk, IsErrOf, IsTrue};
 ghost use Rattle.eaw_face.specs.Causes.{IsAlive};
 ghost use Rattle.array_shape.specs.Places.{page_count};
 ghost use Rattle.record_slots.specs.Places.{next_slot, page_bytes, tables_of, IsSuper};
 ghost use Rattle.record_slots.specs.Super.{SaysSuper};
 ghost use Rattle.page_store.specs.Index.{slots_of, index_pages_of};
 ghost use Rattle.page_store.specs.Looks.{Looks, CheckCause, is_check_failed};
+ghost use Rattle.page_store.specs.Records.{row_of, rows_of, records_of};
 ghost use Rattle.page_store.specs.Shown.{pages_of};
 ghost use Rattle.index_pages.specs.Fetched.{IsFront};
+ghost use Rattle.index_pages.specs.Held.{IsHeld};
 ghost use Rattle.index_pages.specs.Page.{count_said, pairs_said};
 ghost use Rattle.key_list.specs.Linked.{SaysLeaf};
 ghost use Rattle.index_pages.specs.Slots.{IsVerdict, tables_check};
-ghost use Rattle.key_list.specs.Chain.{behind, IsChainHead, pair_check, pairs_check, chain_check};
+ghost use Rattle.key_list.specs.Chain.{behind, IsChainHead, pair_check, pairs_check, chain_check, pairs_of_chain};
 ghost use Rattle.key_list.specs.Checked.{low_of};
 ghost use Rattle.key_list.specs.Index.{chain};
 
 use crate::page::read_leaf_head;
 use crate::place::FORM;
 use eaw_face::EawStore;
+use history::Rows;
 use index_pages::{
-    Head, PAGE_LEN, check_fault, check_lists, check_slot, check_super, fetch_page, read_pair,
+    Head, HeldPage, PAGE_LEN, check_fault, check_lists, check_slot, check_super, fetch_page,
+    read_pair,
 };
-use page_store::{CheckFault, Pages};
+use page_store::{CheckFault, Pages, TableRows};
 use record_slots::{Super, TABLES_MAX, table_root};
+use std::alloc::Global;
 
-// Tests the super page, the lists of what is free, and then the chain of each table.
-pub fn check<S: EawStore>(pages: &mut Pages<S>) -> Result<(), CheckFault>
+// Tests the super page, the lists of what is free, and then the chain of each table, and gathers the records.
+pub fn check<S: EawStore>(
+    alloc: Global,
+    pages: &mut Pages<S>,
+    tables: &mut TableRows,
+) -> Result<(), CheckFault>
     ensures looks { Looks S.tells (S.opens (S.view pages.old.store).shape) (is_check_failed result)
         (pages_of (S.view pages.old.store) pages.old) (pages_of (S.view pages.new.store) pages.new) }
     ensures cause { CheckCause S.tells chain (S.view pages.old.store) result }
+    ensures records { IsTrue S.tells → OnOk result (tables.new ≡ tables.old ++ records_of chain (S.view pages.old.store).state.bytes) }
     ensures dead { IsErrOf result CheckFault.Dead → pages.new ≡ pages.old }
 {
     let front = match check_super(pages, FORM) {
@@ -39,11 +49,16 @@ pub fn check<S: EawStore>(pages: &mut Pages<S>) -> Result<(), CheckFault>
         Ok(()) => {}
         Err(fault) => return Err(fault),
     }
-    check_tables(pages, &front)
+    check_tables(alloc, pages, tables, &front)
 }
 
 // Tests the chain of each table by its number.
-fn check_tables<S: EawStore>(pages: &mut Pages<S>, front: &Super) -> Result<(), CheckFault>
+fn check_tables<S: EawStore>(
+    alloc: Global,
+    pages: &mut Pages<S>,
+    tables: &mut TableRows,
+    front: &Super,
+) -> Result<(), CheckFault>
     requires alive { IsAlive (S.view pages.old.store) }
     requires front { IsFront (S.view pages.old.store).shape front.now }
     requires sound { IsTrue S.tells → IsSuper 0 (S.view pages.old.store).state.bytes }
@@ -51,6 +66,8 @@ fn check_tables<S: EawStore>(pages: &mut Pages<S>, front: &Super) -> Result<(), 
         (pages_of (S.view pages.old.store) pages.old) (pages_of (S.view pages.new.store) pages.new) }
     ensures cause { IsTrue S.tells → SaysSuper (page_bytes (S.view pages.old.store).state.bytes 0) front.now
         → IsVerdict (tables_check (chain_check (S.view pages.old.store).state.bytes) 0 (tables_of (S.view pages.old.store).state.bytes)) result }
+    ensures records { IsTrue S.tells → SaysSuper (page_bytes (S.view pages.old.store).state.bytes 0) front.now
+        → OnOk result (tables.new ≡ tables.old ++ records_of chain (S.view pages.old.store).state.bytes) }
     ensures dead { IsErrOf result CheckFault.Dead → ⊥ }
 {
     for table in 0..TABLES_MAX as u8 {
@@ -60,9 +77,14 @@ fn check_tables<S: EawStore>(pages: &mut Pages<S>, front: &Super) -> Result<(), 
         if root >= front.next_page {
             return Err(CheckFault::Damaged { page: 0 });
         }
-        match check_table(pages, root, table, front) {
+        let mut rows = Rows::new(alloc);
+        match check_table(pages, &mut rows, root, table, front) {
             Ok(()) => {}
             Err(fault) => return Err(fault),
+        }
+        match tables.push(rows) {
+            Ok(()) => {}
+            Err(_) => return Err(CheckFault::NoMemory),
         }
     }
     Ok(())
@@ -71,6 +93,7 @@ fn check_tables<S: EawStore>(pages: &mut Pages<S>, front: &Super) -> Result<(), 
 // Tests the pages of the chain of a table one after another.
 fn check_table<S: EawStore>(
     pages: &mut Pages<S>,
+    rows: &mut Rows,
     root: u32,
     table: u8,
     front: &Super,
@@ -82,6 +105,8 @@ fn check_table<S: EawStore>(
         (pages_of (S.view pages.old.store) pages.old) (pages_of (S.view pages.new.store) pages.new) }
     ensures cause { IsTrue S.tells → SaysSuper (page_bytes (S.view pages.old.store).state.bytes 0) front.now
         → IsVerdict (chain_check (S.view pages.old.store).state.bytes root table) result }
+    ensures rows { IsTrue S.tells → SaysSuper (page_bytes (S.view pages.old.store).state.bytes 0) front.now
+        → OnOk result (rows.new ≡ rows.old ++ rows_of (S.view pages.old.store).state.bytes (pairs_of_chain (S.view pages.old.store).state.bytes root)) }
     ensures dead { IsErrOf result CheckFault.Dead → ⊥ }
 {
     let mut page = root;
@@ -97,6 +122,7 @@ fn check_table<S: EawStore>(
         };
         last = match check_pairs(
             pages,
+            rows,
             table,
             page,
             &bytes,
@@ -143,6 +169,7 @@ fn chain_head(bytes: &[u8; PAGE_LEN], last: Option<u64>) -> Option<Head>
 // Tests the pairs of a page after a last key, and returns the new last key.
 fn check_pairs<S: EawStore>(
     pages: &mut Pages<S>,
+    rows: &mut Rows,
     table: u8,
     page: u32,
     bytes: &[u8; PAGE_LEN],
@@ -160,13 +187,24 @@ fn check_pairs<S: EawStore>(
     ensures low { IfOk result (λ last. low_of last ≤ 2 ^ 64) }
     ensures cause { IsTrue S.tells → slots ≡ next_slot (S.view pages.old.store).state.bytes
         → IsVerdict (pairs_check (S.view pages.old.store).state.bytes table page (low_of last) (pairs_said bytes.now)) result }
+    ensures rows { IsTrue S.tells → OnOk result (rows.new ≡ rows.old ++ rows_of (S.view pages.old.store).state.bytes (pairs_said bytes.now)) }
     ensures behind { IfOk result (λ key. low_of key ≡ behind (low_of last) (pairs_said bytes.now)) }
     ensures dead { IsErrOf result CheckFault.Dead → ⊥ }
 {
     let mut last = last;
+    let mut held = HeldPage::none();
     for i in 0..count {
         let (key, slot) = read_pair(bytes, i);
-        match check_pair(pages, table, page, (key, slot), last, slots) {
+        match check_pair(
+            pages,
+            &mut held,
+            rows,
+            table,
+            page,
+            (key, slot),
+            last,
+            slots,
+        ) {
             Ok(()) => {}
             Err(fault) => return Err(fault),
         }
@@ -178,6 +216,8 @@ fn check_pairs<S: EawStore>(
 // Tests a pair of a page after a last key: its key, its slot, and what that slot says.
 fn check_pair<S: EawStore>(
     pages: &mut Pages<S>,
+    held: &mut HeldPage,
+    rows: &mut Rows,
     table: u8,
     page: u32,
     pair: (u64, u64),
@@ -186,8 +226,11 @@ fn check_pair<S: EawStore>(
 ) -> Result<(), CheckFault>
     requires alive { IsAlive (S.view pages.old.store) }
     requires slots { slots ≤ slots_of (S.view pages.old.store).shape }
+    requires held { IsTrue S.tells → IsHeld (S.view pages.old.store).state.bytes held.old }
     ensures looks { Looks S.tells (S.opens (S.view pages.old.store).shape) (is_check_failed result)
         (pages_of (S.view pages.old.store) pages.old) (pages_of (S.view pages.new.store) pages.new) }
+    ensures held { IsTrue S.tells → OnOk result (IsHeld (S.view pages.old.store).state.bytes held.new) }
+    ensures rows { IsTrue S.tells → OnOk result (rows.new ≡ rows.old ++ row_of (S.view pages.old.store).state.bytes pair) }
     ensures cause { IsTrue S.tells → slots ≡ next_slot (S.view pages.old.store).state.bytes
         → IsVerdict (pair_check (S.view pages.old.store).state.bytes table page (low_of last) pair) result }
     ensures dead { IsErrOf result CheckFault.Dead → ⊥ }
@@ -195,7 +238,7 @@ fn check_pair<S: EawStore>(
     if !is_above(last, pair.0) {
         return Err(CheckFault::Damaged { page });
     }
-    check_slot(pages, table, page, pair, slots)
+    check_slot(pages, held, rows, table, page, pair, slots)
 }
 
 // Whether the key may follow the last one.

@@ -15,5 +15,4 @@ pub mod Attaching
 pub mod Unwritten
 pub mod Clearing
 pub mod Purged
-pub mod LeftAlone
 pub mod Tabled

@@ -5,6 +5,7 @@ use Rattle.std.specs.Cmp.{nat_cmp_total}
 use Rattle.std.specs.FinMap.{get, entries, from_entries, get-entries, get-from_entries}
 use Rattle.std.specs.FinMap.Entries.{find}
 use Rattle.std.proofs.lemmas.Bool.{cases_lt}
+use Rattle.mars_base.proofs.Going.{stays}
 use Rattle.array_shape.specs.declared.shape.Shape.{Shape}
 use Rattle.eaw_face.specs.State.{State as StoreState}
 use Rattle.eaw_face.specs.Causes.{IsAlive}
@@ -33,134 +34,69 @@ use Rattle.mars_core.specs.Kept.{Mirrors, HasHeld, IsTied, IsKept}
 use Rattle.mars_core.specs.Seats.{Seats, live_in}
 use Rattle.mars_core.proofs.Prefixes.{StoreLaws, safe_alive}
 
--- if no row has a key above the largest u64, all rows are within all keys
-all_within : (es : List (ℕ × List ℕ)) → ((q : ℕ) → 2 ^ 64 - 1 < q → find nat_cmp q es ≡ None) → filter (is_within 0 (2 ^ 64 - 1)) es ≡ es
-all_within [] none = refl
-all_within (e ∷ es) none = elim (cases_lt (2 ^ 64 - 1) e.0) [
-  | inl lt ↦ absurd (no_some e.1 (ap (λ (b : Bool). cond b (Some e.1) (find nat_cmp e.0 es)) (sym (tied e.0 e.0 ∙ eq-eqb e.0 e.0 refl)) ∙ none e.0 lt))
-  | inr le ↦ (λ i. cond (le-leb 0 e.0 (omega arith) i && le-leb e.0 (2 ^ 64 - 1) le i) (e ∷ filter (is_within 0 (2 ^ 64 - 1)) es) (filter (is_within 0 (2 ^ 64 - 1)) es))
-      ∙ ap (λ (rest : List (ℕ × List ℕ)). e ∷ rest) (all_within es (λ q lt.
-      ap (λ (b : Bool). cond b (Some e.1) (find nat_cmp q es)) (sym (tied q e.0 ∙ ne_eqb e.0 q (λ same. omega (arith, same, lt, le)))) ∙ none q lt))
-]
-  where
-    no_some : (v : List ℕ) → (let o : Option (List ℕ) = Some v in o ≡ None) → ⊥
-    no_some v is = absurd (cc)
-
-module _ (m : Table) (none : (q : ℕ) → 2 ^ 64 - 1 < q → get m q ≡ None) (rows : List (ℕ × List ℕ)) (is : rows ≡ rows_within 0 (2 ^ 64 - 1) m) where
-  pub rows_are : rows ≡ entries m
-  rows_are = is ∙ all_within (entries m) (λ q lt. sym (get-entries m q) ∙ none q lt)
-
-  -- the rows of a table are that table's
+-- the rows of a table are that table's
+module _ (m : Table) (rows : List (ℕ × List ℕ)) (is : rows ≡ entries m) where
   pub base_is : table_of rows ≡ m
-  base_is = ap table_of rows_are ∙ same_table (from_entries (entries m)) m (λ q. get-from_entries nat_cmp_total (entries m) q ∙ sym (get-entries m q))
+  base_is = ap table_of is ∙ same_table (from_entries (entries m)) m (λ q. get-from_entries nat_cmp_total (entries m) q ∙ sym (get-entries m q))
 
   pub base_rows : entries (table_of rows) ≡ rows
-  base_rows = ap (λ (table : Table). entries table) base_is ∙ sym rows_are
-
-none_above : (low high : ℕ) (ps : List Pair) (q : ℕ) → Rise low high ps → high ≤ q → found ps q ≡ None
-none_above low high [] q rises le = refl
-none_above low high (p ∷ ps) q rises le =
-    ap (λ (b : Bool). cond b (Some p.1) (found ps q)) (ne_eqb p.0 q (λ same. omega (arith, same, le, last (suc p.0) high ps rises.1))) ∙ none_above (suc p.0) high ps q rises.1 le
-  where
-    last : (low high : ℕ) (ps : List Pair) → Rise low high ps → low ≤ high
-    last low high [] le = le
-    last low high (p ∷ ps) rises = omega (arith, rises.0, last (suc p.0) high ps rises.1)
-
--- the records of a sound index have no key above the largest u64
-pub no_key_above : (index : below.Index) (bytes : List ℕ) → Rise 0 (2 ^ 64) (pairs_of index bytes) → (q : ℕ) → 2 ^ 64 - 1 < q → get (shown.table_of index bytes) q ≡ None
-unfolding shown.table_of
-no_key_above index bytes rises q lt = get-table_in bytes (pairs_of index bytes) q ∙ ap (record_at bytes) (none_above 0 (2 ^ 64) (pairs_of index bytes) q rises (omega (arith, lt)))
-
--- a scan at the opening that was refused
-pub scan_gives_back : (tells : Bool) (Opens : List ℕ → List ℕ → Type 0) (t : ℕ) (p q : PagesView) → IsAlive p.store → (T : Type 0) (f : TableFault) → (let r : Result T TableFault = Err f in LooksAs tells Opens t (is_failed r) p q)
-    → ((let r : Result T TableFault = Err f in is_failed r) ≡ is_media_fault (scan_fault f)) → GivesBack tells Opens (is_media_fault (scan_fault f)) p.store q.store
-scan_gives_back tells Opens t p q alive T f looks same = record {
-  shape = looks.shape;
-  kept = λ well. let still = (looks.same (same ∙ well)).still in (still.dead, still.faults);
-  dies = λ failed. looks.dies (same ∙ failed);
-  time = λ told. looks.time told alive;
-}
+  base_rows = ap (λ (table : Table). entries table) base_is ∙ sym is
 
 no_log : (new : State) → ((t : ℕ) → new.live t ≡ None) → (t : ℕ) → calls_of new t ≡ []
 no_log new idle t = ap (λ (o : Option Granted). unwrap_or o []) (idle t)
 
--- A core over records to which nobody has written, with the rows of a scan.
-module _ (tells : Bool) (Opens : Shape → List ℕ → List ℕ → Type 0) (index : below.Index) (p q : PagesView) (new_laws : StoreLaws tells Opens q.store) (rises : index.sound p.store.state.bytes → Rise 0 (2 ^ 64) (pairs_of index p.store.state.bytes))
-    (alive : IsAlive p.store) (sound : IsTrue tells → index.sound p.store.state.bytes) (idle : IsTrue tells → (t : ℕ) → ((state_of index p).logs t).writes ≡ []) (unsaved : IsTrue tells → (t : ℕ) → ((state_of index p).logs t).saved ≡ [])
-    (looks : LooksAs tells (Opens p.store.shape) 0 false p q) (same : IsTrue tells → state_of index q ≡ state_of index p) (rows : List (ℕ × List ℕ)) (scanned : IsTrue tells → rows ≡ rows_within 0 (2 ^ 64 - 1) (seen_by (state_of index p) 0))
+-- A core over records to which nobody has written, with their rows.
+module _ (tells : Bool) (Opens : Shape → List ℕ → List ℕ → Type 0) (index : below.Index) (p : PagesView) (laws : StoreLaws tells Opens p.store) (alive : IsAlive p.store) (sound : IsTrue tells → index.sound p.store.state.bytes)
+    (idle : IsTrue tells → (t : ℕ) → ((state_of index p).logs t).writes ≡ []) (unsaved : IsTrue tells → (t : ℕ) → ((state_of index p).logs t).saved ≡ []) (rows : List (ℕ × List ℕ)) (are : IsTrue tells → rows ≡ entries (shown.table_of index p.store.state.bytes))
     (seats : Seats) (count : length seats ≡ p.store.shape.numbers) (none : (t : ℕ) → live_in seats t ≡ None) (history : List Done) (empty : history ≡ []) (doubt : List Done) (sure : doubt ≡ []) where
-  new : State
-  new = state_at index q.store (table_of rows) history (live_in seats) doubt
-
-  lives : IsAlive q.store
-  lives = (looks.same refl).still.dead ∙ alive
-
   module _ (told : IsTrue tells) where
-    bytes_same : q.store.state.bytes ≡ p.store.state.bytes
-    bytes_same = ap (λ (s : StoreState). s.bytes) ((looks.same refl).still.state told)
-
-    seen_is : seen_by (state_of index p) 0 ≡ shown.table_of index p.store.state.bytes
-    seen_is = ap (λ (ws : List Write). seen_with ws) (idle told 0)
-      where
-        seen_with : List Write → Table
-        seen_with ws = all_written (shown.table_of index p.store.state.bytes) ws
-
-    rows_is : rows ≡ rows_within 0 (2 ^ 64 - 1) (shown.table_of index p.store.state.bytes)
-    rows_is = scanned told ∙ ap (rows_within 0 (2 ^ 64 - 1)) seen_is
-
-    above : (k : ℕ) → 2 ^ 64 - 1 < k → get (shown.table_of index p.store.state.bytes) k ≡ None
-    above = no_key_above index p.store.state.bytes (rises (sound told))
-
     table_is : table_of rows ≡ shown.table_of index p.store.state.bytes
-    table_is = base_is (shown.table_of index p.store.state.bytes) above rows rows_is
-
-    sound_new : index.sound q.store.state.bytes
-    sound_new = subst index.sound (sym bytes_same) (sound told)
+    table_is = base_is (shown.table_of index p.store.state.bytes) rows (are told)
 
     -- its state is that of a core that was just opened
-    opened_is : state_at index q.store (table_of rows) history (live_in seats) doubt ≡ opened (shown.table_of index p.store.state.bytes) (index_of index p.store.state.bytes)
-    opened_is = λ i. record { base = table_is i; history = empty i; live = λ t. none t i; doubt = sure i; is_dead = lives i; index = index_of index (bytes_same i) }
+    opened_is : state_at index p.store (table_of rows) history (live_in seats) doubt ≡ opened (shown.table_of index p.store.state.bytes) (index_of index p.store.state.bytes)
+    opened_is = λ i. record { base = table_is i; history = empty i; live = λ t. none t i; doubt = sure i; is_dead = alive i; index = index_of index p.store.state.bytes }
 
-    mirrors : Mirrors (state_of index q) (state_at index q.store (table_of rows) history (live_in seats) doubt)
-    mirrors = subst (λ (s : State). Mirrors (state_of index q) s) (sym opened_is) (record {
-      table = ap (λ (b : TableState). b.table) (same told);
-      logs = λ t. ap (λ (b : TableState). b.logs t) (same told) ∙ (λ i. record { writes = idle told t i; saved = unsaved told t i });
+    mirrors : Mirrors (state_of index p) (state_at index p.store (table_of rows) history (live_in seats) doubt)
+    mirrors = subst (λ (s : State). Mirrors (state_of index p) s) (sym opened_is) (record {
+      table = refl;
+      logs = λ t. (λ i. record { writes = idle told t i; saved = unsaved told t i });
     })
 
-    tied_new : IsTied index q (state_at index q.store (table_of rows) history (live_in seats) doubt)
+    tied_new : IsTied index p (state_at index p.store (table_of rows) history (live_in seats) doubt)
     tied_new = record {
-      index_sound = sound_new;
+      index_sound = sound told;
       mirrors = mirrors;
       sound = subst IsSound (sym opened_is) (opened_sound (shown.table_of index p.store.state.bytes) (index_of index p.store.state.bytes));
-      room = subst (HasHeld (limits_of q.store.shape)) (sym opened_is) (λ caller g. omega arith);
+      room = subst (HasHeld (limits_of p.store.shape)) (sym opened_is) (λ caller g. omega arith);
     }
 
-  pub opened_keeps : IsKept tells Opens index q (length seats) rows (state_at index q.store (table_of rows) history (live_in seats) doubt)
+  pub opened_keeps : IsKept tells Opens index p (length seats) rows (state_at index p.store (table_of rows) history (live_in seats) doubt)
   opened_keeps = record {
-    seats = count ∙ sym (ap (λ (h : Shape). h.numbers) looks.shape);
-    in_order = λ told. base_rows (shown.table_of index p.store.state.bytes) (above told) rows (rows_is told);
+    seats = count;
+    in_order = λ told. base_rows (shown.table_of index p.store.state.bytes) rows (are told);
     tied = λ told _. tied_new told;
-    safe = λ told. safe_alive tells Opens index q new_laws (state_at index q.store (table_of rows) history (live_in seats) doubt) told lives (tied_new told);
+    safe = λ told. safe_alive tells Opens index p laws (state_at index p.store (table_of rows) history (live_in seats) doubt) told alive (tied_new told);
   }
 
-  pub opened_begins : Begins tells (Opens p.store.shape) index p.store q.store (core_over Opens index q.store (state_at index q.store (table_of rows) history (live_in seats) doubt))
+  pub opened_begins : Begins tells (Opens p.store.shape) index p.store p.store (core_over Opens index p.store (state_at index p.store (table_of rows) history (live_in seats) doubt))
   opened_begins = record {
     over = record {
       limits = refl;
       faults = refl;
       moment = refl;
       left = λ since image. (λ left. left, λ left. left);
-      opens_to = λ image table. (λ o. subst (λ (h : Shape). OpensWith (Opens h) index image table) (sym looks.shape) o, λ o. subst (λ (h : Shape). OpensWith (Opens h) index image table) looks.shape o);
+      opens_to = λ image table. (λ o. o, λ o. o);
       dead = refl;
       keys = λ told. refl;
-      sound = λ told _. sound_new told;
+      sound = λ told _. sound told;
       table = λ told _. (mirrors told).table;
     };
-    alive = lives;
-    faults = (looks.same refl).still.faults;
-    shape = looks.shape;
+    alive = alive;
+    faults = refl;
+    shape = refl;
     state = opened_is;
     fresh = (empty, none, sure);
     sound = sound;
-    time = λ told. looks.time told alive;
+    time = λ told. stays p.store.moment p.store.left_since (λ image. Opens p.store.shape image p.store.state.bytes);
   }

@@ -22,6 +22,7 @@ CoreCause tells index old _ = Unit {0}
 -- why records could not be taken, or not be read
 abbrev pub attach_fault : AttachRecords → CoreFault
 attach_fault (table.Damaged page) = Damaged page
+attach_fault table.NoMemory = NoMemory
 attach_fault _ = Media
 
 abbrev pub scan_fault : TableFault → CoreFault

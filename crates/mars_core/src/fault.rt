@@ -26,6 +26,7 @@ impl From<AttachRecords> for CoreFault {
             AttachRecords::Damaged { page } => CoreFault::Damaged { page },
             AttachRecords::Media => CoreFault::Media,
             AttachRecords::Dead => CoreFault::Media,
+            AttachRecords::NoMemory => CoreFault::NoMemory,
         }
     }
 }

@@ -9,11 +9,13 @@ use eaw_face::EawStore;
 use page_store::{KeyIndex, Pages, SaveRoom};
 use record_slots::Name;
 use record_table::{MakeFault, Records};
+use std::alloc::Global;
 
 /// Makes a table of this name, without records, in the data of a store that is not dead and on which no number is live, and returns its
 /// number. The data is brought to version 2 first. The store is given back. An error says why the records were not taken, and then nothing
 /// is written; a refusal within says why there is no new table.
 pub fn make_table<S: EawStore, K: KeyIndex>(
+    alloc: Global,
     room: SaveRoom,
     store: S,
     name: &Name,
@@ -24,8 +26,8 @@ pub fn make_table<S: EawStore, K: KeyIndex>(
     ensures cause { IfErr result.0 (λ fault. CoreCause S.tells K.index (S.view store) fault) }
     ensures left { IfErr result.0 (λ fault. LeftAsItWas S.tells (S.opens (S.view store).shape) (is_media_fault fault) (S.view store) (S.view result.1)) }
 {
-    let mut records = match Records::<S, K>::attach(Pages::attach_in(room, store)) {
-        Ok(records) => records,
+    let (mut records, _) = match Records::<S, K>::attach(alloc, Pages::attach_in(room, store)) {
+        Ok(attached) => attached,
         Err((fault, pages)) => return (Err(CoreFault::from(fault)), pages.into_store()),
     };
     let made = records.make(name);

@@ -27,16 +27,9 @@ pub fn read_records<S: EawStore, K: KeyIndex>(
     ensures cause { IfErr result.0 (λ fault. CoreCause S.tells K.index (S.view store) fault) }
     ensures left { LeftAsItWas S.tells (S.opens (S.view store).shape) (is_failed result.0) (S.view store) (S.view result.1) }
 {
-    let mut records = match Records::<S, K>::attach(Pages::attach_in(room, store)) {
-        Ok(records) => records,
+    let (records, rows) = match Records::<S, K>::attach(alloc, Pages::attach_in(room, store)) {
+        Ok(attached) => attached,
         Err((fault, pages)) => return (Err(CoreFault::from(fault)), pages.into_store()),
-    };
-    let rows = match records.scan(alloc, 0, 0, u64::MAX) {
-        Ok(rows) => rows,
-        Err(fault) => return (
-            Err(CoreFault::from(fault)),
-            records.into_pages().into_store(),
-        ),
     };
     let store = records.into_pages().into_store();
     (Ok(rows), store)

@@ -79,11 +79,11 @@ impl<S: EawStore, K: KeyIndex> Core<S, K> {
         ensures cause { IfErr result (λ failed. CoreCause S.tells K.index (S.view store) failed.0) }
         ensures gives_back { IfErr result (λ failed. GivesBack S.tells (S.opens (S.view store).shape) (is_media_fault failed.0) (S.view store) (S.view failed.1)) }
     {
-        let records = match Records::attach(Pages::attach_in(room, store)) {
-            Ok(records) => records,
+        let (records, base) = match Records::attach(alloc, Pages::attach_in(room, store)) {
+            Ok(attached) => attached,
             Err((fault, pages)) => return Err((CoreFault::from(fault), pages.into_store())),
         };
-        begin_over(alloc, records)
+        begin_over(alloc, records, base)
     }
 
     /// The transactions committed since the opening, in the order of their commits.
@@ -308,13 +308,15 @@ impl<S: EawStore, K: KeyIndex> Steps for Core<S, K> {
     }
 }
 
-// Reads the records at the opening and makes room for the callers.
+// Makes room for the callers, over the records at the opening and their rows.
 fn begin_over<S: EawStore, K: KeyIndex>(
     alloc: Global,
     records: Records<S, K>,
+    base: Rows,
 ) -> Result<Core<S, K>, (CoreFault, S)>
     requires alive { IsAlive (S.view records.store) }
     requires sound { IsTrue S.tells → K.index.sound (S.view records.store).state.bytes }
+    requires base { IsTrue S.tells → base ≡ entries (state_of K.index (pages_of (S.view records.store) records)).table }
     requires idle { IsTrue S.tells → (t : ℕ) → ((state_of K.index (pages_of (S.view records.store) records)).logs t).writes ≡ [] }
     requires unsaved { IsTrue S.tells → (t : ℕ) → ((state_of K.index (pages_of (S.view records.store) records)).logs t).saved ≡ [] }
     ensures begins { IfOk result (λ core. Begins S.tells (S.opens (S.view records.store).shape) K.index (S.view records.store) (S.view core.records.store)
@@ -322,14 +324,9 @@ fn begin_over<S: EawStore, K: KeyIndex>(
     ensures cause { IfErr result (λ failed. CoreCause S.tells K.index (S.view records.store) failed.0) }
     ensures gives_back { IfErr result (λ failed. GivesBack S.tells (S.opens (S.view records.store).shape) (is_media_fault failed.0) (S.view records.store) (S.view failed.1)) }
 {
-    let mut records = records;
     let seats = match Seats::new(alloc, records.shape().numbers) {
         Ok(seats) => seats,
         Err(_) => return Err((CoreFault::NoMemory, records.into_pages().into_store())),
-    };
-    let base = match records.scan(alloc, 0, 0, u64::MAX) {
-        Ok(base) => base,
-        Err(fault) => return Err((CoreFault::from(fault), records.into_pages().into_store())),
     };
     Ok(Core {
         alloc,

@@ -22,5 +22,6 @@ pub fn find_form<S: EawStore>(store: &mut S) -> Result<Form, CoreFault>
         Err(AttachRecords::Damaged { page }) => Err(CoreFault::Damaged { page }),
         Err(AttachRecords::Media) => Err(CoreFault::Media),
         Err(AttachRecords::Dead) => Err(CoreFault::Media),
+        Err(AttachRecords::NoMemory) => Err(CoreFault::NoMemory),
     }
 }

@@ -16,5 +16,6 @@ pub mod Reads
 pub mod Pairs
 pub mod Index
 pub mod Looks
+pub mod Records
 pub mod Inserts
 pub mod Removes

@@ -50,3 +50,4 @@ CheckCause tells index old (Ok answer) = IsAlive old × (IsTrue tells → index.
 CheckCause tells index old (Err (check.Damaged bad)) = IsAlive old × (IsTrue tells → index.fails old.state.bytes bad)
 CheckCause tells index old (Err check.Media) = IsAlive old
 CheckCause tells index old (Err check.Dead) = old.is_dead ≡ true
+CheckCause tells index old (Err check.NoMemory) = IsAlive old

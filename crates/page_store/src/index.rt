@@ -1,5 +1,5 @@
 // An index over pages, as the layers above see it.
-ghost use Rattle.std.specs.Prelude.{◌≡◌, ◌^◌, ◌<◌, ◌≤◌, List, [], ℕ, None, IfOk, IfSome, IsErrOf, IsTrue};
+ghost use Rattle.std.specs.Prelude.{◌≡◌, ◌^◌, ◌<◌, ◌≤◌, ◌++◌, List, [], ℕ, None, IfOk, IfSome, OnOk, IsErrOf, IsTrue};
 ghost use Rattle.array_shape.specs.Places.{page_count};
 ghost use Rattle.eaw_face.specs.Causes.{IsAlive};
 ghost use Rattle.record_slots.specs.Places.{next_page, page_bytes, version_of, AreGiven};
@@ -8,13 +8,16 @@ ghost use Rattle.page_store.specs.Inserts.{Inserts};
 ghost use Rattle.page_store.specs.Removes.{HasAbsent, Removes};
 ghost use Rattle.page_store.specs.Looks.{Looks, LookCause, CheckCause, is_failed, is_check_failed};
 ghost use Rattle.page_store.specs.Pairs.{Rise, AreInside, AreNext, found};
+ghost use Rattle.page_store.specs.Records.{records_of};
 ghost use Rattle.page_store.specs.Shown.{pages_of, top_in};
 
 use crate::fault::PageFault;
 use crate::index_fault::{CheckFault, IndexFault};
 use crate::pages::Pages;
+use crate::table_rows::TableRows;
 use arrayvec::ArrayVec;
 use eaw_face::EawStore;
+use std::alloc::Global;
 
 /// The most pairs that a look gives: as many as a page of an index has.
 pub const NEXT_MAX: usize = 30;
@@ -35,11 +38,17 @@ pub trait KeyIndex {
     /// There is at most one proof of soundness.
     ghost alone: { (bytes : List ℕ) → IsProp (index.sound bytes) };
 
-    /// Tests the super page, the lists of what is free, and the index of each table by its number, and names the first page that fails.
-    fn check<S: EawStore>(pages: &mut Pages<S>) -> Result<(), CheckFault>
+    /// Tests the super page, the lists of what is free, and the index of each table by its number, and names the first page that fails. The
+    /// records of each table, which are met on the way, come behind those that were gathered before.
+    fn check<S: EawStore>(
+        alloc: Global,
+        pages: &mut Pages<S>,
+        tables: &mut TableRows,
+    ) -> Result<(), CheckFault>
         ensures looks { Looks S.tells (S.opens (S.view pages.old.store).shape) (is_check_failed result)
             (pages_of (S.view pages.old.store) pages.old) (pages_of (S.view pages.new.store) pages.new) }
         ensures cause { CheckCause S.tells index (S.view pages.old.store) result }
+        ensures records { IsTrue S.tells → OnOk result (tables.new ≡ tables.old ++ records_of index (S.view pages.old.store).state.bytes) }
         ensures dead { IsErrOf result CheckFault.Dead → pages.new ≡ pages.old };
 
     /// The slot of a key of a table, if its index has the key.

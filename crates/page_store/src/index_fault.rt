@@ -35,4 +35,7 @@ pub enum CheckFault {
     /// An earlier call met a fault of the medium.
     #[error("the array is dead")]
     Dead,
+    /// There was no memory for the records.
+    #[error("no memory")]
+    NoMemory,
 }

@@ -11,6 +11,7 @@ mod laws;
 mod marks;
 mod pages;
 mod room;
+mod table_rows;
 
 pub use fault::PageFault;
 pub use index::{KeyIndex, NEXT_MAX, NextPairs};
@@ -22,3 +23,4 @@ pub use laws::{
 pub use marks::SAVES_MAX;
 pub use pages::Pages;
 pub use room::SaveRoom;
+pub use table_rows::TableRows;

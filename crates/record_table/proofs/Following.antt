@@ -10,10 +10,11 @@ use Rattle.record_slots.specs.declared.slot.Slot.{Slot}
 use Rattle.page_store.specs.Index.{Index, IsTable}
 use Rattle.page_store.specs.Pairs.{Pair, Rise, found, next}
 use Rattle.page_store.specs.Looks.{Looks}
+use Rattle.page_store.specs.Records.{value_of}
 use Rattle.page_store.specs.Shown.{PagesView}
 use Rattle.record_table.specs.Invariant.{Holds}
 use Rattle.record_table.specs.Removing.{HasNoAbsent, IsNextAbsent, ComesNext}
-use Rattle.record_table.specs.Shown.{value_of, table_of, asked_tables, pairs_of}
+use Rattle.record_table.specs.Shown.{table_of, asked_tables, pairs_of}
 use Rattle.record_table.specs.declared.scanning.Next.{Next}
 use Rattle.record_table.specs.State.{key_in}
 use Rattle.record_table.proofs.Joint.{rise_bounds}

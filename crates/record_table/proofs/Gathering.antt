@@ -11,13 +11,14 @@ use Rattle.history.specs.Writes.{Table}
 use Rattle.history.specs.Writes.{is_within, rows_within}
 use Rattle.page_store.specs.Index.{Index, IsTable}
 use Rattle.page_store.specs.Pairs.{Pair, found, next}
+use Rattle.page_store.specs.Records.{row_at, rows_of, value_of}
 use Rattle.page_store.specs.Shown.{PagesView}
 use Rattle.record_table.specs.Causes.{slot_in}
 use Rattle.record_table.specs.Invariant.{IsTied}
 use Rattle.record_table.specs.State.{key_in}
-use Rattle.record_table.specs.Scanned.{row_at, rows_seen, rows_in}
-use Rattle.record_table.specs.Shown.{table_in, table_of, value_of, asked_tables, pairs_of}
-use Rattle.record_table.proofs.RowsOf.{rows_of, entries_are, none_from, none_past, none_between, first_from}
+use Rattle.record_table.specs.Scanned.{rows_seen, rows_in}
+use Rattle.record_table.specs.Shown.{table_in, table_of, asked_tables, pairs_of}
+use Rattle.record_table.proofs.RowsOf.{entries_are, none_from, none_past, none_between, first_from}
 use Rattle.record_table.proofs.Joint.{IsPast, key_sum}
 use Rattle.record_table.proofs.Sharing.{Laws, asked_of, all_rise, next_in, next_not_in}
 use Rattle.record_table.proofs.Tables.{record_at}

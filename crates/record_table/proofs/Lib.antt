@@ -14,6 +14,7 @@ pub mod Grouping
 pub mod Putting
 pub mod RowsOf
 pub mod Gathering
+pub mod Opened
 pub mod Holding
 pub mod Fronts
 pub mod Main

@@ -17,9 +17,10 @@ use Rattle.history.proofs.Tables.{same_table}
 use Rattle.page_store.specs.Index.{Index, IsTable}
 use Rattle.page_store.specs.Pairs.{Pair, Rise, found, removed}
 use Rattle.page_store.specs.Removes.{HasAbsent, Shrinks}
+use Rattle.page_store.specs.Records.{value_of}
 use Rattle.record_table.specs.Invariant.{AreSlotParts}
 use Rattle.record_table.specs.Removing.{IsKept, removal_under, Loses}
-use Rattle.record_table.specs.Shown.{value_of, table_in, table_of, write_of, writes_of, asked_tables, pairs_of, keys_of}
+use Rattle.record_table.specs.Shown.{table_in, table_of, write_of, writes_of, asked_tables, pairs_of, keys_of}
 use Rattle.record_table.specs.State.{LosesKey, key_in}
 use Rattle.record_table.proofs.Sharing.{Laws, Placed, placed, found_given, found_in, carries_one, level_same}
 use Rattle.record_table.proofs.SlotParts.{one_slot}

@@ -15,12 +15,13 @@ use Rattle.page_store.specs.Index.{Index, IsTable, Grows, Gains}
 use Rattle.page_store.specs.Index as face
 use Rattle.page_store.specs.Inserts.{Inserts, Made, is_insert_failed}
 use Rattle.page_store.specs.Pairs.{Pair, found}
+use Rattle.page_store.specs.Records.{value_of}
 use Rattle.page_store.specs.Shown.{PagesView, saved_of}
 use Rattle.page_store.specs.declared.index_fault.IndexFault.{IndexFault}
 use Rattle.page_store.specs.declared.index_fault.IndexFault.TheVariants as fault
 use Rattle.record_table.specs.Does.{OpensWith}
 use Rattle.record_table.specs.Invariant.{AreSlotParts, IsTied, Rests}
-use Rattle.record_table.specs.Shown.{value_of, table_in, table_of, write_of, writes_of, state_of, asked_tables, pairs_of}
+use Rattle.record_table.specs.Shown.{table_in, table_of, write_of, writes_of, state_of, asked_tables, pairs_of}
 use Rattle.record_table.specs.Sought.{LooksAs}
 use Rattle.record_table.specs.State.{TableState, key_in}
 use Rattle.history.proofs.Tables.{same_table}

@@ -11,7 +11,7 @@ use lib.Dec.{T}
 use Rattle.std.proofs.lemmas.Bool.{cases_eq, cases_Bool, eq-eqb, ne_eqb}
 use Rattle.history.specs.Writes.{is_within}
 use Rattle.page_store.specs.Pairs.{Pair, Rise, found, next}
-use Rattle.record_table.specs.Scanned.{row_at}
+use Rattle.page_store.specs.Records.{row_at, rows_of}
 use Rattle.record_table.specs.Shown.{table_in}
 use Rattle.history.proofs.Tables.{same_table}
 use Rattle.record_table.proofs.Tables.{record_at, get-table_in, tied}
@@ -49,25 +49,21 @@ dropped_row low high key None rest is = refl
 dropped_row low high key (Some v) rest is = ap (λ (b : Bool). cond b ((key, v) ∷ filter (is_within low high) rest) (filter (is_within low high) rest)) is
 
 module _ (d : List ℕ) where
-  abbrev pub rows_of : List Pair → List (ℕ × List ℕ)
-  rows_of [] = []
-  rows_of (p ∷ ps) = row_at p.0 (record_at d (Some p.1)) ++ rows_of ps
-
   below_row : (x key : ℕ) (o : Option (List ℕ)) (rest : List (ℕ × List ℕ)) → x < key → T (below_all nat_cmp x rest) → T (below_all nat_cmp x (row_at key o ++ rest))
   below_row x key None rest lt t = t
   below_row x key (Some v) rest lt t = both _ _ (less x key lt) t
 
-  below : (x low high : ℕ) (ps : List Pair) → x < low → Rise low high ps → T (below_all nat_cmp x (rows_of ps))
+  below : (x low high : ℕ) (ps : List Pair) → x < low → Rise low high ps → T (below_all nat_cmp x (rows_of d ps))
   below x low high [] lt rise = tt
-  below x low high (p ∷ ps) lt rise = below_row x p.0 (record_at d (Some p.1)) (rows_of ps) (omega (arith, lt, rise.0)) (below x (suc p.0) high ps (omega (arith, lt, rise.0)) rise.1)
+  below x low high (p ∷ ps) lt rise = below_row x p.0 (record_at d (Some p.1)) (rows_of d ps) (omega (arith, lt, rise.0)) (below x (suc p.0) high ps (omega (arith, lt, rise.0)) rise.1)
 
   sorted_row : (key : ℕ) (o : Option (List ℕ)) (rest : List (ℕ × List ℕ)) → T (below_all nat_cmp key rest) → T (is_sorted nat_cmp rest) → T (is_sorted nat_cmp (row_at key o ++ rest))
   sorted_row key None rest a b = b
   sorted_row key (Some v) rest a b = both _ _ a b
 
-  sorted : (low high : ℕ) (ps : List Pair) → Rise low high ps → T (is_sorted nat_cmp (rows_of ps))
+  sorted : (low high : ℕ) (ps : List Pair) → Rise low high ps → T (is_sorted nat_cmp (rows_of d ps))
   sorted low high [] rise = tt
-  sorted low high (p ∷ ps) rise = sorted_row p.0 (record_at d (Some p.1)) (rows_of ps) (below p.0 (suc p.0) high ps (omega arith) rise.1) (sorted (suc p.0) high ps rise.1)
+  sorted low high (p ∷ ps) rise = sorted_row p.0 (record_at d (Some p.1)) (rows_of d ps) (below p.0 (suc p.0) high ps (omega arith) rise.1) (sorted (suc p.0) high ps rise.1)
 
   not_found : (low high q : ℕ) (ps : List Pair) → Rise low high ps → q < low → found ps q ≡ None
   not_found low high q [] rise lt = refl
@@ -81,40 +77,40 @@ module _ (d : List ℕ) where
       go false = refl
   find_row key q (Some v) rest = ap (λ (b : Bool). cond b (Some v) (find nat_cmp q rest)) (tied q key)
 
-  find_rows : (low high q : ℕ) (ps : List Pair) → Rise low high ps → find nat_cmp q (rows_of ps) ≡ record_at d (found ps q)
+  find_rows : (low high q : ℕ) (ps : List Pair) → Rise low high ps → find nat_cmp q (rows_of d ps) ≡ record_at d (found ps q)
   find_rows low high q [] rise = refl
-  find_rows low high q (p ∷ ps) rise = find_row p.0 q (record_at d (Some p.1)) (rows_of ps) ∙ elim (cases_eq p.0 q) [
+  find_rows low high q (p ∷ ps) rise = find_row p.0 q (record_at d (Some p.1)) (rows_of d ps) ∙ elim (cases_eq p.0 q) [
     | inl same ↦
         let b : nat_eq p.0 q ≡ true = eq-eqb p.0 q same in
         rw b (here (record_at d (Some p.1)) (find_rows (suc p.0) high q ps rise.1 ∙ ap (record_at d) (not_found (suc p.0) high q ps rise.1 (omega (arith, same)))))
     | inr other ↦ let b : nat_eq p.0 q ≡ false = ne_eqb p.0 q other in rw b (find_rows (suc p.0) high q ps rise.1)
   ]
     where
-      here : (o : Option (List ℕ)) → find nat_cmp q (rows_of ps) ≡ None → elim o as (λ _. Option (List ℕ)) [ None ↦ find nat_cmp q (rows_of ps) | Some v ↦ Some v ] ≡ o
+      here : (o : Option (List ℕ)) → find nat_cmp q (rows_of d ps) ≡ None → elim o as (λ _. Option (List ℕ)) [ None ↦ find nat_cmp q (rows_of d ps) | Some v ↦ Some v ] ≡ o
       here None none = none
       here (Some v) none = refl
 
   -- the entries of their table
-  pub entries_are : (low high : ℕ) (ps : List Pair) → Rise low high ps → entries (table_in d ps) ≡ rows_of ps
+  pub entries_are : (low high : ℕ) (ps : List Pair) → Rise low high ps → entries (table_in d ps) ≡ rows_of d ps
   entries_are low high ps rise =
       let ok = sorted low high ps rise in
-      ap entries (same_table (table_in d ps) (from_sorted {R = nat_cmp} (rows_of ps)) (λ q. get-table_in d ps q ∙ sym (find_rows low high q ps rise) ∙ sym (get-from_sorted nat_cmp (rows_of ps) q ok)))
-      ∙ entries-from_sorted nat_cmp (rows_of ps) ok
+      ap entries (same_table (table_in d ps) (from_sorted {R = nat_cmp} (rows_of d ps)) (λ q. get-table_in d ps q ∙ sym (find_rows low high q ps rise) ∙ sym (get-from_sorted nat_cmp (rows_of d ps) q ok)))
+      ∙ entries-from_sorted nat_cmp (rows_of d ps) ok
 
   -- no key from this one on
-  pub none_from : (from high : ℕ) (ps : List Pair) → next ps from ≡ None → filter (is_within from high) (rows_of ps) ≡ []
+  pub none_from : (from high : ℕ) (ps : List Pair) → next ps from ≡ None → filter (is_within from high) (rows_of d ps) ≡ []
   none_from from high [] none = refl
   none_from from high (p ∷ ps) none = elim (cases_Bool (nat_le from p.0)) [
     | inl b ↦ absurd (let e : Some p ≡ None = sym (ap (λ (x : Bool). cond x (Some p) (next ps from)) b) ∙ none in cc)
     | inr b ↦
-        dropped_row from high p.0 (record_at d (Some p.1)) (rows_of ps) (ap (λ (x : Bool). x && nat_le p.0 high) b)
+        dropped_row from high p.0 (record_at d (Some p.1)) (rows_of d ps) (ap (λ (x : Bool). x && nat_le p.0 high) b)
         ∙ none_from from high ps (sym (ap (λ (x : Bool). cond x (Some p) (next ps from)) b) ∙ none)
   ]
 
   -- keys above a bound
-  pub none_past : (from high : ℕ) (ps : List Pair) → high < from → filter (is_within from high) (rows_of ps) ≡ []
+  pub none_past : (from high : ℕ) (ps : List Pair) → high < from → filter (is_within from high) (rows_of d ps) ≡ []
   none_past from high [] lt = refl
-  none_past from high (p ∷ ps) lt = dropped_row from high p.0 (record_at d (Some p.1)) (rows_of ps) (empty p.0) ∙ none_past from high ps lt
+  none_past from high (p ∷ ps) lt = dropped_row from high p.0 (record_at d (Some p.1)) (rows_of d ps) (empty p.0) ∙ none_past from high ps lt
     where
       empty : (k : ℕ) → (nat_le from k && nat_le k high) ≡ false
       empty k = elim (cases_Bool (nat_le from k)) [
@@ -123,7 +119,7 @@ module _ (d : List ℕ) where
       ]
 
   -- if all keys are at or above a bound, a smaller lower bound changes nothing
-  from_lower : (a b high low top : ℕ) (ps : List Pair) → Rise low top ps → a ≤ low → b ≤ low → filter (is_within a high) (rows_of ps) ≡ filter (is_within b high) (rows_of ps)
+  from_lower : (a b high low top : ℕ) (ps : List Pair) → Rise low top ps → a ≤ low → b ≤ low → filter (is_within a high) (rows_of d ps) ≡ filter (is_within b high) (rows_of d ps)
   from_lower a b high low top [] rise x y = refl
   from_lower a b high low top (p ∷ ps) rise x y =
       let rest = from_lower a b high (suc p.0) top ps rise.1 (omega (arith, x, rise.0)) (omega (arith, y, rise.0)) in
@@ -131,16 +127,16 @@ module _ (d : List ℕ) where
       let tb = le_true b p.0 (omega (arith, y, rise.0)) in
       elim (cases_Bool (nat_le p.0 high)) [
         | inl e ↦
-            kept_row a high p.0 (record_at d (Some p.1)) (rows_of ps) (λ i. ta i && e i) ∙ ap (λ (l : List (ℕ × List ℕ)). row_at p.0 (record_at d (Some p.1)) ++ l) rest
-            ∙ sym (kept_row b high p.0 (record_at d (Some p.1)) (rows_of ps) (λ i. tb i && e i))
+            kept_row a high p.0 (record_at d (Some p.1)) (rows_of d ps) (λ i. ta i && e i) ∙ ap (λ (l : List (ℕ × List ℕ)). row_at p.0 (record_at d (Some p.1)) ++ l) rest
+            ∙ sym (kept_row b high p.0 (record_at d (Some p.1)) (rows_of d ps) (λ i. tb i && e i))
         | inr e ↦
-            dropped_row a high p.0 (record_at d (Some p.1)) (rows_of ps) (λ i. ta i && e i) ∙ rest
-            ∙ sym (dropped_row b high p.0 (record_at d (Some p.1)) (rows_of ps) (λ i. tb i && e i))
+            dropped_row a high p.0 (record_at d (Some p.1)) (rows_of d ps) (λ i. ta i && e i) ∙ rest
+            ∙ sym (dropped_row b high p.0 (record_at d (Some p.1)) (rows_of d ps) (λ i. tb i && e i))
       ]
 
   -- the next key up to a bound, and the rows after it
   pub first_from : (from high key slot low top : ℕ) (ps : List Pair) → Rise low top ps → next ps from ≡ Some (key, slot) → key ≤ high
-      → (from ≤ key) × (found ps key ≡ Some slot) × (filter (is_within from high) (rows_of ps) ≡ row_at key (record_at d (Some slot)) ++ filter (is_within (suc key) high) (rows_of ps))
+      → (from ≤ key) × (found ps key ≡ Some slot) × (filter (is_within from high) (rows_of d ps) ≡ row_at key (record_at d (Some slot)) ++ filter (is_within (suc key) high) (rows_of d ps))
   first_from from high key slot low top [] rise is le = absurd (cc)
   first_from from high key slot low top (p ∷ ps) rise is le = elim (cases_Bool (nat_le from p.0)) [
     | inl b ↦
@@ -151,34 +147,34 @@ module _ (d : List ℕ) where
         let high_ok = le_true p.0 high (omega (arith, k, le)) in (
           omega (arith, k, le_of from p.0 b),
           ap (λ (x : Bool). cond x (Some p.1) (found ps key)) (eq-eqb p.0 key k) ∙ ap Some s,
-          kept_row from high p.0 (record_at d (Some p.1)) (rows_of ps) (λ i. b i && high_ok i)
+          kept_row from high p.0 (record_at d (Some p.1)) (rows_of d ps) (λ i. b i && high_ok i)
               ∙ ap (λ (l : List (ℕ × List ℕ)). row_at p.0 (record_at d (Some p.1)) ++ l)
               (from_lower from (suc p.0) high (suc p.0) top ps rise.1 (omega (arith, le_of from p.0 b)) (omega arith)
-              ∙ sym (dropped_row (suc p.0) high p.0 (record_at d (Some p.1)) (rows_of ps) (ap (λ (x : Bool). x && nat_le p.0 high) (le_false (suc p.0) p.0 (omega arith)))))
-              ∙ (λ i. row_at (k i) (record_at d (Some (s i))) ++ filter (is_within (suc (k i)) high) (rows_of (p ∷ ps))),
+              ∙ sym (dropped_row (suc p.0) high p.0 (record_at d (Some p.1)) (rows_of d ps) (ap (λ (x : Bool). x && nat_le p.0 high) (le_false (suc p.0) p.0 (omega arith)))))
+              ∙ (λ i. row_at (k i) (record_at d (Some (s i))) ++ filter (is_within (suc (k i)) high) (rows_of d (p ∷ ps))),
         )
     | inr b ↦
         let rest = first_from from high key slot (suc p.0) top ps rise.1 (sym (ap (λ (x : Bool). cond x (Some p) (next ps from)) b) ∙ is) le in
         let lt = lt_of from p.0 b in (
           rest.0,
           ap (λ (x : Bool). cond x (Some p.1) (found ps key)) (ne_eqb p.0 key (λ e. absurd (omega (arith, e, lt, rest.0)))) ∙ rest.1,
-          dropped_row from high p.0 (record_at d (Some p.1)) (rows_of ps) (ap (λ (x : Bool). x && nat_le p.0 high) b) ∙ rest.2
+          dropped_row from high p.0 (record_at d (Some p.1)) (rows_of d ps) (ap (λ (x : Bool). x && nat_le p.0 high) b) ∙ rest.2
               ∙ ap (λ (l : List (ℕ × List ℕ)). row_at key (record_at d (Some slot)) ++ l)
-              (sym (dropped_row (suc key) high p.0 (record_at d (Some p.1)) (rows_of ps) (ap (λ (x : Bool). x && nat_le p.0 high) (le_false (suc key) p.0 (omega (arith, lt, rest.0)))))),
+              (sym (dropped_row (suc key) high p.0 (record_at d (Some p.1)) (rows_of d ps) (ap (λ (x : Bool). x && nat_le p.0 high) (le_false (suc key) p.0 (omega (arith, lt, rest.0)))))),
         )
   ]
 
   -- the next key is above a bound
-  pub none_between : (from high key slot low top : ℕ) (ps : List Pair) → Rise low top ps → next ps from ≡ Some (key, slot) → high < key → filter (is_within from high) (rows_of ps) ≡ []
+  pub none_between : (from high key slot low top : ℕ) (ps : List Pair) → Rise low top ps → next ps from ≡ Some (key, slot) → high < key → filter (is_within from high) (rows_of d ps) ≡ []
   none_between from high key slot low top [] rise is lt = absurd (cc)
   none_between from high key slot low top (p ∷ ps) rise is lt = elim (cases_Bool (nat_le from p.0)) [
     | inl b ↦
         let e : Some p ≡ Some (key, slot) = sym (ap (λ (x : Bool). cond x (Some p) (next ps from)) b) ∙ is in
         let at : p ≡ (key, slot) = cc in
         let k : p.0 ≡ key = λ i. (at i).0 in
-        dropped_row from high p.0 (record_at d (Some p.1)) (rows_of ps) (ap (λ (x : Bool). nat_le from p.0 && x) (le_false p.0 high (omega (arith, k, lt))) ∙ and_false (nat_le from p.0))
+        dropped_row from high p.0 (record_at d (Some p.1)) (rows_of d ps) (ap (λ (x : Bool). nat_le from p.0 && x) (le_false p.0 high (omega (arith, k, lt))) ∙ and_false (nat_le from p.0))
         ∙ from_lower from (suc p.0) high (suc p.0) top ps rise.1 (omega (arith, le_of from p.0 b)) (omega arith) ∙ none_past (suc p.0) high ps (omega (arith, k, lt))
     | inr b ↦
-        dropped_row from high p.0 (record_at d (Some p.1)) (rows_of ps) (ap (λ (x : Bool). x && nat_le p.0 high) b)
+        dropped_row from high p.0 (record_at d (Some p.1)) (rows_of d ps) (ap (λ (x : Bool). x && nat_le p.0 high) b)
         ∙ none_between from high key slot (suc p.0) top ps rise.1 (sym (ap (λ (x : Bool). cond x (Some p) (next ps from)) b) ∙ is) lt
   ]

@@ -15,13 +15,14 @@ use Rattle.record_slots.specs.declared.slot.Slot.{Slot}
 use Rattle.page_store.specs.Index.{Index, slots_of}
 use Rattle.page_store.specs.Looks.{Looks}
 use Rattle.page_store.specs.Pairs.{found}
+use Rattle.page_store.specs.Records.{value_of}
 use Rattle.page_store.specs.Shown.{PagesView}
 use Rattle.page_store.specs.Shown as pages
 use Rattle.page_store.specs.State.{view_of}
 use Rattle.record_table.specs.Attached.{Attached}
 use Rattle.record_table.specs.Causes.{slot_in}
 use Rattle.record_table.specs.Invariant.{AreSlotParts, IsTied, Holds}
-use Rattle.record_table.specs.Shown.{value_of, table_of, writes_of, state_of}
+use Rattle.record_table.specs.Shown.{table_of, writes_of, state_of}
 use Rattle.record_table.specs.Sought.{Finds, value_at}
 use Rattle.record_table.specs.State.{seen_by}
 use Rattle.record_table.specs.declared.slots.Place.{Place}

@@ -21,8 +21,9 @@ use Rattle.history.specs.Writes.{all_written, write_into}
 use Rattle.page_store.specs.Pairs.{Pair, found}
 use Rattle.page_store.specs.Index.{Index, IsTable, KeepsIndex}
 use Rattle.page_store.proofs.Reading.{part_missed}
+use Rattle.page_store.specs.Records.{value_of}
 use Rattle.record_table.specs.State.{key_in}
-use Rattle.record_table.specs.Shown.{value_of, table_in, table_of, write_of, writes_of, pairs_of, keys_of}
+use Rattle.record_table.specs.Shown.{table_in, table_of, write_of, writes_of, pairs_of, keys_of}
 use Rattle.record_table.specs.Invariant.{IsSlotPart, AreSlotParts}
 use Rattle.history.proofs.Tables.{get-set_here, get-set_there, same_table}
 use Rattle.record_table.proofs.Joint.{key_apart}

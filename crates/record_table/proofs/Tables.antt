@@ -11,7 +11,8 @@ use Rattle.record_slots.specs.declared.slot.Slot.{Slot}
 use Rattle.record_slots.specs.declared.slot.Slot.TheVariants.{Absent, Present}
 use Rattle.history.proofs.Tables.{get-set}
 use Rattle.page_store.specs.Pairs.{Pair, found}
-use Rattle.record_table.specs.Shown.{value_of, write_said, table_in}
+use Rattle.page_store.specs.Records.{value_of}
+use Rattle.record_table.specs.Shown.{write_said, table_in}
 
 pub tied : (q k : ℕ) → eq_by_cmp nat_cmp q k ≡ nat_eq k q
 tied q k = elim (cases_eq q k) [

@@ -16,7 +16,8 @@ use Rattle.page_store.specs.Index.{Index, IsTable, HasCounts, Extends}
 use Rattle.page_store.specs.Pairs.{Pair, found}
 use Rattle.page_store.proofs.Reading.{part_missed}
 use Rattle.history.specs.Writes.{Table, write_into}
-use Rattle.record_table.specs.Shown.{value_of, table_in, table_of, pairs_of, keys_of}
+use Rattle.page_store.specs.Records.{value_of}
+use Rattle.record_table.specs.Shown.{table_in, table_of, pairs_of, keys_of}
 use Rattle.record_table.specs.State.{Keys}
 use Rattle.record_table.specs.Upgrading.{upgraded}
 use Rattle.record_table.proofs.Sharing.{Laws, pairs_rest, level_same}

@@ -7,7 +7,7 @@ use Rattle.page_store.specs.Looks.{Looks}
 use Rattle.page_store.specs.Shown.{PagesView}
 use Rattle.record_table.specs.Shown.{table_of, state_of}
 use Rattle.record_table.specs.declared.fault.AttachRecords.{AttachRecords}
-use Rattle.record_table.specs.declared.fault.AttachRecords.TheVariants.{Damaged, Media, Dead}
+use Rattle.record_table.specs.declared.fault.AttachRecords.TheVariants.{Damaged, Media, Dead, NoMemory}
 
 -- The records are those of the data, whose index is sound, and no number has written anything.
 pub record Attached (tells : Bool) (Opens : List ℕ → List ℕ → Type 0) (index : Index) (old new : PagesView) : Type 0 where
@@ -26,3 +26,4 @@ abbrev pub AttachCause : Bool → Index → StoreView → AttachRecords → Type
 AttachCause tells index old (Damaged page) = IsAlive old × (IsTrue tells → index.fails old.state.bytes page)
 AttachCause tells index old Media = IsAlive old
 AttachCause tells index old Dead = old.is_dead ≡ true
+AttachCause tells index old NoMemory = IsAlive old

@@ -6,7 +6,7 @@ use Rattle.eaw_face.specs.Causes.{IsAlive}
 use Rattle.page_store.specs.Looks.{IsStill}
 use Rattle.record_slots.specs.Places.{IsSuper}
 use Rattle.record_table.specs.declared.fault.AttachRecords.{AttachRecords}
-use Rattle.record_table.specs.declared.fault.AttachRecords.TheVariants.{Damaged, Media, Dead}
+use Rattle.record_table.specs.declared.fault.AttachRecords.TheVariants.{Damaged, Media, Dead, NoMemory}
 use Rattle.record_table.specs.declared.form.Form.{Form}
 use Rattle.record_table.specs.declared.form.Form.TheVariants.{Chain, Tree}
 
@@ -26,6 +26,7 @@ FormCause tells old (Ok form) = IsAlive old × (IsTrue tells → IsSuper (form_n
 FormCause tells old (Err (Damaged page)) = IsAlive old × (page ≡ 0) × (IsTrue tells → ¬ IsSuper 0 old.state.bytes × ¬ IsSuper 1 old.state.bytes)
 FormCause tells old (Err Media) = IsAlive old
 FormCause tells old (Err Dead) = old.is_dead ≡ true
+FormCause tells old (Err NoMemory) = ⊥
 
 -- A look at a store, which met a fault of the medium or none. What numbers have logged is as it was. At each moment of a store that was not
 -- dead, a loss of power leaves what it might have left before, or an image that opens with the data.

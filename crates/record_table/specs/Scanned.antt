@@ -2,17 +2,13 @@
 use Rattle.std.specs.Prelude.{ℕ, zero, suc, ◌≡◌, Bool, IsTrue, List, [], ◌∷◌, ◌++◌, map, Option, Some, None, Result, Ok, Err}
 use Rattle.history.specs.Writes.{rows_within}
 use Rattle.page_store.specs.Index.{Index}
+use Rattle.page_store.specs.Records.{row_at}
 use Rattle.page_store.specs.Shown.{PagesView}
 use Rattle.record_table.specs.State.{seen_by, key_in}
 use Rattle.record_table.specs.Shown.{state_of}
 use Rattle.record_table.specs.declared.scanning.Next.{Next}
 use Rattle.record_table.specs.declared.fault.TableFault.{TableFault}
 use Rattle.record_table.specs.declared.fault.TableFault.TheVariants.{Media, Damaged, NoMemory}
-
--- the row of a key, if it has a record
-abbrev pub row_at : ℕ → Option (List ℕ) → List (ℕ × List ℕ)
-row_at key None = []
-row_at key (Some value) = (key, value) ∷ []
 
 -- rows of a table, with their keys among those of all tables
 abbrev pub rows_in : ℕ → List (ℕ × List ℕ) → List (ℕ × List ℕ)

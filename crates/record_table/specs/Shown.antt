@@ -13,15 +13,11 @@ use Rattle.record_slots.specs.declared.slot.Slot.TheVariants.{Absent, Present}
 use Rattle.history.specs.Writes.{Table, Write, write_into}
 use Rattle.page_store.specs.Pairs.{Pair, found}
 use Rattle.page_store.specs.Index.{Index, slots_of}
+use Rattle.page_store.specs.Records.{value_of}
 use Rattle.page_store.specs.Shown.{PagesView}
 use Rattle.page_store.specs.Shown as pages
 use Rattle.page_store.specs.State.{PagesState, log_of}
 use Rattle.record_table.specs.State.{TableState, Keys, key_in}
-
--- the value in a slot, if it holds one
-abbrev pub value_of : Option Slot → Option (List ℕ)
-value_of (Some (Present table key value)) = Some value
-value_of _ = None
 
 -- the write that a slot stands for
 abbrev pub write_said : Option Slot → Write

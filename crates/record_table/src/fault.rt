@@ -127,6 +127,9 @@ pub enum AttachRecords {
     /// An earlier call has met a fault of the medium.
     #[error("the array is dead")]
     Dead,
+    /// There was no memory for the records.
+    #[error("no memory")]
+    NoMemory,
 }
 
 /// A refusal of pages, to which records were to be attached.

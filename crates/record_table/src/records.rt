@@ -1,5 +1,7 @@
 // Records over pages, under an index.
 ghost use Rattle.std.specs.Prelude.{◌≡◌, ◌<◌, ◌≤◌, ℕ, [], Some, None, IfOk, IfErr, IfSome, IfNone, OnErr, IsErrOf, IsTrue, if◌then◌else◌, filter, length, slice_get};
+ghost use Rattle.std.specs.FinMap.{entries};
+ghost use Rattle.std.specs.Option.{unwrap_or};
 ghost use Rattle.array_shape.specs.NumberSet.{members};
 ghost use Rattle.eaw_face.specs.Causes.{IsAlive};
 ghost use Rattle.eaw_face.specs.State.{listed};
@@ -14,7 +16,7 @@ ghost use Rattle.record_table.specs.Removing.{IsAbsent, IsUnwritten, IsNextAbsen
 ghost use Rattle.record_table.specs.State.{key_in};
 ghost use Rattle.record_table.specs.Groups.{CommitsGroup, group_writes};
 ghost use Rattle.record_table.specs.Does.{Does, replied, is_failed};
-ghost use Rattle.record_table.specs.Shown.{asked_tables, state_of, pairs_of, held_on, is_write_on, AreNamed};
+ghost use Rattle.record_table.specs.Shown.{asked_tables, state_of, table_of, pairs_of, held_on, is_write_on, AreNamed};
 ghost use Rattle.record_table.specs.Sought.{LooksAs};
 ghost use Rattle.record_table.specs.Upgrading.{Upgrades};
 ghost use Rattle.record_table.specs.Making.{Makes};
@@ -31,7 +33,7 @@ use crate::upgrading::upgrade;
 use array_shape::{NumberSet, Shape};
 use eaw_face::EawStore;
 use history::Rows;
-use page_store::{CheckFault, KeyIndex, Pages};
+use page_store::{CheckFault, KeyIndex, Pages, TableRows};
 use record_slots::{Name, Names, Slot, Value};
 use std::alloc::Global;
 use std::marker::{Model, PhantomData};
@@ -67,32 +69,42 @@ impl<S: EawStore, K: KeyIndex> Model for Records<S, K> {
 }
 
 impl<S: EawStore, K: KeyIndex> Records<S, K> {
-    /// Records over pages, once the whole index has been tested. An error returns the pages.
-    pub fn attach(pages: Pages<S>) -> Result<Records<S, K>, (AttachRecords, Pages<S>)>
+    /// Records over pages, once the whole index has been tested, and the rows of the table `main`, which that test met on its way. An error
+    /// returns the pages.
+    pub fn attach(
+        alloc: Global,
+        pages: Pages<S>,
+    ) -> Result<(Records<S, K>, Rows), (AttachRecords, Pages<S>)>
         requires idle { IsAlive (S.view pages.store) → (t : ℕ) → listed ((S.view pages.store).ranges t) ≡ [] }
         requires closed { IsAlive (S.view pages.store) → (t : ℕ) → top_in pages.marks t ≡ None }
-        ensures attached { IfOk result (λ records. Attached S.tells (S.opens (S.view pages.store).shape) K.index
-            (pages_of (S.view pages.store) pages) (pages_of (S.view records.store) records)) }
+        ensures attached { IfOk result (λ attached. Attached S.tells (S.opens (S.view pages.store).shape) K.index
+            (pages_of (S.view pages.store) pages) (pages_of (S.view attached.0.store) attached.0)) }
+        ensures rows { IsTrue S.tells → IfOk result (λ attached. attached.1 ≡ entries (table_of K.index (S.view pages.store).state.bytes)) }
         ensures cause { IfErr result (λ failed. AttachCause S.tells K.index (S.view pages.store) failed.0) }
         ensures looks { IfErr result (λ failed. Looks S.tells (S.opens (S.view pages.store).shape) (is_refused_by_media failed.0)
             (pages_of (S.view pages.store) pages) (pages_of (S.view failed.1.store) failed.1)) }
         ensures dead { IfErr result (λ failed. failed.0 ≡ AttachRecords.Dead → failed.1 ≡ pages) }
     {
         let mut pages = pages;
-        match K::check(&mut pages) {
+        let mut tables = TableRows::new(alloc);
+        match K::check(alloc, &mut pages, &mut tables) {
             Ok(()) => {}
             Err(CheckFault::Damaged { page }) => {
                 return Err((AttachRecords::Damaged { page }, pages));
             }
             Err(CheckFault::Media) => return Err((AttachRecords::Media, pages)),
             Err(CheckFault::Dead) => return Err((AttachRecords::Dead, pages)),
+            Err(CheckFault::NoMemory) => return Err((AttachRecords::NoMemory, pages)),
         }
         match read_names(&mut pages) {
-            Ok(names) => Ok(Records {
-                pages,
-                names,
-                index: PhantomData,
-            }),
+            Ok(names) => {
+                let records = Records {
+                    pages,
+                    names,
+                    index: PhantomData,
+                };
+                Ok((records, first_rows(alloc, tables)))
+            }
             Err(fault) => Err((unattached(fault), pages)),
         }
     }
@@ -359,5 +371,15 @@ impl<S: EawStore, K: KeyIndex> Records<S, K> {
         ensures due { IsErrOf result TableFault.Media → ⊥ }
     {
         told(self.pages.end(tid, false))
+    }
+}
+
+// The rows of the table `main`.
+fn first_rows(alloc: Global, tables: TableRows) -> Rows
+    ensures { result ≡ unwrap_or (slice_get tables 0) [] }
+{
+    match tables.into_first() {
+        Some(rows) => rows,
+        None => Rows::new(alloc),
     }
 }

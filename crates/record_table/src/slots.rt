@@ -9,10 +9,11 @@ ghost use Rattle.page_store.specs.Does.{Does};
 ghost use Rattle.page_store.specs.Index.{IsTable, slots_of, index_pages_of};
 ghost use Rattle.page_store.specs.Looks.{LookCause, is_failed};
 ghost use Rattle.page_store.specs.Kept.{IsOrdered};
+ghost use Rattle.page_store.specs.Records.{value_of};
 ghost use Rattle.page_store.specs.Shown.{pages_of, outline_of, state_of};
 ghost use Rattle.page_store.specs.State.{view_of};
 ghost use Rattle.record_table.specs.Invariant.{Holds};
-ghost use Rattle.record_table.specs.Shown.{asked_tables, value_of};
+ghost use Rattle.record_table.specs.Shown.{asked_tables};
 ghost use Rattle.record_table.specs.State.{key_in};
 ghost use Rattle.record_table.specs.Sought.{LooksAs, Finds, value_at};
 

@@ -1,4 +1,5 @@
-use Rattle.std.proofs.Common.{◌≤◌, ◌≡◌, ◌+◌, ◌-◌, ℕ, suc, false, List, None, Ok, Err, Result, refl, sym, ◌∙◌, ap, subst, arith}
+use Rattle.std.proofs.Common.{◌≤◌, ◌≡◌, ◌+◌, ◌-◌, ◌++◌, ℕ, suc, false, List, None, Ok, Err, Result, refl, sym, ◌∙◌, ap, subst, arith}
+use Rattle.std.specs.Prelude.{OnOk}
 use Rattle.std.proofs.lemmas.Bool.{false≢true}
 use Rattle.array_shape.specs.declared.shape.Shape.{Shape}
 use Rattle.eaw_face.specs.State.{State}
@@ -7,17 +8,24 @@ use Rattle.page_store.specs.Index.{index_pages_of}
 use Rattle.page_store.specs.Shown.{pages_of}
 use Rattle.page_store.specs.declared.index_fault.CheckFault.{CheckFault}
 use Rattle.index_pages.specs.Fetched.{IsFront}
-use Rattle.index_pages.specs.Page.{pairs_from, pair_said, pairs_said}
+use Rattle.index_pages.specs.Page.{pairs_from, pair_said, pairs_said, page_pairs}
 use Rattle.index_pages.proofs.Looking.{looks_none, looks_next}
 use Rattle.index_pages.proofs.Sizes.{index_pages_most}
 use Rattle.index_pages.proofs.Reading.{from_step, from_end}
 use Rattle.btree_pages.specs.Checked.{high_of, IsFrontOf}
-use Rattle.btree_laws.specs.Tree.{AreChildren, next_low, children_check, tree_from}
+use Rattle.page_store.specs.Records.{rows_of}
+use Rattle.index_pages.specs.Pieces.{joined}
+use Rattle.index_pages.proofs.Gathered.{RowsLeft, left_more, left_none}
+use Rattle.btree_laws.specs.Tree.{AreChildren, next_low, children_check, tree_from, pieces_with, pairs_under}
 use Rattle.index_pages.specs.Slots.{IsVerdict}
-use Rattle.btree_pages.proofs.Checks.{whole_left, named_step, named_here, ChildrenLeft, children_step, children_fail, inner_fails, inner_children}
+use Rattle.btree_pages.proofs.Checks.{under_inner, whole_left, named_step, named_here, ChildrenLeft, children_step, children_fail, inner_fails, inner_children}
 use Rattle.record_slots.specs.Places.{page_bytes}
 use Rattle.index_pages.proofs.Tests.{not_damaged, not_passed, told_looks, told_verdict, told_dead}
 use Rattle.btree_pages.proofs.checking.+under.Goals as goal
+
+-- the pairs under children
+abbrev under : List ℕ → ℕ → List Pair → List Pair
+under bytes l es = joined (pieces_with (pairs_under l bytes) es)
 
 pub check_children-loop-i-init : goal.check_children-loop-i-init
 check_children-loop-i-init g t c =
@@ -30,6 +38,7 @@ check_children-loop-i-init g t c =
         λ a. subst (λ (ps : List Pair). AreChildren c.args.front.now.next_page ps) (sym e) a,
         λ a. subst (λ (ps : List Pair). AreChildren c.args.front.now.next_page ps) e a,
       );
+      rows = λ told. subst (λ (ps : List Pair). RowsLeft view.state.bytes c.args.rows.now (under view.state.bytes (c.args.level - 1) (pairs_said c.args.bytes.now)) c.args.rows.now (under view.state.bytes (c.args.level - 1) ps)) e refl;
       left = λ told front. subst (λ (ps : List Pair). ChildrenLeft c.args.root (c.args.level - 1) view.state.bytes (pairs_said c.args.bytes.now) ps (high_of c.args.high)) e
           (λ verdict told. told);
     }
@@ -80,6 +89,17 @@ check_children-loop-i-preserved g t c =
       looks = looks_next g.S.EawStore.tells g.S.EawStore.opens false (pages_of view c.args.pages.now) (pages_of mid c.loop-i.pages) (pages_of (g.S.EawStore.view c.check_under.new.pages.store) c.check_under.new.pages)
           c.loop-i.invariant.looks c.in-Ok.ensures.looks;
       alive = (c.in-Ok.ensures.looks.still refl).dead ∙ c.loop-i.invariant.alive;
+      rows = λ told.
+          let same = (c.loop-i.invariant.looks.still refl).state told in
+          let b = view.state.bytes in
+          let l = c.args.level - 1 in
+          let p = pair_said c.args.bytes.now c.loop-i.i in
+          let rest = pairs_from c.args.bytes.now (suc c.loop-i.i) (c.args.count - suc c.loop-i.i) in
+          let on : suc c.loop-i.i ≡ c.loop-i.i + 1 = omega arith in
+          let left = subst (λ (ps : List Pair). RowsLeft b c.args.rows.now (under b l (pairs_said c.args.bytes.now)) c.loop-i.rows (under b l ps)) (from_step c.args.bytes.now c.loop-i.i c.args.count c.loop-i-test.true) (c.loop-i.invariant.rows told) in
+          let more = c.in-Ok.ensures.rows told ∙ (λ i. c.loop-i.rows ++ rows_of (same i).bytes (pairs_under l (same i).bytes (ap (λ (q : Pair). q.1) c.read_pair-low.ensures.pair i))) in
+          subst (λ (n : ℕ). RowsLeft b c.args.rows.now (under b l (pairs_said c.args.bytes.now)) c.check_under.new.rows (under b l (pairs_from c.args.bytes.now n (c.args.count - n)))) on
+          (left_more b c.args.rows.now (under b l (pairs_said c.args.bytes.now)) c.loop-i.rows c.check_under.new.rows (pairs_under l b p.1) (under b l rest) left more);
       named = named_step c.args.bytes.now c.loop-i.i c.args.count (AreChildren c.args.front.now.next_page (pairs_said c.args.bytes.now)) c.args.front.now.next_page c.loop-i.invariant.named c.loop-i-test.true h.0 h.1;
       left = λ told front.
           let same = (c.loop-i.invariant.looks.still refl).state told in
@@ -177,6 +197,7 @@ pub check_under-returns-in-Err : goal.check_under-returns-in-Err
 check_under-returns-in-Err g t c = record {
   looks = told_looks g.S.EawStore.tells (g.S.EawStore.opens (g.S.EawStore.view c.args.pages.now.store).shape) (pages_of (g.S.EawStore.view c.args.pages.now.store) c.args.pages.now) (pages_of (g.S.EawStore.view c.fetch_page.new.pages.store) c.fetch_page.new.pages) c.requires.alive c.in-Err.fault c.in-Err.ensures.cause c.check_fault.result c.check_fault.ensures c.in-Err.ensures.looks;
   cause = λ told front. told_verdict g.S.EawStore.tells (g.S.EawStore.opens (g.S.EawStore.view c.args.pages.now.store).shape) (pages_of (g.S.EawStore.view c.args.pages.now.store) c.args.pages.now) (pages_of (g.S.EawStore.view c.fetch_page.new.pages.store) c.fetch_page.new.pages) c.requires.alive c.in-Err.fault c.in-Err.ensures.cause c.check_fault.result c.check_fault.ensures (tree_from c.args.root c.args.level (g.S.EawStore.view c.args.pages.now.store).state.bytes c.args.spot.page c.args.spot.low (high_of c.args.spot.high));
+  rows = λ told. tt;
   dead = λ told. told_dead g.S.EawStore.tells (g.S.EawStore.opens (g.S.EawStore.view c.args.pages.now.store).shape) (pages_of (g.S.EawStore.view c.args.pages.now.store) c.args.pages.now) (pages_of (g.S.EawStore.view c.fetch_page.new.pages.store) c.fetch_page.new.pages) c.requires.alive c.in-Err.fault c.in-Err.ensures.cause c.check_fault.result c.check_fault.ensures told;
 }
 
@@ -188,5 +209,29 @@ check_under-returns g t c = record {
       subst (λ (s : State). IsVerdict (tree_from c.args.root c.args.level s.bytes c.args.spot.page c.args.spot.low (high_of c.args.spot.high)) c.check_page.result) same
       (c.check_page.ensures.cause told (subst (λ (s : State). IsFrontOf s.bytes c.args.front.now) (sym same) front)
       (subst (λ (s : State). c.fetch_page.new.bytes ≡ page_bytes s.bytes c.args.spot.page) (sym same) (c.in-Ok.ensures.bytes told)));
+  rows = λ told.
+      let same = (c.in-Ok.ensures.looks.still refl).state told in
+      subst (λ (s : State). OnOk c.check_page.result (c.check_page.new.rows ≡ c.args.rows.now ++ rows_of s.bytes (pairs_under c.args.level s.bytes c.args.spot.page))) same
+      (c.check_page.ensures.rows told (subst (λ (s : State). c.fetch_page.new.bytes ≡ page_bytes s.bytes c.args.spot.page) (sym same) (c.in-Ok.ensures.bytes told)));
   dead = c.check_page.ensures.dead;
 }
+
+pub check_children-returns-clause-rows : goal.check_children-returns-clause-rows
+check_children-returns-clause-rows g t c = λ told.
+    let b = (g.S.EawStore.view c.args.pages.now.store).state.bytes in
+    let l = c.args.level - 1 in
+    left_none b c.args.rows.now (under b l (pairs_said c.args.bytes.now)) c.loop-i.rows
+    (subst (λ (ps : List Pair). RowsLeft b c.args.rows.now (under b l (pairs_said c.args.bytes.now)) c.loop-i.rows (under b l ps)) (from_end c.args.bytes.now c.loop-i.i c.args.count c.loop-i-test.false) (c.loop-i.invariant.rows told))
+
+pub check_page-returns-then-level-eq0-clause-rows : goal.check_page-returns-then-level-eq0-clause-rows
+check_page-returns-then-level-eq0-clause-rows g t c = λ told is.
+    let b = (g.S.EawStore.view c.args.pages.now.store).state.bytes in
+    let here : OnOk c.check_slots.result (c.check_slots.new.rows ≡ c.args.rows.now ++ rows_of b (pairs_under 0 b c.args.spot.page)) =
+    subst (λ (buf : List ℕ). OnOk c.check_slots.result (c.check_slots.new.rows ≡ c.args.rows.now ++ rows_of b (pairs_said buf))) is (c.check_slots.ensures.rows told) in
+    subst (λ (l : ℕ). OnOk c.check_slots.result (c.check_slots.new.rows ≡ c.args.rows.now ++ rows_of b (pairs_under l b c.args.spot.page))) (sym c.if-level-eq0.true) here
+
+pub check_page-returns-clause-rows : goal.check_page-returns-clause-rows
+check_page-returns-clause-rows g t c = λ told is.
+    let b = (g.S.EawStore.view c.args.pages.now.store).state.bytes in
+    subst (λ (ps : List Pair). OnOk c.check_children.result (c.check_children.new.rows ≡ c.args.rows.now ++ rows_of b ps)) (sym (under_inner c.args.level b c.args.spot.page c.if-level-eq0.false))
+    (subst (λ (buf : List ℕ). OnOk c.check_children.result (c.check_children.new.rows ≡ c.args.rows.now ++ rows_of b (under b (c.args.level - 1) (pairs_said buf)))) is (c.check_children.ensures.rows told))

@@ -1,4 +1,5 @@
-use Rattle.std.proofs.Common.{◌∙◌, false, Ok, Err, Result, refl, sym, ap, subst}
+use Rattle.std.specs.Prelude.{OnOk}
+use Rattle.std.proofs.Common.{◌≡◌, ◌++◌, ◌∙◌, false, Ok, Err, Result, refl, sym, ap, subst}
 use Rattle.array_shape.specs.declared.shape.Shape.{Shape}
 use Rattle.eaw_face.specs.State.{State}
 use Rattle.mars_base.specs.Check.{both}
@@ -10,6 +11,7 @@ use Rattle.page_store.specs.declared.index_fault.CheckFault.{CheckFault}
 use Rattle.index_pages.specs.Fetched.{IsFront}
 use Rattle.index_pages.specs.Slots.{IsVerdict, slots_check, pages_check, tables_check}
 use Rattle.index_pages.proofs.Looking.{looks_next}
+use Rattle.page_store.specs.Records.{records_of}
 use Rattle.btree_pages.specs.Index.{tree, tree_of}
 use Rattle.index_pages.proofs.Tests.{check_looks, dead_told, super_fails, lists_fail, tables_tell}
 use Rattle.btree_pages.proofs.checking.check.Goals as goal
@@ -73,3 +75,9 @@ returns-clause-cause g c =
 
 pub returns-clause-dead : goal.returns-clause-dead
 returns-clause-dead g c = λ told. absurd (c.check_tables.ensures.dead told)
+
+pub returns-clause-records : goal.returns-clause-records
+returns-clause-records g c = λ told.
+    let same = (c.in-Ok-check_lists.ensures.looks.still refl).state told ∙ (c.in-Ok.ensures.looks.still refl).state told in
+    subst (λ (s : State). OnOk c.check_tables.result (c.check_tables.new.tables ≡ c.args.tables.now ++ records_of tree s.bytes)) same
+    (c.check_tables.ensures.records told (subst (λ (s : State). SaysSuper (page_bytes s.bytes 0) c.in-Ok.front) (sym same) (c.in-Ok.ensures.says told)))

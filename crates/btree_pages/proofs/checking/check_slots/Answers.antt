@@ -1,14 +1,19 @@
-use Rattle.std.proofs.Common.{◌≡◌, ◌+◌, ◌-◌, ℕ, suc, false, List, None, Ok, Err, Result, refl, sym, ◌∙◌, ap, subst, arith}
+use Rattle.std.proofs.Common.{◌≡◌, ◌≤◌, ◌+◌, ◌-◌, ◌++◌, ℕ, suc, false, List, Option, None, Ok, Err, Result, refl, sym, ◌∙◌, ap, subst, arith}
+use Rattle.array_shape.specs.declared.shape.Shape.{Shape}
 use Rattle.eaw_face.specs.State.{State}
 use Rattle.record_slots.specs.Places.{next_slot}
+use Rattle.page_store.specs.Index.{slots_of}
 use Rattle.page_store.specs.Pairs.{Pair}
 use Rattle.page_store.specs.Shown.{pages_of}
 use Rattle.page_store.specs.declared.index_fault.CheckFault.{CheckFault}
+use Rattle.index_pages.specs.Held.{AreOf, IsHeld}
 use Rattle.index_pages.specs.Page.{pairs_from, pair_said, pairs_said}
 use Rattle.index_pages.proofs.Looking.{looks_none, looks_next}
 use Rattle.index_pages.proofs.Reading.{from_step, from_end}
 use Rattle.mars_base.specs.Check.{each}
 use Rattle.index_pages.specs.Slots.{slot_check, IsVerdict}
+use Rattle.page_store.specs.Records.{row_of}
+use Rattle.index_pages.proofs.Gathered.{RowsLeft, left_row, left_none}
 use Rattle.btree_pages.proofs.Checks.{whole_left, SlotsLeft, slots_step, slots_fail}
 use Rattle.btree_pages.proofs.checking.check_slots.Goals as goal
 
@@ -18,8 +23,19 @@ loop-i-init g c =
     record {
       looks = looks_none g.S.EawStore.tells (g.S.EawStore.opens view.shape) (pages_of view c.args.pages.now);
       alive = c.requires.alive;
+      rows = λ told. subst (λ (ps : List Pair). RowsLeft view.state.bytes c.args.rows.now (pairs_said c.args.bytes.now) c.args.rows.now ps) (whole_left c.args.bytes.now c.args.count c.requires.count) refl;
+      held = λ told. subst (λ (o : Option ℕ). AreOf view.state.bytes c.none-held.result.bytes o) (sym c.none-held.ensures) tt;
       left = λ told slots. subst (λ (ps : List Pair). SlotsLeft view.state.bytes c.args.table c.args.page (pairs_said c.args.bytes.now) ps) (whole_left c.args.bytes.now c.args.count c.requires.count)
           (λ verdict told. told);
+    }
+
+pub check_slot-requires : goal.check_slot-requires
+check_slot-requires g c =
+    let still = c.loop-i.invariant.looks.still refl in
+    record {
+      alive = c.loop-i.invariant.alive;
+      slots = subst (λ (s : Shape). c.args.slots ≤ slots_of s) (sym c.loop-i.invariant.looks.shape) c.requires.slots;
+      held = λ told. subst (λ (s : State). IsHeld s.bytes c.loop-i.held) (sym (still.state told)) (c.loop-i.invariant.held told);
     }
 
 pub returns-in-Err-clause-cause : goal.returns-in-Err-clause-cause
@@ -43,6 +59,14 @@ loop-i-preserved g c =
       looks = looks_next g.S.EawStore.tells g.S.EawStore.opens false (pages_of view c.args.pages.now) (pages_of mid c.loop-i.pages) (pages_of (g.S.EawStore.view c.check_slot.new.pages.store) c.check_slot.new.pages)
           c.loop-i.invariant.looks c.in-Ok.ensures.looks;
       alive = (c.in-Ok.ensures.looks.still refl).dead ∙ c.loop-i.invariant.alive;
+      rows = λ told.
+          let same = (c.loop-i.invariant.looks.still refl).state told in
+          let on : suc c.loop-i.i ≡ c.loop-i.i + 1 = omega arith in
+          let left = subst (λ (ps : List Pair). RowsLeft view.state.bytes c.args.rows.now (pairs_said c.args.bytes.now) c.loop-i.rows ps) (from_step c.args.bytes.now c.loop-i.i c.args.count c.loop-i-test.true) (c.loop-i.invariant.rows told) in
+          let more = c.in-Ok.ensures.rows told ∙ (λ i. c.loop-i.rows ++ row_of (same i).bytes (c.read_pair-pair.ensures.pair i)) in
+          subst (λ (n : ℕ). RowsLeft view.state.bytes c.args.rows.now (pairs_said c.args.bytes.now) c.check_slot.new.rows (pairs_from c.args.bytes.now n (c.args.count - n))) on
+          (left_row view.state.bytes c.args.rows.now (pairs_said c.args.bytes.now) c.loop-i.rows c.check_slot.new.rows (pair_said c.args.bytes.now c.loop-i.i) (pairs_from c.args.bytes.now (suc c.loop-i.i) (c.args.count - suc c.loop-i.i)) left more);
+      held = λ told. subst (λ (s : State). IsHeld s.bytes c.check_slot.new.held) ((c.loop-i.invariant.looks.still refl).state told) (c.in-Ok.ensures.held told);
       left = λ told slots.
           let same = (c.loop-i.invariant.looks.still refl).state told in
           let rest = pairs_from c.args.bytes.now (suc c.loop-i.i) (c.args.count - suc c.loop-i.i) in
@@ -61,3 +85,9 @@ pub returns-clause-cause : goal.returns-clause-cause
 returns-clause-cause g c = λ told slots.
     let view = g.S.EawStore.view c.args.pages.now.store in
     c.loop-i.invariant.left told slots None (subst (λ (ps : List Pair). each (slot_check view.state.bytes c.args.table c.args.page) ps None) (sym (from_end c.args.bytes.now c.loop-i.i c.args.count c.loop-i-test.false)) tt)
+
+pub returns-clause-rows : goal.returns-clause-rows
+returns-clause-rows g c = λ told.
+    let view = g.S.EawStore.view c.args.pages.now.store in
+    left_none view.state.bytes c.args.rows.now (pairs_said c.args.bytes.now) c.loop-i.rows
+    (subst (λ (ps : List Pair). RowsLeft view.state.bytes c.args.rows.now (pairs_said c.args.bytes.now) c.loop-i.rows ps) (from_end c.args.bytes.now c.loop-i.i c.args.count c.loop-i-test.false) (c.loop-i.invariant.rows told))

@@ -1,4 +1,4 @@
-use Rattle.std.proofs.Common.{false, Ok, Err, Result, refl, sym, ◌∙◌, subst, arith}
+use Rattle.std.proofs.Common.{◌≡◌, ◌++◌, ℕ, List, false, Ok, Err, Result, refl, sym, ◌∙◌, subst, arith}
 use Rattle.array_shape.specs.declared.shape.Shape.{Shape}
 use Rattle.eaw_face.specs.State.{State}
 use Rattle.record_slots.specs.Places.{tables_of}
@@ -10,7 +10,10 @@ use Rattle.index_pages.proofs.Looking.{looks_none, looks_next}
 use Rattle.index_pages.proofs.Tabled.{table_own}
 use Rattle.btree_pages.specs.Checked.{IsFrontOf}
 use Rattle.btree_pages.specs.Index.{tree_of}
-use Rattle.index_pages.proofs.Tables.{all_left, tables_none, tables_step, tables_fail, root_says, tables_end}
+use Rattle.index_pages.proofs.Tables.{all_left, tables_none, tables_step, tables_fail, root_says, tables_end, none_behind}
+use Rattle.page_store.specs.Records.{rows_of}
+use Rattle.btree_laws.specs.Tree.{pairs_of_tree}
+use Rattle.index_pages.proofs.Gathered.{told_step, told_none, told_end}
 use Rattle.btree_pages.proofs.Checks.{front_of}
 use Rattle.index_pages.proofs.Tests.{not_damaged, not_passed}
 use Rattle.btree_pages.proofs.checking.check_tables.Goals as goal
@@ -19,6 +22,7 @@ pub loop-table-init : goal.loop-table-init
 loop-table-init g c = record {
   looks = looks_none g.S.EawStore.tells (g.S.EawStore.opens (g.S.EawStore.view c.args.pages.now.store).shape) (pages_of (g.S.EawStore.view c.args.pages.now.store) c.args.pages.now);
   alive = c.requires.alive;
+  records = λ told says. refl;
   left = λ told says. all_left (tree_of (g.S.EawStore.view c.args.pages.now.store).state.bytes) (tables_of (g.S.EawStore.view c.args.pages.now.store).state.bytes);
 }
 
@@ -52,6 +56,12 @@ loop-table-preserved g c =
     record {
       looks = looks_next g.S.EawStore.tells g.S.EawStore.opens false (pages_of (g.S.EawStore.view c.args.pages.now.store) c.args.pages.now) (pages_of (g.S.EawStore.view c.loop-table.pages.store) c.loop-table.pages) (pages_of (g.S.EawStore.view c.check_tree.new.pages.store) c.check_tree.new.pages) c.loop-table.invariant.looks c.in-Ok.ensures.looks;
       alive = (c.in-Ok.ensures.looks.still refl).dead ∙ c.loop-table.invariant.alive;
+      records = λ told says.
+          let b = (g.S.EawStore.view c.args.pages.now.store).state.bytes in
+          let same = (c.loop-table.invariant.looks.still refl).state told in
+          let own : c.check_tree.new.rows ≡ rows_of b (pairs_of_tree b c.in-Some.page) = c.in-Ok.ensures.rows told ∙ (λ i. c.new-rows.ensures i ++ rows_of (same i).bytes (pairs_of_tree (same i).bytes c.in-Some.page)) in
+          told_step (λ root. rows_of b (pairs_of_tree b root)) (tables_of b) c.args.tables.now c.loop-table.table c.loop-table.tables (c.loop-table.invariant.records told says) c.in-Some.page
+          (root_says b c.args.front.now c.loop-table.table says ∙ sym c.table_root.ensures ∙ c.in-Some.is) c.push.new.self c.check_tree.new.rows own c.in-Ok-push.ensures;
       left = λ told says.
           let same = (c.loop-table.invariant.looks.still refl).state told in
           let r : Result (Unit {0}) CheckFault = Ok tt in
@@ -88,3 +98,15 @@ returns-clause-looks g c = c.loop-table.invariant.looks
 
 pub returns-clause-dead : goal.returns-clause-dead
 returns-clause-dead g c = λ told. not_passed told
+
+pub returns-in_default-clause-records : goal.returns-in_default-clause-records
+returns-in_default-clause-records g c = λ told says.
+    let b = (g.S.EawStore.view c.args.pages.now.store).state.bytes in
+    told_none (λ root. rows_of b (pairs_of_tree b root)) (tables_of b) c.args.tables.now c.loop-table.table c.loop-table.tables (c.loop-table.invariant.records told says)
+    (root_says b c.args.front.now c.loop-table.table says ∙ sym c.table_root.ensures ∙ c.in_default.is)
+
+pub returns-clause-records : goal.returns-clause-records
+returns-clause-records g c = λ told says.
+    let b = (g.S.EawStore.view c.args.pages.now.store).state.bytes in
+    told_end (λ root. rows_of b (pairs_of_tree b root)) (tables_of b) c.args.tables.now c.loop-table.table c.loop-table.tables (c.loop-table.invariant.records told says)
+    (none_behind b c.loop-table.table (omega (arith, c.loop-table-test.false)))

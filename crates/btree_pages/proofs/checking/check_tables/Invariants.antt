@@ -5,15 +5,21 @@ use Rattle.record_slots.specs.Super.{SaysSuper}
 use Rattle.page_store.specs.Looks.{Looks}
 use Rattle.page_store.specs.Shown.{pages_of}
 use Rattle.btree_pages.specs.Index.{tree_of}
+use Rattle.page_store.specs.Records.{rows_of}
+use Rattle.btree_laws.specs.Tree.{pairs_of_tree}
+use Rattle.index_pages.proofs.Gathered.{TablesTold}
 use Rattle.index_pages.proofs.Tables.{TablesLeft}
 use Rattle.btree_pages.proofs.checking.check_tables.Given as goal
 
--- the data is as it was, and the tables that are left decide for all
+-- the data is as it was, the tables that are left decide for all, and their records are left to be gathered
 abbrev pub invariant-loop-table : goal.invariant-loop-table
 invariant-loop-table g l = record {
   looks : Looks g.S.EawStore.tells (g.S.EawStore.opens (g.S.EawStore.view l.fn.pages.store).shape) false
       (pages_of (g.S.EawStore.view l.fn.pages.store) l.fn.pages) (pages_of (g.S.EawStore.view l.pages.store) l.pages);
   alive : IsAlive (g.S.EawStore.view l.pages.store);
+  records : IsTrue g.S.EawStore.tells → SaysSuper (page_bytes (g.S.EawStore.view l.fn.pages.store).state.bytes 0) l.front
+      → TablesTold (λ root. rows_of (g.S.EawStore.view l.fn.pages.store).state.bytes (pairs_of_tree (g.S.EawStore.view l.fn.pages.store).state.bytes root))
+      (tables_of (g.S.EawStore.view l.fn.pages.store).state.bytes) l.fn.tables l.table l.tables;
   left : IsTrue g.S.EawStore.tells → SaysSuper (page_bytes (g.S.EawStore.view l.fn.pages.store).state.bytes 0) l.front
       → TablesLeft (tree_of (g.S.EawStore.view l.fn.pages.store).state.bytes) (tables_of (g.S.EawStore.view l.fn.pages.store).state.bytes) l.table;
 }

@@ -1,14 +1,16 @@
-use Rattle.std.proofs.Common.{◌≡◌, ◌∙◌, refl, sym, ap, subst}
+use Rattle.std.specs.Prelude.{OnOk}
+use Rattle.std.proofs.Common.{◌≡◌, ◌++◌, ℕ, ◌∙◌, refl, sym, ap, subst}
 use Rattle.array_shape.specs.declared.shape.Shape.{Shape}
 use Rattle.eaw_face.specs.State.{State}
 use Rattle.record_slots.specs.Places.{page_bytes}
 use Rattle.page_store.specs.Shown.{pages_of}
 use Rattle.index_pages.specs.Fetched.{IsFront}
 use Rattle.index_pages.specs.Keys.{key_end}
-use Rattle.index_pages.specs.Page.{level_said}
+use Rattle.index_pages.specs.Page.{level_said, level_of}
 use Rattle.index_pages.specs.Slots.{IsVerdict}
 use Rattle.index_pages.proofs.Looking.{looks_next}
-use Rattle.btree_laws.specs.Tree.{tree_check, tree_from}
+use Rattle.page_store.specs.Records.{rows_of}
+use Rattle.btree_laws.specs.Tree.{tree_check, tree_from, pairs_under, pairs_of_tree}
 use Rattle.btree_pages.specs.Checked.{IsFrontOf}
 use Rattle.btree_pages.proofs.Checks.{level_fails, level_passes}
 use Rattle.index_pages.proofs.Tests.{not_damaged, told_looks, told_verdict, told_dead}
@@ -54,3 +56,12 @@ returns-clause-cause g c = λ told front.
 
 pub returns-clause-dead : goal.returns-clause-dead
 returns-clause-dead g c = c.check_page.ensures.dead
+
+pub returns-clause-rows : goal.returns-clause-rows
+unfolding pairs_of_tree
+returns-clause-rows g c = λ told.
+    let same = (c.in-Ok.ensures.looks.still refl).state told in
+    let level : c.level_in-level.result ≡ level_of (g.S.EawStore.view c.args.pages.now.store).state.bytes c.args.root.page = c.level_in-level.ensures ∙ ap level_said (c.in-Ok.ensures.bytes told) in
+    subst (λ (l : ℕ). OnOk c.check_page.result (c.check_page.new.rows ≡ c.args.rows.now ++ rows_of (g.S.EawStore.view c.args.pages.now.store).state.bytes (pairs_under l (g.S.EawStore.view c.args.pages.now.store).state.bytes c.args.root.page))) level
+    (subst (λ (s : State). OnOk c.check_page.result (c.check_page.new.rows ≡ c.args.rows.now ++ rows_of s.bytes (pairs_under c.level_in-level.result s.bytes c.args.root.page))) same
+    (c.check_page.ensures.rows told (subst (λ (s : State). c.fetch_page.new.bytes ≡ page_bytes s.bytes c.args.root.page) (sym same) (c.in-Ok.ensures.bytes told))))

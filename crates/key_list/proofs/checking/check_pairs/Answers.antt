@@ -1,15 +1,20 @@
-use Rattle.std.proofs.Common.{◌≡◌, ◌+◌, ◌-◌, ℕ, suc, false, List, None, Ok, Err, Result, refl, sym, ◌∙◌, ap, subst, arith}
+use Rattle.std.proofs.Common.{◌≡◌, ◌≤◌, ◌+◌, ◌-◌, ◌++◌, ℕ, suc, false, List, Option, None, Ok, Err, Result, refl, sym, ◌∙◌, ap, subst, arith}
+use Rattle.array_shape.specs.declared.shape.Shape.{Shape}
 use Rattle.eaw_face.specs.State.{State}
 use Rattle.record_slots.specs.Places.{next_slot}
+use Rattle.page_store.specs.Index.{slots_of}
 use Rattle.page_store.specs.Pairs.{Pair}
 use Rattle.page_store.specs.Shown.{pages_of}
 use Rattle.page_store.specs.declared.index_fault.CheckFault.{CheckFault}
+use Rattle.index_pages.specs.Held.{AreOf, IsHeld}
 use Rattle.index_pages.specs.Page.{pairs_from, pair_said, pairs_said, count_said}
 use Rattle.index_pages.proofs.Looking.{looks_none, looks_next}
 use Rattle.index_pages.proofs.Reading.{from_first, from_step, from_end}
 use Rattle.index_pages.specs.Slots.{IsVerdict}
 use Rattle.key_list.specs.Chain.{behind, pair_check}
 use Rattle.key_list.specs.Checked.{low_of}
+use Rattle.page_store.specs.Records.{row_of}
+use Rattle.index_pages.proofs.Gathered.{RowsLeft, left_row, left_none}
 use Rattle.key_list.proofs.Testing.{PairsLeft, left_step, left_fails}
 use Rattle.key_list.proofs.checking.check_pairs.Goals as goal
 
@@ -21,10 +26,21 @@ loop-i-init g c =
     record {
       looks = looks_none g.S.EawStore.tells (g.S.EawStore.opens view.shape) (pages_of view c.args.pages.now);
       alive = c.requires.alive;
+      rows = λ told. subst (λ (ps : List Pair). RowsLeft view.state.bytes c.args.rows.now (pairs_said c.args.bytes.now) c.args.rows.now ps) all refl;
+      held = λ told. subst (λ (o : Option ℕ). AreOf view.state.bytes c.none-held.result.bytes o) (sym c.none-held.ensures) tt;
       low = c.requires.low;
       left = λ told slots. subst (λ (ps : List Pair). PairsLeft view.state.bytes c.args.table c.args.page (low_of c.args.last) (pairs_said c.args.bytes.now) (low_of c.args.last) ps) all
           (λ verdict told. told);
       ends = ap (λ (ps : List Pair). behind (low_of c.args.last) ps) (sym all);
+    }
+
+pub check_pair-requires : goal.check_pair-requires
+check_pair-requires g c =
+    let still = c.loop-i.invariant.looks.still refl in
+    record {
+      alive = c.loop-i.invariant.alive;
+      slots = subst (λ (s : Shape). c.args.slots ≤ slots_of s) (sym c.loop-i.invariant.looks.shape) c.requires.slots;
+      held = λ told. subst (λ (s : State). IsHeld s.bytes c.loop-i.held) (sym (still.state told)) (c.loop-i.invariant.held told);
     }
 
 pub returns-in-Err-clause-cause : goal.returns-in-Err-clause-cause
@@ -50,6 +66,14 @@ loop-i-preserved g c =
       looks = looks_next g.S.EawStore.tells g.S.EawStore.opens false (pages_of view c.args.pages.now) (pages_of mid c.loop-i.pages) (pages_of (g.S.EawStore.view c.check_pair.new.pages.store) c.check_pair.new.pages)
           c.loop-i.invariant.looks c.in-Ok.ensures.looks;
       alive = (c.in-Ok.ensures.looks.still refl).dead ∙ c.loop-i.invariant.alive;
+      rows = λ told.
+          let same = (c.loop-i.invariant.looks.still refl).state told in
+          let on : suc c.loop-i.i ≡ c.loop-i.i + 1 = omega arith in
+          let left = subst (λ (ps : List Pair). RowsLeft view.state.bytes c.args.rows.now (pairs_said c.args.bytes.now) c.loop-i.rows ps) (from_step c.args.bytes.now c.loop-i.i c.args.count c.loop-i-test.true) (c.loop-i.invariant.rows told) in
+          let more = c.in-Ok.ensures.rows told ∙ (λ i. c.loop-i.rows ++ row_of (same i).bytes (c.read_pair-key.ensures.pair i)) in
+          subst (λ (n : ℕ). RowsLeft view.state.bytes c.args.rows.now (pairs_said c.args.bytes.now) c.check_pair.new.rows (pairs_from c.args.bytes.now n (c.args.count - n))) on
+          (left_row view.state.bytes c.args.rows.now (pairs_said c.args.bytes.now) c.loop-i.rows c.check_pair.new.rows (pair_said c.args.bytes.now c.loop-i.i) (pairs_from c.args.bytes.now (suc c.loop-i.i) (c.args.count - suc c.loop-i.i)) left more);
+      held = λ told. subst (λ (s : State). IsHeld s.bytes c.check_pair.new.held) ((c.loop-i.invariant.looks.still refl).state told) (c.in-Ok.ensures.held told);
       low = c.read_pair-key.ensures.small.0;
       ends =
           let on : suc c.loop-i.i ≡ c.loop-i.i + 1 = omega arith in
@@ -82,3 +106,9 @@ returns-clause-cause g c = λ told slots.
 pub returns-clause-behind : goal.returns-clause-behind
 returns-clause-behind g c =
     ap (λ (ps : List Pair). behind (low_of c.loop-i.last) ps) (sym (from_end c.args.bytes.now c.loop-i.i c.args.count c.loop-i-test.false)) ∙ c.loop-i.invariant.ends
+
+pub returns-clause-rows : goal.returns-clause-rows
+returns-clause-rows g c = λ told.
+    let view = g.S.EawStore.view c.args.pages.now.store in
+    left_none view.state.bytes c.args.rows.now (pairs_said c.args.bytes.now) c.loop-i.rows
+    (subst (λ (ps : List Pair). RowsLeft view.state.bytes c.args.rows.now (pairs_said c.args.bytes.now) c.loop-i.rows ps) (from_end c.args.bytes.now c.loop-i.i c.args.count c.loop-i-test.false) (c.loop-i.invariant.rows told))

@@ -1,4 +1,4 @@
-use Rattle.std.proofs.Common.{◌≡◌, ◌+◌, ◌-◌, ℕ, suc, false, Option, Ok, Err, Result, IsTrue, refl, sym, ◌∙◌, ap, subst, arith}
+use Rattle.std.proofs.Common.{◌≡◌, ◌+◌, ◌-◌, ◌++◌, ℕ, suc, false, Option, Ok, Err, Result, IsTrue, refl, sym, ◌∙◌, ap, subst, arith}
 use Rattle.eaw_face.specs.State.{State}
 use Rattle.eaw_face.specs.Causes.{IsAlive}
 use Rattle.record_slots.specs.Places.{next_slot, next_page, page_bytes}
@@ -8,7 +8,10 @@ use Rattle.page_store.specs.declared.index_fault.CheckFault.{CheckFault}
 use Rattle.index_pages.specs.Page.{pairs_said, link_said}
 use Rattle.index_pages.proofs.Looking.{looks_none, looks_next}
 use Rattle.index_pages.specs.Slots.{IsVerdict}
-use Rattle.key_list.specs.Chain.{pairs_check}
+use Rattle.page_store.specs.Records.{rows_of}
+use Rattle.index_pages.proofs.Gathered.{RowsLeft}
+use Rattle.key_list.specs.Chain.{pairs_check, chain_pairs, pairs_of_chain}
+use Rattle.key_list.proofs.Gathering.{rows_on, rows_end}
 use Rattle.key_list.specs.Checked.{low_of}
 use Rattle.key_list.proofs.Testing.{ChainLeft, chain_none, head_fails, pairs_fail, link_fails, link_ends, link_on, table_err}
 use Rattle.key_list.proofs.checking.check_table.Goals as goal
@@ -145,6 +148,14 @@ loop-step-preserved g c =
       looks = looks3;
       alive = (looks3.still refl).dead ∙ alive;
       low = c.in-Ok-check_pairs.ensures.low;
+      rows = λ told says.
+          let on : suc c.loop-step._step ≡ c.loop-step._step + 1 = omega arith in
+          subst (λ (x : ℕ). RowsLeft b c.args.rows.now (pairs_of_chain b c.args.root) c.check_pairs.new.rows (chain_pairs (c.args.front.now.next_page - (c.loop-step._step + 1)) b x)) (sym c.in-Some.ensures.says.link)
+          (subst (λ (m : ℕ). RowsLeft b c.args.rows.now (pairs_of_chain b c.args.root) c.check_pairs.new.rows (chain_pairs (c.args.front.now.next_page - m) b (link_said c.fetch_page.new.bytes))) on
+          (rows_on b c.fetch_page.new.bytes c.args.rows.now (pairs_of_chain b c.args.root) c.loop-step.rows c.check_pairs.new.rows c.loop-step.page n (buf told)
+          (subst (λ (m : ℕ). RowsLeft b c.args.rows.now (pairs_of_chain b c.args.root) c.loop-step.rows (chain_pairs m b c.loop-step.page))
+          (let e : c.args.front.now.next_page - c.loop-step._step ≡ suc (c.args.front.now.next_page - suc c.loop-step._step) = omega (arith, c.loop-step-test.true) in e) (inv.rows told says))
+          (c.in-Ok-check_pairs.ensures.rows told ∙ (λ i. c.loop-step.rows ++ rows_of (same2 told i).bytes (pairs_said c.fetch_page.new.bytes))) (λ e. c.if-head-eq0.false (c.in-Some.ensures.says.link ∙ e))));
       left = λ told says.
           let next = link_on b c.fetch_page.new.bytes c.args.root c.args.table c.loop-step.page (low_of c.loop-step.last) n (buf told) (left told says) c.in-Some.ensures.head (well told says) (λ e. c.if-head-eq0.false (c.in-Some.ensures.says.link ∙ e)) c.in-Ok-check_pairs.last c.in-Ok-check_pairs.ensures.behind
           (omega (arith, c.if-head-lt2.false, c.in-Some.ensures.says.link), omega (arith, c.if-head-front.false, c.in-Some.ensures.says.link, says.next_page)) in
@@ -165,6 +176,7 @@ returns-clause-cause g c =
     (λ told says. chain_none b c.args.root c.args.table c.loop-step.page (low_of c.loop-step.last) (c.args.front.now.next_page - c.loop-step._step) (omega (arith, c.loop-step-test.false)) (inv.left told says))
 
 pub loop-step-init : goal.loop-step-init
+unfolding pairs_of_chain
 loop-step-init g c =
     let view = g.S.EawStore.view c.args.pages.now.store in
     record {
@@ -172,6 +184,7 @@ loop-step-init g c =
       looks = looks_none g.S.EawStore.tells (g.S.EawStore.opens view.shape) (pages_of view c.args.pages.now);
       alive = c.requires.alive;
       low = omega arith;
+      rows = λ told says. subst (λ (m : ℕ). RowsLeft view.state.bytes c.args.rows.now (pairs_of_chain view.state.bytes c.args.root) c.args.rows.now (chain_pairs m view.state.bytes c.args.root)) (let e : next_page view.state.bytes ≡ c.args.front.now.next_page - 0 = omega (arith, says.next_page) in e) refl;
       left = λ told says. subst (λ (m : ℕ). ChainLeft view.state.bytes c.args.root c.args.table c.args.root 0 m) (let e : next_page view.state.bytes ≡ c.args.front.now.next_page - 0 = omega (arith, says.next_page) in e)
           (λ verdict rest. rest);
     }
@@ -205,3 +218,21 @@ returns-clause-looks g c = c.loop-step.invariant.looks
 
 pub returns-clause-dead : goal.returns-clause-dead
 returns-clause-dead g c = λ is. cc
+
+pub returns-then-head-eq0-clause-rows : goal.returns-then-head-eq0-clause-rows
+returns-then-head-eq0-clause-rows g c =
+    let T = g.S.EawStore.tells in
+    let V = g.S.EawStore.view in
+    let E = g.S.EawStore.opens in
+    let view = V c.args.pages.now.store in
+    let b = view.state.bytes in
+    let inv = c.loop-step.invariant in
+    let still = inv.looks.still refl in
+    let n = c.args.front.now.next_page - suc c.loop-step._step in
+    let buf = λ (told : IsTrue g.S.EawStore.tells). c.in-Ok.ensures.bytes told ∙ ap (λ (s : State). page_bytes s.bytes c.loop-step.page) (still.state told) in
+    let looks2 = looks_next T E false (pages_of view c.args.pages.now) (pages_of (V c.loop-step.pages.store) c.loop-step.pages) (pages_of (V c.fetch_page.new.pages.store) c.fetch_page.new.pages) inv.looks c.in-Ok.ensures.looks in
+    let same2 = λ (told : IsTrue g.S.EawStore.tells). (looks2.still refl).state told in
+    λ told says. rows_end b c.fetch_page.new.bytes c.args.rows.now (pairs_of_chain b c.args.root) c.loop-step.rows c.check_pairs.new.rows c.loop-step.page n (buf told)
+    (subst (λ (m : ℕ). RowsLeft b c.args.rows.now (pairs_of_chain b c.args.root) c.loop-step.rows (chain_pairs m b c.loop-step.page))
+    (let e : c.args.front.now.next_page - c.loop-step._step ≡ suc (c.args.front.now.next_page - suc c.loop-step._step) = omega (arith, c.loop-step-test.true) in e) (inv.rows told says))
+    (c.in-Ok-check_pairs.ensures.rows told ∙ (λ i. c.loop-step.rows ++ rows_of (same2 told i).bytes (pairs_said c.fetch_page.new.bytes))) (sym c.in-Some.ensures.says.link ∙ c.if-head-eq0.true)

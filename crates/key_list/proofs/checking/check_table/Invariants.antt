@@ -7,10 +7,12 @@ use Rattle.page_store.specs.Looks.{Looks}
 use Rattle.page_store.specs.Shown.{pages_of}
 use Rattle.index_pages.specs.Keys.{key_end}
 use Rattle.key_list.specs.Checked.{low_of}
+use Rattle.index_pages.proofs.Gathered.{RowsLeft}
+use Rattle.key_list.specs.Chain.{chain_pairs, pairs_of_chain}
 use Rattle.key_list.proofs.Testing.{ChainLeft}
 use Rattle.key_list.proofs.checking.check_table.Given as goal
 
--- the data is as it was, and what becomes of the pages that are left becomes of the chain
+-- the data is as it was, what becomes of the pages that are left becomes of the chain, and what they hold is left to be gathered
 abbrev pub invariant-loop-step : goal.invariant-loop-step
 invariant-loop-step g l = record {
   inside : l.page < page_count (g.S.EawStore.view l.fn.pages.store).shape;
@@ -18,5 +20,8 @@ invariant-loop-step g l = record {
       (pages_of (g.S.EawStore.view l.fn.pages.store) l.fn.pages) (pages_of (g.S.EawStore.view l.pages.store) l.pages);
   alive : IsAlive (g.S.EawStore.view l.pages.store);
   low : low_of l.last ≤ key_end;
+  rows : IsTrue g.S.EawStore.tells → SaysSuper (page_bytes (g.S.EawStore.view l.fn.pages.store).state.bytes 0) l.front
+      → RowsLeft (g.S.EawStore.view l.fn.pages.store).state.bytes l.fn.rows (pairs_of_chain (g.S.EawStore.view l.fn.pages.store).state.bytes l.root) l.rows
+      (chain_pairs (l.front.next_page - l._step) (g.S.EawStore.view l.fn.pages.store).state.bytes l.page);
   left : IsTrue g.S.EawStore.tells → SaysSuper (page_bytes (g.S.EawStore.view l.fn.pages.store).state.bytes 0) l.front → ChainLeft (g.S.EawStore.view l.fn.pages.store).state.bytes l.root l.table l.page (low_of l.last) (l.front.next_page - l._step);
 }

@@ -42,7 +42,7 @@ pub returns : goal.returns
 returns g c =
     let V = g.S.EawStore.view in
     let p = c.attach_in.result in
-    let q = c.in-Ok.records in
+    let q = c.in-Ok.attached.0 in
     let r = c.make-made.new.self in
     let made = made_table g.S.EawStore.tells g.S.EawStore.opens g.K.KeyIndex.index g.met.S.EawStore.one_data (pages_of (V p.store) p) (pages_of (V q.store) q) (pages_of (V r.store) r) (laws_at g p.store) (laws_at g q.store) (laws_at g r.store) c.args.name.now
     c.in-Ok.ensures.attached c.make-made.result c.make-made.ensures.makes in

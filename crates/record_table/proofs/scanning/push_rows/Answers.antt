@@ -8,7 +8,8 @@ use Rattle.page_store.specs.Index.{slots_of}
 use Rattle.page_store.specs.Pairs.{AreInside, InTurn, next}
 use Rattle.page_store.specs.Shown.{pages_of}
 use Rattle.index_pages.proofs.Turns.{turn_at, inside_at}
-use Rattle.record_table.specs.Scanned.{row_at, rows_seen, rows_in}
+use Rattle.page_store.specs.Records.{row_at}
+use Rattle.record_table.specs.Scanned.{rows_seen, rows_in}
 use Rattle.record_table.specs.State.{TableState, seen_by, key_in}
 use Rattle.record_table.proofs.Joint.{key_sum}
 use Rattle.record_table.proofs.Looking.{looks_none, looks_next}

@@ -1,6 +1,6 @@
 use Rattle.std.proofs.Common.{false, refl, sym, ◌∙◌, ap, arith}
+use Rattle.page_store.specs.Records.{value_of}
 use Rattle.page_store.specs.Shown.{pages_of}
-use Rattle.record_table.specs.Shown.{value_of}
 use Rattle.record_table.proofs.Looking.{looks_as, looks_next}
 use Rattle.record_table.specs.State.{key_in}
 use Rattle.record_table.proofs.Sharing.{Laws, found_in}

@@ -3,7 +3,8 @@ use Rattle.std.specs.Prelude.{map}
 use Rattle.eaw_face.specs.State.{State, listed}
 use Rattle.eaw_face.specs.Causes.{IsAlive}
 use Rattle.page_store.specs.Shown.{saved_of, pages_of}
-use Rattle.record_table.specs.Shown.{writes_of}
+use Rattle.std.specs.FinMap.{entries}
+use Rattle.record_table.specs.Shown.{writes_of, table_of}
 use Rattle.mars_core.specs.Attached.{is_media_fault, CoreCause, GivesBack}
 use Rattle.mars_core.specs.declared.fault.CoreFault.{CoreFault}
 use Rattle.mars_core.proofs.Attaching.{attach_cause, attach_gives}
@@ -29,8 +30,9 @@ begin_over-requires g c =
     record {
       alive = still.dead ∙ c.in-Ok.ensures.attached.alive;
       sound = λ told. subst (λ (s : State). g.K.KeyIndex.index.sound s.bytes) (sym (still.state told)) (c.in-Ok.ensures.attached.sound told);
+      base = λ told. c.in-Ok.ensures.rows told ∙ ap (λ (s : State). entries (table_of g.K.KeyIndex.index s.bytes)) (sym (still.state told));
       idle = c.in-Ok.ensures.attached.idle;
       unsaved = λ told t.
-          ap (λ (counts : List ℕ). map writes_of (saved_of (listed ((g.S.EawStore.view c.in-Ok.records.store).state.logs t)) counts))
+          ap (λ (counts : List ℕ). map writes_of (saved_of (listed ((g.S.EawStore.view c.in-Ok.attached.0.store).state.logs t)) counts))
           (ap (λ (f : ℕ → List ℕ). f t) c.in-Ok.ensures.attached.looks.saves ∙ (c.attach_in.ensures.fresh t).0);
     }

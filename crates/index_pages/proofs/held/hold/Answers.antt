@@ -1,0 +1,8 @@
+use Rattle.std.proofs.Common.{subst, refl, ℕ, Option}
+use Rattle.index_pages.specs.Held.{AreOf}
+use Rattle.index_pages.proofs.held.hold.Goals as goal
+
+pub returns-then-is_page-clause-bytes : goal.returns-then-is_page-clause-bytes
+returns-then-is_page-clause-bytes g c = λ told.
+    let view = g.S.EawStore.view c.args.pages.now.store in
+    subst (λ (o : Option ℕ). AreOf view.state.bytes c.args.held.now.bytes o) (c.is_page.ensures.0 c.if-is_page.true) (c.requires.held told)
