@@ -1,5 +1,5 @@
 -- What is told when records cannot be taken.
-use Rattle.std.proofs.Common.{◌∙◌, refl, Bool, List, ℕ, sym, ap}
+use Rattle.std.proofs.Common.{◌∙◌, refl, Bool, false, List, ℕ, sym, ap}
 use Rattle.std.proofs.lemmas.Bool.{false≢true}
 use Rattle.eaw_face.specs.State.{State}
 use Rattle.eaw_face.specs.StoreView.{StoreView}
