@@ -61,19 +61,21 @@ returns-in-Err-scan-clause-gives_back g c =
 pub invariant_of-result : goal.invariant_of-result
 invariant_of-result g c =
     let V = g.S.EawStore.view in
-    opened_keeps g.S.EawStore.tells g.S.EawStore.opens g.K.KeyIndex.index (pages_of (V c.args.records.store) c.args.records) (pages_of (V c.scan.new.self.store) c.scan.new.self) (laws_at g c.scan.new.self.store)
+    let after = c.in-Ok-upgraded.records in
+    opened_keeps g.S.EawStore.tells g.S.EawStore.opens g.K.KeyIndex.index (pages_of (V c.args.records.store) c.args.records) (pages_of (V c.scan.new.self.store) c.scan.new.self) (pages_of (V after.store) after) (laws_at g after.store)
     (λ sound. let main = (g.met.K.KeyIndex.counts (V c.args.records.store).state.bytes sound).main in
     subst (Rise 0 (2 ^ 64)) (sym (main_pairs g.K.KeyIndex.index (V c.args.records.store).state.bytes main)) (g.met.K.KeyIndex.rises (V c.args.records.store).state.bytes 0 1 sound main)) c.requires.alive c.requires.sound c.requires.idle c.requires.unsaved c.in-Ok-scan.ensures.looks
-    (λ told. c.in-Ok-scan.ensures.does.done told ∙ scan_after (state_of g.K.KeyIndex.index (pages_of (V c.args.records.store) c.args.records)) 0 0 18446744073709551615 (Listed c.in-Ok-scan.base))
+    (λ told. c.in-Ok-scan.ensures.does.done told ∙ scan_after (state_of g.K.KeyIndex.index (pages_of (V c.args.records.store) c.args.records)) 0 0 18446744073709551615 (Listed c.in-Ok-scan.base)) c.in-Ok-upgraded.ensures.upgrades
     c.in-Ok-scan.base (λ told. listed_same _ _ (c.in-Ok-scan.ensures.does.replies told)) c.in-Ok.seats (c.in-Ok.ensures.0 ∙ ap (λ (h : Shape). h.numbers) c.shape.ensures) c.in-Ok.ensures.1 c.new-2.result c.new-2.ensures c.none.result c.none.ensures
 
 pub returns-clause-begins : goal.returns-clause-begins
 returns-clause-begins g c =
     let V = g.S.EawStore.view in
-    opened_begins g.S.EawStore.tells g.S.EawStore.opens g.K.KeyIndex.index (pages_of (V c.args.records.store) c.args.records) (pages_of (V c.scan.new.self.store) c.scan.new.self) (laws_at g c.scan.new.self.store)
+    let after = c.in-Ok-upgraded.records in
+    opened_begins g.S.EawStore.tells g.S.EawStore.opens g.K.KeyIndex.index (pages_of (V c.args.records.store) c.args.records) (pages_of (V c.scan.new.self.store) c.scan.new.self) (pages_of (V after.store) after) (laws_at g after.store)
     (λ sound. let main = (g.met.K.KeyIndex.counts (V c.args.records.store).state.bytes sound).main in
     subst (Rise 0 (2 ^ 64)) (sym (main_pairs g.K.KeyIndex.index (V c.args.records.store).state.bytes main)) (g.met.K.KeyIndex.rises (V c.args.records.store).state.bytes 0 1 sound main)) c.requires.alive c.requires.sound c.requires.idle c.requires.unsaved c.in-Ok-scan.ensures.looks
-    (λ told. c.in-Ok-scan.ensures.does.done told ∙ scan_after (state_of g.K.KeyIndex.index (pages_of (V c.args.records.store) c.args.records)) 0 0 18446744073709551615 (Listed c.in-Ok-scan.base))
+    (λ told. c.in-Ok-scan.ensures.does.done told ∙ scan_after (state_of g.K.KeyIndex.index (pages_of (V c.args.records.store) c.args.records)) 0 0 18446744073709551615 (Listed c.in-Ok-scan.base)) c.in-Ok-upgraded.ensures.upgrades
     c.in-Ok-scan.base (λ told. listed_same _ _ (c.in-Ok-scan.ensures.does.replies told)) c.in-Ok.seats (c.in-Ok.ensures.0 ∙ ap (λ (h : Shape). h.numbers) c.shape.ensures) c.in-Ok.ensures.1 c.new-2.result c.new-2.ensures c.none.result c.none.ensures
 
 pub returns-in-Err-clause-begins : goal.returns-in-Err-clause-begins

@@ -1,5 +1,5 @@
 use Rattle.std.proofs.Common.{◌≡◌, ℕ, List, [], refl, sym, subst, ap, ◌∙◌}
-use Rattle.std.specs.Prelude.{map}
+use Rattle.std.specs.Prelude.{map, Option, None}
 use Rattle.eaw_face.specs.State.{State, listed}
 use Rattle.eaw_face.specs.Causes.{IsAlive}
 use Rattle.page_store.specs.Shown.{saved_of, pages_of}
@@ -10,7 +10,7 @@ use Rattle.mars_core.proofs.Attaching.{attach_cause, attach_gives}
 use Rattle.mars_core.proofs.turns.Core.attach.Goals as goal
 
 pub attach-requires : goal.attach-requires
-attach-requires g c = record { idle = λ alive t. subst (λ (s : g.row.S.Denot). listed ((g.S.EawStore.view s).ranges t) ≡ []) (sym c.attach_in.ensures.store) (c.requires.idle t); closed = λ alive t. (c.attach_in.ensures.fresh t).1 }
+attach-requires g c = record { idle = λ alive t. subst (λ (s : g.row.S.Denot). listed ((g.S.EawStore.view s).ranges t) ≡ []) (sym c.attach_in.ensures.store) (ap listed (c.requires.idle t)); closed = λ alive t. (c.attach_in.ensures.fresh t).1 }
 
 pub returns-in-Err : goal.returns-in-Err
 returns-in-Err g c =
@@ -28,6 +28,7 @@ begin_over-requires g c =
     let still = c.in-Ok.ensures.attached.looks.still refl in
     record {
       alive = still.dead ∙ c.in-Ok.ensures.attached.alive;
+      free = ap (λ (f : ℕ → Option (List (ℕ × ℕ))). f 0) c.in-Ok.ensures.attached.looks.ranges ∙ subst (λ (s : g.row.S.Denot). (g.S.EawStore.view s).ranges 0 ≡ None) (sym c.attach_in.ensures.store) (c.requires.idle 0);
       sound = λ told. subst (λ (s : State). g.K.KeyIndex.index.sound s.bytes) (sym (still.state told)) (c.in-Ok.ensures.attached.sound told);
       idle = c.in-Ok.ensures.attached.idle;
       unsaved = λ told t.
