@@ -17,32 +17,43 @@ use Rattle.record_table.specs.Sought.{LooksAs}
 use Rattle.record_table.specs.Upgrading.{upgraded, Upgrades, UpgradeCause}
 use Rattle.record_table.specs.declared.fault.TableFault.{TableFault}
 use Rattle.record_table.specs.declared.fault.TableFault.TheVariants as fault
-use Rattle.mars_core.specs.Attached.{is_media_fault, attach_fault, scan_fault, CoreCause, GivesBack}
+use Rattle.mars_core.specs.Attached.{is_media_fault, attach_fault, scan_fault, CoreCause, LeftAsItWas, GivesBack}
 
 pub attach_cause : (tells : Bool) (index : Index) (old : StoreView) (fault : AttachRecords) → AttachCause tells index old fault → CoreCause tells index old (attach_fault fault)
 attach_cause tells index old (Damaged page) cause = cause.1
 attach_cause tells index old Media cause = tt
 attach_cause tells index old Dead cause = tt
 
-pub attach_gives : (tells : Bool) (Opens : List ℕ → List ℕ → Type 0) (index : Index) (old new : PagesView) → IsAlive old.store → (fault : AttachRecords) → AttachCause tells index old.store fault
-    → Looks tells Opens (is_refused_by_media fault) old new → GivesBack tells Opens (is_media_fault (attach_fault fault)) old.store new.store
-attach_gives tells Opens index old new alive (Damaged page) cause looks =
+-- the store is then as it was
+pub attach_left : (tells : Bool) (Opens : List ℕ → List ℕ → Type 0) (index : Index) (old new : PagesView) → IsAlive old.store → (fault : AttachRecords) → AttachCause tells index old.store fault
+    → Looks tells Opens (is_refused_by_media fault) old new → LeftAsItWas tells Opens (is_media_fault (attach_fault fault)) old.store new.store
+attach_left tells Opens index old new alive (Damaged page) cause looks =
     let still = looks.still refl in
     record {
       shape = looks.shape;
       kept = λ well. (still.dead, still.faults);
       unwritten = λ told well. ap (λ (s : State). s.bytes) (still.state told);
       dies = λ failed. absurd (false≢true failed);
-      time = λ told. weaker (λ image opens. inl opens) (looks.time told alive);
+      time = λ told. looks.time told alive;
     }
-attach_gives tells Opens index old new alive Media cause looks = record {
+attach_left tells Opens index old new alive Media cause looks = record {
   shape = looks.shape;
   kept = λ well. absurd (false≢true (sym well));
   unwritten = λ told well. absurd (false≢true (sym well));
   dies = looks.dies;
-  time = λ told. weaker (λ image opens. inl opens) (looks.time told alive);
+  time = λ told. looks.time told alive;
 }
-attach_gives tells Opens index old new alive Dead cause looks = absurd (false≢true (sym alive ∙ cause))
+attach_left tells Opens index old new alive Dead cause looks = absurd (false≢true (sym alive ∙ cause))
+
+-- a store that is as it was can be given back
+pub left_gives : (tells : Bool) (Opens : List ℕ → List ℕ → Type 0) (failed : Bool) (old new : StoreView) → LeftAsItWas tells Opens failed old new → GivesBack tells Opens failed old new
+left_gives tells Opens failed old new left = record {
+  shape = left.shape;
+  kept = left.kept;
+  unwritten = left.unwritten;
+  dies = left.dies;
+  time = λ told. weaker (λ image opens. inl opens) (left.time told);
+}
 
 -- why data was not brought to version 2, as the opening tells it
 pub upgrade_cause : (tells : Bool) (index : Index) (old : PagesView) (f : TableFault) → (let r : Result (Unit {0}) TableFault = Err f in UpgradeCause tells old r) → CoreCause tells index old.store (scan_fault f)

@@ -12,3 +12,4 @@ pub mod Answered
 pub mod Finishing
 pub mod Opening
 pub mod Attaching
+pub mod Reading

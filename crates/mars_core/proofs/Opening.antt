@@ -29,7 +29,7 @@ use Rattle.record_table.proofs.Tables.{tied, get-table_in, record_at}
 use Rattle.caller_steps.specs.State.{State, calls_of, opened}
 use Rattle.caller_steps.specs.Sound.{IsSound}
 use Rattle.caller_steps.proofs.Sound.{opened_sound}
-use Rattle.mars_core.specs.Attached.{GivesBack, scan_fault, is_media_fault}
+use Rattle.mars_core.specs.Attached.{LeftAsItWas, scan_fault, is_media_fault}
 use Rattle.mars_core.specs.Over.{limits_of, index_of, Begins}
 use Rattle.mars_core.specs.Held.{core_over, state_at}
 use Rattle.mars_core.specs.Kept.{Mirrors, HasHeld, IsTied, IsKept}
@@ -50,7 +50,7 @@ all_within (e ∷ es) none = elim (cases_lt (2 ^ 64 - 1) e.0) [
     no_some v is = absurd (cc)
 
 module _ (m : Table) (none : (q : ℕ) → 2 ^ 64 - 1 < q → get m q ≡ None) (rows : List (ℕ × List ℕ)) (is : rows ≡ rows_within 0 (2 ^ 64 - 1) m) where
-  rows_are : rows ≡ entries m
+  pub rows_are : rows ≡ entries m
   rows_are = is ∙ all_within (entries m) (λ q lt. sym (get-entries m q) ∙ none q lt)
 
   -- the rows of a table are that table's
@@ -75,14 +75,14 @@ unfolding shown.table_of
 no_key_above index bytes rises q lt = get-table_in bytes (pairs_of index bytes) q ∙ ap (record_at bytes) (none_above 0 (2 ^ 64) (pairs_of index bytes) q rises (omega (arith, lt)))
 
 -- a scan at the opening that was refused
-pub scan_gives_back : (tells : Bool) (Opens : List ℕ → List ℕ → Type 0) (t : ℕ) (p q : PagesView) → IsAlive p.store → (T : Type 0) (f : TableFault) → (let r : Result T TableFault = Err f in LooksAs tells Opens t (is_failed r) p q)
-    → ((let r : Result T TableFault = Err f in is_failed r) ≡ is_media_fault (scan_fault f)) → GivesBack tells Opens (is_media_fault (scan_fault f)) p.store q.store
-scan_gives_back tells Opens t p q alive T f looks same = record {
+pub scan_left : (tells : Bool) (Opens : List ℕ → List ℕ → Type 0) (t : ℕ) (p q : PagesView) → IsAlive p.store → (T : Type 0) (f : TableFault) → (let r : Result T TableFault = Err f in LooksAs tells Opens t (is_failed r) p q)
+    → ((let r : Result T TableFault = Err f in is_failed r) ≡ is_media_fault (scan_fault f)) → LeftAsItWas tells Opens (is_media_fault (scan_fault f)) p.store q.store
+scan_left tells Opens t p q alive T f looks same = record {
   shape = looks.shape;
   kept = λ well. let still = (looks.same (same ∙ well)).still in (still.dead, still.faults);
   unwritten = λ told well. ap (λ (s : StoreState). s.bytes) ((looks.same (same ∙ well)).still.state told);
   dies = λ failed. looks.dies (same ∙ failed);
-  time = λ told. weaker (λ image opens. inl opens) (looks.time told alive);
+  time = λ told. looks.time told alive;
 }
 
 no_log : (new : State) → ((t : ℕ) → new.live t ≡ None) → (t : ℕ) → calls_of new t ≡ []

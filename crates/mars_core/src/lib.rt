@@ -11,10 +11,12 @@ mod fault;
 mod live;
 mod locks;
 mod masks;
+mod reading;
 mod replies;
 mod seats;
 mod table_call;
 mod turns;
 
 pub use fault::CoreFault;
+pub use reading::read_records;
 pub use turns::Core;

@@ -20,3 +20,4 @@ mod Endings
 pub mod Commanding
 pub mod Statuses
 pub mod Outcomes
+pub mod Dumping

@@ -7,6 +7,7 @@
 
 mod fault;
 mod form;
+mod laws;
 mod records;
 mod scanning;
 mod slots;
@@ -15,4 +16,5 @@ mod upgrading;
 
 pub use fault::{AttachRecords, TableFault};
 pub use form::{Form, form_of};
+pub use laws::version_two_keeps;
 pub use records::Records;

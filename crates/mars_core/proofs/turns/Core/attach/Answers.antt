@@ -4,9 +4,9 @@ use Rattle.eaw_face.specs.State.{State, listed}
 use Rattle.eaw_face.specs.Causes.{IsAlive}
 use Rattle.page_store.specs.Shown.{saved_of, pages_of}
 use Rattle.record_table.specs.Shown.{writes_of}
-use Rattle.mars_core.specs.Attached.{is_media_fault, CoreCause, GivesBack}
+use Rattle.mars_core.specs.Attached.{is_media_fault, attach_fault, CoreCause, GivesBack}
 use Rattle.mars_core.specs.declared.fault.CoreFault.{CoreFault}
-use Rattle.mars_core.proofs.Attaching.{attach_cause, attach_gives}
+use Rattle.mars_core.proofs.Attaching.{attach_cause, attach_left, left_gives}
 use Rattle.mars_core.proofs.turns.Core.attach.Goals as goal
 
 pub attach-requires : goal.attach-requires
@@ -16,7 +16,8 @@ pub returns-in-Err : goal.returns-in-Err
 returns-in-Err g c =
     let cause = attach_cause g.S.EawStore.tells g.K.KeyIndex.index (g.S.EawStore.view c.attach_in.result.store) c.in-Err.fault c.in-Err.ensures.cause in
     let alive = subst (λ (s : g.row.S.Denot). IsAlive (g.S.EawStore.view s)) (sym c.attach_in.ensures.store) c.requires.alive in
-    let back = attach_gives g.S.EawStore.tells (g.S.EawStore.opens (g.S.EawStore.view c.attach_in.result.store).shape) g.K.KeyIndex.index (pages_of (g.S.EawStore.view c.attach_in.result.store) c.attach_in.result) (pages_of (g.S.EawStore.view c.in-Err.pages.store) c.in-Err.pages) alive c.in-Err.fault c.in-Err.ensures.cause c.in-Err.ensures.looks in
+    let back = left_gives g.S.EawStore.tells (g.S.EawStore.opens (g.S.EawStore.view c.attach_in.result.store).shape) (is_media_fault (attach_fault c.in-Err.fault)) (g.S.EawStore.view c.attach_in.result.store) (g.S.EawStore.view c.in-Err.pages.store)
+        (attach_left g.S.EawStore.tells (g.S.EawStore.opens (g.S.EawStore.view c.attach_in.result.store).shape) g.K.KeyIndex.index (pages_of (g.S.EawStore.view c.attach_in.result.store) c.attach_in.result) (pages_of (g.S.EawStore.view c.in-Err.pages.store) c.in-Err.pages) alive c.in-Err.fault c.in-Err.ensures.cause c.in-Err.ensures.looks) in
     record {
       begins = tt;
       cause = subst (λ (x : g.row.S.Denot × CoreFault). CoreCause g.S.EawStore.tells g.K.KeyIndex.index (g.S.EawStore.view x.0) x.1) (λ i. (c.attach_in.ensures.store i, sym c.from.ensures i)) cause;
