@@ -12,10 +12,12 @@ mod live;
 mod locks;
 mod masks;
 mod purging;
+mod reading;
 mod replies;
 mod seats;
 mod table_call;
 mod turns;
 
 pub use fault::CoreFault;
+pub use reading::read_records;
 pub use turns::Core;

@@ -7,6 +7,7 @@
 
 mod fault;
 mod form;
+mod laws;
 mod making;
 mod names;
 mod records;
@@ -18,5 +19,6 @@ mod upgrading;
 
 pub use fault::{AttachRecords, TableFault};
 pub use form::{Form, form_of};
+pub use laws::version_two_keeps;
 pub use making::MakeFault;
 pub use records::Records;
