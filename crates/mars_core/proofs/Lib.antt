@@ -15,4 +15,4 @@ pub mod Attaching
 pub mod Unwritten
 pub mod Clearing
 pub mod Purged
-pub mod Reading
+pub mod LeftAlone
