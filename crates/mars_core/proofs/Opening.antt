@@ -1,13 +1,13 @@
 -- How a core begins: with the records of the store's data.
-use Rattle.std.proofs.Common.{◌≡◌, ◌≤◌, ◌<◌, ◌-◌, ◌^◌, ℕ, suc, inl, inr, Bool, false, cond, ◌&&◌, List, [], ◌∷◌, length, filter, IsTrue, Option, Some, None, unwrap_or, Result, Err, refl, sym, ap, subst, ◌∙◌, arith, eq-eqb, ne_eqb, le-leb}
+use Rattle.std.proofs.Common.{◌≡◌, ◌≤◌, ◌<◌, ◌-◌, ◌^◌, ℕ, suc, inl, inr, Bool, false, cond, ◌&&◌, List, [], ◌∷◌, length, filter, IsTrue, Option, Some, None, unwrap_or, Result, Ok, Err, refl, sym, ap, subst, ◌∙◌, arith, eq-eqb, ne_eqb, le-leb}
 use Rattle.std.specs.Ordering.{nat_cmp}
 use Rattle.std.specs.Cmp.{nat_cmp_total}
 use Rattle.std.specs.FinMap.{get, entries, from_entries, get-entries, get-from_entries}
 use Rattle.std.specs.FinMap.Entries.{find}
 use Rattle.std.proofs.lemmas.Bool.{cases_lt}
-use Rattle.mars_base.proofs.Going.{stays}
 use Rattle.array_shape.specs.declared.shape.Shape.{Shape}
 use Rattle.eaw_face.specs.State.{State as StoreState}
+use Rattle.eaw_face.specs.StoreView.{LeavesOnly}
 use Rattle.eaw_face.specs.Causes.{IsAlive}
 use Rattle.page_store.specs.Index as below
 use Rattle.page_store.specs.Pairs.{Pair, Rise, found}
@@ -22,12 +22,13 @@ use Rattle.record_table.specs.Does.{OpensWith, is_failed}
 use Rattle.record_table.specs.Shown.{state_of, pairs_of, keys_of, table_in}
 use Rattle.record_table.specs.Shown as shown
 use Rattle.record_table.specs.Sought.{LooksAs}
+use Rattle.record_table.specs.Upgrading.{upgraded, OpensUpgraded, Upgrades}
 use Rattle.record_table.specs.declared.fault.TableFault.{TableFault}
 use Rattle.record_table.proofs.Tables.{tied, get-table_in, record_at}
 use Rattle.caller_steps.specs.State.{State, calls_of, opened}
 use Rattle.caller_steps.specs.Sound.{IsSound}
 use Rattle.caller_steps.proofs.Sound.{opened_sound}
-use Rattle.mars_core.specs.Attached.{GivesBack, scan_fault, is_media_fault}
+use Rattle.mars_core.specs.Attached.{LeftAsItWas, scan_fault, is_media_fault}
 use Rattle.mars_core.specs.Over.{limits_of, index_of, Begins}
 use Rattle.mars_core.specs.Held.{core_over, state_at}
 use Rattle.mars_core.specs.Kept.{Mirrors, HasHeld, IsTied, IsKept}
@@ -45,58 +46,68 @@ module _ (m : Table) (rows : List (ℕ × List ℕ)) (is : rows ≡ entries m) w
 no_log : (new : State) → ((t : ℕ) → new.live t ≡ None) → (t : ℕ) → calls_of new t ≡ []
 no_log new idle t = ap (λ (o : Option Granted). unwrap_or o []) (idle t)
 
--- A core over records to which nobody has written, with their rows.
-module _ (tells : Bool) (Opens : Shape → List ℕ → List ℕ → Type 0) (index : below.Index) (p : PagesView) (laws : StoreLaws tells Opens p.store) (alive : IsAlive p.store) (sound : IsTrue tells → index.sound p.store.state.bytes)
-    (idle : IsTrue tells → (t : ℕ) → ((state_of index p).logs t).writes ≡ []) (unsaved : IsTrue tells → (t : ℕ) → ((state_of index p).logs t).saved ≡ []) (rows : List (ℕ × List ℕ)) (are : IsTrue tells → rows ≡ entries (shown.table_of index p.store.state.bytes))
+-- A core over records to which nobody has written, with their rows, once their data is in version 2.
+module _ (tells : Bool) (Opens : Shape → List ℕ → List ℕ → Type 0) (index : below.Index) (p r : PagesView) (new_laws : StoreLaws tells Opens r.store) (alive : IsAlive p.store) (sound : IsTrue tells → index.sound p.store.state.bytes)
+    (idle : IsTrue tells → (t : ℕ) → ((state_of index p).logs t).writes ≡ []) (unsaved : IsTrue tells → (t : ℕ) → ((state_of index p).logs t).saved ≡ []) (upgrades : Upgrades tells (Opens p.store.shape) index p r (Ok tt))
+    (rows : List (ℕ × List ℕ)) (are : IsTrue tells → rows ≡ entries (shown.table_of index p.store.state.bytes))
     (seats : Seats) (count : length seats ≡ p.store.shape.numbers) (none : (t : ℕ) → live_in seats t ≡ None) (history : List Done) (empty : history ≡ []) (doubt : List Done) (sure : doubt ≡ []) where
+  lives : IsAlive r.store
+  lives = (upgrades.faults refl).0 ∙ alive
+
   module _ (told : IsTrue tells) where
+    state_new : state_of index r ≡ state_of index p
+    state_new = upgrades.state told refl
+
     table_is : table_of rows ≡ shown.table_of index p.store.state.bytes
     table_is = base_is (shown.table_of index p.store.state.bytes) rows (are told)
 
     -- its state is that of a core that was just opened
-    opened_is : state_at index p.store (table_of rows) history (live_in seats) doubt ≡ opened (shown.table_of index p.store.state.bytes) (index_of index p.store.state.bytes)
-    opened_is = λ i. record { base = table_is i; history = empty i; live = λ t. none t i; doubt = sure i; is_dead = alive i; index = index_of index p.store.state.bytes }
+    opened_is : state_at index r.store (table_of rows) history (live_in seats) doubt ≡ opened (shown.table_of index p.store.state.bytes) (index_of index (upgraded p.store.state.bytes))
+    opened_is = λ i. record { base = table_is i; history = empty i; live = λ t. none t i; doubt = sure i; is_dead = lives i; index = index_of index (upgrades.bytes told i) }
 
-    mirrors : Mirrors (state_of index p) (state_at index p.store (table_of rows) history (live_in seats) doubt)
-    mirrors = subst (λ (s : State). Mirrors (state_of index p) s) (sym opened_is) (record {
-      table = refl;
-      logs = λ t. (λ i. record { writes = idle told t i; saved = unsaved told t i });
+    mirrors : Mirrors (state_of index r) (state_at index r.store (table_of rows) history (live_in seats) doubt)
+    mirrors = subst (λ (s : State). Mirrors (state_of index r) s) (sym opened_is) (record {
+      table = ap (λ (b : TableState). b.table) state_new;
+      logs = λ t. ap (λ (b : TableState). b.logs t) state_new ∙ (λ i. record { writes = idle told t i; saved = unsaved told t i });
     })
 
-    tied_new : IsTied index p (state_at index p.store (table_of rows) history (live_in seats) doubt)
+    tied_new : IsTied index r (state_at index r.store (table_of rows) history (live_in seats) doubt)
     tied_new = record {
-      index_sound = sound told;
+      index_sound = upgrades.sound told;
       mirrors = mirrors;
-      sound = subst IsSound (sym opened_is) (opened_sound (shown.table_of index p.store.state.bytes) (index_of index p.store.state.bytes));
-      room = subst (HasHeld (limits_of p.store.shape)) (sym opened_is) (λ caller g. omega arith);
+      sound = subst IsSound (sym opened_is) (opened_sound (shown.table_of index p.store.state.bytes) (index_of index (upgraded p.store.state.bytes)));
+      room = subst (HasHeld (limits_of r.store.shape)) (sym opened_is) (λ caller g. omega arith);
     }
 
-  pub opened_keeps : IsKept tells Opens index p (length seats) rows (state_at index p.store (table_of rows) history (live_in seats) doubt)
+  pub opened_keeps : IsKept tells Opens index r (length seats) rows (state_at index r.store (table_of rows) history (live_in seats) doubt)
   opened_keeps = record {
-    seats = count;
+    seats = count ∙ sym (ap (λ (h : Shape). h.numbers) upgrades.shape);
     in_order = λ told. base_rows (shown.table_of index p.store.state.bytes) rows (are told);
     tied = λ told _. tied_new told;
-    safe = λ told. safe_alive tells Opens index p laws (state_at index p.store (table_of rows) history (live_in seats) doubt) told alive (tied_new told);
+    safe = λ told. safe_alive tells Opens index r new_laws (state_at index r.store (table_of rows) history (live_in seats) doubt) told lives (tied_new told);
   }
 
-  pub opened_begins : Begins tells (Opens p.store.shape) index p.store p.store (core_over Opens index p.store (state_at index p.store (table_of rows) history (live_in seats) doubt))
+  pub opened_begins : Begins tells (Opens p.store.shape) index p.store r.store (core_over Opens index r.store (state_at index r.store (table_of rows) history (live_in seats) doubt))
   opened_begins = record {
     over = record {
       limits = refl;
       faults = refl;
       moment = refl;
       left = λ since image. (λ left. left, λ left. left);
-      opens_to = λ image table. (λ o. o, λ o. o);
+      opens_to = λ image table. (λ o. subst (λ (h : Shape). OpensWith (Opens h) index image table) (sym upgrades.shape) o, λ o. subst (λ (h : Shape). OpensWith (Opens h) index image table) upgrades.shape o);
       dead = refl;
       keys = λ told. refl;
-      sound = λ told _. sound told;
+      sound = λ told _. upgrades.sound told;
       table = λ told _. (mirrors told).table;
     };
-    alive = alive;
-    faults = refl;
-    shape = refl;
+    alive = lives;
+    faults = (upgrades.faults refl).1;
+    shape = upgrades.shape;
     state = opened_is;
     fresh = (empty, none, sure);
     sound = sound;
-    time = λ told. stays p.store.moment p.store.left_since (λ image. Opens p.store.shape image p.store.state.bytes);
+    bytes = upgrades.bytes;
+    version = upgrades.version;
+    keys = λ told. upgrades.keys told refl;
+    time = λ told. upgrades.exact told alive;
   }
