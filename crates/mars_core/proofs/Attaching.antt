@@ -1,6 +1,9 @@
 -- What is told when records cannot be taken.
-use Rattle.std.proofs.Common.{◌∙◌, refl, Bool, List, ℕ, sym, ap}
+use Rattle.std.proofs.Common.{◌≡◌, ◌⊎◌, inl, inr, ⊎_elim, ◌∙◌, refl, Bool, false, List, ℕ, IsTrue, Result, Err, sym, ap, subst}
 use Rattle.std.proofs.lemmas.Bool.{false≢true}
+use Rattle.mars_base.specs.Causes.{Rose}
+use Rattle.mars_base.proofs.Going.{weaker, then}
+use Rattle.array_shape.specs.declared.shape.Shape.{Shape}
 use Rattle.eaw_face.specs.State.{State}
 use Rattle.eaw_face.specs.StoreView.{StoreView}
 use Rattle.eaw_face.specs.Causes.{IsAlive}
@@ -10,18 +13,16 @@ use Rattle.page_store.specs.Shown.{PagesView}
 use Rattle.record_table.specs.Attached.{AttachCause, is_refused_by_media}
 use Rattle.record_table.specs.declared.fault.AttachRecords.{AttachRecords}
 use Rattle.record_table.specs.declared.fault.AttachRecords.TheVariants.{Damaged, Media, Dead}
-use Rattle.mars_core.specs.Attached.{is_media_fault, attach_fault, CoreCause, LeftAsItWas, GivesBack}
+use Rattle.record_table.specs.Sought.{LooksAs}
+use Rattle.record_table.specs.Upgrading.{upgraded, Upgrades, UpgradeCause}
+use Rattle.record_table.specs.declared.fault.TableFault.{TableFault}
+use Rattle.record_table.specs.declared.fault.TableFault.TheVariants as fault
+use Rattle.mars_core.specs.Attached.{is_media_fault, attach_fault, scan_fault, CoreCause, LeftAsItWas, GivesBack}
 
 pub attach_cause : (tells : Bool) (index : Index) (old : StoreView) (fault : AttachRecords) → AttachCause tells index old fault → CoreCause tells index old (attach_fault fault)
 attach_cause tells index old (Damaged page) cause = cause.1
 attach_cause tells index old Media cause = tt
 attach_cause tells index old Dead cause = tt
-
-pub attach_gives : (tells : Bool) (Opens : List ℕ → List ℕ → Type 0) (index : Index) (old new : PagesView) → IsAlive old.store → (fault : AttachRecords) → AttachCause tells index old.store fault
-    → Looks tells Opens (is_refused_by_media fault) old new → GivesBack tells Opens (is_media_fault (attach_fault fault)) old.store new.store
-attach_gives tells Opens index old new alive (Damaged page) cause looks = (let still = looks.still refl in record { shape = looks.shape; kept = λ well. (still.dead, still.faults); dies = λ failed. absurd (false≢true failed); time = λ told. looks.time told alive })
-attach_gives tells Opens index old new alive Media cause looks = record { shape = looks.shape; kept = λ well. absurd (false≢true (sym well)); dies = looks.dies; time = λ told. looks.time told alive }
-attach_gives tells Opens index old new alive Dead cause looks = absurd (false≢true (sym alive ∙ cause))
 
 -- the store is then as it was
 pub attach_left : (tells : Bool) (Opens : List ℕ → List ℕ → Type 0) (index : Index) (old new : PagesView) → IsAlive old.store → (fault : AttachRecords) → AttachCause tells index old.store fault
@@ -43,3 +44,63 @@ attach_left tells Opens index old new alive Media cause looks = record {
   time = λ told. looks.time told alive;
 }
 attach_left tells Opens index old new alive Dead cause looks = absurd (false≢true (sym alive ∙ cause))
+
+-- a store that is as it was can be given back
+pub left_gives : (tells : Bool) (Opens : List ℕ → List ℕ → Type 0) (failed : Bool) (old new : StoreView) → LeftAsItWas tells Opens failed old new → GivesBack tells Opens failed old new
+left_gives tells Opens failed old new left = record {
+  shape = left.shape;
+  kept = left.kept;
+  unwritten = left.unwritten;
+  dies = left.dies;
+  time = λ told. weaker (λ image opens. inl opens) (left.time told);
+}
+
+-- why data was not brought to version 2, as the opening tells it
+pub upgrade_cause : (tells : Bool) (index : Index) (old : PagesView) (f : TableFault) → (let r : Result (Unit {0}) TableFault = Err f in UpgradeCause tells old r) → CoreCause tells index old.store (scan_fault f)
+upgrade_cause tells index old fault.Media cause = tt
+upgrade_cause tells index old fault.NoMemory cause = tt
+upgrade_cause tells index old (fault.Damaged page) cause = λ told. absurd (cause.1 told)
+upgrade_cause tells index old fault.Dead cause = tt
+upgrade_cause tells index old fault.SavesFull cause = tt
+upgrade_cause tells index old (fault.SlotsFull n) cause = tt
+upgrade_cause tells index old (fault.PagesFull n) cause = tt
+upgrade_cause tells index old (fault.LogFull g h n) cause = tt
+
+-- the store is then given back
+pub upgrade_gives : (tells : Bool) (Opens : List ℕ → List ℕ → Type 0) (index : Index) (old new : PagesView) → IsAlive old.store → (f : TableFault) → (let r : Result (Unit {0}) TableFault = Err f in Upgrades tells Opens index old new r)
+    → GivesBack tells Opens (is_media_fault (scan_fault f)) old.store new.store
+upgrade_gives tells Opens index old new alive fault.Media up = record {
+  shape = up.shape;
+  kept = λ well. absurd (false≢true (sym well));
+  unwritten = λ told well. absurd (false≢true (sym well));
+  dies = up.dies;
+  time = λ told. weaker (λ image either. ⊎_elim (λ was. inl was) (λ is. inr (refl, is)) either) (up.exact told alive);
+}
+upgrade_gives tells Opens index old new alive fault.NoMemory up = absurd up.cause
+upgrade_gives tells Opens index old new alive (fault.Damaged page) up = record {
+  shape = up.shape;
+  kept = up.faults;
+  unwritten = λ told well. absurd (up.cause.1 told);
+  dies = λ failed. absurd (false≢true failed);
+  time = λ told. absurd (up.cause.1 told);
+}
+upgrade_gives tells Opens index old new alive fault.Dead up = absurd (false≢true (sym alive ∙ up.cause))
+upgrade_gives tells Opens index old new alive fault.SavesFull up = absurd up.cause
+upgrade_gives tells Opens index old new alive (fault.SlotsFull n) up = absurd up.cause
+upgrade_gives tells Opens index old new alive (fault.PagesFull n) up = absurd up.cause
+upgrade_gives tells Opens index old new alive (fault.LogFull g h n) up = absurd up.cause
+
+-- what a look left is given back
+pub looked_gives : (tells : Bool) (Opens : Shape → List ℕ → List ℕ → Type 0) (failed : Bool) (p q : PagesView) (new : StoreView) → IsAlive p.store → LooksAs tells (Opens p.store.shape) 0 false p q
+    → GivesBack tells (Opens q.store.shape) failed q.store new → GivesBack tells (Opens p.store.shape) failed p.store new
+looked_gives tells Opens failed p q new alive looks back =
+    let still = (looks.same refl).still in
+    let bytes : IsTrue tells → q.store.state.bytes ≡ p.store.state.bytes = λ told. ap (λ (s : State). s.bytes) (still.state told) in
+    record {
+      shape = back.shape ∙ looks.shape;
+      kept = λ well. ((back.kept well).0 ∙ still.dead, (back.kept well).1 ∙ still.faults);
+      unwritten = λ told well. back.unwritten told well ∙ bytes told;
+      dies = λ dead. ((back.dies dead).0, subst (λ (n : ℕ). Rose n new.faults) still.faults (back.dies dead).1);
+      time = λ told. then (weaker (λ image opens. inl opens) (looks.time told alive))
+          (weaker (λ image either. subst (λ (x : Shape × List ℕ). Opens x.0 image x.1 ⊎ (IsTrue failed × Opens x.0 image (upgraded x.1))) (λ i. (looks.shape i, bytes told i)) either) (back.time told));
+    }

@@ -1,12 +1,14 @@
 -- How a core begins: with the records of the store's data.
-use Rattle.std.proofs.Common.{◌≡◌, ◌≤◌, ◌<◌, ◌-◌, ◌^◌, ℕ, suc, inl, inr, Bool, false, cond, ◌&&◌, List, [], ◌∷◌, length, filter, IsTrue, Option, Some, None, unwrap_or, Result, Err, refl, sym, ap, subst, ◌∙◌, arith, eq-eqb, ne_eqb, le-leb}
+use Rattle.std.proofs.Common.{◌≡◌, ◌≤◌, ◌<◌, ◌-◌, ◌^◌, ℕ, suc, inl, inr, Bool, false, cond, ◌&&◌, List, [], ◌∷◌, length, filter, IsTrue, Option, Some, None, unwrap_or, Result, Ok, Err, refl, sym, ap, subst, ◌∙◌, arith, eq-eqb, ne_eqb, le-leb}
 use Rattle.std.specs.Ordering.{nat_cmp}
 use Rattle.std.specs.Cmp.{nat_cmp_total}
 use Rattle.std.specs.FinMap.{get, entries, from_entries, get-entries, get-from_entries}
 use Rattle.std.specs.FinMap.Entries.{find}
 use Rattle.std.proofs.lemmas.Bool.{cases_lt}
+use Rattle.mars_base.proofs.Going.{weaker, then}
 use Rattle.array_shape.specs.declared.shape.Shape.{Shape}
 use Rattle.eaw_face.specs.State.{State as StoreState}
+use Rattle.eaw_face.specs.StoreView.{LeavesOnly}
 use Rattle.eaw_face.specs.Causes.{IsAlive}
 use Rattle.page_store.specs.Index as below
 use Rattle.page_store.specs.Pairs.{Pair, Rise, found}
@@ -21,12 +23,13 @@ use Rattle.record_table.specs.Does.{OpensWith, is_failed}
 use Rattle.record_table.specs.Shown.{state_of, pairs_of, keys_of, table_in}
 use Rattle.record_table.specs.Shown as shown
 use Rattle.record_table.specs.Sought.{LooksAs}
+use Rattle.record_table.specs.Upgrading.{upgraded, OpensUpgraded, Upgrades}
 use Rattle.record_table.specs.declared.fault.TableFault.{TableFault}
 use Rattle.record_table.proofs.Tables.{tied, get-table_in, record_at}
 use Rattle.caller_steps.specs.State.{State, calls_of, opened}
 use Rattle.caller_steps.specs.Sound.{IsSound}
 use Rattle.caller_steps.proofs.Sound.{opened_sound}
-use Rattle.mars_core.specs.Attached.{GivesBack, scan_fault, is_media_fault}
+use Rattle.mars_core.specs.Attached.{LeftAsItWas, scan_fault, is_media_fault}
 use Rattle.mars_core.specs.Over.{limits_of, index_of, Begins}
 use Rattle.mars_core.specs.Held.{core_over, state_at}
 use Rattle.mars_core.specs.Kept.{Mirrors, HasHeld, IsTied, IsKept}
@@ -72,11 +75,12 @@ unfolding shown.table_of
 no_key_above index bytes rises q lt = get-table_in bytes (pairs_of index bytes) q ∙ ap (record_at bytes) (none_above 0 (2 ^ 64) (pairs_of index bytes) q rises (omega (arith, lt)))
 
 -- a scan at the opening that was refused
-pub scan_gives_back : (tells : Bool) (Opens : List ℕ → List ℕ → Type 0) (t : ℕ) (p q : PagesView) → IsAlive p.store → (T : Type 0) (f : TableFault) → (let r : Result T TableFault = Err f in LooksAs tells Opens t (is_failed r) p q)
-    → ((let r : Result T TableFault = Err f in is_failed r) ≡ is_media_fault (scan_fault f)) → GivesBack tells Opens (is_media_fault (scan_fault f)) p.store q.store
-scan_gives_back tells Opens t p q alive T f looks same = record {
+pub scan_left : (tells : Bool) (Opens : List ℕ → List ℕ → Type 0) (t : ℕ) (p q : PagesView) → IsAlive p.store → (T : Type 0) (f : TableFault) → (let r : Result T TableFault = Err f in LooksAs tells Opens t (is_failed r) p q)
+    → ((let r : Result T TableFault = Err f in is_failed r) ≡ is_media_fault (scan_fault f)) → LeftAsItWas tells Opens (is_media_fault (scan_fault f)) p.store q.store
+scan_left tells Opens t p q alive T f looks same = record {
   shape = looks.shape;
   kept = λ well. let still = (looks.same (same ∙ well)).still in (still.dead, still.faults);
+  unwritten = λ told well. ap (λ (s : StoreState). s.bytes) ((looks.same (same ∙ well)).still.state told);
   dies = λ failed. looks.dies (same ∙ failed);
   time = λ told. looks.time told alive;
 }
@@ -84,20 +88,33 @@ scan_gives_back tells Opens t p q alive T f looks same = record {
 no_log : (new : State) → ((t : ℕ) → new.live t ≡ None) → (t : ℕ) → calls_of new t ≡ []
 no_log new idle t = ap (λ (o : Option Granted). unwrap_or o []) (idle t)
 
--- A core over records to which nobody has written, with the rows of a scan.
-module _ (tells : Bool) (Opens : Shape → List ℕ → List ℕ → Type 0) (index : below.Index) (p q : PagesView) (new_laws : StoreLaws tells Opens q.store) (rises : index.sound p.store.state.bytes → Rise 0 (2 ^ 64) (pairs_of index p.store.state.bytes))
+-- A core over records to which nobody has written, with the rows of a scan, once their data is in version 2.
+module _ (tells : Bool) (Opens : Shape → List ℕ → List ℕ → Type 0) (index : below.Index) (p q r : PagesView) (new_laws : StoreLaws tells Opens r.store) (rises : index.sound p.store.state.bytes → Rise 0 (2 ^ 64) (pairs_of index p.store.state.bytes))
     (alive : IsAlive p.store) (sound : IsTrue tells → index.sound p.store.state.bytes) (idle : IsTrue tells → (t : ℕ) → ((state_of index p).logs t).writes ≡ []) (unsaved : IsTrue tells → (t : ℕ) → ((state_of index p).logs t).saved ≡ [])
-    (looks : LooksAs tells (Opens p.store.shape) 0 false p q) (same : IsTrue tells → state_of index q ≡ state_of index p) (rows : List (ℕ × List ℕ)) (scanned : IsTrue tells → rows ≡ rows_within 0 (2 ^ 64 - 1) (seen_by (state_of index p) 0))
+    (looks : LooksAs tells (Opens p.store.shape) 0 false p q) (same : IsTrue tells → state_of index q ≡ state_of index p) (upgrades : Upgrades tells (Opens q.store.shape) index q r (Ok tt))
+    (rows : List (ℕ × List ℕ)) (scanned : IsTrue tells → rows ≡ rows_within 0 (2 ^ 64 - 1) (seen_by (state_of index p) 0))
     (seats : Seats) (count : length seats ≡ p.store.shape.numbers) (none : (t : ℕ) → live_in seats t ≡ None) (history : List Done) (empty : history ≡ []) (doubt : List Done) (sure : doubt ≡ []) where
   new : State
-  new = state_at index q.store (table_of rows) history (live_in seats) doubt
+  new = state_at index r.store (table_of rows) history (live_in seats) doubt
 
-  lives : IsAlive q.store
-  lives = (looks.same refl).still.dead ∙ alive
+  living : IsAlive q.store
+  living = (looks.same refl).still.dead ∙ alive
+
+  lives : IsAlive r.store
+  lives = (upgrades.faults refl).0 ∙ living
+
+  shape : r.store.shape ≡ p.store.shape
+  shape = upgrades.shape ∙ looks.shape
 
   module _ (told : IsTrue tells) where
     bytes_same : q.store.state.bytes ≡ p.store.state.bytes
     bytes_same = ap (λ (s : StoreState). s.bytes) ((looks.same refl).still.state told)
+
+    bytes_new : r.store.state.bytes ≡ upgraded p.store.state.bytes
+    bytes_new = upgrades.bytes told ∙ ap upgraded bytes_same
+
+    state_new : state_of index r ≡ state_of index p
+    state_new = upgrades.state told refl ∙ same told
 
     seen_is : seen_by (state_of index p) 0 ≡ shown.table_of index p.store.state.bytes
     seen_is = ap (λ (ws : List Write). seen_with ws) (idle told 0)
@@ -114,53 +131,57 @@ module _ (tells : Bool) (Opens : Shape → List ℕ → List ℕ → Type 0) (in
     table_is : table_of rows ≡ shown.table_of index p.store.state.bytes
     table_is = base_is (shown.table_of index p.store.state.bytes) above rows rows_is
 
-    sound_new : index.sound q.store.state.bytes
-    sound_new = subst index.sound (sym bytes_same) (sound told)
-
     -- its state is that of a core that was just opened
-    opened_is : state_at index q.store (table_of rows) history (live_in seats) doubt ≡ opened (shown.table_of index p.store.state.bytes) (index_of index p.store.state.bytes)
-    opened_is = λ i. record { base = table_is i; history = empty i; live = λ t. none t i; doubt = sure i; is_dead = lives i; index = index_of index (bytes_same i) }
+    opened_is : state_at index r.store (table_of rows) history (live_in seats) doubt ≡ opened (shown.table_of index p.store.state.bytes) (index_of index (upgraded p.store.state.bytes))
+    opened_is = λ i. record { base = table_is i; history = empty i; live = λ t. none t i; doubt = sure i; is_dead = lives i; index = index_of index (bytes_new i) }
 
-    mirrors : Mirrors (state_of index q) (state_at index q.store (table_of rows) history (live_in seats) doubt)
-    mirrors = subst (λ (s : State). Mirrors (state_of index q) s) (sym opened_is) (record {
-      table = ap (λ (b : TableState). b.table) (same told);
-      logs = λ t. ap (λ (b : TableState). b.logs t) (same told) ∙ (λ i. record { writes = idle told t i; saved = unsaved told t i });
+    mirrors : Mirrors (state_of index r) (state_at index r.store (table_of rows) history (live_in seats) doubt)
+    mirrors = subst (λ (s : State). Mirrors (state_of index r) s) (sym opened_is) (record {
+      table = ap (λ (b : TableState). b.table) state_new;
+      logs = λ t. ap (λ (b : TableState). b.logs t) state_new ∙ (λ i. record { writes = idle told t i; saved = unsaved told t i });
     })
 
-    tied_new : IsTied index q (state_at index q.store (table_of rows) history (live_in seats) doubt)
+    tied_new : IsTied index r (state_at index r.store (table_of rows) history (live_in seats) doubt)
     tied_new = record {
-      index_sound = sound_new;
+      index_sound = upgrades.sound told;
       mirrors = mirrors;
-      sound = subst IsSound (sym opened_is) (opened_sound (shown.table_of index p.store.state.bytes) (index_of index p.store.state.bytes));
-      room = subst (HasHeld (limits_of q.store.shape)) (sym opened_is) (λ caller g. omega arith);
+      sound = subst IsSound (sym opened_is) (opened_sound (shown.table_of index p.store.state.bytes) (index_of index (upgraded p.store.state.bytes)));
+      room = subst (HasHeld (limits_of r.store.shape)) (sym opened_is) (λ caller g. omega arith);
     }
 
-  pub opened_keeps : IsKept tells Opens index q (length seats) rows (state_at index q.store (table_of rows) history (live_in seats) doubt)
+    time : LeavesOnly (OpensUpgraded (Opens p.store.shape) p.store.state.bytes) p.store r.store
+    time = then (weaker (λ image opens. inl opens) (looks.time told alive))
+        (weaker (λ image either. subst (λ (x : Shape × List ℕ). OpensUpgraded (Opens x.0) x.1 image) (λ i. (looks.shape i, bytes_same i)) either) (upgrades.exact told living))
+
+  pub opened_keeps : IsKept tells Opens index r (length seats) rows (state_at index r.store (table_of rows) history (live_in seats) doubt)
   opened_keeps = record {
-    seats = count ∙ sym (ap (λ (h : Shape). h.numbers) looks.shape);
+    seats = count ∙ sym (ap (λ (h : Shape). h.numbers) shape);
     in_order = λ told. base_rows (shown.table_of index p.store.state.bytes) (above told) rows (rows_is told);
     tied = λ told _. tied_new told;
-    safe = λ told. safe_alive tells Opens index q new_laws (state_at index q.store (table_of rows) history (live_in seats) doubt) told lives (tied_new told);
+    safe = λ told. safe_alive tells Opens index r new_laws (state_at index r.store (table_of rows) history (live_in seats) doubt) told lives (tied_new told);
   }
 
-  pub opened_begins : Begins tells (Opens p.store.shape) index p.store q.store (core_over Opens index q.store (state_at index q.store (table_of rows) history (live_in seats) doubt))
+  pub opened_begins : Begins tells (Opens p.store.shape) index p.store r.store (core_over Opens index r.store (state_at index r.store (table_of rows) history (live_in seats) doubt))
   opened_begins = record {
     over = record {
       limits = refl;
       faults = refl;
       moment = refl;
       left = λ since image. (λ left. left, λ left. left);
-      opens_to = λ image table. (λ o. subst (λ (h : Shape). OpensWith (Opens h) index image table) (sym looks.shape) o, λ o. subst (λ (h : Shape). OpensWith (Opens h) index image table) looks.shape o);
+      opens_to = λ image table. (λ o. subst (λ (h : Shape). OpensWith (Opens h) index image table) (sym shape) o, λ o. subst (λ (h : Shape). OpensWith (Opens h) index image table) shape o);
       dead = refl;
       keys = λ told. refl;
-      sound = λ told _. sound_new told;
+      sound = λ told _. upgrades.sound told;
       table = λ told _. (mirrors told).table;
     };
     alive = lives;
-    faults = (looks.same refl).still.faults;
-    shape = looks.shape;
+    faults = (upgrades.faults refl).1 ∙ (looks.same refl).still.faults;
+    shape = shape;
     state = opened_is;
     fresh = (empty, none, sure);
     sound = sound;
-    time = λ told. looks.time told alive;
+    bytes = bytes_new;
+    version = upgrades.version;
+    keys = λ told. upgrades.keys told refl ∙ ap (keys_of index) (bytes_same told);
+    time = time;
   }

@@ -1,8 +1,9 @@
 -- Why a core does not begin, and how it then leaves the store.
-use Rattle.std.specs.Prelude.{ℕ, ◌≡◌, Bool, true, false, IsTrue, IsFalse, List, Result, Ok, Err}
+use Rattle.std.specs.Prelude.{ℕ, ◌≡◌, ◌⊎◌, Bool, true, false, IsTrue, IsFalse, List, Result, Ok, Err}
 use Rattle.mars_base.specs.Causes.{Rose}
 use Rattle.eaw_face.specs.StoreView.{StoreView, LeavesOnly}
 use Rattle.page_store.specs.Index.{Index}
+use Rattle.record_table.specs.Upgrading.{upgraded}
 use Rattle.record_table.specs.declared.fault.AttachRecords.{AttachRecords}
 use Rattle.record_table.specs.declared.fault.AttachRecords.TheVariants as table
 use Rattle.record_table.specs.declared.fault.TableFault.{TableFault}
@@ -42,10 +43,11 @@ pub record LeftAsItWas (tells : Bool) (Opens : List ℕ → List ℕ → Type 0)
   pub dies : IsTrue failed → (new.is_dead ≡ true) × Rose old.faults new.faults
   pub time : IsTrue tells → LeavesOnly (λ image. Opens image old.state.bytes) old new
 
--- The store that is given back, after a fault of the medium or none. Whatever a loss of power might have left meanwhile opens with the data
--- that it had.
+-- The store that is given back, after a fault of the medium or none. Its data is as it was if there was none. Whatever a loss of power might
+-- have left meanwhile opens with that data, or, if the medium failed, with the same in version 2.
 pub record GivesBack (tells : Bool) (Opens : List ℕ → List ℕ → Type 0) (failed : Bool) (old new : StoreView) : Type 0 where
   pub shape : new.shape ≡ old.shape
   pub kept : IsFalse failed → (new.is_dead ≡ old.is_dead) × (new.faults ≡ old.faults)
+  pub unwritten : IsTrue tells → IsFalse failed → new.state.bytes ≡ old.state.bytes
   pub dies : IsTrue failed → (new.is_dead ≡ true) × Rose old.faults new.faults
-  pub time : IsTrue tells → LeavesOnly (λ image. Opens image old.state.bytes) old new
+  pub time : IsTrue tells → LeavesOnly (λ image. Opens image old.state.bytes ⊎ (IsTrue failed × Opens image (upgraded old.state.bytes))) old new

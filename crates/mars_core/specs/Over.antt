@@ -4,8 +4,10 @@ use Rattle.array_shape.specs.declared.shape.Shape.{Shape}
 use Rattle.eaw_face.specs.StoreView.{StoreView, LeavesOnly}
 use Rattle.eaw_face.specs.Causes.{IsAlive}
 use Rattle.page_store.specs.Index.{Index, slots_of, index_pages_of}
+use Rattle.record_slots.specs.Places.{version_of}
 use Rattle.record_table.specs.Does.{OpensWith}
 use Rattle.record_table.specs.Shown.{table_of, keys_of, logger_of_slot}
+use Rattle.record_table.specs.Upgrading.{upgraded, OpensUpgraded}
 use Rattle.caller_steps.specs.State as face
 use Rattle.caller_steps.specs.State.{opened, records_of}
 use Rattle.caller_steps.specs.Room.{Limits}
@@ -39,14 +41,17 @@ pub record IsOver (tells : Bool) (Opens : List ℕ → List ℕ → Type 0) (ind
   pub sound : IsTrue tells → IsAlive store → index.sound store.state.bytes
   pub table : IsTrue tells → IsAlive store → table_of index store.state.bytes ≡ records_of core.state
 
--- The core begins with the records of the store's data, which is a sound index. Whatever a loss of power might have left meanwhile opens
--- with that data.
+-- The core begins with the records of the store's data, which is a sound index, and has brought that data to version 2. Whatever a loss of
+-- power might have left meanwhile opens with the data as it was or in version 2, which have the same records and keys.
 pub record Begins (tells : Bool) (Opens : List ℕ → List ℕ → Type 0) (index : Index) (old new : StoreView) (core : CoreView) : Type 0 where
   pub over : IsOver tells Opens index new core
   pub alive : IsAlive new
   pub faults : new.faults ≡ old.faults
   pub shape : new.shape ≡ old.shape
-  pub state : IsTrue tells → core.state ≡ opened (table_of index old.state.bytes) (index_of index old.state.bytes)
+  pub state : IsTrue tells → core.state ≡ opened (table_of index old.state.bytes) (index_of index (upgraded old.state.bytes))
   pub fresh : (core.state.history ≡ []) × ((caller : ℕ) → core.state.live caller ≡ None) × (core.state.doubt ≡ [])
   pub sound : IsTrue tells → index.sound old.state.bytes
-  pub time : IsTrue tells → LeavesOnly (λ image. Opens image old.state.bytes) old new
+  pub bytes : IsTrue tells → new.state.bytes ≡ upgraded old.state.bytes
+  pub version : IsTrue tells → version_of new.state.bytes ≡ 2
+  pub keys : IsTrue tells → keys_of index new.state.bytes ≡ keys_of index old.state.bytes
+  pub time : IsTrue tells → LeavesOnly (OpensUpgraded Opens old.state.bytes) old new

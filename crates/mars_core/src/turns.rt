@@ -1,8 +1,7 @@
 // Callers by turns over records.
-ghost use Rattle.std.specs.Prelude.{◌≡◌, ◌<◌, ◌≤◌, ◌⊎◌, [], ℕ, IfOk, IfErr, IsTrue, IsFalse, is_some, length};
+ghost use Rattle.std.specs.Prelude.{◌≡◌, ◌<◌, ◌≤◌, ◌⊎◌, [], ℕ, None, Ok, IfOk, IfErr, IsTrue, IsFalse, is_some, length};
 ghost use Rattle.std.specs.FinMap.{entries};
 ghost use Rattle.eaw_face.specs.Causes.{IsAlive};
-ghost use Rattle.eaw_face.specs.State.{listed};
 ghost use Rattle.page_store.specs.Shown.{pages_of};
 ghost use Rattle.history.specs.Locks.{touched};
 ghost use Rattle.history.specs.declared.call.Call.TheVariants.{Begin, Commit, Abort};
@@ -15,6 +14,7 @@ ghost use Rattle.caller_steps.specs.Locked.{IsLocked};
 ghost use Rattle.caller_steps.specs.State.{calls_of};
 ghost use Rattle.record_slots.specs.Places.{version_of};
 ghost use Rattle.record_table.specs.Shown.{state_of};
+ghost use Rattle.record_table.specs.Upgrading.{Upgrades};
 ghost use Rattle.mars_core.specs.Attached.{CoreCause, GivesBack, is_media_fault};
 ghost use Rattle.mars_core.specs.declared.locks.Locks.TheVariants.{Held};
 ghost use Rattle.mars_core.specs.Held.{core_of};
@@ -69,11 +69,11 @@ impl<S: EawStore, K: KeyIndex> Model for Core<S, K> {
 }
 
 impl<S: EawStore, K: KeyIndex> Core<S, K> {
-    /// A core over a store that is not dead and has logged nothing. It begins with the records of the store's data. An error returns the
-    /// store: the data is not a sound index, the medium failed, or memory ran out.
+    /// A core over a store that is not dead and on which no number is live. It begins with the records of the store's data, which it brings to
+    /// version 2 last. An error returns the store: the data is not a sound index, the medium failed, or memory ran out.
     pub fn attach(alloc: Global, room: SaveRoom, store: S) -> Result<Core<S, K>, (CoreFault, S)>
         requires alive { IsAlive (S.view store) }
-        requires idle { (t : ℕ) → listed ((S.view store).ranges t) ≡ [] }
+        requires idle { (t : ℕ) → (S.view store).ranges t ≡ None }
         ensures begins { IfOk result (λ core. Begins S.tells (S.opens (S.view store).shape) K.index (S.view store) (S.view core.records.store)
             (core_of S.opens K.index (S.view core.records.store) core)) }
         ensures cause { IfErr result (λ failed. CoreCause S.tells K.index (S.view store) failed.0) }
@@ -308,12 +308,13 @@ impl<S: EawStore, K: KeyIndex> Steps for Core<S, K> {
     }
 }
 
-// Reads the records at the opening and makes room for the callers.
+// Reads the records at the opening, makes room for the callers, and then brings the data to version 2.
 fn begin_over<S: EawStore, K: KeyIndex>(
     alloc: Global,
     records: Records<S, K>,
 ) -> Result<Core<S, K>, (CoreFault, S)>
     requires alive { IsAlive (S.view records.store) }
+    requires free { (S.view records.store).ranges 0 ≡ None }
     requires sound { IsTrue S.tells → K.index.sound (S.view records.store).state.bytes }
     requires idle { IsTrue S.tells → (t : ℕ) → ((state_of K.index (pages_of (S.view records.store) records)).logs t).writes ≡ [] }
     requires unsaved { IsTrue S.tells → (t : ℕ) → ((state_of K.index (pages_of (S.view records.store) records)).logs t).saved ≡ [] }
@@ -331,6 +332,10 @@ fn begin_over<S: EawStore, K: KeyIndex>(
         Ok(base) => base,
         Err(fault) => return Err((CoreFault::from(fault), records.into_pages().into_store())),
     };
+    let records = match upgraded(records) {
+        Ok(records) => records,
+        Err(failed) => return Err(failed),
+    };
     Ok(Core {
         alloc,
         records,
@@ -339,4 +344,22 @@ fn begin_over<S: EawStore, K: KeyIndex>(
         history: History::new(alloc),
         doubt: Doubt::none(),
     })
+}
+
+// Records whose data was brought to version 2.
+fn upgraded<S: EawStore, K: KeyIndex>(
+    records: Records<S, K>,
+) -> Result<Records<S, K>, (CoreFault, S)>
+    requires alive { IsAlive (S.view records.store) }
+    requires free { (S.view records.store).ranges 0 ≡ None }
+    ensures upgrades { IfOk result (λ after. Upgrades S.tells (S.opens (S.view records.store).shape) K.index
+        (pages_of (S.view records.store) records) (pages_of (S.view after.store) after) (Ok tt)) }
+    ensures cause { IfErr result (λ failed. CoreCause S.tells K.index (S.view records.store) failed.0) }
+    ensures gives_back { IfErr result (λ failed. GivesBack S.tells (S.opens (S.view records.store).shape) (is_media_fault failed.0) (S.view records.store) (S.view failed.1)) }
+{
+    let mut records = records;
+    match records.upgrade() {
+        Ok(()) => Ok(records),
+        Err(fault) => Err((CoreFault::from(fault), records.into_pages().into_store())),
+    }
 }

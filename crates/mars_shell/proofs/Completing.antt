@@ -96,9 +96,9 @@ nothing_read (BadRow logger tid) late = (omega arith, refl)
 nothing_read NotMars late = (omega arith, refl)
 nothing_read (BadShape which given) late = (omega arith, refl)
 
-module _ (Works : Ended → Type 0) (Broken : ℕ → Type 0) (Looks Lacks : Type 0) (old new : View) (cut : Bool) (text : List ℕ) (given left : List ℕ) (s s' k k' m m' : ℕ)
+module _ (spares : Bool) (Works : Ended → Type 0) (Broken : ℕ → Type 0) (Looks Lacks : Type 0) (old new : View) (cut : Bool) (text : List ℕ) (given left : List ℕ) (s s' k k' m m' : ℕ)
     (short : length given ≤ input_limit) (shape : Shape) (array : IsArray shape old) (whole : (page : ℕ) → Broken page → ⊥) (has_all : Lacks → ⊥) (no_source : Rose s s' → ⊥) (no_sink : Rose k k' → ⊥) (no_media : Rose m m' → ⊥) where
-  pub complete_of : (status : Status) → Counts status s s' k k' m m' → InputSays status given left → OutcomeOf Works Broken Looks Lacks old status new cut text → (status ≡ Good) ⊎ (status ≡ NoMemory)
+  pub complete_of : (status : Status) → Counts status s s' k k' m m' → InputSays status given left → OutcomeOf spares Works Broken Looks Lacks old status new cut text → (status ≡ Good) ⊎ (status ≡ NoMemory)
   complete_of Good counts input outcome = inl refl
   complete_of NoMemory counts input outcome = inr refl
   complete_of Usage counts input outcome = absurd (has_all outcome.cause)
@@ -112,9 +112,9 @@ module _ (Works : Ended → Type 0) (Broken : ℕ → Type 0) (Looks Lacks : Typ
   complete_of (BadShape which bad) counts input outcome = absurd (not_bad_in (header_of old.content.bytes) old.size shape which bad array.header array.sized outcome.cause.2)
 
 -- the same for work over records that are sound, for which there are numbers enough
-pub complete_records : (callers : ℕ) (Works : Ended → Type 0) (old : View) (status : Status) (new : View) (cut : Bool) (text : List ℕ) (given left : List ℕ) (s s' k k' m m' : ℕ) → length given ≤ input_limit
+pub complete_records : (spares : Bool) (callers : ℕ) (Works : Ended → Type 0) (old : View) (status : Status) (new : View) (cut : Bool) (text : List ℕ) (given left : List ℕ) (s s' k k' m m' : ℕ) → length given ≤ input_limit
     → (shape : Shape) → HoldsRecords shape old → callers ≤ shape.numbers → (Rose s s' → ⊥) → (Rose k k' → ⊥) → (Rose m m' → ⊥) → Counts status s s' k k' m m' → InputSays status given left
-    → OverRecords callers Works old status new cut text → (status ≡ Good) ⊎ (status ≡ NoMemory)
-complete_records callers Works old status new cut text given left s s' k k' m m' short shape holds enough no_source no_sink no_media counts input outcome =
-    complete_of Works (λ page. IsDamaged old page × (Exceeds callers old → ⊥)) (HoldsArray old × (Exceeds callers old → ⊥)) (Exceeds callers old) old new cut text given left s s' k k' m m'
+    → OverRecords spares callers Works old status new cut text → (status ≡ Good) ⊎ (status ≡ NoMemory)
+complete_records spares callers Works old status new cut text given left s s' k k' m m' short shape holds enough no_source no_sink no_media counts input outcome =
+    complete_of spares Works (λ page. IsDamaged old page × (Exceeds callers old → ⊥)) (HoldsArray old × (Exceeds callers old → ⊥)) (Exceeds callers old) old new cut text given left s s' k k' m m'
     short shape holds.array (λ page is. no_damage old shape page holds is.0) (no_excess old shape callers holds.array enough) no_source no_sink no_media status counts input outcome

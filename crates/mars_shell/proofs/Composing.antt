@@ -1,11 +1,17 @@
 -- What a run leaves is what the next one needs.
-use Rattle.std.proofs.Common.{◌≡◌, ℕ, ◌≤◌, ◌⊎◌, inl, inr, ⊎_elim, List, length, Bool, false, sym, ap, subst, ◌∙◌}
+use Rattle.std.proofs.Common.{◌≡◌, ℕ, ◌*◌, ◌^◌, ◌<◌, ◌≤◌, ◌⊎◌, inl, inr, ⊎_elim, List, length, Bool, true, false, sym, ap, subst, ◌∙◌, arith}
 use Rattle.std.specs.Prelude.{IsTrue}
 use Rattle.pcm_media.specs.Images.{MayLeave}
 use Rattle.pcm_media.specs.View.{View}
 use Rattle.pcm_media.proofs.Left.{left_as_read}
 use Rattle.array_shape.specs.declared.shape.Shape.{Shape}
-use Rattle.array_image.specs.Decided.{settled_data}
+use Rattle.std.proofs.Math.Nat.{mul-le-mul_right}
+use Rattle.array_shape.specs.Places.{data_len}
+use Rattle.array_image.specs.Decided.{all_decided, settled_data}
+use Rattle.array_image.specs.Image.{data_of}
+use Rattle.array_image.proofs.Applied.{length-applied}
+use Rattle.array_image.proofs.Data.{length-data_of, all_fit_in}
+use Rattle.array_image.proofs.Parts.{decided_placed}
 use Rattle.row_bytes.proofs.OneShape.{one_shape}
 use Rattle.device_recovery.proofs.Goods.{good_rows}
 use Rattle.command_words.specs.declared.words.FormatNumbers.{FormatNumbers}
@@ -13,6 +19,7 @@ use Rattle.command_words.specs.declared.words.Words.{Words}
 use Rattle.command_words.specs.declared.words.Words.TheVariants.{Run, Callers, Eaw, Dump, Drill, Format}
 use Rattle.eaw_device.specs.Opens.{header_of, Opens, AllOpen, IsArray, HoldsArray}
 use Rattle.page_store.specs.Index.{Index}
+use Rattle.record_table.specs.Upgrading.{upgraded}
 use Rattle.caller_steps.specs.State.{State}
 use Rattle.caller_steps.specs.Room.{Limits}
 use Rattle.caller_steps.specs.Run.{Turn}
@@ -60,28 +67,38 @@ premises media long shape form sound = (all_open media shape form sound, holds_r
 
 -- ---- what is left
 
+-- data of an array has fewer than 2 ^ 32 bytes
+data_short : (shape : Shape) (image bytes : List ℕ) → Opens shape image bytes → length bytes < 2 ^ 32
+data_short shape image bytes opens =
+    let lawful = opens.stands.lawful in
+    let first : length (data_of shape image) ≡ data_len shape = length-data_of shape image in
+    let fits = all_fit_in shape (all_decided shape image) image (decided_placed shape image lawful.long lawful.good) in
+    let long : length bytes ≡ data_len shape = ap length (sym opens.stands.gives) ∙ length-applied (all_decided shape image) (data_of shape image) fits ∙ first in
+    let r = shape.in_range in
+    let most : shape.loggers * shape.pages ≤ 8 * shape.pages = mul-le-mul_right shape.pages r.most_loggers in
+    omega (arith, long, most, r.most_pages)
+
 -- an outcome gives what each of its cases gives
-outcome_gives : (P : Type 0) (Works : Ended → Type 0) (Broken : ℕ → Type 0) (Looks Lacks : Type 0) (old : View) (status : Status) (new : View) (cut : Bool) (text : List ℕ)
-    → ((MayWrite Cause : Type 0) → Idle MayWrite Cause old new cut text → P) → ((ended : Ended) → Works ended → P) → OutcomeOf Works Broken Looks Lacks old status new cut text → P
-outcome_gives P Works Broken Looks Lacks old Good new cut text idle works outcome = works script.All outcome
-outcome_gives P Works Broken Looks Lacks old WriteFault new cut text idle works outcome = works script.WriteFault outcome
-outcome_gives P Works Broken Looks Lacks old MediaFault new cut text idle works outcome = ⊎_elim (λ i. idle _ _ i) (λ w. works script.MediaFault w) outcome
-outcome_gives P Works Broken Looks Lacks old NoMemory new cut text idle works outcome = ⊎_elim (λ i. idle _ _ i) (λ later. ⊎_elim (λ i. idle _ _ i) (λ w. works script.NoMemory w) later) outcome
-outcome_gives P Works Broken Looks Lacks old Usage new cut text idle works outcome = idle _ _ outcome
-outcome_gives P Works Broken Looks Lacks old TooLong new cut text idle works outcome = idle _ _ outcome
-outcome_gives P Works Broken Looks Lacks old ReadFault new cut text idle works outcome = idle _ _ outcome
-outcome_gives P Works Broken Looks Lacks old (Damaged page) new cut text idle works outcome = idle _ _ outcome
-outcome_gives P Works Broken Looks Lacks old (BadRow logger tid) new cut text idle works outcome = idle _ _ outcome
-outcome_gives P Works Broken Looks Lacks old NotMars new cut text idle works outcome = idle _ _ outcome
-outcome_gives P Works Broken Looks Lacks old (BadShape which given) new cut text idle works outcome = idle _ _ outcome
+outcome_gives : (P : Type 0) (spares : Bool) (Works : Ended → Type 0) (Broken : ℕ → Type 0) (Looks Lacks : Type 0) (old : View) (status : Status) (new : View) (cut : Bool) (text : List ℕ)
+    → ((kept : Bool) (MayWrite Cause : Type 0) → Idle kept MayWrite Cause old new cut text → P) → ((ended : Ended) → Works ended → P) → OutcomeOf spares Works Broken Looks Lacks old status new cut text → P
+outcome_gives P spares Works Broken Looks Lacks old Good new cut text idle works outcome = works script.All outcome
+outcome_gives P spares Works Broken Looks Lacks old WriteFault new cut text idle works outcome = works script.WriteFault outcome
+outcome_gives P spares Works Broken Looks Lacks old MediaFault new cut text idle works outcome = ⊎_elim (λ i. idle _ _ _ i) (λ w. works script.MediaFault w) outcome
+outcome_gives P spares Works Broken Looks Lacks old NoMemory new cut text idle works outcome = ⊎_elim (λ i. idle _ _ _ i) (λ later. ⊎_elim (λ i. idle _ _ _ i) (λ w. works script.NoMemory w) later) outcome
+outcome_gives P spares Works Broken Looks Lacks old Usage new cut text idle works outcome = idle _ _ _ outcome
+outcome_gives P spares Works Broken Looks Lacks old TooLong new cut text idle works outcome = idle _ _ _ outcome
+outcome_gives P spares Works Broken Looks Lacks old ReadFault new cut text idle works outcome = idle _ _ _ outcome
+outcome_gives P spares Works Broken Looks Lacks old (Damaged page) new cut text idle works outcome = idle _ _ _ outcome
+outcome_gives P spares Works Broken Looks Lacks old (BadRow logger tid) new cut text idle works outcome = idle _ _ _ outcome
+outcome_gives P spares Works Broken Looks Lacks old NotMars new cut text idle works outcome = idle _ _ _ outcome
+outcome_gives P spares Works Broken Looks Lacks old (BadShape which given) new cut text idle works outcome = idle _ _ _ outcome
 
 module _ (tells : Bool) (told : IsTrue tells) (old new : View) (counts_now : (t : ℕ) (image : List ℕ) → IsTrue tells → t ≤ new.moment → MayLeave new.content image → new.left_since t image) (shape : Shape) where
   module _ (all : AllOpen shape old.content) where
     -- an array to which nothing was done still opens,
-    idle_open : (cut : Bool) (text : List ℕ) (MayWrite Cause : Type 0) → Idle MayWrite Cause old new cut text → AllOpen shape new.content
-    idle_open cut text MayWrite Cause idle image left =
-        let like = idle.keeps shape all image (counts_now old.moment image told (idle.later shape all) left) in
-        (like.2, like.4)
+    idle_open : (cut : Bool) (text : List ℕ) (kept : Bool) (MayWrite Cause : Type 0) → Idle kept MayWrite Cause old new cut text → AllOpen shape new.content
+    idle_open cut text kept MayWrite Cause idle image left =
+        ⊎_elim (λ like. (like.2, like.4)) (λ two. (upgraded two.1.2, two.1.4)) (idle.keeps shape all image (counts_now old.moment image told (idle.later shape all) left))
 
     first_opens : Opens shape old.content.bytes (all old.content.bytes (left_as_read old.content)).0
     first_opens = (all old.content.bytes (left_as_read old.content)).1
@@ -95,24 +112,27 @@ module _ (tells : Bool) (told : IsTrue tells) (old new : View) (counts_now : (t 
 
     pub next_open : (status : Status) (input : List ℕ) (cut : Bool) (text : List ℕ) → OutcomeFor Eaw old status new input cut text → AllOpen shape new.content
     next_open status input cut text outcome =
-        outcome_gives (AllOpen shape new.content) (λ ended. Obeys old input ended new cut text) (λ page. ⊥) ⊥ ⊥ old status new cut text (idle_open cut text) (obeyed_open input cut text) outcome
+        outcome_gives (AllOpen shape new.content) true (λ ended. Obeys old input ended new cut text) (λ page. ⊥) ⊥ ⊥ old status new cut text (idle_open cut text) (obeyed_open input cut text) outcome
 
-  module _ (form : ℕ) (sound : AllSound shape form old.content) where
+  module _ (form : ℕ) (sound : AllSound shape form old.content)
+      (in_two : (form : ℕ) (bytes : List ℕ) → (index_of_form form).sound bytes → length bytes < 2 ^ 32 → (index_of_form form).sound (upgraded bytes)) where
     opened : Opens shape old.content.bytes (sound old.content.bytes (left_as_read old.content)).0
     opened = (sound old.content.bytes (left_as_read old.content)).1
 
-    -- records to which nothing was done are still sound: each image opens as one did that could be left at first
-    idle_sound : (cut : Bool) (text : List ℕ) (MayWrite Cause : Type 0) → Idle MayWrite Cause old new cut text → AllSound shape form new.content
-    idle_sound cut text MayWrite Cause idle image left =
-        let all = all_open old shape form sound in
-        let like = idle.keeps shape all image (counts_now old.moment image told (idle.later shape all) left) in
-        let first = sound like.0 like.1 in
-        let same : first.0 ≡ like.2 = sym first.1.stands.gives ∙ like.3.stands.gives in
-        (like.2, like.4, subst (λ (b : List ℕ). (index_of_form form).sound b) same first.2)
+    -- what an image opens with that could be left at first is sound
+    like_sound : (image bytes : List ℕ) → MayLeave old.content image → Opens shape image bytes → (index_of_form form).sound bytes
+    like_sound image bytes left opens = let first = sound image left in subst (λ (b : List ℕ). (index_of_form form).sound b) (sym first.1.stands.gives ∙ opens.stands.gives) first.2
+
+    -- records to which nothing was done are still sound: each image opens as one did that could be left at first, or with that in version 2
+    idle_sound : (cut : Bool) (text : List ℕ) (kept : Bool) (MayWrite Cause : Type 0) → Idle kept MayWrite Cause old new cut text → AllSound shape form new.content
+    idle_sound cut text kept MayWrite Cause idle image left =
+        ⊎_elim (λ like. (like.2, like.4, like_sound like.0 like.2 like.1 like.3))
+        (λ two. (upgraded two.1.2, two.1.4, in_two form two.1.2 (like_sound two.1.0 two.1.2 two.1.1 two.1.3) (data_short shape two.1.0 two.1.2 two.1.3)))
+        (idle.keeps shape (all_open old shape form sound) image (counts_now old.moment image told (idle.later shape (all_open old shape form sound)) left))
 
     -- and so are those on which callers took turns
-    turns_sound : (late : Bool) (Says : Limits → List Turn → State → Type 0) (ended : Ended) → TakesTurns late Says old ended new → AllSound shape form new.content
-    turns_sound late Says ended taken image left =
+    turns_sound : (spares late : Bool) (Says : Limits → List Turn → State → Type 0) (ended : Ended) → TakesTurns spares late Says old ended new → AllSound shape form new.content
+    turns_sound spares late Says ended taken image left =
         let same : taken.shape ≡ shape = one_shape (header_of old.content.bytes) taken.shape shape taken.holds.array.header opened.header in
         let now = (taken.prefix_law.now image left).opens in (
           now.bytes,
@@ -120,17 +140,17 @@ module _ (tells : Bool) (told : IsTrue tells) (old new : View) (counts_now : (t 
           subst (λ (i : Index). i.sound now.bytes) (ap (λ (s : Shape). index_in s old) same ∙ own_index old shape form sound) now.sound,
         )
 
-    records_sound : (callers : ℕ) (Works : Ended → Type 0) (status : Status) (cut : Bool) (text : List ℕ) → ((ended : Ended) → Works ended → AllSound shape form new.content)
-        → OverRecords callers Works old status new cut text → AllSound shape form new.content
-    records_sound callers Works status cut text works outcome =
-        outcome_gives (AllSound shape form new.content) Works (λ page. IsDamaged old page × (Exceeds callers old → ⊥)) (HoldsArray old × (Exceeds callers old → ⊥)) (Exceeds callers old) old status new cut text
+    records_sound : (spares : Bool) (callers : ℕ) (Works : Ended → Type 0) (status : Status) (cut : Bool) (text : List ℕ) → ((ended : Ended) → Works ended → AllSound shape form new.content)
+        → OverRecords spares callers Works old status new cut text → AllSound shape form new.content
+    records_sound spares callers Works status cut text works outcome =
+        outcome_gives (AllSound shape form new.content) spares Works (λ page. IsDamaged old page × (Exceeds callers old → ⊥)) (HoldsArray old × (Exceeds callers old → ⊥)) (Exceeds callers old) old status new cut text
         (idle_sound cut text) works outcome
 
     pub next_sound : (asked : Words) (status : Status) (input : List ℕ) (cut : Bool) (text : List ℕ) → IsOfRecords asked → OutcomeFor asked old status new input cut text → AllSound shape form new.content
-    next_sound (Run given) status input cut text of outcome = records_sound 0 (λ ended. TakesTurns (is_late given.writing) (Answers input ended cut text) old ended new) status cut text (λ ended taken. turns_sound (is_late given.writing) (Answers input ended cut text) ended taken) outcome
-    next_sound (Callers numbers) status input cut text of outcome = records_sound numbers.callers (λ ended. TakesTurns (is_late numbers.writing) (JointWork numbers.callers numbers.tries input ended cut text) old ended new) status cut text (λ ended taken. turns_sound (is_late numbers.writing) (JointWork numbers.callers numbers.tries input ended cut text) ended taken) outcome
-    next_sound Dump status input cut text of outcome = records_sound 0 (λ ended. (taken : TakesTurns false (Dumps ended cut text) old ended new) × Spares taken.shape old new) status cut text (λ ended taken. turns_sound false (Dumps ended cut text) ended taken.0) outcome
-    next_sound (Drill numbers) status input cut text of outcome = records_sound 0 (λ ended. TakesTurns (is_late numbers.writing) (Drills numbers ended cut text) old ended new) status cut text (λ ended taken. turns_sound (is_late numbers.writing) (Drills numbers ended cut text) ended taken) outcome
+    next_sound (Run given) status input cut text of outcome = records_sound false 0 (λ ended. TakesTurns false (is_late given.writing) (Answers input ended cut text) old ended new) status cut text (λ ended taken. turns_sound false (is_late given.writing) (Answers input ended cut text) ended taken) outcome
+    next_sound (Callers numbers) status input cut text of outcome = records_sound false numbers.callers (λ ended. TakesTurns false (is_late numbers.writing) (JointWork numbers.callers numbers.tries input ended cut text) old ended new) status cut text (λ ended taken. turns_sound false (is_late numbers.writing) (JointWork numbers.callers numbers.tries input ended cut text) ended taken) outcome
+    next_sound Dump status input cut text of outcome = records_sound true 0 (λ ended. (taken : TakesTurns true false (Dumps ended cut text) old ended new) × Spares taken.shape old new) status cut text (λ ended taken. turns_sound true false (Dumps ended cut text) ended taken.0) outcome
+    next_sound (Drill numbers) status input cut text of outcome = records_sound false 0 (λ ended. TakesTurns false (is_late numbers.writing) (Drills numbers ended cut text) old ended new) status cut text (λ ended taken. turns_sound false (is_late numbers.writing) (Drills numbers ended cut text) ended taken) outcome
     next_sound Eaw status input cut text of outcome = absurd of
     next_sound (Format numbers) status input cut text of outcome = absurd of
 

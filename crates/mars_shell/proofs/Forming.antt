@@ -21,8 +21,8 @@ use Rattle.mars_core.specs.declared.fault.CoreFault.{CoreFault}
 use Rattle.mars_core.specs.declared.fault.CoreFault.TheVariants.{Damaged, Media, NoMemory}
 use Rattle.script_run.specs.declared.ended.Ended.{Ended}
 use Rattle.mars_shell.specs.Forms.{index_of_form, index_at}
-use Rattle.mars_shell.specs.Run.{begun_on}
-use Rattle.mars_shell.specs.Served.{SaysForm, opens_of, Untaken, Served, Serves, Spared}
+use Rattle.mars_shell.specs.Run.{worked_on, begun_on}
+use Rattle.mars_shell.specs.Served.{SaysForm, OpensAs, spares_at, opens_of, Untaken, Served, Serves, Spared}
 
 -- the index that a super page of this form names
 pub of_form : (form : ℕ) (bytes : List ℕ) → form_said (page_bytes bytes 0) ≡ form → index_at bytes ≡ index_of_form form
@@ -77,16 +77,22 @@ module _ (tells : Bool) (told : IsTrue tells) (Opens : Shape → List ℕ → Li
   bytes_are = ap (λ (s : State). s.bytes) (says.state told)
 
   -- what holds of the first state
-  of_first : (P : Limits → face.State → Type 0) → P (limits_of mid.shape) (begun_on index mid.state.bytes) → P (limits_of old.shape) (begun_on index old.state.bytes)
-  of_first P holds = subst (λ (b : List ℕ). P (limits_of old.shape) (begun_on index b)) bytes_are (subst (λ (s : Shape). P (limits_of s) (begun_on index mid.state.bytes)) says.shape holds)
+  of_first : (spares : Bool) (P : Limits → face.State → Type 0) → P (limits_of mid.shape) (begun_on spares index mid.state.bytes) → P (limits_of old.shape) (begun_on spares index old.state.bytes)
+  of_first spares P holds = subst (λ (b : List ℕ). P (limits_of old.shape) (begun_on spares index b)) bytes_are (subst (λ (s : Shape). P (limits_of s) (begun_on spares index mid.state.bytes)) says.shape holds)
 
   module _ (new : StoreView) where
     time_on : LeavesOnly (λ image. Opens mid.shape image mid.state.bytes) mid new → LeavesOnly (λ image. Opens old.shape image old.state.bytes) old new
     time_on time = going.then (says.time told) (subst (λ (b : List ℕ). LeavesOnly (λ image. Opens old.shape image b) mid new) bytes_are
         (subst (λ (s : Shape). LeavesOnly (λ image. Opens s image mid.state.bytes) mid new) says.shape time))
 
-    untaken_on : (fault : CoreFault) (cut : Bool) (text : List ℕ) → Untaken Opens index mid fault cut text new → Untaken Opens index old fault cut text new
-    untaken_on fault cut text off = record { whole = off.whole; silent = off.silent; cause = moved_cause index old mid bytes_are fault off.cause; time = time_on off.time }
+    untaken_on : (spares : Bool) (fault : CoreFault) (cut : Bool) (text : List ℕ) → Untaken spares Opens index mid fault cut text new → Untaken spares Opens index old fault cut text new
+    untaken_on spares fault cut text off = record {
+      whole = off.whole;
+      silent = off.silent;
+      cause = moved_cause index old mid bytes_are fault off.cause;
+      time = going.then (going.weaker (λ image opens. inl opens) (says.time told)) (subst (λ (b : List ℕ). LeavesOnly (λ image. OpensAs (spares_at spares fault) (Opens old.shape) b image) mid new) bytes_are
+          (subst (λ (s : Shape). LeavesOnly (λ image. OpensAs (spares_at spares fault) (Opens s) mid.state.bytes image) mid new) says.shape off.time));
+    }
 
     spared_on : Spared Opens mid new → Spared Opens old new
     spared_on spared = record {
@@ -104,7 +110,7 @@ module _ (tells : Bool) (told : IsTrue tells) (Opens : Shape → List ℕ → Li
           shape = served.shape ∙ says.shape;
           turns = served.turns;
           final = served.final;
-          runs = of_first (λ l s. Runs l s served.turns served.final) served.runs;
+          runs = of_first spares (λ l s. Runs l s served.turns served.final) served.runs;
           says = subst (λ (s : Shape). Says (limits_of s) served.turns served.final) says.shape served.says;
           base = base;
           legal = served.legal;
@@ -116,7 +122,7 @@ module _ (tells : Bool) (told : IsTrue tells) (Opens : Shape → List ℕ → Li
           }) (says.time told)) (subst (λ (s : Shape). LeavesOnly (opens_of Opens s index served.final 0) mid new) says.shape served.since);
           now = λ image left. subst (λ (s : Shape). opens_of Opens s index served.final (length served.final.history) image) says.shape (served.now image left);
           left = served.left;
-          unwritten = λ unfailed reads. served.unwritten unfailed reads ∙ bytes_are;
+          unwritten = λ unfailed reads. served.unwritten unfailed reads ∙ ap (worked_on spares) bytes_are;
           spared = λ is. spared_on (served.spared is);
         }
 
@@ -124,4 +130,4 @@ module _ (tells : Bool) (told : IsTrue tells) (Opens : Shape → List ℕ → Li
     pub serves_on : (spares : Bool) (Says : Ended → Limits → List Turn → face.State → Type 0) (result : Result Ended CoreFault) (cut : Bool) (text : List ℕ) → Serves spares Says Opens (index_of_form form) mid result cut text new
         → Serves spares Says Opens (index_at old.state.bytes) old result cut text new
     serves_on spares Says (Ok ended) cut text served = subst (λ (i : Index). Served spares (Says ended) Opens i old ended new) (sym own) (served_on spares (Says ended) ended served)
-    serves_on spares Says (Err fault) cut text off = subst (λ (i : Index). Untaken Opens i old fault cut text new) (sym own) (untaken_on fault cut text off)
+    serves_on spares Says (Err fault) cut text off = subst (λ (i : Index). Untaken spares Opens i old fault cut text new) (sym own) (untaken_on spares fault cut text off)

@@ -10,7 +10,6 @@ pub mod Lining
 pub mod Joining
 pub mod Making
 pub mod Summing
-pub mod Telling
 pub mod Unopened
 pub mod Running
 pub mod Composing
@@ -20,3 +19,4 @@ mod Endings
 pub mod Commanding
 pub mod Statuses
 pub mod Outcomes
+pub mod Dumping

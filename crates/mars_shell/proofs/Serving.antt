@@ -1,12 +1,14 @@
 -- The work over the records of a store, from what it makes of a core.
-use Rattle.std.proofs.Common.{◌≡◌, ℕ, ◌≤◌, inl, inr, ⊎_elim, List, [], ◌++◌, length, take, Bool, false, refl, sym, ap, subst, ◌∙◌, arith}
+use Rattle.std.proofs.Common.{◌≡◌, ℕ, ◌≤◌, ◌⊎◌, inl, inr, ⊎_elim, List, [], ◌++◌, length, take, Bool, false, refl, sym, ap, subst, ◌∙◌, arith}
 use Rattle.std.specs.Prelude.{IsTrue}
+use Rattle.std.proofs.lemmas.Bool.{false≢true}
 use Rattle.mars_base.proofs.Going as going
 use Rattle.array_shape.specs.declared.shape.Shape.{Shape}
 use Rattle.eaw_face.specs.StoreView.{StoreView, LeavesOnly}
 use Rattle.page_store.specs.Index.{Index}
 use Rattle.record_table.specs.Does.{OpensWith}
 use Rattle.record_table.specs.Shown.{table_of}
+use Rattle.record_table.specs.Upgrading.{upgraded, OpensUpgraded}
 use Rattle.history.specs.Legal.{records}
 use Rattle.caller_steps.specs.State.{State}
 use Rattle.caller_steps.specs.State as caller
@@ -18,33 +20,62 @@ use Rattle.caller_steps.specs.Prefix.{HasPrefixOf}
 use Rattle.caller_steps.specs.Core.{CoreView, Continues}
 use Rattle.caller_steps.proofs.Reading.{reads_leave}
 use Rattle.caller_steps.proofs.Sound.{opened_sound}
-use Rattle.mars_core.specs.Attached.{CoreCause, GivesBack, is_media_fault}
+use Rattle.mars_core.specs.Attached.{CoreCause, LeftAsItWas, GivesBack, is_media_fault}
 use Rattle.mars_core.specs.Over.{limits_of, index_of, IsOver, Begins}
 use Rattle.mars_core.specs.declared.fault.CoreFault.{CoreFault}
-use Rattle.mars_core.specs.declared.fault.CoreFault.TheVariants.{NoMemory}
+use Rattle.mars_core.specs.declared.fault.CoreFault.TheVariants.{Damaged, Media, NoMemory}
 use Rattle.mars_manager.specs.Sharing.{CanShare}
 use Rattle.script_run.specs.declared.ended.Ended.{Ended}
 use Rattle.mars_shell.specs.OnCore.{TurnsOn}
 use Rattle.mars_shell.specs.Run.{begun_on}
-use Rattle.mars_shell.specs.Served.{opens_of, Untaken, Served, Spared}
+use Rattle.mars_shell.specs.Served.{OpensAs, spares_at, opens_of, Untaken, Served}
 use Rattle.mars_shell.proofs.Shapes.{same_limits}
+
+-- an image opens as a core leaves it that was not begun
+untaken_as : (Opens : List ℕ → List ℕ → Type 0) (bytes image : List ℕ) (fault : CoreFault) → Opens image bytes ⊎ (IsTrue (is_media_fault fault) × Opens image (upgraded bytes)) → OpensAs (spares_at false fault) Opens bytes image
+untaken_as Opens bytes image (Damaged page) (inl was) = inl was
+untaken_as Opens bytes image (Damaged page) (inr is) = absurd (false≢true is.0)
+untaken_as Opens bytes image Media (inl was) = inl was
+untaken_as Opens bytes image Media (inr is) = inr (refl, is.1)
+untaken_as Opens bytes image NoMemory (inl was) = inl was
+untaken_as Opens bytes image NoMemory (inr is) = inr (refl, is.1)
 
 -- the records were not taken
 pub untaken : (tells : Bool) (Opens : Shape → List ℕ → List ℕ → Type 0) (index : Index) (old new : StoreView) (fault : CoreFault) → IsTrue tells → CoreCause tells index old fault
-    → GivesBack tells (Opens old.shape) (is_media_fault fault) old new → Untaken Opens index old fault false [] new
-untaken tells Opens index old new fault told cause back =
-    record { whole = refl; silent = refl; cause = subst (λ (b : Bool). CoreCause b index old fault) told cause; time = back.time told }
+    → GivesBack tells (Opens old.shape) (is_media_fault fault) old new → Untaken false Opens index old fault false [] new
+untaken tells Opens index old new fault told cause back = record {
+  whole = refl;
+  silent = refl;
+  cause = subst (λ (b : Bool). CoreCause b index old fault) told cause;
+  time = going.weaker (λ image either. untaken_as (Opens old.shape) old.state.bytes image fault either) (back.time told);
+}
+
+-- a store that is left as it was
+pub unread : (spares tells : Bool) (Opens : Shape → List ℕ → List ℕ → Type 0) (index : Index) (old new : StoreView) (failed : Bool) (fault : CoreFault) → IsTrue tells → CoreCause tells index old fault
+    → LeftAsItWas tells (Opens old.shape) failed old new → Untaken spares Opens index old fault false [] new
+unread spares tells Opens index old new failed fault told cause left = record {
+  whole = refl;
+  silent = refl;
+  cause = subst (λ (b : Bool). CoreCause b index old fault) told cause;
+  time = going.weaker (λ image opens. inl opens) (left.time told);
+}
 
 module _ (tells : Bool) (Opens : Shape → List ℕ → List ℕ → Type 0) (index : Index) (old mid : StoreView) (core : CoreView) (begins : Begins tells (Opens old.shape) index old mid core) where
   limits_are : core.limits ≡ limits_of old.shape
   limits_are = begins.over.limits ∙ ap limits_of begins.shape
 
-  begun_is : IsTrue tells → core.state ≡ begun_on index old.state.bytes
+  begun_is : IsTrue tells → core.state ≡ begun_on false index old.state.bytes
   begun_is told = begins.state told
 
   -- memory ran out before the work
-  pub untold : (new : StoreView) → IsTrue tells → new ≡ mid → Untaken Opens index old NoMemory false [] new
-  untold new told same = record { whole = refl; silent = refl; cause = tt; time = subst (λ (v : StoreView). LeavesOnly (λ image. Opens old.shape image old.state.bytes) old v) (sym same) (begins.time told) }
+  pub untold : (new : StoreView) → IsTrue tells → new ≡ mid → Untaken false Opens index old NoMemory false [] new
+  untold new told same = record {
+    whole = refl;
+    silent = refl;
+    cause = tt;
+    time = subst (λ (v : StoreView). LeavesOnly (λ image. OpensAs false (Opens old.shape) old.state.bytes image) old v) (sym same)
+        (going.weaker (λ image either. ⊎_elim (λ was. inl was) (λ is. inr (refl, is)) either) (begins.time told));
+  }
 
   -- the core can be shared
   pub can_share : (callers : ℕ) → callers ≤ old.shape.numbers → (IsTrue tells → (image : List ℕ) → mid.left_since mid.moment image → Opens mid.shape image mid.state.bytes) → CanShare tells callers core
@@ -53,7 +84,7 @@ module _ (tells : Bool) (Opens : Shape → List ℕ → List ℕ → Type 0) (in
     history = begins.fresh.0;
     live = begins.fresh.1;
     enough = subst (λ (l : Limits). callers ≤ l.callers) (sym limits_are) few;
-    sound = λ told. subst IsSound (sym (begun_is told)) (opened_sound (table_of index old.state.bytes) (index_of index old.state.bytes));
+    sound = λ told. subst IsSound (sym (begun_is told)) (opened_sound (table_of index old.state.bytes) (index_of index (upgraded old.state.bytes)));
     now = λ told image left. record { count = 0; at_least = omega arith; at_most = omega arith; opens = opens_base told image left };
   }
     where
@@ -67,15 +98,6 @@ module _ (tells : Bool) (Opens : Shape → List ℕ → List ℕ → Type 0) (in
             sound = begins.over.sound told begins.alive;
             shows = begins.over.table told begins.alive ∙ ap (records core.state.base) begins.fresh.0;
           })
-
-  -- a store whose core was left as it was is as it was opened
-  pub spared : (new : StoreView) → IsTrue tells → ((image : List ℕ) → old.left_since old.moment image → Opens old.shape image old.state.bytes)
-      → ((image : List ℕ) → mid.left_since mid.moment image → mid.left_since old.moment image) → new ≡ mid → Spared Opens old new
-  spared new told only counts same = subst (λ (v : StoreView). Spared Opens old v) (sym same) (record {
-    alive = begins.alive;
-    time = begins.time told;
-    now = λ image left. ⊎_elim (only image) (λ opens. opens) ((begins.time told).only old.moment image (omega arith) (counts image left));
-  })
 
   module _ (told : IsTrue tells) (new : StoreView) (later : CoreView) (over : IsOver tells (Opens new.shape) index new later) (on : Continues core later) where
     shape : new.shape ≡ old.shape
@@ -103,20 +125,25 @@ module _ (tells : Bool) (Opens : Shape → List ℕ → List ℕ → Type 0) (in
           (on.time.only t image (omega (arith, le, begins.over.moment)) ((over.left t image).0 left));
     }
 
-    base_opens : (image : List ℕ) → Opens old.shape image old.state.bytes → opens_of Opens old.shape index later.state 0 image
+    -- data in version 2 has the same records
+    base_two : table_of index (upgraded old.state.bytes) ≡ later.state.base
+    base_two = ap (table_of index) (sym (begins.bytes told)) ∙ begins.over.table told begins.alive ∙ ap (records core.state.base) begins.fresh.0 ∙ sym on.base
+
+    base_opens : (image : List ℕ) → OpensUpgraded (Opens old.shape) old.state.bytes image → opens_of Opens old.shape index later.state 0 image
     base_opens image opens = record {
       count = 0;
       at_least = omega arith;
       at_most = omega arith;
-      opens = record { bytes = old.state.bytes; opened = opens; sound = begins.sound told; shows = sym base_is };
+      opens = ⊎_elim (λ was. record { bytes = old.state.bytes; opened = was; sound = begins.sound told; shows = sym base_is })
+          (λ is. record { bytes = upgraded old.state.bytes; opened = is; sound = subst index.sound (begins.bytes told) (begins.over.sound told begins.alive); shows = base_two }) opens;
     }
 
     -- what holds of the first state
-    of_first : (P : Limits → State → Type 0) → P core.limits core.state → P (limits_of old.shape) (begun_on index old.state.bytes)
-    of_first P holds = subst (λ (l : Limits). P l (begun_on index old.state.bytes)) limits_are (subst (λ (s : State). P core.limits s) (begun_is told) holds)
+    of_first : (P : Limits → State → Type 0) → P core.limits core.state → P (limits_of old.shape) (begun_on false index old.state.bytes)
+    of_first P holds = subst (λ (l : Limits). P l (begun_on false index old.state.bytes)) limits_are (subst (λ (s : State). P core.limits s) (begun_is told) holds)
 
-    pub served_on : (spares : Bool) (Says : Limits → List Turn → State → Type 0) (ended : Ended) (turns : TurnsOn Says core ended later) → (IsTrue spares → Spared Opens old new) → Served spares Says Opens index old ended new
-    served_on spares Says ended turns unchanged = record {
+    pub served_on : (Says : Limits → List Turn → State → Type 0) (ended : Ended) (turns : TurnsOn Says core ended later) → Served false Says Opens index old ended new
+    served_on Says ended turns = record {
       sound = begins.sound told;
       shape = shape;
       turns = turns.turns;
@@ -132,11 +159,11 @@ module _ (tells : Bool) (Opens : Shape → List ℕ → List ℕ → Type 0) (in
           let living = sym over.dead ∙ turns.alive unfailed in
           (living, record { sound = over.sound told living; table = over.table told living; keys = over.keys told });
       unwritten = λ unfailed reads. ap (λ (x : caller.Index). x.bytes) (sym (over.keys told)
-          ∙ reads_leave (limits_of old.shape) (begun_on index old.state.bytes) later.state turns.turns (of_first (λ l s. Runs l s turns.turns later.state) turns.runs) (λ caller. refl) reads (turns.alive unfailed));
-      spared = unchanged;
+          ∙ reads_leave (limits_of old.shape) (begun_on false index old.state.bytes) later.state turns.turns (of_first (λ l s. Runs l s turns.turns later.state) turns.runs) (λ caller. refl) reads (turns.alive unfailed));
+      spared = λ is. absurd (false≢true is);
     }
 
   -- callers took turns
-  pub served : (told : IsTrue tells) (new : StoreView) (later : CoreView) → IsOver tells (Opens new.shape) index new later → (spares : Bool) (Says : Limits → List Turn → State → Type 0) (ended : Ended)
-      → TurnsOn Says core ended later → (IsTrue spares → Spared Opens old new) → Served spares Says Opens index old ended new
-  served told new later over spares Says ended turns unchanged = served_on told new later over turns.continues spares Says ended turns unchanged
+  pub served : (told : IsTrue tells) (new : StoreView) (later : CoreView) → IsOver tells (Opens new.shape) index new later → (Says : Limits → List Turn → State → Type 0) (ended : Ended)
+      → TurnsOn Says core ended later → Served false Says Opens index old ended new
+  served told new later over Says ended turns = served_on told new later over turns.continues Says ended turns

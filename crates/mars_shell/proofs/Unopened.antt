@@ -1,5 +1,5 @@
 -- A run whose array is not opened.
-use Rattle.std.proofs.Common.{◌≡◌, ℕ, ◌+◌, ◌⊎◌, inl, inr, ⊎_elim, List, [], Bool, false, refl, arith}
+use Rattle.std.proofs.Common.{◌≡◌, ℕ, ◌+◌, ◌⊎◌, inl, inr, ⊎_elim, List, [], Bool, true, false, refl, arith}
 use Rattle.std.specs.Prelude.{IsTrue}
 use Rattle.pcm_media.specs.Images.{MayLeave, Touched}
 use Rattle.pcm_media.specs.View.{View}
@@ -24,8 +24,8 @@ module _ (tells : Bool) (told : IsTrue tells) (old : View) (only_now : (image : 
       (image, may, can.0, can.1, can.1)
 
   -- a medium to which nothing was done
-  pub idle_same : (MayWrite Cause : Type 0) → Cause → Idle MayWrite Cause old old false []
-  idle_same MayWrite Cause cause = record { silent = refl; later = λ shape all. omega arith; keeps = first_like; spared = inl (touched_by_nothing [] old.content); cause = cause }
+  pub idle_same : (MayWrite Cause : Type 0) → Cause → Idle true MayWrite Cause old old false []
+  idle_same MayWrite Cause cause = record { silent = refl; later = λ shape all. omega arith; keeps = λ shape all image left. inl (first_like shape all image left); spared = inl (touched_by_nothing [] old.content); cause = cause }
 
   -- nor was it looked at, as the input was not taken
   pub unread_of : (status : Status) → IsUnread status → Unopened old status old
@@ -42,11 +42,11 @@ module _ (tells : Bool) (told : IsTrue tells) (old : View) (only_now : (image : 
   unread_of (BadShape which given) kind = absurd kind
 
   -- a medium whose array was not opened
-  idle_kept : (MayWrite Cause : Type 0) (new : View) → KeepsData tells old new.moment new.left_since → Touched [] old.content new.content ⊎ MayWrite → Cause → Idle MayWrite Cause old new false []
+  idle_kept : (MayWrite Cause : Type 0) (new : View) → KeepsData tells old new.moment new.left_since → Touched [] old.content new.content ⊎ MayWrite → Cause → Idle true MayWrite Cause old new false []
   idle_kept MayWrite Cause new keeps spared cause = record {
     silent = refl;
     later = λ shape all. (keeps told shape all).later;
-    keeps = λ shape all image left. ⊎_elim (first_like shape all image) (λ like. like) ((keeps told shape all).only old.moment image (omega arith) left);
+    keeps = λ shape all image left. inl (⊎_elim (first_like shape all image) (λ like. like) ((keeps told shape all).only old.moment image (omega arith) left));
     spared = spared;
     cause = cause;
   }
@@ -61,7 +61,7 @@ module _ (tells : Bool) (told : IsTrue tells) (old : View) (only_now : (image : 
       inl (idle_kept _ _ new keeps (inl (leaves told)) (inr (early refl, (cause told).0, (cause told).1, (cause told).2)))
 
 -- nothing was done, whatever the work is
-pub unopened_as : (Works : Ended → Type 0) (Broken : ℕ → Type 0) (Looks Lacks : Type 0) (old : View) (status : Status) (new : View) → IsUnopened status → Unopened old status new → OutcomeOf Works Broken Looks Lacks old status new false []
+pub unopened_as : (Works : Ended → Type 0) (Broken : ℕ → Type 0) (Looks Lacks : Type 0) (old : View) (status : Status) (new : View) → IsUnopened status → Unopened old status new → OutcomeOf true Works Broken Looks Lacks old status new false []
 unopened_as Works Broken Looks Lacks old Good new kind outcome = absurd kind
 unopened_as Works Broken Looks Lacks old Usage new kind outcome = absurd kind
 unopened_as Works Broken Looks Lacks old TooLong new kind outcome = outcome

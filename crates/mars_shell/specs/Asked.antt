@@ -1,5 +1,5 @@
 -- What the words of the command line ask for, and what comes of it.
-use Rattle.std.specs.Prelude.{ℕ, ◌≤◌, ◌⊎◌, List, length, Bool, false, IsTrue}
+use Rattle.std.specs.Prelude.{ℕ, ◌≤◌, ◌⊎◌, List, length, Bool, true, false, IsTrue}
 use Rattle.pcm_media.specs.View.{View}
 use Rattle.array_shape.specs.declared.shape.Shape.{Shape}
 use Rattle.command_words.specs.Asked.{AsksFor, AskForNothing}
@@ -40,12 +40,12 @@ IfReads _ Without Reads = Without
 -- What was written and done, by what is asked for. `run`, `callers`, `drill` and `dump` read the records of an array that was opened. `eaw`
 -- does not. Only `callers` need numbers.
 abbrev pub OutcomeFor : Words → View → Status → View → List ℕ → Bool → List ℕ → Type 0
-OutcomeFor (Run given) old status new input cut text = OverRecords 0 (λ ended. TakesTurns (is_late given.writing) (Answers input ended cut text) old ended new) old status new cut text
+OutcomeFor (Run given) old status new input cut text = OverRecords false 0 (λ ended. TakesTurns false (is_late given.writing) (Answers input ended cut text) old ended new) old status new cut text
 OutcomeFor (Callers numbers) old status new input cut text =
-    OverRecords numbers.callers (λ ended. TakesTurns (is_late numbers.writing) (JointWork numbers.callers numbers.tries input ended cut text) old ended new) old status new cut text
-OutcomeFor Eaw old status new input cut text = OutcomeOf (λ ended. Obeys old input ended new cut text) (λ page. ⊥) ⊥ ⊥ old status new cut text
-OutcomeFor Dump old status new input cut text = OverRecords 0 (λ ended. (taken : TakesTurns false (Dumps ended cut text) old ended new) × Spares taken.shape old new) old status new cut text
-OutcomeFor (Drill numbers) old status new input cut text = OverRecords 0 (λ ended. TakesTurns (is_late numbers.writing) (Drills numbers ended cut text) old ended new) old status new cut text
+    OverRecords false numbers.callers (λ ended. TakesTurns false (is_late numbers.writing) (JointWork numbers.callers numbers.tries input ended cut text) old ended new) old status new cut text
+OutcomeFor Eaw old status new input cut text = OutcomeOf true (λ ended. Obeys old input ended new cut text) (λ page. ⊥) ⊥ ⊥ old status new cut text
+OutcomeFor Dump old status new input cut text = OverRecords true 0 (λ ended. (taken : TakesTurns true false (Dumps ended cut text) old ended new) × Spares taken.shape old new) old status new cut text
+OutcomeFor (Drill numbers) old status new input cut text = OverRecords false 0 (λ ended. TakesTurns false (is_late numbers.writing) (Drills numbers ended cut text) old ended new) old status new cut text
 OutcomeFor (Format numbers) old status new input cut text = FormatOutcome numbers old status new cut text
 
 -- an input whose bytes are known and within the limit

@@ -1,5 +1,5 @@
 -- What comes of a run whose array is not opened.
-use Rattle.std.specs.Prelude.{[], false}
+use Rattle.std.specs.Prelude.{[], true, false}
 use Rattle.pcm_media.specs.View.{View}
 use Rattle.mars_shell.specs.Outcome.{OutcomeOf}
 use Rattle.mars_shell.specs.declared.status.Status.{Status}
@@ -22,4 +22,4 @@ IsUnread _ = ⊥
 
 -- the outcome if nothing was done
 abbrev pub Unopened : View → Status → View → Type 0
-Unopened old status new = OutcomeOf (λ ended. ⊥) (λ page. ⊥) ⊥ ⊥ old status new false []
+Unopened old status new = OutcomeOf true (λ ended. ⊥) (λ page. ⊥) ⊥ ⊥ old status new false []

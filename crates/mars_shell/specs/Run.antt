@@ -1,5 +1,5 @@
 -- What a run over records does on a medium that tells its bytes.
-use Rattle.std.specs.Prelude.{ℕ, ◌≡◌, ◌≢◌, ◌^◌, ◌<◌, ◌≤◌, List, [], ◌++◌, length, Bool, IsFalse, Contains}
+use Rattle.std.specs.Prelude.{ℕ, ◌≡◌, ◌≢◌, ◌^◌, ◌<◌, ◌≤◌, List, [], ◌++◌, length, Bool, true, false, IsFalse, Contains}
 use Rattle.std.specs.List.{concat}
 use Rattle.pcm_media.specs.View.{View}
 use Rattle.array_shape.specs.declared.shape.Shape.{Shape}
@@ -8,6 +8,7 @@ use Rattle.device_recovery.specs.Recovered.{HasNoVote}
 use Rattle.eaw_device.specs.Opens.{IsArray, HoldsArray}
 use Rattle.page_store.specs.Index.{Index}
 use Rattle.record_table.specs.Shown.{table_of}
+use Rattle.record_table.specs.Upgrading.{upgraded}
 use Rattle.history.specs.Legal.{IsLegal, records}
 use Rattle.history.specs.declared.call.Reply.TheVariants.{Committed}
 use Rattle.caller_steps.specs.State.{State, opened}
@@ -41,13 +42,18 @@ Exceeds callers media = (shape : Shape) × IsArray shape media × (shape.numbers
 
 -- What comes of work over the records of an array, by the status. Whether it has numbers for so many callers is tested after the opening and
 -- before the records are read.
-abbrev pub OverRecords : ℕ → (Ended → Type 0) → View → Status → View → Bool → List ℕ → Type 0
-OverRecords callers Works old status new cut text =
-    OutcomeOf Works (λ page. IsDamaged old page × (Exceeds callers old → ⊥)) (HoldsArray old × (Exceeds callers old → ⊥)) (Exceeds callers old) old status new cut text
+abbrev pub OverRecords : Bool → ℕ → (Ended → Type 0) → View → Status → View → Bool → List ℕ → Type 0
+OverRecords spares callers Works old status new cut text =
+    OutcomeOf spares Works (λ page. IsDamaged old page × (Exceeds callers old → ⊥)) (HoldsArray old × (Exceeds callers old → ⊥)) (Exceeds callers old) old status new cut text
+
+-- the data that is worked on: what was opened, in version 2 unless it is spared
+abbrev pub worked_on : Bool → List ℕ → List ℕ
+worked_on true bytes = bytes
+worked_on false bytes = upgraded bytes
 
 -- the callers before the first line, over this data under an index
-abbrev pub begun_on : Index → List ℕ → State
-begun_on index bytes = opened (table_of index bytes) (index_of index bytes)
+abbrev pub begun_on : Bool → Index → List ℕ → State
+begun_on spares index bytes = opened (table_of index bytes) (index_of index (worked_on spares bytes))
 
 -- the data has the records and the keys of a state, under an index
 pub record HasAll (index : Index) (bytes : List ℕ) (state : State) : Type 0 where
@@ -58,21 +64,21 @@ pub record HasAll (index : Index) (bytes : List ℕ) (state : State) : Type 0 wh
 -- Callers took turns over an array whose records are sound: there is a run of steps from the state that was opened to the last one. Says
 -- tells, of the limits of the array, the turns and the last state, what was written. The history, also with what is in doubt, is legal on
 -- the base and obeys the prefix law. Unless the medium failed, the data that the array settles to at the end has exactly the records of the
--- history, and if no turn asked to write or to remove a record, it is byte for byte as it was opened. Then also no row is voted, except that
+-- history, and if no turn asked to write or to remove a record, it is byte for byte what was opened, in version 2 unless it is spared. Then also no row is voted, except that
 -- on a late device commits may wait for their write-back.
-pub record TakesTurns (late : Bool) (Says : Limits → List Turn → State → Type 0) (old : View) (ended : Ended) (new : View) : Type 0 where
+pub record TakesTurns (spares late : Bool) (Says : Limits → List Turn → State → Type 0) (old : View) (ended : Ended) (new : View) : Type 0 where
   pub shape : Shape
   pub holds : HoldsRecords shape old
   pub turns : List Turn
   pub final : State
-  pub runs : Runs (limits_of shape) (begun_on (index_in shape old) (settled_data shape old.content.bytes)) turns final
+  pub runs : Runs (limits_of shape) (begun_on spares (index_in shape old) (settled_data shape old.content.bytes)) turns final
   pub says : Says (limits_of shape) turns final
   pub base : final.base ≡ table_of (index_in shape old) (settled_data shape old.content.bytes)
   pub legal : IsLegal final.base (final.history ++ final.doubt)
   pub prefix_law : PrefixLaw shape old final new
   pub quiet : ended ≢ MediaFault → IsFalse late → HasNoVote shape new.content.bytes
   pub left : ended ≢ MediaFault → HasAll (index_in shape new) (settled_data shape new.content.bytes) final
-  pub unwritten : ended ≢ MediaFault → IsFalse (has_write turns) → settled_data shape new.content.bytes ≡ settled_data shape old.content.bytes
+  pub unwritten : ended ≢ MediaFault → IsFalse (has_write turns) → settled_data shape new.content.bytes ≡ worked_on spares (settled_data shape old.content.bytes)
 
 -- The lines of the input were answered one by one, each call of a caller by the reply of its turn. What was acknowledged as committed is
 -- kept: the history has at least n transactions if an answer is the whole line `c committed n`.

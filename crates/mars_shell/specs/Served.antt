@@ -1,5 +1,5 @@
 -- What is done over a store whose records are read first.
-use Rattle.std.specs.Prelude.{ℕ, ◌≡◌, ◌≢◌, List, [], ◌++◌, length, Bool, true, false, IsTrue, IsFalse, Result, Ok, Err}
+use Rattle.std.specs.Prelude.{ℕ, ◌≡◌, ◌≢◌, ◌⊎◌, List, [], ◌++◌, length, Bool, true, false, IsTrue, IsFalse, Result, Ok, Err}
 use Rattle.mars_base.specs.Causes.{Rose}
 use Rattle.pcm_media.specs.View.{View}
 use Rattle.array_shape.specs.declared.shape.Shape.{Shape}
@@ -10,6 +10,7 @@ use Rattle.record_slots.specs.Super.{form_said}
 use Rattle.page_store.specs.Index.{Index}
 use Rattle.record_table.specs.Does.{OpensWith}
 use Rattle.record_table.specs.Shown.{table_of}
+use Rattle.record_table.specs.Upgrading.{upgraded}
 use Rattle.history.specs.Legal.{IsLegal}
 use Rattle.caller_steps.specs.State.{State}
 use Rattle.caller_steps.specs.Room.{Limits}
@@ -19,12 +20,12 @@ use Rattle.caller_steps.specs.Prefix.{HasPrefixOf}
 use Rattle.mars_core.specs.Over.{limits_of}
 use Rattle.mars_core.specs.Attached.{CoreCause}
 use Rattle.mars_core.specs.declared.fault.CoreFault.{CoreFault}
-use Rattle.mars_core.specs.declared.fault.CoreFault.TheVariants.{Media}
+use Rattle.mars_core.specs.declared.fault.CoreFault.TheVariants.{Damaged, Media}
 use Rattle.script_run.specs.Counts.{Counts}
 use Rattle.script_run.specs.declared.ended.Ended.{Ended}
 use Rattle.script_run.specs.declared.ended.Ended.TheVariants.{MediaFault}
 use Rattle.mars_shell.specs.Dump.{Spares}
-use Rattle.mars_shell.specs.Run.{begun_on, HasAll, TakesTurns}
+use Rattle.mars_shell.specs.Run.{worked_on, begun_on, HasAll, TakesTurns}
 
 -- The super page of the store's data names this form. Nothing was written, and whatever a loss of power might have left meanwhile opens
 -- with that data.
@@ -41,12 +42,22 @@ pub record SaysForm (tells : Bool) (Opens : List ℕ → List ℕ → Type 0) (f
 abbrev pub opens_of : (Shape → List ℕ → List ℕ → Type 0) → Shape → Index → State → ℕ → List ℕ → Type 0
 opens_of Opens shape index final least image = HasPrefixOf (OpensWith (Opens shape) index) final least image
 
--- The records were not taken. Nothing was written, and whatever a loss of power might have left meanwhile opens with the store's data.
-pub record Untaken (Opens : Shape → List ℕ → List ℕ → Type 0) (index : Index) (old : StoreView) (fault : CoreFault) (cut : Bool) (text : List ℕ) (new : StoreView) : Type 0 where
+-- an image opens with this data, or, unless it is spared, with the same in version 2
+abbrev pub OpensAs : Bool → (List ℕ → List ℕ → Type 0) → List ℕ → List ℕ → Type 0
+OpensAs spares Opens bytes image = Opens image bytes ⊎ (IsFalse spares × Opens image (upgraded bytes))
+
+-- no data is brought to version 2 if it is spared, or if a page of it is damaged
+abbrev pub spares_at : Bool → CoreFault → Bool
+spares_at spares (Damaged page) = true
+spares_at spares fault = spares
+
+-- Nothing was done over the records. Whatever a loss of power might have left meanwhile opens with the store's data, or with the same in
+-- version 2 if it may have been brought to that.
+pub record Untaken (spares : Bool) (Opens : Shape → List ℕ → List ℕ → Type 0) (index : Index) (old : StoreView) (fault : CoreFault) (cut : Bool) (text : List ℕ) (new : StoreView) : Type 0 where
   pub whole : cut ≡ false
   pub silent : text ≡ []
   pub cause : CoreCause true index old fault
-  pub time : LeavesOnly (λ image. Opens old.shape image old.state.bytes) old new
+  pub time : LeavesOnly (λ image. OpensAs (spares_at spares fault) (Opens old.shape) old.state.bytes image) old new
 
 -- The store is alive, and whatever a loss of power might have left meanwhile or may leave now opens with the data that it had.
 pub record Spared (Opens : Shape → List ℕ → List ℕ → Type 0) (old new : StoreView) : Type 0 where
@@ -61,20 +72,20 @@ pub record Served (spares : Bool) (Says : Limits → List Turn → State → Typ
   pub shape : new.shape ≡ old.shape
   pub turns : List Turn
   pub final : State
-  pub runs : Runs (limits_of old.shape) (begun_on index old.state.bytes) turns final
+  pub runs : Runs (limits_of old.shape) (begun_on spares index old.state.bytes) turns final
   pub says : Says (limits_of old.shape) turns final
   pub base : final.base ≡ table_of index old.state.bytes
   pub legal : IsLegal final.base (final.history ++ final.doubt)
   pub since : LeavesOnly (opens_of Opens old.shape index final 0) old new
   pub now : (image : List ℕ) → new.left_since new.moment image → opens_of Opens old.shape index final (length final.history) image
   pub left : ended ≢ MediaFault → IsAlive new × HasAll index new.state.bytes final
-  pub unwritten : ended ≢ MediaFault → IsFalse (has_write turns) → new.state.bytes ≡ old.state.bytes
+  pub unwritten : ended ≢ MediaFault → IsFalse (has_write turns) → new.state.bytes ≡ worked_on spares old.state.bytes
   pub spared : IsTrue spares → Spared Opens old new
 
 -- that, or the records were not taken
 abbrev pub Serves : Bool → (Ended → Limits → List Turn → State → Type 0) → (Shape → List ℕ → List ℕ → Type 0) → Index → StoreView → Result Ended CoreFault → Bool → List ℕ → StoreView → Type 0
 Serves spares Says Opens index old (Ok ended) cut text new = Served spares (Says ended) Opens index old ended new
-Serves spares Says Opens index old (Err fault) cut text new = Untaken Opens index old fault cut text new
+Serves spares Says Opens index old (Err fault) cut text new = Untaken spares Opens index old fault cut text new
 
 -- the counts of faults of the sink and of the medium
 abbrev pub ServedCounts : Result Ended CoreFault → ℕ → ℕ → ℕ → ℕ → Type 0
@@ -84,4 +95,4 @@ ServedCounts (Err fault) sink sink' media media' = (sink' ≡ sink) × (media' �
 
 -- The same in terms of the medium: callers took turns, and if the work spares the records and no commit may wait, what was opened stays.
 abbrev pub TakesTurnsFor : (spares late : Bool) → (Limits → List Turn → State → Type 0) → View → Ended → View → Type 0
-TakesTurnsFor spares late Says old ended new = (taken : TakesTurns late Says old ended new) × (IsTrue spares → IsFalse late → Spares taken.shape old new)
+TakesTurnsFor spares late Says old ended new = (taken : TakesTurns spares late Says old ended new) × (IsTrue spares → IsFalse late → Spares taken.shape old new)

@@ -101,8 +101,8 @@ fn run_callers_on<
     ensures steady { IsTrue (S.steady source.old) → result.0 ≡ Status.ReadFault → ⊥ }
     ensures input { IsTrue S.tells → InputSays result.0 (S.left source.old) (S.left source.new) }
     ensures ran { Wrote K.tells (K.written sink.old) (K.written sink.new) (K.faults sink.old) (K.faults sink.new)
-        (λ cut text. (input : List ℕ) × (IsTrue S.tells → S.left source.old ≡ input) × (IsTrue M.tells → OverRecords crew.now.numbers.callers
-        (λ ended. TakesTurns B.defers (JointWork crew.now.numbers.callers crew.now.numbers.tries input ended cut text) (M.view media) ended (M.view result.1))
+        (λ cut text. (input : List ℕ) × (IsTrue S.tells → S.left source.old ≡ input) × (IsTrue M.tells → OverRecords false crew.now.numbers.callers
+        (λ ended. TakesTurns false B.defers (JointWork crew.now.numbers.callers crew.now.numbers.tries input ended cut text) (M.view media) ended (M.view result.1))
         (M.view media) result.0 (M.view result.1) cut text)) }
 {
     let callers = crew.numbers.callers;

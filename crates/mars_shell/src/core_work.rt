@@ -1,5 +1,5 @@
 // The trait of what is done on a core over the records of an array.
-ghost use Rattle.std.specs.Prelude.{◌≡◌, ◌⊎◌, ℕ, Bool, List, IsTrue, IfOk, IfErr};
+ghost use Rattle.std.specs.Prelude.{◌≡◌, ℕ, Bool, List, IsTrue, IfOk, IfErr};
 ghost use Rattle.caller_steps.specs.State.{State};
 ghost use Rattle.caller_steps.specs.Room.{Limits};
 ghost use Rattle.caller_steps.specs.Run.{Turn};
@@ -10,11 +10,12 @@ ghost use Rattle.script_run.specs.Counts.{Counts};
 ghost use Rattle.script_run.specs.declared.ended.Ended.{Ended};
 ghost use Rattle.mars_shell.specs.OnCore.{Works};
 
+use crate::record_work::RecordWork;
 use eaw_face::EawStore;
 use mars_base::NoMemory;
-use mars_core::Core;
+use mars_core::{Core, CoreFault};
 use outside::Sink;
-use page_store::KeyIndex;
+use page_store::{KeyIndex, SaveRoom};
 use script_run::Ended;
 use std::alloc::Global;
 
@@ -22,9 +23,6 @@ use std::alloc::Global;
 pub trait CoreWork {
     /// Whether it reads the input.
     ghost reads: { Bool };
-
-    /// Whether it leaves the core as it was, and writes nothing but at its end.
-    ghost spares: { Bool };
 
     /// It can be done.
     ghost can_be_done: { Self → Type 0 };
@@ -52,7 +50,48 @@ pub trait CoreWork {
             (core_of S.opens I.index (S.view result.1.records.store) result.1)) }
         ensures untold { IfErr result.0 (λ fault. sink.new ≡ sink.old) }
         ensures given_back { IfErr result.0 (λ fault. result.1 ≡ core) }
-        ensures spared { IsTrue spares → result.1 ≡ core }
-        ensures end { IsTrue spares → IfOk result.0 (λ ended. (ended ≡ Ended.All) ⊎ (ended ≡ Ended.WriteFault)) }
         ensures counts { IfOk result.0 (λ ended. Counts ended (K.faults sink.old) (K.faults sink.new) (S.view core.records.store).faults (S.view result.1.records.store).faults) };
+}
+
+/// Work over records that is done on a core, which has brought the data to version 2.
+#[derive(Drop)]
+pub struct OnCore<W: CoreWork> {
+    pub work: W,
+}
+
+impl<W: CoreWork> RecordWork for OnCore<W> {
+    ghost use Rattle.std.specs.Prelude.{false};
+
+    ghost reads = { W.reads };
+
+    ghost spares = { false };
+
+    ghost can_be_done = { λ on. W.can_be_done on.work };
+
+    ghost does = { λ on. W.does on.work };
+
+    fn reads(&self) -> bool {
+        self.work.reads()
+    }
+
+    fn work_over<K: Sink, S: EawStore + Drop + Send, I: KeyIndex + Send>(
+        &self,
+        alloc: Global,
+        input: &[u8],
+        sink: &mut K,
+        room: SaveRoom,
+        store: S,
+    ) -> (Result<Ended, CoreFault>, S) {
+        let numbers = store.shape().numbers;
+        let core = match Core::<S, I>::attach(alloc, room, store) {
+            Ok(core) => core,
+            Err((fault, store)) => return (Err(fault), store),
+        };
+        let (worked, core) = self.work.work_on(alloc, input, numbers, sink, core);
+        let store = core.into_store();
+        match worked {
+            Ok(ended) => (Ok(ended), store),
+            Err(NoMemory) => (Err(CoreFault::NoMemory), store),
+        }
+    }
 }

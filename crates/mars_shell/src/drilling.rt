@@ -34,8 +34,6 @@ impl CoreWork for DrawnScript {
 
     ghost reads = { false };
 
-    ghost spares = { false };
-
     ghost can_be_done = { λ work. work.numbers.seed < 2 ^ 31 };
 
     ghost does = { λ work input. Drills work.numbers };

@@ -2,16 +2,16 @@
 ghost use Rattle.std.specs.Prelude.{◌≡◌, IfOk};
 ghost use Rattle.mars_shell.specs.Dump.{dump_lines};
 
-use crate::core_work::CoreWork;
 use crate::ending::write_ended;
 use crate::number_line::append_number;
+use crate::record_work::RecordWork;
 use eaw_face::EawStore;
 use history::Rows;
 use history_text::write_records;
 use mars_base::NoMemory;
-use mars_core::Core;
+use mars_core::{CoreFault, read_records};
 use outside::Sink;
-use page_store::KeyIndex;
+use page_store::{KeyIndex, SaveRoom};
 use script_run::Ended;
 use std::alloc::Global;
 
@@ -19,7 +19,7 @@ use std::alloc::Global;
 #[derive(Drop)]
 pub struct RecordDump;
 
-impl CoreWork for RecordDump {
+impl RecordWork for RecordDump {
     ghost use Rattle.std.specs.Prelude.{true, false};
     ghost use Rattle.mars_shell.specs.Dump.{Dumps};
 
@@ -36,17 +36,22 @@ impl CoreWork for RecordDump {
     }
 
     // The text is formed in full before any of it is written.
-    fn work_on<K: Sink, S: EawStore + Drop + Send, I: KeyIndex + Send>(
+    fn work_over<K: Sink, S: EawStore + Drop + Send, I: KeyIndex + Send>(
         &self,
         alloc: Global,
         _input: &[u8],
-        _numbers: u8,
         sink: &mut K,
-        core: Core<S, I>,
-    ) -> (Result<Ended, NoMemory>, Core<S, I>) {
-        match dump_lines(alloc, core.base()) {
-            Ok(text) => (Ok(write_ended(sink, &text)), core),
-            Err(NoMemory) => (Err(NoMemory), core),
+        room: SaveRoom,
+        store: S,
+    ) -> (Result<Ended, CoreFault>, S) {
+        let (read, store) = read_records::<S, I>(alloc, room, store);
+        let rows = match read {
+            Ok(rows) => rows,
+            Err(fault) => return (Err(fault), store),
+        };
+        match dump_lines(alloc, &rows) {
+            Ok(text) => (Ok(write_ended(sink, &text)), store),
+            Err(NoMemory) => (Err(CoreFault::NoMemory), store),
         }
     }
 }

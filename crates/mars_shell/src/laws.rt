@@ -21,7 +21,10 @@ ghost use Rattle.mars_shell.specs.Next.{AllSound, IsOfRecords, LeavesFresh};
 ghost use Rattle.mars_shell.specs.Run.{HoldsRecords};
 ghost use Rattle.mars_shell.specs.declared.status.Status.{Status};
 
+use btree_pages::BTreePages;
+use key_list::KeyList;
 use pcm_media::Media;
+use record_table::version_two_keeps;
 
 /// What the fates of callers on threads say of the history of a run: the transactions of each caller are those of its plans that committed,
 /// in their order and each once, with just the calls of the plan and under the number that was told. No other caller has any.
@@ -44,4 +47,7 @@ pub fn runs_compose<M: Media>()
         → AllOpen shape (M.view old).content → OutcomeFor Eaw (M.view old) status (M.view new) input cut text → AllOpen shape (M.view new).content }
     ensures fresh { (old new : M) (numbers : FormatNumbers) (status : Status) (text : List ℕ) (cut : Bool) → (status ≡ Status.Good) ⊎ (status ≡ Status.WriteFault)
         → FormatOutcome numbers (M.view old) status (M.view new) cut text → LeavesFresh numbers (M.view new).content }
-{}
+{
+    version_two_keeps::<KeyList>();
+    version_two_keeps::<BTreePages>();
+}

@@ -14,12 +14,10 @@ use std::alloc::Global;
 pub struct ByTurns;
 
 impl CoreWork for ByTurns {
-    ghost use Rattle.std.specs.Prelude.{true, false};
+    ghost use Rattle.std.specs.Prelude.{true};
     ghost use Rattle.mars_shell.specs.Run.{Answers};
 
     ghost reads = { true };
-
-    ghost spares = { false };
 
     ghost can_be_done = { λ work. Unit {0} };
 

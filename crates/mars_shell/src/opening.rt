@@ -1,5 +1,5 @@
 // The input of a run and the array that it works on.
-ghost use Rattle.std.specs.Prelude.{◌≡◌, ◌<◌, ◌≤◌, ℕ, [], false, IsTrue, IsFalse, IfOk, IfErr};
+ghost use Rattle.std.specs.Prelude.{◌≡◌, ◌<◌, ◌≤◌, ℕ, [], true, false, IsTrue, IsFalse, IfOk, IfErr};
 ghost use Rattle.eaw_device.specs.Opens.{Attached, KeepsData};
 ghost use Rattle.mars_shell.specs.Input.{InputSays};
 ghost use Rattle.mars_shell.specs.Opening.{IsUnread, IsUnopened, Unopened};
@@ -66,7 +66,7 @@ pub fn open_for<S: Source, M: Media, B: WriteBack>(
     ensures input { IfErr result (λ ended. IsTrue reads → IsTrue S.tells → InputSays ended.0 (S.left source.old) (S.left source.new)) }
     ensures counts { IfErr result (λ ended. (sink : ℕ) → Counts ended.0 (S.faults source.old) (S.faults source.new) sink sink (M.view media).faults (M.view ended.1).faults) }
     ensures kept { IfOk result (λ opened. S.faults source.new ≡ S.faults source.old) }
-    ensures outcome { IsTrue M.tells → IfErr result (λ ended. OverRecords callers (λ none. ⊥) (M.view media) ended.0 (M.view ended.1) false []) }
+    ensures outcome { IsTrue M.tells → IfErr result (λ ended. OverRecords true callers (λ none. ⊥) (M.view media) ended.0 (M.view ended.1) false []) }
     ensures attached { IfOk result (λ opened. Attached M.tells (M.view media) (⟦<Eaw<M, B> as EawStore>⟧.view opened.2)) }
     ensures keeps { IfOk result (λ opened. KeepsData M.tells (M.view media) (⟦<Eaw<M, B> as EawStore>⟧.view opened.2).moment (⟦<Eaw<M, B> as EawStore>⟧.view opened.2).left_since) }
     ensures enough { IfOk result (λ opened. callers ≤ (⟦<Eaw<M, B> as EawStore>⟧.view opened.2).shape.numbers) }

@@ -9,19 +9,18 @@ ghost use Rattle.mars_shell.specs.Run.{OverRecords};
 ghost use Rattle.mars_shell.specs.Served.{Serves, ServedCounts, TakesTurnsFor};
 ghost use Rattle.mars_shell.specs.Statuses.{Counts, IsEarly, IsRefusal};
 
-use crate::core_work::CoreWork;
 use crate::forms::find_form;
 use crate::opening::open_for;
+use crate::record_work::RecordWork;
 use crate::status::{Status, served_status};
 use btree_pages::BTreePages;
 use command_words::Writing;
 use eaw_device::{AtOnce, Late, WriteBack};
 use eaw_face::EawStore;
 use key_list::KeyList;
-use mars_base::NoMemory;
-use mars_core::{Core, CoreFault};
+use mars_core::CoreFault;
 use outside::{Sink, Source};
-use page_store::{KeyIndex, SaveRoom};
+use page_store::SaveRoom;
 use pcm_media::Media;
 use record_table::Form;
 use script_run::Ended;
@@ -29,7 +28,7 @@ use std::alloc::Global;
 
 /// Does work over the records of the array that the medium holds, if they are sound, on a device that writes the data of commits to its
 /// place when it is told so.
-pub fn over_records<S: Source, K: Sink, M: Media + Drop + Send, W: CoreWork>(
+pub fn over_records<S: Source, K: Sink, M: Media + Drop + Send, W: RecordWork>(
     alloc: Global,
     source: &mut S,
     sink: &mut K,
@@ -48,7 +47,7 @@ pub fn over_records<S: Source, K: Sink, M: Media + Drop + Send, W: CoreWork>(
     ensures input { IsTrue W.reads → IsTrue S.tells → InputSays result.0 (S.left source.old) (S.left source.new) }
     ensures unread { IsFalse W.reads → source.new ≡ source.old }
     ensures ran { Wrote K.tells (K.written sink.old) (K.written sink.new) (K.faults sink.old) (K.faults sink.new)
-        (λ cut text. (input : List ℕ) × (IsTrue W.reads → IsTrue S.tells → S.left source.old ≡ input) × (IsTrue M.tells → OverRecords 0
+        (λ cut text. (input : List ℕ) × (IsTrue W.reads → IsTrue S.tells → S.left source.old ≡ input) × (IsTrue M.tells → OverRecords W.spares 0
         (λ ended. TakesTurnsFor W.spares (is_late writing) (W.does work.now input ended cut text) (M.view media) ended (M.view result.1))
         (M.view media) result.0 (M.view result.1) cut text)) }
 {
@@ -61,7 +60,7 @@ pub fn over_records<S: Source, K: Sink, M: Media + Drop + Send, W: CoreWork>(
 }
 
 // The same on a device of this type.
-fn over_records_on<S: Source, K: Sink, M: Media + Drop + Send, B: WriteBack + Send, W: CoreWork>(
+fn over_records_on<S: Source, K: Sink, M: Media + Drop + Send, B: WriteBack + Send, W: RecordWork>(
     alloc: Global,
     source: &mut S,
     sink: &mut K,
@@ -79,7 +78,7 @@ fn over_records_on<S: Source, K: Sink, M: Media + Drop + Send, B: WriteBack + Se
     ensures input { IsTrue W.reads → IsTrue S.tells → InputSays result.0 (S.left source.old) (S.left source.new) }
     ensures unread { IsFalse W.reads → source.new ≡ source.old }
     ensures ran { Wrote K.tells (K.written sink.old) (K.written sink.new) (K.faults sink.old) (K.faults sink.new)
-        (λ cut text. (input : List ℕ) × (IsTrue W.reads → IsTrue S.tells → S.left source.old ≡ input) × (IsTrue M.tells → OverRecords 0
+        (λ cut text. (input : List ℕ) × (IsTrue W.reads → IsTrue S.tells → S.left source.old ≡ input) × (IsTrue M.tells → OverRecords W.spares 0
         (λ ended. TakesTurnsFor W.spares B.defers (W.does work.now input ended cut text) (M.view media) ended (M.view result.1))
         (M.view media) result.0 (M.view result.1) cut text)) }
 {
@@ -93,7 +92,7 @@ fn over_records_on<S: Source, K: Sink, M: Media + Drop + Send, B: WriteBack + Se
 
 // Does work over the records of a store, under the index that its data names, and returns the store. Nothing is written if the records
 // were not taken.
-fn serve<K: Sink, S: EawStore + Drop + Send, W: CoreWork>(
+fn serve<K: Sink, S: EawStore + Drop + Send, W: RecordWork>(
     alloc: Global,
     input: &[u8],
     sink: &mut K,
@@ -112,39 +111,8 @@ fn serve<K: Sink, S: EawStore + Drop + Send, W: CoreWork>(
 {
     let mut store = store;
     match find_form(&mut store) {
-        Ok(Form::Chain) => serve_under::<K, S, KeyList, W>(alloc, input, sink, room, store, work),
-        Ok(Form::Tree) => serve_under::<K, S, BTreePages, W>(alloc, input, sink, room, store, work),
+        Ok(Form::Chain) => work.work_over::<K, S, KeyList>(alloc, input, sink, room, store),
+        Ok(Form::Tree) => work.work_over::<K, S, BTreePages>(alloc, input, sink, room, store),
         Err(fault) => (Err(fault), store),
-    }
-}
-
-// The same under an index.
-fn serve_under<K: Sink, S: EawStore + Drop + Send, I: KeyIndex + Send, W: CoreWork>(
-    alloc: Global,
-    input: &[u8],
-    sink: &mut K,
-    room: SaveRoom,
-    store: S,
-    work: &W,
-) -> (Result<Ended, CoreFault>, S)
-    requires set { W.can_be_done work.now }
-    requires alive { IsAlive (S.view store) }
-    requires free { (t : ℕ) → (S.view store).ranges t ≡ None }
-    ensures served { Wrote K.tells (K.written sink.old) (K.written sink.new) (K.faults sink.old) (K.faults sink.new)
-        (λ cut text. IsTrue S.tells → Serves W.spares (λ ended. W.does work.now input.now ended cut text) S.opens I.index (S.view store) result.0 cut text (S.view result.1)) }
-    ensures untold { IfErr result.0 (λ fault. sink.new ≡ sink.old) }
-    ensures end { IsTrue W.spares → IfOk result.0 (λ ended. (ended ≡ Ended.All) ⊎ (ended ≡ Ended.WriteFault)) }
-    ensures counts { ServedCounts result.0 (K.faults sink.old) (K.faults sink.new) (S.view store).faults (S.view result.1).faults }
-{
-    let numbers = store.shape().numbers;
-    let core = match Core::<S, I>::attach(alloc, room, store) {
-        Ok(core) => core,
-        Err((fault, store)) => return (Err(fault), store),
-    };
-    let (worked, core) = work.work_on(alloc, input, numbers, sink, core);
-    let store = core.into_store();
-    match worked {
-        Ok(ended) => (Ok(ended), store),
-        Err(NoMemory) => (Err(CoreFault::NoMemory), store),
     }
 }

@@ -12,6 +12,7 @@ ghost use Rattle.mars_shell.specs.Statuses.{Counts};
 
 use crate::callers::{Crew, run_callers};
 use crate::commands::run_commands;
+use crate::core_work::OnCore;
 use crate::drilling::DrawnScript;
 use crate::dump::RecordDump;
 use crate::formatting::run_format;
@@ -70,7 +71,14 @@ pub fn run<
         Err(WordsFault::NoCommand) => (Status::Usage, media),
         Err(WordsFault::NoMemory) => (Status::NoMemory, media),
         Ok(Words::Run(options)) => {
-            over_records(rt.alloc(), source, sink, media, options.writing, &ByTurns)
+            over_records(
+                rt.alloc(),
+                source,
+                sink,
+                media,
+                options.writing,
+                &OnCore { work: ByTurns },
+            )
         }
         Ok(Words::Callers(numbers)) => {
             let crew = Crew { rt, numbers, gate };
@@ -82,7 +90,9 @@ pub fn run<
             over_records(rt.alloc(), source, sink, media, writing, &RecordDump)
         }
         Ok(Words::Drill(numbers)) => {
-            let work = DrawnScript { numbers };
+            let work = OnCore {
+                work: DrawnScript { numbers },
+            };
             over_records(rt.alloc(), source, sink, media, numbers.writing, &work)
         }
         Ok(Words::Format(numbers)) => run_format(sink, media, &numbers),

@@ -19,7 +19,8 @@ use Rattle.record_table.specs.declared.fault.TableFault.TheVariants as fault
 use Rattle.mars_core.specs.Attached.{GivesBack, scan_fault, is_media_fault}
 use Rattle.mars_core.proofs.Mirroring.{scan_after}
 use Rattle.mars_core.proofs.Prefixes.{StoreLaws}
-use Rattle.mars_core.proofs.Opening.{scan_gives_back, opened_keeps, opened_begins}
+use Rattle.mars_core.proofs.Opening.{scan_left, opened_keeps, opened_begins}
+use Rattle.mars_core.proofs.Attaching.{left_gives}
 use Rattle.mars_core.proofs.turns.begin_over.Given.{Over}
 use Rattle.mars_core.proofs.turns.begin_over.Goals as goal
 
@@ -53,7 +54,7 @@ returns-in-Err-scan-clause-gives_back g c =
     let q = pages_of (V c.scan.new.self.store) c.scan.new.self in
     let f = c.in-Err-scan.fault in
     let media = media_alone g.S.EawStore.tells g.K.KeyIndex.index p 0 0 18446744073709551615 Rows c.requires.alive f c.in-Err-scan.ensures.does.cause in
-    let back = scan_gives_back g.S.EawStore.tells (g.S.EawStore.opens (V c.args.records.store).shape) 0 p q c.requires.alive Rows f c.in-Err-scan.ensures.looks media in
+    let back = left_gives g.S.EawStore.tells (g.S.EawStore.opens (V c.args.records.store).shape) (is_media_fault (scan_fault f)) p.store q.store (scan_left g.S.EawStore.tells (g.S.EawStore.opens (V c.args.records.store).shape) 0 p q c.requires.alive Rows f c.in-Err-scan.ensures.looks media) in
     let store : c.into_store-in-Err-scan.result ≡ c.scan.new.self.store = c.into_store-in-Err-scan.ensures ∙ ap (λ (r : Shown g.row.S.Denot). r.store) c.into_pages-in-Err-scan.ensures in
     subst (λ (s : g.row.S.Denot). GivesBack g.S.EawStore.tells (g.S.EawStore.opens (g.S.EawStore.view c.args.records.store).shape) (is_media_fault c.from.result) (g.S.EawStore.view c.args.records.store) (g.S.EawStore.view s)) (sym store)
     (subst (λ (x : CoreFault). GivesBack g.S.EawStore.tells (g.S.EawStore.opens (g.S.EawStore.view c.args.records.store).shape) (is_media_fault x) (g.S.EawStore.view c.args.records.store) (g.S.EawStore.view c.scan.new.self.store)) (sym c.from.ensures) back)
@@ -61,19 +62,21 @@ returns-in-Err-scan-clause-gives_back g c =
 pub invariant_of-result : goal.invariant_of-result
 invariant_of-result g c =
     let V = g.S.EawStore.view in
-    opened_keeps g.S.EawStore.tells g.S.EawStore.opens g.K.KeyIndex.index (pages_of (V c.args.records.store) c.args.records) (pages_of (V c.scan.new.self.store) c.scan.new.self) (laws_at g c.scan.new.self.store)
+    let after = c.in-Ok-upgraded.records in
+    opened_keeps g.S.EawStore.tells g.S.EawStore.opens g.K.KeyIndex.index (pages_of (V c.args.records.store) c.args.records) (pages_of (V c.scan.new.self.store) c.scan.new.self) (pages_of (V after.store) after) (laws_at g after.store)
     (λ sound. let main = (g.met.K.KeyIndex.counts (V c.args.records.store).state.bytes sound).main in
     subst (Rise 0 (2 ^ 64)) (sym (main_pairs g.K.KeyIndex.index (V c.args.records.store).state.bytes main)) (g.met.K.KeyIndex.rises (V c.args.records.store).state.bytes 0 1 sound main)) c.requires.alive c.requires.sound c.requires.idle c.requires.unsaved c.in-Ok-scan.ensures.looks
-    (λ told. c.in-Ok-scan.ensures.does.done told ∙ scan_after (state_of g.K.KeyIndex.index (pages_of (V c.args.records.store) c.args.records)) 0 0 18446744073709551615 (Listed c.in-Ok-scan.base))
+    (λ told. c.in-Ok-scan.ensures.does.done told ∙ scan_after (state_of g.K.KeyIndex.index (pages_of (V c.args.records.store) c.args.records)) 0 0 18446744073709551615 (Listed c.in-Ok-scan.base)) c.in-Ok-upgraded.ensures.upgrades
     c.in-Ok-scan.base (λ told. listed_same _ _ (c.in-Ok-scan.ensures.does.replies told)) c.in-Ok.seats (c.in-Ok.ensures.0 ∙ ap (λ (h : Shape). h.numbers) c.shape.ensures) c.in-Ok.ensures.1 c.new-2.result c.new-2.ensures c.none.result c.none.ensures
 
 pub returns-clause-begins : goal.returns-clause-begins
 returns-clause-begins g c =
     let V = g.S.EawStore.view in
-    opened_begins g.S.EawStore.tells g.S.EawStore.opens g.K.KeyIndex.index (pages_of (V c.args.records.store) c.args.records) (pages_of (V c.scan.new.self.store) c.scan.new.self) (laws_at g c.scan.new.self.store)
+    let after = c.in-Ok-upgraded.records in
+    opened_begins g.S.EawStore.tells g.S.EawStore.opens g.K.KeyIndex.index (pages_of (V c.args.records.store) c.args.records) (pages_of (V c.scan.new.self.store) c.scan.new.self) (pages_of (V after.store) after) (laws_at g after.store)
     (λ sound. let main = (g.met.K.KeyIndex.counts (V c.args.records.store).state.bytes sound).main in
     subst (Rise 0 (2 ^ 64)) (sym (main_pairs g.K.KeyIndex.index (V c.args.records.store).state.bytes main)) (g.met.K.KeyIndex.rises (V c.args.records.store).state.bytes 0 1 sound main)) c.requires.alive c.requires.sound c.requires.idle c.requires.unsaved c.in-Ok-scan.ensures.looks
-    (λ told. c.in-Ok-scan.ensures.does.done told ∙ scan_after (state_of g.K.KeyIndex.index (pages_of (V c.args.records.store) c.args.records)) 0 0 18446744073709551615 (Listed c.in-Ok-scan.base))
+    (λ told. c.in-Ok-scan.ensures.does.done told ∙ scan_after (state_of g.K.KeyIndex.index (pages_of (V c.args.records.store) c.args.records)) 0 0 18446744073709551615 (Listed c.in-Ok-scan.base)) c.in-Ok-upgraded.ensures.upgrades
     c.in-Ok-scan.base (λ told. listed_same _ _ (c.in-Ok-scan.ensures.does.replies told)) c.in-Ok.seats (c.in-Ok.ensures.0 ∙ ap (λ (h : Shape). h.numbers) c.shape.ensures) c.in-Ok.ensures.1 c.new-2.result c.new-2.ensures c.none.result c.none.ensures
 
 pub returns-in-Err-clause-begins : goal.returns-in-Err-clause-begins

@@ -55,7 +55,7 @@ returns-clause-ran g c =
         input,
         c.in-Ok.ensures.read refl,
         λ told.
-            subst (λ (s : Status). OverRecords c.args.crew.now.numbers.callers (λ ended. TakesTurns g.B.WriteBack.defers (JointWork c.args.crew.now.numbers.callers c.args.crew.now.numbers.tries input ended said.cut said.text) old ended new) old s new said.cut said.text) (sym c.served_status.ensures)
+            subst (λ (s : Status). OverRecords false c.args.crew.now.numbers.callers (λ ended. TakesTurns false g.B.WriteBack.defers (JointWork c.args.crew.now.numbers.callers c.args.crew.now.numbers.tries input ended said.cut said.text) old ended new) old s new said.cut said.text) (sym c.served_status.ensures)
             (turns_only c.args.crew.now.numbers.callers g.B.WriteBack.defers (λ ended. JointWork c.args.crew.now.numbers.callers c.args.crew.now.numbers.tries input ended said.cut said.text) old (served_status c.serve_jointly-served.result.0) new said.cut said.text
             (records_outcome media.tells told old (met.only_now c.args.media) _ c.in-Ok.ensures.attached c.in-Ok.ensures.keeps g.B.WriteBack.defers _ new c.into_media.ensures (met.counts_now c.into_media.result)
             c.args.crew.now.numbers.callers c.in-Ok.ensures.enough false (λ ended. JointWork c.args.crew.now.numbers.callers c.args.crew.now.numbers.tries input ended said.cut said.text) c.serve_jointly-served.result.0 said.cut said.text (rw c.deref.ensures.value at (said.holds told)))),

@@ -1,5 +1,4 @@
 use Rattle.std.proofs.Common.{[], false, refl, sym, ap, subst, ◌∙◌}
-use Rattle.std.proofs.lemmas.Bool.{false≢true}
 use Rattle.std.proofs.lemmas.List.{append-nil}
 use Rattle.mars_core.specs.Held.{core_of}
 use Rattle.mars_core.specs.Over.{IsOver}
@@ -34,8 +33,7 @@ returns-in-Ok-worked-clause-served g c =
       holds = λ told.
           let turns = rw c.in-Ok-worked.is at (works.holds told) in
           subst (λ st. Served false does s.opens g.I.KeyIndex.index (s.view c.args.store) ended (s.view st)) (sym c.into_store-store.ensures.store)
-          (served s.tells s.opens g.I.KeyIndex.index (s.view c.args.store) (s.view first) _ begins told (s.view core.records.store) _ over false does ended turns
-          (λ is. absurd (false≢true is)));
+          (served s.tells s.opens g.I.KeyIndex.index (s.view c.args.store) (s.view first) _ begins told (s.view core.records.store) _ over does ended turns);
     }
 
 pub returns-in-Err-worked-clause-served : goal.returns-in-Err-worked-clause-served

@@ -21,7 +21,7 @@ returns-in-Err-clause-ran g c =
       holds = (
         input,
         (λ asked _. refl),
-        λ told. turns_none 0 g.B.WriteBack.defers (λ ended. g.W.CoreWork.does c.args.work.now input ended false []) old c.in-Err.ended.0 new false [] g.W.CoreWork.spares (c.in-Err.ensures.outcome told),
+        λ told. turns_none 0 g.B.WriteBack.defers (λ ended. g.W.RecordWork.does c.args.work.now input ended false []) old c.in-Err.ended.0 new false [] g.W.RecordWork.spares (c.in-Err.ensures.outcome told),
       );
     }
 
@@ -49,7 +49,7 @@ returns-clause-ran g c =
     let met = (g.met.M.Media g.world.𝓛 g.world.𝓜 g.world.𝓡 ((λ s x. x), (λ x. x), (λ x. x), λ x. x)) in
     let old = media.view c.args.media in
     let new = media.view c.into_media.result in
-    let work = g.W.CoreWork in
+    let work = g.W.RecordWork in
     let said = c.serve-served.ensures.served in
     let input = c.in-Ok.opened.1.items in
     record {
@@ -61,7 +61,7 @@ returns-clause-ran g c =
         input,
         (λ asked. c.in-Ok.ensures.read (c.reads.ensures ∙ asked)),
         λ told.
-            subst (λ (s : Status). OverRecords 0 (λ ended. TakesTurnsFor work.spares g.B.WriteBack.defers (work.does c.args.work.now input ended said.cut said.text) old ended new)
+            subst (λ (s : Status). OverRecords work.spares 0 (λ ended. TakesTurnsFor work.spares g.B.WriteBack.defers (work.does c.args.work.now input ended said.cut said.text) old ended new)
             old s new said.cut said.text) (sym c.served_status.ensures)
             (records_outcome media.tells told old (met.only_now c.args.media) _ c.in-Ok.ensures.attached c.in-Ok.ensures.keeps g.B.WriteBack.defers _ new c.into_media.ensures (met.counts_now c.into_media.result)
             0 (omega arith) work.spares (λ ended. work.does c.args.work.now input ended said.cut said.text)

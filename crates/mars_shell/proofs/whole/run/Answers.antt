@@ -78,7 +78,7 @@ returns-in-Ok-Run-clause-complete g c =
     let ran = said.ran in
     words_say (map string_bytes c.args.words.now) c.over_records.result.0 (Unit {0}) _ (Run c.in-Ok-Run.options) c.over_records.ensures.no_usage (rw c.in-Ok-Run.field-0-is at c.in-Ok-Run.ensures.asked)
     (λ fit no_source no_sink no_media.
-    complete_records 0 (λ ended. TakesTurnsFor false (is_late c.in-Ok-Run.options.writing) (Answers ran.holds.0 ended ran.cut ran.text) old ended new) old c.over_records.result.0 new ran.cut ran.text given _ _ _ _ _ _ _ fit.0.1 fit.2.0 fit.2.1 (omega arith) no_source no_sink no_media said.counts (said.input refl fit.0.0) (ran.holds.2 fit.1))
+    complete_records false 0 (λ ended. TakesTurnsFor false (is_late c.in-Ok-Run.options.writing) (Answers ran.holds.0 ended ran.cut ran.text) old ended new) old c.over_records.result.0 new ran.cut ran.text given _ _ _ _ _ _ _ fit.0.1 fit.2.0 fit.2.1 (omega arith) no_source no_sink no_media said.counts (said.input refl fit.0.0) (ran.holds.2 fit.1))
 
 pub returns-in-Ok-Callers-clause-words : goal.returns-in-Ok-Callers-clause-words
 returns-in-Ok-Callers-clause-words g c = callers_say (map string_bytes c.args.words.now) c.run_callers.result.0 _ _ c.in-Ok-Callers.numbers (rw c.in-Ok-Callers.field-0-is at c.in-Ok-Callers.ensures.asked) tt
@@ -120,7 +120,7 @@ returns-in-Ok-Callers-clause-complete g c =
     let ran = said.ran in
     callers_say (map string_bytes c.args.words.now) c.run_callers.result.0 (Unit {0}) _ c.in-Ok-Callers.numbers (rw c.in-Ok-Callers.field-0-is at c.in-Ok-Callers.ensures.asked)
     (λ fit no_source no_sink no_media.
-    complete_records numbers.callers (λ ended. TakesTurns (is_late numbers.writing) (JointWork numbers.callers numbers.tries ran.holds.0 ended ran.cut ran.text) old ended new) old c.run_callers.result.0 new ran.cut ran.text given _ _ _ _ _ _ _ fit.0.1 fit.2.0 fit.2.1 fit.2.2 no_source no_sink no_media said.counts (said.input fit.0.0) (ran.holds.2 fit.1))
+    complete_records false numbers.callers (λ ended. TakesTurns false (is_late numbers.writing) (JointWork numbers.callers numbers.tries ran.holds.0 ended ran.cut ran.text) old ended new) old c.run_callers.result.0 new ran.cut ran.text given _ _ _ _ _ _ _ fit.0.1 fit.2.0 fit.2.1 fit.2.2 no_source no_sink no_media said.counts (said.input fit.0.0) (ran.holds.2 fit.1))
 
 pub returns-in-Ok-Dump-clause-words : goal.returns-in-Ok-Dump-clause-words
 returns-in-Ok-Dump-clause-words g c = words_say (map string_bytes c.args.words.now) c.over_records-in-Ok-Dump.result.0 _ _ Dump c.over_records-in-Ok-Dump.ensures.no_usage (rw c.in-Ok-Dump.field-0-is at c.in-Ok-Dump.ensures.asked) tt
@@ -166,7 +166,7 @@ returns-in-Ok-Dump-clause-complete g c =
     let ran = said.ran in
     words_say (map string_bytes c.args.words.now) c.over_records-in-Ok-Dump.result.0 (Unit {0}) _ Dump c.over_records-in-Ok-Dump.ensures.no_usage (rw c.in-Ok-Dump.field-0-is at c.in-Ok-Dump.ensures.asked)
     (λ fit no_source no_sink no_media.
-    complete_records 0 (λ ended. TakesTurnsFor true false (Dumps ended ran.cut ran.text) old ended new) old c.over_records-in-Ok-Dump.result.0 new ran.cut ran.text [] [] _ _ _ _ _ _ (omega arith) fit.1.0 fit.1.1 (omega arith) no_source no_sink no_media said.counts (nothing_read c.over_records-in-Ok-Dump.result.0 (λ early. absurd (false≢true (said.early early).0))) (ran.holds.2 fit.0))
+    complete_records true 0 (λ ended. TakesTurnsFor true false (Dumps ended ran.cut ran.text) old ended new) old c.over_records-in-Ok-Dump.result.0 new ran.cut ran.text [] [] _ _ _ _ _ _ (omega arith) fit.1.0 fit.1.1 (omega arith) no_source no_sink no_media said.counts (nothing_read c.over_records-in-Ok-Dump.result.0 (λ early. absurd (false≢true (said.early early).0))) (ran.holds.2 fit.0))
 
 pub returns-in-Ok-Drill-clause-words : goal.returns-in-Ok-Drill-clause-words
 returns-in-Ok-Drill-clause-words g c = words_say (map string_bytes c.args.words.now) c.over_records-in-Ok-Drill.result.0 _ _ (Drill c.in-Ok-Drill.numbers) c.over_records-in-Ok-Drill.ensures.no_usage (rw c.in-Ok-Drill.field-0-is at c.in-Ok-Drill.ensures.asked) tt
@@ -214,7 +214,7 @@ returns-in-Ok-Drill-clause-complete g c =
     let ran = said.ran in
     words_say (map string_bytes c.args.words.now) c.over_records-in-Ok-Drill.result.0 (Unit {0}) _ (Drill c.in-Ok-Drill.numbers) c.over_records-in-Ok-Drill.ensures.no_usage (rw c.in-Ok-Drill.field-0-is at c.in-Ok-Drill.ensures.asked)
     (λ fit no_source no_sink no_media.
-    complete_records 0 (λ ended. TakesTurnsFor false (is_late numbers.writing) (Drills numbers ended ran.cut ran.text) old ended new) old c.over_records-in-Ok-Drill.result.0 new ran.cut ran.text [] [] _ _ _ _ _ _ (omega arith) fit.1.0 fit.1.1 (omega arith) no_source no_sink no_media said.counts (nothing_read c.over_records-in-Ok-Drill.result.0 (λ early. absurd (false≢true (said.early early).0))) (ran.holds.2 fit.0))
+    complete_records false 0 (λ ended. TakesTurnsFor false (is_late numbers.writing) (Drills numbers ended ran.cut ran.text) old ended new) old c.over_records-in-Ok-Drill.result.0 new ran.cut ran.text [] [] _ _ _ _ _ _ (omega arith) fit.1.0 fit.1.1 (omega arith) no_source no_sink no_media said.counts (nothing_read c.over_records-in-Ok-Drill.result.0 (λ early. absurd (false≢true (said.early early).0))) (ran.holds.2 fit.0))
 
 pub returns-in-Ok-Eaw-clause-complete : goal.returns-in-Ok-Eaw-clause-complete
 returns-in-Ok-Eaw-clause-complete g c =
@@ -225,7 +225,7 @@ returns-in-Ok-Eaw-clause-complete g c =
     words_say (map string_bytes c.args.words.now) c.run_commands.result.0 (Unit {0}) _ Eaw said.no_usage (rw c.in-Ok-Eaw.field-0-is at c.in-Ok-Eaw.ensures.asked)
     (λ fit no_source no_sink no_media.
     let input = said.ran.holds.0 in
-    complete_of (λ ended. Obeys old input ended new said.ran.cut said.ran.text) (λ page. ⊥) ⊥ ⊥ old new said.ran.cut said.ran.text given _ _ _ _ _ _ _
+    complete_of true (λ ended. Obeys old input ended new said.ran.cut said.ran.text) (λ page. ⊥) ⊥ ⊥ old new said.ran.cut said.ran.text given _ _ _ _ _ _ _
     fit.0.1 fit.2.0 fit.2.1 (λ page is. is) (λ is. is) no_source no_sink no_media c.run_commands.result.0 said.counts (said.input fit.0.0) (said.ran.holds.2 fit.1))
 
 pub returns-in-Ok-Format-clause-ran : goal.returns-in-Ok-Format-clause-ran

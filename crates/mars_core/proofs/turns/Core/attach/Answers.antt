@@ -1,22 +1,23 @@
 use Rattle.std.proofs.Common.{◌≡◌, ℕ, List, [], refl, sym, subst, ap, ◌∙◌}
-use Rattle.std.specs.Prelude.{map}
+use Rattle.std.specs.Prelude.{map, Option, None}
 use Rattle.eaw_face.specs.State.{State, listed}
 use Rattle.eaw_face.specs.Causes.{IsAlive}
 use Rattle.page_store.specs.Shown.{saved_of, pages_of}
 use Rattle.record_table.specs.Shown.{writes_of}
-use Rattle.mars_core.specs.Attached.{is_media_fault, CoreCause, GivesBack}
+use Rattle.mars_core.specs.Attached.{is_media_fault, attach_fault, CoreCause, GivesBack}
 use Rattle.mars_core.specs.declared.fault.CoreFault.{CoreFault}
-use Rattle.mars_core.proofs.Attaching.{attach_cause, attach_gives}
+use Rattle.mars_core.proofs.Attaching.{attach_cause, attach_left, left_gives}
 use Rattle.mars_core.proofs.turns.Core.attach.Goals as goal
 
 pub attach-requires : goal.attach-requires
-attach-requires g c = record { idle = λ alive t. subst (λ (s : g.row.S.Denot). listed ((g.S.EawStore.view s).ranges t) ≡ []) (sym c.attach_in.ensures.store) (c.requires.idle t); closed = λ alive t. (c.attach_in.ensures.fresh t).1 }
+attach-requires g c = record { idle = λ alive t. subst (λ (s : g.row.S.Denot). listed ((g.S.EawStore.view s).ranges t) ≡ []) (sym c.attach_in.ensures.store) (ap listed (c.requires.idle t)); closed = λ alive t. (c.attach_in.ensures.fresh t).1 }
 
 pub returns-in-Err : goal.returns-in-Err
 returns-in-Err g c =
     let cause = attach_cause g.S.EawStore.tells g.K.KeyIndex.index (g.S.EawStore.view c.attach_in.result.store) c.in-Err.fault c.in-Err.ensures.cause in
     let alive = subst (λ (s : g.row.S.Denot). IsAlive (g.S.EawStore.view s)) (sym c.attach_in.ensures.store) c.requires.alive in
-    let back = attach_gives g.S.EawStore.tells (g.S.EawStore.opens (g.S.EawStore.view c.attach_in.result.store).shape) g.K.KeyIndex.index (pages_of (g.S.EawStore.view c.attach_in.result.store) c.attach_in.result) (pages_of (g.S.EawStore.view c.in-Err.pages.store) c.in-Err.pages) alive c.in-Err.fault c.in-Err.ensures.cause c.in-Err.ensures.looks in
+    let back = left_gives g.S.EawStore.tells (g.S.EawStore.opens (g.S.EawStore.view c.attach_in.result.store).shape) (is_media_fault (attach_fault c.in-Err.fault)) (g.S.EawStore.view c.attach_in.result.store) (g.S.EawStore.view c.in-Err.pages.store)
+    (attach_left g.S.EawStore.tells (g.S.EawStore.opens (g.S.EawStore.view c.attach_in.result.store).shape) g.K.KeyIndex.index (pages_of (g.S.EawStore.view c.attach_in.result.store) c.attach_in.result) (pages_of (g.S.EawStore.view c.in-Err.pages.store) c.in-Err.pages) alive c.in-Err.fault c.in-Err.ensures.cause c.in-Err.ensures.looks) in
     record {
       begins = tt;
       cause = subst (λ (x : g.row.S.Denot × CoreFault). CoreCause g.S.EawStore.tells g.K.KeyIndex.index (g.S.EawStore.view x.0) x.1) (λ i. (c.attach_in.ensures.store i, sym c.from.ensures i)) cause;
@@ -28,6 +29,7 @@ begin_over-requires g c =
     let still = c.in-Ok.ensures.attached.looks.still refl in
     record {
       alive = still.dead ∙ c.in-Ok.ensures.attached.alive;
+      free = ap (λ (f : ℕ → Option (List (ℕ × ℕ))). f 0) c.in-Ok.ensures.attached.looks.ranges ∙ subst (λ (s : g.row.S.Denot). (g.S.EawStore.view s).ranges 0 ≡ None) (sym c.attach_in.ensures.store) (c.requires.idle 0);
       sound = λ told. subst (λ (s : State). g.K.KeyIndex.index.sound s.bytes) (sym (still.state told)) (c.in-Ok.ensures.attached.sound told);
       idle = c.in-Ok.ensures.attached.idle;
       unsaved = λ told t.

@@ -4,8 +4,8 @@ use Rattle.array_shape.specs.declared.shape.Shape.{Shape}
 use Rattle.mars_core.specs.Held.{core_of}
 use Rattle.mars_core.specs.Over.{IsOver}
 use Rattle.mars_shell.specs.Served.{Served}
-use Rattle.mars_shell.proofs.Serving.{untaken, untold, can_share, spared, served}
-use Rattle.mars_shell.proofs.records.serve_under.Goals as goal
+use Rattle.mars_shell.proofs.Serving.{untaken, untold, can_share, served}
+use Rattle.mars_shell.proofs.core_work.OnCoreRecordWork.work_over.Goals as goal
 
 pub work_on-worked-requires-clause-numbers : goal.work_on-worked-requires-clause-numbers
 work_on-worked-requires-clause-numbers g c = ap (λ (shape : Shape). shape.numbers) (c.shape-numbers.ensures ∙ sym c.in-Ok.ensures.begins.shape)
@@ -16,7 +16,7 @@ work_on-worked-requires-clause-ready g c =
     let store = c.in-Ok.core.records.store in
     let begins = c.in-Ok.ensures.begins in
     can_share s.tells s.opens g.I.KeyIndex.index (s.view c.args.store) (s.view store) _ begins 0 (omega arith)
-    (λ told image left. (g.met.S.EawStore g.world.𝓛 g.world.𝓜 g.world.𝓡 ((λ s x. x), (λ x. x), (λ x. x), λ x. x)).only_now store image told begins.alive left)
+    (λ told image left. g.met.S.EawStore.only_now store image told begins.alive left)
 
 pub returns-in-Ok-worked-clause-served : goal.returns-in-Ok-worked-clause-served
 returns-in-Ok-worked-clause-served g c =
@@ -27,7 +27,7 @@ returns-in-Ok-worked-clause-served g c =
     let over = subst (λ st. IsOver s.tells (s.opens (s.view st).shape) g.I.KeyIndex.index (s.view st) (core_of s.opens g.I.KeyIndex.index (s.view st) core)) c.into_store-store.ensures.store c.into_store-store.ensures.over in
     let works = c.work_on-worked.ensures.works in
     let ended = c.in-Ok-worked.ended in
-    let does = g.W.CoreWork.does c.args.work.now c.args.input.now ended works.cut works.text in
+    let does = g.W.CoreWork.does c.args.self.now.work c.args.input.now ended works.cut works.text in
     record {
       cut = works.cut;
       text = works.text;
@@ -35,12 +35,8 @@ returns-in-Ok-worked-clause-served g c =
       counts = works.counts;
       holds = λ told.
           let turns = rw c.in-Ok-worked.is at (works.holds told) in
-          subst (λ st. Served g.W.CoreWork.spares does s.opens g.I.KeyIndex.index (s.view c.args.store) ended (s.view st)) (sym c.into_store-store.ensures.store)
-          (served s.tells s.opens g.I.KeyIndex.index (s.view c.args.store) (s.view first) _ begins told (s.view core.records.store) _ over g.W.CoreWork.spares does ended turns
-          (λ is. spared s.tells s.opens g.I.KeyIndex.index (s.view c.args.store) (s.view first) _ begins (s.view core.records.store) told
-          (λ image left. (g.met.S.EawStore g.world.𝓛 g.world.𝓜 g.world.𝓡 ((λ s x. x), (λ x. x), (λ x. x), λ x. x)).only_now c.args.store image told c.requires.alive left)
-          (λ image left. (g.met.S.EawStore g.world.𝓛 g.world.𝓜 g.world.𝓡 ((λ s x. x), (λ x. x), (λ x. x), λ x. x)).counts_now first (s.view c.args.store).moment image told (begins.time told).later left)
-          (ap (λ (last : _). s.view last.records.store) (c.work_on-worked.ensures.spared is))));
+          subst (λ st. Served false does s.opens g.I.KeyIndex.index (s.view c.args.store) ended (s.view st)) (sym c.into_store-store.ensures.store)
+          (served s.tells s.opens g.I.KeyIndex.index (s.view c.args.store) (s.view first) _ begins told (s.view core.records.store) _ over does ended turns);
     }
 
 pub returns-in-Err-worked-clause-served : goal.returns-in-Err-worked-clause-served
