@@ -44,6 +44,7 @@ module _ {T : Type 0} (tells told : Bool) (old new : Sending) (before after : St
     added = [];
     adds = none_added told before.shape old new same;
     ends = none_ends told before.shape old new same;
+    one = omega arith;
     data_is = λ is up fine. same_data is fine;
   }
 
@@ -80,6 +81,7 @@ module _ {T : Type 0} (tells told : Bool) (old new : Sending) (before after : St
           goes_on = λ on. was.faults;
           ended = λ down. absurd (false≢true (sym was.went_on ∙ down));
         };
+        one = omega arith;
         data_is = λ is up fine. same_data is;
       })
       (λ not. record {
@@ -95,6 +97,7 @@ module _ {T : Type 0} (tells told : Bool) (old new : Sending) (before after : St
           goes_on = λ on. absurd (false≢true (sym on ∙ not.ended));
           ended = λ down. (not.ended, refl);
         };
+        one = omega arith;
         data_is = λ is up fine. absurd (false≢true (sym up ∙ not.ended));
       })
       sends

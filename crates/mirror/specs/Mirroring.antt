@@ -38,12 +38,13 @@ pub record EndsFor (added : List Frame) (old new : Sending) : Type 0 where
   pub goes_on : new.is_down ≡ false → new.faults ≡ old.faults
   pub ended : old.is_down ≡ true → (new.is_down ≡ true) × (added ≡ [])
 
--- What a command of a store that mirrors sends: frames, next in sequence. Unless the sending has ended or the medium failed, these frames,
--- applied in order to the data before, give the data after.
+-- What a command of a store that mirrors sends: at most one frame, next in sequence. Unless the sending has ended or the medium failed, it
+-- gives, applied to the data before, the data after.
 pub record Mirrors {T : Type 0} (tells told : Bool) (old new : Sending) (before after : StoreView) (result : Result T EawFault) : Type 0 where
   pub added : List Frame
   pub adds : Adds told before.shape added old new
   pub ends : EndsFor added old new
+  pub one : length added ≤ 1
   pub data_is : IsTrue tells → new.is_down ≡ false → (IsErrOf result Media → ⊥) → after.state.bytes ≡ followed added before.state.bytes
 
 -- these are the parts that number t has logged, and an empty log has room for them

@@ -1,13 +1,15 @@
 // Frames and their followers, over arrays in memory. No clause says that these calls succeed at all.
-ghost use Rattle.std.specs.Prelude.{◌≡◌, IfSome, false};
+ghost use Rattle.std.specs.Prelude.{◌≡◌, ◌+◌, ◌<◌, ◌≤◌, IfSome, IsTrue, false};
+ghost use Rattle.array_shape.specs.Places.{data_len};
 ghost use Rattle.eaw_face.specs.Causes.{IsAlive};
 ghost use Rattle.mirror.specs.Applying.{IsFree};
 ghost use Rattle.memory_eaw.specs.Shown.{shown};
 
 use crate::{
-    FollowFault, Follower, frames_are_cut_in_one_way, is_frame, streams_are_followed_in_one_way,
+    FollowFault, Follower, Link, MemoryLink, Primary, frames_are_cut_in_one_way, is_frame,
+    streams_are_followed_in_one_way,
 };
-use array_shape::Shape;
+use array_shape::{NumberSet, Shape};
 use eaw_face::EawStore;
 use memory_eaw::MemoryEaw;
 use std::alloc::Global;
@@ -109,5 +111,84 @@ fn a_fault_of_the_medium_is_told(rt: HostRuntime) -> Result<(), Fail> {
     assert_eq!(rt; follower.feed(&FIRST), Ok(1));
     assert_eq!(rt; follower.feed(&SECOND), Err(FollowFault::Media));
     assert_eq!(rt; follower.feed(&[]), Err(FollowFault::Dead));
+    Ok(())
+}
+
+type NearArray = Primary<MemoryEaw, MemoryLink>;
+
+// A primary over an array of zeros that keeps its frames in memory.
+fn primary(alloc: Global) -> Option<NearArray> {
+    Primary::attach(alloc, zeros(alloc, 8)?, MemoryLink::new(alloc)).ok()
+}
+
+// Whether a write of so many bytes is one of the array's.
+fn is_inside(primary: &NearArray, addr: u64, len: usize) -> bool
+    ensures some { IsTrue result → 0 < len }
+    ensures inside { IsTrue result → addr + len ≤ data_len (shown primary.now.store).shape }
+{
+    let size = primary.shape().data_len();
+    len > 0 && addr <= size && len as u64 <= size - addr
+}
+
+fn log(primary: &mut NearArray, tid: u8, addr: u64, bytes: &[u8]) -> Option<u32> {
+    if !is_inside(primary, addr, bytes.len()) {
+        return None;
+    }
+    primary.log_write(tid, addr, bytes).ok()
+}
+
+fn write(primary: &mut NearArray, tid: u8, addr: u64, bytes: &[u8]) -> Option<()> {
+    if !is_inside(primary, addr, bytes.len()) {
+        return None;
+    }
+    if tid >= primary.shape().numbers {
+        return None;
+    }
+    if primary.is_live(tid) {
+        return None;
+    }
+    primary.atomic_write(tid, addr, bytes).ok()
+}
+
+fn nest(primary: &mut NearArray, tid: u8, offset: u32) -> Option<()> {
+    if tid >= primary.shape().numbers {
+        return None;
+    }
+    if primary.log_len(tid) < offset {
+        return None;
+    }
+    primary.nested_top(tid, offset).ok()
+}
+
+#[test]
+fn commits_are_sent(rt: HostRuntime) -> Result<(), Fail> {
+    let mut primary = primary(rt.alloc()).ok_or("primary")?;
+    assert_eq!(rt; write(&mut primary, 0, 102_400, b"aa"), Some(()));
+    assert!(rt; primary.first_frame() == &FIRST[..]);
+    assert_eq!(rt; log(&mut primary, 6, 511, b"cd"), Some(2));
+    assert_eq!(rt; log(&mut primary, 1, 0, b"b"), Some(1));
+    assert_eq!(rt; log(&mut primary, 3, 0, b"gone"), Some(1));
+    assert_eq!(rt; primary.abort(3), Ok(()));
+    let numbers = NumberSet::empty().with(1).with(6);
+    assert_eq!(rt; primary.commit_group(numbers), Ok(()));
+    primary.drop_frame();
+    assert!(rt; primary.first_frame() == &SECOND[..]);
+    primary.drop_frame();
+    assert!(rt; primary.first_frame().is_empty());
+    assert!(rt; !primary.link_down());
+    Ok(())
+}
+
+#[test]
+fn a_follower_has_what_the_primary_has(rt: HostRuntime) -> Result<(), Fail> {
+    let mut primary = primary(rt.alloc()).ok_or("primary")?;
+    let mut follower = fresh(rt.alloc(), 8).ok_or("follower")?;
+    assert_eq!(rt; log(&mut primary, 2, 509, b"abcd"), Some(2));
+    assert_eq!(rt; nest(&mut primary, 2, 1), Some(()));
+    assert_eq!(rt; follower.feed(primary.first_frame()), Ok(1));
+    primary.drop_frame();
+    assert_eq!(rt; primary.commit(2), Ok(()));
+    assert_eq!(rt; follower.feed(primary.first_frame()), Ok(2));
+    assert_eq!(rt; bytes_at(follower, 509), Some(*b"abcd"));
     Ok(())
 }
