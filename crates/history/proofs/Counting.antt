@@ -2,9 +2,9 @@
 use Rattle.std.proofs.Common.{◌≡◌, ℕ, ◌+◌, ◌≤◌, Bool, true, false, cond, ◌&&◌, ◌||◌, List, [], ◌∷◌, ◌++◌, length, filter, take, drop, refl, sym, ap, ◌∙◌, arith, length-append, take-append-drop}
 use Rattle.std.specs.Prelude.{not, if◌then◌else◌}
 use Rattle.std.specs.List.{list_any}
-use Rattle.std.proofs.lemmas.Bool.{eqb-true}
 use Rattle.std.proofs.lemmas.List.Elements.{filter-append}
 use Rattle.history.specs.Writes.{Write, is_of, replaced, with_write}
+use Rattle.history.proofs.Keys.{same_keys}
 
 module _ (p : Write → Bool) where
   -- how many of the writes satisfy p
@@ -43,7 +43,7 @@ module _ (p : Write → Bool) where
         go true true is rest = let e = counted-next other (replaced write writes) in let f = counted-next other writes in omega (arith, e, f, rest)
         go true false is rest =
             let e = counted-next write writes in let f = counted-next other writes in
-            let same : one_if (p write) ≡ one_if (p other) = ap one_if (alike write other (sym (eqb-true other.0 write.0 is))) in
+            let same : one_if (p write) ≡ one_if (p other) = ap one_if (alike write other (sym (same_keys other.0 write.0 is))) in
             omega (arith, e, f, same)
         go false later is rest = let e = counted-next other (replaced write writes) in let f = counted-next other writes in omega (arith, e, f, rest)
 

@@ -1,5 +1,7 @@
 pub mod Modes
 pub mod OneMore
+pub mod Keys
+pub mod Keyed
 pub mod Tables
 pub mod Pending
 pub mod Saves

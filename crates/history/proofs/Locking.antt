@@ -1,6 +1,7 @@
 -- Strict locking: what a transaction replies and leaves depends only on what it touched, and it changes nothing else.
 use Rattle.std.proofs.Common.{◌≡◌, ℕ, zero, suc, ◌+◌, ◌-◌, Bool, true, false, cond, ◌&&◌, nat_eq, nat_lt, nat_le, List, [], ◌∷◌, ◌++◌, length, take, get_or, Option, Some, None, refl, sym, ap, subst, ◌∙◌, arith, lt-ltb, eq-eqb}
 use Rattle.std.proofs.lemmas.Bool.{or_left, or_right, false_from_ne_true, both_ways}
+use Rattle.history.specs.Key.{Key, main_name, of_main}
 use Rattle.history.specs.Writes.{Table, set_or_remove, rows_within}
 use Rattle.history.specs.Table.{Granted, Work, begun, found, removed, has_save, Answers, after, worked, IsRightFrom, IsRight, left_by}
 use Rattle.history.specs.declared.locks.Mode.TheVariants.{Shared, Exclusive}
@@ -47,27 +48,27 @@ module _ (P : Table → Table → Type 0) where
   pairs-get (suc n) (x ∷ xs) (y ∷ ys) a b pairs pair = pairs-get n xs ys a b pairs.1 pair
 
 -- The two tables agree at the keys, and the second is like the start at every key that is not written.
-record IsLike (keys written : ℕ → Bool) (start one other : Table) : Type 0 where
+record IsLike (keys written : Key → Bool) (start one other : Table) : Type 0 where
   same : Agree keys one other
   off : AgreeOff written other start
 
 -- so are the tables of two transactions and their saves, pair by pair
-record IsAlike (keys written : ℕ → Bool) (start : Table) (one other : Work) : Type 0 where
+record IsAlike (keys written : Key → Bool) (start : Table) (one other : Work) : Type 0 where
   tables : IsLike keys written start one.table other.table
   saves : Pairwise (IsLike keys written start) one.saves other.saves
 
 -- every key that the call touches is among the keys, and every key that it touches for writing among those written
-record Within (keys written : ℕ → Bool) (call : Call) : Type 0 where
-  reads : (key : ℕ) → touches call (key_stripe key) Shared ≡ true → keys key ≡ true
-  writes : (key : ℕ) → touches call (key_stripe key) Exclusive ≡ true → (keys key ≡ true) × (written key ≡ true)
+record Within (keys written : Key → Bool) (call : Call) : Type 0 where
+  reads : (key : Key) → touches call (key_stripe key) Shared ≡ true → keys key ≡ true
+  writes : (key : Key) → touches call (key_stripe key) Exclusive ≡ true → (keys key ≡ true) × (written key ≡ true)
 
 -- every key that the calls touch is so
-record AllWithin (keys written : ℕ → Bool) (calls : Granted) : Type 0 where
-  reads : (key : ℕ) → touched calls (key_stripe key) Shared ≡ true → keys key ≡ true
-  writes : (key : ℕ) → touched calls (key_stripe key) Exclusive ≡ true → (keys key ≡ true) × (written key ≡ true)
+record AllWithin (keys written : Key → Bool) (calls : Granted) : Type 0 where
+  reads : (key : Key) → touched calls (key_stripe key) Shared ≡ true → keys key ≡ true
+  writes : (key : Key) → touched calls (key_stripe key) Exclusive ≡ true → (keys key ≡ true) × (written key ≡ true)
 
-module _ (keys written : ℕ → Bool) (start : Table) where
-  like-set : (one other : Table) (k : ℕ) (v : Option (List ℕ)) → written k ≡ true → IsLike keys written start one other → IsLike keys written start (set_or_remove one k v) (set_or_remove other k v)
+module _ (keys written : Key → Bool) (start : Table) where
+  like-set : (one other : Table) (k : Key) (v : Option (List ℕ)) → written k ≡ true → IsLike keys written start one other → IsLike keys written start (set_or_remove one k v) (set_or_remove other k v)
   like-set one other k v within like = record { same = agree-set keys one other k v like.same; off = off-set written other start k v within like.off }
 
   alike-back : (n : ℕ) (one other : Work) (b : Bool) → IsAlike keys written start one other
@@ -85,17 +86,17 @@ module _ (keys written : ℕ → Bool) (start : Table) where
   same_saves : (n : ℕ) (one other : Work) → IsAlike keys written start one other → has_save one.saves n ≡ has_save other.saves n
   same_saves n one other alike = ap (λ (height : ℕ). nat_lt 0 n && nat_le n height) (same_height one other alike)
 
-  own_key : (k : ℕ) → nat_eq (key_stripe k) (key_stripe k) ≡ true
+  own_key : (k : Key) → nat_eq (key_stripe k) (key_stripe k) ≡ true
   own_key k = eq-eqb (key_stripe k) (key_stripe k) refl
 
-  any_key : (k : ℕ) → nat_lt (key_stripe k) 64 ≡ true
+  any_key : (k : Key) → nat_lt (key_stripe k) 64 ≡ true
   any_key k = lt-ltb (key_stripe k) 64 (omega arith)
 
   after-alike : (call : Call) (one other : Work) → Within keys written call → IsAlike keys written start one other → IsAlike keys written start (after one call) (after other call)
   after-alike Begin one other within alike = alike
   after-alike (Get k) one other within alike = alike
-  after-alike (Put k v) one other within alike = record { tables = like-set one.table other.table k (Some v) (within.writes k (own_key k)).1 alike.tables; saves = alike.saves }
-  after-alike (Del k) one other within alike = record { tables = like-set one.table other.table k None (within.writes k (own_key k)).1 alike.tables; saves = alike.saves }
+  after-alike (Put k v) one other within alike = record { tables = like-set one.table other.table (of_main k) (Some v) (within.writes (of_main k) (own_key (of_main k))).1 alike.tables; saves = alike.saves }
+  after-alike (Del k) one other within alike = record { tables = like-set one.table other.table (of_main k) None (within.writes (of_main k) (own_key (of_main k))).1 alike.tables; saves = alike.saves }
   after-alike (Scan low high) one other within alike = alike
   after-alike Save one other within alike = record { tables = alike.tables; saves = pairs-push (IsLike keys written start) one.saves other.saves one.table other.table alike.saves alike.tables }
   after-alike (Back n) one other within alike =
@@ -106,11 +107,11 @@ module _ (keys written : ℕ → Bool) (start : Table) where
 
   answers-alike : (call : Call) (reply : Reply) (one other : Work) → Within keys written call → IsAlike keys written start one other → Answers one call reply → Answers other call reply
   answers-alike Begin reply one other within alike answers = answers
-  answers-alike (Get k) reply one other within alike answers = answers ∙ ap found (alike.tables.same k (within.reads k (own_key k)))
+  answers-alike (Get k) reply one other within alike answers = answers ∙ ap found (alike.tables.same (of_main k) (within.reads (of_main k) (own_key (of_main k))))
   answers-alike (Put k v) reply one other within alike answers = answers
-  answers-alike (Del k) reply one other within alike answers = answers ∙ ap removed (alike.tables.same k (within.writes k (own_key k)).0)
+  answers-alike (Del k) reply one other within alike answers = answers ∙ ap removed (alike.tables.same (of_main k) (within.writes (of_main k) (own_key (of_main k))).0)
   answers-alike (Scan low high) reply one other within alike answers =
-      answers ∙ ap (λ (table : Table). Listed (rows_within low high table)) (agree_all keys one.table other.table (λ k. within.reads k (any_key k)) alike.tables.same)
+      answers ∙ ap (λ (table : Table). Listed (rows_within main_name low high table)) (agree_all keys one.table other.table (λ k. within.reads k (any_key k)) alike.tables.same)
   answers-alike Save reply one other within alike answers = answers ∙ ap (λ (height : ℕ). Saved (height + 1)) (same_height one other alike)
   answers-alike (Back n) reply one other within alike answers = (sym (same_saves n one other alike) ∙ answers.0, answers.1)
   answers-alike Commit reply one other within alike answers = answers
@@ -140,7 +141,7 @@ module _ (keys written : ℕ → Bool) (start : Table) where
     right-alike calls (after one entry.0) (after other entry.0) (tail_within entry calls within) (after-alike entry.0 one other (head_within entry calls within) alike) right.1,
   )
 
-begun-alike : (keys written : ℕ → Bool) (one other : Table) → Agree keys one other → IsAlike keys written other (begun one) (begun other)
+begun-alike : (keys written : Key → Bool) (one other : Table) → Agree keys one other → IsAlike keys written other (begun one) (begun other)
 begun-alike keys written one other agree = record { tables = record { same = agree; off = λ key out. refl }; saves = tt }
 
 all_within : (calls : Granted) → AllWithin (has_touched calls) (has_written calls) calls

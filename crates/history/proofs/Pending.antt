@@ -3,14 +3,16 @@ use Rattle.std.proofs.Common.{◌≡◌, ℕ, ◌-◌, ◌<◌, ◌≤◌, Bool,
 use Rattle.std.specs.Prelude.{not, slice_index_or, if◌then◌else◌}
 use Rattle.std.specs.List.{fold, list_any}
 use Rattle.std.specs.FinMap.{get, remove}
-use Rattle.std.proofs.lemmas.Bool.{cases_eq, and_parts, or_parts, true≢false, eq-eqb, eqb-true, ltb-true, leb-true, not-true}
+use Rattle.std.proofs.lemmas.Bool.{and_parts, or_parts, true≢false, ltb-true, leb-true, not-true}
 use Rattle.std.proofs.lemmas.List.{length-map, take-map, get_or-map}
+use Rattle.history.specs.Key.{Key, of_main}
 use Rattle.history.specs.Writes.{Table, Write, write_into, all_written, is_of, replaced, with_write}
 use Rattle.history.specs.Table.{Granted, Work, begun, removed, has_save, Answers, after, worked, IsRightFrom, IsRight, left_by}
 use Rattle.history.specs.Log.{Log, save_at, floor_of, written, log_after, log_of}
 use Rattle.history.specs.declared.call.Call.{Call}
 use Rattle.history.specs.declared.call.Call.TheVariants.{Begin, Get, Put, Del, Scan, Save, Back, Commit, Abort}
 use Rattle.history.specs.declared.call.Reply.{Reply}
+use Rattle.history.proofs.Keys.{cases_key, same_key, same_keys}
 use Rattle.history.proofs.Tables.{get-set_here, get-set_there, same_table, remove_absent}
 
 pub all_written-append : (table : Table) (writes more : List Write) → all_written table (writes ++ more) ≡ all_written (all_written table writes) more
@@ -18,25 +20,25 @@ all_written-append table [] more = refl
 all_written-append table (write ∷ writes) more = all_written-append (write_into table write) writes more
 
 -- if two tables agree at a key, they agree there after the same writes
-pub get-written_same : (key : ℕ) (writes : List Write) (one other : Table) → get one key ≡ get other key → get (all_written one writes) key ≡ get (all_written other writes) key
+pub get-written_same : (key : Key) (writes : List Write) (one other : Table) → get one key ≡ get other key → get (all_written one writes) key ≡ get (all_written other writes) key
 get-written_same key [] one other same = same
-get-written_same key (write ∷ writes) one other same = get-written_same key writes (write_into one write) (write_into other write) (elim (cases_eq key write.0) [
+get-written_same key (write ∷ writes) one other same = get-written_same key writes (write_into one write) (write_into other write) (elim (cases_key key write.0) [
   | inl is ↦ ap (get (write_into one write)) is ∙ get-set_here one write.0 write.1 ∙ sym (ap (get (write_into other write)) is ∙ get-set_here other write.0 write.1)
   | inr ne ↦ get-set_there one write.0 write.1 key ne ∙ same ∙ sym (get-set_there other write.0 write.1 key ne)
 ])
 
 -- writes of other keys change nothing at a key
-pub get-written_apart : (key : ℕ) (writes : List Write) (table : Table) → list_any (is_of key) writes ≡ false → get (all_written table writes) key ≡ get table key
+pub get-written_apart : (key : Key) (writes : List Write) (table : Table) → list_any (is_of key) writes ≡ false → get (all_written table writes) key ≡ get table key
 get-written_apart key [] table none = refl
 get-written_apart key (write ∷ writes) table none =
     let parts = or_parts (is_of key write) (list_any (is_of key) writes) none in
     get-written_apart key writes (write_into table write) parts.1
-    ∙ get-set_there table write.0 write.1 key (λ is. true≢false (sym (eq-eqb write.0 key (sym is)) ∙ parts.0))
+    ∙ get-set_there table write.0 write.1 key (λ is. true≢false (sym (same_key write.0 key (sym is)) ∙ parts.0))
 
 -- To replace the last write of a key comes to writing after all of them.
 in_place : (write other : Write) (writes : List Write) (table : Table) → other.0 ≡ write.0 → list_any (is_of write.0) writes ≡ false
     → all_written table (write ∷ writes) ≡ write_into (all_written table (other ∷ writes)) write
-in_place write other writes table is none = same_table (all_written table (write ∷ writes)) (write_into (all_written table (other ∷ writes)) write) (λ q. elim (cases_eq q write.0) [
+in_place write other writes table is none = same_table (all_written table (write ∷ writes)) (write_into (all_written table (other ∷ writes)) write) (λ q. elim (cases_key q write.0) [
   | inl here ↦ ap (get (all_written table (write ∷ writes))) here ∙ get-written_apart write.0 writes (write_into table write) none ∙ get-set_here table write.0 write.1
       ∙ sym (ap (get (write_into (all_written table (other ∷ writes)) write)) here ∙ get-set_here (all_written table (other ∷ writes)) write.0 write.1)
   | inr there ↦ get-written_same q writes (write_into table write) (write_into table other)
@@ -49,7 +51,7 @@ replaced_next : (write other : Write) (writes : List Write) (table : Table) (b :
     → all_written table (if b then write ∷ writes else other ∷ replaced write writes) ≡ write_into (all_written table (other ∷ writes)) write
 replaced_next write other writes table true is rest =
     let parts = and_parts (is_of write.0 other) (not (list_any (is_of write.0) writes)) is in
-    in_place write other writes table (eqb-true other.0 write.0 parts.0) (not-true (list_any (is_of write.0) writes) parts.1)
+    in_place write other writes table (same_keys other.0 write.0 parts.0) (not-true (list_any (is_of write.0) writes) parts.1)
 replaced_next write other writes table false is rest = rest
 
 pub replaced_written : (write : Write) (writes : List Write) (table : Table) → all_written table (replaced write writes) ≡ write_into (all_written table writes) write
@@ -106,21 +108,21 @@ module _ (base : Table) where
         saves = ap (take n) shown.saves ∙ take-map (all_written base) n log.saved;
       }
 
-  shown-del : (log : Log) (work : Work) (key : ℕ) (reply : Reply) (found : Option (List ℕ)) → get work.table key ≡ found → reply ≡ removed found → IsShown base log work
-      → IsShown base (log_after log (Del key) reply) (record { table = remove work.table key; saves = work.saves })
+  shown-del : (log : Log) (work : Work) (key : ℕ) (reply : Reply) (found : Option (List ℕ)) → get work.table (of_main key) ≡ found → reply ≡ removed found → IsShown base log work
+      → IsShown base (log_after log (Del key) reply) (record { table = remove work.table (of_main key); saves = work.saves })
   shown-del log work key reply None none re shown =
-      subst (λ r. IsShown base (log_after log (Del key) r) (record { table = remove work.table key; saves = work.saves })) (sym re)
-      (subst (λ t. IsShown base log (record { table = t; saves = work.saves })) (sym (remove_absent work.table key none)) shown)
+      subst (λ r. IsShown base (log_after log (Del key) r) (record { table = remove work.table (of_main key); saves = work.saves })) (sym re)
+      (subst (λ t. IsShown base log (record { table = t; saves = work.saves })) (sym (remove_absent work.table (of_main key) none)) shown)
   shown-del log work key reply (Some value) some re shown =
-      subst (λ r. IsShown base (log_after log (Del key) r) (record { table = remove work.table key; saves = work.saves })) (sym re)
-      (shown-written log work (key, None) shown)
+      subst (λ r. IsShown base (log_after log (Del key) r) (record { table = remove work.table (of_main key); saves = work.saves })) (sym re)
+      (shown-written log work (of_main key, None) shown)
 
   -- what is shown stays shown after a call that gets the right reply
   pub shown-after : (log : Log) (work : Work) (call : Call) (reply : Reply) → Answers work call reply → IsShown base log work → IsShown base (log_after log call reply) (after work call)
   shown-after log work Begin reply answers shown = shown
   shown-after log work (Get key) reply answers shown = shown
-  shown-after log work (Put key value) reply answers shown = shown-written log work (key, Some value) shown
-  shown-after log work (Del key) reply answers shown = shown-del log work key reply (get work.table key) refl answers shown
+  shown-after log work (Put key value) reply answers shown = shown-written log work (of_main key, Some value) shown
+  shown-after log work (Del key) reply answers shown = shown-del log work key reply (get work.table (of_main key)) refl answers shown
   shown-after log work (Scan low high) reply answers shown = shown
   shown-after log work Save reply answers shown = shown-save log work shown
   shown-after log work (Back n) reply answers shown =

@@ -4,6 +4,7 @@ use Rattle.std.specs.Prelude.{if◌then◌else◌}
 use Rattle.std.specs.List.{fold}
 use Rattle.std.proofs.lemmas.Bool.{and_parts, ltb-true, leb-true}
 use Rattle.std.proofs.lemmas.List.{length-take-le, take-append-le, take_all}
+use Rattle.history.specs.Key.{of_main}
 use Rattle.history.specs.Writes.{Write, replaced, with_write}
 use Rattle.history.specs.Table.{Granted, has_save}
 use Rattle.history.specs.Log.{Log, save_at, floor_of, written, log_after, log_of}
@@ -109,8 +110,8 @@ rising-back log n is rising =
 rising-after : (log : Log) (call : Call) (reply : Reply) → IsRising log → IsRising (log_after log call reply)
 rising-after log Begin reply rising = rising
 rising-after log (Get key) reply rising = rising
-rising-after log (Put key value) reply rising = rising-written log (key, Some value) rising
-rising-after log (Del key) Fine rising = rising-written log (key, None) rising
+rising-after log (Put key value) reply rising = rising-written log (of_main key, Some value) rising
+rising-after log (Del key) Fine rising = rising-written log (of_main key, None) rising
 rising-after log (Del key) _ rising = rising
 rising-after log (Scan low high) reply rising = rising
 rising-after log Save reply rising = rises-push [] log.saved log.writes rising

@@ -1,19 +1,30 @@
--- The key of a record in a table.
-use Rattle.std.specs.Prelude.{ℕ, Bool, nat_eq, nat_le, ◌&&◌}
+-- The key of a record in an array: the name of its table, and a number.
+use Rattle.std.specs.Prelude.{ℕ, Bool, nat_eq, ◌&&◌, List, codes}
+use lib.Pointwise.{pointwise}
 use Rattle.std.specs.declared.cmp.Ordering.{Ordering}
-use Rattle.std.specs.Ordering.{nat_cmp}
+use Rattle.std.specs.Ordering.{nat_cmp, ordering_then}
+use Rattle.std.specs.Cmp.Lexicographic.{slice_cmp}
 
-abbrev pub Key : Type 0
-Key = ℕ
+pub record Key : Type 0 where
+  pub table : List ℕ
+  pub key : ℕ
 
--- the order of keys
-abbrev pub key_cmp : Key → Key → Ordering
-key_cmp = nat_cmp
+-- the name of the table that all calls are of
+abbrev pub main_name : List ℕ
+main_name = codes "main"
+
+-- the key of this number of that table
+abbrev pub of_main : ℕ → Key
+of_main key = record { table = main_name; key = key }
+
+-- the order of keys: by the names of their tables, and within a table by number
+unfoldable pub key_cmp : Key → Key → Ordering
+key_cmp one other = ordering_then (slice_cmp nat_cmp one.table other.table) (nat_cmp one.key other.key)
 
 -- two keys are the same
 abbrev pub is_same_key : Key → Key → Bool
-is_same_key = nat_eq
+is_same_key one other = pointwise nat_eq one.table other.table && nat_eq one.key other.key
 
--- a key is from one to another, both included
-abbrev pub is_key_within : Key → Key → Key → Bool
-is_key_within low high key = nat_le low key && nat_le key high
+-- a key is one of the table of this name
+abbrev pub is_of_table : List ℕ → Key → Bool
+is_of_table name key = pointwise nat_eq name key.table

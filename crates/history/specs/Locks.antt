@@ -2,7 +2,7 @@
 use Rattle.std.specs.Prelude.{ℕ, ◌≡◌, ◌+◌, ◌*◌, ◌%◌, Bool, true, false, ◌&&◌, ◌||◌, nat_eq, nat_lt, IsTrue, IsFalse}
 use Rattle.std.specs.List.{list_any}
 use Rattle.std.specs.FinMap.{get}
-use Rattle.history.specs.Key.{Key}
+use Rattle.history.specs.Key.{Key, of_main}
 use Rattle.history.specs.Writes.{Table}
 use Rattle.history.specs.Table.{Granted}
 use Rattle.history.specs.declared.call.Call.{Call}
@@ -11,13 +11,13 @@ use Rattle.history.specs.declared.call.Reply.{Reply}
 use Rattle.history.specs.declared.locks.Mode.{Mode}
 use Rattle.history.specs.declared.locks.Mode.TheVariants.{Shared, Exclusive}
 
--- the stripe of a key of a table, one of 64
-abbrev pub stripe_of : ℕ → Key → ℕ
+-- the stripe of a number of the table with this number, one of 64
+abbrev pub stripe_of : ℕ → ℕ → ℕ
 stripe_of table key = (key % 64 + 8 * table) % 64
 
--- all keys are of table 0
+-- all calls are of table 0
 abbrev pub key_stripe : Key → ℕ
-key_stripe key = stripe_of 0 key
+key_stripe key = stripe_of 0 key.key
 
 -- in which modes a stripe is touched
 abbrev pub Touch : Type 0
@@ -26,10 +26,10 @@ Touch = Mode → Bool
 -- How a call touches a stripe: a get the stripe of its key and a scan all stripes for reading, a put and a removal the stripe of their key
 -- for writing. Other calls touch none.
 abbrev pub touches : Call → ℕ → Touch
-touches (Get key) stripe Shared = nat_eq (key_stripe key) stripe
+touches (Get key) stripe Shared = nat_eq (key_stripe (of_main key)) stripe
 touches (Scan low high) stripe Shared = nat_lt stripe 64
-touches (Put key value) stripe Exclusive = nat_eq (key_stripe key) stripe
-touches (Del key) stripe Exclusive = nat_eq (key_stripe key) stripe
+touches (Put key value) stripe Exclusive = nat_eq (key_stripe (of_main key)) stripe
+touches (Del key) stripe Exclusive = nat_eq (key_stripe (of_main key)) stripe
 touches call stripe mode = false
 
 -- how granted calls touched it, also those that a way back undid

@@ -1,4 +1,4 @@
--- What a table in memory stands for during a replay.
+-- What a table in memory stands for during a replay: it has the records of the table `main`, which all calls are of.
 use Rattle.std.specs.Prelude.{ℕ, List, map}
 use Rattle.std.specs.BTreeMap.{BTreeMap}
 use Rattle.history.specs.Writes.{Table}

@@ -1,18 +1,25 @@
--- Lists of records: when two are equal, and the table of one.
-use Rattle.std.specs.Prelude.{Bool, ◌&&◌, nat_eq, List}
+-- Lists of rows: when two are equal, and the table of one.
+use Rattle.std.specs.Prelude.{Bool, ◌&&◌, nat_eq, ℕ, List, map}
 use lib.Pointwise.{pointwise}
 use Rattle.std.specs.FinMap.{from_entries}
-use Rattle.history.specs.Key.{is_same_key}
+use Rattle.history.specs.Key.{Key, main_name}
 use Rattle.history.specs.Writes.{Table, Row}
 
--- two records have the same key and value
+-- two rows have the same number and value
 abbrev pub is_same_row : Row → Row → Bool
-is_same_row one other = is_same_key one.0 other.0 && pointwise nat_eq one.1 other.1
+is_same_row one other = nat_eq one.0 other.0 && pointwise nat_eq one.1 other.1
 
 -- two lists are equal record by record
 abbrev pub are_same_rows : List Row → List Row → Bool
 are_same_rows one other = pointwise is_same_row one other
 
--- the table with these records; if a key stands twice, the first record counts
+-- a row as a record of the table of this name, and so each of some rows
+abbrev pub keyed : List ℕ → Row → Key × List ℕ
+keyed name row = (record { table = name; key = row.0 }, row.1)
+
+abbrev pub all_keyed : List ℕ → List Row → List (Key × List ℕ)
+all_keyed name rows = map (keyed name) rows
+
+-- the table with these records, all of the table `main`; if a number stands twice, the first row counts
 abbrev pub table_of : List Row → Table
-table_of rows = from_entries rows
+table_of rows = from_entries (all_keyed main_name rows)

@@ -1,16 +1,16 @@
 -- Tables of records, and writes to them.
-use Rattle.std.specs.Prelude.{ℕ, ◌&&◌, not, if◌then◌else◌, Bool, List, [], ◌∷◌, ◌++◌, filter, take, drop, Option, Some, None}
+use Rattle.std.specs.Prelude.{ℕ, nat_le, ◌&&◌, not, if◌then◌else◌, Bool, List, [], ◌∷◌, ◌++◌, map, filter, take, drop, Option, Some, None}
 use Rattle.std.specs.List.{list_any}
 use Rattle.std.specs.FinMap.{FinMap, insert, remove, entries}
-use Rattle.history.specs.Key.{Key, key_cmp, is_same_key, is_key_within}
+use Rattle.history.specs.Key.{Key, key_cmp, is_same_key, is_of_table}
 
 -- a value for each of some keys
 abbrev pub Table : Type 0
 Table = FinMap key_cmp (List ℕ)
 
--- a key and its value
+-- a record of some table: the number of its key, and its value
 abbrev pub Row : Type 0
-Row = Key × List ℕ
+Row = ℕ × List ℕ
 
 -- a key and its new value, or none if its record is removed
 abbrev pub Write : Type 0
@@ -42,9 +42,13 @@ replaced write (other ∷ writes) =
 abbrev pub with_write : ℕ → Write → List Write → List Write
 with_write floor write writes = take floor writes ++ replaced write (drop floor writes)
 
-abbrev pub is_within : Key → Key → Row → Bool
-is_within low high row = is_key_within low high row.0
+-- the records of the table of this name, by rising number
+abbrev pub rows_of : List ℕ → Table → List Row
+rows_of name table = map (λ (entry : Key × List ℕ). (entry.0.key, entry.1)) (filter (λ (entry : Key × List ℕ). is_of_table name entry.0) (entries table))
 
--- the records from one key to another, both included, by rising key
-abbrev pub rows_within : Key → Key → Table → List Row
-rows_within low high table = filter (is_within low high) (entries table)
+abbrev pub is_within : ℕ → ℕ → Row → Bool
+is_within low high row = nat_le low row.0 && nat_le row.0 high
+
+-- those from one number to another, both included
+abbrev pub rows_within : List ℕ → ℕ → ℕ → Table → List Row
+rows_within name low high table = filter (is_within low high) (rows_of name table)

@@ -1,12 +1,13 @@
 // Replays a history on a table in memory.
 ghost use Rattle.std.specs.Prelude.{◌≡◌, ◌↔◌, ◌+◌, length, IsTrue, IfOk, OnOk};
 ghost use Rattle.std.specs.FinMap.{get, entries, insert, remove};
+ghost use Rattle.history.specs.Key.{main_name, of_main};
 ghost use Rattle.history.specs.Writes.{rows_within};
 ghost use Rattle.history.specs.Table.{Answers, after, begun, worked, IsRight, left_by, found, removed, has_save};
 ghost use Rattle.history.specs.Legal.{records, IsLegal};
 ghost use Rattle.history.specs.declared.call.Call.TheVariants.{Save, Back};
 ghost use Rattle.history.specs.declared.call.Reply.TheVariants.{Fine, Found, Absent, Listed, Saved};
-ghost use Rattle.history.specs.Rows.{table_of};
+ghost use Rattle.history.specs.Rows.{all_keyed, table_of};
 ghost use Rattle.history.specs.Replay.{table_in, work_in};
 
 use crate::{Call, Calls, Done, History, Reply, Rows};
@@ -22,9 +23,10 @@ struct Replay {
     saves: Vec<BTreeMap<u64, Value>>,
 }
 
-/// The records after a history, by rising key. If a key stands twice in `base`, the first record counts.
+/// The records after a history, by rising key. They and those of `base` are all of the table `main`; if a key stands twice in `base`, the first
+/// record counts.
 pub fn play(history: &History, base: &Rows, alloc: Global) -> Result<Rows, NoMemory>
-    ensures { IfOk result (λ rows. rows ≡ entries (records (table_of base.now) history.now)) }
+    ensures { IfOk result (λ rows. all_keyed main_name rows ≡ entries (records (table_of base.now) history.now)) }
 {
     let mut replay = Replay::new(base, alloc)?;
     for done in history.as_slice() {
@@ -104,7 +106,7 @@ impl Replay {
     }
 
     fn finds(&self, key: u64, reply: &Reply) -> bool
-        ensures { IsTrue result ↔ (reply.now ≡ found (get (work_in self.now).table key)) }
+        ensures { IsTrue result ↔ (reply.now ≡ found (get (work_in self.now).table (of_main key))) }
     {
         match self.table.get(&key) {
             None => is_absent(reply),
@@ -113,7 +115,7 @@ impl Replay {
     }
 
     fn removes(&self, key: u64, reply: &Reply) -> bool
-        ensures { IsTrue result ↔ (reply.now ≡ removed (get (work_in self.now).table key)) }
+        ensures { IsTrue result ↔ (reply.now ≡ removed (get (work_in self.now).table (of_main key))) }
     {
         match self.table.get(&key) {
             None => is_absent(reply),
@@ -122,7 +124,7 @@ impl Replay {
     }
 
     fn lists(&self, low: u64, high: u64, reply: &Reply, alloc: Global) -> Result<bool, NoMemory>
-        ensures { IfOk result (λ right. IsTrue right ↔ (reply.now ≡ Listed (rows_within low high (work_in self.now).table))) }
+        ensures { IfOk result (λ right. IsTrue right ↔ (reply.now ≡ Listed (rows_within main_name low high (work_in self.now).table))) }
     {
         let Reply::Listed(told) = reply else {
             return Ok(false);
@@ -132,7 +134,7 @@ impl Replay {
     }
 
     fn rows_within(&self, low: u64, high: u64, alloc: Global) -> Result<Rows, NoMemory>
-        ensures { IfOk result (λ rows. rows ≡ rows_within low high (work_in self.now).table) }
+        ensures { IfOk result (λ rows. rows ≡ rows_within main_name low high (work_in self.now).table) }
     {
         let mut rows = Rows::new(alloc);
         for (key, value) in self.table.iter() {
@@ -182,14 +184,14 @@ impl Replay {
     }
 
     fn put(&mut self, key: u64, value: Value) -> Result<(), NoMemory>
-        ensures { OnOk result (work_in self.new ≡ record { table = insert (work_in self.old).table key value; saves = (work_in self.old).saves }) }
+        ensures { OnOk result (work_in self.new ≡ record { table = insert (work_in self.old).table (of_main key) value; saves = (work_in self.old).saves }) }
     {
         self.table.insert(key, value)?;
         Ok(())
     }
 
     fn del(&mut self, key: u64)
-        ensures { work_in self.new ≡ record { table = remove (work_in self.old).table key; saves = (work_in self.old).saves } }
+        ensures { work_in self.new ≡ record { table = remove (work_in self.old).table (of_main key); saves = (work_in self.old).saves } }
     {
         self.table.remove(&key);
     }
@@ -214,7 +216,7 @@ impl Replay {
     }
 
     fn rows(&self, alloc: Global) -> Result<Rows, NoMemory>
-        ensures { IfOk result (λ rows. rows ≡ entries (work_in self.now).table) }
+        ensures { IfOk result (λ rows. all_keyed main_name rows ≡ entries (work_in self.now).table) }
     {
         let mut rows = Rows::new(alloc);
         for (key, value) in self.table.iter() {
