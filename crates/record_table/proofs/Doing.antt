@@ -10,6 +10,7 @@ use Rattle.eaw_face.specs.Causes.{IsAlive}
 use Rattle.mars_base.specs.Room.{IsFirstFull}
 use Rattle.history.specs.Log.{Log, is_rewritten}
 use Rattle.history.specs.Table as history
+use Rattle.history.specs.Key.{Key, of_main}
 use Rattle.history.specs.declared.call.Call.{Call}
 use Rattle.history.specs.declared.call.Call.TheVariants.{Get, Put, Del, Scan}
 use Rattle.history.specs.declared.call.Reply.{Reply}
@@ -124,7 +125,7 @@ module _ (tells : Bool) (Opens : List ℕ → List ℕ → Type 0) (index : Inde
   holds_dead dead alive = absurd (false≢true (sym alive ∙ dead))
 
   -- a write, after only the index has changed
-  pub does_wrote : (reply : Reply) (mid : PagesView) (key slot : ℕ) (value : Option (List ℕ)) → Moved tells Opens index t old mid → Wrote tells Opens index t key value slot mid new
+  pub does_wrote : (reply : Reply) (mid : PagesView) (key : Key) (slot : ℕ) (value : Option (List ℕ)) → Moved tells Opens index t old mid → Wrote tells Opens index t key value slot mid new
       → (let r : Result Reply TableFault = Ok reply in Cause tells index table t c old r) → (IsTrue tells → Replies (state_of index old) t c reply) → (IsTrue tells → after t c reply (state_of index old) ≡ written (state_of index old) t key value)
       → (IsTrue tells → (let r : Result Reply TableFault = Ok reply in Indexed table c (keys_of index old.store.state.bytes) (keys_of index mid.store.state.bytes) r))
       → (IsTrue tells → IsQuiet index old t c → mid.store.state.bytes ≡ old.store.state.bytes) → length (old.counts t) ≡ saves_after c (length (old.counts t)) → Does tells Opens index table t c old new (Ok reply)
@@ -149,7 +150,7 @@ module _ (tells : Bool) (Opens : List ℕ → List ℕ → Type 0) (index : Inde
     held_behind : (g : ℕ) → held_on mid t g ≡ held_on old t g
     held_behind g = λ i. count_on (moved.shape i) g (moved.ranges t i)
 
-    pub room_behind : IsTrue tells → (key slot : ℕ) → HasRoom index t mid key slot → HasRoom index t old key slot
+    pub room_behind : IsTrue tells → (key : Key) (slot : ℕ) → HasRoom index t mid key slot → HasRoom index t old key slot
     room_behind told key slot room anew g lt =
         subst (λ (s : Shape). held_on old t g + needed_on s slot g ≤ s.entries) moved.shape
         (subst (λ (n : ℕ). n + needed_on mid.store.shape slot g ≤ mid.store.shape.entries) (held_behind g)
@@ -161,7 +162,7 @@ module _ (tells : Bool) (Opens : List ℕ → List ℕ → Type 0) (index : Inde
         subst (λ (s : Shape). IsFirstFull s.loggers s.entries (held_on old t) (needed s) g h n) moved.shape
         (subst (λ (held : ℕ → ℕ). IsFirstFull mid.store.shape.loggers mid.store.shape.entries held (needed mid.store.shape) g h n) (λ i k. held_behind k i) full)
 
-    pub full_behind : IsTrue tells → (key slot g h n : ℕ) → IsFull index t mid key slot g h n → IsFull index t old key slot g h n
+    pub full_behind : IsTrue tells → (key : Key) (slot g h n : ℕ) → IsFull index t mid key slot g h n → IsFull index t old key slot g h n
     full_behind told key slot g h n full = (sym (ap (λ (s : TableState). is_rewritten (s.logs t) key) (moved.state told)) ∙ full.0, first_behind (λ shape k. needed_on shape slot k) g h n full.1)
 
     pub short_behind : (g h n : ℕ) → IsShort mid t g h n → IsShort old t g h n
@@ -173,7 +174,7 @@ HasPages (PagesFull n) = ⊥
 HasPages _ = Unit {0}
 
 -- a refusal that leaves the index as it was
-inserted_same : (T : Type 0) (table key : ℕ) (old new : Keys) (f : TableFault) → HasPages f → new ≡ old → (let r : Result T TableFault = Err f in answers.Inserted table key old new r)
+inserted_same : (T : Type 0) (table : ℕ) (key : Key) (old new : Keys) (f : TableFault) → HasPages f → new ≡ old → (let r : Result T TableFault = Err f in answers.Inserted table key old new r)
 inserted_same T table key old new f has same = subst (λ (k : Keys). (let r : Result T TableFault = Err f in answers.Inserted table key old k r)) (sym same) (go f has)
   where
     takes : TakesPages old old
@@ -184,7 +185,7 @@ inserted_same T table key old new f has same = subst (λ (k : Keys). (let r : Re
     go (PagesFull n) has = absurd has
     go _ has = (takes, record { slot_of = refl; slots = refl; due = refl })
 
-indexed_at : (T : Type 0) (table key : ℕ) (o : Option ℕ) (old new : Keys) (f : TableFault) → HasPages f → new ≡ old → (let r : Result T TableFault = Err f in answers.IndexedAt table key o old new r)
+indexed_at : (T : Type 0) (table : ℕ) (key : Key) (o : Option ℕ) (old new : Keys) (f : TableFault) → HasPages f → new ≡ old → (let r : Result T TableFault = Err f in answers.IndexedAt table key o old new r)
 indexed_at T table key None old new f has same = inserted_same T table key old new f has same
 indexed_at T table key (Some slot) old new f has same = same
 
@@ -235,12 +236,12 @@ module _ (tells : Bool) (Opens : List ℕ → List ℕ → Type 0) (index : Inde
       )
 
 module _ (tells : Bool) (Opens : List ℕ → List ℕ → Type 0) (index : Index) (table t key : ℕ) (old new : PagesView) (holds : Holds tells index old) (alive : IsAlive old.store) (looks : LooksAs tells Opens t false old new) where
-  pub got : (value : Option (List ℕ)) → (IsTrue tells → get (seen_by (state_of index old) t) key ≡ value) → Does tells Opens index table t (Get key) old new (Ok (history.found value)) × Holds tells index new
+  pub got : (value : Option (List ℕ)) → (IsTrue tells → get (seen_by (state_of index old) t) (of_main key) ≡ value) → Does tells Opens index table t (Get key) old new (Ok (history.found value)) × Holds tells index new
   got value is = looked tells Opens index table t (Get key) old new holds (history.found value) alive looks tt (λ told. tt)
       (λ told. record { replies = ap history.found (sym (is told)); same = unlogged (state_of index old) t }) (λ a b same. same) refl
 
   -- a record that is not seen needs no removal
-  pub not_removed : (IsTrue tells → get (seen_by (state_of index old) t) key ≡ None) → Does tells Opens index table t (Del key) old new (Ok Absent) × Holds tells index new
+  pub not_removed : (IsTrue tells → get (seen_by (state_of index old) t) (of_main key) ≡ None) → Does tells Opens index table t (Del key) old new (Ok Absent) × Holds tells index new
   not_removed unseen = looked tells Opens index table t (Del key) old new holds Absent alive looks tt (λ told seen. absurd (false≢true (sym (ap is_some (unseen told)) ∙ seen)))
       (λ told. record { replies = ap history.removed (sym (unseen told)); same = unlogged (state_of index old) t }) (λ a b same. same) refl
 

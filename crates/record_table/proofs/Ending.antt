@@ -54,7 +54,7 @@ media_told (Err (fault.LogFull g h n)) s is e = absurd (cc)
 media_told (Err (fault.Damaged page)) s is e = absurd (cc)
 
 -- parts that stand for no writes
-pub no_parts : (index : Index) (log : List Part) (bytes : List ℕ) → writes_of log ≡ [] → applied log bytes ≡ bytes
+pub no_parts : (index : Index) (log : List Part) (bytes : List ℕ) → writes_of bytes log ≡ [] → applied log bytes ≡ bytes
 no_parts index [] bytes none = refl
 no_parts index (p ∷ ps) bytes none = absurd (cc)
 
@@ -173,7 +173,7 @@ has_save_is saves n some there = (λ i. lt-ltb 0 n some i && nat_le n (length sa
 
 -- there are as many saves as counts
 pub length-saves : (index : Index) (old : PagesView) (t : ℕ) → length ((state_of index old).logs t).saved ≡ length (old.counts t)
-length-saves index old t = length-map (pages.saved_of (listed (old.store.state.logs t)) (old.counts t)) writes_of ∙ length-map (old.counts t) (λ count. take count (listed (old.store.state.logs t)))
+length-saves index old t = length-map (pages.saved_of (listed (old.store.state.logs t)) (old.counts t)) (writes_of old.store.state.bytes) ∙ length-map (old.counts t) (λ count. take count (listed (old.store.state.logs t)))
 
 -- what a save replies
 pub saved_right : (tells : Bool) (Opens : List ℕ → List ℕ → Type 0) (index : Index) (old new : PagesView) (t : ℕ) (r : Result ℕ PageFault) → page_does.Does tells Opens (page.save t) old new r

@@ -14,11 +14,10 @@ use Rattle.record_slots.specs.Places.{page_bytes, slot_of, next_slot, next_page,
 use Rattle.record_slots.specs.declared.super_page.Super.{Super}
 use Rattle.record_slots.specs.declared.super_page.TableEntry.{TableEntry}
 use Rattle.page_store.specs.Index.{Index, IsTable, IsEmptyRoot, HasCounts, Extends}
-use Rattle.page_store.specs.Pairs.{Pair, found}
 use Rattle.page_store.proofs.Reading.{part_missed}
 use Rattle.index_pages.proofs.Fronts.{IsWritable}
 use Rattle.record_table.specs.Making.{IsFit, with_page}
-use Rattle.record_table.specs.Shown.{in_table, pairs_from, asked_tables, level_under, table_in, table_of, pairs_of, keys_of}
+use Rattle.record_table.specs.Shown.{found_key, in_table, pairs_from, asked_tables, level_under, table_in, table_of, pairs_of, keys_of}
 use Rattle.record_table.specs.State.{Keys}
 use Rattle.record_table.proofs.Sharing.{Laws}
 use Rattle.record_table.proofs.SuperPages.{length-super_bytes, says_written}
@@ -44,17 +43,17 @@ root_of_last [] t = refl
 root_of_last (u ∷ ts) t = root_of_last ts t
 
 -- an empty index adds no pairs
-pairs_last : (index : Index) (d e : List ℕ) (t : TableEntry) → index.pairs e t.root ≡ [] → (n table : ℕ) (ts : List TableEntry) → ((j root : ℕ) → root_in ts j ≡ Some root → index.pairs e root ≡ index.pairs d root)
-    → pairs_from index e table (take n (ts ++ t ∷ [])) ≡ pairs_from index d table (take n ts)
-pairs_last index d e t none zero table ts same = refl
-pairs_last index d e t none (suc n) table [] same =
-    (λ i. map (in_table table) (none i) ++ pairs_from index e (suc table) (take-none n i))
+pairs_last : (index : Index) (d e : List ℕ) (t : TableEntry) → index.pairs e t.root ≡ [] → (n : ℕ) (ts : List TableEntry) → ((j root : ℕ) → root_in ts j ≡ Some root → index.pairs e root ≡ index.pairs d root)
+    → pairs_from index e (take n (ts ++ t ∷ [])) ≡ pairs_from index d (take n ts)
+pairs_last index d e t none zero ts same = refl
+pairs_last index d e t none (suc n) [] same =
+    (λ i. map (in_table t.name) (none i) ++ pairs_from index e (take-none n i))
   where
     take-none : (n : ℕ) → take {A = TableEntry} n [] ≡ []
     take-none zero = refl
     take-none (suc n) = refl
-pairs_last index d e t none (suc n) table (u ∷ ts) same =
-    (λ i. map (in_table table) (same 0 u.root refl i) ++ pairs_last index d e t none n (suc table) ts (λ j root is. same (suc j) root is) i)
+pairs_last index d e t none (suc n) (u ∷ ts) same =
+    (λ i. map (in_table u.name) (same 0 u.root refl i) ++ pairs_last index d e t none n ts (λ j root is. same (suc j) root is) i)
 
 empty_leaf : index_head_said (fresh_page 1) ≡ fresh_root
 unfolding index_head_said
@@ -207,8 +206,8 @@ module _ (index : Index) (laws : Laws index) (d : List ℕ) (front after : Super
   pairs_same : pairs_of index e ≡ pairs_of index d
   unfolding pairs_of
   pairs_same =
-      ap (λ (ts : List TableEntry). pairs_from index e 0 (take asked_tables ts)) tables_more
-      ∙ pairs_last index d e new last_empty.0 asked_tables 0 (tables_of d) (λ j root is. (its_laws.1 j root is).0)
+      ap (λ (ts : List TableEntry). pairs_from index e (take asked_tables ts)) tables_more
+      ∙ pairs_last index d e new last_empty.0 asked_tables (tables_of d) (λ j root is. (its_laws.1 j root is).0)
 
   records_same : table_of index e ≡ table_of index d
   unfolding table_of
@@ -230,7 +229,7 @@ module _ (index : Index) (laws : Laws index) (d : List ℕ) (front after : Super
   keys_more =
       let pages : next_page e - free_pages e ≡ suc (next_page d - free_pages d) = omega (arith, page_more, free_pages_same, counts.free_pages_few) in
       λ i. record {
-        slot_of = found (pairs_same i);
+        slot_of = found_key (pairs_same i);
         due = if nat_eq (free_slots_same i) 0 then slot_same i else free_slot_same i - 1;
         used_slots = slot_same i - free_slots_same i;
         used_pages = pages i;

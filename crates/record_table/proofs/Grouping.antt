@@ -34,19 +34,20 @@ use Rattle.record_table.proofs.Ending.{no_parts}
 use Rattle.record_table.proofs.Holding.{as_many_writes}
 use Rattle.record_table.proofs.Sharing.{Laws}
 use Rattle.record_table.proofs.SlotParts.{IsWritten, applied_parts, parts_carry}
+use Rattle.record_table.proofs.States.{logs_same}
 
 parts_append : (index : Index) (d : List ℕ) (ps qs : List Part) → AreSlotParts index d ps → AreSlotParts index d qs → AreSlotParts index d (ps ++ qs)
 parts_append index d [] qs one other = other
 parts_append index d (p ∷ ps) qs one other = (one.0, parts_append index d ps qs one.1 other)
 
-writes_append : (ps qs : List Part) → writes_of (ps ++ qs) ≡ writes_of ps ++ writes_of qs
-writes_append [] qs = refl
-writes_append (p ∷ ps) qs = ap (λ (ws : List Write). write_of p ∷ ws) (writes_append ps qs)
+writes_append : (d : List ℕ) (ps qs : List Part) → writes_of d (ps ++ qs) ≡ writes_of d ps ++ writes_of d qs
+writes_append d [] qs = refl
+writes_append d (p ∷ ps) qs = ap (λ (ws : List Write). write_of d p ∷ ws) (writes_append d ps qs)
 
 -- what the parts of a group stand for
-pub group_said : (logs : Logs Part) (ts : List ℕ) → writes_of (group_log logs ts) ≡ flat_map (λ t. writes_of (listed (logs t))) ts
-group_said logs [] = refl
-group_said logs (t ∷ ts) = writes_append (listed (logs t)) (group_log logs ts) ∙ ap (λ (ws : List Write). writes_of (listed (logs t)) ++ ws) (group_said logs ts)
+pub group_said : (d : List ℕ) (logs : Logs Part) (ts : List ℕ) → writes_of d (group_log logs ts) ≡ flat_map (λ t. writes_of d (listed (logs t))) ts
+group_said d logs [] = refl
+group_said d logs (t ∷ ts) = writes_append d (listed (logs t)) (group_log logs ts) ∙ ap (λ (ws : List Write). writes_of d (listed (logs t)) ++ ws) (group_said d logs ts)
 
 module _ (index : Index) (laws : Laws index) (s : PagesState) (ts : List ℕ) (sound : index.sound s.store.bytes) (parts : (t : ℕ) → AreSlotParts index s.store.bytes (log_of s t)) where
   group_slots : (us : List ℕ) → AreSlotParts index s.store.bytes (group_log s.store.logs us)
@@ -61,21 +62,21 @@ module _ (index : Index) (laws : Laws index) (s : PagesState) (ts : List ℕ) (s
     where
       go : (b : Bool) → AreSlotParts index (applied (group_log s.store.logs ts) s.store.bytes) (listed (cond b None (s.store.logs u)))
       go true = tt
-      go false = parts_carry index laws s.store.bytes (applied (group_log s.store.logs ts) s.store.bytes) group_written.pairs group_written.size (log_of s u) (parts u)
+      go false = parts_carry index laws s.store.bytes (applied (group_log s.store.logs ts) s.store.bytes) sound group_written.sound group_written.pairs group_written.size (log_of s u) (parts u)
 
-  group_logs : (λ (u : ℕ). let log : Log = record { writes = writes_of (listed (with_each s.store.logs ts None u)); saved = map writes_of (with_each s.saved ts [] u) } in log)
-      ≡ with_each (λ (u : ℕ). let log : Log = record { writes = writes_of (log_of s u); saved = map writes_of (s.saved u) } in log) ts (record { writes = []; saved = [] })
+  group_logs : (λ (u : ℕ). let log : Log = record { writes = writes_of s.store.bytes (listed (with_each s.store.logs ts None u)); saved = map (writes_of s.store.bytes) s.store.bytes (with_each s.saved ts [] u) } in log)
+      ≡ with_each (λ (u : ℕ). let log : Log = record { writes = writes_of s.store.bytes (log_of s u); saved = map (writes_of s.store.bytes) s.store.bytes (s.saved u) } in log) ts (record { writes = []; saved = [] })
   group_logs = λ i u. go u (is_one_of ts u) i
     where
-      go : (u : ℕ) (b : Bool) → (let log : Log = record { writes = writes_of (listed (cond b None (s.store.logs u))); saved = map writes_of (cond b [] (s.saved u)) } in log)
-          ≡ cond b (record { writes = []; saved = [] }) (record { writes = writes_of (log_of s u); saved = map writes_of (s.saved u) })
+      go : (u : ℕ) (b : Bool) → (let log : Log = record { writes = writes_of s.store.bytes (listed (cond b None (s.store.logs u))); saved = map (writes_of s.store.bytes) s.store.bytes (cond b [] (s.saved u)) } in log)
+          ≡ cond b (record { writes = []; saved = [] }) (record { writes = writes_of s.store.bytes (log_of s u); saved = map (writes_of s.store.bytes) s.store.bytes (s.saved u) })
       go u true = refl
       go u false = refl
 
   pub group_shown : shown_by index (page.after (page.end_group ts) s) ≡ after_group ts (shown_by index s)
   group_shown = λ i. record {
-    table = (group_written.table ∙ ap (all_written (table_of index s.store.bytes)) (group_said s.store.logs ts)) i;
-    logs = group_logs i;
+    table = (group_written.table ∙ ap (all_written (table_of index s.store.bytes)) (group_said s.store.bytes s.store.logs ts)) i;
+    logs = (logs_same s.store.bytes (applied (group_log s.store.logs ts) s.store.bytes) group_written.tables (with_each s.store.logs ts None) (with_each s.saved ts []) ∙ group_logs) i;
   }
 
 module _ (tells : Bool) (Opens : List ℕ → List ℕ → Type 0) (index : Index) (laws : Laws index) (ts : List ℕ) (old new : PagesView) (holds : Holds tells index old) where
@@ -101,7 +102,7 @@ module _ (tells : Bool) (Opens : List ℕ → List ℕ → Type 0) (index : Inde
   its_state alive told = let tied = (holds alive).tied told in group_shown index laws before ts tied.sound tied.parts
 
   its_bytes : group_writes (state_of index old) ts ≡ [] → behind.store.bytes ≡ old.store.state.bytes
-  its_bytes none = no_parts index (group_log old.store.state.logs ts) old.store.state.bytes (group_said old.store.state.logs ts ∙ none)
+  its_bytes none = no_parts index (group_log old.store.state.logs ts) old.store.state.bytes (group_said old.store.state.bytes old.store.state.logs ts ∙ none)
 
   time_of : {T : Type 0} (r : Result T PageFault) → IsAlive old.store → page_does.Does tells Opens (page.end_group ts) old new r → IsTrue tells
       → LeavesOnly (λ image. OpensWith Opens index image (state_of index old).table ⊎ OpensWith Opens index image (after_group ts (state_of index old)).table) old.store new.store

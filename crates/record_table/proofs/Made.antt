@@ -29,7 +29,7 @@ use Rattle.page_store.specs.Index.{Index, IsTable, HasCounts, index_pages_of}
 use Rattle.page_store.specs.Looks.{LookCause}
 use Rattle.page_store.specs.Looks as look
 use Rattle.page_store.specs.Outline.{Outline}
-use Rattle.page_store.specs.Shown.{PagesView, saved_of}
+use Rattle.page_store.specs.Shown.{PagesView}
 use Rattle.page_store.specs.Shown as pages
 use Rattle.page_store.specs.State.{PagesState}
 use Rattle.page_store.specs.declared.fault.PageFault.{PageFault}
@@ -39,8 +39,9 @@ use Rattle.record_table.specs.Calls as calls
 use Rattle.record_table.specs.Faults.{told_as}
 use Rattle.record_table.specs.Invariant.{AreSlotParts, Holds, Rests}
 use Rattle.record_table.specs.Making.{as_make, IsFit, IsOfMake, names_said, PlaceCause, MakeCause, Makes, is_make_failed, with_page}
-use Rattle.record_table.specs.Names.{names_of, IsNew, OpensNamed}
-use Rattle.record_table.specs.Shown.{state_of, keys_of, table_of, writes_of}
+use Rattle.record_table.specs.Names.{names_of, IsNew}
+use Rattle.record_table.specs.Does.{OpensNamed}
+use Rattle.record_table.specs.Shown.{state_of, keys_of, table_of}
 use Rattle.record_table.specs.Sought.{LooksAs}
 use Rattle.record_table.specs.State.{TableState, Keys}
 use Rattle.record_table.specs.Upgrading.{Upgrades}
@@ -52,7 +53,7 @@ use Rattle.record_table.proofs.Ending.{ends, abort_is}
 use Rattle.record_table.proofs.Extended.{Extended, extended}
 use Rattle.record_table.proofs.Moving.{shown_same, moved_by_look, rests_moved}
 use Rattle.record_table.proofs.Sharing.{Laws}
-use Rattle.record_table.proofs.SlotParts.{parts_carry}
+use Rattle.record_table.proofs.SlotParts.{parts_carry, log_carried}
 
 -- a super page as it is read, that of version 2
 module _ (d : List ℕ) (front : Super) (says : SaysSuper (page_bytes d 0) front) where
@@ -367,14 +368,15 @@ module _ (tells : Bool) (Opens : List ℕ → List ℕ → Type 0) (index : Inde
           tied = λ told. record {
             sound = subst index.sound (sym (far_is told)) (facts told).sound;
             parts = λ u. subst (λ (b : List ℕ). AreSlotParts index b (listed (far.store.state.logs u))) (sym (far_is told)) (subst (AreSlotParts index (applied parts now.store.state.bytes)) (sym ((acts.kept refl).logs told u))
-                (parts_carry index laws now.store.state.bytes (applied parts now.store.state.bytes) (facts told).pairs (facts told).size (listed (now.store.state.logs u)) (((ready.holds now_alive).tied told).parts u)));
+                (parts_carry index laws now.store.state.bytes (applied parts now.store.state.bytes) ((ready.holds now_alive).tied told).sound (facts told).sound (facts told).pairs (facts told).size (listed (now.store.state.logs u)) (((ready.holds now_alive).tied told).parts u)));
           };
         }
 
         far_state : IsTrue tells → state_of index far ≡ state_of index now
         far_state told i = record {
           table = (ap (table_of index) (far_is told) ∙ (facts told).records) i;
-          logs = λ u. record { writes = writes_of ((acts.kept refl).logs told u i); saved = map writes_of (saved_of ((acts.kept refl).logs told u i) (acts.saves i u)) };
+          logs = λ u. log_carried index laws now.store.state.bytes (applied parts now.store.state.bytes) far.store.state.bytes (far_is told) ((ready.holds now_alive).tied told).sound (facts told).sound
+              _ _ ((acts.kept refl).logs told u) (((ready.holds now_alive).tied told).parts u) _ _ (λ j. acts.saves j u) i;
         }
 
         pub written : (new : PagesView) → (let r : Result (Unit {0}) PageFault = Ok tt in page_does.Does tells Opens (page.end 0 false) far new r) → Makes tells Opens index name old new (Ok number) × Holds tells index new

@@ -14,20 +14,22 @@ use Rattle.record_slots.specs.declared.slot.Slot.TheVariants.{Absent}
 use Rattle.page_store.specs.Index.{Index, IsTable, Grows, Gains}
 use Rattle.page_store.specs.Index as face
 use Rattle.page_store.specs.Inserts.{Inserts, Made, is_insert_failed}
-use Rattle.page_store.specs.Pairs.{Pair, found}
+use Rattle.page_store.specs.Pairs.{found}
 use Rattle.page_store.specs.Records.{value_of}
 use Rattle.page_store.specs.Shown.{PagesView, saved_of}
 use Rattle.page_store.specs.declared.index_fault.IndexFault.{IndexFault}
 use Rattle.page_store.specs.declared.index_fault.IndexFault.TheVariants as fault
 use Rattle.record_table.specs.Does.{OpensWith}
 use Rattle.record_table.specs.Invariant.{AreSlotParts, IsTied, Rests}
-use Rattle.record_table.specs.Shown.{table_in, table_of, write_of, writes_of, state_of, asked_tables, pairs_of}
+use Rattle.record_table.specs.Shown.{KeyPair, found_key, table_in, table_of, write_of, writes_of, state_of, asked_tables, pairs_of}
 use Rattle.record_table.specs.Sought.{LooksAs}
-use Rattle.record_table.specs.State.{TableState, key_in}
+use Rattle.record_table.specs.State.{TableState}
+use Rattle.history.specs.Key.{Key, is_same_key, of_main}
+use Rattle.history.proofs.Keys.{cases_key, same_key, other_key}
 use Rattle.history.proofs.Tables.{same_table}
 use Rattle.record_table.proofs.Tables.{record_at, get-table_in}
 use Rattle.record_table.proofs.Sharing.{Laws, placed, found_in, pairs_kept, gained}
-use Rattle.record_table.proofs.SlotParts.{one_slot}
+use Rattle.record_table.proofs.SlotParts.{said_same, log_kept, one_slot}
 
 -- records, writes and saves are as they were, and the invariant holds
 pub record Moved (tells : Bool) (Opens : List ℕ → List ℕ → Type 0) (index : Index) (t : ℕ) (old new : PagesView) : Type 0 where
@@ -55,7 +57,7 @@ pub record Failed (tells : Bool) (Opens : List ℕ → List ℕ → Type 0) (ind
 pub shown_same : (index : Index) (old new : PagesView) → new.store.state ≡ old.store.state → new.counts ≡ old.counts → state_of index new ≡ state_of index old
 shown_same index old new state counts = λ i. record {
   table = table_of index (state i).bytes;
-  logs = λ u. record { writes = writes_of (listed ((state i).logs u)); saved = map writes_of (saved_of (listed ((state i).logs u)) (counts i u)) };
+  logs = λ u. record { writes = writes_of (state i).bytes (listed ((state i).logs u)); saved = map (writes_of (state i).bytes) (saved_of (listed ((state i).logs u)) (counts i u)) };
 }
 
 module _ (tells : Bool) (Opens : List ℕ → List ℕ → Type 0) (index : Index) (t : ℕ) where
@@ -131,24 +133,25 @@ module _ (tells : Bool) (Opens : List ℕ → List ℕ → Type 0) (index : Inde
 module _ (index : Index) (laws : Laws index) (table root key : ℕ) (asked : table < asked_tables) (small : key < 2 ^ 64) (d e : List ℕ) (sound : index.sound d) (named : IsTable d table root) (absent : found (index.pairs d root) key ≡ None)
     (grows : Grows index root d e) where
   -- the key, which is new, among those of all tables
-  new_key : found (pairs_of index d) (key_in table key) ≡ None
-  new_key = found_in index laws d table root key sound asked named small ∙ absent
+  new_key : found_key (pairs_of index d) (of_main key) ≡ None
+  new_key = found_in index laws d table root key sound asked named ∙ absent
 
   -- given slots are as they were
-  record_kept : ((q slot : ℕ) → found (pairs_of index d) q ≡ Some slot → slot_of e slot ≡ slot_of d slot) → (o : Option ℕ) (q : ℕ) → found (pairs_of index d) q ≡ o → record_at e o ≡ record_at d o
+  record_kept : ((q : Key) (slot : ℕ) → found_key (pairs_of index d) q ≡ Some slot → slot_of e slot ≡ slot_of d slot) → (o : Option ℕ) (q : Key) → found_key (pairs_of index d) q ≡ o → record_at e o ≡ record_at d o
   record_kept slots None q is = refl
   record_kept slots (Some slot) q is = ap (λ (b : List ℕ). value_of (slot_said b)) (slots q slot is)
 
-  part_kept : (pairs : (q slot : ℕ) → found (pairs_of index d) q ≡ Some slot → found (pairs_of index e) q ≡ Some slot) (log : List Part) → AreSlotParts index d log → AreSlotParts index e log
+  part_kept : (pairs : (q : Key) (slot : ℕ) → found_key (pairs_of index d) q ≡ Some slot → found_key (pairs_of index e) q ≡ Some slot) (log : List Part) → AreSlotParts index d log → AreSlotParts index e log
   part_kept pairs [] parts = tt
   part_kept pairs (p ∷ ps) parts = (
     record {
       slot = parts.0.slot;
-      named = pairs (write_of p).0 parts.0.slot parts.0.named;
+      named = (λ i. found_key (pairs_of index e) (said_same d e grows.tables (slot_said p.1) i).0) ∙ pairs (write_of d p).0 parts.0.slot parts.0.named;
       place = parts.0.place ∙ ap (λ (n : ℕ). 64 * (4 * (n / 512) + parts.0.slot)) (sym grows.size);
       size = parts.0.size;
       table = parts.0.table;
       key = parts.0.key;
+      asked = parts.0.asked;
       small = parts.0.small;
       says = parts.0.says;
     },
@@ -156,7 +159,7 @@ module _ (index : Index) (laws : Laws index) (table root key : ℕ) (asked : tab
   )
 
   -- the slot that is due is as it was too
-  resting_slot : face.Rests index root d e → (q slot : ℕ) → found (pairs_of index d) q ≡ Some slot → slot_of e slot ≡ slot_of d slot
+  resting_slot : face.Rests index root d e → (q : Key) (slot : ℕ) → found_key (pairs_of index d) q ≡ Some slot → slot_of e slot ≡ slot_of d slot
   resting_slot rests q slot is = elim (cases_eq slot (slot_due d)) [
     | inl same ↦ subst (λ (s : ℕ). slot_of e s ≡ slot_of d s) (sym same) rests.same
     | inr ne ↦ grows.slots slot (placed index laws d sound q slot is).given ne
@@ -167,43 +170,43 @@ module _ (index : Index) (laws : Laws index) (table root key : ℕ) (asked : tab
   resting rests =
       let pairs = pairs_kept index laws d e table root sound named grows rests in (
         same_table (table_in e (pairs_of index e)) (table_in d (pairs_of index d)) (λ q.
-            get-table_in e (pairs_of index e) q ∙ ap (λ (l : List Pair). record_at e (found l q)) pairs ∙ record_kept (resting_slot rests) (found (pairs_of index d) q) q refl ∙ sym (get-table_in d (pairs_of index d) q)),
-        part_kept (λ q slot is. ap (λ (l : List Pair). found l q) pairs ∙ is),
+            get-table_in e (pairs_of index e) q ∙ ap (λ (l : List KeyPair). record_at e (found_key l q)) pairs ∙ record_kept (resting_slot rests) (found_key (pairs_of index d) q) q refl ∙ sym (get-table_in d (pairs_of index d) q)),
+        part_kept (λ q slot is. ap (λ (l : List KeyPair). found_key l q) pairs ∙ is),
       )
 
-  other_than : (q slot : ℕ) → found (pairs_of index d) q ≡ Some slot → key_in table key ≢ q
-  other_than q slot is same = let x : Some slot ≡ None = sym is ∙ ap (found (pairs_of index d)) (sym same) ∙ new_key in absurd (cc)
+  other_than : (q : Key) (slot : ℕ) → found_key (pairs_of index d) q ≡ Some slot → of_main key ≢ q
+  other_than q slot is same = let x : Some slot ≡ None = sym is ∙ ap (found_key (pairs_of index d)) (sym same) ∙ new_key in absurd (cc)
 
   module _ (gains : Gains index root table key d e) where
-    found_still : (q slot : ℕ) → found (pairs_of index d) q ≡ Some slot → found (pairs_of index e) q ≡ Some slot
+    found_still : (q : Key) (slot : ℕ) → found_key (pairs_of index d) q ≡ Some slot → found_key (pairs_of index e) q ≡ Some slot
     found_still q slot is =
-        gained index laws d e table root sound named grows asked key small absent gains q
-        ∙ ap (λ (b : Bool). cond b (Some (slot_due d)) (found (pairs_of index d) q)) (ne_eqb (key_in table key) q (other_than q slot is)) ∙ is
+        gained index laws d e table root sound named grows asked key absent gains q
+        ∙ ap (λ (b : Bool). cond b (Some (slot_due d)) (found_key (pairs_of index d) q)) (other_key (of_main key) q (other_than q slot is)) ∙ is
 
-    pub found_due : found (pairs_of index e) (key_in table key) ≡ Some (slot_due d)
+    pub found_due : found_key (pairs_of index e) (of_main key) ≡ Some (slot_due d)
     found_due =
-        gained index laws d e table root sound named grows asked key small absent gains (key_in table key)
-        ∙ ap (λ (b : Bool). cond b (Some (slot_due d)) (found (pairs_of index d) (key_in table key))) (eq-eqb (key_in table key) (key_in table key) refl)
+        gained index laws d e table root sound named grows asked key absent gains (of_main key)
+        ∙ ap (λ (b : Bool). cond b (Some (slot_due d)) (found_key (pairs_of index d) (of_main key))) (same_key (of_main key) (of_main key) refl)
 
     -- the slot of another key is not the one that was due
-    gaining_slot : (q slot : ℕ) → found (pairs_of index d) q ≡ Some slot → slot_of e slot ≡ slot_of d slot
+    gaining_slot : (q : Key) (slot : ℕ) → found_key (pairs_of index d) q ≡ Some slot → slot_of e slot ≡ slot_of d slot
     gaining_slot q slot is =
         grows.slots slot (placed index laws d sound q slot is).given
-        (λ same. other_than q slot is (one_slot index laws e grows.sound (key_in table key) q slot (found_due ∙ ap Some (sym same)) (found_still q slot is)))
+        (λ same. other_than q slot is (one_slot index laws e grows.sound (of_main key) q slot (found_due ∙ ap Some (sym same)) (found_still q slot is)))
 
     gaining : slot_said (slot_bytes (Absent table key)) ≡ Some (Absent table key) → (table_of index e ≡ table_of index d) × ((log : List Part) → AreSlotParts index d log → AreSlotParts index e log)
     unfolding table_of
     gaining reads = (
       same_table (table_in e (pairs_of index e)) (table_in d (pairs_of index d)) (λ q.
-          get-table_in e (pairs_of index e) q ∙ ap (record_at e) (gained index laws d e table root sound named grows asked key small absent gains q)
-          ∙ elim (cases_eq (key_in table key) q) [
+          get-table_in e (pairs_of index e) q ∙ ap (record_at e) (gained index laws d e table root sound named grows asked key absent gains q)
+          ∙ elim (cases_key (of_main key) q) [
             | inl same ↦
-                ap (λ (b : Bool). record_at e (cond b (Some (slot_due d)) (found (pairs_of index d) q))) (eq-eqb (key_in table key) q same)
+                ap (λ (b : Bool). record_at e (cond b (Some (slot_due d)) (found_key (pairs_of index d) q))) (same_key (of_main key) q same)
                 ∙ ap (λ (b : List ℕ). value_of (slot_said b)) gains.fresh ∙ ap value_of reads
-                ∙ sym (ap (λ (k : ℕ). record_at d (found (pairs_of index d) k)) (sym same) ∙ ap (record_at d) new_key)
+                ∙ sym (ap (λ (k : Key). record_at d (found_key (pairs_of index d) k)) (sym same) ∙ ap (record_at d) new_key)
             | inr ne ↦
-                ap (λ (b : Bool). record_at e (cond b (Some (slot_due d)) (found (pairs_of index d) q))) (ne_eqb (key_in table key) q ne)
-                ∙ record_kept gaining_slot (found (pairs_of index d) q) q refl
+                ap (λ (b : Bool). record_at e (cond b (Some (slot_due d)) (found_key (pairs_of index d) q))) (other_key (of_main key) q ne)
+                ∙ record_kept gaining_slot (found_key (pairs_of index d) q) q refl
           ]
           ∙ sym (get-table_in d (pairs_of index d) q)),
       part_kept found_still,
@@ -250,7 +253,7 @@ module _ (tells : Bool) (Opens : List ℕ → List ℕ → Type 0) (index : Inde
         tables = λ told. (made told).0.tables;
         state = λ told i. record {
           table = (keeps told).0 i;
-          logs = λ u. record { writes = writes_of (kept.logs told u i); saved = map writes_of (saved_of (kept.logs told u i) (does.saves i u)) };
+          logs = λ u. log_kept old.store.state.bytes new.store.state.bytes (made told).0.tables _ _ (kept.logs told u) _ _ (λ j. does.saves j u) i;
         };
         tied = λ told. record {
           sound = (made told).0.sound;

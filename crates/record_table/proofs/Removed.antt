@@ -1,6 +1,6 @@
 -- What a removal of a key from its index does to the records.
 use Rattle.std.proofs.Common.{◌≡◌, ◌^◌, ℕ, ◌<◌, Bool, true, false, inl, inr, IsTrue, List, Result, Ok, Err, refl, sym, ◌∙◌, ap, subst}
-use Rattle.std.specs.Prelude.{map, IsFalse}
+use Rattle.std.specs.Prelude.{IsFalse}
 use Rattle.std.proofs.lemmas.Bool.{false≢true}
 use Rattle.mars_base.proofs.Going.{stays, weaker}
 use Rattle.array_shape.specs.Logged.{Part}
@@ -9,12 +9,13 @@ use Rattle.eaw_face.specs.State.{listed}
 use Rattle.eaw_face.specs.StoreView.{LeavesOnly}
 use Rattle.eaw_face.specs.Causes.{IsAlive}
 use Rattle.record_slots.specs.Places.{version_of, tables_of}
+use Rattle.history.specs.Key.{Key, of_main}
 use Rattle.history.specs.Writes.{is_of}
 use Rattle.page_store.specs.Fits.{FitAll, IsFirstLacking}
 use Rattle.page_store.specs.Index.{Index, IsTable}
 use Rattle.page_store.specs.Looks.{is_failed}
 use Rattle.page_store.specs.Removes as face
-use Rattle.page_store.specs.Shown.{PagesView, saved_of}
+use Rattle.page_store.specs.Shown.{PagesView}
 use Rattle.page_store.specs.declared.fault.PageFault.{PageFault}
 use Rattle.page_store.specs.declared.fault.PageFault.TheVariants as fault
 use Rattle.record_table.specs.Does.{OpensWith}
@@ -23,25 +24,25 @@ use Rattle.record_table.specs.Faults.{told_as}
 use Rattle.record_table.specs.Invariant.{AreSlotParts, Holds}
 use Rattle.record_table.specs.Removing.{IsAbsent, IsUnwritten, Takes, RemoveCause, Lost, Removes, removal_under}
 use Rattle.record_table.specs.Shown.{table_of, writes_of, state_of, asked_tables}
-use Rattle.record_table.specs.State.{key_in}
 use Rattle.record_table.specs.declared.fault.TableFault.TheVariants as refusal
 use Rattle.record_table.proofs.Moving.{Moved, Failed, rests_moved}
 use Rattle.record_table.proofs.Sharing.{Laws}
+use Rattle.record_table.proofs.SlotParts.{log_kept}
 use Rattle.record_table.proofs.Lost.{has_absent, records_same, parts_kept, loses}
 
 -- sound data of the same version, with the same tables and records, and with the slots of all parts that are not the key's
-record Alike (index : Index) (key : ℕ) (d e : List ℕ) : Type 0 where
+record Alike (index : Index) (key : Key) (d e : List ℕ) : Type 0 where
   sound : index.sound e
   version : version_of e ≡ version_of d
   tables : tables_of e ≡ tables_of d
   records : table_of index e ≡ table_of index d
-  parts : (log : List Part) → AreSlotParts index d log → list_any (is_of key) (writes_of log) ≡ false → AreSlotParts index e log
+  parts : (log : List Part) → AreSlotParts index d log → list_any (is_of key) (writes_of d log) ≡ false → AreSlotParts index e log
 
-alike_same : (index : Index) (key : ℕ) (d e : List ℕ) → index.sound d → e ≡ d → Alike index key d e
+alike_same : (index : Index) (key : Key) (d e : List ℕ) → index.sound d → e ≡ d → Alike index key d e
 alike_same index key d e sound same = subst (λ (x : List ℕ). Alike index key d x) (sym same) (record { sound = sound; version = refl; tables = refl; records = refl; parts = λ log parts other. parts })
 
 module _ (tells : Bool) (Opens : List ℕ → List ℕ → Type 0) (index : Index) (laws : Laws index) (t table root key : ℕ) (asked : table < asked_tables) (small : key < 2 ^ 64) (old : PagesView) (named : IsTrue tells → IsAlive old.store → IsTable old.store.state.bytes table root)
-    (holds : Holds tells index old) (absent : IsTrue tells → IsAlive old.store → IsAbsent index old.store.state.bytes (key_in table key)) (unwritten : IsTrue tells → IsAlive old.store → IsUnwritten index old (key_in table key)) where
+    (holds : Holds tells index old) (absent : IsTrue tells → IsAlive old.store → IsAbsent index old.store.state.bytes (of_main key)) (unwritten : IsTrue tells → IsAlive old.store → IsUnwritten index old (of_main key)) where
   -- the slot that the index below asks about
   pub absent_below : IsTrue tells → IsAlive old.store → face.HasAbsent index root table key old.store.state.bytes
   absent_below told alive =
@@ -49,7 +50,7 @@ module _ (tells : Bool) (Opens : List ℕ → List ℕ → Type 0) (index : Inde
       has_absent index laws table root key asked small old.store.state.bytes ((holds alive).tied told).sound (named told alive) is.0 is.1
 
   module _ (new : PagesView) (alive : IsAlive old.store) where
-    alike_less : IsTrue tells → (e : List ℕ) → face.LosesKey index root key old.store.state.bytes e → Alike index (key_in table key) old.store.state.bytes e
+    alike_less : IsTrue tells → (e : List ℕ) → face.LosesKey index root key old.store.state.bytes e → Alike index (of_main key) old.store.state.bytes e
     alike_less told e less =
         let sound = ((holds alive).tied told).sound in
         record {
@@ -60,11 +61,11 @@ module _ (tells : Bool) (Opens : List ℕ → List ℕ → Type 0) (index : Inde
           parts = parts_kept index laws table root key asked small old.store.state.bytes sound (named told alive) e less.0 less.1 less.2;
         }
 
-    alike_equal : IsTrue tells → (e : List ℕ) → e ≡ old.store.state.bytes → Alike index (key_in table key) old.store.state.bytes e
-    alike_equal told e same = alike_same index (key_in table key) old.store.state.bytes e ((holds alive).tied told).sound same
+    alike_equal : IsTrue tells → (e : List ℕ) → e ≡ old.store.state.bytes → Alike index (of_main key) old.store.state.bytes e
+    alike_equal told e same = alike_same index (of_main key) old.store.state.bytes e ((holds alive).tied told).sound same
 
     -- what is left by a removal that met no fault
-    alike : IsTrue tells → (r : Result Bool PageFault) → IsFalse (is_failed r) → face.Removed index root key old.store.state.bytes new.store.state.bytes r → Alike index (key_in table key) old.store.state.bytes new.store.state.bytes
+    alike : IsTrue tells → (r : Result Bool PageFault) → IsFalse (is_failed r) → face.Removed index root key old.store.state.bytes new.store.state.bytes r → Alike index (of_main key) old.store.state.bytes new.store.state.bytes
     alike told (Ok true) well made = alike_less told new.store.state.bytes made
     alike told (Ok false) well made = alike_equal told new.store.state.bytes made
     alike told (Err fault.Media) well made = absurd (false≢true (sym well))
@@ -95,7 +96,7 @@ module _ (tells : Bool) (Opens : List ℕ → List ℕ → Type 0) (index : Inde
             tables = λ told. (same told).tables;
             state = λ told i. record {
               table = (same told).records i;
-              logs = λ u. record { writes = writes_of (kept.logs told u i); saved = map writes_of (saved_of (kept.logs told u i) (does.saves i u)) };
+              logs = λ u. log_kept old.store.state.bytes new.store.state.bytes (same told).tables _ _ (kept.logs told u) _ _ (λ j. does.saves j u) i;
             };
             tied = λ told. record {
               sound = (same told).sound;

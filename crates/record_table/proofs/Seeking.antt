@@ -14,7 +14,7 @@ use Rattle.record_slots.specs.Places.{slot_of, IsOfKey, Carries}
 use Rattle.record_slots.specs.declared.slot.Slot.{Slot}
 use Rattle.page_store.specs.Index.{Index, slots_of}
 use Rattle.page_store.specs.Looks.{Looks}
-use Rattle.page_store.specs.Pairs.{found}
+use Rattle.history.specs.Key.{Key}
 use Rattle.page_store.specs.Records.{value_of}
 use Rattle.page_store.specs.Shown.{PagesView}
 use Rattle.page_store.specs.Shown as pages
@@ -22,7 +22,7 @@ use Rattle.page_store.specs.State.{view_of}
 use Rattle.record_table.specs.Attached.{Attached}
 use Rattle.record_table.specs.Causes.{slot_in}
 use Rattle.record_table.specs.Invariant.{AreSlotParts, IsTied, Holds}
-use Rattle.record_table.specs.Shown.{table_of, writes_of, state_of}
+use Rattle.record_table.specs.Shown.{KeyPair, found_key, table_of, writes_of, state_of}
 use Rattle.record_table.specs.Sought.{Finds, value_at}
 use Rattle.record_table.specs.State.{seen_by}
 use Rattle.record_table.specs.declared.slots.Place.{Place}
@@ -37,7 +37,7 @@ slot_read e shape slot long = let at : 64 * (slots_of shape + slot) ≡ 64 * (4 
 pub no_slot : (table key : ℕ) (said : Option Slot) → said ≡ None → IsOfKey table key said → ⊥
 no_slot table key said none of = subst (IsOfKey table key) none of
 
-module _ (index : Index) (laws : Laws index) (t key : ℕ) (old : PagesView) (tied : IsTied index old) where
+module _ (index : Index) (laws : Laws index) (t : ℕ) (key : Key) (old : PagesView) (tied : IsTied index old) where
   pub seen_none : slot_in index old key ≡ None → get (seen_by (state_of index old) t) key ≡ None
   seen_none none = seen_at index laws (listed (old.store.state.logs t)) old.store.state.bytes tied.sound (tied.parts t) key ∙ ap (record_at (applied (listed (old.store.state.logs t)) old.store.state.bytes)) none
 
@@ -61,11 +61,11 @@ module _ (index : Index) (laws : Laws index) (t key : ℕ) (old : PagesView) (ti
     unfolding Carries
     some_slot read =
         let w = applied_parts index laws (listed (old.store.state.logs t)) old.store.state.bytes tied.sound (tied.parts t) in
-        let p = placed index laws (applied (listed (old.store.state.logs t)) old.store.state.bytes) w.sound key slot (ap (λ l. found l key) w.pairs ∙ is) in
+        let p = placed index laws (applied (listed (old.store.state.logs t)) old.store.state.bytes) w.sound key slot (ap (λ (l : List KeyPair). found_key l key) w.pairs ∙ is) in
         no_slot p.table p.key (slot_said (slot_of (applied (listed (old.store.state.logs t)) old.store.state.bytes) slot)) (sym (read ∙ read_is)) p.carries
 
 -- the value of what was found
-pub found_value : (index : Index) (t key : ℕ) (old : PagesView) (found : Option Place) → Finds index t key old found → get (seen_by (state_of index old) t) key ≡ value_at found
+pub found_value : (index : Index) (t : ℕ) (key : Key) (old : PagesView) (found : Option Place) → Finds index t key old found → get (seen_by (state_of index old) t) key ≡ value_at found
 found_value index t key old None finds = finds.1
 found_value index t key old (Some place) finds = finds.1
 
@@ -87,7 +87,7 @@ module _ (tells : Bool) (Opens : List ℕ → List ℕ → Type 0) (index : Inde
     alive = alive;
     sound = sound;
     table = λ told. ap (λ (s : State). table_of index s.bytes) ((looks.still refl).state told);
-    idle = λ told t. ap (λ (l : List Part). writes_of l) (empty_log told t);
+    idle = λ told t. ap (λ (l : List Part). writes_of new.store.state.bytes l) (empty_log told t);
   }
 
   pub begins : Holds tells index new

@@ -1,24 +1,25 @@
--- What an index guarantees of the pairs of all tables together.
+-- What an index guarantees of the pairs of the tables that can be asked for.
 use Rattle.std.proofs.Common.{◌≡◌, ◌≢◌, ◌^◌, ℕ, ◌+◌, ◌-◌, ◌<◌, ◌≤◌, ◌⊎◌, Bool, true, false, cond, inl, inr, List, [], ◌∷◌, length, refl, sym, ◌∙◌, ap, subst, arith}
-use Rattle.std.specs.Prelude.{zero, suc, nat_eq, if◌then◌else◌, slice_get, map, take, Option, Some, None}
-use Rattle.std.specs.Option.{option_map}
-use Rattle.std.specs.Map.{update}
+use Rattle.std.specs.Prelude.{zero, suc, nat_eq, if◌then◌else◌, ◌&&◌, slice_get, map, take, Option, Some, None}
+use Rattle.std.specs.Option.{option_map, unwrap_or}
 use Rattle.std.proofs.lemmas.Bool.{cases_eq, eq-eqb}
 use Rattle.std.proofs.lemmas.Bool.Decides.{eqb_tells}
-use Rattle.std.proofs.lemmas.List.{append-nil}
 use Rattle.std.proofs.lemmas.Option.{same_Some}
 use Rattle.record_slots.specs.Slots.{slot_said}
-use Rattle.record_slots.specs.Super.{next_slot_said, next_page_said, tables_said, free_slot_in, free_slots_in, free_pages_in}
+use Rattle.record_slots.specs.Names.{names_in}
+use Rattle.record_slots.specs.Super.{main_table, next_slot_said, next_page_said, tables_said, free_slot_in, free_slots_in, free_pages_in}
 use Rattle.record_slots.specs.Places.{page_bytes, slot_of, next_slot, next_page, tables_of, root_of, slot_due, used_slots, IsOfKey, Carries, AreGiven}
 use Rattle.record_slots.specs.declared.super_page.TableEntry.{TableEntry}
 use Rattle.record_slots.specs.declared.slot.Slot.{Slot}
 use Rattle.record_slots.specs.declared.slot.Slot.TheVariants.{Absent, Present}
-use Rattle.history.specs.Key.{is_same_key}
-use Rattle.page_store.specs.Pairs.{Pair, Rise, found, next}
+use Rattle.history.specs.Key.{Key, main_name, of_main, is_same_key, is_of_table}
+use Rattle.history.proofs.Keys.{name_decides, cases_key, same_key, other_key}
+use Rattle.page_store.specs.Pairs.{Pair, Rise, found}
 use Rattle.page_store.specs.Index.{Index, IsTable, HasCounts, KeepsIndex, Grows, Rests, Gains, IsEmptyRoot, Extends}
-use Rattle.record_table.specs.State.{key_in, GainsKey, KeepsKeys, TakesPages}
-use Rattle.record_table.specs.Shown.{write_said, asked_tables, in_table, pairs_from, pairs_of, level_under, keys_of}
-use Rattle.record_table.proofs.Joint.{root_in, Each, each_of, Rises, IsPast, found_from, found_some, rises_from, next_from, next_none, pairs_same, found_inserted, gained_from, key_apart}
+use Rattle.record_table.specs.State.{GainsKey, KeepsKeys, TakesPages}
+use Rattle.record_table.specs.Names.{name_at, key_in}
+use Rattle.record_table.specs.Shown.{KeyPair, found_key, write_said, asked_tables, pairs_from, pairs_of, level_under, keys_of}
+use Rattle.record_table.proofs.Joint.{root_in, pairs_same, found_main, main_first, found_inside, found_inserted}
 
 -- what an index guarantees about its data
 pub record Laws (index : Index) : Type 0 where
@@ -41,11 +42,29 @@ pub carries_one : (bytes : List ℕ) (t u a b slot : ℕ) → Carries bytes t (a
 unfolding Carries
 carries_one bytes t u a b slot x y = one_key (slot_said (slot_of bytes slot)) t u a b x y
 
--- the key, among those of all tables, of a slot of this table
-pub key_said : (said : Option Slot) (table key : ℕ) → IsOfKey table key said → (write_said said).0 ≡ key_in table key
-key_said None table key is = absurd is
-key_said (Some (Absent j k)) table key is = λ i. key_in (is.0 i) (is.1 i)
-key_said (Some (Present j k v)) table key is = λ i. key_in (is.0 i) (is.1 i)
+-- the table that can be asked for is `main`, whose root is page 1
+main_called : (d : List ℕ) → HasCounts d → name_at d 0 ≡ main_name
+main_called d counts = go (tables_of d) (main_first d counts)
+  where
+    go : (tables : List TableEntry) → slice_get tables 0 ≡ Some main_table → unwrap_or (slice_get (names_in tables) 0) [] ≡ main_name
+    go [] none = absurd (cc)
+    go (entry ∷ entries) has = (let here : entry ≡ main_table = cc in ap (λ (e : TableEntry). e.name) here)
+
+pub asked_key : (d : List ℕ) → HasCounts d → (table key : ℕ) → table < asked_tables → key_in d table key ≡ of_main key
+asked_key d counts table key asked =
+    let zeroth : table ≡ 0 = omega arith in
+    (λ i. record { table = (ap (name_at d) zeroth ∙ main_called d counts) i; key = key })
+
+pub asked_root : (d : List ℕ) → HasCounts d → (table root : ℕ) → table < asked_tables → IsTable d table root → root ≡ 1
+asked_root d counts table root asked is =
+    let zeroth : table ≡ 0 = omega arith in
+    same_Some root 1 (sym is ∙ ap (root_of d) zeroth ∙ counts.main)
+
+-- the key of a slot of a table that can be asked for
+pub key_said : (d : List ℕ) → HasCounts d → (said : Option Slot) (table key : ℕ) → table < asked_tables → IsOfKey table key said → (write_said d said).0 ≡ of_main key
+key_said d counts None table key asked is = absurd is
+key_said d counts (Some (Absent j k)) table key asked is = (λ i. key_in d (is.0 i) (is.1 i)) ∙ asked_key d counts table key asked
+key_said d counts (Some (Present j k v)) table key asked is = (λ i. key_in d (is.0 i) (is.1 i)) ∙ asked_key d counts table key asked
 
 -- the slot of a key that is found
 pub found_given : (bytes : List ℕ) (table : ℕ) (ps : List Pair) (key slot : ℕ) → AreGiven bytes table ps → found ps key ≡ Some slot → (slot < next_slot bytes) × Carries bytes table (key, slot)
@@ -60,96 +79,66 @@ found_given bytes table (p ∷ ps) key slot given is = elim (eqb_tells p.0 key) 
       found_given bytes table ps key slot given.2 (sym (ap (λ (x : Bool). cond x (Some p.1) (found ps key)) b) ∙ is)
 ]
 
--- the first tables are among all, and a table that can be asked for is among them
+-- the first tables are among all
 first_there : (n : ℕ) (tables : List TableEntry) (j root : ℕ) → root_in (take n tables) j ≡ Some root → root_in tables j ≡ Some root
 first_there zero tables j root is = absurd (cc)
 first_there (suc n) [] j root is = is
 first_there (suc n) (entry ∷ entries) zero root is = is
 first_there (suc n) (entry ∷ entries) (suc j) root is = first_there n entries j root is
 
-first_has : (n : ℕ) (tables : List TableEntry) (j root : ℕ) → j < n → root_in tables j ≡ Some root → root_in (take n tables) j ≡ Some root
-first_has zero tables j root lt is = absurd (omega arith)
-first_has (suc n) [] j root lt is = is
-first_has (suc n) (entry ∷ entries) zero root lt is = is
-first_has (suc n) (entry ∷ entries) (suc j) root lt is = first_has n entries j root (omega arith) is
-
-first_below : (n : ℕ) (tables : List TableEntry) (j root : ℕ) → root_in (take n tables) j ≡ Some root → j < n
-first_below zero tables j root is = absurd (cc)
-first_below (suc n) [] j root is = absurd (cc)
-first_below (suc n) (entry ∷ entries) zero root is = omega arith
-first_below (suc n) (entry ∷ entries) (suc j) root is = omega (arith, first_below n entries j root is)
-
 -- the tables that can be asked for
 abbrev pub asked_of : List ℕ → List TableEntry
 asked_of d = take asked_tables (tables_of d)
 
 module _ (index : Index) (laws : Laws index) where
-  each_rises : (d : List ℕ) → index.sound d → Each (Rises index d) 0 (asked_of d)
-  each_rises d sound = each_of (Rises index d) 0 (asked_of d) (λ j root is. laws.rises d j root sound (first_there asked_tables (tables_of d) j root is))
-
   -- a key that the indexes have is one of a table, whose slot was given and carries it
-  pub record Placed (d : List ℕ) (q slot : ℕ) : Type 0 where
+  pub record Placed (d : List ℕ) (q : Key) (slot : ℕ) : Type 0 where
     pub table : ℕ
     pub root : ℕ
     pub key : ℕ
     pub asked : table < asked_tables
     pub there : IsTable d table root
-    pub is : q ≡ key_in table key
+    pub is : q ≡ of_main key
     pub small : key < 2 ^ 64
     pub has : found (index.pairs d root) key ≡ Some slot
     pub given : slot < next_slot d
     pub carries : Carries d table (key, slot)
 
-  pub placed : (d : List ℕ) → index.sound d → (q slot : ℕ) → found (pairs_of index d) q ≡ Some slot → Placed d q slot
-  unfolding pairs_of
+  pub placed : (d : List ℕ) → index.sound d → (q : Key) (slot : ℕ) → found_key (pairs_of index d) q ≡ Some slot → Placed d q slot
   placed d sound q slot is =
-      let f = found_some index d 0 q slot (asked_of d) (each_rises d sound) is in
-      let named : IsTable d f.number f.root = first_there asked_tables (tables_of d) f.number f.root f.there in
-      let g = found_given d f.number (index.pairs d f.root) f.key slot (laws.given d f.number f.root sound named) f.has in
+      let counts = laws.counts d sound in
+      let both = named (is_of_table main_name q) (found (index.pairs d 1) q.key) (sym (found_main index d counts q) ∙ is) in
+      let name : main_name ≡ q.table = (name_decides main_name q.table).0 both.0 in
+      let g = found_given d 0 (index.pairs d 1) q.key slot (laws.given d 0 1 sound counts.main) both.1 in
       record {
-        table = f.number;
-        root = f.root;
-        key = f.key;
-        asked = first_below asked_tables (tables_of d) f.number f.root f.there;
-        there = named;
-        is = f.is ∙ ap (λ (m : ℕ). key_in m f.key) (let z : 0 + f.number ≡ f.number = omega arith in z);
-        small = f.small;
-        has = f.has;
+        table = 0;
+        root = 1;
+        key = q.key;
+        asked = omega arith;
+        there = counts.main;
+        is = λ i. record { table = sym name i; key = q.key };
+        small = (found_inside 0 (2 ^ 64) (index.pairs d 1) q.key slot (laws.rises d 0 1 sound counts.main) both.1).1;
+        has = both.1;
         given = g.0;
         carries = g.1;
       }
+    where
+      named : (b : Bool) (o : Option ℕ) → cond b o None ≡ Some slot → (b ≡ true) × (o ≡ Some slot)
+      named true o is = (refl, is)
+      named false o is = absurd (cc)
 
   -- what is found for a key of a table
-  pub found_in : (d : List ℕ) (table root key : ℕ) → index.sound d → table < asked_tables → IsTable d table root → key < 2 ^ 64 → found (pairs_of index d) (key_in table key) ≡ found (index.pairs d root) key
-  unfolding pairs_of
-  found_in d table root key sound asked is small =
-      ap (λ (m : ℕ). found (pairs_from index d 0 (asked_of d)) (key_in m key)) (let z : table ≡ 0 + table = omega arith in z)
-      ∙ found_from index d 0 table root key (asked_of d) (each_rises d sound) (first_has asked_tables (tables_of d) table root asked is) small
-
-  pub all_rise : (d : List ℕ) → index.sound d → Rise 0 (key_in (0 + length (asked_of d)) 0) (pairs_of index d)
-  unfolding pairs_of
-  all_rise d sound = rises_from index d 0 (asked_of d) (each_rises d sound)
-
-  -- the next pair of a table is the next of all; if the table has none, it is one of a later table
-  pub next_in : (d : List ℕ) (table root from : ℕ) (p : Pair) → index.sound d → table < asked_tables → IsTable d table root → next (index.pairs d root) from ≡ Some p
-      → next (pairs_of index d) (key_in table from) ≡ Some (key_in table p.0, p.1)
-  unfolding pairs_of
-  next_in d table root from p sound asked is has =
-      let z : 0 + table ≡ table = omega arith in
-      subst (λ (m : ℕ). next (pairs_from index d 0 (asked_of d)) (key_in m from) ≡ Some (key_in m p.0, p.1)) z (next_from index d 0 table root from p (asked_of d) (each_rises d sound) (first_has asked_tables (tables_of d) table root asked is) has)
-
-  pub next_not_in : (d : List ℕ) (table root from : ℕ) → index.sound d → table < asked_tables → IsTable d table root → next (index.pairs d root) from ≡ None → IsPast index d table (next (pairs_of index d) (key_in table from))
-  unfolding pairs_of
-  next_not_in d table root from sound asked is none =
-      let z : 0 + table ≡ table = omega arith in
-      subst (λ (m : ℕ). IsPast index d m (next (pairs_from index d 0 (asked_of d)) (key_in m from))) z (next_none index d 0 table root from (asked_of d) (each_rises d sound) (first_has asked_tables (tables_of d) table root asked is) none)
+  pub found_in : (d : List ℕ) (table root key : ℕ) → index.sound d → table < asked_tables → IsTable d table root → found_key (pairs_of index d) (of_main key) ≡ found (index.pairs d root) key
+  found_in d table root key sound asked is =
+      let counts = laws.counts d sound in
+      found_main index d counts (of_main key) ∙ ap (λ (r : ℕ). found (index.pairs d r) key) (sym (asked_root d counts table root asked is))
 
 -- the tables and their pairs stay
 pub pairs_rest : (index : Index) (d e : List ℕ) → tables_of e ≡ tables_of d → ((table root : ℕ) → IsTable d table root → index.pairs e root ≡ index.pairs d root) → pairs_of index e ≡ pairs_of index d
 unfolding pairs_of
 pairs_rest index d e tables same =
-    ap (λ (ts : List TableEntry). pairs_from index e 0 (take asked_tables ts)) tables
-    ∙ pairs_same index d e 0 (asked_of d) (each_of (λ number other. index.pairs e other ≡ index.pairs d other) 0 (asked_of d) (λ j root is. same j root (first_there asked_tables (tables_of d) j root is)))
+    ap (λ (ts : List TableEntry). pairs_from index e (take asked_tables ts)) tables
+    ∙ pairs_same index d e (asked_of d) (λ j root is. same j root (first_there asked_tables (tables_of d) j root is))
 
 pub level_same : (index : Index) (d e : List ℕ) (table : ℕ) → tables_of e ≡ tables_of d → ((root : ℕ) → IsTable d table root → index.level e root ≡ index.level d root)
     → level_under index e (root_of e table) ≡ level_under index d (root_of d table)
@@ -168,7 +157,7 @@ due_said page = if nat_eq (free_slots_in page) 0 then next_slot_said page else f
 pub keys_same : (index : Index) (d e : List ℕ) → pairs_of index e ≡ pairs_of index d → page_bytes e 0 ≡ page_bytes d 0 → ((table root : ℕ) → IsTable d table root → index.level e root ≡ index.level d root)
     → keys_of index e ≡ keys_of index d
 keys_same index d e pairs front levels = λ i. record {
-  slot_of = found (pairs i);
+  slot_of = found_key (pairs i);
   due = due_said (front i);
   used_slots = next_slot_said (front i) - free_slots_in (front i);
   used_pages = next_page_said (front i) - free_pages_in (front i);
@@ -209,47 +198,25 @@ module _ (index : Index) (laws : Laws index) (d e : List ℕ) (table root : ℕ)
   ])
 
   pub keeps : Rests index root d e → KeepsKeys (keys_of index d) (keys_of index e)
-  keeps rests = record { slot_of = ap found (pairs_kept rests); slots = rests.slots; due = rests.due }
+  keeps rests = record { slot_of = ap found_key (pairs_kept rests); slots = rests.slots; due = rests.due }
 
-  module _ (asked : table < asked_tables) (key : ℕ) (small : key < 2 ^ 64) (absent : found (index.pairs d root) key ≡ None) (gains : Gains index root table key d e) where
+  module _ (asked : table < asked_tables) (key : ℕ) (absent : found (index.pairs d root) key ≡ None) (gains : Gains index root table key d e) where
     gained_here : (k : ℕ) → found (index.pairs e root) k ≡ cond (nat_eq key k) (Some (slot_due d)) (found (index.pairs d root) k)
     gained_here k = ap (λ (l : List Pair). found l k) gains.pairs ∙ found_inserted (index.pairs d root) key (slot_due d) k absent
 
-    new_here : found (index.pairs e root) key ≡ Some (slot_due d)
-    new_here = gained_here key ∙ ap (λ (b : Bool). cond b (Some (slot_due d)) (found (index.pairs d root) key)) (eq-eqb key key refl)
-
-    -- no other table has this root
-    gained_away : (number other : ℕ) → IsTable d number other → number ≢ table → index.pairs e other ≡ index.pairs d other
-    gained_away number other is ne = elim (cases_eq other root) [
-      | inl same ↦
-          let its = named_there number root (subst (λ (r : ℕ). IsTable d number r) same is) in
-          let mine = named_there table root named in
-          absurd (ne (carries_one e number table key key (slot_due d)
-          (found_given e number (index.pairs e root) key (slot_due d) (laws.given e number root grows.sound its) new_here).1
-          (found_given e table (index.pairs e root) key (slot_due d) (laws.given e table root grows.sound mine) new_here).1).0)
-      | inr differs ↦ (grows.others number other is differs).pairs
-    ]
-
-    pub gained : (q : ℕ) → found (pairs_of index e) q ≡ cond (nat_eq (key_in table key) q) (Some (slot_due d)) (found (pairs_of index d) q)
-    unfolding pairs_of
+    pub gained : (q : Key) → found_key (pairs_of index e) q ≡ cond (is_same_key (of_main key) q) (Some (slot_due d)) (found_key (pairs_of index d) q)
     gained q =
-        let none : found (pairs_of index d) (key_in table key) ≡ None = found_in index laws d table root key sound asked named small ∙ absent in
-        ap (λ (ts : List TableEntry). found (pairs_from index e 0 (take asked_tables ts)) q) grows.tables
-        ∙ gained_from index d e table root key (slot_due d) gained_here 0 table (asked_of d) (omega arith) (first_has asked_tables (tables_of d) table root asked named)
-        (λ i other is ne. gained_away i other (first_there asked_tables (tables_of d) i other is) ne) none q
+        let counts = laws.counts d sound in
+        let one : root ≡ 1 = asked_root d counts table root asked named in
+        found_main index e (laws.counts e grows.sound) q
+        ∙ ap (λ (r : ℕ). cond (is_of_table main_name q) (found (index.pairs e r) q.key) None) (sym one)
+        ∙ ap (λ (o : Option ℕ). cond (is_of_table main_name q) o None) (gained_here q.key)
+        ∙ go (is_of_table main_name q) (nat_eq key q.key) (found (index.pairs d root) q.key)
+        ∙ ap (cond (is_same_key (of_main key) q) (Some (slot_due d))) (ap (λ (r : ℕ). cond (is_of_table main_name q) (found (index.pairs d r) q.key) None) one ∙ sym (found_main index d counts q))
+      where
+        go : (b c : Bool) (o : Option ℕ) → cond b (cond c (Some (slot_due d)) o) None ≡ cond (b && c) (Some (slot_due d)) (cond b o None)
+        go true c o = refl
+        go false c o = refl
 
-    pub gains_key : GainsKey (key_in table key) (keys_of index d) (keys_of index e)
+    pub gains_key : GainsKey (of_main key) (keys_of index d) (keys_of index e)
     gains_key = record { slot_of = λ i q. gained q i; slots = gains.slots }
-
--- the pairs of `main`, which alone can be asked for
-main_keys : (ps : List Pair) → map (in_table 0) ps ≡ ps
-main_keys [] = refl
-main_keys (p ∷ ps) = ap (λ (l : List Pair). p ∷ l) (main_keys ps)
-
-pub main_pairs : (index : Index) (d : List ℕ) → IsTable d 0 1 → pairs_of index d ≡ index.pairs d 1
-unfolding pairs_of
-main_pairs index d is = go (tables_of d) is
-  where
-    go : (tables : List TableEntry) → root_in tables 0 ≡ Some 1 → pairs_from index d 0 (take asked_tables tables) ≡ index.pairs d 1
-    go [] none = absurd (cc)
-    go (entry ∷ entries) has = (let here : entry.root ≡ 1 = cc in append-nil (map (in_table 0) (index.pairs d entry.root)) ∙ main_keys (index.pairs d entry.root) ∙ ap (index.pairs d) here)

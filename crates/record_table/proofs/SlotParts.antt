@@ -1,6 +1,7 @@
 -- What parts that are whole slots do to the data.
-use Rattle.std.proofs.Common.{◌≡◌, ◌≢◌, ◌^◌, ℕ, ◌+◌, ◌*◌, ◌/◌, ◌<◌, ◌≤◌, ◌⊎◌, Bool, true, false, cond, inl, inr, List, [], ◌∷◌, length, refl, sym, ◌∙◌, ap, subst, arith}
-use Rattle.std.specs.Prelude.{nat_eq, Option, Some, None}
+use Rattle.std.proofs.Common.{◌≡◌, ◌≢◌, ◌^◌, ℕ, zero, suc, take, ◌+◌, ◌*◌, ◌/◌, ◌<◌, ◌≤◌, ◌⊎◌, Bool, true, false, cond, inl, inr, List, [], ◌∷◌, length, refl, sym, ◌∙◌, ap, subst, arith}
+use Rattle.std.specs.Prelude.{nat_eq, map, slice_get, Option, Some, None}
+use Rattle.std.specs.Option.{unwrap_or}
 use Rattle.std.specs.FinMap.{get}
 use Rattle.std.proofs.lemmas.Bool.{cases_eq, eq-eqb}
 use Rattle.std.proofs.lemmas.Bool.Decides.{eqb_tells}
@@ -10,23 +11,25 @@ use Rattle.mars_base.proofs.Puts.{length-put}
 use Rattle.pcm_media.proofs.Ranges.{range-put}
 use Rattle.array_shape.specs.Logged.{Part, applied}
 use Rattle.record_slots.specs.Slots.{slot_said}
+use Rattle.record_slots.specs.Names.{names_in}
 use Rattle.record_slots.specs.Super.{tables_said}
 use Rattle.record_slots.specs.Places.{page_bytes, slot_count, slot_at, slot_of, next_slot, tables_of, free_slot_of, IsOfKey, Carries}
 use Rattle.record_slots.specs.declared.free.Free.{Free}
 use Rattle.record_slots.specs.declared.slot.Slot.{Slot}
 use Rattle.record_slots.specs.declared.slot.Slot.TheVariants.{Absent, Present}
 use Rattle.record_slots.proofs.SlotLemmas.{free_says_none}
-use Rattle.history.specs.Writes.{Table}
-use Rattle.history.specs.Writes.{all_written, write_into}
-use Rattle.page_store.specs.Pairs.{Pair, found}
+use Rattle.history.specs.Key.{Key, of_main}
+use Rattle.history.specs.Writes.{Table, all_written, write_into}
+use Rattle.history.proofs.Keys.{cases_key}
+use Rattle.page_store.specs.Pairs.{Pair}
 use Rattle.page_store.specs.Index.{Index, IsTable, KeepsIndex}
 use Rattle.page_store.proofs.Reading.{part_missed}
 use Rattle.page_store.specs.Records.{value_of}
-use Rattle.record_table.specs.State.{key_in}
-use Rattle.record_table.specs.Shown.{table_in, table_of, write_of, writes_of, pairs_of, keys_of}
+use Rattle.page_store.specs.Shown.{saved_of}
+use Rattle.history.specs.Log.{Log}
+use Rattle.record_table.specs.Shown.{KeyPair, found_key, table_in, table_of, write_said, write_of, writes_of, pairs_of, keys_of}
 use Rattle.record_table.specs.Invariant.{IsSlotPart, AreSlotParts}
 use Rattle.history.proofs.Tables.{get-set_here, get-set_there, same_table}
-use Rattle.record_table.proofs.Joint.{key_apart}
 use Rattle.record_table.proofs.Sharing.{Laws, carries_one, placed, key_said, pairs_rest, keys_same}
 use Rattle.record_table.proofs.Tables.{record_at, get-table_in, value_is}
 
@@ -36,34 +39,85 @@ unfolding Carries
 free_not bytes t p None is some carries = some refl
 free_not bytes t p (Some f) is some carries = subst (λ (s : Option Slot). IsOfKey t p.0 s) (free_says_none (slot_of bytes p.1) f is) carries
 
+-- the same tables have the same names
+pub said_same : (d e : List ℕ) → tables_of e ≡ tables_of d → (said : Option Slot) → write_said e said ≡ write_said d said
+said_same d e tables None = refl
+said_same d e tables (Some (Absent j k)) = λ i. (record { table = unwrap_or (slice_get (names_in (tables i)) j) []; key = k }, None)
+said_same d e tables (Some (Present j k v)) = λ i. (record { table = unwrap_or (slice_get (names_in (tables i)) j) []; key = k }, Some v)
+
+pub writes_same : (d e : List ℕ) → tables_of e ≡ tables_of d → (log : List Part) → writes_of e log ≡ writes_of d log
+writes_same d e tables [] = refl
+writes_same d e tables (p ∷ ps) = λ i. said_same d e tables (slot_said p.1) i ∷ writes_same d e tables ps i
+
+pub saves_same : (d e : List ℕ) → tables_of e ≡ tables_of d → (saves : List (List Part)) → map (writes_of e) saves ≡ map (writes_of d) saves
+saves_same d e tables [] = refl
+saves_same d e tables (save ∷ saves) = λ i. writes_same d e tables save i ∷ saves_same d e tables saves i
+
+-- so a log of the same parts is the same
+pub log_kept : (d e : List ℕ) → tables_of e ≡ tables_of d → (now was : List Part) → now ≡ was → (counts before : List ℕ) → counts ≡ before
+    → ◌≡◌ {A = Log} (record { writes = writes_of e now; saved = map (writes_of e) (saved_of now counts) }) (record { writes = writes_of d was; saved = map (writes_of d) (saved_of was before) })
+log_kept d e tables now was parts counts before same = λ i. record {
+  writes = (writes_same d e tables now ∙ ap (writes_of d) parts) i;
+  saved = (saves_same d e tables (saved_of now counts) ∙ (λ j. map (writes_of d) (saved_of (parts j) (same j)))) i;
+}
+
 module _ (index : Index) (laws : Laws index) where
   -- two keys with the same slot are equal
-  pub one_slot : (d : List ℕ) → index.sound d → (a b slot : ℕ) → found (pairs_of index d) a ≡ Some slot → found (pairs_of index d) b ≡ Some slot → a ≡ b
+  pub one_slot : (d : List ℕ) → index.sound d → (a b : Key) (slot : ℕ) → found_key (pairs_of index d) a ≡ Some slot → found_key (pairs_of index d) b ≡ Some slot → a ≡ b
   one_slot d sound a b slot x y =
       let p = placed index laws d sound a slot x in
       let q = placed index laws d sound b slot y in
       let one = carries_one d p.table q.table p.key q.key slot p.carries q.carries in
-      p.is ∙ (λ i. key_in (one.0 i) (one.1 i)) ∙ sym q.is
+      p.is ∙ ap of_main one.1 ∙ sym q.is
 
   -- the key of a part is one of its table
-  pub part_key : (d : List ℕ) (part : Part) (is : IsSlotPart index d part) → (write_of part).0 ≡ key_in is.table is.key
-  part_key d part is = key_said (slot_said part.1) is.table is.key is.says
+  pub part_key : (d : List ℕ) → index.sound d → (part : Part) (is : IsSlotPart index d part) → (write_of d part).0 ≡ of_main is.key
+  part_key d sound part is = key_said d (laws.counts d sound) (slot_said part.1) is.table is.key is.asked is.says
 
-  -- parts stay slot parts in data with the same pairs and the same length
-  pub parts_carry : (d e : List ℕ) → pairs_of index e ≡ pairs_of index d → length e ≡ length d → (log : List Part) → AreSlotParts index d log → AreSlotParts index e log
-  parts_carry d e pairs long [] parts = tt
-  parts_carry d e pairs long (p ∷ ps) parts = (
+  -- a part stands for the same write in all sound data
+  part_same : (d e : List ℕ) → index.sound d → index.sound e → (p : Part) → IsSlotPart index d p → write_of e p ≡ write_of d p
+  part_same d e sound sound' p is =
+      let key : (write_of e p).0 ≡ (write_of d p).0 =
+      key_said e (laws.counts e sound') (slot_said p.1) is.table is.key is.asked is.says ∙ sym (part_key d sound p is) in
+      λ i. (key i, (sym (value_is e (slot_said p.1)) ∙ value_is d (slot_said p.1)) i)
+
+  pub parts_same : (d e : List ℕ) → index.sound d → index.sound e → (log : List Part) → AreSlotParts index d log → writes_of e log ≡ writes_of d log
+  parts_same d e sound sound' [] parts = refl
+  parts_same d e sound sound' (p ∷ ps) parts = λ i. part_same d e sound sound' p parts.0 i ∷ parts_same d e sound sound' ps parts.1 i
+
+  pub parts_take : (d : List ℕ) (n : ℕ) (log : List Part) → AreSlotParts index d log → AreSlotParts index d (take n log)
+  parts_take d zero log parts = tt
+  parts_take d (suc n) [] parts = tt
+  parts_take d (suc n) (p ∷ ps) parts = (parts.0, parts_take d n ps parts.1)
+
+  saves_so : (d e : List ℕ) → index.sound d → index.sound e → (log : List Part) → AreSlotParts index d log → (counts : List ℕ) → map (writes_of e) (saved_of log counts) ≡ map (writes_of d) (saved_of log counts)
+  saves_so d e sound sound' log parts [] = refl
+  saves_so d e sound sound' log parts (n ∷ counts) = λ i. parts_same d e sound sound' (take n log) (parts_take d n log parts) i ∷ saves_so d e sound sound' log parts counts i
+
+  -- so a log of the same slot parts is the same
+  pub log_carried : (d e far : List ℕ) → far ≡ e → index.sound d → index.sound e → (now was : List Part) → now ≡ was → AreSlotParts index d was → (counts before : List ℕ) → counts ≡ before
+      → ◌≡◌ {A = Log} (record { writes = writes_of far now; saved = map (writes_of far) (saved_of now counts) }) (record { writes = writes_of d was; saved = map (writes_of d) (saved_of was before) })
+  log_carried d e far at sound sound' now was same parts counts before equal = λ i. record {
+    writes = ((λ j. writes_of (at j) (same j)) ∙ parts_same d e sound sound' was parts) i;
+    saved = ((λ j. map (writes_of (at j)) (saved_of (same j) (equal j))) ∙ saves_so d e sound sound' was parts before) i;
+  }
+
+  -- parts stay slot parts in sound data with the same pairs and the same length
+  pub parts_carry : (d e : List ℕ) → index.sound d → index.sound e → pairs_of index e ≡ pairs_of index d → length e ≡ length d → (log : List Part) → AreSlotParts index d log → AreSlotParts index e log
+  parts_carry d e sound sound' pairs long [] parts = tt
+  parts_carry d e sound sound' pairs long (p ∷ ps) parts = (
     record {
       slot = parts.0.slot;
-      named = ap (λ (l : List Pair). found l (write_of p).0) pairs ∙ parts.0.named;
+      named = (λ i. found_key (pairs i) (part_same d e sound sound' p parts.0 i).0) ∙ parts.0.named;
       place = parts.0.place ∙ ap (λ (n : ℕ). 64 * (4 * (n / 512) + parts.0.slot)) (sym long);
       size = parts.0.size;
       table = parts.0.table;
       key = parts.0.key;
+      asked = parts.0.asked;
       small = parts.0.small;
       says = parts.0.says;
     },
-    parts_carry d e pairs long ps parts.1,
+    parts_carry d e sound sound' pairs long ps parts.1,
   )
 
   module _ (d : List ℕ) (sound : index.sound d) (part : Part) (is : IsSlotPart index d part) where
@@ -72,9 +126,10 @@ module _ (index : Index) (laws : Laws index) where
 
     here : (is.slot < next_slot d) × Carries d is.table (is.key, is.slot) × (next_slot d ≤ slot_count d)
     here =
-        let p = placed index laws d sound (write_of part).0 is.slot is.named in
-        let one = key_apart p.table is.table p.key is.key p.small is.small (sym p.is ∙ part_key d part is) in
-        (p.given, subst (λ (t : ℕ). Carries d t (is.key, is.slot)) one.0 (subst (λ (k : ℕ). Carries d p.table (k, is.slot)) one.1 p.carries), (laws.counts d sound).slots)
+        let p = placed index laws d sound (write_of d part).0 is.slot is.named in
+        let table : p.table ≡ is.table = omega (arith, p.asked, is.asked) in
+        let key : p.key ≡ is.key = ap (λ (k : Key). k.key) (sym p.is ∙ part_key d sound part is) in
+        (p.given, subst (λ (t : ℕ). Carries d t (is.key, is.slot)) table (subst (λ (k : ℕ). Carries d p.table (k, is.slot)) key p.carries), (laws.counts d sound).slots)
 
     pub part_fits : part.0 + length part.1 ≤ length d
     part_fits = omega (arith, here.0, here.2, is.place, is.size)
@@ -129,28 +184,28 @@ module _ (index : Index) (laws : Laws index) where
     pub part_sound : index.sound (put d part.0 part.1) × (pairs_of index (put d part.0 part.1) ≡ pairs_of index d)
     part_sound = (part_rests.0, pairs_rest index d (put d part.0 part.1) part_tables (λ table root is. (part_rests.1 table root is).0))
 
-    record_there : (o : Option ℕ) (q : ℕ) → q ≢ (write_of part).0 → found (pairs_of index d) q ≡ o → record_at (put d part.0 part.1) o ≡ record_at d o
+    record_there : (o : Option ℕ) (q : Key) → q ≢ (write_of d part).0 → found_key (pairs_of index d) q ≡ o → record_at (put d part.0 part.1) o ≡ record_at d o
     record_there None q ne at = refl
     record_there (Some slot) q ne at =
-        let other : slot ≢ is.slot = λ e. ne (one_slot d sound q (write_of part).0 is.slot (at ∙ ap Some e) is.named) in
+        let other : slot ≢ is.slot = λ e. ne (one_slot d sound q (write_of d part).0 is.slot (at ∙ ap Some e) is.named) in
         ap (λ (b : List ℕ). value_of (slot_said b)) (slot_there slot other)
 
-    pub part_table : table_of index (put d part.0 part.1) ≡ write_into (table_of index d) (write_of part)
+    pub part_table : table_of index (put d part.0 part.1) ≡ write_into (table_of index d) (write_of d part)
     unfolding table_of
-    part_table = same_table (table_in (put d part.0 part.1) (pairs_of index (put d part.0 part.1))) (write_into (table_in d (pairs_of index d)) (write_of part)) (λ q.
+    part_table = same_table (table_in (put d part.0 part.1) (pairs_of index (put d part.0 part.1))) (write_into (table_in d (pairs_of index d)) (write_of d part)) (λ q.
         get-table_in (put d part.0 part.1) (pairs_of index (put d part.0 part.1)) q
-        ∙ ap (λ (l : List Pair). record_at (put d part.0 part.1) (found l q)) part_sound.1
-        ∙ elim (cases_eq q (write_of part).0) [
+        ∙ ap (λ (l : List KeyPair). record_at (put d part.0 part.1) (found_key l q)) part_sound.1
+        ∙ elim (cases_key q (write_of d part).0) [
           | inl same ↦
-              ap (λ (k : ℕ). record_at (put d part.0 part.1) (found (pairs_of index d) k)) same
+              ap (λ (k : Key). record_at (put d part.0 part.1) (found_key (pairs_of index d) k)) same
               ∙ ap (record_at (put d part.0 part.1)) is.named
               ∙ ap (λ (b : List ℕ). value_of (slot_said b)) slot_here
-              ∙ value_is (slot_said part.1)
-              ∙ sym (ap (get (write_into (table_in d (pairs_of index d)) (write_of part))) same ∙ get-set_here (table_in d (pairs_of index d)) (write_of part).0 (write_of part).1)
+              ∙ value_is d (slot_said part.1)
+              ∙ sym (ap (get (write_into (table_in d (pairs_of index d)) (write_of d part))) same ∙ get-set_here (table_in d (pairs_of index d)) (write_of d part).0 (write_of d part).1)
           | inr ne ↦
-              record_there (found (pairs_of index d) q) q ne refl
+              record_there (found_key (pairs_of index d) q) q ne refl
               ∙ sym (get-table_in d (pairs_of index d) q)
-              ∙ sym (get-set_there (table_in d (pairs_of index d)) (write_of part).0 (write_of part).1 q ne)
+              ∙ sym (get-set_there (table_in d (pairs_of index d)) (write_of d part).0 (write_of d part).1 q ne)
         ])
 
     pub part_keys : keys_of index (put d part.0 part.1) ≡ keys_of index d
@@ -163,27 +218,27 @@ module _ (index : Index) (laws : Laws index) where
     pub size : length e ≡ length d
     pub keys : keys_of index e ≡ keys_of index d
     pub tables : tables_of e ≡ tables_of d
-    pub table : table_of index e ≡ all_written (table_of index d) (writes_of log)
+    pub table : table_of index e ≡ all_written (table_of index d) (writes_of d log)
 
   pub applied_parts : (log : List Part) (d : List ℕ) → index.sound d → AreSlotParts index d log → IsWritten d log (applied log d)
   applied_parts [] d sound parts = record { sound = sound; pairs = refl; size = refl; keys = refl; tables = refl; table = refl }
   applied_parts (p ∷ ps) d sound parts =
       let one = part_sound d sound p parts.0 in
       let long = part_long d sound p parts.0 in
-      let rest = applied_parts ps (put d p.0 p.1) one.0 (parts_carry d (put d p.0 p.1) one.1 long ps parts.1) in
+      let rest = applied_parts ps (put d p.0 p.1) one.0 (parts_carry d (put d p.0 p.1) sound one.0 one.1 long ps parts.1) in
       record {
         sound = rest.sound;
         pairs = rest.pairs ∙ one.1;
         size = rest.size ∙ long;
         keys = rest.keys ∙ part_keys d sound p parts.0;
         tables = rest.tables ∙ part_tables d sound p parts.0;
-        table = rest.table ∙ ap (λ (t : Table). all_written t (writes_of ps)) (part_table d sound p parts.0);
+        table = rest.table ∙ (λ i. all_written (part_table d sound p parts.0 i) (writes_same d (put d p.0 p.1) (part_tables d sound p parts.0) ps i));
       }
 
   -- what a number sees for a key is the record in its slot
-  pub seen_at : (log : List Part) (d : List ℕ) → index.sound d → AreSlotParts index d log → (q : ℕ)
-      → get (all_written (table_of index d) (writes_of log)) q ≡ record_at (applied log d) (found (pairs_of index d) q)
+  pub seen_at : (log : List Part) (d : List ℕ) → index.sound d → AreSlotParts index d log → (q : Key)
+      → get (all_written (table_of index d) (writes_of d log)) q ≡ record_at (applied log d) (found_key (pairs_of index d) q)
   unfolding table_of
   seen_at log d sound parts q =
       let w = applied_parts log d sound parts in
-      sym (ap (λ (t : Table). get t q) w.table) ∙ get-table_in (applied log d) (pairs_of index (applied log d)) q ∙ ap (λ (l : List Pair). record_at (applied log d) (found l q)) w.pairs
+      sym (ap (λ (t : Table). get t q) w.table) ∙ get-table_in (applied log d) (pairs_of index (applied log d)) q ∙ ap (λ (l : List KeyPair). record_at (applied log d) (found_key l q)) w.pairs

@@ -12,6 +12,8 @@ use Rattle.page_store.specs.State.{PagesState, log_of, with_one}
 use Rattle.page_store.specs.Command as page
 use Rattle.page_store.specs.Kept.{IsFront}
 use Rattle.page_store.proofs.Views.{saved_or_none}
+use Rattle.record_slots.specs.Places.{tables_of}
+use Rattle.history.specs.Key.{Key}
 use Rattle.history.specs.Writes.{Write}
 use Rattle.history.specs.Table.{has_save}
 use Rattle.history.specs.Log.{Log, save_at, floor_of, log_after}
@@ -23,7 +25,7 @@ use Rattle.record_table.specs.Calls.{after}
 use Rattle.record_table.specs.Shown.{table_of, write_of, writes_of, shown_by}
 use Rattle.record_table.specs.Invariant.{IsSlotPart, AreSlotParts}
 use Rattle.record_table.proofs.Sharing.{Laws}
-use Rattle.record_table.proofs.SlotParts.{IsWritten, applied_parts, parts_carry}
+use Rattle.record_table.proofs.SlotParts.{IsWritten, writes_same, saves_same, applied_parts, parts_carry, parts_take}
 use Rattle.record_table.proofs.Writing.{writes_after, parts_after}
 
 -- a function with its own value put at a place
@@ -38,30 +40,34 @@ with_same f t = λ i u. one u i
         go false other = refl
 
 -- what a number has logged, from its parts and its saves
-abbrev log_in : Option (List Part) → List (List Part) → Log
-log_in log saves = record { writes = writes_of (listed log); saved = map writes_of saves }
+abbrev pub log_in : List ℕ → Option (List Part) → List (List Part) → Log
+log_in bytes log saves = record { writes = writes_of bytes (listed log); saved = map (writes_of bytes) saves }
 
 -- the logs of numbers, after the parts and the saves of one have changed
-logs_with : (logs : Logs Part) (saved : ℕ → List (List Part)) (t : ℕ) (log : Option (List Part)) (saves : List (List Part)) (own : Log) → log_in log saves ≡ own
-    → (λ (u : ℕ). log_in (with_log logs t log u) (with_one saved t saves u)) ≡ with_one (λ (u : ℕ). log_in (logs u) (saved u)) t own
-logs_with logs saved t log saves own is = λ i u. one u i
+logs_with : (bytes : List ℕ) (logs : Logs Part) (saved : ℕ → List (List Part)) (t : ℕ) (log : Option (List Part)) (saves : List (List Part)) (own : Log) → log_in bytes log saves ≡ own
+    → (λ (u : ℕ). log_in bytes (with_log logs t log u) (with_one saved t saves u)) ≡ with_one (λ (u : ℕ). log_in bytes (logs u) (saved u)) t own
+logs_with bytes logs saved t log saves own is = λ i u. one u i
   where
-    one : (u : ℕ) → log_in (with_log logs t log u) (with_one saved t saves u) ≡ with_one (λ (k : ℕ). log_in (logs k) (saved k)) t own u
+    one : (u : ℕ) → log_in bytes (with_log logs t log u) (with_one saved t saves u) ≡ with_one (λ (k : ℕ). log_in bytes (logs k) (saved k)) t own u
     one u = go (nat_eq u t)
       where
-        go : (b : Bool) → log_in (cond b log (logs u)) (cond b saves (saved u)) ≡ cond b own (log_in (logs u) (saved u))
+        go : (b : Bool) → log_in bytes (cond b log (logs u)) (cond b saves (saved u)) ≡ cond b own (log_in bytes (logs u) (saved u))
         go true = is
         go false = refl
 
+-- the logs over data with the same tables
+pub logs_same : (d e : List ℕ) → tables_of e ≡ tables_of d → (logs : Logs Part) (saved : ℕ → List (List Part)) → (λ (u : ℕ). log_in e (logs u) (saved u)) ≡ (λ (u : ℕ). log_in d (logs u) (saved u))
+logs_same d e tables logs saved = λ i u. record { writes = writes_same d e tables (listed (logs u)) i; saved = saves_same d e tables (saved u) i }
+
 -- the state after one more write of a number
-abbrev pub written : TableState → ℕ → ℕ → Option (List ℕ) → TableState
+abbrev pub written : TableState → ℕ → Key → Option (List ℕ) → TableState
 written s t key value = record s { logs = with_one s.logs t (log.written (s.logs t) (key, value)) }
 
 -- the writes at a save
-saves_at : (saved : List (List Part)) (n : ℕ) → save_at (map writes_of saved) n ≡ writes_of (pages.save_at saved n)
-saves_at saved n = at saved (n - 1)
+saves_at : (bytes : List ℕ) (saved : List (List Part)) (n : ℕ) → save_at (map (writes_of bytes) saved) n ≡ writes_of bytes (pages.save_at saved n)
+saves_at bytes saved n = at saved (n - 1)
   where
-    at : (ls : List (List Part)) (i : ℕ) → get_or (map writes_of ls) i [] ≡ writes_of (get_or ls i [])
+    at : (ls : List (List Part)) (i : ℕ) → get_or (map (writes_of bytes) ls) i [] ≡ writes_of bytes (get_or ls i [])
     at [] i = refl
     at (l ∷ ls) zero = refl
     at (l ∷ ls) (suc i) = at ls i
@@ -73,8 +79,8 @@ pub floors : (index : Index) (s : PagesState) (t : ℕ) → s.top t ≡ None →
 floors index s t closed =
     ap (λ (o : Option ℕ). max (length (pages.save_at (s.saved t) (length (s.saved t)))) (unwrap_or o 0)) closed
     ∙ none_above (length (pages.save_at (s.saved t) (length (s.saved t))))
-    ∙ sym (length-map (pages.save_at (s.saved t) (length (s.saved t))) write_of)
-    ∙ sym (ap length (ap (save_at (map writes_of (s.saved t))) (length-map (s.saved t) writes_of) ∙ saves_at (s.saved t) (length (s.saved t))))
+    ∙ sym (length-map (pages.save_at (s.saved t) (length (s.saved t))) (write_of s.store.bytes))
+    ∙ sym (ap length (ap (save_at (map (writes_of s.store.bytes) (s.saved t))) (length-map (s.saved t) (writes_of s.store.bytes)) ∙ saves_at s.store.bytes (s.saved t) (length (s.saved t))))
 
 module _ (index : Index) (laws : Laws index) (s : PagesState) (t : ℕ) where
   -- with the same table
@@ -83,38 +89,39 @@ module _ (index : Index) (laws : Laws index) (s : PagesState) (t : ℕ) where
 
   -- a slot is written
   pub shown_write : index.sound s.store.bytes → s.top t ≡ None → (new : Part) → IsSlotPart index s.store.bytes new → AreSlotParts index s.store.bytes (log_of s t)
-      → shown_by index (page.after (page.write_as t new.0 new.1) s) ≡ written (shown_by index s) t (write_of new).0 (write_of new).1
+      → shown_by index (page.after (page.write_as t new.0 new.1) s) ≡ written (shown_by index s) t (write_of s.store.bytes new).0 (write_of s.store.bytes new).1
   shown_write sound closed new is parts =
-      ap (λ (saved : ℕ → List (List Part)). shown (λ (u : ℕ). log_in (with_log s.store.logs t (Some (with_write (pages.floor_of s t) new.0 new.1 (log_of s t))) u) (saved u))) (sym (with_same s.saved t))
-      ∙ ap shown (logs_with s.store.logs s.saved t (Some (with_write (pages.floor_of s t) new.0 new.1 (log_of s t))) (s.saved t) (log.written ((shown_by index s).logs t) (write_of new))
-      (ap (λ (ws : List Write). (let l : Log = record { writes = ws; saved = map writes_of (s.saved t) } in l))
-      (ap (λ (n : ℕ). writes_of (with_write n new.0 new.1 (log_of s t))) (floors index s t closed)
+      ap (λ (saved : ℕ → List (List Part)). shown (λ (u : ℕ). log_in s.store.bytes (with_log s.store.logs t (Some (with_write (pages.floor_of s t) new.0 new.1 (log_of s t))) u) (saved u))) (sym (with_same s.saved t))
+      ∙ ap shown (logs_with s.store.bytes s.store.logs s.saved t (Some (with_write (pages.floor_of s t) new.0 new.1 (log_of s t))) (s.saved t) (log.written ((shown_by index s).logs t) (write_of s.store.bytes new))
+      (ap (λ (ws : List Write). (let l : Log = record { writes = ws; saved = map (writes_of s.store.bytes) (s.saved t) } in l))
+      (ap (λ (n : ℕ). writes_of s.store.bytes (with_write n new.0 new.1 (log_of s t))) (floors index s t closed)
       ∙ writes_after index laws s.store.bytes sound new is (floor_of ((shown_by index s).logs t)) (log_of s t) parts)))
 
   pub shown_save : (reply : Reply) → shown_by index (page.after (page.save t) s) ≡ after t Save reply (shown_by index s)
   shown_save reply =
-      ap (λ (logs : Logs Part). shown (λ (u : ℕ). log_in (logs u) (with_one s.saved t (s.saved t ++ log_of s t ∷ []) u))) (sym (with_same s.store.logs t))
-      ∙ ap shown (logs_with s.store.logs s.saved t (s.store.logs t) (s.saved t ++ log_of s t ∷ []) (log_after ((shown_by index s).logs t) Save reply)
-      (ap (λ (saves : List (List Write)). (let l : Log = record { writes = writes_of (log_of s t); saved = saves } in l)) (map-append writes_of (s.saved t) (log_of s t ∷ []))))
+      ap (λ (logs : Logs Part). shown (λ (u : ℕ). log_in s.store.bytes (logs u) (with_one s.saved t (s.saved t ++ log_of s t ∷ []) u))) (sym (with_same s.store.logs t))
+      ∙ ap shown (logs_with s.store.bytes s.store.logs s.saved t (s.store.logs t) (s.saved t ++ log_of s t ∷ []) (log_after ((shown_by index s).logs t) Save reply)
+      (ap (λ (saves : List (List Write)). (let l : Log = record { writes = writes_of s.store.bytes (log_of s t); saved = saves } in l)) (map-append (writes_of s.store.bytes) (s.saved t) (log_of s t ∷ []))))
 
   pub shown_back : (n : ℕ) (reply : Reply) → has_save ((shown_by index s).logs t).saved n ≡ true → IsFront (pages.save_at (s.saved t) n) (log_of s t) → shown_by index (page.after (page.back t n) s) ≡ after t (Back n) reply (shown_by index s)
-  shown_back n reply there front = ap shown (logs_with s.store.logs s.saved t (option_map (λ log. pages.save_at (s.saved t) n) (s.store.logs t)) (take n (s.saved t)) (log_after ((shown_by index s).logs t) (Back n) reply)
+  shown_back n reply there front = ap shown (logs_with s.store.bytes s.store.logs s.saved t (option_map (λ log. pages.save_at (s.saved t) n) (s.store.logs t)) (take n (s.saved t)) (log_after ((shown_by index s).logs t) (Back n) reply)
       ((λ i. record {
-        writes = (ap writes_of (saved_or_none (pages.save_at (s.saved t) n) (s.store.logs t) front) ∙ sym (saves_at (s.saved t) n)) i;
-        saved = sym (take-map writes_of n (s.saved t)) i;
+        writes = (ap (writes_of s.store.bytes) (saved_or_none (pages.save_at (s.saved t) n) (s.store.logs t) front) ∙ sym (saves_at s.store.bytes (s.saved t) n)) i;
+        saved = sym (take-map (writes_of s.store.bytes) n (s.saved t)) i;
       })
-      ∙ sym (ap (λ (b : Bool). cond b (let l : Log = record { writes = save_at (map writes_of (s.saved t)) n; saved = take n (map writes_of (s.saved t)) } in l) ((shown_by index s).logs t)) there)))
+      ∙ sym (ap (λ (b : Bool). cond b (let l : Log = record { writes = save_at (map (writes_of s.store.bytes) (s.saved t)) n; saved = take n (map (writes_of s.store.bytes) (s.saved t)) } in l) ((shown_by index s).logs t)) there)))
 
   pub shown_commit : (reply : Reply) → index.sound s.store.bytes → AreSlotParts index s.store.bytes (log_of s t) → shown_by index (page.after (page.end t true) s) ≡ after t Commit reply (shown_by index s)
   shown_commit reply sound parts = λ i. record {
     table = IsWritten.table (applied_parts index laws (log_of s t) s.store.bytes sound parts) i;
-    logs = logs_with s.store.logs s.saved t None [] (record { writes = []; saved = [] }) refl i;
+    logs = (logs_same s.store.bytes (applied (log_of s t) s.store.bytes) (IsWritten.tables (applied_parts index laws (log_of s t) s.store.bytes sound parts)) (with_log s.store.logs t None) (with_one s.saved t [])
+        ∙ logs_with s.store.bytes s.store.logs s.saved t None [] (record { writes = []; saved = [] }) refl) i;
   }
 
   pub shown_abort : (reply : Reply) → shown_by index (page.after (page.end t false) s) ≡ after t Abort reply (shown_by index s)
   shown_abort reply = λ i. record {
     table = table_of index s.store.bytes;
-    logs = logs_with s.store.logs s.saved t None [] (record { writes = []; saved = [] }) refl i;
+    logs = logs_with s.store.bytes s.store.logs s.saved t None [] (record { writes = []; saved = [] }) refl i;
   }
 
 -- the parts of one number changed, those of the others did not
@@ -125,11 +132,6 @@ parts_one index d logs t log here there u = go (nat_eq u t)
     go true = here
     go false = there u
 
-parts_take : (index : Index) (d : List ℕ) (n : ℕ) (log : List Part) → AreSlotParts index d log → AreSlotParts index d (take n log)
-parts_take index d zero log parts = tt
-parts_take index d (suc n) [] parts = tt
-parts_take index d (suc n) (p ∷ ps) parts = (parts.0, parts_take index d n ps parts.1)
-
 module _ (index : Index) (laws : Laws index) (s : PagesState) (t : ℕ) (sound : index.sound s.store.bytes) (parts : (u : ℕ) → AreSlotParts index s.store.bytes (log_of s u)) where
   pub parts_write : (new : Part) → IsSlotPart index s.store.bytes new → (u : ℕ) → AreSlotParts index s.store.bytes (log_of (page.after (page.write_as t new.0 new.1) s) u)
   parts_write new is = parts_one index s.store.bytes s.store.logs t (Some (with_write (pages.floor_of s t) new.0 new.1 (log_of s t))) (parts_after index laws s.store.bytes sound new is (pages.floor_of s t) (log_of s t) (parts t)) parts
@@ -137,7 +139,7 @@ module _ (index : Index) (laws : Laws index) (s : PagesState) (t : ℕ) (sound :
   pub parts_back : (n : ℕ) → IsFront (pages.save_at (s.saved t) n) (log_of s t) → (u : ℕ) → AreSlotParts index s.store.bytes (log_of (page.after (page.back t n) s) u)
   parts_back n front = parts_one index s.store.bytes s.store.logs t (option_map (λ log. pages.save_at (s.saved t) n) (s.store.logs t))
       (subst (AreSlotParts index s.store.bytes) (sym (saved_or_none (pages.save_at (s.saved t) n) (s.store.logs t) front))
-      (subst (AreSlotParts index s.store.bytes) front (parts_take index s.store.bytes (length (pages.save_at (s.saved t) n)) (log_of s t) (parts t)))) parts
+      (subst (AreSlotParts index s.store.bytes) front (parts_take index laws s.store.bytes (length (pages.save_at (s.saved t) n)) (log_of s t) (parts t)))) parts
 
   pub parts_abort : (u : ℕ) → AreSlotParts index s.store.bytes (log_of (page.after (page.end t false) s) u)
   parts_abort = parts_one index s.store.bytes s.store.logs t None tt parts
@@ -145,4 +147,4 @@ module _ (index : Index) (laws : Laws index) (s : PagesState) (t : ℕ) (sound :
   pub parts_commit : (u : ℕ) → AreSlotParts index (applied (log_of s t) s.store.bytes) (log_of (page.after (page.end t true) s) u)
   parts_commit =
       let w = applied_parts index laws (log_of s t) s.store.bytes sound (parts t) in
-      parts_one index (applied (log_of s t) s.store.bytes) s.store.logs t None tt (λ u. parts_carry index laws s.store.bytes (applied (log_of s t) s.store.bytes) w.pairs w.size (log_of s u) (parts u))
+      parts_one index (applied (log_of s t) s.store.bytes) s.store.logs t None tt (λ u. parts_carry index laws s.store.bytes (applied (log_of s t) s.store.bytes) sound w.sound w.pairs w.size (log_of s u) (parts u))

@@ -13,11 +13,10 @@ use Rattle.record_slots.proofs.MainAlone.{says_main, length-main}
 use Rattle.record_slots.specs.declared.super_page.Super.{Super}
 use Rattle.record_slots.specs.declared.super_page.TableEntry.{TableEntry}
 use Rattle.page_store.specs.Index.{Index, IsTable, HasCounts, Extends}
-use Rattle.page_store.specs.Pairs.{Pair, found}
 use Rattle.page_store.proofs.Reading.{part_missed}
 use Rattle.history.specs.Writes.{Table, write_into}
 use Rattle.page_store.specs.Records.{value_of}
-use Rattle.record_table.specs.Shown.{table_in, table_of, pairs_of, keys_of}
+use Rattle.record_table.specs.Shown.{KeyPair, found_key, table_in, table_of, pairs_of, keys_of}
 use Rattle.record_table.specs.State.{Keys}
 use Rattle.record_table.specs.Upgrading.{upgraded}
 use Rattle.record_table.proofs.Sharing.{Laws, pairs_rest, level_same}
@@ -50,7 +49,7 @@ abbrev pub front_of : List ℕ → Super
 front_of d = main_super (form_said (page_bytes d 0)) (next_slot d) (next_page d)
 
 -- records whose slots are as they were
-pub same_slots : (d e : List ℕ) → ((slot : ℕ) → slot_of e slot ≡ slot_of d slot) → (ps : List Pair) → table_in e ps ≡ table_in d ps
+pub same_slots : (d e : List ℕ) → ((slot : ℕ) → slot_of e slot ≡ slot_of d slot) → (ps : List KeyPair) → table_in e ps ≡ table_in d ps
 same_slots d e same [] = refl
 same_slots d e same (p ∷ ps) = λ i. write_into (same_slots d e same ps i) (p.0, value_of (slot_said (same p.1 i)))
 
@@ -176,7 +175,7 @@ module _ (index : Index) (laws : Laws index) (d page : List ℕ) (sound : index.
 
   keys_kept : keys_of index e ≡ keys_of index d
   keys_kept = λ i. record {
-    slot_of = found (pairs_same i);
+    slot_of = found_key (pairs_same i);
     due = if nat_eq (free_slots_same i) 0 then slot_same i else free_slot_same i - 1;
     used_slots = slot_same i - free_slots_same i;
     used_pages = page_same i - free_pages_same i;

@@ -23,7 +23,7 @@ use Rattle.page_store.specs.Index.{Index, IsTable}
 use Rattle.page_store.specs.Looks.{LookCause}
 use Rattle.page_store.specs.Looks as look
 use Rattle.page_store.specs.Outline.{Outline}
-use Rattle.page_store.specs.Shown.{PagesView}
+use Rattle.page_store.specs.Shown.{PagesView, saved_of}
 use Rattle.page_store.specs.Shown as pages
 use Rattle.page_store.specs.State.{PagesState, log_of}
 use Rattle.page_store.specs.declared.fault.PageFault.{PageFault}
@@ -31,8 +31,9 @@ use Rattle.page_store.specs.declared.fault.PageFault.TheVariants as fault
 use Rattle.record_table.specs.Does.{OpensWith, is_failed}
 use Rattle.record_table.specs.Faults.{as_table, told_as}
 use Rattle.record_table.specs.Invariant.{AreSlotParts, Rests, Holds}
-use Rattle.record_table.specs.Names.{names_of, OpensNamed}
-use Rattle.record_table.specs.Shown.{table_of, state_of, shown_by, keys_of, writes_of}
+use Rattle.record_table.specs.Names.{names_of}
+use Rattle.record_table.specs.Shown.{table_of, state_of, shown_by, keys_of}
+use Rattle.record_table.proofs.States.{logs_same}
 use Rattle.record_table.specs.Sought.{LooksAs}
 use Rattle.record_table.specs.State.{TableState}
 use Rattle.record_table.specs.Upgrading.{upgraded, OpensUpgraded, Upgrades, UpgradeCause}
@@ -275,11 +276,11 @@ module _ (tells : Bool) (Opens : List ℕ → List ℕ → Type 0) (index : Inde
           ranges = λ u. ap (λ (o : Outline). listed (o.ranges u)) out;
           others = λ u ne. ap (λ (o : Outline). o.ranges u) out;
           tables = λ told. ap (λ (s : PagesState). tables_of s.store.bytes) (now told) ∙ (facts told).tables;
-          state = λ told. ap (shown_by index) (now told) ∙ (λ i. record (state_of index mid) { table = (facts told).records i });
+          state = λ told. ap (shown_by index) (now told) ∙ (λ i. record { table = (facts told).records i; logs = logs_same mid.store.state.bytes (put mid.store.state.bytes 0 bytes) (facts told).tables mid.store.state.logs (λ u. saved_of (listed (mid.store.state.logs u)) (mid.counts u)) i });
           tied = λ told. record {
             sound = subst (λ (s : PagesState). index.sound s.store.bytes) (sym (now told)) (facts told).sound;
             parts = λ u. subst (λ (s : PagesState). AreSlotParts index s.store.bytes (log_of s u)) (sym (now told))
-                (parts_carry index laws mid.store.state.bytes (put mid.store.state.bytes 0 bytes) (facts told).pairs (facts told).size (listed (mid.store.state.logs u)) ((rests.tied told).parts u));
+                (parts_carry index laws mid.store.state.bytes (put mid.store.state.bytes 0 bytes) (rests.tied told).sound (facts told).sound (facts told).pairs (facts told).size (listed (mid.store.state.logs u)) ((rests.tied told).parts u));
           };
           time = time_of (Ok tt) does;
         }

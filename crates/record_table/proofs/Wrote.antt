@@ -17,7 +17,7 @@ use Rattle.page_store.specs.Edit.{edit_pos}
 use Rattle.page_store.specs.Index.{Index, slots_of}
 use Rattle.page_store.specs.Kept.{IsOrdered}
 use Rattle.page_store.specs.Outline.{Outline, floor_in}
-use Rattle.page_store.specs.Pairs.{found}
+use Rattle.page_store.specs.Records.{value_of}
 use Rattle.page_store.specs.Shown.{PagesView, outline_of}
 use Rattle.page_store.specs.Shown as pages
 use Rattle.page_store.specs.State.{PagesState, log_of}
@@ -29,15 +29,17 @@ use Rattle.page_store.proofs.Shown.{IsTold, outlined}
 use Rattle.record_table.specs.Causes.{HasRoom, IsFull, IsShort}
 use Rattle.record_table.specs.Does.{OpensWith}
 use Rattle.record_table.specs.Invariant.{IsSlotPart, AreSlotParts, IsTied, Rests}
-use Rattle.record_table.specs.Shown.{write_said, state_of, shown_by, pairs_of, held_on}
+use Rattle.record_table.specs.Shown.{found_key, write_of, asked_tables, state_of, shown_by, pairs_of, held_on}
+use Rattle.history.specs.Key.{Key, of_main}
 use Rattle.history.specs.Log.{floor_of, is_rewritten}
-use Rattle.record_table.proofs.Sharing.{Laws}
+use Rattle.record_table.proofs.Sharing.{Laws, key_said}
+use Rattle.record_table.proofs.Tables.{value_is}
 use Rattle.record_table.proofs.Writing.{rewrites}
 use Rattle.record_table.proofs.States.{written, floors, shown_write, parts_write}
 use Rattle.record_table.proofs.Moving.{Failed}
 
 -- a write was logged
-pub record Wrote (tells : Bool) (Opens : List ℕ → List ℕ → Type 0) (index : Index) (t key : ℕ) (value : Option (List ℕ)) (slot : ℕ) (old new : PagesView) : Type 0 where
+pub record Wrote (tells : Bool) (Opens : List ℕ → List ℕ → Type 0) (index : Index) (t : ℕ) (key : Key) (value : Option (List ℕ)) (slot : ℕ) (old new : PagesView) : Type 0 where
   pub shape : new.store.shape ≡ old.store.shape
   pub dead : new.store.is_dead ≡ old.store.is_dead
   pub faults : new.store.faults ≡ old.store.faults
@@ -66,32 +68,39 @@ at_most_one true = omega arith
 at_most_one false = omega arith
 
 module _ (tells : Bool) (Opens : List ℕ → List ℕ → Type 0) (index : Index) (laws : Laws index) (t slot : ℕ) (said : Slot) (old new : PagesView) (alive : IsAlive old.store) (rests : Rests tells index old)
-    (told_by : IsTrue tells → IsTold old.store) (ordered : IsOrdered (outline_of old)) (named : IsTrue tells → found (pairs_of index old.store.state.bytes) (write_said (Some said)).0 ≡ Some slot)
-    (reads : slot_said (slot_bytes said) ≡ Some said) (whole : length (slot_bytes said) ≡ 64) (table key : ℕ) (small : key < 2 ^ 64) (of : IsOfKey table key (Some said)) where
+    (table key : ℕ) (asked : table < asked_tables) (small : key < 2 ^ 64) (of : IsOfKey table key (Some said)) (told_by : IsTrue tells → IsTold old.store) (ordered : IsOrdered (outline_of old)) (named : IsTrue tells → found_key (pairs_of index old.store.state.bytes) (of_main key) ≡ Some slot)
+    (reads : slot_said (slot_bytes said) ≡ Some said) (whole : length (slot_bytes said) ≡ 64) where
   addr : ℕ
   addr = 64 * (slots_of old.store.shape + slot)
+
+  says_it : IsOfKey table key (slot_said (slot_bytes said))
+  says_it = subst (λ (s : Option Slot). IsOfKey table key s) (sym reads) of
+
+  key_is : IsTrue tells → (write_of old.store.state.bytes (64 * (slots_of old.store.shape + slot), slot_bytes said)).0 ≡ of_main key
+  key_is told = key_said old.store.state.bytes (laws.counts old.store.state.bytes (rests.tied told).sound) (slot_said (slot_bytes said)) table key asked says_it
 
   part_is : IsTrue tells → IsSlotPart index old.store.state.bytes (64 * (slots_of old.store.shape + slot), slot_bytes said)
   part_is told = record {
     slot = slot;
-    named = ap (λ (s : Option Slot). found (pairs_of index old.store.state.bytes) (write_said s).0) reads ∙ named told;
+    named = ap (found_key (pairs_of index old.store.state.bytes)) (key_is told) ∙ named told;
     place = omega (arith, (told_by told).long);
     size = whole;
     table = table;
     key = key;
+    asked = asked;
     small = small;
-    says = subst (λ (s : Option Slot). IsOfKey table key s) (sym reads) of;
+    says = says_it;
   }
 
   floor_is : IsTrue tells → floor_in (outline_of old) t ≡ floor_of ((state_of index old).logs t)
   floor_is told =
       ap (λ (o : Outline). floor_in o t) (sym (outlined old (told_by told) ordered)) ∙ outline.floors (pages.state_of old) t ∙ floors index (pages.state_of old) t (rests.closed t)
 
-  edits_is : IsTrue tells → is_some (edit_pos (floor_in (outline_of old) t) (64 * (slots_of old.store.shape + slot), length (slot_bytes said)) (listed (old.store.ranges t))) ≡ is_rewritten ((state_of index old).logs t) (write_said (Some said)).0
+  edits_is : IsTrue tells → is_some (edit_pos (floor_in (outline_of old) t) (64 * (slots_of old.store.shape + slot), length (slot_bytes said)) (listed (old.store.ranges t))) ≡ is_rewritten ((state_of index old).logs t) (of_main key)
   edits_is told =
       (λ i. is_some (edit_pos (floor_is told i) (64 * (slots_of old.store.shape + slot), length (slot_bytes said)) ((ap listed ((told_by told).outlines t) ∙ listed-ranges (old.store.state.logs t)) i)))
       ∙ rewrites index laws old.store.state.bytes (rests.tied told).sound (64 * (slots_of old.store.shape + slot), slot_bytes said) (part_is told) (floor_of ((state_of index old).logs t)) (listed (old.store.state.logs t)) ((rests.tied told).parts t)
-      ∙ ap (λ (s : Option Slot). is_rewritten ((state_of index old).logs t) (write_said s).0) reads
+      ∙ ap (is_rewritten ((state_of index old).logs t)) (key_is told)
 
   write_time : {T : Type 0} (r : Result T PageFault) → Does tells Opens (write_as t (64 * (slots_of old.store.shape + slot)) (slot_bytes said)) old new r → IsTrue tells
       → LeavesOnly (λ image. OpensWith Opens index image (state_of index old).table) old.store new.store
@@ -103,7 +112,7 @@ module _ (tells : Bool) (Opens : List ℕ → List ℕ → Type 0) (index : Inde
   }) (does.time told alive)
 
   pub wrote : {T : Type 0} (answer : T) → (let r : Result T PageFault = Ok answer in Does tells Opens (write_as t (64 * (slots_of old.store.shape + slot)) (slot_bytes said)) old new r)
-      → Wrote tells Opens index t (write_said (Some said)).0 (write_said (Some said)).1 slot old new
+      → Wrote tells Opens index t (of_main key) (value_of (Some said)) slot old new
   wrote {T} answer does =
       let out = does.done.outline in
       let now = λ (told : IsTrue tells). does.done.state told in
@@ -118,7 +127,7 @@ module _ (tells : Bool) (Opens : List ℕ → List ℕ → Type 0) (index : Inde
         state = λ told.
             ap (shown_by index) (now told)
             ∙ shown_write index laws (pages.state_of old) t (rests.tied told).sound (rests.closed t) (64 * (slots_of old.store.shape + slot), slot_bytes said) (part_is told) ((rests.tied told).parts t)
-            ∙ ap (λ (s : Option Slot). written (state_of index old) t (write_said s).0 (write_said s).1) reads;
+            ∙ (λ i. written (state_of index old) t (key_is told i) ((sym (value_is old.store.state.bytes (slot_said (slot_bytes said))) ∙ ap value_of reads) i));
         tied = λ told. record {
           sound = subst (λ (s : PagesState). index.sound s.store.bytes) (sym (now told)) (rests.tied told).sound;
           parts = λ u. subst (λ (s : PagesState). AreSlotParts index s.store.bytes (log_of s u)) (sym (now told))
@@ -140,7 +149,7 @@ module _ (tells : Bool) (Opens : List ℕ → List ℕ → Type 0) (index : Inde
 
   -- no logger has room
   pub write_short : {T : Type 0} (g h n : ℕ) → (let r : Result T PageFault = Err (LogFull g h n) in Does tells Opens (write_as t (64 * (slots_of old.store.shape + slot)) (slot_bytes said)) old new r)
-      → IsShort old t g h n × (IsTrue tells → IsFull index t old (write_said (Some said)).0 slot g h n)
+      → IsShort old t g h n × (IsTrue tells → IsFull index t old (of_main key) slot g h n)
   write_short g h n does =
       let full = does.cause.1.1 in
       let one = one_on old.store.shape g (64 * (slots_of old.store.shape + slot)) (length (slot_bytes said)) in

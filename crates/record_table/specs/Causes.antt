@@ -5,37 +5,37 @@ use Rattle.mars_base.specs.Room.{HaveRoom, IsFirstFull}
 use Rattle.eaw_face.specs.Causes.{IsAlive}
 use Rattle.eaw_face.specs.StoreView.{StoreView}
 use Rattle.record_slots.specs.Places.{used_slots, slot_due, root_of}
+use Rattle.history.specs.Key.{Key, of_main}
 use Rattle.history.specs.Log.{is_rewritten}
 use Rattle.history.specs.declared.call.Call.{Call}
 use Rattle.history.specs.declared.call.Call.TheVariants.{Get, Put, Del, Scan, Save}
 use Rattle.page_store.specs.Index.{Action, Index, slots_of, index_pages_of}
 use Rattle.page_store.specs.Inserts.{AllFit, LackPages, LackRoom, pages_left}
-use Rattle.page_store.specs.Pairs.{found}
 use Rattle.page_store.specs.Shown.{PagesView}
-use Rattle.record_table.specs.State.{seen_by, key_in}
-use Rattle.record_table.specs.Shown.{state_of, pairs_of, held_on, needed_on}
+use Rattle.record_table.specs.State.{seen_by}
+use Rattle.record_table.specs.Shown.{state_of, found_key, pairs_of, held_on, needed_on}
 use Rattle.record_table.specs.declared.fault.TableFault.{TableFault}
 use Rattle.record_table.specs.declared.fault.TableFault.TheVariants.{SlotsFull, PagesFull, SavesFull, LogFull, Media, Dead, Damaged, NoMemory}
 
 -- the number has a write of the key since its last save, which another replaces
-abbrev pub rewrites : Index → PagesView → ℕ → ℕ → Bool
+abbrev pub rewrites : Index → PagesView → ℕ → Key → Bool
 rewrites index old t key = is_rewritten ((state_of index old).logs t) key
 
 -- a write to this slot replaces one, or each logger has room for what it needs
-abbrev pub HasRoom : Index → ℕ → PagesView → ℕ → ℕ → Type 0
+abbrev pub HasRoom : Index → ℕ → PagesView → Key → ℕ → Type 0
 HasRoom index t old key slot = rewrites index old t key ≡ false → HaveRoom old.store.shape.loggers old.store.shape.entries (held_on old t) (needed_on old.store.shape slot)
 
 -- it replaces none, and logger g is the first without room: it holds h writes, and n more are needed
-abbrev pub IsFull : Index → ℕ → PagesView → ℕ → ℕ → ℕ → ℕ → ℕ → Type 0
+abbrev pub IsFull : Index → ℕ → PagesView → Key → ℕ → ℕ → ℕ → ℕ → Type 0
 IsFull index t old key slot g h n = (rewrites index old t key ≡ false) × IsFirstFull old.store.shape.loggers old.store.shape.entries (held_on old t) (needed_on old.store.shape slot) g h n
 
 -- the number sees a record of the key
-abbrev pub IsSeen : Index → PagesView → ℕ → ℕ → Type 0
+abbrev pub IsSeen : Index → PagesView → ℕ → Key → Type 0
 IsSeen index old t key = IsSome (get (seen_by (state_of index old) t) key)
 
 -- the slot of a key, if an index has the key
-abbrev pub slot_in : Index → PagesView → ℕ → Option ℕ
-slot_in index old key = found (pairs_of index old.store.state.bytes) key
+abbrev pub slot_in : Index → PagesView → Key → Option ℕ
+slot_in index old key = found_key (pairs_of index old.store.state.bytes) key
 
 -- the actions of the insertion of a key into the index of its table
 abbrev pub actions_under : Index → List ℕ → ℕ → Option ℕ → List Action
@@ -43,7 +43,7 @@ actions_under index bytes key None = []
 actions_under index bytes key (Some root) = index.actions bytes root key
 
 abbrev pub actions_in : Index → List ℕ → ℕ → ℕ → List Action
-actions_in index bytes table key = actions_under index bytes (key - key_in table 0) (root_of bytes table)
+actions_in index bytes table key = actions_under index bytes key (root_of bytes table)
 
 -- How far the insertion of a key of a table comes: a slot is left, and then the actions follow one another.
 abbrev pub ComesTo : Index → ℕ → ℕ → StoreView → (ℕ → List Action → Type 0) → Type 0
@@ -53,24 +53,24 @@ ComesTo index table key old Ends =
 -- There is room for a value in the slot of its key. If the index lacks the key, there is room first for its insertion and then for the
 -- value in the slot that is due.
 abbrev pub PutFits : Index → ℕ → ℕ → ℕ → PagesView → Option ℕ → Type 0
-PutFits index table t key old None = ComesTo index table key old.store (AllFit old.store t) × HasRoom index t old key (slot_due old.store.state.bytes)
-PutFits index table t key old (Some slot) = HasRoom index t old key slot
+PutFits index table t key old None = ComesTo index table key old.store (AllFit old.store t) × HasRoom index t old (of_main key) (slot_due old.store.state.bytes)
+PutFits index table t key old (Some slot) = HasRoom index t old (of_main key) slot
 
 abbrev pub PutLacks : Index → ℕ → ℕ → ℕ → PagesView → ℕ → ℕ → ℕ → Option ℕ → Type 0
 PutLacks index table t key old g h n None = ComesTo index table key old.store (LackRoom old.store t g h n)
-    ⊎ (ComesTo index table key old.store (AllFit old.store t) × IsFull index t old key (slot_due old.store.state.bytes) g h n)
-PutLacks index table t key old g h n (Some slot) = IsFull index t old key slot g h n
+    ⊎ (ComesTo index table key old.store (AllFit old.store t) × IsFull index t old (of_main key) (slot_due old.store.state.bytes) g h n)
+PutLacks index table t key old g h n (Some slot) = IsFull index t old (of_main key) slot g h n
 
 -- a call that writes finds room
 abbrev pub Fits : Index → ℕ → PagesView → ℕ → Call → Type 0
-Fits index table old t (Put key value) = PutFits index table t key old (slot_in index old key)
-Fits index table old t (Del key) = IsSeen index old t key → (slot : ℕ) × (slot_in index old key ≡ Some slot) × HasRoom index t old key slot
+Fits index table old t (Put key value) = PutFits index table t key old (slot_in index old (of_main key))
+Fits index table old t (Del key) = IsSeen index old t (of_main key) → (slot : ℕ) × (slot_in index old (of_main key) ≡ Some slot) × HasRoom index t old (of_main key) slot
 Fits index table old t call = Unit {0}
 
 -- a call that writes finds no room at logger g
 abbrev pub Lacks : Index → ℕ → PagesView → ℕ → ℕ → ℕ → ℕ → Call → Type 0
-Lacks index table old g h n t (Put key value) = PutLacks index table t key old g h n (slot_in index old key)
-Lacks index table old g h n t (Del key) = IsSeen index old t key × (slot : ℕ) × (slot_in index old key ≡ Some slot) × IsFull index t old key slot g h n
+Lacks index table old g h n t (Put key value) = PutLacks index table t key old g h n (slot_in index old (of_main key))
+Lacks index table old g h n t (Del key) = IsSeen index old t (of_main key) × (slot : ℕ) × (slot_in index old (of_main key) ≡ Some slot) × IsFull index t old (of_main key) slot g h n
 Lacks index table old g h n t call = ⊥
 
 -- logger g is the first without room for what some write needs, at most four
@@ -85,12 +85,12 @@ MayLack old g h n t call = ⊥
 
 -- an insertion is due, and all n slots are in use
 abbrev pub LacksSlot : Index → PagesView → ℕ → Call → Type 0
-LacksSlot index old n (Put key value) = (slot_in index old key ≡ None) × (used_slots old.store.state.bytes ≡ n)
+LacksSlot index old n (Put key value) = (slot_in index old (of_main key) ≡ None) × (used_slots old.store.state.bytes ≡ n)
 LacksSlot index old n call = ⊥
 
 -- an insertion is due that splits a page for which no pages are left
 abbrev pub LacksPage : Index → ℕ → PagesView → ℕ → Call → Type 0
-LacksPage index table old t (Put key value) = (slot_in index old key ≡ None) × ComesTo index table key old.store (LackPages old.store t)
+LacksPage index table old t (Put key value) = (slot_in index old (of_main key) ≡ None) × ComesTo index table key old.store (LackPages old.store t)
 LacksPage index table old t call = ⊥
 
 abbrev pub IsPut : Call → Type 0

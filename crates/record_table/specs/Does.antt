@@ -3,6 +3,7 @@ use Rattle.std.specs.Prelude.{ℕ, ◌≡◌, ◌≢◌, ◌≤◌, ◌⊎◌, B
 use Rattle.mars_base.specs.Causes.{Rose}
 use Rattle.eaw_face.specs.StoreView.{LeavesOnly}
 use Rattle.eaw_face.specs.Causes.{IsAlive}
+use Rattle.history.specs.Key.{Key, of_main}
 use Rattle.history.specs.Writes.{Table}
 use Rattle.history.specs.declared.call.Call.{Call}
 use Rattle.history.specs.declared.call.Call.TheVariants.{Put, Commit}
@@ -12,6 +13,7 @@ use Rattle.page_store.specs.Index.{Index}
 use Rattle.page_store.specs.Shown.{PagesView}
 use Rattle.record_table.specs.State.{Keys, GainsKey, KeepsKeys, TakesPages}
 use Rattle.record_table.specs.Calls.{Replies, table_after, after, saves_after}
+use Rattle.record_table.specs.Names.{names_of}
 use Rattle.record_table.specs.Shown.{table_of, state_of, keys_of}
 use Rattle.record_table.specs.Causes.{Cause, slot_in}
 use Rattle.record_table.specs.declared.fault.TableFault.{TableFault}
@@ -22,6 +24,14 @@ pub record OpensWith (Opens : List ℕ → List ℕ → Type 0) (index : Index) 
   pub bytes : List ℕ
   pub opened : Opens image bytes
   pub sound : index.sound bytes
+  pub shows : table_of index bytes ≡ table
+
+-- so, and its tables have these names
+pub record OpensNamed (Opens : List ℕ → List ℕ → Type 0) (index : Index) (image : List ℕ) (names : List (List ℕ)) (table : Table) : Type 0 where
+  pub bytes : List ℕ
+  pub opened : Opens image bytes
+  pub sound : index.sound bytes
+  pub named : names_of bytes ≡ names
   pub shows : table_of index bytes ≡ table
 
 -- an answer of records as a reply
@@ -36,28 +46,28 @@ is_failed _ = false
 
 -- What an insertion that was due makes of the index. If the log is full after the insertion, the key stays. If pages ran out, at most one
 -- is left, or the index has as many levels as it may.
-abbrev pub Inserted : {T : Type 0} → ℕ → ℕ → Keys → Keys → Result T TableFault → Type 0
+abbrev pub Inserted : {T : Type 0} → ℕ → Key → Keys → Keys → Result T TableFault → Type 0
 Inserted table key old new (Ok answer) = TakesPages old new × GainsKey key old new
 Inserted table key old new (Err (LogFull g h n)) = TakesPages old new × (KeepsKeys old new ⊎ GainsKey key old new)
 Inserted table key old new (Err (PagesFull n)) = TakesPages old new × KeepsKeys old new × ((n ≤ new.used_pages) ⊎ (7 ≤ new.levels table))
 Inserted table key old new (Err _) = TakesPages old new × KeepsKeys old new
 
-abbrev pub IndexedAt : {T : Type 0} → ℕ → ℕ → Option ℕ → Keys → Keys → Result T TableFault → Type 0
+abbrev pub IndexedAt : {T : Type 0} → ℕ → Key → Option ℕ → Keys → Keys → Result T TableFault → Type 0
 IndexedAt table key None old new result = Inserted table key old new result
 IndexedAt table key (Some slot) old new result = new ≡ old
 
 -- what a call makes of the indexes: a put of a key that they lack inserts the key into that of its table
 abbrev pub Indexed : {T : Type 0} → ℕ → Call → Keys → Keys → Result T TableFault → Type 0
-Indexed table (Put key value) old new result = IndexedAt table key (old.slot_of key) old new result
+Indexed table (Put key value) old new result = IndexedAt table (of_main key) (old.slot_of (of_main key)) old new result
 Indexed table call old new result = new ≡ old
 
 -- the call writes nothing into the data: a put does where the index lacks the key, and a commit what the number has written
 abbrev pub IsQuiet : Index → PagesView → ℕ → Call → Type 0
-IsQuiet index old t (Put key value) = IsSome (slot_in index old key)
+IsQuiet index old t (Put key value) = IsSome (slot_in index old (of_main key))
 IsQuiet index old t Commit = ((state_of index old).logs t).writes ≡ []
 IsQuiet index old t call = Unit {0}
 
--- A caller's call as number t on a table, with its keys among those of all tables, on records over a store whose images open as Opens says. Each answer has its cause. An Ok is answered as the
+-- A caller's call as number t on a table, which is `main`, on records over a store whose images open as Opens says. Each answer has its cause. An Ok is answered as the
 -- model says, leaves what it says, and hides no fault. After a refusal other than Media, the records and the logs of every number are as
 -- before, and the tables always. Media leaves the store dead. A call that writes nothing into the data leaves it byte for byte, also if it is refused. Other
 -- numbers keep what they have logged, whatever the answer. At each moment of a store that was not dead, a loss of power leaves what it might

@@ -6,18 +6,18 @@ use Rattle.eaw_face.specs.Causes.{IsAlive}
 use Rattle.record_slots.specs.Slots.{slot_said}
 use Rattle.record_slots.specs.Places.{slot_at, IsOfKey}
 use Rattle.page_store.specs.Index.{Index}
-use Rattle.page_store.specs.Pairs.{found}
 use Rattle.page_store.specs.Shown.{PagesView}
-use Rattle.record_table.specs.Shown.{pairs_of, write_of}
+use Rattle.record_table.specs.Shown.{found_key, asked_tables, pairs_of, write_of}
 
 -- a logged part is a whole slot, that of the key of the table that it names
 pub record IsSlotPart (index : Index) (bytes : List ℕ) (part : Part) : Type 0 where
   pub slot : ℕ
-  pub named : found (pairs_of index bytes) (write_of part).0 ≡ Some slot
+  pub named : found_key (pairs_of index bytes) (write_of bytes part).0 ≡ Some slot
   pub place : part.0 ≡ slot_at bytes slot
   pub size : length part.1 ≡ 64
   pub table : ℕ
   pub key : ℕ
+  pub asked : table < asked_tables
   pub small : key < 2 ^ 64
   pub says : IsOfKey table key (slot_said part.1)
 

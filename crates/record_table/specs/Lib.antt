@@ -1,5 +1,6 @@
 pub mod State
 pub mod Calls
+pub mod Names
 pub mod Shown
 pub mod Causes
 pub mod Does
@@ -10,7 +11,6 @@ pub mod Sought
 pub mod Faults
 pub mod Scanned
 pub mod Form
-pub mod Names
 pub mod Upgrading
 pub mod Removing
 pub mod Making

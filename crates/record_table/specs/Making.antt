@@ -14,7 +14,8 @@ use Rattle.page_store.specs.Shown.{PagesView}
 use Rattle.page_store.specs.declared.fault.PageFault.{PageFault}
 use Rattle.page_store.specs.declared.fault.PageFault.TheVariants as page
 use Rattle.record_table.specs.Calls.{after}
-use Rattle.record_table.specs.Names.{names_of, IsNew, OpensNamed}
+use Rattle.record_table.specs.Does.{OpensNamed}
+use Rattle.record_table.specs.Names.{names_of, IsNew}
 use Rattle.record_table.specs.Shown.{state_of, keys_of}
 use Rattle.record_table.specs.State.{Keys}
 use Rattle.record_table.specs.declared.making.MakeFault.{MakeFault}

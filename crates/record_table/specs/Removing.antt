@@ -7,15 +7,14 @@ use Rattle.eaw_face.specs.State.{listed}
 use Rattle.eaw_face.specs.StoreView.{LeavesOnly}
 use Rattle.eaw_face.specs.Causes.{IsAlive}
 use Rattle.record_slots.specs.Places.{version_of, tables_of, root_of}
-use Rattle.history.specs.Key.{Key}
+use Rattle.history.specs.Key.{Key, of_main}
 use Rattle.history.specs.Writes.{is_of}
 use Rattle.page_store.specs.Fits.{FitAll, IsFirstLacking}
 use Rattle.page_store.specs.Index.{Index}
-use Rattle.page_store.specs.Pairs.{found}
 use Rattle.page_store.specs.Removes.{IsLogFull}
 use Rattle.page_store.specs.Shown.{PagesView}
-use Rattle.record_table.specs.State.{LosesKey, key_in}
-use Rattle.record_table.specs.Shown.{table_of, pairs_of, state_of, keys_of}
+use Rattle.record_table.specs.State.{LosesKey}
+use Rattle.record_table.specs.Shown.{table_of, found_key, pairs_of, state_of, keys_of}
 use Rattle.record_table.specs.Does.{OpensWith, is_failed}
 use Rattle.record_table.specs.declared.fault.TableFault.{TableFault}
 use Rattle.record_table.specs.declared.fault.TableFault.TheVariants.{LogFull, Media, Dead, Damaged}
@@ -23,27 +22,27 @@ use Rattle.record_table.specs.declared.scanning.Next.{Next}
 
 -- the indexes of this data have the key, and the table has no record of it: its slot is absent
 abbrev pub IsAbsent : Index → List ℕ → Key → Type 0
-IsAbsent index bytes key = IsSome (found (pairs_of index bytes) key) × (get (table_of index bytes) key ≡ None)
+IsAbsent index bytes key = IsSome (found_key (pairs_of index bytes) key) × (get (table_of index bytes) key ≡ None)
 
 -- no number has written the key
 abbrev pub IsUnwritten : Index → PagesView → Key → Type 0
 IsUnwritten index old key = (t : ℕ) → IsFalse (list_any (is_of key) ((state_of index old).logs t).writes)
 
--- no key of a table from one to below another is absent
-abbrev pub HasNoAbsent : Index → List ℕ → ℕ → ℕ → ℕ → Type 0
-HasNoAbsent index bytes table from to = (key : ℕ) → from ≤ key → key < to → IsAbsent index bytes (key_in table key) → ⊥
+-- no key of the table `main` from one to below another is absent
+abbrev pub HasNoAbsent : Index → List ℕ → ℕ → ℕ → Type 0
+HasNoAbsent index bytes from to = (key : ℕ) → from ≤ key → key < to → IsAbsent index bytes (of_main key) → ⊥
 
--- the least key of a table from this one on that is absent, if there is one
-abbrev pub IsNextAbsent : Index → List ℕ → ℕ → ℕ → Option ℕ → Type 0
-IsNextAbsent index bytes table from None = HasNoAbsent index bytes table from (2 ^ 64)
-IsNextAbsent index bytes table from (Some key) = (from ≤ key) × IsAbsent index bytes (key_in table key) × HasNoAbsent index bytes table from key
+-- the least key of it from this one on that is absent, if there is one
+abbrev pub IsNextAbsent : Index → List ℕ → ℕ → Option ℕ → Type 0
+IsNextAbsent index bytes from None = HasNoAbsent index bytes from (2 ^ 64)
+IsNextAbsent index bytes from (Some key) = (from ≤ key) × IsAbsent index bytes (of_main key) × HasNoAbsent index bytes from key
 
--- The index has no key of a table from this one on. Or the first is this one, and the table has this record of it, if any.
-abbrev pub ComesNext : Index → List ℕ → ℕ → ℕ → Option Next → Type 0
-ComesNext index bytes table from None = (key : ℕ) → from ≤ key → key < 2 ^ 64 → found (pairs_of index bytes) (key_in table key) ≡ None
-ComesNext index bytes table from (Some next) =
-    (from ≤ next.key) × IsSome (found (pairs_of index bytes) (key_in table next.key)) × (get (table_of index bytes) (key_in table next.key) ≡ next.value)
-    × ((key : ℕ) → from ≤ key → key < next.key → found (pairs_of index bytes) (key_in table key) ≡ None)
+-- The index of the table `main` has no key from this one on. Or the first is this one, and the table has this record of it, if any.
+abbrev pub ComesNext : Index → List ℕ → ℕ → Option Next → Type 0
+ComesNext index bytes from None = (key : ℕ) → from ≤ key → key < 2 ^ 64 → found_key (pairs_of index bytes) (of_main key) ≡ None
+ComesNext index bytes from (Some next) =
+    (from ≤ next.key) × IsSome (found_key (pairs_of index bytes) (of_main next.key)) × (get (table_of index bytes) (of_main next.key) ≡ next.value)
+    × ((key : ℕ) → from ≤ key → key < next.key → found_key (pairs_of index bytes) (of_main key) ≡ None)
 
 -- why the search for it gets this answer: over a store that tells its data no page is answered as damaged
 abbrev pub SearchCause : {T : Type 0} → Bool → PagesView → Result T TableFault → Type 0
@@ -83,8 +82,8 @@ RemoveCause tells index table t key old (Err fault) = ⊥
 
 -- what it makes of the data: just this key is lost, and a key that stays as the last of its page would stay still; or it is as it was
 pub record Loses (index : Index) (table key : ℕ) (old new : List ℕ) : Type 0 where
-  pub keys : LosesKey (key_in table key) (keys_of index old) (keys_of index new)
-  pub kept : (one : ℕ) → one < 2 ^ 64 → IsSome ((keys_of index new).slot_of (key_in table one)) → IsKept index table old one → IsKept index table new one
+  pub keys : LosesKey (of_main key) (keys_of index old) (keys_of index new)
+  pub kept : (one : ℕ) → one < 2 ^ 64 → IsSome ((keys_of index new).slot_of (of_main one)) → IsKept index table old one → IsKept index table new one
 
 abbrev pub Lost : Index → ℕ → ℕ → List ℕ → List ℕ → Result Bool TableFault → Type 0
 Lost index table key old new (Ok true) = Loses index table key old new

@@ -1,5 +1,5 @@
 -- What pages show in terms of records.
-use Rattle.std.specs.Prelude.{Bool, false, ℕ, suc, ◌+◌, ◌*◌, nat_eq, if◌then◌else◌, List, [], ◌∷◌, ◌++◌, map, take, Option, Some, None, IsSome}
+use Rattle.std.specs.Prelude.{Bool, false, ℕ, ◌+◌, ◌*◌, nat_eq, if◌then◌else◌, List, [], ◌∷◌, ◌++◌, map, take, Option, Some, None, IsSome}
 use Rattle.std.specs.FinMap.{empty}
 use Rattle.array_shape.specs.declared.shape.Shape.{Shape}
 use Rattle.array_shape.specs.Places.{logger_of}
@@ -10,37 +10,48 @@ use Rattle.record_slots.specs.Places.{slot_of, next_page, used_slots, used_pages
 use Rattle.record_slots.specs.declared.super_page.TableEntry.{TableEntry}
 use Rattle.record_slots.specs.declared.slot.Slot.{Slot}
 use Rattle.record_slots.specs.declared.slot.Slot.TheVariants.{Absent, Present}
+use Rattle.history.specs.Key.{Key, is_same_key, of_main}
 use Rattle.history.specs.Writes.{Table, Write, write_into}
-use Rattle.page_store.specs.Pairs.{Pair, found}
+use Rattle.page_store.specs.Pairs.{Pair}
 use Rattle.page_store.specs.Index.{Index, slots_of}
 use Rattle.page_store.specs.Records.{value_of}
 use Rattle.page_store.specs.Shown.{PagesView}
 use Rattle.page_store.specs.Shown as pages
 use Rattle.page_store.specs.State.{PagesState, log_of}
-use Rattle.record_table.specs.State.{TableState, Keys, key_in}
+use Rattle.record_table.specs.Names.{key_in}
+use Rattle.record_table.specs.State.{TableState, Keys}
 
--- the write that a slot stands for
-abbrev pub write_said : Option Slot → Write
-write_said None = (0, None)
-write_said (Some (Absent table key)) = (key_in table key, None)
-write_said (Some (Present table key value)) = (key_in table key, Some value)
+-- the write that a slot of this data stands for
+abbrev pub write_said : List ℕ → Option Slot → Write
+write_said bytes None = (of_main 0, None)
+write_said bytes (Some (Absent table key)) = (key_in bytes table key, None)
+write_said bytes (Some (Present table key value)) = (key_in bytes table key, Some value)
 
--- a pair of a table, with its key among those of all tables
-abbrev pub in_table : ℕ → Pair → Pair
-in_table table pair = (key_in table pair.0, pair.1)
+-- the key of a record, and its slot
+abbrev pub KeyPair : Type 0
+KeyPair = Key × ℕ
 
--- the pairs of these tables, which are numbered from `table` on
-abbrev pub pairs_from : Index → List ℕ → ℕ → List TableEntry → List Pair
-pairs_from index bytes table [] = []
-pairs_from index bytes table (entry ∷ entries) = map (in_table table) (index.pairs bytes entry.root) ++ pairs_from index bytes (suc table) entries
+-- the slot of a key, if it is there
+abbrev pub found_key : List KeyPair → Key → Option ℕ
+found_key [] key = None
+found_key (pair ∷ pairs) key = if is_same_key pair.0 key then Some pair.1 else found_key pairs key
+
+-- a pair of the table of this name
+abbrev pub in_table : List ℕ → Pair → KeyPair
+in_table name pair = (record { table = name; key = pair.0 }, pair.1)
+
+-- the pairs of these tables
+abbrev pub pairs_from : Index → List ℕ → List TableEntry → List KeyPair
+pairs_from index bytes [] = []
+pairs_from index bytes (entry ∷ entries) = map (in_table entry.name) (index.pairs bytes entry.root) ++ pairs_from index bytes entries
 
 -- Of the tables of an array, so many can be asked for: the first, which is `main`.
 abbrev pub asked_tables : ℕ
 asked_tables = 1
 
 -- the pairs of the tables that can be asked for
-unfoldable pub pairs_of : Index → List ℕ → List Pair
-pairs_of index bytes = pairs_from index bytes 0 (take asked_tables (tables_of bytes))
+unfoldable pub pairs_of : Index → List ℕ → List KeyPair
+pairs_of index bytes = pairs_from index bytes (take asked_tables (tables_of bytes))
 
 -- how many levels of inner pages an index with this root has; none if there is no such table
 abbrev pub level_under : Index → List ℕ → Option ℕ → ℕ
@@ -48,7 +59,7 @@ level_under index bytes None = 0
 level_under index bytes (Some root) = index.level bytes root
 
 -- the records of pairs: each key with the value in its slot
-abbrev pub table_in : List ℕ → List Pair → Table
+abbrev pub table_in : List ℕ → List KeyPair → Table
 table_in bytes [] = empty
 table_in bytes (pair ∷ pairs) = write_into (table_in bytes pairs) (pair.0, value_of (slot_said (slot_of bytes pair.1)))
 
@@ -56,16 +67,16 @@ table_in bytes (pair ∷ pairs) = write_into (table_in bytes pairs) (pair.0, val
 unfoldable pub table_of : Index → List ℕ → Table
 table_of index bytes = table_in bytes (pairs_of index bytes)
 
-abbrev pub write_of : Part → Write
-write_of part = write_said (slot_said part.1)
+abbrev pub write_of : List ℕ → Part → Write
+write_of bytes part = write_said bytes (slot_said part.1)
 
--- the writes that logged parts stand for
-abbrev pub writes_of : List Part → List Write
-writes_of log = map write_of log
+-- the writes that parts logged over this data stand for
+abbrev pub writes_of : List ℕ → List Part → List Write
+writes_of bytes log = map (write_of bytes) log
 
 -- the table and the logs that a state of pages stands for
 abbrev pub shown_by : Index → PagesState → TableState
-shown_by index s = record { table = table_of index s.store.bytes; logs = λ t. record { writes = writes_of (log_of s t); saved = map writes_of (s.saved t) } }
+shown_by index s = record { table = table_of index s.store.bytes; logs = λ t. record { writes = writes_of s.store.bytes (log_of s t); saved = map (writes_of s.store.bytes) (s.saved t) } }
 
 abbrev pub state_of : Index → PagesView → TableState
 state_of index view = shown_by index (pages.state_of view)
@@ -73,7 +84,7 @@ state_of index view = shown_by index (pages.state_of view)
 -- the indexes in the data
 abbrev pub keys_of : Index → List ℕ → Keys
 keys_of index bytes = record {
-  slot_of = found (pairs_of index bytes);
+  slot_of = found_key (pairs_of index bytes);
   due = slot_due bytes;
   used_slots = used_slots bytes;
   used_pages = used_pages bytes;
@@ -97,10 +108,10 @@ abbrev pub is_slot_on : Shape → ℕ → Option ℕ → Bool
 is_slot_on shape g None = false
 is_slot_on shape g (Some slot) = nat_eq (logger_of_slot shape slot) g
 
-abbrev pub is_write_on : Shape → List Pair → ℕ → Write → Bool
-is_write_on shape pairs g write = is_slot_on shape g (found pairs write.0)
+abbrev pub is_write_on : Shape → List KeyPair → ℕ → Write → Bool
+is_write_on shape pairs g write = is_slot_on shape g (found_key pairs write.0)
 
 -- the index has the key of each of these writes
-abbrev pub AreNamed : List Pair → List Write → Type 0
+abbrev pub AreNamed : List KeyPair → List Write → Type 0
 AreNamed pairs [] = Unit {0}
-AreNamed pairs (write ∷ writes) = IsSome (found pairs write.0) × AreNamed pairs writes
+AreNamed pairs (write ∷ writes) = IsSome (found_key pairs write.0) × AreNamed pairs writes

@@ -4,6 +4,7 @@ use Rattle.std.specs.FinMap.{get}
 use Rattle.mars_base.specs.Causes.{Rose}
 use Rattle.eaw_face.specs.StoreView.{LeavesOnly}
 use Rattle.eaw_face.specs.Causes.{IsAlive}
+use Rattle.history.specs.Key.{Key}
 use Rattle.page_store.specs.Index.{Index}
 use Rattle.page_store.specs.Looks.{IsStill}
 use Rattle.page_store.specs.Shown.{PagesView}
@@ -29,7 +30,7 @@ pub record LooksAs (tells : Bool) (Opens : List ℕ → List ℕ → Type 0) (t 
   pub time : IsTrue tells → IsAlive old.store → LeavesOnly (λ image. Opens image old.store.state.bytes) old.store new.store
 
 -- the slot of the key with the value that the number sees there; or nothing, if the index lacks the key
-abbrev pub Finds : Index → ℕ → ℕ → PagesView → Option Place → Type 0
+abbrev pub Finds : Index → ℕ → Key → PagesView → Option Place → Type 0
 Finds index t key old None = (slot_in index old key ≡ None) × (get (seen_by (state_of index old) t) key ≡ None)
 Finds index t key old (Some place) = (slot_in index old key ≡ Some place.slot) × (get (seen_by (state_of index old) t) key ≡ place.value)
 

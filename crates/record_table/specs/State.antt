@@ -1,15 +1,10 @@
 -- The model of records: a table, and what numbers have logged over it.
-use Rattle.std.specs.Prelude.{ℕ, zero, suc, ◌≡◌, ◌≤◌, ◌+◌, ◌^◌, map, Option, Some, None}
+use Rattle.std.specs.Prelude.{ℕ, suc, ◌≡◌, ◌≤◌, ◌+◌, map, Option, Some, None}
 use Rattle.std.specs.Map.{update}
 use Rattle.history.specs.Key.{Key, is_same_key}
 use Rattle.history.specs.Writes.{Table, all_written}
 use Rattle.history.specs.Table.{Work}
 use Rattle.history.specs.Log.{Log}
-
--- The key of a record of a table among the keys of all tables: behind those of one table, of 64 bits, come those of the next.
-abbrev pub key_in : ℕ → ℕ → Key
-key_in zero key = key
-key_in (suc table) key = 2 ^ 64 + key_in table key
 
 -- the records of all tables in the data, and for each number the log of what it has not committed
 pub record TableState : Type 0 where

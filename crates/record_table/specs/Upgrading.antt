@@ -9,8 +9,8 @@ use Rattle.record_slots.specs.Super.{form_said, main_super, super_bytes}
 use Rattle.page_store.specs.Index.{Index, IsTable}
 use Rattle.page_store.specs.Shown.{PagesView}
 use Rattle.record_table.specs.Shown.{state_of, keys_of}
-use Rattle.record_table.specs.Does.{OpensWith, is_failed}
-use Rattle.record_table.specs.Names.{names_of, OpensNamed}
+use Rattle.record_table.specs.Does.{OpensWith, OpensNamed, is_failed}
+use Rattle.record_table.specs.Names.{names_of}
 use Rattle.record_table.specs.declared.fault.TableFault.{TableFault}
 use Rattle.record_table.specs.declared.fault.TableFault.TheVariants.{Media, Dead, Damaged}
 

@@ -7,13 +7,14 @@ ghost use Rattle.eaw_face.specs.Causes.{IsAlive};
 ghost use Rattle.eaw_face.specs.State.{listed};
 ghost use Rattle.page_store.specs.Looks.{Looks};
 ghost use Rattle.page_store.specs.Shown.{counts_in, top_in, pages_of};
+ghost use Rattle.history.specs.Key.{main_name, of_main};
+ghost use Rattle.history.specs.Rows.{all_keyed};
 ghost use Rattle.history.specs.Table.{found};
 ghost use Rattle.history.specs.declared.call.Call.TheVariants.{Get, Put, Del, Scan, Save, Back, Commit, Abort};
 ghost use Rattle.history.specs.declared.call.Reply.TheVariants.{Fine, Absent, Listed, Saved, Committed};
 ghost use Rattle.record_table.specs.Attached.{Attached, AttachCause, is_refused_by_media};
 ghost use Rattle.record_slots.specs.Places.{version_of};
 ghost use Rattle.record_table.specs.Removing.{IsAbsent, IsUnwritten, IsNextAbsent, SearchCause, Removes};
-ghost use Rattle.record_table.specs.State.{key_in};
 ghost use Rattle.record_table.specs.Groups.{CommitsGroup, group_writes};
 ghost use Rattle.record_table.specs.Does.{Does, replied, is_failed};
 ghost use Rattle.record_table.specs.Shown.{asked_tables, state_of, table_of, pairs_of, held_on, is_write_on, AreNamed};
@@ -79,7 +80,7 @@ impl<S: EawStore, K: KeyIndex> Records<S, K> {
         requires closed { IsAlive (S.view pages.store) → (t : ℕ) → top_in pages.marks t ≡ None }
         ensures attached { IfOk result (λ attached. Attached S.tells (S.opens (S.view pages.store).shape) K.index
             (pages_of (S.view pages.store) pages) (pages_of (S.view attached.0.store) attached.0)) }
-        ensures rows { IsTrue S.tells → IfOk result (λ attached. attached.1 ≡ entries (table_of K.index (S.view pages.store).state.bytes)) }
+        ensures rows { IsTrue S.tells → IfOk result (λ attached. all_keyed main_name attached.1 ≡ entries (table_of K.index (S.view pages.store).state.bytes)) }
         ensures cause { IfErr result (λ failed. AttachCause S.tells K.index (S.view pages.store) failed.0) }
         ensures looks { IfErr result (λ failed. Looks S.tells (S.opens (S.view pages.store).shape) (is_refused_by_media failed.0)
             (pages_of (S.view pages.store) pages) (pages_of (S.view failed.1.store) failed.1)) }
@@ -329,14 +330,14 @@ impl<S: EawStore, K: KeyIndex> Records<S, K> {
         told(self.pages.end_group(tids))
     }
 
-    /// The least key of a table from `from` on that has no record in the data, while the index of the table still has the key. Nothing is
+    /// The least key of a table, which is `main`, from `from` on that has no record in the data, while the index of the table still has the key. Nothing is
     /// changed.
     pub fn next_absent(&mut self, table: u8, from: u64) -> Result<Option<u64>, TableFault>
         requires { table < asked_tables }
         ensures looks { Looks S.tells (S.opens (S.view self.old.store).shape) (is_failed result)
             (pages_of (S.view self.old.store) self.old) (pages_of (S.view self.new.store) self.new) }
         ensures cause { SearchCause S.tells (pages_of (S.view self.old.store) self.old) result }
-        ensures next { IsTrue S.tells → IfOk result (IsNextAbsent K.index (S.view self.old.store).state.bytes table from) }
+        ensures next { IsTrue S.tells → IfOk result (IsNextAbsent K.index (S.view self.old.store).state.bytes from) }
         ensures inside { IfOk result (λ key. IfSome key (λ key. from ≤ key)) }
         ensures dead { IsErrOf result TableFault.Dead → self.new ≡ self.old }
     {
@@ -346,15 +347,15 @@ impl<S: EawStore, K: KeyIndex> Records<S, K> {
         told(next_absent::<S, K>(&mut self.pages, table, MAIN_ROOT, from))
     }
 
-    /// Takes a key of a table that has no record out of the index, as this number, and gives its slot back: the next key that is inserted
+    /// Takes a key of a table, which is `main`, that has no record out of the index, as this number, and gives its slot back: the next key that is inserted
     /// gets it. Returns whether it was taken out; a pair that its page keeps as its last one is not. No number may have written the key, and
     /// the super page is of version 2.
     pub fn remove(&mut self, tid: u8, table: u8, key: u64) -> Result<bool, TableFault>
         requires tid { tid < (S.view self.old.store).shape.numbers }
         requires table { table < asked_tables }
         requires lists { IsTrue S.tells → IsAlive (S.view self.old.store) → version_of (S.view self.old.store).state.bytes ≡ 2 }
-        requires absent { IsTrue S.tells → IsAlive (S.view self.old.store) → IsAbsent K.index (S.view self.old.store).state.bytes (key_in table key) }
-        requires unwritten { IsTrue S.tells → IsAlive (S.view self.old.store) → IsUnwritten K.index (pages_of (S.view self.old.store) self.old) (key_in table key) }
+        requires absent { IsTrue S.tells → IsAlive (S.view self.old.store) → IsAbsent K.index (S.view self.old.store).state.bytes (of_main key) }
+        requires unwritten { IsTrue S.tells → IsAlive (S.view self.old.store) → IsUnwritten K.index (pages_of (S.view self.old.store) self.old) (of_main key) }
         ensures removes { Removes S.tells (S.opens (S.view self.old.store).shape) K.index table tid key
             (pages_of (S.view self.old.store) self.old) (pages_of (S.view self.new.store) self.new) result }
         ensures dead { IsErrOf result TableFault.Dead → self.new ≡ self.old }

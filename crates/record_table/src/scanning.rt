@@ -9,9 +9,8 @@ ghost use Rattle.page_store.specs.Records.{row_at};
 ghost use Rattle.page_store.specs.Shown.{pages_of};
 ghost use Rattle.record_table.specs.Does as answers;
 ghost use Rattle.record_table.specs.Invariant.{Holds};
-ghost use Rattle.record_table.specs.Scanned.{rows_seen, rows_in, rows_left, Follows, ScanCause};
+ghost use Rattle.record_table.specs.Scanned.{rows_seen, rows_left, Follows, ScanCause};
 ghost use Rattle.record_table.specs.Shown.{asked_tables};
-ghost use Rattle.record_table.specs.State.{key_in};
 ghost use Rattle.record_table.specs.Sought.{LooksAs};
 
 use crate::fault::TableFault;
@@ -56,7 +55,7 @@ fn read_row<S: EawStore, K: KeyIndex>(
     ensures looks { LooksAs S.tells (S.opens (S.view pages.old.store).shape) tid (is_failed result)
         (pages_of (S.view pages.old.store) pages.old) (pages_of (S.view pages.new.store) pages.new) }
     ensures cause { LookCause S.tells (S.view pages.old.store) result }
-    ensures follows { IsTrue S.tells → IfOk result (λ row. Follows K.index span.table tid span.low span.high (pages_of (S.view pages.old.store) pages.old) (Some row)) }
+    ensures follows { IsTrue S.tells → IfOk result (λ row. Follows K.index tid span.low span.high (pages_of (S.view pages.old.store) pages.old) (Some row)) }
     ensures key { IfOk result (λ row. row.key ≡ pair.0) }
 {
     let (key, slot) = pair;
@@ -101,8 +100,8 @@ fn push_rows<S: EawStore, K: KeyIndex>(
     ensures looks { LooksAs S.tells (S.opens (S.view pages.old.store).shape) tid (answers.is_failed result)
         (pages_of (S.view pages.old.store) pages.old) (pages_of (S.view pages.new.store) pages.new) }
     ensures cause { ScanCause S.tells result }
-    ensures rows { IsTrue S.tells → IfOk result (λ from. rows_in span.table rows.new ++ rows_left K.index span.table tid (pages_of (S.view pages.old.store) pages.old) from span.high
-        ≡ rows_in span.table rows.old ++ rows_seen K.index tid (pages_of (S.view pages.old.store) pages.old) (key_in span.table span.low) (key_in span.table span.high)) }
+    ensures rows { IsTrue S.tells → IfOk result (λ from. rows.new ++ rows_left K.index tid (pages_of (S.view pages.old.store) pages.old) from span.high
+        ≡ rows.old ++ rows_seen K.index tid (pages_of (S.view pages.old.store) pages.old) span.low span.high) }
     ensures further { IfOk result (λ from. IfSome from (λ from. (span.low < from) × (from ≤ span.high))) }
 {
     let mut from = span.low;
@@ -146,7 +145,7 @@ pub fn gather<S: EawStore, K: KeyIndex>(
     ensures looks { LooksAs S.tells (S.opens (S.view pages.old.store).shape) tid (answers.is_failed result)
         (pages_of (S.view pages.old.store) pages.old) (pages_of (S.view pages.new.store) pages.new) }
     ensures cause { ScanCause S.tells result }
-    ensures rows { IsTrue S.tells → OnOk result (rows_in table rows.new ≡ rows_seen K.index tid (pages_of (S.view pages.old.store) pages.old) (key_in table low) (key_in table high)) }
+    ensures rows { IsTrue S.tells → OnOk result (rows.new ≡ rows_seen K.index tid (pages_of (S.view pages.old.store) pages.old) low high) }
 {
     let mut from = low;
     while from <= high {

@@ -7,12 +7,12 @@ use Rattle.page_store.specs.Pairs.{Pair, AreInside, InTurn, AreNext}
 use Rattle.page_store.specs.Shown.{pages_of}
 use Rattle.history.specs.Writes.{rows_within}
 use Rattle.index_pages.proofs.Turns.{next_first, next_empty}
-use Rattle.record_table.specs.Scanned.{rows_seen, rows_in, rows_left}
+use Rattle.record_table.specs.Scanned.{rows_seen, rows_left}
 use Rattle.record_table.specs.Sought.{LooksAs}
-use Rattle.record_table.specs.State.{TableState, seen_by, key_in}
-use Rattle.record_table.proofs.Joint.{key_sum}
+use Rattle.record_table.specs.State.{TableState, seen_by}
+use Rattle.history.specs.Key.{main_name}
 use Rattle.record_table.proofs.Looking.{looks_as, looks_none, looks_next}
-use Rattle.record_table.proofs.Gathering.{follows_end, follows_past, no_row, rows_none}
+use Rattle.record_table.proofs.Gathering.{follows_end, follows_past, no_row}
 use Rattle.record_table.proofs.Moving.{moved_by_look, rests_moved}
 use Rattle.record_table.proofs.Sharing.{Laws}
 use Rattle.record_table.proofs.scanning.gather.Goals as goal
@@ -72,7 +72,7 @@ returns-then-is_empty-clause-rows g c = λ told.
     let t = c.args.tid in
     let rests = c.requires.holds c.requires.alive in
     let none = subst (λ (s : State). AreNext (g.K.KeyIndex.index.pairs s.bytes c.args.root) c.loop-from.from c.in-Ok.pairs.items) ((c.loop-from.invariant.looks.same refl).still.state told) (c.in-Ok.ensures.next told) in
-    no_row (rows_in c.args.table c.loop-from.rows) _ _ (c.loop-from.invariant.rows told)
+    no_row (c.loop-from.rows) _ _ (c.loop-from.invariant.rows told)
     (follows_end I laws t v0 (rests.tied told) c.args.table c.args.root c.requires.table (c.requires.named told c.requires.alive) c.loop-from.from c.args.high (omega arith)
     (next_empty (I.pairs v0.store.state.bytes c.args.root) c.loop-from.from c.in-Ok.pairs.items (eqb-true _ 0 (sym c.if-is_empty.ensures)) none))
 
@@ -92,8 +92,8 @@ returns-in-Ok-None-clause-rows g c = λ told.
     let looked : LooksAs g.S.EawStore.tells (g.S.EawStore.opens (g.S.EawStore.view c.args.pages.now.store).shape) c.args.tid false (pages_of (g.S.EawStore.view c.args.pages.now.store) c.args.pages.now) (pages_of (g.S.EawStore.view c.next_pairs.new.pages.store) c.next_pairs.new.pages) =
     looks_next T g.S.EawStore.opens t false v0 v1 v2 c.loop-from.invariant.looks (looks_as T (g.S.EawStore.opens v1.store.shape) t false v1 v2 c.in-Ok.ensures.looks) in
     let moved = moved_by_look T E I t v0 v2 c.requires.alive rests looked in
-    sym (append-nil (rows_in c.args.table c.push_rows.new.rows)) ∙ (rw c.in-Ok-None.field-0-is at (c.in-Ok-None.ensures.rows told))
-    ∙ ap (λ (s : TableState). rows_in c.args.table c.loop-from.rows ++ rows_within (key_in c.args.table c.loop-from.from) (key_in c.args.table c.args.high) (seen_by s t)) (moved.state told)
+    sym (append-nil (c.push_rows.new.rows)) ∙ (rw c.in-Ok-None.field-0-is at (c.in-Ok-None.ensures.rows told))
+    ∙ ap (λ (s : TableState). c.loop-from.rows ++ rows_within main_name c.loop-from.from c.args.high (seen_by s t)) (moved.state told)
     ∙ c.loop-from.invariant.rows told
 
 pub returns-clause-rows : goal.returns-clause-rows
@@ -108,8 +108,8 @@ returns-clause-rows g c = λ told.
     let v1 = pages_of (V c.loop-from.pages.store) c.loop-from.pages in
     let t = c.args.tid in
     let rests = c.requires.holds c.requires.alive in
-    no_row (rows_in c.args.table c.loop-from.rows) _ _ (c.loop-from.invariant.rows told)
-    (follows_past I laws t v0 (rests.tied told) (key_in c.args.table c.loop-from.from) (key_in c.args.table c.args.high) (omega (arith, key_sum c.args.table c.loop-from.from, key_sum c.args.table c.args.high, c.loop-from-test.false)))
+    no_row (c.loop-from.rows) _ _ (c.loop-from.invariant.rows told)
+    (follows_past I laws t v0 (rests.tied told) c.loop-from.from c.args.high (omega (arith, c.loop-from-test.false)))
 
 pub returns-clause-looks : goal.returns-clause-looks
 returns-clause-looks g c = c.loop-from.invariant.looks

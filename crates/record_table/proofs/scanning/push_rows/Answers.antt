@@ -9,11 +9,11 @@ use Rattle.page_store.specs.Pairs.{AreInside, InTurn, next}
 use Rattle.page_store.specs.Shown.{pages_of}
 use Rattle.index_pages.proofs.Turns.{turn_at, inside_at}
 use Rattle.page_store.specs.Records.{row_at}
-use Rattle.record_table.specs.Scanned.{rows_seen, rows_in}
-use Rattle.record_table.specs.State.{TableState, seen_by, key_in}
-use Rattle.record_table.proofs.Joint.{key_sum}
+use Rattle.record_table.specs.Scanned.{rows_seen}
+use Rattle.record_table.specs.State.{TableState, seen_by}
+use Rattle.history.specs.Key.{main_name}
 use Rattle.record_table.proofs.Looking.{looks_none, looks_next}
-use Rattle.record_table.proofs.Gathering.{follows_above, follows_past, last_row, no_row, more_row, rows_more}
+use Rattle.record_table.proofs.Gathering.{follows_above, follows_past, last_row, no_row, more_row}
 use Rattle.record_table.proofs.Moving.{moved_by_look, rests_moved}
 use Rattle.record_table.proofs.Sharing.{Laws}
 use Rattle.record_table.proofs.scanning.push_rows.Goals as goal
@@ -84,14 +84,14 @@ loop-pair-preserved g c =
       high = omega (arith, c.in-Ok.ensures.key, c.if-row-span.false, c.if-pair-span.false);
       rows = λ told.
           let f = c.in-Ok.ensures.follows told in
-          let seen : rows_seen I t v0 (key_in c.args.span.table c.loop-pair.from) (key_in c.args.span.table c.args.span.high) ≡ row_at (key_in c.args.span.table c.in-Ok.row.key) c.in-Ok.row.value ++ rows_seen I t v0 (key_in c.args.span.table (suc c.in-Ok.row.key)) (key_in c.args.span.table c.args.span.high) =
-          ap (λ (s : TableState). rows_within (key_in c.args.span.table c.loop-pair.from) (key_in c.args.span.table c.args.span.high) (seen_by s t)) (sym (moved.state told)) ∙ f
-          ∙ ap (λ (s : TableState). row_at (key_in c.args.span.table c.in-Ok.row.key) c.in-Ok.row.value ++ rows_within (key_in c.args.span.table (suc c.in-Ok.row.key)) (key_in c.args.span.table c.args.span.high) (seen_by s t)) (moved.state told) in
+          let seen : rows_seen I t v0 c.loop-pair.from c.args.span.high ≡ row_at c.in-Ok.row.key c.in-Ok.row.value ++ rows_seen I t v0 (suc c.in-Ok.row.key) c.args.span.high =
+          ap (λ (s : TableState). rows_within main_name c.loop-pair.from c.args.span.high (seen_by s t)) (sym (moved.state told)) ∙ f
+          ∙ ap (λ (s : TableState). row_at c.in-Ok.row.key c.in-Ok.row.value ++ rows_within main_name (suc c.in-Ok.row.key) c.args.span.high (seen_by s t)) (moved.state told) in
           let after : suc c.in-Ok.row.key ≡ c.in-Ok.row.key + 1 = omega arith in
-          subst (λ (n : ℕ). rows_in c.args.span.table c.push_row.new.rows ++ rows_seen I t v0 (key_in c.args.span.table n) (key_in c.args.span.table c.args.span.high)
-          ≡ rows_in c.args.span.table c.args.rows.now ++ rows_seen I t v0 (key_in c.args.span.table c.args.span.low) (key_in c.args.span.table c.args.span.high)) after
-          (more_row (rows_in c.args.span.table c.loop-pair.rows) (row_at (key_in c.args.span.table c.in-Ok.row.key) c.in-Ok.row.value) _ _ _ (rows_in c.args.span.table c.push_row.new.rows) (c.loop-pair.invariant.rows told) seen
-          (ap (rows_in c.args.span.table) c.in-Ok-push_row.ensures ∙ rows_more c.args.span.table c.loop-pair.rows c.in-Ok.row.key c.in-Ok.row.value));
+          subst (λ (n : ℕ). c.push_row.new.rows ++ rows_seen I t v0 n c.args.span.high
+          ≡ c.args.rows.now ++ rows_seen I t v0 c.args.span.low c.args.span.high) after
+          (more_row (c.loop-pair.rows) (row_at c.in-Ok.row.key c.in-Ok.row.value) _ _ _ (c.push_row.new.rows) (c.loop-pair.invariant.rows told) seen
+          c.in-Ok-push_row.ensures);
     }
 
 pub returns-then-pair-span-clause-rows : goal.returns-then-pair-span-clause-rows
@@ -108,8 +108,8 @@ returns-then-pair-span-clause-rows g c = λ told.
     let rests = c.requires.holds c.requires.alive in
     let moved = moved_by_look T E I t v0 v1 c.requires.alive rests c.loop-pair.invariant.looks in
     let is = (turn_at (I.pairs v0.store.state.bytes c.args.span.root) c.loop-pair.from 0 c.args.pairs.now c.loop-pair.pair-index c.loop-pair-test.true (c.loop-pair.invariant.turn told)).0 in
-    append-nil (rows_in c.args.span.table c.loop-pair.rows)
-    ∙ no_row (rows_in c.args.span.table c.loop-pair.rows) _ _ (c.loop-pair.invariant.rows told)
+    append-nil (c.loop-pair.rows)
+    ∙ no_row (c.loop-pair.rows) _ _ (c.loop-pair.invariant.rows told)
     (follows_above I laws t v0 (rests.tied told) c.args.span.table c.args.span.root c.requires.table (c.requires.named told c.requires.alive) c.loop-pair.from c.args.span.high (omega arith)
     (get_or c.args.pairs.now c.loop-pair.pair-index (0, 0)).0 (get_or c.args.pairs.now c.loop-pair.pair-index (0, 0)).1 is (omega (arith, c.if-pair-span.true)))
 
@@ -127,10 +127,10 @@ returns-then-row-span-clause-rows g c = λ told.
     let rests = c.requires.holds c.requires.alive in
     let moved = moved_by_look T E I t v0 v1 c.requires.alive rests c.loop-pair.invariant.looks in
     let f = c.in-Ok.ensures.follows told in
-    let seen : rows_seen g.K.KeyIndex.index c.args.tid (pages_of (g.S.EawStore.view c.args.pages.now.store) c.args.pages.now) (key_in c.args.span.table c.loop-pair.from) (key_in c.args.span.table c.args.span.high) ≡ row_at (key_in c.args.span.table c.in-Ok.row.key) c.in-Ok.row.value ++ rows_seen g.K.KeyIndex.index c.args.tid (pages_of (g.S.EawStore.view c.args.pages.now.store) c.args.pages.now) (key_in c.args.span.table (suc c.in-Ok.row.key)) (key_in c.args.span.table c.args.span.high) =
-    ap (λ (s : TableState). rows_within (key_in c.args.span.table c.loop-pair.from) (key_in c.args.span.table c.args.span.high) (seen_by s t)) (sym (moved.state told)) ∙ f
-    ∙ ap (λ (s : TableState). row_at (key_in c.args.span.table c.in-Ok.row.key) c.in-Ok.row.value ++ rows_within (key_in c.args.span.table (suc c.in-Ok.row.key)) (key_in c.args.span.table c.args.span.high) (seen_by s t)) (moved.state told) in
-    append-nil (rows_in c.args.span.table c.push_row.new.rows)
-    ∙ last_row (rows_in c.args.span.table c.loop-pair.rows) (row_at (key_in c.args.span.table c.in-Ok.row.key) c.in-Ok.row.value) _ _ _ _ (c.loop-pair.invariant.rows told) seen
-    (follows_past I laws t v0 (rests.tied told) (key_in c.args.span.table (suc c.in-Ok.row.key)) (key_in c.args.span.table c.args.span.high) (omega (arith, key_sum c.args.span.table (suc c.in-Ok.row.key), key_sum c.args.span.table c.args.span.high, c.if-row-span.true)))
-    (ap (rows_in c.args.span.table) c.in-Ok-push_row.ensures ∙ rows_more c.args.span.table c.loop-pair.rows c.in-Ok.row.key c.in-Ok.row.value)
+    let seen : rows_seen g.K.KeyIndex.index c.args.tid (pages_of (g.S.EawStore.view c.args.pages.now.store) c.args.pages.now) c.loop-pair.from c.args.span.high ≡ row_at c.in-Ok.row.key c.in-Ok.row.value ++ rows_seen g.K.KeyIndex.index c.args.tid (pages_of (g.S.EawStore.view c.args.pages.now.store) c.args.pages.now) (suc c.in-Ok.row.key) c.args.span.high =
+    ap (λ (s : TableState). rows_within main_name c.loop-pair.from c.args.span.high (seen_by s t)) (sym (moved.state told)) ∙ f
+    ∙ ap (λ (s : TableState). row_at c.in-Ok.row.key c.in-Ok.row.value ++ rows_within main_name (suc c.in-Ok.row.key) c.args.span.high (seen_by s t)) (moved.state told) in
+    append-nil (c.push_row.new.rows)
+    ∙ last_row (c.loop-pair.rows) (row_at c.in-Ok.row.key c.in-Ok.row.value) _ _ _ _ (c.loop-pair.invariant.rows told) seen
+    (follows_past I laws t v0 (rests.tied told) (suc c.in-Ok.row.key) c.args.span.high (omega (arith, c.if-row-span.true)))
+    c.in-Ok-push_row.ensures

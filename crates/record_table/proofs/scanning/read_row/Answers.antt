@@ -1,6 +1,6 @@
 use Rattle.std.proofs.Common.{refl, sym, ◌∙◌, arith}
 use Rattle.page_store.specs.Shown.{pages_of}
-use Rattle.record_table.specs.State.{key_in}
+use Rattle.history.specs.Key.{of_main}
 use Rattle.record_table.proofs.Gathering.{follows_some, next_is}
 use Rattle.record_table.proofs.Seeking.{read_is, some_slot}
 use Rattle.record_table.proofs.Sharing.{Laws}
@@ -18,7 +18,7 @@ returns-in-Ok-Some-clause-follows g c = λ told.
     let n = next_is I laws c.args.tid v0 tied c.args.span.table c.args.span.root c.requires.table (c.requires.named told alive) c.args.span.low c.args.span.high (omega arith) c.args.pair.0 c.args.pair.1 (c.requires.next told) c.requires.most in
     rw c.value_in.ensures (follows_some I laws c.args.tid v0 tied c.args.span.table c.args.span.root c.requires.table (c.requires.named told alive) c.args.span.low c.args.span.high (omega arith) c.args.pair.0 c.args.pair.1 (c.requires.next told) c.requires.most _
     (sym c.in-Ok-Some.field-0-is ∙ c.in-Ok-Some.ensures.said told
-    ∙ read_is I laws c.args.tid (key_in c.args.span.table c.args.pair.0) v0 tied v0 refl refl (g.met.S.EawStore.long c.args.pages.now.store told) c.args.pair.1 n.1))
+    ∙ read_is I laws c.args.tid (of_main c.args.pair.0) v0 tied v0 refl refl (g.met.S.EawStore.long c.args.pages.now.store told) c.args.pair.1 n.1))
 
 pub returns-in-Ok-None-clause-cause : goal.returns-in-Ok-None-clause-cause
 returns-in-Ok-None-clause-cause g c =
@@ -32,6 +32,6 @@ returns-in-Ok-None-clause-cause g c =
       λ told.
           let tied = (c.requires.holds alive).tied told in
           let n = next_is I laws c.args.tid v0 tied c.args.span.table c.args.span.root c.requires.table (c.requires.named told alive) c.args.span.low c.args.span.high (omega arith) c.args.pair.0 c.args.pair.1 (c.requires.next told) c.requires.most in
-          some_slot I laws c.args.tid (key_in c.args.span.table c.args.pair.0) v0 tied v0 refl refl (g.met.S.EawStore.long c.args.pages.now.store told) c.args.pair.1 n.1
+          some_slot I laws c.args.tid (of_main c.args.pair.0) v0 tied v0 refl refl (g.met.S.EawStore.long c.args.pages.now.store told) c.args.pair.1 n.1
           (sym c.in-Ok-None.field-0-is ∙ c.in-Ok-None.ensures.said told),
     )

@@ -2,7 +2,7 @@ use Rattle.std.proofs.Common.{false, refl, sym, ◌∙◌, ap, arith}
 use Rattle.page_store.specs.Records.{value_of}
 use Rattle.page_store.specs.Shown.{pages_of}
 use Rattle.record_table.proofs.Looking.{looks_as, looks_next}
-use Rattle.record_table.specs.State.{key_in}
+use Rattle.history.specs.Key.{of_main}
 use Rattle.record_table.proofs.Sharing.{Laws, found_in}
 use Rattle.record_table.proofs.Seeking.{seen_none, seen_some, some_slot}
 use Rattle.record_table.proofs.slots.seek.Goals as goal
@@ -13,8 +13,8 @@ returns-in-Ok-None-clause-finds g c = λ told.
     let V = g.S.EawStore.view in
     let laws : Laws g.K.KeyIndex.index = record { rises = K.rises; given = K.given; counts = K.counts; rests = K.rests; extends = K.extends } in
     let alive = c.in-Ok-None.ensures.cause in
-    let none = found_in g.K.KeyIndex.index laws (V c.args.pages.now.store).state.bytes c.args.table c.args.root c.args.key ((c.requires.holds alive).tied told).sound c.requires.table (c.requires.named told alive) (omega arith) ∙ sym (c.in-Ok-None.ensures.found told) ∙ c.in-Ok-None.field-0-is in
-    (none, seen_none g.K.KeyIndex.index laws c.args.tid (key_in c.args.table c.args.key) (pages_of (V c.args.pages.now.store) c.args.pages.now) ((c.requires.holds alive).tied told) none)
+    let none = found_in g.K.KeyIndex.index laws (V c.args.pages.now.store).state.bytes c.args.table c.args.root c.args.key ((c.requires.holds alive).tied told).sound c.requires.table (c.requires.named told alive) ∙ sym (c.in-Ok-None.ensures.found told) ∙ c.in-Ok-None.field-0-is in
+    (none, seen_none g.K.KeyIndex.index laws c.args.tid (of_main c.args.key) (pages_of (V c.args.pages.now.store) c.args.pages.now) ((c.requires.holds alive).tied told) none)
 
 pub returns-in-Ok-Some-read_as-clause-finds : goal.returns-in-Ok-Some-read_as-clause-finds
 returns-in-Ok-Some-read_as-clause-finds g c = λ told.
@@ -23,9 +23,9 @@ returns-in-Ok-Some-read_as-clause-finds g c = λ told.
     let laws : Laws g.K.KeyIndex.index = record { rises = K.rises; given = K.given; counts = K.counts; rests = K.rests; extends = K.extends } in
     let alive = c.in-Ok-Some.ensures.cause in
     let looks = c.in-Ok-Some.ensures.looks in
-    let some = found_in g.K.KeyIndex.index laws (V c.args.pages.now.store).state.bytes c.args.table c.args.root c.args.key ((c.requires.holds alive).tied told).sound c.requires.table (c.requires.named told alive) (omega arith) ∙ sym (c.in-Ok-Some.ensures.found told) ∙ c.in-Ok-Some.field-0-is in (
+    let some = found_in g.K.KeyIndex.index laws (V c.args.pages.now.store).state.bytes c.args.table c.args.root c.args.key ((c.requires.holds alive).tied told).sound c.requires.table (c.requires.named told alive) ∙ sym (c.in-Ok-Some.ensures.found told) ∙ c.in-Ok-Some.field-0-is in (
       some,
-      seen_some g.K.KeyIndex.index laws c.args.tid (key_in c.args.table c.args.key) (pages_of (V c.args.pages.now.store) c.args.pages.now) ((c.requires.holds alive).tied told)
+      seen_some g.K.KeyIndex.index laws c.args.tid (of_main c.args.key) (pages_of (V c.args.pages.now.store) c.args.pages.now) ((c.requires.holds alive).tied told)
           (pages_of (V c.find.new.pages.store) c.find.new.pages) looks.shape ((looks.still refl).state told) (g.met.S.EawStore.long c.args.pages.now.store told) c.in-Ok-Some.slot some
           c.in-Ok-Some-read_as.field-0 (c.in-Ok-Some-read_as.ensures.said told) ∙ ap value_of c.in-Ok-Some-read_as.field-0-is ∙ sym c.value_in.ensures,
     )
@@ -39,8 +39,8 @@ returns-in-Ok-None-read_as-clause-cause g c =
     let looks = c.in-Ok-Some.ensures.looks in (
       alive,
       λ told.
-          let some = found_in g.K.KeyIndex.index laws (V c.args.pages.now.store).state.bytes c.args.table c.args.root c.args.key ((c.requires.holds alive).tied told).sound c.requires.table (c.requires.named told alive) (omega arith) ∙ sym (c.in-Ok-Some.ensures.found told) ∙ c.in-Ok-Some.field-0-is in
-          some_slot g.K.KeyIndex.index laws c.args.tid (key_in c.args.table c.args.key) (pages_of (V c.args.pages.now.store) c.args.pages.now) ((c.requires.holds alive).tied told)
+          let some = found_in g.K.KeyIndex.index laws (V c.args.pages.now.store).state.bytes c.args.table c.args.root c.args.key ((c.requires.holds alive).tied told).sound c.requires.table (c.requires.named told alive) ∙ sym (c.in-Ok-Some.ensures.found told) ∙ c.in-Ok-Some.field-0-is in
+          some_slot g.K.KeyIndex.index laws c.args.tid (of_main c.args.key) (pages_of (V c.args.pages.now.store) c.args.pages.now) ((c.requires.holds alive).tied told)
           (pages_of (V c.find.new.pages.store) c.find.new.pages) looks.shape ((looks.still refl).state told) (g.met.S.EawStore.long c.args.pages.now.store told) c.in-Ok-Some.slot some
           (sym c.in-Ok-None-read_as.field-0-is ∙ c.in-Ok-None-read_as.ensures.said told),
     )

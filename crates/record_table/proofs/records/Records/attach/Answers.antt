@@ -4,6 +4,8 @@ use Rattle.eaw_face.specs.State.{State}
 use Rattle.page_store.specs.Looks.{Looks}
 use Rattle.page_store.specs.Shown.{pages_of}
 use Rattle.index_pages.proofs.Looking.{looks_then}
+use Rattle.history.specs.Key.{main_name}
+use Rattle.history.specs.Rows.{all_keyed}
 use Rattle.record_table.specs.Names.{names_of}
 use Rattle.page_store.specs.Records.{records_of}
 use Rattle.record_table.proofs.Opened.{opened_rows}
@@ -47,5 +49,5 @@ returns-in-Ok-read_names-clause-rows g c = λ told.
     let V = g.S.EawStore.view in
     let laws : Laws g.K.KeyIndex.index = record { rises = K.rises; given = K.given; counts = K.counts; rests = K.rests; extends = K.extends } in
     let bytes = (V c.args.pages.store).state.bytes in
-    c.first_rows.ensures ∙ opened_rows g.K.KeyIndex.index laws bytes (c.in-Ok.ensures.cause.1 told) c.check.new.tables
+    ap (all_keyed main_name) c.first_rows.ensures ∙ opened_rows g.K.KeyIndex.index laws bytes (c.in-Ok.ensures.cause.1 told) c.check.new.tables
     (c.in-Ok.ensures.records told ∙ ap (λ (l : List (List (ℕ × List ℕ))). l ++ records_of g.K.KeyIndex.index bytes) c.new-tables.ensures)

@@ -91,7 +91,7 @@ invariant_of-self-2 g c =
     let finds = λ (told : IsTrue g.S.EawStore.tells). rw c.in-Ok-Some.field-0-is at (c.in-Ok-Some.ensures.finds told) in
     let does = subst (λ (s : Shape). page.Does g.S.EawStore.tells (g.S.EawStore.opens s) (write_as c.args.tid (64 * (slots_of (V mid.store).shape + c.in-Ok-Some.place.slot)) (slot_bytes (Absent 0 c.args.key))) (pages_of (V mid.store) mid) (pages_of (V new.store) new) c.write_as.result)
     looks.shape c.write_as.ensures.does in
-    kept (removed g.S.EawStore.tells (g.S.EawStore.opens (V inside.store).shape) g.K.KeyIndex.index laws 0 c.args.tid c.args.key (omega arith) (pages_of (V inside.store) inside) alive c.self.invariant.0 (pages_of (V mid.store) mid) looks (pages_of (V new.store) new) c.in-Ok-Some.place.slot
+    kept (removed g.S.EawStore.tells (g.S.EawStore.opens (V inside.store).shape) g.K.KeyIndex.index laws 0 c.args.tid c.args.key (omega arith) (omega arith) (pages_of (V inside.store) inside) alive c.self.invariant.0 (pages_of (V mid.store) mid) looks (pages_of (V new.store) new) c.in-Ok-Some.place.slot
     (λ told. (finds told).0) (λ told. ap is_some (finds told).1 ∙ c.if-is_none.ensures)
     (λ told. record { long = g.met.S.EawStore.long mid.store told; outlines = λ t. g.met.S.EawStore.outlines mid.store t told mid_alive; placed = λ t. g.met.S.EawStore.placed mid.store t })
     (c.write_as.ensures.ordered mid_alive) (c.write_as.ensures.reads_back mid_alive) (c.write_as.ensures.whole mid_alive) c.write_as.result does
@@ -112,7 +112,7 @@ returns-clause-does g c =
     let does = subst (λ (s : Shape). page.Does g.S.EawStore.tells (g.S.EawStore.opens s) (write_as c.args.tid (64 * (slots_of (V mid.store).shape + c.in-Ok-Some.place.slot)) (slot_bytes (Absent 0 c.args.key))) (pages_of (V mid.store) mid) (pages_of (V new.store) new) c.write_as.result)
     looks.shape c.write_as.ensures.does in
     rw (answer_is g c) (does_of V g.S.EawStore.tells g.S.EawStore.opens g.K.KeyIndex.index 0 c.args.tid (Del c.args.key) c.args.self.now inside c.self.view_is (pages_of (V new.store) new) (answered reply.Fine c.write_as.result)
-    (removed g.S.EawStore.tells (g.S.EawStore.opens (V inside.store).shape) g.K.KeyIndex.index laws 0 c.args.tid c.args.key (omega arith) (pages_of (V inside.store) inside) alive c.self.invariant.0 (pages_of (V mid.store) mid) looks (pages_of (V new.store) new) c.in-Ok-Some.place.slot
+    (removed g.S.EawStore.tells (g.S.EawStore.opens (V inside.store).shape) g.K.KeyIndex.index laws 0 c.args.tid c.args.key (omega arith) (omega arith) (pages_of (V inside.store) inside) alive c.self.invariant.0 (pages_of (V mid.store) mid) looks (pages_of (V new.store) new) c.in-Ok-Some.place.slot
     (λ told. (finds told).0) (λ told. ap is_some (finds told).1 ∙ c.if-is_none.ensures)
     (λ told. record { long = g.met.S.EawStore.long mid.store told; outlines = λ t. g.met.S.EawStore.outlines mid.store t told mid_alive; placed = λ t. g.met.S.EawStore.placed mid.store t })
     (c.write_as.ensures.ordered mid_alive) (c.write_as.ensures.reads_back mid_alive) (c.write_as.ensures.whole mid_alive) c.write_as.result does

@@ -1,5 +1,6 @@
 use Rattle.std.proofs.Common.{◌∙◌, ap, sym, Ok}
 use Rattle.page_store.specs.Shown.{Shown, pages_of}
+use Rattle.history.specs.Key.{of_main}
 use Rattle.history.specs.Table.{found}
 use Rattle.history.specs.declared.call.Call.TheVariants.{Get}
 use Rattle.record_table.proofs.Seeking.{found_value}
@@ -17,7 +18,7 @@ invariant_of-self g c =
     let T = g.S.EawStore.tells in
     let E = g.S.EawStore.opens (g.S.EawStore.view c.self.inside.pages.store).shape in
     elim c.match-seek.branch [
-      | in-Ok w ↦ kept (got T E g.K.KeyIndex.index 0 c.args.tid c.args.key (pages_of (V inside.store) inside) (pages_of (V new.store) new) c.self.invariant.0 w.in-Ok.ensures.cause w.in-Ok.ensures.looks w.value_at.result (λ told. found_value g.K.KeyIndex.index c.args.tid c.args.key (pages_of (V inside.store) inside) w.in-Ok.found (w.in-Ok.ensures.finds told) ∙ sym w.value_at.ensures)) c.self.invariant.1
+      | in-Ok w ↦ kept (got T E g.K.KeyIndex.index 0 c.args.tid c.args.key (pages_of (V inside.store) inside) (pages_of (V new.store) new) c.self.invariant.0 w.in-Ok.ensures.cause w.in-Ok.ensures.looks w.value_at.result (λ told. found_value g.K.KeyIndex.index c.args.tid (of_main c.args.key) (pages_of (V inside.store) inside) w.in-Ok.found (w.in-Ok.ensures.finds told) ∙ sym w.value_at.ensures)) c.self.invariant.1
       | in-Err w ↦ kept (look_refused T E g.K.KeyIndex.index 0 c.args.tid (Get c.args.key) (pages_of (V inside.store) inside) (pages_of (V new.store) new) c.self.invariant.0 _ w.in-Err.fault tt w.in-Err.ensures.cause w.in-Err.ensures.looks
           (λ e. ap (λ (p : Shown g.row.S.Denot). pages_of (V p.store) p) (w.in-Err.ensures.dead e))) c.self.invariant.1
     ]
@@ -31,7 +32,7 @@ returns-clause-does g c =
     let E = g.S.EawStore.opens (g.S.EawStore.view c.self.inside.pages.store).shape in
     elim c.match-seek.branch [
       | in-Ok w ↦ rw w.result-is (does_of V T g.S.EawStore.opens g.K.KeyIndex.index 0 c.args.tid (Get c.args.key) c.args.self.now inside c.self.view_is (pages_of (V new.store) new) (Ok (found w.value_at.result))
-          (got T E g.K.KeyIndex.index 0 c.args.tid c.args.key (pages_of (V inside.store) inside) (pages_of (V new.store) new) c.self.invariant.0 w.in-Ok.ensures.cause w.in-Ok.ensures.looks w.value_at.result (λ told. found_value g.K.KeyIndex.index c.args.tid c.args.key (pages_of (V inside.store) inside) w.in-Ok.found (w.in-Ok.ensures.finds told) ∙ sym w.value_at.ensures)).0)
+          (got T E g.K.KeyIndex.index 0 c.args.tid c.args.key (pages_of (V inside.store) inside) (pages_of (V new.store) new) c.self.invariant.0 w.in-Ok.ensures.cause w.in-Ok.ensures.looks w.value_at.result (λ told. found_value g.K.KeyIndex.index c.args.tid (of_main c.args.key) (pages_of (V inside.store) inside) w.in-Ok.found (w.in-Ok.ensures.finds told) ∙ sym w.value_at.ensures)).0)
       | in-Err w ↦ rw (w.result-is, w.from.ensures) (does_of V T g.S.EawStore.opens g.K.KeyIndex.index 0 c.args.tid (Get c.args.key) c.args.self.now inside c.self.view_is (pages_of (V new.store) new) _
           (look_refused T E g.K.KeyIndex.index 0 c.args.tid (Get c.args.key) (pages_of (V inside.store) inside) (pages_of (V new.store) new) c.self.invariant.0 _ w.in-Err.fault tt w.in-Err.ensures.cause w.in-Err.ensures.looks
           (λ e. ap (λ (p : Shown g.row.S.Denot). pages_of (V p.store) p) (w.in-Err.ensures.dead e))).0)

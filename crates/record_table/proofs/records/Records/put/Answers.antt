@@ -46,7 +46,7 @@ invariant_of-self g c =
     let mid_alive = (looks.same refl).still.dead ∙ alive in
     let does = subst (λ (s : Shape). page.Does g.S.EawStore.tells (g.S.EawStore.opens s) (write_as c.args.tid (64 * (slots_of (V mid.store).shape + c.in-Ok-Some.slot)) (slot_bytes (Present 0 c.args.key c.args.value))) (pages_of (V mid.store) mid) (pages_of (V new.store) new) c.write_as.result)
     looks.shape c.write_as.ensures.does in
-    kept (put_known T (E v0.store.shape) I laws 0 1 t key (omega arith) (omega arith) c.args.value v0 alive c.self.invariant.0 main v1 looks v2 c.in-Ok-Some.slot (λ told. found_in g.K.KeyIndex.index laws (V inside.store).state.bytes 0 1 c.args.key ((c.self.invariant.0 alive).tied told).sound (omega arith) (main told) (omega arith) ∙ sym (c.in-Ok-Some.ensures.found told) ∙ c.in-Ok-Some.field-0-is)
+    kept (put_known T (E v0.store.shape) I laws 0 1 t key (omega arith) (omega arith) c.args.value v0 alive c.self.invariant.0 main v1 looks v2 c.in-Ok-Some.slot (λ told. found_in g.K.KeyIndex.index laws (V inside.store).state.bytes 0 1 c.args.key ((c.self.invariant.0 alive).tied told).sound (omega arith) (main told) ∙ sym (c.in-Ok-Some.ensures.found told) ∙ c.in-Ok-Some.field-0-is)
     (λ told. record { long = g.met.S.EawStore.long mid.store told; outlines = λ t. g.met.S.EawStore.outlines mid.store t told mid_alive; placed = λ t. g.met.S.EawStore.placed mid.store t })
     (c.write_as.ensures.ordered mid_alive) (c.write_as.ensures.reads_back mid_alive) (c.write_as.ensures.whole mid_alive) c.write_as.result does
     (λ f e ne. ap (λ (p : Shown g.row.S.Denot). pages_of (V p.store) p) (err_same c.write_as.result c.write_as.ensures.refused f e ne))) c.self.invariant.1
@@ -74,7 +74,7 @@ returns-in-Ok-Some-clause-does g c =
     let does = subst (λ (s : Shape). page.Does g.S.EawStore.tells (g.S.EawStore.opens s) (write_as c.args.tid (64 * (slots_of (V mid.store).shape + c.in-Ok-Some.slot)) (slot_bytes (Present 0 c.args.key c.args.value))) (pages_of (V mid.store) mid) (pages_of (V new.store) new) c.write_as.result)
     looks.shape c.write_as.ensures.does in
     rw (c.told.ensures, told_is_answered) (does_of V T E I 0 t (Put key c.args.value) c.args.self.now inside c.self.view_is v2 _
-    (put_known T (E v0.store.shape) I laws 0 1 t key (omega arith) (omega arith) c.args.value v0 alive c.self.invariant.0 main v1 looks v2 c.in-Ok-Some.slot (λ told. found_in g.K.KeyIndex.index laws (V inside.store).state.bytes 0 1 c.args.key ((c.self.invariant.0 alive).tied told).sound (omega arith) (main told) (omega arith) ∙ sym (c.in-Ok-Some.ensures.found told) ∙ c.in-Ok-Some.field-0-is)
+    (put_known T (E v0.store.shape) I laws 0 1 t key (omega arith) (omega arith) c.args.value v0 alive c.self.invariant.0 main v1 looks v2 c.in-Ok-Some.slot (λ told. found_in g.K.KeyIndex.index laws (V inside.store).state.bytes 0 1 c.args.key ((c.self.invariant.0 alive).tied told).sound (omega arith) (main told) ∙ sym (c.in-Ok-Some.ensures.found told) ∙ c.in-Ok-Some.field-0-is)
     (λ told. record { long = g.met.S.EawStore.long mid.store told; outlines = λ t. g.met.S.EawStore.outlines mid.store t told mid_alive; placed = λ t. g.met.S.EawStore.placed mid.store t })
     (c.write_as.ensures.ordered mid_alive) (c.write_as.ensures.reads_back mid_alive) (c.write_as.ensures.whole mid_alive) c.write_as.result does
     (λ f e ne. ap (λ (p : Shown g.row.S.Denot). pages_of (V p.store) p) (err_same c.write_as.result c.write_as.ensures.refused f e ne))).0)
