@@ -4,7 +4,7 @@ use Rattle.std.specs.Map.{update}
 use Rattle.std.specs.FinMap.{get}
 use Rattle.std.proofs.lemmas.Map.{update_here, update_apart}
 use Rattle.std.proofs.lemmas.Bool.{true≢false, cond-true, cond-false}
-use Rattle.history.specs.Key.{Key}
+use Rattle.history.specs.Key.{Key, of_main}
 use Rattle.history.specs.Table.{Granted, Work, found, removed, Answers}
 use Rattle.history.specs.declared.call.Call.{Call}
 use Rattle.history.specs.declared.call.Call.TheVariants.{Begin, Get, Put, Del, Scan, Save, Back, Commit, Abort}
@@ -39,8 +39,8 @@ lacks_at_of_array limits old caller key None (LogFull g h n) lacks = refl
 lacks_at_of_array limits old caller key _ _ lacks = absurd lacks
 
 pub lacks_of_array : (limits : Limits) (old : State) (caller : ℕ) (call : Call) (reply : Reply) → Lacks limits old caller call reply → is_of_array reply ≡ true
-lacks_of_array limits old caller (Put key value) reply lacks = lacks_at_of_array limits old caller key (old.index.slot_of key) reply lacks
-lacks_of_array limits old caller (Del key) reply lacks = lacks_at_of_array limits old caller key (Some lacks.1) reply lacks.3
+lacks_of_array limits old caller (Put key value) reply lacks = lacks_at_of_array limits old caller (of_main key) (old.index.slot_of (of_main key)) reply lacks
+lacks_of_array limits old caller (Del key) reply lacks = lacks_at_of_array limits old caller (of_main key) (Some lacks.1) reply lacks.3
 lacks_of_array limits old caller _ reply lacks = absurd lacks
 
 lacks_at_refusal : (limits : Limits) (old : State) (caller : ℕ) (key : Key) (slot : Option ℕ) (reply : Reply) → LacksAt limits old caller key slot reply → (is_refusal reply ≡ true) × (is_media reply ≡ false)
@@ -51,8 +51,8 @@ lacks_at_refusal limits old caller key None (LogFull g h n) lacks = (refl, refl)
 lacks_at_refusal limits old caller key _ _ lacks = absurd lacks
 
 lacks_refusal : (limits : Limits) (old : State) (caller : ℕ) (call : Call) (reply : Reply) → Lacks limits old caller call reply → (is_refusal reply ≡ true) × (is_media reply ≡ false)
-lacks_refusal limits old caller (Put key value) reply lacks = lacks_at_refusal limits old caller key (old.index.slot_of key) reply lacks
-lacks_refusal limits old caller (Del key) reply lacks = lacks_at_refusal limits old caller key (Some lacks.1) reply lacks.3
+lacks_refusal limits old caller (Put key value) reply lacks = lacks_at_refusal limits old caller (of_main key) (old.index.slot_of (of_main key)) reply lacks
+lacks_refusal limits old caller (Del key) reply lacks = lacks_at_refusal limits old caller (of_main key) (Some lacks.1) reply lacks.3
 lacks_refusal limits old caller _ reply lacks = absurd lacks
 
 module _ (limits : Limits) (old : State) (caller : ℕ) (new : State) where
@@ -118,9 +118,9 @@ removed_plain None reply e = record { done = ap is_refusal e; uncommitted = ap i
 removed_plain (Some v) reply e = record { done = ap is_refusal e; uncommitted = ap is_committed e; sure = ap is_media e }
 
 pub answer_plain : (work : Work) (call : Call) (reply : Reply) → Answers work call reply → IsPlain reply
-answer_plain work (Get key) reply answers = found_plain (get work.table key) reply answers
+answer_plain work (Get key) reply answers = found_plain (get work.table (of_main key)) reply answers
 answer_plain work (Put key value) reply answers = record { done = ap is_refusal answers; uncommitted = ap is_committed answers; sure = ap is_media answers }
-answer_plain work (Del key) reply answers = removed_plain (get work.table key) reply answers
+answer_plain work (Del key) reply answers = removed_plain (get work.table (of_main key)) reply answers
 answer_plain work (Scan low high) reply answers = record { done = ap is_refusal answers; uncommitted = ap is_committed answers; sure = ap is_media answers }
 answer_plain work Save reply answers = record { done = ap is_refusal answers; uncommitted = ap is_committed answers; sure = ap is_media answers }
 answer_plain work (Back n) reply answers = record { done = ap is_refusal answers.1; uncommitted = ap is_committed answers.1; sure = ap is_media answers.1 }

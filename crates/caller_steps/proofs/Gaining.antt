@@ -3,12 +3,12 @@ use Rattle.std.proofs.Common.{◌≡◌, ◌≢◌, ℕ, ◌+◌, List, [], ◌�
 use Rattle.std.specs.Prelude.{All}
 use Rattle.std.specs.List.{AllPairs}
 use Rattle.std.specs.Map.{update}
-use Rattle.std.proofs.lemmas.Map.{update_here, update_apart}
 use Rattle.std.proofs.lemmas.List.Elements.{All-nil, All-cons}
 use Rattle.std.proofs.lemmas.List.Kept.{AllPairs-cons}
 use Rattle.history.specs.Key.{Key, is_same_key}
 use Rattle.caller_steps.specs.State.{Index}
 use Rattle.caller_steps.specs.Shown.{Gained}
+use Rattle.caller_steps.proofs.AtKeys.{at_key, at_other_key}
 
 some_none : {X : Type 0} (slot : ℕ) → Some slot ≡ None → X
 some_none slot e = absurd (cc)
@@ -20,14 +20,14 @@ gained_slots first now (key ∷ keys) g = let i = gained_slots first g.0 keys g.
 -- a key that an index lacks is none of those that it has gained, and the index lacked it at first
 apart_one : (key other : Key) (before now : Index) → now.slot_of ≡ update is_same_key before.slot_of key (Some before.due) → now.slot_of other ≡ None → other ≢ key
 apart_one key other before now set lacks same =
-    some_none before.due (sym (update_here before.slot_of key (Some before.due)) ∙ ap (λ (f : ℕ → Option ℕ). f key) (sym set) ∙ subst (λ k. now.slot_of k ≡ None) same lacks)
+    some_none before.due (sym (at_key before.slot_of key (Some before.due)) ∙ ap (λ (f : Key → Option ℕ). f key) (sym set) ∙ subst (λ k. now.slot_of k ≡ None) same lacks)
 
 lacked_before : (key other : Key) (before now : Index) → now.slot_of ≡ update is_same_key before.slot_of key (Some before.due) → now.slot_of other ≡ None → before.slot_of other ≡ None
 lacked_before key other before now set lacks =
-    sym (update_apart before.slot_of key (Some before.due) other (apart_one key other before now set lacks)) ∙ ap (λ (f : ℕ → Option ℕ). f other) (sym set) ∙ lacks
+    sym (at_other_key before.slot_of key (Some before.due) other (apart_one key other before now set lacks)) ∙ ap (λ (f : Key → Option ℕ). f other) (sym set) ∙ lacks
 
 lacks_first : (first now : Index) (keys : List Key) (other : Key) → Gained first keys now → now.slot_of other ≡ None → first.slot_of other ≡ None
-lacks_first first now [] other g lacks = ap (λ (f : ℕ → Option ℕ). f other) (sym g.0) ∙ lacks
+lacks_first first now [] other g lacks = ap (λ (f : Key → Option ℕ). f other) (sym g.0) ∙ lacks
 lacks_first first now (key ∷ keys) other g lacks = lacks_first first g.0 keys other g.1 (lacked_before key other g.0 now g.3 lacks)
 
 lacks_each : (first now : Index) (keys : List Key) (other : Key) → Gained first keys now → now.slot_of other ≡ None → All (λ key. other ≢ key) keys

@@ -3,13 +3,14 @@ use Rattle.std.proofs.Common.{◌≡◌, ℕ, false, cond, List, [], ◌∷◌, 
 use Rattle.std.specs.Prelude.{IsSome}
 use Rattle.std.specs.List.{list_any}
 use Rattle.std.specs.Map.{update}
-use Rattle.std.proofs.lemmas.Map.{update_apart}
-use Rattle.std.proofs.lemmas.Bool.{false_from_ne_true, true≢false, false≢true, eq-eqb, eqb-true, or_parts, or_from}
+use Rattle.std.proofs.lemmas.Bool.{false_from_ne_true, true≢false, false≢true, or_parts, or_from}
 use Rattle.history.specs.Key.{Key, is_same_key}
 use Rattle.history.specs.Writes.{Write, is_of}
 use Rattle.history.specs.Log.{log_of}
 use Rattle.caller_steps.specs.State.{State, Index, calls_of}
 use Rattle.caller_steps.specs.Room.{Limits, is_slot_on, is_write_on, held_on, GainsKey}
+use Rattle.history.proofs.Keys.{same_key, same_keys}
+use Rattle.caller_steps.proofs.AtKeys.{at_other_key}
 
 module _ (limits : Limits) (g : ℕ) where
   -- If a key that no write names gains a slot, the writes on a logger stay the same.
@@ -18,8 +19,8 @@ module _ (limits : Limits) (g : ℕ) where
   writes_apart old new key slot gains [] none = refl
   writes_apart old new key slot gains (write ∷ writes) none =
       let parts = or_parts (is_of key write) (list_any (is_of key) writes) none in
-      let same : new.slot_of write.0 ≡ old.slot_of write.0 = ap (λ (f : ℕ → Option ℕ). f write.0) gains
-      ∙ update_apart old.slot_of key (Some slot) write.0 (λ e. true≢false (sym (eq-eqb write.0 key e) ∙ parts.0)) in
+      let same : new.slot_of write.0 ≡ old.slot_of write.0 = ap (λ (f : Key → Option ℕ). f write.0) gains
+      ∙ at_other_key old.slot_of key (Some slot) write.0 (λ e. true≢false (sym (same_key write.0 key e) ∙ parts.0)) in
       ap (λ (s : Option ℕ). cond (is_slot_on limits g s) (write ∷ filter (is_write_on limits new g) writes) (filter (is_write_on limits new g) writes)) same
       ∙ ap (λ (l : List Write). cond (is_write_on limits old g write) (write ∷ l) l) (writes_apart old new key slot gains writes parts.1)
 
@@ -39,5 +40,5 @@ AreNamed index (write ∷ writes) = IsSome (index.slot_of write.0) × AreNamed i
 pub unnamed : (index : Index) (key : Key) → index.slot_of key ≡ None → (writes : List Write) → AreNamed index writes → list_any (is_of key) writes ≡ false
 unnamed index key none [] named = refl
 unnamed index key none (write ∷ writes) named = or_from (is_of key write) (list_any (is_of key) writes)
-    (false_from_ne_true (is_of key write) (λ is. subst (λ (o : Option ℕ). IsSome o → ⊥) (sym none) (λ some. false≢true some) (subst (λ k. IsSome (index.slot_of k)) (eqb-true write.0 key is) named.0)))
+    (false_from_ne_true (is_of key write) (λ is. subst (λ (o : Option ℕ). IsSome o → ⊥) (sym none) (λ some. false≢true some) (subst (λ k. IsSome (index.slot_of k)) (same_keys write.0 key is) named.0)))
     (unnamed index key none writes named.1)

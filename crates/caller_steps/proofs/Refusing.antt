@@ -1,11 +1,12 @@
 -- Why the refusals within a run stand, and which keys its index gains.
-use Rattle.std.proofs.Common.{◌≡◌, ◌⊎◌, ◌||◌, ℕ, ◌-◌, ◌≤◌, inl, inr, ⊎_elim, List, [], ◌∷◌, ◌++◌, Bool, true, false, Option, Some, None, refl, sym, ap, ◌∙◌, subst, arith, eq-eqb}
+use Rattle.std.proofs.Common.{◌≡◌, ◌⊎◌, ◌||◌, ℕ, ◌-◌, ◌≤◌, inl, inr, ⊎_elim, List, [], ◌∷◌, ◌++◌, Bool, true, false, Option, Some, None, refl, sym, ap, ◌∙◌, subst, arith}
 use Rattle.std.specs.Prelude.{IsTrue, IsFalse, unwrap_or}
 use Rattle.std.specs.List.{list_any}
 use Rattle.std.specs.FinMap.{get}
 use Rattle.std.proofs.lemmas.Bool.{true≢false, or_left, or_right, or_parts}
 use Rattle.std.proofs.lemmas.List.Folds.{list_any-append}
-use Rattle.history.specs.Key.{Key}
+use Rattle.history.specs.Key.{Key, of_main}
+use Rattle.history.proofs.Keys.{same_key}
 use Rattle.history.specs.Writes.{Write}
 use Rattle.history.specs.Table.{Granted, Work, Answers, found, removed}
 use Rattle.history.specs.Locks.{touches, touched, clash}
@@ -52,17 +53,17 @@ inserts limits key (LogFull g h n) old new i = (i.0, i.1)
 inserts limits key (PagesFull n) old new i = (i.0, inl i.1)
 inserts limits key _ old new i = (i.0, inl i.1)
 
-index_at : (limits : Limits) (key : Key) (value : List ℕ) (slot : Option ℕ) (reply : Reply) (old new : Index) → old.slot_of key ≡ slot → IndexesAt limits key slot reply old new → IndexMoves limits (Put key value) old new
+index_at : (limits : Limits) (key : ℕ) (value : List ℕ) (slot : Option ℕ) (reply : Reply) (old new : Index) → old.slot_of (of_main key) ≡ slot → IndexesAt limits (of_main key) slot reply old new → IndexMoves limits (Put key value) old new
 index_at limits key value (Some slot) reply old new is e = same_index limits (Put key value) old new e
 index_at limits key value None reply old new is i =
-    let both = inserts limits key reply old new i in record {
+    let both = inserts limits (of_main key) reply old new i in record {
       pages = both.0.used;
       levels = both.0.levels;
-      keys = ⊎_elim (λ keeps. inl keeps) (λ gains. inr (key, eq-eqb key key refl, is, gains)) both.1;
+      keys = ⊎_elim (λ keeps. inl keeps) (λ gains. inr (of_main key, same_key (of_main key) (of_main key) refl, is, gains)) both.1;
     }
 
 index_moves : (limits : Limits) (call : Call) (reply : Reply) (old new : Index) → Indexes limits call reply old new → IndexMoves limits call old new
-index_moves limits (Put key value) reply old new i = index_at limits key value (old.slot_of key) reply old new refl i
+index_moves limits (Put key value) reply old new i = index_at limits key value (old.slot_of (of_main key)) reply old new refl i
 index_moves limits Begin reply old new i = same_index limits Begin old new i
 index_moves limits (Get key) reply old new i = same_index limits (Get key) old new i
 index_moves limits (Del key) reply old new i = same_index limits (Del key) old new i
@@ -126,15 +127,15 @@ module _ (limits : Limits) (old : State) (caller : ℕ) (new : State) where
 
   plain : (work : Work) (call : Call) (reply : Reply) → Answers work call reply → T call reply
   unfolding T
-  plain work (Get key) reply answers = plain_found (Get key) (get work.table key) reply answers
+  plain work (Get key) reply answers = plain_found (Get key) (get work.table (of_main key)) reply answers
   plain work (Put key value) reply answers = subst (λ r. Told limits old caller new (Put key value) r) (sym answers) tt
-  plain work (Del key) reply answers = plain_removed (Del key) (get work.table key) reply answers
+  plain work (Del key) reply answers = plain_removed (Del key) (get work.table (of_main key)) reply answers
   plain work (Scan low high) reply answers = subst (λ r. Told limits old caller new (Scan low high) r) (sym answers) tt
   plain work Save reply answers = subst (λ r. Told limits old caller new Save r) (sym answers) tt
   plain work (Back n) reply answers = subst (λ r. Told limits old caller new (Back n) r) (sym answers.1) tt
   plain work _ reply answers = absurd answers
 
-  put_lacks : (key : Key) (value : List ℕ) (slot : Option ℕ) (reply : Reply) → LacksAt limits old caller key slot reply → IndexesAt limits key slot reply old.index new.index → T (Put key value) reply
+  put_lacks : (key : ℕ) (value : List ℕ) (slot : Option ℕ) (reply : Reply) → LacksAt limits old caller (of_main key) slot reply → IndexesAt limits (of_main key) slot reply old.index new.index → T (Put key value) reply
   unfolding T
   put_lacks key value (Some slot) (LogFull g h n) lacks index = tt
   put_lacks key value None (SlotsFull n) lacks index = (lacks.1, index.1.slots ∙ lacks.0)
@@ -142,13 +143,13 @@ module _ (limits : Limits) (old : State) (caller : ℕ) (new : State) where
   put_lacks key value None (LogFull g h n) lacks index = tt
   put_lacks key value _ _ lacks index = absurd lacks
 
-  del_lacks : (key : Key) (slot : ℕ) (reply : Reply) → LacksAt limits old caller key (Some slot) reply → T (Del key) reply
+  del_lacks : (key : ℕ) (slot : ℕ) (reply : Reply) → LacksAt limits old caller (of_main key) (Some slot) reply → T (Del key) reply
   unfolding T
   del_lacks key slot (LogFull g h n) lacks = tt
   del_lacks key slot _ lacks = absurd lacks
 
   lacks_told : (call : Call) (reply : Reply) → Lacks limits old caller call reply → Indexes limits call reply old.index new.index → T call reply
-  lacks_told (Put key value) reply lacks indexes = put_lacks key value (old.index.slot_of key) reply lacks indexes
+  lacks_told (Put key value) reply lacks indexes = put_lacks key value (old.index.slot_of (of_main key)) reply lacks indexes
   lacks_told (Del key) reply lacks indexes = del_lacks key lacks.1 reply lacks.3
   lacks_told _ reply lacks indexes = absurd lacks
 

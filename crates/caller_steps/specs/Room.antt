@@ -3,7 +3,7 @@ use Rattle.std.specs.Prelude.{ℕ, suc, ◌≡◌, ◌+◌, ◌-◌, ◌<◌, �
 use Rattle.std.specs.FinMap.{get}
 use Rattle.std.specs.Map.{update}
 use Rattle.mars_base.specs.Room.{IsFirstFull}
-use Rattle.history.specs.Key.{Key, is_same_key}
+use Rattle.history.specs.Key.{Key, is_same_key, of_main}
 use Rattle.history.specs.Log.{log_of, is_rewritten}
 use Rattle.history.specs.Writes.{Write}
 use Rattle.history.specs.declared.call.Call.{Call}
@@ -49,8 +49,8 @@ IsSeen old caller key = IsSome (get (view_of old caller).table key)
 
 -- if the call writes, there is an entry for it
 abbrev pub Fits : Limits → State → ℕ → Call → Type 0
-Fits limits old caller (Put key value) = HasEntry limits old caller key (slot_for old.index key)
-Fits limits old caller (Del key) = IsSeen old caller key → HasEntry limits old caller key (slot_for old.index key)
+Fits limits old caller (Put key value) = HasEntry limits old caller (of_main key) (slot_for old.index (of_main key))
+Fits limits old caller (Del key) = IsSeen old caller (of_main key) → HasEntry limits old caller (of_main key) (slot_for old.index (of_main key))
 Fits limits old caller _ = Unit {0}
 
 -- Logger g is the first without room for what some write needs there, which is one entry to four: it holds h of the caller's, and n more are
@@ -69,8 +69,8 @@ LacksAt limits old caller key _ _ = ⊥
 
 -- Why a write is refused with this reply. A key that its caller sees has a slot, so a removal is refused only by that slot's logger.
 abbrev pub Lacks : Limits → State → ℕ → Call → Reply → Type 0
-Lacks limits old caller (Put key value) reply = LacksAt limits old caller key (old.index.slot_of key) reply
-Lacks limits old caller (Del key) reply = IsSeen old caller key × (slot : ℕ) × (old.index.slot_of key ≡ Some slot) × LacksAt limits old caller key (Some slot) reply
+Lacks limits old caller (Put key value) reply = LacksAt limits old caller (of_main key) (old.index.slot_of (of_main key)) reply
+Lacks limits old caller (Del key) reply = IsSeen old caller (of_main key) × (slot : ℕ) × (old.index.slot_of (of_main key) ≡ Some slot) × LacksAt limits old caller (of_main key) (Some slot) reply
 Lacks limits old caller _ reply = ⊥
 
 -- the index gains the key with the slot that is due, if there is one
@@ -111,5 +111,5 @@ IndexesAt limits key (Some slot) reply old new = new ≡ old
 
 -- what a call makes of the index
 abbrev pub Indexes : Limits → Call → Reply → Index → Index → Type 0
-Indexes limits (Put key value) reply old new = IndexesAt limits key (old.slot_of key) reply old new
+Indexes limits (Put key value) reply old new = IndexesAt limits (of_main key) (old.slot_of (of_main key)) reply old new
 Indexes limits _ reply old new = new ≡ old

@@ -2,7 +2,7 @@
 use Rattle.std.specs.Prelude.{ℕ, suc, ◌≡◌, ◌≢◌, ◌-◌, ◌≤◌, ◌⊎◌, Bool, false, IsTrue, IsFalse, List, [], ◌∷◌, Some, None, unwrap_or}
 use Rattle.std.specs.List.{list_any}
 use Rattle.std.specs.Map.{update}
-use Rattle.history.specs.Key.{Key, is_same_key}
+use Rattle.history.specs.Key.{Key, is_same_key, of_main}
 use Rattle.history.specs.Table.{Granted}
 use Rattle.history.specs.Locks.{Meets}
 use Rattle.history.specs.declared.call.Call.{Call}
@@ -16,7 +16,7 @@ use Rattle.caller_steps.specs.Own.{live_by}
 
 -- the call puts a value for this key
 abbrev pub is_put : Key → Call → Bool
-is_put key (Put other value) = is_same_key other key
+is_put key (Put other value) = is_same_key (of_main other) key
 is_put key _ = false
 
 -- a turn asks to put a value for this key

@@ -12,6 +12,7 @@ use Rattle.eaw_face.specs.Causes.{IsAlive}
 use Rattle.page_store.specs.Index as below
 use Rattle.page_store.specs.Shown.{PagesView}
 use Rattle.history.specs.Writes.{Write}
+use Rattle.history.specs.Key.{of_main}
 use Rattle.history.specs.Table.{Granted, found, removed, IsRight}
 use Rattle.history.specs.Legal.{records}
 use Rattle.history.specs.Log.{Log, log_of}
@@ -160,9 +161,9 @@ removed_no_rows rows (Some value) is = absurd (cc)
 -- only a scan lists rows
 listed_is : (s : TableState) (t : ℕ) (call : Call) (rows : List (ℕ × List ℕ)) → Replies s t call (reply.Listed rows) → (low high : ℕ) × (call ≡ Scan low high)
 listed_is s t (Scan low high) rows replies = (low, high, refl)
-listed_is s t (Get key) rows replies = absurd (found_no_rows rows (get (seen_by s t) key) replies)
+listed_is s t (Get key) rows replies = absurd (found_no_rows rows (get (seen_by s t) (of_main key)) replies)
 listed_is s t (Put key value) rows replies = absurd (cc)
-listed_is s t (Del key) rows replies = absurd (removed_no_rows rows (get (seen_by s t) key) replies)
+listed_is s t (Del key) rows replies = absurd (removed_no_rows rows (get (seen_by s t) (of_main key)) replies)
 listed_is s t Save rows replies = absurd (cc)
 listed_is s t (Back n) rows replies = absurd (let e = replies.1 in cc)
 listed_is s t Commit rows replies = absurd replies

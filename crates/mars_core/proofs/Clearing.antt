@@ -4,7 +4,6 @@ use Rattle.std.specs.Prelude.{nat_eq, Option, Some, None, IsSome, IsFalse, IfOk}
 use Rattle.std.specs.FinMap.{get}
 use Rattle.std.specs.List.{list_any}
 use Rattle.std.specs.Map.{update}
-use Rattle.std.proofs.lemmas.Map.{update_here, update_apart}
 use Rattle.std.proofs.lemmas.Bool.{cases_eq, cases_lt, false≢true, both_ways}
 use Rattle.std.proofs.lemmas.Nat.{mul-le}
 use Rattle.mars_base.specs.Causes.{Rose}
@@ -15,7 +14,9 @@ use Rattle.eaw_face.specs.StoreView.{LeavesOnly}
 use Rattle.eaw_face.specs.Causes.{IsAlive}
 use Rattle.record_slots.specs.Places.{version_of, used_slots}
 use Rattle.history.proofs.Modes.{clash_none}
-use Rattle.history.specs.Key.{Key, is_same_key}
+use Rattle.history.specs.Key.{Key, is_same_key, of_main}
+use Rattle.history.proofs.Keys.{cases_key}
+use Rattle.caller_steps.proofs.AtKeys.{at_key, at_other_key}
 use Rattle.history.specs.Locks.{Meets, touches, touched, clash}
 use Rattle.history.specs.Log.{Log, log_of}
 use Rattle.history.specs.Table.{Granted}
@@ -44,26 +45,26 @@ use Rattle.mars_core.specs.Seats.{Seats, calls_at, bare}
 use Rattle.mars_core.proofs.Unwritten.{unwritten}
 
 -- a key that a shorter index has, a longer one had
-kept_slot : (f now : Key → Option ℕ) (key q : ℕ) → now ≡ update is_same_key f key None → IsSome (now q) → (q ≢ key) × IsSome (f q)
-kept_slot f now key q is some = elim (cases_eq q key) [
-  | inl same ↦ absurd (none_there (now q) (ap (λ (h : Key → Option ℕ). h q) is ∙ ap (update is_same_key f key None) same ∙ update_here f key None) some)
-  | inr ne ↦ (ne, subst (λ (o : Option ℕ). IsSome o) (ap (λ (h : Key → Option ℕ). h q) is ∙ update_apart f key None q ne) some)
+kept_slot : (f now : Key → Option ℕ) (key q : Key) → now ≡ update is_same_key f key None → IsSome (now q) → (q ≢ key) × IsSome (f q)
+kept_slot f now key q is some = elim (cases_key q key) [
+  | inl same ↦ absurd (none_there (now q) (ap (λ (h : Key → Option ℕ). h q) is ∙ ap (update is_same_key f key None) same ∙ at_key f key None) some)
+  | inr ne ↦ (ne, subst (λ (o : Option ℕ). IsSome o) (ap (λ (h : Key → Option ℕ). h q) is ∙ at_other_key f key None q ne) some)
 ]
   where
     none_there : (o : Option ℕ) → o ≡ None → IsSome o → ⊥
     none_there None e some = absurd (cc)
     none_there (Some x) e some = absurd (cc)
 
-lost_still : (first now : Index) (keys : List Key) → Lost first keys now → (q : Key) → IsSome (now.slot_of q) → IsSome (first.slot_of q)
+lost_still : (first now : Index) (keys : List ℕ) → Lost first keys now → (q : Key) → IsSome (now.slot_of q) → IsSome (first.slot_of q)
 lost_still first now [] lost q some = subst (λ (ix : Index). IsSome (ix.slot_of q)) lost some
-lost_still first now (key ∷ keys) (before, lost, loses) q some = lost_still first before keys lost q (kept_slot before.slot_of now.slot_of key q loses.slot_of some).1
+lost_still first now (key ∷ keys) (before, lost, loses) q some = lost_still first before keys lost q (kept_slot before.slot_of now.slot_of (of_main key) q loses.slot_of some).1
 
-lost_slots : (first now : Index) (keys : List Key) → Lost first keys now → first.used_slots ≡ length keys + now.used_slots
+lost_slots : (first now : Index) (keys : List ℕ) → Lost first keys now → first.used_slots ≡ length keys + now.used_slots
 lost_slots first now [] lost = omega (arith, ap (λ (ix : Index). ix.used_slots) lost)
 lost_slots first now (key ∷ keys) (before, lost, loses) = omega (arith, lost_slots first before keys lost, loses.slots)
 
 -- as callers see it
-loses_one : (index : below.Index) (a b : List ℕ) (key : ℕ) → Loses index 0 key a b → LosesKey key (index_of index a) (index_of index b)
+loses_one : (index : below.Index) (a b : List ℕ) (key : ℕ) → Loses index 0 key a b → LosesKey (of_main key) (index_of index a) (index_of index b)
 loses_one index a b key loses = record {
   slot_of = loses.keys.slot_of;
   due = loses.keys.due;
@@ -84,7 +85,7 @@ module _ (index : below.Index) (seats : Seats) (first : List ℕ) where
 
   module _ (mid : List ℕ) (to n : ℕ) (cleared : Cleared index seats to n first mid) where
     -- no further key is absent
-    pub cleared_all : HasNoAbsent index mid 0 to (2 ^ 64) → Cleared index seats (2 ^ 64) n first mid
+    pub cleared_all : HasNoAbsent index mid to (2 ^ 64) → Cleared index seats (2 ^ 64) n first mid
     cleared_all none = record {
       keys = cleared.keys;
       count = cleared.count;
@@ -97,24 +98,24 @@ module _ (index : below.Index) (seats : Seats) (first : List ℕ) where
     pub cleared_few : (most : ℕ) → used_slots first ≤ most → n ≤ most
     cleared_few most le = (let sum = lost_slots (index_of index first) (index_of index mid) cleared.keys cleared.lost in omega (arith, sum, le, cleared.count))
 
-    module _ (last : List ℕ) (key : ℕ) (small : key < 2 ^ 64) (same : table_of index mid ≡ table_of index first) (after : table_of index last ≡ table_of index mid) (absent : IsAbsent index mid key)
-        (none : HasNoAbsent index mid 0 to key) where
-      before_key : (k : ℕ) → k < suc key → k ≢ key → IsAbsent index mid k → IsTouchedIn seats k ⊎ Keeps index mid k
+    module _ (last : List ℕ) (key : ℕ) (small : key < 2 ^ 64) (same : table_of index mid ≡ table_of index first) (after : table_of index last ≡ table_of index mid) (absent : IsAbsent index mid (of_main key))
+        (none : HasNoAbsent index mid to key) where
+      before_key : (k : ℕ) → k < suc key → k ≢ key → IsAbsent index mid (of_main k) → IsTouchedIn seats k ⊎ Keeps index mid k
       before_key k lt ne is = elim (cases_lt k to) [ inl less ↦ cleared.left k less is | inr more ↦ absurd (none k (omega (arith, more)) (omega (arith, lt, ne)) is) ]
 
       taken_out : (IsTouchedIn seats key → ⊥) → Loses index 0 key mid last → Cleared index seats (suc key) (n + 1) first last
       taken_out free loses = record {
         keys = key ∷ cleared.keys;
         count = omega (arith, cleared.count);
-        free = (((lost_still (index_of index first) (index_of index mid) cleared.keys cleared.lost key absent.0, ap (λ (t : Table). get t key) (sym same) ∙ absent.1), free), cleared.free);
+        free = (((lost_still (index_of index first) (index_of index mid) cleared.keys cleared.lost (of_main key) absent.0, ap (λ (t : Table). get t (of_main key)) (sym same) ∙ absent.1), free), cleared.free);
         lost = (index_of index mid, cleared.lost, loses_one index mid last key loses);
         left = left_of;
       }
         where
-          left_of : (k : ℕ) → k < suc key → IsAbsent index last k → IsTouchedIn seats k ⊎ Keeps index last k
+          left_of : (k : ℕ) → k < suc key → IsAbsent index last (of_main k) → IsTouchedIn seats k ⊎ Keeps index last k
           left_of k lt is =
-              let was = kept_slot (index_of index mid).slot_of (index_of index last).slot_of key k loses.keys.slot_of is.0 in
-              elim (before_key k lt was.0 (was.1, ap (λ (t : Table). get t k) (sym after) ∙ is.1)) [
+              let was = kept_slot (index_of index mid).slot_of (index_of index last).slot_of (of_main key) (of_main k) loses.keys.slot_of is.0 in
+              elim (before_key k lt (λ e. was.0 (ap of_main e)) (was.1, ap (λ (t : Table). get t (of_main k)) (sym after) ∙ is.1)) [
                 | inl touch ↦ inl touch
                 | inr keeps ↦ inr (loses.kept k (omega (arith, lt, small)) is.0 keeps)
               ]
@@ -173,9 +174,9 @@ module _ (tells : Bool) (Opens : List ℕ → List ℕ → Type 0) (index : belo
       | inr ne ↦ free holder (ne, meets)
     ]
 
-    pub all_unwritten : IsTrue tells → IsUnwritten index old key
+    pub all_unwritten : IsTrue tells → IsUnwritten index old (of_main key)
     all_unwritten told u =
-        ap (λ (l : Log). list_any (is_of key) l.writes) ((ready told).logs u) ∙ unwritten key (calls_at seats u) (λ meets. untouched (u, meets))
+        ap (λ (l : Log). list_any (is_of (of_main key)) l.writes) ((ready told).logs u) ∙ unwritten (of_main key) (calls_at seats u) (λ meets. untouched (u, meets))
 
     module _ (entries : 8 ≤ old.store.shape.entries) where
       no_room : IsTrue tells → (g h n : ℕ) → IsLogFull old.store t g h n → ⊥
@@ -301,7 +302,7 @@ module _ (tells : Bool) (Opens : List ℕ → List ℕ → Type 0) (index : belo
     look_refused new NoMemory both = absurd both.1
 
     -- all keys were tried
-    pub all_tried : (IsTrue tells → HasNoAbsent index mid.store.state.bytes 0 to (2 ^ 64)) → Clears tells Opens index seats old mid (Ok n)
+    pub all_tried : (IsTrue tells → HasNoAbsent index mid.store.state.bytes to (2 ^ 64)) → Clears tells Opens index seats old mid (Ok n)
     all_tried none = record {
       shape = going.shape;
       cause = tt;
@@ -313,7 +314,7 @@ module _ (tells : Bool) (Opens : List ℕ → List ℕ → Type 0) (index : belo
       time = going.time;
     }
 
-    module _ (key : ℕ) (small : key < 2 ^ 64) (absent : IsTrue tells → IsAbsent index mid.store.state.bytes key) (none : IsTrue tells → HasNoAbsent index mid.store.state.bytes 0 to key) (new : PagesView) where
+    module _ (key : ℕ) (small : key < 2 ^ 64) (absent : IsTrue tells → IsAbsent index mid.store.state.bytes (of_main key)) (none : IsTrue tells → HasNoAbsent index mid.store.state.bytes to key) (new : PagesView) where
       tries_time : (r : Result Bool TableFault) → Tries tells Opens index seats key mid new r → IsTrue tells → LeavesOnly (λ image. OpensWith Opens index image (state_of index old).table) old.store new.store
       tries_time r tries told = then (going.time told) (weaker (λ image. λ opens. subst (λ (s : TableState). OpensWith Opens index image s.table) (going.state told) opens) (tries.time told))
 

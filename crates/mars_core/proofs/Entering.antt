@@ -2,6 +2,7 @@
 use Rattle.std.proofs.Common.{◌≡◌, ◌≤◌, ◌<◌, ℕ, inl, inr, Bool, true, cond, nat_eq, List, [], ◌∷◌, ◌++◌, length, filter, take, Option, Some, None, unwrap_or, refl, sym, ap, subst, ◌∙◌, arith}
 use Rattle.std.specs.Map.{update}
 use Rattle.std.proofs.lemmas.Bool.{cases_eq}
+use Rattle.history.specs.Key.{Key, of_main}
 use Rattle.history.specs.Writes.{Write}
 use Rattle.history.specs.Table.{Granted, has_save}
 use Rattle.history.specs.Log.{Log, log_of, log_after, save_at}
@@ -22,13 +23,13 @@ use Rattle.mars_core.proofs.Mirroring.{calls_here, calls_there}
 use Rattle.mars_core.proofs.Rooming.{written_room}
 
 -- the key then has a slot, and a write of it finds an entry
-abbrev pub HasSlot : Limits → State → ℕ → Index → ℕ → Type 0
+abbrev pub HasSlot : Limits → State → ℕ → Index → Key → Type 0
 HasSlot limits s t ix key = (slot : ℕ) × (ix.slot_of key ≡ Some slot) × HasEntry limits s t key slot
 
 -- if the call with this reply writes, it finds an entry
 abbrev pub Enters : Limits → State → ℕ → Index → Call → Reply → Type 0
-Enters limits s t ix (Put key value) answer = HasSlot limits s t ix key
-Enters limits s t ix (Del key) Fine = HasSlot limits s t ix key
+Enters limits s t ix (Put key value) answer = HasSlot limits s t ix (of_main key)
+Enters limits s t ix (Del key) Fine = HasSlot limits s t ix (of_main key)
 Enters limits s t ix _ answer = Unit {0}
 
 -- a way back goes to a save
@@ -39,7 +40,7 @@ Returns saved _ = Unit {0}
 module _ (limits : Limits) (s : State) (named : (caller : ℕ) → AreNamed s.index (log_of (calls_of s caller)).writes) where
   -- what loggers hold stays the same if the index gains at most a key
   pub held_index : (ix : Index) → Slots limits s.index ix → (caller g : ℕ) → held_on limits (record s { index = ix }) caller g ≡ held_on limits s caller g
-  held_index ix (inl same) caller g = ap (λ (f : ℕ → Option ℕ). length (filter (λ (write : Write). is_slot_on limits g (f write.0)) (log_of (calls_of s caller)).writes)) same
+  held_index ix (inl same) caller g = ap (λ (f : Key → Option ℕ). length (filter (λ (write : Write). is_slot_on limits g (f write.0)) (log_of (calls_of s caller)).writes)) same
   held_index ix (inr (key, none, gains)) caller g =
       held_apart limits g s (record s { index = ix }) caller key refl gains (unnamed s.index key none (log_of (calls_of s caller)).writes (named caller))
 
@@ -62,8 +63,8 @@ module _ (limits : Limits) (s : State) (named : (caller : ℕ) → AreNamed s.in
       -- what they hold of the caller itself after the call
       own_room : (call : Call) (answer : Reply) → Enters limits s t ix call answer → Returns (log_of calls).saved call
           → (g : ℕ) → length (filter (is_write_on limits ix g) (log_after (log_of calls) call answer).writes) ≤ limits.entries
-      own_room (Put key value) answer enters returns g = wrote (key, Some value) enters g
-      own_room (Del key) Fine enters returns g = wrote (key, None) enters g
+      own_room (Put key value) answer enters returns g = wrote (of_main key, Some value) enters g
+      own_room (Del key) Fine enters returns g = wrote (of_main key, None) enters g
       own_room (Back n) answer enters returns g =
           let front = save_is_front calls n returns in
           let fewer = length-filter-front (is_write_on limits ix g) (length (save_at (log_of calls).saved n)) (log_of calls).writes in
@@ -89,6 +90,6 @@ pub room_empty : (limits : Limits) (s new : State) (t : ℕ) (calls : Option Gra
 room_empty limits s new t calls none room indexed live caller g = elim (cases_eq caller t) [
   | inl e ↦ subst (λ (v : ℕ). held_on limits new v g ≤ limits.entries) (sym e)
       (subst (λ (cs : Granted). length (filter (is_write_on limits new.index g) (log_of cs).writes) ≤ limits.entries) (sym (calls_here s new t calls live ∙ none)) (omega arith))
-  | inr ne ↦ subst (λ (x : ℕ → Option ℕ). length (filter (is_write_on limits (record s.index { slot_of = x }) g) (log_of (calls_of new caller)).writes) ≤ limits.entries) (sym indexed)
+  | inr ne ↦ subst (λ (x : Key → Option ℕ). length (filter (is_write_on limits (record s.index { slot_of = x }) g) (log_of (calls_of new caller)).writes) ≤ limits.entries) (sym indexed)
       (subst (λ (cs : Granted). length (filter (is_write_on limits s.index g) (log_of cs).writes) ≤ limits.entries) (sym (calls_there s new t calls live caller ne)) (room caller g))
 ]

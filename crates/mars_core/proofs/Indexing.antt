@@ -1,12 +1,12 @@
 -- What a call does to the index, as callers see it.
 use Rattle.std.proofs.Common.{◌≡◌, ◌≤◌, ◌⊎◌, ℕ, inl, inr, Bool, true, false, cond, nat_eq, nat_lt, List, [], ◌∷◌, length, Option, Some, None, unwrap_or, Result, Ok, Err, refl, sym, ap, subst, ◌∙◌, arith, eq-eqb, ne_eqb, eqb-true}
 use Rattle.std.specs.Prelude.{IsFalse, IsSome}
-use Rattle.std.proofs.lemmas.Map.{update_here}
 use Rattle.record_slots.specs.Places.{used_slots, next_page}
 use Rattle.std.proofs.lemmas.Bool.{false≢true}
 use Rattle.array_shape.specs.declared.shape.Shape.{Shape}
 use Rattle.array_shape.specs.Places.{data_len}
 use Rattle.page_store.specs.Index as below
+use Rattle.history.specs.Key.{Key, of_main}
 use Rattle.history.specs.declared.call.Call.{Call}
 use Rattle.history.specs.declared.call.Call.TheVariants.{Begin, Get, Put, Del, Scan, Save, Back, Commit, Abort}
 use Rattle.history.specs.declared.call.Reply.{Reply}
@@ -19,6 +19,7 @@ use Rattle.record_table.specs.declared.fault.TableFault.{TableFault}
 use Rattle.record_table.specs.declared.fault.TableFault.TheVariants.{SlotsFull, PagesFull, SavesFull, LogFull, Media, Dead, Damaged, NoMemory}
 use Rattle.caller_steps.specs.State.{Index}
 use Rattle.caller_steps.specs.Room.{Limits, GainsKey, KeepsKeys, TakesPages, Inserts, IndexesAt, Indexes}
+use Rattle.caller_steps.proofs.AtKeys.{at_key}
 use Rattle.mars_core.specs.Over.{limits_of}
 use Rattle.record_table.specs.Faults.{reply_to}
 use Rattle.mars_core.proofs.Mirroring.{IsOfTable}
@@ -38,7 +39,7 @@ index_with bytes keys = record { slot_of = keys.slot_of; due = keys.due; used_sl
 
 -- the call inserts no key
 abbrev pub InsertsNone : Keys → Call → Type 0
-InsertsNone keys (Put key value) = IsSome (keys.slot_of key)
+InsertsNone keys (Put key value) = IsSome (keys.slot_of (of_main key))
 InsertsNone keys call = Unit {0}
 
 module _ (shape : Shape) (a b : List ℕ) (old new : Keys) (within : IsWithin shape new) where
@@ -51,14 +52,14 @@ module _ (shape : Shape) (a b : List ℕ) (old new : Keys) (within : IsWithin sh
   keeps : table.KeepsKeys old new → KeepsKeys (index_with a old) (index_with b new)
   keeps k = record { slot_of = k.slot_of; slots = k.slots; due = k.due }
 
-  gains : (key : ℕ) → table.GainsKey key old new → GainsKey (limits_of shape) key (index_with a old) (index_with b new)
+  gains : (key : Key) → table.GainsKey key old new → GainsKey (limits_of shape) key (index_with a old) (index_with b new)
   gains key g = record {
     left = omega (arith, g.slots, within.slots);
     slot_of = g.slot_of;
     slots = g.slots;
   }
 
-  refused_at : (T : Type 0) (key : ℕ) (o : Option ℕ) → old.slot_of key ≡ o → (IsSome o → b ≡ a) → (f : TableFault) → (let r : Result T TableFault = Err f in IsFalse (is_failed r))
+  refused_at : (T : Type 0) (key : Key) (o : Option ℕ) → old.slot_of key ≡ o → (IsSome o → b ≡ a) → (f : TableFault) → (let r : Result T TableFault = Err f in IsFalse (is_failed r))
       → (let r : Result T TableFault = Err f in IndexedAt 0 key o old new r) → IndexesAt (limits_of shape) key o (reply_to f) (index_with a old) (index_with b new)
   refused_at T key (Some slot) is quiet f well same = both same (quiet refl)
   refused_at T key None is quiet (LogFull g h n) well (t, inl k) = (takes t, inl (keeps k))
@@ -71,7 +72,7 @@ module _ (shape : Shape) (a b : List ℕ) (old new : Keys) (within : IsWithin sh
   refused_at T key None is quiet (Damaged page) well (t, k) = (takes t, keeps k)
   refused_at T key None is quiet NoMemory well (t, k) = (takes t, keeps k)
 
-  granted_at : {T : Type 0} (key : ℕ) (o : Option ℕ) → old.slot_of key ≡ o → (IsSome o → b ≡ a) → (answer : T)
+  granted_at : {T : Type 0} (key : Key) (o : Option ℕ) → old.slot_of key ≡ o → (IsSome o → b ≡ a) → (answer : T)
       → (let r : Result T TableFault = Ok answer in IndexedAt 0 key o old new r) → IndexesAt (limits_of shape) key o Fine (index_with a old) (index_with b new)
   granted_at key (Some slot) is quiet answer same = both same (quiet refl)
   granted_at key None is quiet answer (t, k) = (takes t, gains key k)
@@ -79,7 +80,7 @@ module _ (shape : Shape) (a b : List ℕ) (old new : Keys) (within : IsWithin sh
   -- a refusal
   pub indexes_refused : (T : Type 0) (call : Call) (f : TableFault) → IsOfTable call → (InsertsNone old call → b ≡ a) → (let r : Result T TableFault = Err f in IsFalse (is_failed r))
       → (let r : Result T TableFault = Err f in Indexed 0 call old new r) → Indexes (limits_of shape) call (reply_to f) (index_with a old) (index_with b new)
-  indexes_refused T (Put key value) f of quiet well indexed = refused_at T key (old.slot_of key) refl quiet f well indexed
+  indexes_refused T (Put key value) f of quiet well indexed = refused_at T (of_main key) (old.slot_of (of_main key)) refl quiet f well indexed
   indexes_refused T (Get key) f of quiet well same = both same (quiet tt)
   indexes_refused T (Del key) f of quiet well same = both same (quiet tt)
   indexes_refused T (Scan low high) f of quiet well same = both same (quiet tt)
@@ -93,7 +94,7 @@ module _ (shape : Shape) (a b : List ℕ) (old new : Keys) (within : IsWithin sh
   pub indexes_granted : {T : Type 0} (call : Call) (answer : T) (told : Reply) → IsOfTable call → (InsertsNone old call → b ≡ a) → ((key : ℕ) (value : List ℕ) → call ≡ Put key value → told ≡ Fine)
       → (let r : Result T TableFault = Ok answer in Indexed 0 call old new r) → Indexes (limits_of shape) call told (index_with a old) (index_with b new)
   indexes_granted (Put key value) answer told of quiet fine indexed =
-      subst (λ (r : Reply). IndexesAt (limits_of shape) key (old.slot_of key) r (index_with a old) (index_with b new)) (sym (fine key value refl)) (granted_at key (old.slot_of key) refl quiet answer indexed)
+      subst (λ (r : Reply). IndexesAt (limits_of shape) (of_main key) (old.slot_of (of_main key)) r (index_with a old) (index_with b new)) (sym (fine key value refl)) (granted_at (of_main key) (old.slot_of (of_main key)) refl quiet answer indexed)
   indexes_granted (Get key) answer told of quiet fine same = both same (quiet tt)
   indexes_granted (Del key) answer told of quiet fine same = both same (quiet tt)
   indexes_granted (Scan low high) answer told of quiet fine same = both same (quiet tt)
@@ -105,9 +106,9 @@ module _ (shape : Shape) (a b : List ℕ) (old new : Keys) (within : IsWithin sh
 
 -- the keys stay, or the index gains one that it lacked
 abbrev pub Slots : Limits → Index → Index → Type 0
-Slots limits old new = (new.slot_of ≡ old.slot_of) ⊎ ((key : ℕ) × (old.slot_of key ≡ None) × GainsKey limits key old new)
+Slots limits old new = (new.slot_of ≡ old.slot_of) ⊎ ((key : Key) × (old.slot_of key ≡ None) × GainsKey limits key old new)
 
-inserts_slots : (limits : Limits) (key : ℕ) (answer : Reply) (old new : Index) → old.slot_of key ≡ None → Inserts limits key answer old new → Slots limits old new
+inserts_slots : (limits : Limits) (key : Key) (answer : Reply) (old new : Index) → old.slot_of key ≡ None → Inserts limits key answer old new → Slots limits old new
 inserts_slots limits key Fine old new none (t, k) = inr (key, none, k)
 inserts_slots limits key (reply.LogFull g h n) old new none (t, inl k) = inl k.slot_of
 inserts_slots limits key (reply.LogFull g h n) old new none (t, inr k) = inr (key, none, k)
@@ -128,16 +129,16 @@ inserts_slots limits key reply.Dead old new none (t, k) = inl k.slot_of
 inserts_slots limits key reply.NoMemory old new none (t, k) = inl k.slot_of
 inserts_slots limits key (reply.Damaged page) old new none (t, k) = inl k.slot_of
 
-at_slots : (limits : Limits) (key : ℕ) (o : Option ℕ) (answer : Reply) (old new : Index) → old.slot_of key ≡ o → IndexesAt limits key o answer old new → Slots limits old new
+at_slots : (limits : Limits) (key : Key) (o : Option ℕ) (answer : Reply) (old new : Index) → old.slot_of key ≡ o → IndexesAt limits key o answer old new → Slots limits old new
 at_slots limits key None answer old new is inserts = inserts_slots limits key answer old new is inserts
 at_slots limits key (Some slot) answer old new is same = inl (ap (λ (x : Index). x.slot_of) same)
 
 pub indexes_slots : (limits : Limits) (call : Call) (answer : Reply) (old new : Index) → Indexes limits call answer old new → Slots limits old new
-indexes_slots limits (Put key value) answer old new indexes = at_slots limits key (old.slot_of key) answer old new refl indexes
+indexes_slots limits (Put key value) answer old new indexes = at_slots limits (of_main key) (old.slot_of (of_main key)) answer old new refl indexes
 indexes_slots limits _ answer old new same = inl (ap (λ (x : Index). x.slot_of) same)
 
 -- after a granted put the index has the key, with the slot that it had or the one that was due
-pub slot_after : (limits : Limits) (key : ℕ) (o : Option ℕ) (old new : Index) → old.slot_of key ≡ o → IndexesAt limits key o Fine old new
+pub slot_after : (limits : Limits) (key : Key) (o : Option ℕ) (old new : Index) → old.slot_of key ≡ o → IndexesAt limits key o Fine old new
     → (slot : ℕ) × (new.slot_of key ≡ Some slot) × (slot ≡ unwrap_or o old.due)
-slot_after limits key None old new is (t, k) = (old.due, ap (λ (f : ℕ → Option ℕ). f key) k.slot_of ∙ update_here old.slot_of key (Some old.due), refl)
+slot_after limits key None old new is (t, k) = (old.due, ap (λ (f : Key → Option ℕ). f key) k.slot_of ∙ at_key old.slot_of key (Some old.due), refl)
 slot_after limits key (Some slot) old new is same = (slot, ap (λ (x : Index). x.slot_of key) same ∙ is, refl)

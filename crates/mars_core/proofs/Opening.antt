@@ -1,21 +1,19 @@
 -- How a core begins: with the records of the store's data.
 use Rattle.std.proofs.Common.{◌≡◌, ◌≤◌, ◌<◌, ◌-◌, ◌^◌, ℕ, suc, inl, inr, Bool, false, cond, ◌&&◌, List, [], ◌∷◌, length, filter, IsTrue, Option, Some, None, unwrap_or, Result, Ok, Err, refl, sym, ap, subst, ◌∙◌, arith, eq-eqb, ne_eqb, le-leb}
-use Rattle.std.specs.Ordering.{nat_cmp}
-use Rattle.std.specs.Cmp.{nat_cmp_total}
 use Rattle.std.specs.FinMap.{get, entries, from_entries, get-entries, get-from_entries}
-use Rattle.std.specs.FinMap.Entries.{find}
 use Rattle.std.proofs.lemmas.Bool.{cases_lt}
 use Rattle.array_shape.specs.declared.shape.Shape.{Shape}
 use Rattle.eaw_face.specs.State.{State as StoreState}
 use Rattle.eaw_face.specs.StoreView.{LeavesOnly}
 use Rattle.eaw_face.specs.Causes.{IsAlive}
 use Rattle.page_store.specs.Index as below
-use Rattle.page_store.specs.Pairs.{Pair, Rise, found}
 use Rattle.page_store.specs.Shown.{PagesView}
-use Rattle.history.specs.Rows.{table_of}
-use Rattle.history.specs.Writes.{Table, Write, all_written, rows_within, is_within}
+use Rattle.history.specs.Key.{main_name}
+use Rattle.history.specs.Rows.{all_keyed, table_of}
+use Rattle.history.specs.Writes.{Table, Write, all_written}
 use Rattle.history.specs.Table.{Granted}
 use Rattle.history.specs.declared.transaction.Done.{Done}
+use Rattle.history.proofs.Keys.{key_cmp_total}
 use Rattle.history.proofs.Tables.{same_table}
 use Rattle.record_table.specs.State.{TableState, seen_by}
 use Rattle.record_table.specs.Does.{OpensWith, is_failed}
@@ -24,7 +22,6 @@ use Rattle.record_table.specs.Shown as shown
 use Rattle.record_table.specs.Sought.{LooksAs}
 use Rattle.record_table.specs.Upgrading.{upgraded, OpensUpgraded, Upgrades}
 use Rattle.record_table.specs.declared.fault.TableFault.{TableFault}
-use Rattle.record_table.proofs.Tables.{tied, get-table_in, record_at}
 use Rattle.caller_steps.specs.State.{State, calls_of, opened}
 use Rattle.caller_steps.specs.Sound.{IsSound}
 use Rattle.caller_steps.proofs.Sound.{opened_sound}
@@ -36,11 +33,11 @@ use Rattle.mars_core.specs.Seats.{Seats, live_in}
 use Rattle.mars_core.proofs.Prefixes.{StoreLaws, safe_alive}
 
 -- the rows of a table are that table's
-module _ (m : Table) (rows : List (ℕ × List ℕ)) (is : rows ≡ entries m) where
+module _ (m : Table) (rows : List (ℕ × List ℕ)) (is : all_keyed main_name rows ≡ entries m) where
   pub base_is : table_of rows ≡ m
-  base_is = ap table_of is ∙ same_table (from_entries (entries m)) m (λ q. get-from_entries nat_cmp_total (entries m) q ∙ sym (get-entries m q))
+  base_is = ap from_entries is ∙ same_table (from_entries (entries m)) m (λ q. get-from_entries key_cmp_total (entries m) q ∙ sym (get-entries m q))
 
-  pub base_rows : entries (table_of rows) ≡ rows
+  pub base_rows : entries (table_of rows) ≡ all_keyed main_name rows
   base_rows = ap (λ (table : Table). entries table) base_is ∙ sym is
 
 no_log : (new : State) → ((t : ℕ) → new.live t ≡ None) → (t : ℕ) → calls_of new t ≡ []
@@ -49,7 +46,7 @@ no_log new idle t = ap (λ (o : Option Granted). unwrap_or o []) (idle t)
 -- A core over records to which nobody has written, with their rows, once their data is in version 2.
 module _ (tells : Bool) (Opens : Shape → List ℕ → List ℕ → Type 0) (index : below.Index) (p r : PagesView) (new_laws : StoreLaws tells Opens r.store) (alive : IsAlive p.store) (sound : IsTrue tells → index.sound p.store.state.bytes)
     (idle : IsTrue tells → (t : ℕ) → ((state_of index p).logs t).writes ≡ []) (unsaved : IsTrue tells → (t : ℕ) → ((state_of index p).logs t).saved ≡ []) (upgrades : Upgrades tells (Opens p.store.shape) index p r (Ok tt))
-    (rows : List (ℕ × List ℕ)) (are : IsTrue tells → rows ≡ entries (shown.table_of index p.store.state.bytes))
+    (rows : List (ℕ × List ℕ)) (are : IsTrue tells → all_keyed main_name rows ≡ entries (shown.table_of index p.store.state.bytes))
     (seats : Seats) (count : length seats ≡ p.store.shape.numbers) (none : (t : ℕ) → live_in seats t ≡ None) (history : List Done) (empty : history ≡ []) (doubt : List Done) (sure : doubt ≡ []) where
   lives : IsAlive r.store
   lives = (upgrades.faults refl).0 ∙ alive

@@ -1,10 +1,9 @@
 -- A core after a purge.
-use Rattle.std.proofs.Common.{◌≡◌, ℕ, ◌≤◌, inl, Bool, true, false, cond, ◌||◌, IsTrue, List, [], ◌∷◌, length, filter, Result, Ok, Err, refl, sym, ◌∙◌, ap, subst, arith, eq-eqb}
+use Rattle.std.proofs.Common.{◌≡◌, ℕ, ◌≤◌, inl, Bool, true, false, cond, ◌||◌, IsTrue, List, [], ◌∷◌, length, filter, Result, Ok, Err, refl, sym, ◌∙◌, ap, subst, arith}
 use Rattle.std.specs.Prelude.{Option, Some, None, is_some, IsSome, IsFalse, unwrap_or}
 use Rattle.std.specs.FinMap.{get}
 use Rattle.std.specs.List.{list_any}
 use Rattle.std.specs.Map.{update}
-use Rattle.std.proofs.lemmas.Map.{update_apart}
 use Rattle.std.proofs.lemmas.Bool.{false≢true, true≢false, or_parts}
 use Rattle.mars_base.specs.Causes.{Rose}
 use Rattle.mars_base.proofs.Going.{stays, weaker}
@@ -14,7 +13,9 @@ use Rattle.eaw_face.specs.Causes.{IsAlive}
 use Rattle.record_slots.specs.Places.{version_of}
 use Rattle.page_store.specs.Index as below
 use Rattle.page_store.specs.Shown.{PagesView}
-use Rattle.history.specs.Key.{Key, is_same_key}
+use Rattle.history.specs.Key.{Key, is_same_key, of_main}
+use Rattle.history.proofs.Keys.{same_key}
+use Rattle.caller_steps.proofs.AtKeys.{at_other_key}
 use Rattle.history.specs.Log.{Log, log_of}
 use Rattle.history.specs.Table.{Granted}
 use Rattle.history.specs.Writes.{Table, Write, is_of}
@@ -57,17 +58,17 @@ module _ (limits : Limits) (g : ℕ) where
   writes_lost old new key loses [] none = refl
   writes_lost old new key loses (write ∷ writes) none =
       let parts = or_parts (is_of key write) (list_any (is_of key) writes) none in
-      let same : new.slot_of write.0 ≡ old.slot_of write.0 = ap (λ (f : ℕ → Option ℕ). f write.0) loses
-      ∙ update_apart old.slot_of key None write.0 (λ e. true≢false (sym (eq-eqb write.0 key e) ∙ parts.0)) in
+      let same : new.slot_of write.0 ≡ old.slot_of write.0 = ap (λ (f : Key → Option ℕ). f write.0) loses
+      ∙ at_other_key old.slot_of key None write.0 (λ e. true≢false (sym (same_key write.0 key e) ∙ parts.0)) in
       ap (λ (s : Option ℕ). cond (is_slot_on limits g s) (write ∷ filter (is_write_on limits new g) writes) (filter (is_write_on limits new g) writes)) same
       ∙ ap (λ (l : List Write). cond (is_write_on limits old g write) (write ∷ l) l) (writes_lost old new key loses writes parts.1)
 
   -- and so they do after all keys that a purge takes out.
-  all_lost : (index : below.Index) (seats : Seats) (bytes : List ℕ) (t : ℕ) (first now : Index) (keys : List Key) → Lost first keys now → AreFreeIn index seats bytes keys
+  all_lost : (index : below.Index) (seats : Seats) (bytes : List ℕ) (t : ℕ) (first now : Index) (keys : List ℕ) → Lost first keys now → AreFreeIn index seats bytes keys
       → filter (is_write_on limits now g) (log_of (calls_at seats t)).writes ≡ filter (is_write_on limits first g) (log_of (calls_at seats t)).writes
   all_lost index seats bytes t first now [] lost free = ap (λ (ix : Index). filter (is_write_on limits ix g) (log_of (calls_at seats t)).writes) lost
   all_lost index seats bytes t first now (key ∷ keys) (before, lost, loses) free =
-      writes_lost before now key loses.slot_of (log_of (calls_at seats t)).writes (unwritten key (calls_at seats t) (λ meets. free.0.1 (t, meets))) ∙ all_lost index seats bytes t first before keys lost free.1
+      writes_lost before now (of_main key) loses.slot_of (log_of (calls_at seats t)).writes (unwritten (of_main key) (calls_at seats t) (λ meets. free.0.1 (t, meets))) ∙ all_lost index seats bytes t first before keys lost free.1
 
 module _ (tells : Bool) (Opens : Shape → List ℕ → List ℕ → Type 0) (index : below.Index) (index_laws : IndexLaws index) (one : (shape : Shape) (image a b : List ℕ) → Opens shape image a → Opens shape image b → a ≡ b)
     (p : PagesView) (old_laws : StoreLaws tells Opens p.store) (rows : List (ℕ × List ℕ)) (base : Table) (history : List Done) (seats : Seats) (doubt : List Done) (count : ℕ)

@@ -8,9 +8,9 @@ use Rattle.array_shape.specs.declared.shape.Shape.{Shape}
 use Rattle.array_shape.proofs.Apart.{logger_below}
 use Rattle.page_store.specs.Index.{slots_of}
 use Rattle.page_store.specs.Index as below
-use Rattle.page_store.specs.Pairs.{Pair, found}
 use Rattle.page_store.specs.Shown.{PagesView}
 use Rattle.record_slots.specs.Places.{used_slots, slot_due}
+use Rattle.history.specs.Key.{Key, of_main}
 use Rattle.history.specs.Writes.{Table, Write}
 use Rattle.history.specs.Table.{IsRight}
 use Rattle.history.specs.Log.{Log, log_of, log_after, save_at}
@@ -34,7 +34,7 @@ pub same_slot_on : (shape : Shape) (g : ℕ) (o : Option ℕ) → is_slot_on (li
 same_slot_on shape g None = refl
 same_slot_on shape g (Some slot) = refl
 
-pub named_is : (index : Index) (pairs : List Pair) (writes : List Write) → ((key : ℕ) → index.slot_of key ≡ found pairs key) → shown.AreNamed pairs writes → AreNamed index writes
+pub named_is : (index : Index) (pairs : List shown.KeyPair) (writes : List Write) → ((key : Key) → index.slot_of key ≡ shown.found_key pairs key) → shown.AreNamed pairs writes → AreNamed index writes
 named_is index pairs [] same named = tt
 named_is index pairs (write ∷ writes) same named = (subst (λ (o : Option ℕ). IsSome o) (sym (same write.0)) named.0, named_is index pairs writes same named.1)
 
@@ -45,42 +45,43 @@ module _ (index : below.Index) (p : PagesView) (s : State) (indexed : s.index �
   pub held_is : (t g : ℕ) → held_on (limits_of p.store.shape) s t g ≡ shown.held_on p t g
   held_is t g =
       ap (λ (ix : Index). length (filter (is_write_on (limits_of p.store.shape) ix g) (log_of (calls_of s t)).writes)) indexed
-      ∙ (λ i. length (filter (λ (write : Write). same_slot_on p.store.shape g (found (pairs_of index p.store.state.bytes) write.0) i) (sym (mirrors.logs t) i).writes))
+      ∙ (λ i. length (filter (λ (write : Write). same_slot_on p.store.shape g (shown.found_key (pairs_of index p.store.state.bytes) write.0) i) (sym (mirrors.logs t) i).writes))
       ∙ sym (held t g)
 
-  anew_is : (t key : ℕ) → log.is_rewritten (log_of (calls_of s t)) key ≡ table_causes.rewrites index p t key
+  anew_is : (t : ℕ) (key : Key) → log.is_rewritten (log_of (calls_of s t)) key ≡ table_causes.rewrites index p t key
   anew_is t key = ap (λ (l : Log). log.is_rewritten l key) (sym (mirrors.logs t))
 
   one_needed : (slot : ℕ) → needed_on p.store.shape slot (logger_of_slot p.store.shape slot) ≡ 1
   one_needed slot = ap (λ (b : Bool). cond b 1 0) (eq-eqb (logger_of_slot p.store.shape slot) (logger_of_slot p.store.shape slot) refl)
 
   -- a write finds an entry
-  pub has_entry : (t key slot : ℕ) → table_causes.HasRoom index t p key slot → HasEntry (limits_of p.store.shape) s t key slot
+  pub has_entry : (t : ℕ) (key : Key) (slot : ℕ) → table_causes.HasRoom index t p key slot → HasEntry (limits_of p.store.shape) s t key slot
   has_entry t key slot room anew =
       let g = logger_of_slot p.store.shape slot in
       let fits = room (sym (anew_is t key) ∙ anew) g (logger_below p.store.shape (64 * (slots_of p.store.shape + slot))) in
       omega (arith, fits, one_needed slot, held_is t g)
 
   module _ (t : ℕ) (right : IsRight (records_of s) (calls_of s t)) where
-    seen_to : (key : ℕ) → table_causes.IsSeen index p t key → IsSeen s t key
+    seen_to : (key : Key) → table_causes.IsSeen index p t key → IsSeen s t key
     seen_to key = subst (λ (table : Table). IsSome (get table key)) (seen_is (state_of index p) s mirrors t right)
 
-    seen_from : (key : ℕ) → IsSeen s t key → table_causes.IsSeen index p t key
+    seen_from : (key : Key) → IsSeen s t key → table_causes.IsSeen index p t key
     seen_from key = subst (λ (table : Table). IsSome (get table key)) (sym (seen_is (state_of index p) s mirrors t right))
 
-    put_fits : (key : ℕ) (o : Option ℕ) → table_causes.PutFits index 0 t key p o → HasEntry (limits_of p.store.shape) s t key (unwrap_or o (slot_due p.store.state.bytes))
-    put_fits key None fits = has_entry t key (slot_due p.store.state.bytes) fits.1
-    put_fits key (Some slot) room = has_entry t key slot room
+    put_fits : (key : ℕ) (o : Option ℕ) → table_causes.PutFits index 0 t key p o → HasEntry (limits_of p.store.shape) s t (of_main key) (unwrap_or o (slot_due p.store.state.bytes))
+    put_fits key None fits = has_entry t (of_main key) (slot_due p.store.state.bytes) fits.1
+    put_fits key (Some slot) room = has_entry t (of_main key) slot room
 
-    slot_is : (key : ℕ) → unwrap_or (found (pairs_of index p.store.state.bytes) key) (slot_due p.store.state.bytes) ≡ slot_for s.index key
+    slot_is : (key : Key) → unwrap_or (shown.found_key (pairs_of index p.store.state.bytes) key) (slot_due p.store.state.bytes) ≡ slot_for s.index key
     slot_is key = sym (ap (λ (ix : Index). slot_for ix key) indexed)
 
     pub fits_is : (call : Call) → IsOfTable call → table_causes.Fits index 0 p t call → Fits (limits_of p.store.shape) s t call
-    fits_is (Put key value) of fits = subst (λ (slot : ℕ). HasEntry (limits_of p.store.shape) s t key slot) (slot_is key) (put_fits key (found (pairs_of index p.store.state.bytes) key) fits)
+    fits_is (Put key value) of fits =
+        subst (λ (slot : ℕ). HasEntry (limits_of p.store.shape) s t (of_main key) slot) (slot_is (of_main key)) (put_fits key (shown.found_key (pairs_of index p.store.state.bytes) (of_main key)) fits)
     fits_is (Del key) of fits = λ seen_there.
-        let at = fits (seen_from key seen_there) in
-        subst (λ (slot : ℕ). HasEntry (limits_of p.store.shape) s t key slot)
-        (sym (ap (λ (o : Option ℕ). unwrap_or o (slot_due p.store.state.bytes)) at.1) ∙ slot_is key) (has_entry t key at.0 at.2)
+        let at = fits (seen_from (of_main key) seen_there) in
+        subst (λ (slot : ℕ). HasEntry (limits_of p.store.shape) s t (of_main key) slot)
+        (sym (ap (λ (o : Option ℕ). unwrap_or o (slot_due p.store.state.bytes)) at.1) ∙ slot_is (of_main key)) (has_entry t (of_main key) at.0 at.2)
     fits_is (Get key) of fits = tt
     fits_is (Scan low high) of fits = tt
     fits_is Save of fits = tt
@@ -100,7 +101,7 @@ module _ (index : below.Index) (p : PagesView) (s : State) (indexed : s.index �
       )
 
       -- a slot's logger is full
-      slot_full : (key slot g h n : ℕ) → table_causes.IsFull index t p key slot g h n → table_causes.IsShort p t g h n → LacksAt (limits_of p.store.shape) s t key (Some slot) (reply.LogFull g h n)
+      slot_full : (key : Key) (slot g h n : ℕ) → table_causes.IsFull index t p key slot g h n → table_causes.IsShort p t g h n → LacksAt (limits_of p.store.shape) s t key (Some slot) (reply.LogFull g h n)
       slot_full key slot g h n full short = go (cases_eq (logger_of_slot p.store.shape slot) g)
         where
           module_full : IsFull (limits_of p.store.shape) s t g h n
@@ -126,26 +127,26 @@ module _ (index : below.Index) (p : PagesView) (s : State) (indexed : s.index �
       slot_left : used_slots p.store.state.bytes < slots_of p.store.shape → s.index.used_slots < (limits_of p.store.shape).slots
       slot_left left = subst (λ (ix : Index). ix.used_slots < slots_of p.store.shape) (sym indexed) left
 
-      put_lacks : (key g h n : ℕ) (o : Option ℕ) → table_causes.PutLacks index 0 t key p g h n o → table_causes.IsShort p t g h n → LacksAt (limits_of p.store.shape) s t key o (reply.LogFull g h n)
+      put_lacks : (key g h n : ℕ) (o : Option ℕ) → table_causes.PutLacks index 0 t key p g h n o → table_causes.IsShort p t g h n → LacksAt (limits_of p.store.shape) s t (of_main key) o (reply.LogFull g h n)
       put_lacks key g h n None lacks short = (left lacks, full_is g h n short)
         where
           left : table_causes.PutLacks index 0 t key p g h n None → s.index.used_slots < (limits_of p.store.shape).slots
           left (inl comes) = slot_left comes.0
           left (inr (comes, full)) = slot_left comes.0
-      put_lacks key g h n (Some slot) full short = slot_full key slot g h n full short
+      put_lacks key g h n (Some slot) full short = slot_full (of_main key) slot g h n full short
 
-      found_is : (key : ℕ) → found (pairs_of index p.store.state.bytes) key ≡ s.index.slot_of key
+      found_is : (key : Key) → shown.found_key (pairs_of index p.store.state.bytes) key ≡ s.index.slot_of key
       found_is key = sym (ap (λ (ix : Index). ix.slot_of key) indexed)
 
       pub log_lacks : (call : Call) (g h n : ℕ) → IsOfTable call → table_causes.Lacks index 0 p g h n t call → table_causes.MayLack p g h n t call
           → Lacks (limits_of p.store.shape) s t call (reply.LogFull g h n)
-      log_lacks (Put key value) g h n of lacks short = subst (λ (o : Option ℕ). LacksAt (limits_of p.store.shape) s t key o (reply.LogFull g h n)) (found_is key)
-          (put_lacks key g h n (found (pairs_of index p.store.state.bytes) key) lacks short)
+      log_lacks (Put key value) g h n of lacks short = subst (λ (o : Option ℕ). LacksAt (limits_of p.store.shape) s t (of_main key) o (reply.LogFull g h n)) (found_is (of_main key))
+          (put_lacks key g h n (shown.found_key (pairs_of index p.store.state.bytes) (of_main key)) lacks short)
       log_lacks (Del key) g h n of (seen_there, slot, at, full) short = (
-        seen_to key seen_there,
+        seen_to (of_main key) seen_there,
         slot,
-        sym (found_is key) ∙ at,
-        slot_full key slot g h n full short,
+        sym (found_is (of_main key)) ∙ at,
+        slot_full (of_main key) slot g h n full short,
       )
       log_lacks (Get key) g h n of lacks short = absurd short
       log_lacks (Scan low high) g h n of lacks short = absurd short
@@ -157,7 +158,7 @@ module _ (index : below.Index) (p : PagesView) (s : State) (indexed : s.index �
 
       pub slot_lacks : (call : Call) (n : ℕ) → IsOfTable call → table_causes.LacksSlot index p n call → n ≡ slots_of p.store.shape
           → Lacks (limits_of p.store.shape) s t call (reply.SlotsFull n)
-      slot_lacks (Put key value) n of lacks most = subst (λ (o : Option ℕ). LacksAt (limits_of p.store.shape) s t key o (reply.SlotsFull n)) (sym lacks.0 ∙ found_is key)
+      slot_lacks (Put key value) n of lacks most = subst (λ (o : Option ℕ). LacksAt (limits_of p.store.shape) s t (of_main key) o (reply.SlotsFull n)) (sym lacks.0 ∙ found_is (of_main key))
           (ap (λ (ix : Index). ix.used_slots) indexed ∙ lacks.1 ∙ most, most)
       slot_lacks (Get key) n of lacks most = absurd lacks
       slot_lacks (Del key) n of lacks most = absurd lacks
@@ -170,7 +171,7 @@ module _ (index : below.Index) (p : PagesView) (s : State) (indexed : s.index �
 
       pub page_lacks : (call : Call) (n : ℕ) → IsOfTable call → table_causes.LacksPage index 0 p t call → n ≡ (limits_of p.store.shape).index_pages - 1
           → Lacks (limits_of p.store.shape) s t call (reply.PagesFull n)
-      page_lacks (Put key value) n of lacks most = subst (λ (o : Option ℕ). LacksAt (limits_of p.store.shape) s t key o (reply.PagesFull n)) (sym lacks.0 ∙ found_is key) (slot_left lacks.1.0, most)
+      page_lacks (Put key value) n of lacks most = subst (λ (o : Option ℕ). LacksAt (limits_of p.store.shape) s t (of_main key) o (reply.PagesFull n)) (sym lacks.0 ∙ found_is (of_main key)) (slot_left lacks.1.0, most)
       page_lacks (Get key) n of lacks most = absurd lacks
       page_lacks (Del key) n of lacks most = absurd lacks
       page_lacks (Scan low high) n of lacks most = absurd lacks
@@ -187,7 +188,7 @@ module _ (limits : Limits) (ix : Index) (write : Write) (slot : ℕ) (at : ix.sl
   written_room g room = go (log.is_rewritten l write.0) refl
     where
       alike : (one other : Write) → one.0 ≡ other.0 → is_write_on limits ix g one ≡ is_write_on limits ix g other
-      alike one other same = ap (λ (k : ℕ). is_slot_on limits g (ix.slot_of k)) same
+      alike one other same = ap (λ (k : Key). is_slot_on limits g (ix.slot_of k)) same
 
       on : (b : Bool) → nat_eq (limits.logger_of slot) g ≡ b → length (filter (is_write_on limits ix (limits.logger_of slot)) l.writes) < limits.entries
           → length (filter (is_write_on limits ix g) l.writes) + cond b 1 0 ≤ limits.entries

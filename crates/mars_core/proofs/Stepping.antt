@@ -13,6 +13,7 @@ use Rattle.eaw_face.specs.StoreView.{LeavesOnly}
 use Rattle.page_store.specs.Index as below
 use Rattle.page_store.specs.Shown.{PagesView}
 use Rattle.history.specs.Writes.{Table, Write}
+use Rattle.history.specs.Key.{of_main}
 use Rattle.history.specs.Table.{Granted, IsRight, has_save, removed}
 use Rattle.history.specs.Legal.{records}
 use Rattle.history.specs.Log.{Log, log_of}
@@ -163,7 +164,7 @@ module _ (tells : Bool) (Opens : Shape → List ℕ → List ℕ → Type 0) (in
 
 -- there are as many saves as counts
 pub counts_is : (index : below.Index) (p : PagesView) (t : ℕ) → length ((state_of index p).logs t).saved ≡ length (p.counts t)
-counts_is index p t = length-map _ shown.writes_of ∙ length-map (p.counts t) _
+counts_is index p t = length-map _ (shown.writes_of p.store.state.bytes) ∙ length-map (p.counts t) _
 
 module _ (index : below.Index) (p : PagesView) (s : State) (shows : ShowsPages index p s) (mirrors : Mirrors (state_of index p) s)
     (held : (t g : ℕ) → held_on p t g ≡ length (filter (is_write_on p.store.shape (pairs_of index p.store.state.bytes) g) ((state_of index p).logs t).writes)) (t : ℕ) (right : IsRight (records_of s) (calls_of s t)) where
@@ -195,15 +196,15 @@ module _ (index : below.Index) (p : PagesView) (s : State) (shows : ShowsPages i
   pub enters_at : (call : Call) (answer : Reply) (ix : Index) → IsOfTable call → table_causes.Fits index 0 p t call → Replies (state_of index p) t call answer
       → Indexes (limits_of p.store.shape) call answer s.index ix → Enters (limits_of p.store.shape) s t ix call answer
   enters_at (Put key value) answer ix of fits replies indexes =
-      let after = slot_after (limits_of p.store.shape) key (s.index.slot_of key) s.index ix refl (subst (λ (r : Reply). IndexesAt (limits_of p.store.shape) key (s.index.slot_of key) r s.index ix) replies indexes) in
-      (after.0, after.1, subst (λ (slot : ℕ). HasEntry (limits_of p.store.shape) s t key slot) (sym after.2) (fits_is index p s shows.indexed mirrors held t right (Put key value) of fits))
-  enters_at (Del key) answer ix of fits replies indexes = subst (Enters (limits_of p.store.shape) s t ix (Del key)) (sym replies) (go (get (seen_by (state_of index p) t) key) refl)
+      let after = slot_after (limits_of p.store.shape) (of_main key) (s.index.slot_of (of_main key)) s.index ix refl (subst (λ (r : Reply). IndexesAt (limits_of p.store.shape) (of_main key) (s.index.slot_of (of_main key)) r s.index ix) replies indexes) in
+      (after.0, after.1, subst (λ (slot : ℕ). HasEntry (limits_of p.store.shape) s t (of_main key) slot) (sym after.2) (fits_is index p s shows.indexed mirrors held t right (Put key value) of fits))
+  enters_at (Del key) answer ix of fits replies indexes = subst (Enters (limits_of p.store.shape) s t ix (Del key)) (sym replies) (go (get (seen_by (state_of index p) t) (of_main key)) refl)
     where
-      go : (o : Option (List ℕ)) → get (seen_by (state_of index p) t) key ≡ o → Enters (limits_of p.store.shape) s t ix (Del key) (removed o)
+      go : (o : Option (List ℕ)) → get (seen_by (state_of index p) t) (of_main key) ≡ o → Enters (limits_of p.store.shape) s t ix (Del key) (removed o)
       go None none = tt
       go (Some value) some =
           let at = fits (ap is_some some) in
-          (at.0, ap (λ (x : Index). x.slot_of key) (indexes ∙ shows.indexed) ∙ at.1, has_entry index p s shows.indexed mirrors held t key at.0 at.2)
+          (at.0, ap (λ (x : Index). x.slot_of (of_main key)) (indexes ∙ shows.indexed) ∙ at.1, has_entry index p s shows.indexed mirrors held t (of_main key) at.0 at.2)
   enters_at (Get key) answer ix of fits replies indexes = tt
   enters_at (Scan low high) answer ix of fits replies indexes = tt
   enters_at Save answer ix of fits replies indexes = tt

@@ -18,7 +18,8 @@ use Rattle.record_slots.specs.declared.super_page.TableEntry.{TableEntry}
 use Rattle.record_table.specs.Attached.{Attached}
 use Rattle.record_table.specs.Does.{OpensWith}
 use Rattle.record_table.specs.Making.{Makes, MakeCause, is_make_failed}
-use Rattle.record_table.specs.Names.{names_of, IsNew, OpensNamed}
+use Rattle.record_table.specs.Does.{OpensNamed}
+use Rattle.record_table.specs.Names.{names_of, IsNew}
 use Rattle.record_table.specs.Shown.{table_of, state_of}
 use Rattle.record_table.specs.State.{TableState}
 use Rattle.record_table.specs.declared.making.MakeFault.{MakeFault}

@@ -8,6 +8,7 @@ use Rattle.std.proofs.lemmas.Nat.Bits.{bit_at-zero, bit_at_and, bit_at_or, bit_a
 use Rattle.history.specs.Table.{Granted}
 use Rattle.history.specs.declared.locks.Mode.{Mode}
 use Rattle.history.specs.declared.locks.Mode.TheVariants.{Shared, Exclusive}
+use Rattle.history.specs.Key.{Key, of_main}
 use Rattle.history.specs.Locks.{Touch, key_stripe, touches, touched, is_touch, clash}
 use Rattle.history.specs.declared.call.Call.{Call}
 use Rattle.history.specs.declared.call.Call.TheVariants.{Get, Put, Del, Scan}
@@ -16,7 +17,7 @@ use Rattle.history.proofs.OneMore.{touched-push}
 use Rattle.mars_core.specs.declared.masks.Masks.{Masks}
 use Rattle.mars_core.specs.Masks.{IsMaskOf, AreMasksOf}
 
-key_mask : (key stripe : ℕ) → bit_at (2 ^ key_stripe key) stripe ≡ cond (nat_eq (key_stripe key) stripe) 1 0
+key_mask : (key : Key) (stripe : ℕ) → bit_at (2 ^ key_stripe key) stripe ≡ cond (nat_eq (key_stripe key) stripe) 1 0
 key_mask key stripe = elim (cases_eq stripe (key_stripe key)) [
   | inl is ↦ ap (bit_at (2 ^ key_stripe key)) is ∙ bit_at-pow_same (key_stripe key) ∙ ap (λ (b : Bool). cond b 1 0) (sym (eq-eqb (key_stripe key) stripe (sym is)))
   | inr ne ↦ bit_at-pow_other (key_stripe key) stripe ne ∙ ap (λ (b : Bool). cond b 1 0) (sym (ne_eqb (key_stripe key) stripe (λ e. ne (sym e))))
@@ -32,17 +33,17 @@ scan_mask stripe = elim (cases_lt stripe 64) [
 pub none_masks : AreMasksOf (λ stripe mode. false) (record { reads = 0; writes = 0 })
 none_masks = record { reads = bit_at-zero; writes = bit_at-zero }
 
-pub get_masks : (key : ℕ) → AreMasksOf (touches (Get key)) (record { reads = 2 ^ key_stripe key; writes = 0 })
-get_masks key = record { reads = key_mask key; writes = bit_at-zero }
+pub get_masks : (key : ℕ) → AreMasksOf (touches (Get key)) (record { reads = 2 ^ key_stripe (of_main key); writes = 0 })
+get_masks key = record { reads = key_mask (of_main key); writes = bit_at-zero }
 
 pub scan_masks : (low high : ℕ) → AreMasksOf (touches (Scan low high)) (record { reads = 2 ^ 64 - 1; writes = 0 })
 scan_masks low high = record { reads = scan_mask; writes = bit_at-zero }
 
-pub put_masks : (key : ℕ) (value : List ℕ) → AreMasksOf (touches (Put key value)) (record { reads = 0; writes = 2 ^ key_stripe key })
-put_masks key value = record { reads = bit_at-zero; writes = key_mask key }
+pub put_masks : (key : ℕ) (value : List ℕ) → AreMasksOf (touches (Put key value)) (record { reads = 0; writes = 2 ^ key_stripe (of_main key) })
+put_masks key value = record { reads = bit_at-zero; writes = key_mask (of_main key) }
 
-pub del_masks : (key : ℕ) → AreMasksOf (touches (Del key)) (record { reads = 0; writes = 2 ^ key_stripe key })
-del_masks key = record { reads = bit_at-zero; writes = key_mask key }
+pub del_masks : (key : ℕ) → AreMasksOf (touches (Del key)) (record { reads = 0; writes = 2 ^ key_stripe (of_main key) })
+del_masks key = record { reads = bit_at-zero; writes = key_mask (of_main key) }
 
 either : (a b : Bool) → max (cond a 1 0) (cond b 1 0) ≡ cond (a || b) 1 0
 either true true = refl

@@ -1,9 +1,10 @@
 -- A transaction that touches the stripe of a key for writing nowhere has not written the key.
-use Rattle.std.proofs.Common.{◌≡◌, ℕ, zero, suc, ◌-◌, ◌||◌, ◌&&◌, Bool, true, false, cond, List, [], ◌∷◌, ◌++◌, take, drop, get_or, refl, sym, ap, ◌∙◌, eq-eqb, eqb-true}
+use Rattle.std.proofs.Common.{◌≡◌, ℕ, zero, suc, ◌-◌, ◌||◌, ◌&&◌, Bool, true, false, cond, List, [], ◌∷◌, ◌++◌, take, drop, get_or, refl, sym, ap, ◌∙◌, eq-eqb}
 use Rattle.std.specs.Prelude.{nat_eq, not, if◌then◌else◌, Some, None}
 use Rattle.std.specs.List.{fold, list_any}
 use Rattle.std.proofs.lemmas.Bool.{false_from_ne_true, true≢false, or_parts, or_from}
-use Rattle.history.specs.Key.{Key, is_same_key}
+use Rattle.history.specs.Key.{Key, is_same_key, of_main}
+use Rattle.history.proofs.Keys.{same_keys}
 use Rattle.history.specs.Locks.{key_stripe, touches, touched, is_touch, clash, Meets}
 use Rattle.history.specs.declared.locks.Mode.TheVariants.{Shared, Exclusive}
 use Rattle.history.specs.Log.{Log, save_at, floor_of, written, log_after, log_of}
@@ -76,15 +77,15 @@ module _ (key : Key) where
   wrote log write apart spared = record { now = any-written write apart (floor_of log) log.writes spared.now; saved = spared.saved }
 
   apart_of : (other : Key) → nat_eq (key_stripe other) (key_stripe key) ≡ false → is_same_key other key ≡ false
-  apart_of other ne = false_from_ne_true (is_same_key other key) (λ same. true≢false (sym (eq-eqb (key_stripe other) (key_stripe key) (ap key_stripe (eqb-true other key same))) ∙ ne))
+  apart_of other ne = false_from_ne_true (is_same_key other key) (λ same. true≢false (sym (eq-eqb (key_stripe other) (key_stripe key) (ap key_stripe (same_keys other key same))) ∙ ne))
 
   back : (b : Bool) (log : Log) (n : ℕ) → IsSpared log → IsSpared (cond b (record { writes = save_at log.saved n; saved = take n log.saved }) log)
   back true log n spared = record { now = spared-at (n - 1) log.saved spared.saved; saved = spared-take n log.saved spared.saved }
   back false log n spared = spared
 
   after : (log : Log) (call : Call) (reply : Reply) → touches call (key_stripe key) Exclusive ≡ false → IsSpared log → IsSpared (log_after log call reply)
-  after log (Put other value) reply none spared = wrote log (other, Some value) (apart_of other none) spared
-  after log (Del other) Fine none spared = wrote log (other, None) (apart_of other none) spared
+  after log (Put other value) reply none spared = wrote log (of_main other, Some value) (apart_of (of_main other) none) spared
+  after log (Del other) Fine none spared = wrote log (of_main other, None) (apart_of (of_main other) none) spared
   after log Save reply none spared = record { now = spared.now; saved = spared-append log.saved log.writes spared.saved spared.now }
   after log (Back n) reply none spared = back (has_save log.saved n) log n spared
   after log _ reply none spared = spared
@@ -101,11 +102,11 @@ module _ (key : Key) where
   clashes x false b c p q = absurd (cc)
   clashes x true b false p q = absurd (cc)
 
-  pub unwritten : (calls : Granted) → (Meets (Del key) calls → ⊥) → list_any (is_of key) (log_of calls).writes ≡ false
+  pub unwritten : (calls : Granted) → (Meets (Del key.key) calls → ⊥) → list_any (is_of key) (log_of calls).writes ≡ false
   unfolding AreSpared
   unwritten calls none =
       let untouched : touched calls (key_stripe key) Exclusive ≡ false = false_from_ne_true (touched calls (key_stripe key) Exclusive) (λ is. none (
         key_stripe key,
-        clashes (touches (Del key) (key_stripe key) Shared) (touches (Del key) (key_stripe key) Exclusive) (touched calls (key_stripe key) Shared) (touched calls (key_stripe key) Exclusive) (eq-eqb (key_stripe key) (key_stripe key) refl) is,
+        clashes (touches (Del key.key) (key_stripe key) Shared) (touches (Del key.key) (key_stripe key) Exclusive) (touched calls (key_stripe key) Shared) (touched calls (key_stripe key) Exclusive) (eq-eqb (key_stripe key) (key_stripe key) refl) is,
       )) in
       (all_after calls (record { writes = []; saved = [] }) untouched (record { now = refl; saved = tt })).now

@@ -5,8 +5,9 @@ use Rattle.array_shape.specs.declared.shape.Shape.{Shape}
 use Rattle.eaw_face.specs.Causes.{IsAlive}
 use Rattle.page_store.specs.Index.{Index}
 use Rattle.page_store.specs.Shown.{PagesView}
+use Rattle.history.specs.Key.{main_name}
 use Rattle.history.specs.Log.{log_of}
-use Rattle.history.specs.Rows.{table_of}
+use Rattle.history.specs.Rows.{all_keyed, table_of}
 use Rattle.record_table.specs.State.{TableState}
 use Rattle.record_table.specs.Shown.{state_of}
 use Rattle.caller_steps.specs.State.{State, calls_of, records_of}
@@ -36,6 +37,6 @@ pub record IsTied (index : Index) (pages : PagesView) (state : State) : Type 0 w
 -- be left now opens with the whole history.
 pub record IsKept (tells : Bool) (Opens : Shape → List ℕ → List ℕ → Type 0) (index : Index) (pages : PagesView) (count : ℕ) (rows : List (ℕ × List ℕ)) (state : State) : Type 0 where
   pub seats : count ≡ pages.store.shape.numbers
-  pub in_order : IsTrue tells → entries (table_of rows) ≡ rows
+  pub in_order : IsTrue tells → entries (table_of rows) ≡ all_keyed main_name rows
   pub tied : IsTrue tells → IsAlive pages.store → IsTied index pages state
   pub safe : IsTrue tells → IsSafe (core_over Opens index pages.store state) pages.store.moment (length state.history)

@@ -4,7 +4,8 @@ use Rattle.mars_base.specs.Causes.{Rose}
 use Rattle.eaw_face.specs.StoreView.{StoreView, LeavesOnly}
 use Rattle.page_store.specs.Index.{Index}
 use Rattle.record_table.specs.Making.{MakeCause, is_make_failed}
-use Rattle.record_table.specs.Names.{names_of, OpensNamed}
+use Rattle.record_table.specs.Does.{OpensNamed}
+use Rattle.record_table.specs.Names.{names_of}
 use Rattle.record_table.specs.Shown.{table_of}
 use Rattle.record_table.specs.declared.making.MakeFault.{MakeFault}
 

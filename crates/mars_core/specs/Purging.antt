@@ -4,7 +4,7 @@ use Rattle.mars_base.specs.Causes.{Rose}
 use Rattle.eaw_face.specs.State.{listed}
 use Rattle.eaw_face.specs.StoreView.{LeavesOnly}
 use Rattle.eaw_face.specs.Causes.{IsAlive}
-use Rattle.history.specs.Key.{Key}
+use Rattle.history.specs.Key.{of_main}
 use Rattle.history.specs.Locks.{Meets}
 use Rattle.history.specs.Log.{log_of}
 use Rattle.history.specs.declared.call.Call.TheVariants.{Del}
@@ -21,25 +21,25 @@ use Rattle.mars_core.specs.Over.{index_of}
 use Rattle.mars_core.specs.Seats.{Seats, calls_at}
 
 -- the index of `main` keeps the key's pair, as the last of its page
-abbrev pub Keeps : Index → List ℕ → Key → Type 0
+abbrev pub Keeps : Index → List ℕ → ℕ → Type 0
 Keeps index bytes key = IsKept index 0 bytes key
 
--- a live transaction touches the stripe of the key
-abbrev pub IsTouchedIn : Seats → Key → Type 0
+-- a live transaction touches the stripe of this key of `main`
+abbrev pub IsTouchedIn : Seats → ℕ → Type 0
 IsTouchedIn seats key = (caller : ℕ) × Meets (Del key) (calls_at seats caller)
 
--- these keys have no record in the data, and no live transaction touches them
-abbrev pub AreFreeIn : Index → Seats → List ℕ → List Key → Type 0
+-- these keys of `main` have no record in the data, and no live transaction touches them
+abbrev pub AreFreeIn : Index → Seats → List ℕ → List ℕ → Type 0
 AreFreeIn index seats bytes [] = Unit {0}
-AreFreeIn index seats bytes (key ∷ keys) = (IsAbsent index bytes key × (IsTouchedIn seats key → ⊥)) × AreFreeIn index seats bytes keys
+AreFreeIn index seats bytes (key ∷ keys) = (IsAbsent index bytes (of_main key) × (IsTouchedIn seats key → ⊥)) × AreFreeIn index seats bytes keys
 
 -- Of n keys the index has lost each. Each smaller key than `to` that has no record and is still in the index is touched, or kept.
 pub record Cleared (index : Index) (seats : Seats) (to n : ℕ) (old new : List ℕ) : Type 0 where
-  pub keys : List Key
+  pub keys : List ℕ
   pub count : n ≡ length keys
   pub free : AreFreeIn index seats old keys
   pub lost : Lost (index_of index old) keys (index_of index new)
-  pub left : (key : Key) → key < to → IsAbsent index new key → IsTouchedIn seats key ⊎ Keeps index new key
+  pub left : (key : ℕ) → key < to → IsAbsent index new (of_main key) → IsTouchedIn seats key ⊎ Keeps index new key
 
 -- What a purge rests on: the data is a sound index, the super page is of version 2, the records have the logs of the callers' calls, no more slots are in use than
 -- there are, and no logger holds anything of the caller.

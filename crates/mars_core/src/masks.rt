@@ -1,5 +1,6 @@
 // The stripes that calls touch, as the bits of numbers.
 ghost use Rattle.std.specs.Prelude.{◌≡◌, ◌^◌, ◌||◌, false, ℕ, MatchBool, IsTrue, IsFalse};
+ghost use Rattle.history.specs.Key.{of_main};
 ghost use Rattle.history.specs.Locks.{Touch, key_stripe, touches, clash};
 ghost use Rattle.mars_core.specs.Masks.{AreMasksOf};
 
@@ -76,7 +77,7 @@ impl Masks {
 
 // The bit of a key's stripe.
 fn key_mask(key: u64) -> u64
-    ensures { result ≡ 2 ^ key_stripe key }
+    ensures { result ≡ 2 ^ key_stripe (of_main key) }
 {
     1 << stripe_of(MAIN_TABLE, key)
 }

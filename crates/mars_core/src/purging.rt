@@ -1,6 +1,7 @@
 // Takes keys without records out of the index, but those that live transactions touch.
 ghost use Rattle.std.specs.Prelude.{◌≡◌, ◌<◌, ◌≤◌, [], IsTrue, length};
 ghost use Rattle.eaw_face.specs.Causes.{IsAlive};
+ghost use Rattle.history.specs.Key.{of_main};
 ghost use Rattle.page_store.specs.Shown.{pages_of};
 ghost use Rattle.record_table.specs.Removing.{IsAbsent};
 ghost use Rattle.mars_core.specs.Purging.{IsReady, Tries, Clears};
@@ -27,7 +28,7 @@ fn try_key<S: EawStore, K: KeyIndex>(
     requires alive { IsAlive (S.view records.old.store) }
     requires idle { calls_at seats.now caller ≡ [] }
     requires ready { IsTrue S.tells → IsReady K.index seats.now caller (pages_of (S.view records.old.store) records.old) }
-    requires absent { IsTrue S.tells → IsAbsent K.index (S.view records.old.store).state.bytes key }
+    requires absent { IsTrue S.tells → IsAbsent K.index (S.view records.old.store).state.bytes (of_main key) }
     ensures tries { Tries S.tells (S.opens (S.view records.old.store).shape) K.index seats.now key
         (pages_of (S.view records.old.store) records.old) (pages_of (S.view records.new.store) records.new) result }
 {

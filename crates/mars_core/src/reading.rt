@@ -1,6 +1,8 @@
 // The records of a store that is left as it is.
 ghost use Rattle.std.specs.Prelude.{◌≡◌, ℕ, None, IfOk, IfErr, IsTrue};
 ghost use Rattle.std.specs.FinMap.{entries};
+ghost use Rattle.history.specs.Key.{main_name};
+ghost use Rattle.history.specs.Rows.{all_keyed};
 ghost use Rattle.eaw_face.specs.Causes.{IsAlive};
 ghost use Rattle.record_table.specs.Shown.{table_of};
 ghost use Rattle.mars_core.specs.Attached.{CoreCause, LeftAsItWas, is_failed};
@@ -23,7 +25,7 @@ pub fn read_records<S: EawStore, K: KeyIndex>(
     requires alive { IsAlive (S.view store) }
     requires idle { (t : ℕ) → (S.view store).ranges t ≡ None }
     ensures sound { IfOk result.0 (λ rows. IsTrue S.tells → K.index.sound (S.view store).state.bytes) }
-    ensures rows { IfOk result.0 (λ rows. IsTrue S.tells → rows ≡ entries (table_of K.index (S.view store).state.bytes)) }
+    ensures rows { IfOk result.0 (λ rows. IsTrue S.tells → all_keyed main_name rows ≡ entries (table_of K.index (S.view store).state.bytes)) }
     ensures cause { IfErr result.0 (λ fault. CoreCause S.tells K.index (S.view store) fault) }
     ensures left { LeftAsItWas S.tells (S.opens (S.view store).shape) (is_failed result.0) (S.view store) (S.view result.1) }
 {

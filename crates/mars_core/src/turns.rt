@@ -1,6 +1,8 @@
 // Callers by turns over records.
 ghost use Rattle.std.specs.Prelude.{◌≡◌, ◌<◌, ◌≤◌, ◌⊎◌, [], ℕ, None, Ok, IfOk, IfErr, IsTrue, IsFalse, is_some, length};
 ghost use Rattle.std.specs.FinMap.{entries};
+ghost use Rattle.history.specs.Key.{main_name};
+ghost use Rattle.history.specs.Rows.{all_keyed};
 ghost use Rattle.eaw_face.specs.Causes.{IsAlive};
 ghost use Rattle.page_store.specs.Shown.{pages_of};
 ghost use Rattle.history.specs.Locks.{touched};
@@ -96,7 +98,7 @@ impl<S: EawStore, K: KeyIndex> Core<S, K> {
     /// The records at the opening, in the order of their keys.
     pub fn base(&self) -> &Rows
         ensures base { result.now ≡ self.now.base }
-        ensures entries { IsTrue S.tells → result.now ≡ entries (core_of S.opens K.index (S.view self.now.records.store) self.now).state.base }
+        ensures entries { IsTrue S.tells → all_keyed main_name result.now ≡ entries (core_of S.opens K.index (S.view self.now.records.store) self.now).state.base }
     {
         &self.base
     }
@@ -317,7 +319,7 @@ fn begin_over<S: EawStore, K: KeyIndex>(
     requires alive { IsAlive (S.view records.store) }
     requires free { (S.view records.store).ranges 0 ≡ None }
     requires sound { IsTrue S.tells → K.index.sound (S.view records.store).state.bytes }
-    requires base { IsTrue S.tells → base ≡ entries (state_of K.index (pages_of (S.view records.store) records)).table }
+    requires base { IsTrue S.tells → all_keyed main_name base ≡ entries (state_of K.index (pages_of (S.view records.store) records)).table }
     requires idle { IsTrue S.tells → (t : ℕ) → ((state_of K.index (pages_of (S.view records.store) records)).logs t).writes ≡ [] }
     requires unsaved { IsTrue S.tells → (t : ℕ) → ((state_of K.index (pages_of (S.view records.store) records)).logs t).saved ≡ [] }
     ensures begins { IfOk result (λ core. Begins S.tells (S.opens (S.view records.store).shape) K.index (S.view records.store) (S.view core.records.store)

@@ -190,7 +190,7 @@ indexed_at T table key None old new f has same = inserted_same T table key old n
 indexed_at T table key (Some slot) old new f has same = same
 
 pub indexed_same : (T : Type 0) (table : ℕ) (c : Call) (old new : Keys) (f : TableFault) → HasPages f → new ≡ old → (let r : Result T TableFault = Err f in Indexed table c old new r)
-indexed_same T table (Put key value) old new f has same = indexed_at T table key (old.slot_of key) old new f has same
+indexed_same T table (Put key value) old new f has same = indexed_at T table (of_main key) (old.slot_of (of_main key)) old new f has same
 indexed_same T table _ old new f has same = same
 
 -- a state with a number's own log

@@ -35,6 +35,6 @@ begin_over-requires g c =
       base = λ told. c.in-Ok.ensures.rows told ∙ ap (λ (s : State). entries (table_of g.K.KeyIndex.index s.bytes)) (sym (still.state told));
       idle = c.in-Ok.ensures.attached.idle;
       unsaved = λ told t.
-          ap (λ (counts : List ℕ). map writes_of (saved_of (listed ((g.S.EawStore.view c.in-Ok.attached.0.store).state.logs t)) counts))
+          ap (λ (counts : List ℕ). map (writes_of (g.S.EawStore.view c.in-Ok.attached.0.store).state.bytes) (saved_of (listed ((g.S.EawStore.view c.in-Ok.attached.0.store).state.logs t)) counts))
           (ap (λ (f : ℕ → List ℕ). f t) c.in-Ok.ensures.attached.looks.saves ∙ (c.attach_in.ensures.fresh t).0);
     }
