@@ -1,6 +1,7 @@
 -- What a transfer does to a core, and why it is not made.
 use Rattle.std.specs.Prelude.{ℕ, ◌≡◌, ◌+◌, ◌^◌, ◌<◌, ◌≤◌, ◌⊎◌, ◌++◌, Some, decimal}
 use Rattle.std.specs.FinMap.{get}
+use Rattle.history.specs.Key.{of_main}
 use Rattle.history.specs.Writes.{Table}
 use Rattle.caller_steps.specs.State.{State}
 use Rattle.transactions.specs.declared.work.Stop.{Stop}
@@ -16,8 +17,8 @@ IsBalanced state = KeepsSum state.base (state.history ++ state.doubt)
 -- why a transfer is refused on the records before it
 abbrev pub IsRefused : ℕ → ℕ → ℕ → Refusal → Table → Type 0
 IsRefused from to amount (NoAccount account) table = (account ≡ from) ⊎ (account ≡ to)
-IsRefused from to amount (Insufficient balance) table = (get table from ≡ Some (decimal balance)) × (balance < amount)
-IsRefused from to amount (TooMuch balance) table = (get table to ≡ Some (decimal balance)) × (2 ^ 64 ≤ balance + amount)
+IsRefused from to amount (Insufficient balance) table = (get table (of_main from) ≡ Some (decimal balance)) × (balance < amount)
+IsRefused from to amount (TooMuch balance) table = (get table (of_main to) ≡ Some (decimal balance)) × (2 ^ 64 ≤ balance + amount)
 
 -- there is no reason but that the core refused a call
 abbrev pub HasNoReason : Stop Refusal → Type 0

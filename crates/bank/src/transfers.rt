@@ -1,6 +1,7 @@
 // A transfer from one account to another.
 ghost use Rattle.std.specs.Prelude.{◌≡◌, ◌≢◌, ◌<◌, [], ℕ, Some, IsTrue, IfOk, IfErr, OnOk, OnErr, decimal};
 ghost use Rattle.std.specs.FinMap as map;
+ghost use Rattle.history.specs.Key.{of_main};
 ghost use Rattle.history.specs.Table.{left_by};
 ghost use Rattle.caller_steps.specs.Core.{Continues};
 ghost use Rattle.caller_steps.specs.Sound.{IsSound};
@@ -93,7 +94,7 @@ pub fn balance<C: Core>(core: &mut C, caller: u8, account: u64) -> Result<u64, S
     requires sound { IsTrue C.tells → IsSound (C.view core.old).state }
     ensures stays { IsTrue C.tells → Stays caller (C.view core.old) (C.view core.new) }
     ensures ended { IsTrue C.tells → IsEnded caller (C.view core.old) (C.view core.new) }
-    ensures says { IsTrue C.tells → IfOk result (λ n. map.get (records_of (C.view core.old).state) account ≡ Some (decimal n)) }
+    ensures says { IsTrue C.tells → IfOk result (λ n. map.get (records_of (C.view core.old).state) (of_main account) ≡ Some (decimal n)) }
     ensures cause { IfErr result (IsOfRead account) }
     ensures of_core { IsTrue C.tells → IfErr result (IsOfCore caller (C.view core.old) (C.view core.new)) }
     ensures limits { (C.view core.new).limits ≡ (C.view core.old).limits }

@@ -1,6 +1,7 @@
 -- A ring of jobs in a table: under key 0 the place of the first job, under key 1 how many there are, and from key 2 on the places.
 use Rattle.std.specs.Prelude.{ℕ, suc, ◌≡◌, ◌+◌, ◌-◌, ◌^◌, ◌<◌, ◌≤◌, nat_lt, if◌then◌else◌, List, [], ◌∷◌, ◌++◌, length, Option, Some, None, decimal}
 use Rattle.std.specs.FinMap.{get, insert}
+use Rattle.history.specs.Key.{of_main}
 use Rattle.history.specs.Writes.{Table}
 use Rattle.history.specs.Table.{found}
 use Rattle.history.specs.declared.call.Call.TheVariants.{Get}
@@ -21,14 +22,14 @@ place size first n = if nat_lt (first + n) size then first + n else first + n - 
 -- these jobs lie at the places from the n-th after the first on
 abbrev pub Lie : ℕ → Table → ℕ → ℕ → List (List ℕ) → Type 0
 Lie size table first n [] = Unit {0}
-Lie size table first n (job ∷ jobs) = (get table (place size first n + 2) ≡ Some job) × Lie size table first (suc n) jobs
+Lie size table first n (job ∷ jobs) = (get table (of_main (place size first n + 2)) ≡ Some job) × Lie size table first (suc n) jobs
 
 -- the table holds a queue of these jobs, the first one first
 pub record IsQueue (size : ℕ) (table : Table) (jobs : List (List ℕ)) : Type 0 where
   pub first : ℕ
   pub within : first < size
-  pub says_first : IsNumber first (get table 0)
-  pub says_count : IsNumber (length jobs) (get table 1)
+  pub says_first : IsNumber first (get table (of_main 0))
+  pub says_count : IsNumber (length jobs) (get table (of_main 1))
   pub fits : length jobs ≤ size
   pub lie : Lie size table first 0 jobs
 
@@ -36,30 +37,30 @@ pub record IsQueue (size : ℕ) (table : Table) (jobs : List (List ℕ)) : Type 
 pub record Pushes (size : ℕ) (job : List ℕ) (old new : Table) : Type 0 where
   pub first : ℕ
   pub count : ℕ
-  pub says_first : IsNumber first (get old 0)
-  pub says_count : IsNumber count (get old 1)
+  pub says_first : IsNumber first (get old (of_main 0))
+  pub says_count : IsNumber count (get old (of_main 1))
   pub most : size ≤ 2 ^ 32
   pub within : first < size
   pub room : count < size
-  pub becomes : new ≡ insert (insert old (place size first count + 2) job) 1 (decimal (count + 1))
+  pub becomes : new ≡ insert (insert old (of_main (place size first count + 2)) job) (of_main 1) (decimal (count + 1))
 
 -- the first job was taken; its record stays until a push comes to its place
 pub record Takes (size : ℕ) (job : List ℕ) (old new : Table) : Type 0 where
   pub first : ℕ
   pub count : ℕ
-  pub says_first : IsNumber first (get old 0)
-  pub says_count : IsNumber count (get old 1)
+  pub says_first : IsNumber first (get old (of_main 0))
+  pub says_count : IsNumber count (get old (of_main 1))
   pub most : size ≤ 2 ^ 32
   pub within : first < size
   pub some : 0 < count
   pub fits : count ≤ size
-  pub has : get old (first + 2) ≡ Some job
-  pub becomes : new ≡ insert (insert old 0 (decimal (place size first 1))) 1 (decimal (count - 1))
+  pub has : get old (of_main (first + 2)) ≡ Some job
+  pub becomes : new ≡ insert (insert old (of_main 0) (decimal (place size first 1))) (of_main 1) (decimal (count - 1))
 
 -- why nothing was pushed or taken
 abbrev pub IsUnmet : ℕ → Unmet → Table → Type 0
-IsUnmet size Full table = IsNumber size (get table 1)
-IsUnmet size Empty table = IsNumber 0 (get table 1)
+IsUnmet size Full table = IsNumber size (get table (of_main 1))
+IsUnmet size Empty table = IsNumber 0 (get table (of_main 1))
 IsUnmet size NoQueue table = Unit {0}
 
 -- the first two keys were read, and are these numbers

@@ -6,6 +6,7 @@ use mathlib.Core.Logic.{dite}
 use mathlib.Core.Option.{some}
 use native.Mathlib.Decide.{ℕ_discrete}
 use lib.ListN.{get_elem?}
+use Rattle.history.specs.Key.{of_main}
 use Rattle.history.specs.Table.{Granted}
 use Rattle.history.specs.Locks.{Touch, touches, touched, key_stripe, clash, is_touch}
 use Rattle.history.proofs.Modes.{clash_parts}
@@ -69,12 +70,12 @@ covered_call call live holds a b = ⊎_elim a (untouching call holds) b
 -- only stripes are touched
 pub small_touch : (call : Call) (t : ℕ) (m : Mode) → touches call t m ≡ true → t < 64
 small_touch Begin t m e = absurd (false≢true e)
-small_touch (Get key) t mode.Shared e = (let same = eqb-true (key_stripe key) t e in let small : (key % 64 + 8 * 0) % 64 < 64 = mod-lt (key % 64 + 8 * 0) (omega arith) in omega arith)
+small_touch (Get key) t mode.Shared e = (let same = eqb-true (key_stripe (of_main key)) t e in let small : (key % 64 + 8 * 0) % 64 < 64 = mod-lt (key % 64 + 8 * 0) (omega arith) in omega arith)
 small_touch (Get key) t mode.Exclusive e = absurd (false≢true e)
 small_touch (Put key value) t mode.Shared e = absurd (false≢true e)
-small_touch (Put key value) t mode.Exclusive e = (let same = eqb-true (key_stripe key) t e in let small : (key % 64 + 8 * 0) % 64 < 64 = mod-lt (key % 64 + 8 * 0) (omega arith) in omega arith)
+small_touch (Put key value) t mode.Exclusive e = (let same = eqb-true (key_stripe (of_main key)) t e in let small : (key % 64 + 8 * 0) % 64 < 64 = mod-lt (key % 64 + 8 * 0) (omega arith) in omega arith)
 small_touch (Del key) t mode.Shared e = absurd (false≢true e)
-small_touch (Del key) t mode.Exclusive e = (let same = eqb-true (key_stripe key) t e in let small : (key % 64 + 8 * 0) % 64 < 64 = mod-lt (key % 64 + 8 * 0) (omega arith) in omega arith)
+small_touch (Del key) t mode.Exclusive e = (let same = eqb-true (key_stripe (of_main key)) t e in let small : (key % 64 + 8 * 0) % 64 < 64 = mod-lt (key % 64 + 8 * 0) (omega arith) in omega arith)
 small_touch (Scan low high) t mode.Shared e = ltb-true t 64 e
 small_touch (Scan low high) t mode.Exclusive e = absurd (false≢true e)
 small_touch Save t m e = absurd (false≢true e)

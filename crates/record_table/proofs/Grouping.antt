@@ -64,12 +64,12 @@ module _ (index : Index) (laws : Laws index) (s : PagesState) (ts : List ℕ) (s
       go true = tt
       go false = parts_carry index laws s.store.bytes (applied (group_log s.store.logs ts) s.store.bytes) sound group_written.sound group_written.pairs group_written.size (log_of s u) (parts u)
 
-  group_logs : (λ (u : ℕ). let log : Log = record { writes = writes_of s.store.bytes (listed (with_each s.store.logs ts None u)); saved = map (writes_of s.store.bytes) s.store.bytes (with_each s.saved ts [] u) } in log)
-      ≡ with_each (λ (u : ℕ). let log : Log = record { writes = writes_of s.store.bytes (log_of s u); saved = map (writes_of s.store.bytes) s.store.bytes (s.saved u) } in log) ts (record { writes = []; saved = [] })
+  group_logs : (λ (u : ℕ). let log : Log = record { writes = writes_of s.store.bytes (listed (with_each s.store.logs ts None u)); saved = map (writes_of s.store.bytes) (with_each s.saved ts [] u) } in log)
+      ≡ with_each (λ (u : ℕ). let log : Log = record { writes = writes_of s.store.bytes (log_of s u); saved = map (writes_of s.store.bytes) (s.saved u) } in log) ts (record { writes = []; saved = [] })
   group_logs = λ i u. go u (is_one_of ts u) i
     where
-      go : (u : ℕ) (b : Bool) → (let log : Log = record { writes = writes_of s.store.bytes (listed (cond b None (s.store.logs u))); saved = map (writes_of s.store.bytes) s.store.bytes (cond b [] (s.saved u)) } in log)
-          ≡ cond b (record { writes = []; saved = [] }) (record { writes = writes_of s.store.bytes (log_of s u); saved = map (writes_of s.store.bytes) s.store.bytes (s.saved u) })
+      go : (u : ℕ) (b : Bool) → (let log : Log = record { writes = writes_of s.store.bytes (listed (cond b None (s.store.logs u))); saved = map (writes_of s.store.bytes) (cond b [] (s.saved u)) } in log)
+          ≡ cond b (record { writes = []; saved = [] }) (record { writes = writes_of s.store.bytes (log_of s u); saved = map (writes_of s.store.bytes) (s.saved u) })
       go u true = refl
       go u false = refl
 

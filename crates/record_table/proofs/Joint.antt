@@ -25,7 +25,7 @@ pairs_same index d e (entry ∷ entries) same = λ i. map (in_table entry.name) 
 pub found_named : (name : List ℕ) (ps : List Pair) (q : Key) → found_key (map (in_table name) ps) q ≡ cond (is_of_table name q) (found ps q.key) None
 found_named name [] q = none (is_of_table name q)
   where
-    none : (b : Bool) → None ≡ cond b None None
+    none : (b : Bool) → ◌≡◌ {A = Option ℕ} None (cond b None None)
     none true = refl
     none false = refl
 found_named name (p ∷ ps) q = ap (cond (is_of_table name q && nat_eq p.0 q.key) (Some p.1)) (found_named name ps q) ∙ go (is_of_table name q) (nat_eq p.0 q.key)

@@ -56,7 +56,7 @@ logs_with bytes logs saved t log saves own is = λ i u. one u i
         go false = refl
 
 -- the logs over data with the same tables
-pub logs_same : (d e : List ℕ) → tables_of e ≡ tables_of d → (logs : Logs Part) (saved : ℕ → List (List Part)) → (λ (u : ℕ). log_in e (logs u) (saved u)) ≡ (λ (u : ℕ). log_in d (logs u) (saved u))
+pub logs_same : (d e : List ℕ) → tables_of e ≡ tables_of d → (logs : Logs Part) (saved : ℕ → List (List Part)) → ◌≡◌ {A = ℕ → Log} (λ u. log_in e (logs u) (saved u)) (λ u. log_in d (logs u) (saved u))
 logs_same d e tables logs saved = λ i u. record { writes = writes_same d e tables (listed (logs u)) i; saved = saves_same d e tables (saved u) i }
 
 -- the state after one more write of a number

@@ -28,7 +28,7 @@ use Rattle.page_store.specs.Shown as pages
 use Rattle.page_store.specs.State.{PagesState, log_of}
 use Rattle.page_store.specs.declared.fault.PageFault.{PageFault}
 use Rattle.page_store.specs.declared.fault.PageFault.TheVariants as fault
-use Rattle.record_table.specs.Does.{OpensWith, is_failed}
+use Rattle.record_table.specs.Does.{OpensNamed, OpensWith, is_failed}
 use Rattle.record_table.specs.Faults.{as_table, told_as}
 use Rattle.record_table.specs.Invariant.{AreSlotParts, Rests, Holds}
 use Rattle.record_table.specs.Names.{names_of}

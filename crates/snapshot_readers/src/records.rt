@@ -1,7 +1,9 @@
 // Records in memory, which take many writes or none.
 ghost use Rattle.std.specs.Prelude.{◌≡◌, ℕ, IfOk, OnOk, OnErr};
 ghost use Rattle.std.specs.FinMap.{get};
-ghost use Rattle.history.specs.Writes.{set_or_remove, all_written};
+ghost use Rattle.history.specs.Writes.{set_or_remove};
+ghost use Rattle.snapshot_readers.specs.Rooms.{main_written};
+ghost use Rattle.history.specs.Key.{of_main};
 ghost use Rattle.history.specs.Rows.{table_of};
 ghost use Rattle.snapshot_readers.specs.Rooms.{table_in, HasRoom, HaveRoom};
 
@@ -12,7 +14,7 @@ use std::alloc::Global;
 use std::collections::BTreeMap;
 use std::marker::Model;
 
-/// The key of a record.
+/// The key of a record of the table `main`.
 pub type Key = u64;
 
 /// A key, and its new value, or none where its record is removed.
@@ -29,13 +31,13 @@ pub struct Records {
 
 impl Model for Records {
     ghost use Rattle.history.specs.Writes.{Table};
-    ghost use Rattle.snapshot_readers.specs.Rooms.{table_in};
+    ghost use Rattle.snapshot_readers.specs.Rooms.{key_code, table_in};
     ghost use base.Stored.{coded_ℕ, coded_list};
     ghost use Rattle.std.specs.FinMap.{code};
 
     ghost Value = { Table };
 
-    ghost coded = { code coded_ℕ (coded_list coded_ℕ) };
+    ghost coded = { code key_code (coded_list coded_ℕ) };
 
     ghost view = { λ r. table_in r.rooms.entries };
 }
@@ -56,7 +58,7 @@ impl Records {
     }
 
     pub(crate) fn get(&self, key: Key) -> Option<Value>
-        ensures { result ≡ get self.now key }
+        ensures { result ≡ get self.now (of_main key) }
     {
         match self.rooms.get(&key) {
             Some(value) => *value,
@@ -66,7 +68,7 @@ impl Records {
 
     /// Makes all writes, or none. It takes as long as the writes ask, however many records there are.
     pub(crate) fn write_all(&mut self, writes: &[Write]) -> Result<(), NoMemory>
-        ensures ok { OnOk result (self.new ≡ all_written self.old writes.now) }
+        ensures ok { OnOk result (self.new ≡ main_written self.old writes.now) }
         ensures err { OnErr result (self.new ≡ self.old) }
     {
         // All that may fail comes first, and changes no record.
@@ -104,7 +106,7 @@ fn make_room(rooms: &mut Rooms, key: Key) -> Result<(), NoMemory>
 // Makes the writes, each of which has room.
 fn set_all(rooms: &mut Rooms, writes: &[Write])
     requires { HaveRoom rooms.old writes.now }
-    ensures { table_in rooms.new.entries ≡ all_written (table_in rooms.old.entries) writes.now }
+    ensures { table_in rooms.new.entries ≡ main_written (table_in rooms.old.entries) writes.now }
 {
     for (key, value) in writes {
         set(rooms, *key, *value);
@@ -114,7 +116,7 @@ fn set_all(rooms: &mut Rooms, writes: &[Write])
 // Makes a write, which has room.
 fn set(rooms: &mut Rooms, key: Key, value: Option<Value>)
     requires { HasRoom rooms.old key }
-    ensures set { table_in rooms.new.entries ≡ set_or_remove (table_in rooms.old.entries) key value }
+    ensures set { table_in rooms.new.entries ≡ set_or_remove (table_in rooms.old.entries) (of_main key) value }
     ensures kept { (other : ℕ) → HasRoom rooms.old other → HasRoom rooms.new other }
 {
     let Ok(_) = rooms.insert(key, value) else {

@@ -1,6 +1,7 @@
 // What transactions write, as a list that is the same on every table.
 ghost use Rattle.std.specs.Prelude.{◌≡◌, [], IfOk, OnOk};
-ghost use Rattle.history.specs.Writes.{Table, all_written};
+ghost use Rattle.history.specs.Writes.{Table};
+ghost use Rattle.snapshot_readers.specs.Rooms.{main_written};
 ghost use Rattle.history.specs.Table.{Work, after, begun, left_by, has_save};
 ghost use Rattle.history.specs.Legal.{records};
 ghost use Rattle.history.specs.declared.call.Call.TheVariants.{Back};
@@ -20,7 +21,7 @@ struct Writing {
 
 /// Written into any table, the list gives what the transactions leave of it.
 pub(crate) fn writes_of(dones: &[Done], alloc: Global) -> Result<Vec<Write>, NoMemory>
-    ensures { IfOk result (λ writes. (table : Table) → records table dones.now ≡ all_written table writes.items) }
+    ensures { IfOk result (λ writes. (table : Table) → records table dones.now ≡ main_written table writes.items) }
 {
     let mut writing = Writing {
         writes: Vec::new(alloc),
@@ -36,7 +37,7 @@ pub(crate) fn writes_of(dones: &[Done], alloc: Global) -> Result<Vec<Write>, NoM
 impl Writing {
     // Makes the calls of one transaction.
     fn make_all(&mut self, calls: &Calls) -> Result<(), NoMemory>
-        ensures { OnOk result ((table : Table) → all_written table self.new.writes.items ≡ left_by (all_written table self.old.writes.items) calls.now) }
+        ensures { OnOk result ((table : Table) → main_written table self.new.writes.items ≡ left_by (main_written table self.old.writes.items) calls.now) }
     {
         self.saves.truncate(0);
         for (call, _) in calls.entries() {

@@ -73,7 +73,7 @@ returns-then-is_empty-clause-rows g c = λ told.
     let rests = c.requires.holds c.requires.alive in
     let none = subst (λ (s : State). AreNext (g.K.KeyIndex.index.pairs s.bytes c.args.root) c.loop-from.from c.in-Ok.pairs.items) ((c.loop-from.invariant.looks.same refl).still.state told) (c.in-Ok.ensures.next told) in
     no_row (c.loop-from.rows) _ _ (c.loop-from.invariant.rows told)
-    (follows_end I laws t v0 (rests.tied told) c.args.table c.args.root c.requires.table (c.requires.named told c.requires.alive) c.loop-from.from c.args.high (omega arith)
+    (follows_end I laws t v0 (rests.tied told) c.args.table c.args.root c.requires.table (c.requires.named told c.requires.alive) c.loop-from.from c.args.high
     (next_empty (I.pairs v0.store.state.bytes c.args.root) c.loop-from.from c.in-Ok.pairs.items (eqb-true _ 0 (sym c.if-is_empty.ensures)) none))
 
 pub returns-in-Ok-None-clause-rows : goal.returns-in-Ok-None-clause-rows

@@ -110,7 +110,7 @@ returns-then-pair-span-clause-rows g c = λ told.
     let is = (turn_at (I.pairs v0.store.state.bytes c.args.span.root) c.loop-pair.from 0 c.args.pairs.now c.loop-pair.pair-index c.loop-pair-test.true (c.loop-pair.invariant.turn told)).0 in
     append-nil (c.loop-pair.rows)
     ∙ no_row (c.loop-pair.rows) _ _ (c.loop-pair.invariant.rows told)
-    (follows_above I laws t v0 (rests.tied told) c.args.span.table c.args.span.root c.requires.table (c.requires.named told c.requires.alive) c.loop-pair.from c.args.span.high (omega arith)
+    (follows_above I laws t v0 (rests.tied told) c.args.span.table c.args.span.root c.requires.table (c.requires.named told c.requires.alive) c.loop-pair.from c.args.span.high
     (get_or c.args.pairs.now c.loop-pair.pair-index (0, 0)).0 (get_or c.args.pairs.now c.loop-pair.pair-index (0, 0)).1 is (omega (arith, c.if-pair-span.true)))
 
 pub returns-then-row-span-clause-rows : goal.returns-then-row-span-clause-rows

@@ -15,8 +15,8 @@ returns-in-Ok-Some-clause-follows g c = λ told.
     let v0 = pages_of (V c.args.pages.now.store) c.args.pages.now in
     let alive = c.requires.alive in
     let tied = (c.requires.holds alive).tied told in
-    let n = next_is I laws c.args.tid v0 tied c.args.span.table c.args.span.root c.requires.table (c.requires.named told alive) c.args.span.low c.args.span.high (omega arith) c.args.pair.0 c.args.pair.1 (c.requires.next told) c.requires.most in
-    rw c.value_in.ensures (follows_some I laws c.args.tid v0 tied c.args.span.table c.args.span.root c.requires.table (c.requires.named told alive) c.args.span.low c.args.span.high (omega arith) c.args.pair.0 c.args.pair.1 (c.requires.next told) c.requires.most _
+    let n = next_is I laws c.args.tid v0 tied c.args.span.table c.args.span.root c.requires.table (c.requires.named told alive) c.args.span.low c.args.span.high c.args.pair.0 c.args.pair.1 (c.requires.next told) c.requires.most in
+    rw c.value_in.ensures (follows_some I laws c.args.tid v0 tied c.args.span.table c.args.span.root c.requires.table (c.requires.named told alive) c.args.span.low c.args.span.high c.args.pair.0 c.args.pair.1 (c.requires.next told) c.requires.most _
     (sym c.in-Ok-Some.field-0-is ∙ c.in-Ok-Some.ensures.said told
     ∙ read_is I laws c.args.tid (of_main c.args.pair.0) v0 tied v0 refl refl (g.met.S.EawStore.long c.args.pages.now.store told) c.args.pair.1 n.1))
 
@@ -31,7 +31,7 @@ returns-in-Ok-None-clause-cause g c =
       alive,
       λ told.
           let tied = (c.requires.holds alive).tied told in
-          let n = next_is I laws c.args.tid v0 tied c.args.span.table c.args.span.root c.requires.table (c.requires.named told alive) c.args.span.low c.args.span.high (omega arith) c.args.pair.0 c.args.pair.1 (c.requires.next told) c.requires.most in
+          let n = next_is I laws c.args.tid v0 tied c.args.span.table c.args.span.root c.requires.table (c.requires.named told alive) c.args.span.low c.args.span.high c.args.pair.0 c.args.pair.1 (c.requires.next told) c.requires.most in
           some_slot I laws c.args.tid (of_main c.args.pair.0) v0 tied v0 refl refl (g.met.S.EawStore.long c.args.pages.now.store told) c.args.pair.1 n.1
           (sym c.in-Ok-None.field-0-is ∙ c.in-Ok-None.ensures.said told),
     )

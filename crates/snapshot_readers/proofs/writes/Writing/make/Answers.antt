@@ -1,6 +1,6 @@
 use Rattle.std.proofs.Common.{sym, subst, Some, None, List}
 use Rattle.history.specs.Table.{after}
-use Rattle.history.specs.Writes.{Write}
+use Rattle.snapshot_readers.specs.Rooms.{MainWrite}
 use Rattle.history.specs.declared.call.Call.{Call}
 use Rattle.history.specs.declared.call.Call.TheVariants.{Put, Del}
 use Rattle.snapshot_readers.specs.Writing.{Writes}
@@ -13,7 +13,7 @@ returns-in_ok-push-in-Put c table work h =
     let key = c.in-Put.key in
     let value = c.in-Put.value in
     subst (λ (call : Call). Writes table c.push.new.self.items self.saves.items (after work call)) (sym c.in-Put.is)
-    (subst (λ (ws : List Write). Writes table ws self.saves.items (after work (Put key value))) (sym c.in_ok-push-in-Put.ensures.items)
+    (subst (λ (ws : List MainWrite). Writes table ws self.saves.items (after work (Put key value))) (sym c.in_ok-push-in-Put.ensures.items)
     (write_more table self.writes.items self.saves.items work (key, Some value) h))
 
 pub returns-in_ok-push-in-Del : goal.returns-in_ok-push-in-Del
@@ -21,7 +21,7 @@ returns-in_ok-push-in-Del c table work h =
     let self = c.args.self.now in
     let key = c.in-Del.key in
     subst (λ (call : Call). Writes table c.push-in-Del.new.self.items self.saves.items (after work call)) (sym c.in-Del.is)
-    (subst (λ (ws : List Write). Writes table ws self.saves.items (after work (Del key))) (sym c.in_ok-push-in-Del.ensures.items)
+    (subst (λ (ws : List MainWrite). Writes table ws self.saves.items (after work (Del key))) (sym c.in_ok-push-in-Del.ensures.items)
     (write_more table self.writes.items self.saves.items work (key, None) h))
 
 pub returns-in-Back : goal.returns-in-Back
