@@ -1,7 +1,8 @@
 -- A dump over the records of a store, which is left as it was.
 use Rattle.std.proofs.Common.{◌≡◌, ℕ, List, [], Bool, true, false, refl, sym, ap, subst, ◌∙◌, arith}
 use Rattle.std.specs.Prelude.{IsTrue, MatchBool, if◌then◌else◌, Result, Ok, Err}
-use Rattle.std.specs.FinMap.{entries}
+use Rattle.history.specs.Key.{main_name}
+use Rattle.history.specs.Writes.{rows_of}
 use Rattle.mars_base.specs.Causes.{Rose}
 use Rattle.mars_base.proofs.Going as going
 use Rattle.array_shape.specs.declared.shape.Shape.{Shape}
@@ -35,7 +36,7 @@ module _ (tells : Bool) (told : IsTrue tells) (Opens : Shape → List ℕ → Li
   opens_first : (image : List ℕ) → Opens old.shape image old.state.bytes → opens_of Opens old.shape index (begun_on true index old.state.bytes) 0 image
   opens_first image opens = record { count = 0; at_least = omega arith; at_most = omega arith; opens = record { bytes = old.state.bytes; opened = opens; sound = sound; shows = refl } }
 
-  pub dumped : (rows : List (ℕ × List ℕ)) (text : List ℕ) (ended : Ended) (cut : Bool) (part : List ℕ) → rows ≡ entries (table_of index old.state.bytes) → text ≡ dump_lines rows → ended ≡ (if cut then WriteFault else All) → IsWritten cut part text
+  pub dumped : (rows : List (ℕ × List ℕ)) (text : List ℕ) (ended : Ended) (cut : Bool) (part : List ℕ) → rows ≡ rows_of main_name (table_of index old.state.bytes) → text ≡ dump_lines rows → ended ≡ (if cut then WriteFault else All) → IsWritten cut part text
       → Served true (Dumps ended cut part) Opens index old ended new
   dumped rows text ended cut part are is end wrote = record {
     sound = sound;

@@ -1,7 +1,8 @@
 -- The work of callers on threads over the records of a store, from what a core makes of it.
 use Rattle.std.proofs.Common.{◌≡◌, ◌≢◌, ◌↔◌, ℕ, zero, suc, ◌+◌, ◌<◌, ◌≤◌, List, None, get_or, length, ◌++◌, Bool, true, false, refl, sym, ap, subst, ◌∙◌, arith}
 use Rattle.std.specs.Prelude.{IsTrue}
-use Rattle.std.specs.FinMap.{entries}
+use Rattle.history.specs.Key.{main_name}
+use Rattle.history.specs.Writes.{rows_of}
 use Rattle.std.specs.List.{flat_map}
 use Rattle.std.proofs.lemmas.Bool.{true≢false}
 use Rattle.history.specs.Rows as rows
@@ -45,11 +46,11 @@ plans_at first (suc callers) (suc caller) at said less is = plans_at (suc first)
 -- the same text for equal things
 pub retold : (ended : Ended) (cut : Bool) (text : List ℕ) (faults faults' : List LineFault) (history history' : List Done) (base base' : List (ℕ × List ℕ)) (fates fates' : List (List Fate))
     → faults ≡ faults' → history ≡ history' → base ≡ base' → fates ≡ fates'
-    → TellsEnd ended cut text (work_text faults history fates (entries (records (rows.table_of base) history))) (flat_map done_lines history ++ media_line)
-    → TellsEnd ended cut text (work_text faults' history' fates' (entries (records (rows.table_of base') history'))) (flat_map done_lines history' ++ media_line)
+    → TellsEnd ended cut text (work_text faults history fates (rows_of main_name (records (rows.table_of base) history))) (flat_map done_lines history ++ media_line)
+    → TellsEnd ended cut text (work_text faults' history' fates' (rows_of main_name (records (rows.table_of base') history'))) (flat_map done_lines history' ++ media_line)
 retold ended cut text faults faults' history history' base base' fates fates' f h b t tells =
-    subst (λ (lines : List ℕ). TellsEnd ended cut text (work_text faults' history' fates' (entries (records (rows.table_of base') history'))) lines) (ap (λ (l : List Done). flat_map done_lines l ++ media_line) h)
-    (subst (λ (whole : List ℕ). TellsEnd ended cut text whole (flat_map done_lines history ++ media_line)) (λ i. work_text (f i) (h i) (t i) (entries (records (rows.table_of (b i)) (h i)))) tells)
+    subst (λ (lines : List ℕ). TellsEnd ended cut text (work_text faults' history' fates' (rows_of main_name (records (rows.table_of base') history'))) lines) (ap (λ (l : List Done). flat_map done_lines l ++ media_line) h)
+    (subst (λ (whole : List ℕ). TellsEnd ended cut text whole (flat_map done_lines history ++ media_line)) (λ i. work_text (f i) (h i) (t i) (rows_of main_name (records (rows.table_of (b i)) (h i)))) tells)
 
 module _ (tells : Bool) (core last : CoreView) (callers tries : ℕ) (input : List ℕ) (said : List Line) (says : AllSay callers (lines_of input) said)
     (plans : List (List Plan)) (plans_are : plans ≡ plans_from 0 callers said) (fates : List (List Fate)) (end : WorkEnd) (worked : Worked tells tries plans core last fates end) (enough : callers ≤ core.limits.callers) where
@@ -98,7 +99,7 @@ module _ (tells : Bool) (core last : CoreView) (callers tries : ℕ) (input : Li
       }
 
   joint_work : (ended : Ended) (cut : Bool) (text : List ℕ) → (ended ≢ ends.MediaFault → ended ≢ ends.NoMemory → end ≡ work.All) → (ended ≡ ends.MediaFault) ↔ (end ≡ work.MediaFault)
-      → TellsEnd ended cut text (work_text (faults_from 1 (λ caller. false) said) last.state.history fates (entries (records last.state.base last.state.history))) (flat_map done_lines last.state.history ++ media_line)
+      → TellsEnd ended cut text (work_text (faults_from 1 (λ caller. false) said) last.state.history fates (rows_of main_name (records last.state.base last.state.history))) (flat_map done_lines last.state.history ++ media_line)
       → JointWork callers tries input ended cut text core.limits worked.turns last.state
   joint_work ended cut text whole fault tells_work = record {
     enough = enough;
@@ -118,7 +119,7 @@ module _ (tells : Bool) (core last : CoreView) (callers tries : ℕ) (input : Li
   }
 
   pub joint_turns : IsTrue tells → (ended : Ended) (cut : Bool) (text : List ℕ) → (ended ≢ ends.MediaFault → ended ≢ ends.NoMemory → end ≡ work.All) → (ended ≡ ends.MediaFault) ↔ (end ≡ work.MediaFault)
-      → TellsEnd ended cut text (work_text (faults_from 1 (λ caller. false) said) last.state.history fates (entries (records last.state.base last.state.history))) (flat_map done_lines last.state.history ++ media_line)
+      → TellsEnd ended cut text (work_text (faults_from 1 (λ caller. false) said) last.state.history fates (rows_of main_name (records last.state.base last.state.history))) (flat_map done_lines last.state.history ++ media_line)
       → TurnsOn (JointWork callers tries input ended cut text) core ended last
   joint_turns told ended cut text whole fault tells_work = record {
     turns = worked.turns;

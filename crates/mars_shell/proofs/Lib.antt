@@ -1,3 +1,4 @@
+pub mod MainRows
 pub mod FateTexts
 pub mod FormatLemmas
 pub mod FreshRecords

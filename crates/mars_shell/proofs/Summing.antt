@@ -3,7 +3,8 @@ use Rattle.std.proofs.Common.{◌≡◌, ◌≢◌, ℕ, List, [], ◌∷◌, �
 use Rattle.std.specs.Prelude.{IsTrue, if◌then◌else◌, codes, count_by, flat_map}
 use Rattle.std.specs.Fmt.{decimal}
 use Rattle.std.proofs.lemmas.List.{append_assoc, append-nil, length-map}
-use Rattle.std.specs.FinMap.{entries}
+use Rattle.history.specs.Key.{main_name}
+use Rattle.history.specs.Writes.{rows_of}
 use Rattle.history.specs.declared.call.Call.{Call}
 use Rattle.caller_steps.specs.State.{State, records_of}
 use Rattle.caller_steps.specs.Core.{CoreView}
@@ -53,7 +54,7 @@ module _ (numbers : DrillNumbers) (tells : Bool) (old new : CoreView) (callers :
   module _ (told : IsTrue tells) (ready : CanShare tells 0 old) where
     -- turns of the script, of which this is told
     turns_on : (ended : Ended) (cut : Bool) (text : List ℕ) (turns : List Turn) → Made tells old (drill numbers.seed numbers.count callers) turns new
-        → AreMade ended (drill numbers.seed numbers.count old.limits.callers) turns → TellsEnd ended cut text (summary_text numbers turns (entries (records_of new.state))) media_line
+        → AreMade ended (drill numbers.seed numbers.count old.limits.callers) turns → TellsEnd ended cut text (summary_text numbers turns (rows_of main_name (records_of new.state))) media_line
         → (ended ≢ MediaFault → has_fault turns ≡ false) → TurnsOn (Drills numbers ended cut text) old ended new
     turns_on ended cut text turns made all said clean = record {
       turns = turns;
@@ -68,7 +69,7 @@ module _ (numbers : DrillNumbers) (tells : Bool) (old new : CoreView) (callers :
         → ended ≡ (if cut then WriteFault else All) → IsWritten cut text whole → TurnsOn (Drills numbers ended cut text) old ended new
     summary_told whole ended cut text up end wrote = turns_on ended cut text up.0 up.1
         (made_as ended cut (drill numbers.seed numbers.count old.limits.callers) up.0 end (subst (λ (n : ℕ). map without_reply up.0 ≡ drill numbers.seed numbers.count n) callers_are up.2) up.3)
-        (summed_as ended cut text (summary_text numbers up.0 (entries (records_of new.state))) end (subst (λ (t : List ℕ). IsWritten cut text t) (up.4 told ∙ tally_is numbers up.0 (entries (records_of new.state))) wrote))
+        (summed_as ended cut text (summary_text numbers up.0 (rows_of main_name (records_of new.state))) end (subst (λ (t : List ℕ). IsWritten cut text t) (up.4 told ∙ tally_is numbers up.0 (rows_of main_name (records_of new.state))) wrote))
         (λ unfailed. clean_all up.0 up.3)
 
     -- to a fault of the medium,

@@ -1,6 +1,7 @@
 -- What a drill does and writes.
 use Rattle.std.specs.Prelude.{ℕ, ◌≡◌, ◌%◌, ◌^◌, List, [], ◌∷◌, ◌++◌, length, map, take, count_by, flat_map, bytes_eq, codes, Bool, IsTrue}
-use Rattle.std.specs.FinMap.{entries}
+use Rattle.history.specs.Key.{main_name}
+use Rattle.history.specs.Writes.{rows_of}
 use Rattle.std.specs.Fmt.{decimal}
 use Rattle.std.specs.List.{All, sum_by}
 use Rattle.history.specs.declared.call.Call.{Call}
@@ -49,4 +50,4 @@ AreMade ended script turns = (length turns ≡ length script) × All (λ turn. I
 pub record Drills (numbers : DrillNumbers) (ended : Ended) (cut : Bool) (text : List ℕ) (limits : Limits) (turns : List Turn) (final : State) : Type 0 where
   pub drawn : map (λ (turn : Turn). (turn.0, turn.1)) turns ≡ take (length turns) (drill numbers.seed numbers.count limits.callers)
   pub made : AreMade ended (drill numbers.seed numbers.count limits.callers) turns
-  pub told : TellsEnd ended cut text (summary_text numbers turns (entries (records_of final))) media_line
+  pub told : TellsEnd ended cut text (summary_text numbers turns (rows_of main_name (records_of final))) media_line

@@ -1,6 +1,7 @@
 -- What a dump of the records does on a medium that tells its bytes.
 use Rattle.std.specs.Prelude.{ℕ, ◌≡◌, List, [], ◌∷◌, ◌++◌, length, codes, Bool, if◌then◌else◌}
-use Rattle.std.specs.FinMap.{entries}
+use Rattle.history.specs.Key.{main_name}
+use Rattle.history.specs.Writes.{rows_of}
 use Rattle.std.specs.Fmt.{decimal}
 use Rattle.std.specs.List.{flat_map}
 use Rattle.pcm_media.specs.Images.{MayLeave}
@@ -29,7 +30,7 @@ dump_lines rows = flat_map rec_line rows ++ number_line (codes "records") (lengt
 pub record Dumps (ended : Ended) (cut : Bool) (text : List ℕ) (limits : Limits) (turns : List Turn) (final : State) : Type 0 where
   pub none : turns ≡ []
   pub end : ended ≡ (if cut then WriteFault else All)
-  pub wrote : IsWritten cut text (dump_lines (entries (records_of final)))
+  pub wrote : IsWritten cut text (dump_lines (rows_of main_name (records_of final)))
 
 -- What was opened stays, however the work ended: no row is voted, and each image that a loss of power may leave opens with the data that was
 -- opened. One that might have been left since the entry opens with the data of an image that could be left at first, if all of those open.

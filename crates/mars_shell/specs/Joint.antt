@@ -1,6 +1,7 @@
 -- What comes of a script whose callers work on threads.
 use Rattle.std.specs.Prelude.{ℕ, ◌≡◌, ◌≢◌, ◌≤◌, ◌<◌, ◌↔◌, List, ◌++◌, length, Bool, false, IsTrue, Option, None}
-use Rattle.std.specs.FinMap.{entries}
+use Rattle.history.specs.Key.{main_name}
+use Rattle.history.specs.Writes.{rows_of}
 use Rattle.std.specs.List.{flat_map}
 use Rattle.history.specs.Legal.{records}
 use Rattle.history.specs.declared.call.Reply.{Reply}
@@ -37,5 +38,5 @@ pub record JointWork (callers tries : ℕ) (input : List ℕ) (ended : Ended) (c
       × (ended ≢ MediaFault → ended ≢ NoMemory → stopped ≡ None)
   pub causes : (caller : ℕ) (within : caller < callers) → HaveCauses callers (λ other. planned None (calls_by other said)) caller (works caller within).1.0
   pub fault : (ended ≡ MediaFault) ↔ IsTrue final.is_dead
-  pub tells : TellsEnd ended cut text (work_text (faults_from 1 (λ caller. false) said) final.history fates (entries (records final.base final.history)))
+  pub tells : TellsEnd ended cut text (work_text (faults_from 1 (λ caller. false) said) final.history fates (rows_of main_name (records final.base final.history)))
       (flat_map done_lines final.history ++ media_line)

@@ -1,7 +1,8 @@
 -- Calls that a core made, one after another.
 use Rattle.std.specs.Prelude.{ℕ, ◌≡◌, List, [], ◌∷◌, ◌++◌, length, map, take, Bool, IsTrue, IsFalse}
 use Rattle.std.specs.List.{All}
-use Rattle.std.specs.FinMap.{entries}
+use Rattle.history.specs.Key.{main_name}
+use Rattle.history.specs.Writes.{rows_of}
 use Rattle.history.specs.declared.call.Call.{Call}
 use Rattle.history.specs.declared.call.Reply.TheVariants as reply
 use Rattle.command_words.specs.declared.words.DrillNumbers.{DrillNumbers}
@@ -47,4 +48,4 @@ MadeAll tells old script tally new = (turns : List Turn) × Made tells old scrip
 -- the same, with the text of the summary
 abbrev pub SummedUp : Bool → DrillNumbers → CoreView → List (ℕ × Call) → List ℕ → CoreView → Type 0
 SummedUp tells numbers old script text new = (turns : List Turn) × Made tells old script turns new × (map without_reply turns ≡ script) × GoOn turns
-    × (IsTrue tells → text ≡ tally_text numbers (tally_of turns) (entries (records_of new.state)))
+    × (IsTrue tells → text ≡ tally_text numbers (tally_of turns) (rows_of main_name (records_of new.state)))

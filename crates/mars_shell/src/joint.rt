@@ -1,6 +1,7 @@
 // What is told of the work of callers on threads.
 ghost use Rattle.std.specs.Prelude.{◌≡◌, ◌≢◌, ◌++◌, ◌≤◌, ◌↔◌, length, IfOk, OnOk};
-ghost use Rattle.std.specs.FinMap.{entries};
+ghost use Rattle.history.specs.Key.{main_name};
+ghost use Rattle.history.specs.Writes.{rows_of};
 ghost use Rattle.std.specs.List.{flat_map};
 ghost use Rattle.history.specs.Legal.{records};
 ghost use Rattle.history.specs.Rows.{table_of};
@@ -32,7 +33,7 @@ pub fn tell_end<K: Sink>(
 ) -> Ended
     requires few { length fates.now ≤ 255 }
     ensures told { Wrote K.tells (K.written sink.old) (K.written sink.new) (K.faults sink.old) (K.faults sink.new)
-        (λ cut text. TellsEnd result cut text (work_text faults.now history.now fates.now (entries (records (table_of base.now) history.now))) (flat_map done_lines history.now ++ media_line)) }
+        (λ cut text. TellsEnd result cut text (work_text faults.now history.now fates.now (rows_of main_name (records (table_of base.now) history.now))) (flat_map done_lines history.now ++ media_line)) }
     ensures whole { result ≢ Ended.MediaFault → result ≢ Ended.NoMemory → end ≡ WorkEnd.All }
     ensures fault { (result ≡ Ended.MediaFault) ↔ (end ≡ WorkEnd.MediaFault) }
 {
@@ -58,7 +59,7 @@ fn work_text(
     fates: &[Fates],
 ) -> Result<Vec<u8>, NoMemory>
     requires { length fates.now ≤ 255 }
-    ensures { IfOk result (λ text. text.items ≡ work_text faults.now history.now fates.now (entries (records (table_of base.now) history.now))) }
+    ensures { IfOk result (λ text. text.items ≡ work_text faults.now history.now fates.now (rows_of main_name (records (table_of base.now) history.now))) }
 {
     let rows = play(history, base, alloc)?;
     let mut text = Vec::new(alloc);
