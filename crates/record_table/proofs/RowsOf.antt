@@ -116,7 +116,7 @@ module _ (d : List ℕ) where
   pub entries_are : (low high : ℕ) (ps : List Pair) → Rise low high ps → entries (table_in d (map (in_table main_name) ps)) ≡ all_keyed main_name (rows_of d ps)
   entries_are low high ps rise =
       ap entries (same_table (table_in d (map (in_table main_name) ps)) (from_entries {R = key_cmp} (all_keyed main_name (rows_of d ps))) (λ q.
-          got low high ps rise q ∙ sym (get-from_entries key_cmp_total (all_keyed main_name (rows_of d ps)) q ∙ find-keyed main_name (rows_of d ps) q)))
+      got low high ps rise q ∙ sym (get-from_entries key_cmp_total (all_keyed main_name (rows_of d ps)) q ∙ find-keyed main_name (rows_of d ps) q)))
       ∙ entries-from_entries (all_keyed main_name (rows_of d ps)) (subst T (sorted-keyed main_name (rows_of d ps)) (sorted low high ps rise))
 
   -- no key from this one on
