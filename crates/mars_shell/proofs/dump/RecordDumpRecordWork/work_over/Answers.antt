@@ -1,6 +1,8 @@
 use Rattle.std.proofs.Common.{◌≡◌, [], true, false, refl, sym, ◌∙◌}
 use Rattle.std.proofs.lemmas.List.{append-nil}
 use Rattle.mars_core.specs.Attached.{is_media_fault}
+use Rattle.record_table.specs.Shown.{table_of}
+use Rattle.mars_shell.proofs.MainRows.{rows_told}
 use Rattle.mars_shell.proofs.Dumping.{dumped, dump_counts, unread_counts}
 use Rattle.mars_shell.proofs.Serving.{unread}
 use Rattle.mars_shell.proofs.dump.RecordDumpRecordWork.work_over.Goals as goal
@@ -21,7 +23,7 @@ returns-in-Ok-dump_lines-clause-served g c =
       counts = wrote.counts;
       holds = λ told. dumped s.tells told s.opens g.I.KeyIndex.index (s.view old) (s.view new) c.requires.alive (sound told) left
           (λ living image has. g.met.S.EawStore.only_now new image told living has)
-          c.in-Ok.rows c.deref.result.now c.write_ended.result wrote.cut wrote.text (rows told) (c.deref.ensures.value ∙ c.in-Ok-dump_lines.ensures) wrote.holds.0 wrote.holds.1;
+          c.in-Ok.rows c.deref.result.now c.write_ended.result wrote.cut wrote.text (rows_told c.in-Ok.rows (table_of g.I.KeyIndex.index (g.S.EawStore.view c.args.store).state.bytes) (rows told)) (c.deref.ensures.value ∙ c.in-Ok-dump_lines.ensures) wrote.holds.0 wrote.holds.1;
     }
 
 pub returns-in-Ok-dump_lines-clause-counts : goal.returns-in-Ok-dump_lines-clause-counts
