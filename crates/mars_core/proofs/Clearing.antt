@@ -390,5 +390,5 @@ going_to tells Opens index seats t to n to' n' old now at count going = record {
 
 -- a look leaves the next key
 pub next_still : (tells : Bool) (Opens : List ℕ → List ℕ → Type 0) (index : below.Index) (mid new : PagesView) (from : ℕ) (found : Option ℕ) → Looks tells Opens false mid new → IsTrue tells
-    → IsNextAbsent index mid.store.state.bytes 0 from found → IsNextAbsent index new.store.state.bytes 0 from found
-next_still tells Opens index mid new from found looks told next = subst (λ (s : State). IsNextAbsent index s.bytes 0 from found) (sym ((looks.still refl).state told)) next
+    → IsNextAbsent index mid.store.state.bytes from found → IsNextAbsent index new.store.state.bytes from found
+next_still tells Opens index mid new from found looks told next = subst (λ (s : State). IsNextAbsent index s.bytes from found) (sym ((looks.still refl).state told)) next

@@ -143,9 +143,9 @@ module _ (tells : Bool) (Opens : Shape → List ℕ → List ℕ → Type 0) (in
         safe = safe_now q.store.is_dead refl;
       }
 
-    free_so : IsTrue tells → (keys : List Key) → AreFreeIn index seats p.store.state.bytes keys → AreFree (state_at index p.store base history (live_in seats) doubt) keys
+    free_so : IsTrue tells → (keys : List ℕ) → AreFreeIn index seats p.store.state.bytes keys → AreFree (state_at index p.store base history (live_in seats) doubt) keys
     free_so told [] free = tt
-    free_so told (key ∷ keys) free = (((free.0.0.0, ap (λ (x : Table). get x key) (sym (was told).mirrors.table) ∙ free.0.0.1), free.0.1), free_so told keys free.1)
+    free_so told (key ∷ keys) free = (((free.0.0.0, ap (λ (x : Table). get x (of_main key)) (sym (was told).mirrors.table) ∙ free.0.0.1), free.0.1), free_so told keys free.1)
 
     step_of : (r : Result ℕ TableFault) → Clears tells (Opens p.store.shape) index seats p q r → IsTrue tells
         → PurgeStep (Keeps index) (state_at index p.store base history (live_in seats) doubt) t (outcome r) (state_at index q.store base history (live_in seats) doubt)
@@ -161,7 +161,7 @@ module _ (tells : Bool) (Opens : Shape → List ℕ → List ℕ → Type 0) (in
             index = index_of index q.store.state.bytes;
             lost = cleared.lost;
             same = λ i. record (state_at index q.store base history (live_in seats) doubt) { is_dead = (clears.faults refl).0 i };
-            left = λ key lt is. cleared.left key lt (is.0, ap (λ (x : Table). get x key) table ∙ is.1);
+            left = λ key lt is. cleared.left key lt (is.0, ap (λ (x : Table). get x (of_main key)) table ∙ is.1);
           },
         )
     step_of (Err Media) clears told = (alive, none, index_of index q.store.state.bytes, λ i. record (state_at index q.store base history (live_in seats) doubt) { is_dead = (clears.dies refl).0 i })
