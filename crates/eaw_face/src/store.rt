@@ -117,7 +117,9 @@ pub trait EawStore {
         ensures does { Does tells (opens (view self.old).shape) (log_read tid) (view self.old) (view self.new) result }
         ensures part { IfOk result (λ part. part ≡ range_at (listed ((view self.old).ranges tid)) pos) }
         ensures bytes { IsTrue tells → IfOk result (λ part. take part.1 buf.new ≡ (part_at (listed ((view self.old).state.logs tid)) pos).1) }
-        ensures costs { Costs tells (calls self.old (log_read tid)) (view self.old).moment (view self.new).moment result }
+        // Reads cost exactly this much whether or not the store tells its data, and change the costs of no command.
+        ensures costs { Costs true (calls self.old (log_read tid)) (view self.old).moment (view self.new).moment result }
+        ensures steady { OnOk result ((command : Command) → calls self.new command ≡ calls self.old command) }
         ensures refused { IfErr result (λ fault. fault ≢ EawFault.Media → self.new ≡ self.old) }
         ensures unread { IfErr result (λ fault. fault ≢ EawFault.Media → buf.new ≡ buf.old) };
 
@@ -134,7 +136,8 @@ pub trait EawStore {
         requires { addr + length buf.old ≤ data_len (view self.old).shape }
         ensures does { Does tells (opens (view self.old).shape) (read addr (length buf.old)) (view self.old) (view self.new) result }
         ensures bytes { IsTrue tells → OnOk result (buf.new ≡ range (view self.old).state.bytes addr (length buf.old)) }
-        ensures costs { Costs tells (calls self.old (read addr (length buf.old))) (view self.old).moment (view self.new).moment result }
+        ensures costs { Costs true (calls self.old (read addr (length buf.old))) (view self.old).moment (view self.new).moment result }
+        ensures steady { OnOk result ((command : Command) → calls self.new command ≡ calls self.old command) }
         ensures refused { IfErr result (λ fault. fault ≢ EawFault.Media → self.new ≡ self.old) }
         ensures unread { IfErr result (λ fault. fault ≢ EawFault.Media → buf.new ≡ buf.old) };
 

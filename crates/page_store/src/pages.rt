@@ -1,11 +1,13 @@
 // Pages over a store of editable atomic writes.
 ghost use Rattle.std.specs.Prelude.{◌≡◌, ◌≢◌, ◌↔◌, ◌+◌, ◌^◌, ◌<◌, ◌≤◌, ℕ, [], true, List, None, Some, is_some, filter, if◌then◌else◌, IsTrue, IsOk, IfOk, IfErr, OnErr, OnOk, IsErrOf, length};
 ghost use Rattle.mars_base.specs.Bytes.{put, range};
+ghost use Rattle.mars_base.specs.Costs.{Costs};
 ghost use Rattle.array_shape.specs.NumberSet.{members};
 ghost use Rattle.array_shape.specs.Places.{data_len};
 ghost use Rattle.array_shape.specs.Logged.{applied};
 ghost use Rattle.eaw_face.specs.Causes.{IsAlive};
-ghost use Rattle.eaw_face.specs.Command.{commit, abort, nested_top, partial_abort};
+ghost use Rattle.eaw_face.specs.Command.{Command, commit, abort, nested_top, partial_abort};
+ghost use Rattle.eaw_face.specs.Command as model;
 ghost use Rattle.eaw_face.specs.State.{listed, group_log, is_one_of, with_each, part_at};
 ghost use Rattle.eaw_face.specs.StoreView.{log_len};
 ghost use Rattle.page_store.specs.Command.{write_as, save, back, top_begin, top_end, end, end_group, atomic_write, read_as, read};
@@ -124,6 +126,8 @@ impl<S: EawStore> Pages<S> {
         ensures does { Does S.tells (S.opens (S.view self.old.store).shape) read
             (pages_of (S.view self.old.store) self.old) (pages_of (S.view self.new.store) self.new) result }
         ensures bytes { IsTrue S.tells → OnOk result (buf.new ≡ range (S.view self.old.store).state.bytes (address page at) (length buf.old)) }
+        ensures costs { Costs true (S.calls self.old.store (model.read (address page at) (length buf.old))) (S.view self.old.store).moment (S.view self.new.store).moment result }
+        ensures steady { OnOk result ((command : Command) → S.calls self.new.store command ≡ S.calls self.old.store command) }
         ensures refused { IfErr result (λ fault. fault ≢ PageFault.Media → self.new ≡ self.old) }
     {
         told(self.store.read(address(page, at), buf))
