@@ -84,14 +84,14 @@ reads_then tells failed calls calls_mid calls_now old mid new first later still 
     }
 
 -- a fault of a read, in a call with answers of another kind
-pub reads_err : (T U : Type 0) (tells : Bool) (calls calls_now : Command → ℕ) (old new : StoreView) (page : ℕ) (said data : List ℕ) (fault : PageFault)
-    → (let r : Result T PageFault = Err fault in HasRead tells (is_failed r) calls calls_now old new (one_reading page said data r))
-    → (let s : Result U PageFault = Err fault in HasRead tells (is_failed s) calls calls_now old new (one_reading page said data s))
-reads_err T U tells calls calls_now old new page said data Media reads = reads
-reads_err T U tells calls calls_now old new page said data Dead reads = reads
-reads_err T U tells calls calls_now old new page said data (Damaged bad) reads = reads
-reads_err T U tells calls calls_now old new page said data (LogFull g h n) reads = reads
-reads_err T U tells calls calls_now old new page said data SavesFull reads = reads
+pub reads_err : (T U : Type 0) (tells : Bool) (calls calls_now : Command → ℕ) (old new : StoreView) (page : ℕ) (said there : List ℕ) (fault : PageFault)
+    → (let r : Result T PageFault = Err fault in HasRead tells (is_failed r) calls calls_now old new (one_reading page said there r))
+    → (let s : Result U PageFault = Err fault in HasRead tells (is_failed s) calls calls_now old new (one_reading page said there s))
+reads_err T U tells calls calls_now old new page said there Media reads = reads
+reads_err T U tells calls calls_now old new page said there Dead reads = reads
+reads_err T U tells calls calls_now old new page said there (Damaged bad) reads = reads
+reads_err T U tells calls calls_now old new page said there (LogFull g h n) reads = reads
+reads_err T U tells calls calls_now old new page said there SavesFull reads = reads
 
 -- So many pages were read without a fault, each as it was to be, and the last of them is `last`. The one to be read next is `page`.
 pub record OnCourse (tells : Bool) (calls calls_now : Command → ℕ) (goes : List Reading → Option ℕ) (steps page last : ℕ) (old new : StoreView) : Type 0 where
@@ -144,18 +144,18 @@ module _ (tells : Bool) (calls calls_mid calls_now : Command → ℕ) (goes : Li
     }
 
     -- the read of the page failed, or its test
-    pub on_err : (U : Type 0) (Good : Type 0) (said data : List ℕ) (fault : PageFault) → steps < most
-        → (let r : Result U PageFault = Err fault in HasRead tells (is_failed r) calls_mid calls_now mid new (one_reading page said data r))
+    pub on_err : (U : Type 0) (Good : Type 0) (said there : List ℕ) (fault : PageFault) → steps < most
+        → (let r : Result U PageFault = Err fault in HasRead tells (is_failed r) calls_mid calls_now mid new (one_reading page said there r))
         → (let r : Result U PageFault = Err fault in TestCause tells Good page mid r) → Walks tells calls calls_now goes most Ends old new (Err fault)
-    on_err U Good said data Media few reads cause = record {
-      read = (page, data) ∷ on.read;
-      reads = reads_then tells true calls calls_mid calls_now old mid new on.read ((page, data) ∷ []) still shape on.reads reads;
+    on_err U Good said there Media few reads cause = record {
+      read = (page, there) ∷ on.read;
+      reads = reads_then tells true calls calls_mid calls_now old mid new on.read ((page, there) ∷ []) still shape on.reads reads;
       way = (on.next, on.way);
       few = omega (arith, on.count);
       ends = tt;
       blames = tt;
     }
-    on_err U Good said data Dead few reads cause = record {
+    on_err U Good said there Dead few reads cause = record {
       read = on.read;
       reads = reads_then tells false calls calls_mid calls_now old mid new on.read [] still shape on.reads reads;
       way = on.way;
@@ -163,7 +163,7 @@ module _ (tells : Bool) (calls calls_mid calls_now : Command → ℕ) (goes : Li
       ends = tt;
       blames = tt;
     }
-    on_err U Good said data (Damaged bad) few reads cause = record {
+    on_err U Good said there (Damaged bad) few reads cause = record {
       read = (page, said) ∷ on.read;
       reads = reads_then tells false calls calls_mid calls_now old mid new on.read ((page, said) ∷ []) still shape on.reads reads;
       way = (on.next, on.way);
@@ -171,8 +171,8 @@ module _ (tells : Bool) (calls calls_mid calls_now : Command → ℕ) (goes : Li
       ends = tt;
       blames = sym cause.1;
     }
-    on_err U Good said data (LogFull g h n) few reads cause = absurd cause
-    on_err U Good said data SavesFull few reads cause = absurd cause
+    on_err U Good said there (LogFull g h n) few reads cause = absurd cause
+    on_err U Good said there SavesFull few reads cause = absurd cause
 
 -- as many pages were read as may be, and the last one leads on
 pub on_out : {T : Type 0} (tells : Bool) (calls calls_now : Command → ℕ) (goes : List Reading → Option ℕ) (steps page last : ℕ) (old new : StoreView) (most : ℕ) (Ends : T → List Reading → Type 0)

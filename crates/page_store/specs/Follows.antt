@@ -29,10 +29,10 @@ pub record HasRead (tells failed : Bool) (calls calls_now : Command → ℕ) (ol
   pub steady : IsFalse failed → (command : Command) → calls_now command ≡ calls command
 
 -- what a read of one page read: what it said, or what the data has there if the medium failed; nothing if the store was dead
-abbrev pub one_reading : {T : Type 0} → ℕ → (said data : List ℕ) → Result T PageFault → List Reading
-one_reading page said data (Err Dead) = []
-one_reading page said data (Err Media) = (page, data) ∷ []
-one_reading page said data _ = (page, said) ∷ []
+abbrev pub one_reading : {T : Type 0} → ℕ → (said there : List ℕ) → Result T PageFault → List Reading
+one_reading page said there (Err Dead) = []
+one_reading page said there (Err Media) = (page, there) ∷ []
+one_reading page said there _ = (page, said) ∷ []
 
 -- a page that is answered as damaged was read last
 abbrev pub BlamesLast : {T : Type 0} → List Reading → Result T PageFault → Type 0
