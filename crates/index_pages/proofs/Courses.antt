@@ -5,7 +5,8 @@ use Rattle.std.proofs.lemmas.Bool.{false≢true}
 use Rattle.mars_base.specs.Costs.{Costs}
 use Rattle.array_shape.specs.declared.shape.Shape.{Shape}
 use Rattle.array_shape.specs.Places.{page_count}
-use Rattle.eaw_face.specs.Command.{Command, read}
+use Rattle.eaw_face.specs.Command.{Command}
+use Rattle.eaw_face.specs.Command as store
 use Rattle.eaw_face.specs.State.{State}
 use Rattle.eaw_face.specs.StoreView.{StoreView}
 use Rattle.record_slots.specs.Places.{page_bytes}
@@ -25,7 +26,7 @@ reads_none tells calls old = record { there = tt; said = λ told. tt; most = ome
 
 -- one page was read, or the store was dead
 pub reads_one : {T : Type 0} (tells : Bool) (calls calls_now : Command → ℕ) (old new : StoreView) (page : ℕ) (said : List ℕ) (r : Result T PageFault)
-    → page < page_count old.shape → ReadCause old r → Costs true (calls (read (address page 0) 512)) old.moment new.moment r → OnOk r ((command : Command) → calls_now command ≡ calls command)
+    → page < page_count old.shape → ReadCause old r → Costs true (calls (store.read (address page 0) 512)) old.moment new.moment r → OnOk r ((command : Command) → calls_now command ≡ calls command)
     → (IsTrue tells → OnOk r (said ≡ page_bytes old.state.bytes page)) → (r ≡ Err Dead → (new.moment ≡ old.moment) × ((command : Command) → calls_now command ≡ calls command))
     → HasRead tells (is_failed r) calls calls_now old new (one_reading page said (page_bytes old.state.bytes page) r)
 reads_one tells calls calls_now old new page said (Ok x) there cause costs steady is same = record {
@@ -67,7 +68,7 @@ cost_append calls (r ∷ rs) first = omega (arith, cost_append calls rs first)
 
 cost_same : (calls other : Command → ℕ) (reads : List Reading) → ((command : Command) → other command ≡ calls command) → reads_cost other reads ≡ reads_cost calls reads
 cost_same calls other [] same = refl
-cost_same calls other (r ∷ rs) same = omega (arith, same (read (address r.0 0) 512), cost_same calls other rs same)
+cost_same calls other (r ∷ rs) same = omega (arith, same (store.read (address r.0 0) 512), cost_same calls other rs same)
 
 -- pages that were read without a fault, and others after them
 pub reads_then : (tells failed : Bool) (calls calls_mid calls_now : Command → ℕ) (old mid new : StoreView) (first later : List Reading) → IsStill tells old mid → mid.shape ≡ old.shape

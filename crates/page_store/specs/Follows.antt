@@ -1,7 +1,8 @@
 -- What a look reads and what it costs. All of it is known of any store, also of one that does not tell its data.
 use Rattle.std.specs.Prelude.{ℕ, ◌≡◌, ◌+◌, ◌≤◌, Bool, IsTrue, IsFalse, List, [], ◌∷◌, length, Option, Some, Result, Err, IfOk}
 use Rattle.array_shape.specs.Places.{page_count}
-use Rattle.eaw_face.specs.Command.{Command, read}
+use Rattle.eaw_face.specs.Command.{Command}
+use Rattle.eaw_face.specs.Command as store
 use Rattle.eaw_face.specs.StoreView.{StoreView}
 use Rattle.page_store.specs.Course.{Reading, Course, IsWay, AreThere, AreSaid}
 use Rattle.page_store.specs.Looks.{is_failed}
@@ -12,7 +13,7 @@ use Rattle.page_store.specs.declared.fault.PageFault.TheVariants.{Media, Dead, D
 -- the calls that these reads make, if each command makes so many
 abbrev pub reads_cost : (Command → ℕ) → List Reading → ℕ
 reads_cost calls [] = 0
-reads_cost calls (r ∷ rs) = calls (read (address r.0 0) 512) + reads_cost calls rs
+reads_cost calls (r ∷ rs) = calls (store.read (address r.0 0) 512) + reads_cost calls rs
 
 -- the page that was read last
 abbrev pub IsLast : List Reading → ℕ → Type 0
