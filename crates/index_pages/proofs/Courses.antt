@@ -25,34 +25,34 @@ pub reads_none : (tells : Bool) (calls : Command → ℕ) (old : StoreView) → 
 reads_none tells calls old = record { there = tt; said = λ told. tt; most = omega arith; exact = λ well. omega arith; steady = λ well command. refl }
 
 -- one page was read, or the store was dead
-pub reads_one : {T : Type 0} (tells : Bool) (calls calls_now : Command → ℕ) (old new : StoreView) (page : ℕ) (said : List ℕ) (r : Result T PageFault)
-    → page < page_count old.shape → ReadCause old r → Costs true (calls (store.read (address page 0) 512)) old.moment new.moment r → OnOk r ((command : Command) → calls_now command ≡ calls command)
+pub reads_one : {T : Type 0} (tells : Bool) (calls calls_now : Command → ℕ) (old new : StoreView) (page : ℕ) (said : List ℕ) (r : Result T PageFault) (n : ℕ) → n ≡ 512
+    → page < page_count old.shape → ReadCause old r → Costs true (calls (store.read (address page 0) n)) old.moment new.moment r → OnOk r ((command : Command) → calls_now command ≡ calls command)
     → (IsTrue tells → OnOk r (said ≡ page_bytes old.state.bytes page)) → (r ≡ Err Dead → (new.moment ≡ old.moment) × ((command : Command) → calls_now command ≡ calls command))
     → HasRead tells (is_failed r) calls calls_now old new (one_reading page said (page_bytes old.state.bytes page) r)
-reads_one tells calls calls_now old new page said (Ok x) there cause costs steady is same = record {
+reads_one tells calls calls_now old new page said (Ok x) n is_n there cause costs steady is same = record {
   there = (there, tt);
   said = λ told. (is told, tt);
-  most = omega (arith, costs.most);
-  exact = λ well. omega (arith, costs.done refl);
+  most = omega (arith, costs.most, ap (λ (k : ℕ). calls (store.read (address page 0) k)) is_n);
+  exact = λ well. omega (arith, costs.done refl, ap (λ (k : ℕ). calls (store.read (address page 0) k)) is_n);
   steady = λ well. steady;
 }
-reads_one tells calls calls_now old new page said (Err Media) there cause costs steady is same = record {
+reads_one tells calls calls_now old new page said (Err Media) n is_n there cause costs steady is same = record {
   there = (there, tt);
   said = λ told. (refl, tt);
-  most = omega (arith, costs.most);
+  most = omega (arith, costs.most, ap (λ (k : ℕ). calls (store.read (address page 0) k)) is_n);
   exact = λ well. absurd (false≢true (sym well));
   steady = λ well. absurd (false≢true (sym well));
 }
-reads_one tells calls calls_now old new page said (Err Dead) there cause costs steady is same = record {
+reads_one tells calls calls_now old new page said (Err Dead) n is_n there cause costs steady is same = record {
   there = tt;
   said = λ told. tt;
   most = omega (arith, (same refl).0);
   exact = λ well. omega (arith, (same refl).0);
   steady = λ well. (same refl).1;
 }
-reads_one tells calls calls_now old new page said (Err (LogFull g h n)) there cause costs steady is same = absurd cause
-reads_one tells calls calls_now old new page said (Err SavesFull) there cause costs steady is same = absurd cause
-reads_one tells calls calls_now old new page said (Err (Damaged bad)) there cause costs steady is same = absurd cause
+reads_one tells calls calls_now old new page said (Err (LogFull g h k)) n is_n there cause costs steady is same = absurd cause
+reads_one tells calls calls_now old new page said (Err SavesFull) n is_n there cause costs steady is same = absurd cause
+reads_one tells calls calls_now old new page said (Err (Damaged bad)) n is_n there cause costs steady is same = absurd cause
 
 there_append : (count : ℕ) (later first : List Reading) → AreThere count later → AreThere count first → AreThere count (later ++ first)
 there_append count [] first are are' = are'
@@ -63,7 +63,7 @@ said_append bytes [] first are are' = are'
 said_append bytes (r ∷ rs) first are are' = (are.0, said_append bytes rs first are.1 are')
 
 cost_append : (calls : Command → ℕ) (later first : List Reading) → reads_cost calls (later ++ first) ≡ reads_cost calls later + reads_cost calls first
-cost_append calls [] first = refl
+cost_append calls [] first = omega arith
 cost_append calls (r ∷ rs) first = omega (arith, cost_append calls rs first)
 
 cost_same : (calls other : Command → ℕ) (reads : List Reading) → ((command : Command) → other command ≡ calls command) → reads_cost other reads ≡ reads_cost calls reads
