@@ -103,13 +103,13 @@ pub record OnCourse (tells : Bool) (calls calls_now : Command → ℕ) (goes : L
   pub next : goes read ≡ Some page
   pub last_is : 0 < steps → IsLast read last
 
-pub on_first : (tells : Bool) (calls : Command → ℕ) (goes : List Reading → Option ℕ) (page last : ℕ) (old : StoreView) → goes [] ≡ Some page → OnCourse tells calls calls goes 0 page last old old
+abbrev pub on_first : (tells : Bool) (calls : Command → ℕ) (goes : List Reading → Option ℕ) (page last : ℕ) (old : StoreView) → goes [] ≡ Some page → OnCourse tells calls calls goes 0 page last old old
 on_first tells calls goes page last old start = record { read = []; reads = reads_none tells calls old; way = tt; count = refl; next = start; last_is = λ some. absurd (omega arith) }
 
 module _ (tells : Bool) (calls calls_mid calls_now : Command → ℕ) (goes : List Reading → Option ℕ) (steps page last : ℕ) (old mid new : StoreView) (still : IsStill tells old mid) (shape : mid.shape ≡ old.shape)
     (on : OnCourse tells calls calls_mid goes steps page last old mid) where
   -- one page more
-  pub on_step : (said : List ℕ) (child : ℕ) → HasRead tells false calls_mid calls_now mid new ((page, said) ∷ []) → ((read : List Reading) → goes ((page, said) ∷ read) ≡ Some child)
+  abbrev pub on_step : (said : List ℕ) (child : ℕ) → HasRead tells false calls_mid calls_now mid new ((page, said) ∷ []) → ((read : List Reading) → goes ((page, said) ∷ read) ≡ Some child)
       → OnCourse tells calls calls_now goes (steps + 1) child page old new
   on_step said child reads leads = record {
     read = (page, said) ∷ on.read;

@@ -10,6 +10,7 @@ use Rattle.btree_pages.specs.Leaf.{Reaches}
 use Rattle.btree_pages.specs.declared.look.Reached.{Reached}
 use Rattle.btree_pages.proofs.Nexting.{no_error, other_error, look_before, reached_some, reached_end, reached_behind, behind_begins, ok_at}
 use Rattle.index_pages.proofs.Faulting.{dead_look}
+use Rattle.std.proofs.Common.{Some}
 use Rattle.index_pages.proofs.Courses.{walks_ok, walks_err}
 use Rattle.btree_pages.specs.Downward.{down, down_twice, pairs_at, Gathered}
 use Rattle.btree_pages.proofs.Turning.{first_way, some_answer, end_answer, again_err, again_ok, begun_items}

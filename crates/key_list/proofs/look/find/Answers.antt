@@ -1,12 +1,12 @@
 use Rattle.std.proofs.Common.{◌^◌, ◌≡◌, Some, sym, ◌∙◌, arith}
-use Rattle.page_store.specs.Pairs.{next}
+use Rattle.page_store.specs.Pairs.{Pair, next}
 use Rattle.index_pages.specs.Page.{pairs_said}
 use Rattle.index_pages.proofs.Sizes.{slots_are}
 use Rattle.key_list.specs.Chain.{pairs_of_chain}
 use Rattle.key_list.specs.ChainFacts.{sound_chain_rises}
 use Rattle.key_list.specs.Resting.{sound_table}
 use Rattle.key_list.proofs.Walking.{found_next, found_other, found_none, given_next}
-use Rattle.std.proofs.Common.{ap}
+use Rattle.std.proofs.Common.{ap, Option, None}
 use Rattle.page_store.specs.Index.{index_pages_of}
 use Rattle.index_pages.proofs.Courses.{walks_ok, walks_bad, walks_err}
 use Rattle.key_list.specs.Along.{along, answered, led_to, Arrives}
