@@ -7,6 +7,7 @@ pub mod Groups
 pub mod Invariant
 pub mod Attached
 pub mod Sought
+pub mod Seeks
 pub mod Faults
 pub mod Scanned
 pub mod Form
