@@ -127,5 +127,5 @@ damaged_not_dead SavesFull page is dead = absurd (cc)
 damaged_not_dead (Damaged bad) page is dead = absurd (cc)
 damaged_not_dead (LogFull g h n) page is dead = absurd (cc)
 
-pub damaged_well : {T : Type 0} (fault : PageFault) (page : ℕ) → fault ≡ Damaged page → (let r : Result T PageFault = Err fault in is_failed r) ≡ false
-damaged_well {T} fault page is = ap (λ (f : PageFault). (let r : Result T PageFault = Err f in is_failed r)) is
+pub damaged_well : (T : Type 0) (fault : PageFault) (page : ℕ) → fault ≡ Damaged page → (let r : Result T PageFault = Err fault in is_failed r) ≡ false
+damaged_well T fault page is = ap (λ (f : PageFault). (let r : Result T PageFault = Err f in is_failed r)) is

@@ -7,8 +7,8 @@ pub mod Groups
 pub mod Invariant
 pub mod Attached
 pub mod Sought
-pub mod Seeks
 pub mod Faults
+pub mod Seeks
 pub mod Scanned
 pub mod Form
 pub mod Names

@@ -1,5 +1,5 @@
 -- What a look-up of a key and of its slot reads, over any store, and what it costs.
-use Rattle.std.specs.Prelude.{ℕ, ◌≡◌, ◌+◌, ◌*◌, ◌/◌, ◌<◌, ◌≤◌, Bool, IsTrue, IsFalse, List, length, Option, Some, None, IfSome, IfOk, Result, Err}
+use Rattle.std.specs.Prelude.{ℕ, ◌≡◌, ◌+◌, ◌*◌, ◌/◌, ◌<◌, ◌≤◌, Bool, IsTrue, IsFalse, List, length, Option, Some, None, IfSome, IfOk, Result, Ok, Err}
 use Rattle.std.specs.Option.{option_map}
 use Rattle.array_shape.specs.Places.{page_count}
 use Rattle.array_shape.specs.declared.shape.Shape.{Shape}
@@ -13,6 +13,9 @@ use Rattle.page_store.specs.Looks.{is_failed}
 use Rattle.page_store.specs.Reads.{seen_cost}
 use Rattle.page_store.specs.declared.fault.PageFault.{PageFault}
 use Rattle.page_store.specs.declared.fault.PageFault.TheVariants.{Damaged}
+use Rattle.record_table.specs.Faults.{as_table}
+use Rattle.record_table.specs.Sought.{value_at}
+use Rattle.record_table.specs.declared.fault.TableFault.{TableFault}
 use Rattle.record_table.specs.declared.slots.Place.{Place}
 
 -- the calls of a read of a slot as number t, if one was read
@@ -44,3 +47,14 @@ pub record Seeks (course : Course (Option ℕ)) (t : ℕ) (calls : Command → �
   pub exact : IsFalse (is_failed result) → new.moment ≡ old.moment + (reads_cost calls read + slot_cost calls t old slot)
   pub answers : IfOk result (λ place. (course.answer read ≡ Some (option_map (λ place. place.slot) place)) × (slot ≡ option_map (λ place. place.slot) place))
   pub blames : Blames old.shape read slot result
+
+-- an answer of the look-up, in terms of records
+abbrev pub as_got : Result (Option Place) PageFault → Result (Option (List ℕ)) TableFault
+as_got (Ok place) = Ok (value_at place)
+as_got (Err fault) = Err (as_table fault)
+
+-- A read of a record makes such a look-up, does nothing else, and tells its answer.
+pub record Gets (course : Course (Option ℕ)) (t : ℕ) (calls : Command → ℕ) (old new : StoreView) (result : Result (Option (List ℕ)) TableFault) : Type 0 where
+  pub sought : Result (Option Place) PageFault
+  pub seeks : Seeks course t calls old new sought
+  pub told : result ≡ as_got sought

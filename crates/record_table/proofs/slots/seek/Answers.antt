@@ -111,7 +111,7 @@ returns-in-Err-heard-clause-looks g c =
     let E = g.S.EawStore.opens in
     let V = g.S.EawStore.view in
     let v0 = pages_of (V c.args.pages.now.store) c.args.pages.now in
-    subst (λ (b : Bool). LooksAs T (E v0.store.shape) c.args.tid b v0 (pages_of (V c.read_as.new.pages.store) c.read_as.new.pages)) (sym (damaged_well c.in-Err-heard.fault c.page_of-page.result c.in-Err-heard.ensures.none.0))
+    subst (λ (b : Bool). LooksAs T (E v0.store.shape) c.args.tid b v0 (pages_of (V c.read_as.new.pages.store) c.read_as.new.pages)) (sym (damaged_well (Option Place) c.in-Err-heard.fault c.page_of-page.result c.in-Err-heard.ensures.none.0))
     (looks_next T E c.args.tid false v0 (pages_of (V c.find.new.pages.store) c.find.new.pages) (pages_of (V c.read_as.new.pages.store) c.read_as.new.pages) (looks_as T (E v0.store.shape) c.args.tid false v0 (pages_of (V c.find.new.pages.store) c.find.new.pages) c.in-Ok-Some.ensures.looks) c.in-Ok.ensures.looks)
 
 pub returns-in-Ok-None-clause-seeks : goal.returns-in-Ok-None-clause-seeks
