@@ -1,5 +1,5 @@
 -- What a command costs does not hang on the medium.
-use Rattle.std.proofs.Common.{◌≡◌, ℕ, Bool, List, refl}
+use Rattle.std.proofs.Common.{◌≡◌, Bool, List, refl}
 use Rattle.pcm_media.specs.View.{View}
 use Rattle.array_shape.specs.declared.shape.Shape.{Shape}
 use Rattle.late_data.specs.declared.commits.LateData.{LateData}
