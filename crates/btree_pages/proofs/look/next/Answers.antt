@@ -17,8 +17,15 @@ use Rattle.btree_pages.proofs.Turning.{first_way, some_answer, end_answer, again
 use Rattle.btree_pages.proofs.look.next.Goals as goal
 
 pub returns-in-Err : goal.returns-in-Err
-returns-in-Err g c = record { looks = c.in-Err.ensures.looks; cause = c.in-Err.ensures.cause; follows = walks_err g.S.EawStore.tells (g.S.EawStore.calls c.args.pages.now.store) (g.S.EawStore.calls c.reach.new.pages.store) (down c.args.root.page c.args.from) (down_twice c.args.root.page c.args.from) 8 16
-      (Gathered c.args.from) (λ some read. pairs_at c.args.from read ≡ Some some.items) (g.S.EawStore.view c.args.pages.now.store) (g.S.EawStore.view c.reach.new.pages.store) (first_way c.args.root.page c.args.from) (omega arith) c.in-Err.fault c.in-Err.ensures.walks; next = λ told. tt; inside = tt; dead = λ told. c.in-Err.ensures.dead (other_error _ Reached _ _ told) }
+returns-in-Err g c = record {
+  looks = c.in-Err.ensures.looks;
+  cause = c.in-Err.ensures.cause;
+  follows = walks_err g.S.EawStore.tells (g.S.EawStore.calls c.args.pages.now.store) (g.S.EawStore.calls c.reach.new.pages.store) (down c.args.root.page c.args.from) (down_twice c.args.root.page c.args.from) 8 16
+      (Gathered c.args.from) (λ some read. pairs_at c.args.from read ≡ Some some.items) (g.S.EawStore.view c.args.pages.now.store) (g.S.EawStore.view c.reach.new.pages.store) (first_way c.args.root.page c.args.from) (omega arith) c.in-Err.fault c.in-Err.ensures.walks;
+  next = λ told. tt;
+  inside = tt;
+  dead = λ told. c.in-Err.ensures.dead (other_error _ Reached _ _ told);
+}
 
 pub returns-then-not-is_empty : goal.returns-then-not-is_empty
 returns-then-not-is_empty g c = record {
@@ -66,5 +73,5 @@ returns-in-Ok-reach-clause-inside g c =
 pub returns-in-Ok-reach-clause-follows : goal.returns-in-Ok-reach-clause-follows
 returns-in-Ok-reach-clause-follows g c =
     again_ok c.args.root.page c.args.from c.in-Some.low c.in-Ok.at (eqb-true _ 0 (sym c.if-not-is_empty.ensures)) c.in-Some.is (λ some. some.items)
-      g.S.EawStore.tells (g.S.EawStore.calls c.args.pages.now.store) (g.S.EawStore.calls c.reach.new.pages.store) (g.S.EawStore.calls c.reach-2.new.pages.store)
-      (g.S.EawStore.view c.args.pages.now.store) (g.S.EawStore.view c.reach.new.pages.store) (g.S.EawStore.view c.reach-2.new.pages.store) (c.in-Ok.ensures.looks.still refl) c.in-Ok.ensures.looks.shape c.in-Ok.ensures.walks c.in-Ok-reach.behind c.in-Ok-reach.ensures.walks c.begun.result (begun_items c.begun.result c.in-Ok-reach.behind.some (λ some. some.items) c.begun.ensures.some) c.begun.ensures.none
+    g.S.EawStore.tells (g.S.EawStore.calls c.args.pages.now.store) (g.S.EawStore.calls c.reach.new.pages.store) (g.S.EawStore.calls c.reach-2.new.pages.store)
+    (g.S.EawStore.view c.args.pages.now.store) (g.S.EawStore.view c.reach.new.pages.store) (g.S.EawStore.view c.reach-2.new.pages.store) (c.in-Ok.ensures.looks.still refl) c.in-Ok.ensures.looks.shape c.in-Ok.ensures.walks c.in-Ok-reach.behind c.in-Ok-reach.ensures.walks c.begun.result (begun_items c.begun.result c.in-Ok-reach.behind.some (λ some. some.items) c.begun.ensures.some) c.begun.ensures.none

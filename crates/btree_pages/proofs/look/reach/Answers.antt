@@ -27,8 +27,16 @@ returns-in_default-clause-cause g c =
     )
 
 pub returns-in-Err : goal.returns-in-Err
-returns-in-Err g c = record { looks = c.in-Err.ensures.looks; cause = c.in-Err.ensures.cause; walks = walks_err g.S.EawStore.tells (g.S.EawStore.calls c.args.pages.now.store) (g.S.EawStore.calls c.descend.new.pages.store) (down c.args.root.page c.args.from) (down c.args.root.page c.args.from) 8 8
-    (Descended c.args.from c.descend.new.bytes) (Gathered c.args.from) (g.S.EawStore.view c.args.pages.now.store) (g.S.EawStore.view c.descend.new.pages.store) (λ read way. way) (omega arith) c.in-Err.fault c.in-Err.ensures.walks; reaches = λ told. tt; inside = tt; above = tt; dead = λ told. c.in-Err.ensures.dead (other_error Reached Leaf _ _ told) }
+returns-in-Err g c = record {
+  looks = c.in-Err.ensures.looks;
+  cause = c.in-Err.ensures.cause;
+  walks = walks_err g.S.EawStore.tells (g.S.EawStore.calls c.args.pages.now.store) (g.S.EawStore.calls c.descend.new.pages.store) (down c.args.root.page c.args.from) (down c.args.root.page c.args.from) 8 8
+      (Descended c.args.from c.descend.new.bytes) (Gathered c.args.from) (g.S.EawStore.view c.args.pages.now.store) (g.S.EawStore.view c.descend.new.pages.store) (λ read way. way) (omega arith) c.in-Err.fault c.in-Err.ensures.walks;
+  reaches = λ told. tt;
+  inside = tt;
+  above = tt;
+  dead = λ told. c.in-Err.ensures.dead (other_error Reached Leaf _ _ told);
+}
 
 pub returns-in_default-clause-looks : goal.returns-in_default-clause-looks
 returns-in_default-clause-looks g c = c.in-Ok.ensures.looks

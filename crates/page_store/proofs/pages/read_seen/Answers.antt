@@ -38,8 +38,8 @@ loop-pos-preserved g c =
           let there : c.loop-pos.pos < length (listed (first.ranges c.args.tid)) = omega (arith, c.loop-pos-test.true, c.log_len-pos-end.ensures ∙ ap (λ (rs : ℕ → Option (List (ℕ × ℕ))). length (listed (rs c.args.tid))) c.in-Ok.ensures.does.done.ranges) in
           let calls = g.S.EawStore.calls c.args.store.now in
           let lay = ap (λ (rs : List (ℕ × ℕ)). lay_cost (g.S.EawStore.calls c.loop-pos.store) c.args.tid (c.args.addr, length c.loop-pos.buf) (range_at rs c.loop-pos.pos)) ranges
-              ∙ lay_same calls c.args.tid (c.args.addr, length c.loop-pos.buf) (g.S.EawStore.calls c.loop-pos.store) (range_at (listed (first.ranges c.args.tid)) c.loop-pos.pos) c.loop-pos.invariant.steady
-              ∙ ap (λ (n : ℕ). lay_cost calls c.args.tid (c.args.addr, n) (range_at (listed (first.ranges c.args.tid)) c.loop-pos.pos)) c.loop-pos.invariant.long in
+          ∙ lay_same calls c.args.tid (c.args.addr, length c.loop-pos.buf) (g.S.EawStore.calls c.loop-pos.store) (range_at (listed (first.ranges c.args.tid)) c.loop-pos.pos) c.loop-pos.invariant.steady
+          ∙ ap (λ (n : ℕ). lay_cost calls c.args.tid (c.args.addr, n) (range_at (listed (first.ranges c.args.tid)) c.loop-pos.pos)) c.loop-pos.invariant.long in
           let more = laid_more calls c.args.tid (c.args.addr, length c.args.buf.now) (listed (first.ranges c.args.tid)) c.loop-pos.pos there in
           omega (arith, c.loop-pos.invariant.cost, c.in-Ok-lay_part.ensures.costs.done refl, lay, more);
       steady = λ command. c.in-Ok-lay_part.ensures.steady command ∙ c.loop-pos.invariant.steady command;
@@ -100,8 +100,8 @@ returns-in-Err-lay_part-clause-costs g c =
     let ranges = ap (λ (rs : ℕ → Option (List (ℕ × ℕ))). listed (rs c.args.tid)) c.loop-pos.invariant.reads.done.ranges in
     let there : c.loop-pos.pos < length (listed (first.ranges c.args.tid)) = omega (arith, c.loop-pos-test.true, c.log_len-pos-end.ensures ∙ ap (λ (rs : ℕ → Option (List (ℕ × ℕ))). length (listed (rs c.args.tid))) c.in-Ok.ensures.does.done.ranges) in
     let lay = ap (λ (rs : List (ℕ × ℕ)). lay_cost (g.S.EawStore.calls c.loop-pos.store) c.args.tid (c.args.addr, length c.loop-pos.buf) (range_at rs c.loop-pos.pos)) ranges
-        ∙ lay_same calls c.args.tid (c.args.addr, length c.loop-pos.buf) (g.S.EawStore.calls c.loop-pos.store) (range_at (listed (first.ranges c.args.tid)) c.loop-pos.pos) c.loop-pos.invariant.steady
-        ∙ ap (λ (n : ℕ). lay_cost calls c.args.tid (c.args.addr, n) (range_at (listed (first.ranges c.args.tid)) c.loop-pos.pos)) c.loop-pos.invariant.long in
+    ∙ lay_same calls c.args.tid (c.args.addr, length c.loop-pos.buf) (g.S.EawStore.calls c.loop-pos.store) (range_at (listed (first.ranges c.args.tid)) c.loop-pos.pos) c.loop-pos.invariant.steady
+    ∙ ap (λ (n : ℕ). lay_cost calls c.args.tid (c.args.addr, n) (range_at (listed (first.ranges c.args.tid)) c.loop-pos.pos)) c.loop-pos.invariant.long in
     let more = laid_more calls c.args.tid (c.args.addr, length c.args.buf.now) (listed (first.ranges c.args.tid)) c.loop-pos.pos there in
     let most = laid_most calls c.args.tid (c.args.addr, length c.args.buf.now) (listed (first.ranges c.args.tid)) (c.loop-pos.pos + 1) in
     record { done = λ exact. tt; most = omega (arith, c.loop-pos.invariant.cost, c.in-Err-lay_part.ensures.costs.most, lay, more, most) }
