@@ -1,5 +1,5 @@
 -- What a pass that reads the history guarantees, given what its steps guarantee.
-use Rattle.std.proofs.Common.{◌≡◌, ℕ, ◌+◌, Bool, List, [], ◌∷◌, length, get_or, Option, Some, None, Result, Ok, Err, unwrap_or, refl, sym, ap, ◌∙◌, subst, map}
+use Rattle.std.proofs.Common.{◌≡◌, ℕ, ◌+◌, Bool, List, [], ◌∷◌, length, get_or, drop, arith, Option, Some, None, Result, Ok, Err, unwrap_or, refl, sym, ap, ◌∙◌, subst, map}
 use Rattle.std.specs.Prelude.{IsTrue, IfOk, IfErr, is_some}
 use Rattle.history.specs.Locks.{touched}
 use Rattle.caller_steps.specs.Own.{live_by}
@@ -9,11 +9,13 @@ use Rattle.stripe_words.specs.declared.hold.Hold.TheVariants.{Free}
 use Rattle.mars_manager.specs.declared.mars.Again.{Again}
 use Rattle.mars_manager.specs.Locks.{IsCovered, touched_by}
 use Rattle.mars_manager.proofs.Striping.{number_is, long_is, pass_is}
-use Rattle.history.specs.Legal.{IsLegal}
+use Rattle.history.specs.Legal.{IsLegal, AreNumberedFrom}
+use Rattle.history.specs.declared.transaction.Done.{Done}
 use Rattle.history.specs.Table.{Granted}
 use Rattle.caller_steps.specs.Core.{CoreView}
 use Rattle.caller_steps.specs.Prefix.{Grows}
-use Rattle.caller_steps.proofs.Running.{turn_told, turn_grows, turn_commits}
+use Rattle.caller_steps.proofs.Running.{turn_run, turn_told, turn_grows, turn_commits}
+use Rattle.caller_steps.proofs.Numbering.{turns_number, behind_numbered}
 use Rattle.atomic_table.specs.Table.{rest}
 use Rattle.mars_manager.specs.declared.view.Known.{Known}
 use Rattle.mars_manager.specs.declared.setup.Setup.{Setup}
@@ -64,6 +66,12 @@ module _ {C : Type 0} (f : Face C) (m0 m1 m2 m3 : SeatOf C) (k : Known C) (core 
 
     pub seen_is : (first_of m4.0.passes).seen ≡ (f.show core).state.history
     seen_is = ap (λ (j : Known C). j.seen) read_known
+
+    pub seen_numbered : AreNumberedFrom 1 (f.show core).state.history
+    seen_numbered =
+        turns_number f.tells (f.show read_record.setup.first).limits (f.show read_record.setup.first).state (f.show core).state read_record.turns
+        (turn_run f.tells (f.show read_record.setup.first).limits k.number k.past k.seen (f.show read_record.setup.first).state (f.show core).state read_record.turns read_fit.last)
+        (subst (λ (log : List Done). AreNumberedFrom 1 log) (sym read_record.ready.history) tt)
 
 -- what a pass keeps that has read the history, or has tried to
 pub record Kept {C : Type 0} (was now : Known C) : Type 0 where
@@ -119,3 +127,8 @@ idle_kept {C} n hs live m new i one k =
       settled = λ t e. i.settled t (ap (λ (xs : List Hold). get_or xs t Free) (sym k.holds) ∙ e);
       live_is = ap (λ (o : Option Granted). is_some o) same ∙ i.live_is;
     }
+
+-- what is copied goes on from there
+pub numbered_copy : {B : Type 0} (r : Result (List Done) B) (from : ℕ) (log : List Done) → AreNumberedFrom 1 log → IfOk r (λ copy. copy ≡ drop from log) → IfOk r (λ copy. AreNumberedFrom (from + 1) copy)
+numbered_copy (Ok copy) from log h e = subst (λ (l : List Done). AreNumberedFrom (from + 1) l) (sym e) (subst (λ n. AreNumberedFrom n (drop from log)) (omega arith) (behind_numbered 1 from log h))
+numbered_copy (Err fault) from log h e = tt

@@ -1,10 +1,10 @@
 // A pass reads the history of the shared core.
 ghost use Rattle.std.specs.Prelude.{◌≡◌, ◌≤◌, ◌+◌, IsTrue, drop, length, IfOk, IfErr};
+ghost use Rattle.history.specs.Legal.{AreNumberedFrom};
 ghost use Rattle.caller_steps.specs.Prefix.{Grows};
-ghost use Rattle.mars_manager.specs.Pass.{told_of, finds};
+ghost use Rattle.mars_manager.specs.Pass.{told_of, finds, IsOther};
 ghost use Rattle.mars_manager.specs.Sharing.{IsLegalIn, mine_of, Reads};
 ghost use Rattle.mars_manager.specs.Seat.{first_of, seat_of, IsSeat};
-ghost use Rattle.mars_manager.specs.Pass.{IsOther};
 
 use crate::mars::{Again, CORE, Mars, TURN};
 use crate::pass::Pass;
@@ -32,6 +32,7 @@ impl<C: Core + Drop> Mars<C> {
         ensures one { IfOk result (λ _. seat.new.me ≡ seat_of (first_of seat.new.me.0.passes)) }
         ensures reads { IfOk result (λ _. Reads C.tells C.view (first_of seat.old.me.0.passes) (first_of seat.new.me.0.passes)) }
         ensures copy { IfOk result (λ copied. IfOk copied (λ history. history ≡ drop from (first_of seat.new.me.0.passes).seen)) }
+        ensures numbered { IfOk result (λ copied. IfOk copied (λ history. AreNumberedFrom (from + 1) history)) }
         ensures again { IfErr result (λ a. IsOther (first_of seat.old.me.0.passes) a.holder × (seat.new.me ≡ seat_of (finds (a.holder + 1) (first_of seat.old.me.0.passes)))) }
     {
         let shared = &self.table.shared;
@@ -50,7 +51,7 @@ impl<C: Core + Drop> Mars<C> {
     }
 
     /// Tries once for the turn and, if it gets it, copies the transactions that the history has behind the first `from`, in the order of their
-    /// commits. The pass has then seen the whole history, also where there was no memory for the copy. It makes no step of the core.
+    /// commits, as a feed of readers takes them. The pass has then seen the whole history, also where there was no memory for the copy. It makes no step of the core.
     pub fn since(
         &self,
         alloc: Global,
@@ -61,6 +62,7 @@ impl<C: Core + Drop> Mars<C> {
         requires from { from ≤ length pass.old.known.seen }
         ensures table { pass.new.table ≡ pass.old.table }
         ensures copy { IfOk result (λ copied. IfOk copied (λ history. history ≡ drop from pass.new.known.seen)) }
+        ensures numbered { IfOk result (λ copied. IfOk copied (λ history. AreNumberedFrom (from + 1) history)) }
         ensures reads { IfOk result (λ _. Reads C.tells C.view pass.old.known pass.new.known) }
         ensures seen { Grows pass.old.known.seen pass.new.known.seen }
         ensures legal { IfOk result (λ _. IsTrue C.tells → IsLegalIn C.view pass.new.known) }

@@ -1,5 +1,6 @@
 use Rattle.std.proofs.Common.{◌≡◌, ℕ, ◌+◌, ◌-◌, List, [], ◌∷◌, length, Option, Some, None, sym, ap, ◌∙◌, subst, arith, map, drop}
 use Rattle.std.specs.Prelude.{IfOk}
+use Rattle.history.specs.Legal.{AreNumberedFrom}
 use Rattle.history.specs.declared.transaction.Done.{Done}
 use Rattle.atomic_table.specs.Table.{rest}
 use Rattle.mars_manager.specs.declared.view.Known.{Known}
@@ -10,7 +11,7 @@ use Rattle.mars_manager.specs.Rule.{face, AreAbove}
 use Rattle.mars_manager.proofs.Seats.{times_first}
 use Rattle.mars_manager.proofs.Turns.{takes_turn_as, gives_read_as}
 use Rattle.mars_manager.proofs.Calls.{core_is}
-use Rattle.mars_manager.proofs.Looking.{home_again, one_seat_read, reads_at, seen_is}
+use Rattle.mars_manager.proofs.Looking.{home_again, one_seat_read, reads_at, seen_is, seen_numbered, numbered_copy}
 use Rattle.mars_manager.proofs.mars.Mars.read.Goals as goal
 
 pub compare_exchange-found-requires : goal.compare_exchange-found-requires
@@ -101,3 +102,11 @@ returns-clause-copy g c =
     let took = c.compare_exchange-found.ensures.2.0 c.if-found-ne0.false in
     let seen = seen_is f _ _ _ _ i.known c.unwrap-core.result _ i.is took c.exchange.ensures.2 c.unwrap-core.ensures c.exchange.ensures.3 c.exchange-2.ensures.3 _ c.store.ensures.2 in
     subst (λ (log : List Done). IfOk c.since-copied.result (λ history. history ≡ drop c.args.from log)) (c.history.ensures ∙ sym seen) c.since-copied.ensures
+
+pub returns-clause-numbered : goal.returns-clause-numbered
+returns-clause-numbered g c =
+    let f = face g.C.Core.tells g.C.Core.view in
+    let i = c.requires.seat in
+    let took = c.compare_exchange-found.ensures.2.0 c.if-found-ne0.false in
+    let log = seen_numbered f _ _ _ _ i.known c.unwrap-core.result _ i.is took c.exchange.ensures.2 c.unwrap-core.ensures c.exchange.ensures.3 c.exchange-2.ensures.3 _ c.store.ensures.2 in
+    numbered_copy c.since-copied.result c.args.from c.history.result.now (subst (λ (log : List Done). AreNumberedFrom 1 log) (sym c.history.ensures) log) c.since-copied.ensures
