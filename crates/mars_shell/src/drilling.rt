@@ -6,11 +6,11 @@ ghost use Rattle.mars_core.specs.Held.{core_of};
 ghost use Rattle.script_run.specs.Answers.{HasStopCause};
 ghost use Rattle.mars_shell.specs.Made.{SummedUp, EndsEarly};
 
-use caller_steps::Core as Steps;
 use crate::core_work::CoreWork;
 use crate::ending::write_ended;
 use crate::summary::summary_text;
 use crate::turns::make_turns;
+use caller_steps::Core as Steps;
 use command_words::DrillNumbers;
 use drill_gen::script;
 use eaw_face::EawStore;
