@@ -21,14 +21,14 @@ use Rattle.mars_manager.specs.declared.setup.Setup.{Setup}
 use Rattle.mars_manager.specs.Pass.{Fits, AllFit, live_of, times, finds, hears}
 use Rattle.mars_manager.specs.Sharing.{Since}
 use Rattle.mars_manager.specs.Seat.{TableOf, SeatOf, shared_view, opener}
-use Rattle.mars_manager.specs.Rule.{Face, AllHave, AreLocked, HasAlone, count, IsFree, IsHeld, IsKept, IsFresh, IsOpening, Rule, takes_turn, shown, tells_length, gives_turn, looks}
+use Rattle.mars_manager.specs.Rule.{Face, AllHave, HasAlone, count, IsFree, IsHeld, IsKept, IsFresh, IsOpening, Rule, takes_turn, shown, tells_length, gives_turn, looks}
 use Rattle.mars_manager.specs.Locks.{IsCovered, hold_of}
 use Rattle.mars_manager.proofs.Locked.{locked_same, locked_step, locked_granted}
 use Rattle.stripe_words.specs.declared.hold.Hold.{Hold}
-use Rattle.stripe_words.specs.declared.hold.Hold.TheVariants.{Free, Trying, Exclusive}
+use Rattle.stripe_words.specs.declared.hold.Hold.TheVariants.{Free, Exclusive}
 use Rattle.stripe_words.specs.declared.hold.Hold.TheVariants as hold
-use Rattle.stripe_words.specs.Words.{granted, locked, Stands}
-use Rattle.history.specs.Locks.{touches, touched, is_touch}
+use Rattle.stripe_words.specs.Words.{granted, locked}
+use Rattle.history.specs.Locks.{touches, touched}
 use Rattle.history.specs.declared.call.Call.TheVariants.{Begin}
 use Rattle.history.specs.declared.locks.Mode.TheVariants as mode
 use Rattle.caller_steps.specs.State.{calls_of}

@@ -1,6 +1,6 @@
 -- The rule of the table, and what each step guarantees. Words 0 to 63 are those of the stripes. Word 64 is the turn: 0, or one more than the
 -- number of the pass that has it. Word 65 is the length of the history as last published. The slot has the core while the turn is free.
-use Rattle.std.specs.Prelude.{ℕ, ◌≡◌, ◌≢◌, ◌⊎◌, ◌+◌, ◌<◌, ◌≤◌, ◌/◌, ◌^◌, Bool, IsTrue, IsFalse, List, [], ◌∷◌, map, length, replicate, slice_index, slice_index_or, slice_set, Option, Some, None}
+use Rattle.std.specs.Prelude.{ℕ, ◌≡◌, ◌≢◌, ◌⊎◌, ◌+◌, ◌<◌, ◌≤◌, Bool, IsFalse, List, [], ◌∷◌, map, length, replicate, slice_index, slice_index_or, slice_set, Option, Some, None}
 use mathlib.Core.Option.{some}
 use lib.ListN.{get_elem?}
 use Rattle.history.specs.declared.call.Call.{Call}
