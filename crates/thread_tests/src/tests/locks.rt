@@ -1,4 +1,4 @@
-// What two passes are answered that lock the stripes of keys. Keys 5 and 69 are of one stripe.
+// What two passes are answered that lock stripes of keys. The keys 5 and 69 are of stripe 5.
 ghost use Rattle.std.specs.Prelude.{◌≡◌};
 ghost use Rattle.mars_manager.specs.Pass.{dealt};
 ghost use Rattle.mars_manager.specs.Sharing.{CanShare};
@@ -19,8 +19,9 @@ enum By {
 }
 
 // What is asked, and what has to be answered.
+#[derive(Drop)]
 enum Line {
-    Locks(u64, Mode, Lock),
+    Locks(u8, Mode, Lock),
     Calls(Call, Reply),
 }
 
@@ -87,7 +88,7 @@ fn is_answered<C: Core + Drop>(mars: &Mars<C>, pass: &mut Pass<C>, line: &Line) 
     ensures number { pass.new.known.number ≡ pass.old.known.number }
 {
     match line {
-        Line::Locks(key, mode, answer) => mars.lock(pass, *key, *mode) == *answer,
+        Line::Locks(stripe, mode, answer) => mars.lock(pass, *stripe, *mode) == *answer,
         Line::Calls(call, reply) => match mars.call(pass, call) {
             Ok(told) => told == *reply,
             Err(_) => false,
