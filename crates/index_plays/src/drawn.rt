@@ -16,7 +16,7 @@ const STEPS: u64 = 1_000_000;
 // How many steps make a stretch, and how many keys a flood reaches.
 const STRETCH: u64 = 1_000;
 
-const REACH: u64 = 160;
+const REACH: u64 = 60;
 
 // What is done in a stretch of steps, but for one in twenty.
 #[derive(Clone, Copy, PartialEq, Eq)]
