@@ -1,5 +1,5 @@
 -- What passes have of the stripes covers what their live transactions touched.
-use Rattle.std.proofs.Common.{◌≡◌, ◌≢◌, ◌⊎◌, ℕ, ◌+◌, ◌*◌, ◌%◌, ◌<◌, mod-lt, eqb, Bool, true, false, List, [], ◌∷◌, ◌++◌, get_or, Option, unwrap_or, refl, sym, ap, ◌∙◌, subst, ⊎_elim, arith}
+use Rattle.std.proofs.Common.{◌≡◌, ◌≢◌, ◌⊎◌, ℕ, ◌+◌, ◌*◌, ◌%◌, ◌<◌, mod-lt, Bool, true, false, List, [], ◌∷◌, ◌++◌, get_or, Option, unwrap_or, refl, sym, ap, ◌∙◌, subst, ⊎_elim, arith}
 use Rattle.std.specs.Prelude.{IsTrue, IsFalse, is_some}
 use Rattle.std.proofs.lemmas.Bool.{eqb-true, ltb-true, false≢true, or_cases, or_parts}
 use mathlib.Core.Logic.{dite}
