@@ -24,13 +24,17 @@ drill_shape = record (new_shape (codes "drill")) { rules = new_rule (codes "seed
 abbrev pub callers_shape : Shape
 callers_shape = record (new_shape (codes "callers")) { rules = new_rule (codes "callers") ∷ option_of (codes "tries") ∷ option_of (codes "late") ∷ [] }
 
+-- `make` with one positional word
+abbrev pub make_shape : Shape
+make_shape = record (new_shape (codes "make")) { rules = new_rule (codes "name") ∷ [] }
+
 -- the program, which needs a subcommand
 abbrev pub mars_shape : Shape
 mars_shape = record (new_shape (codes "mars")) { is_leaf = false; no_binary_name = true; subcommand_required = true }
 
--- the subcommand is one of six, and there is no help
+-- the subcommand is one of eight, and there is no help
 abbrev pub command_line : App
 command_line = record {
   top = record mars_shape { disable_help_flag = true; disable_help_subcommand = true };
-  subs = run_shape ∷ new_shape (codes "eaw") ∷ new_shape (codes "dump") ∷ format_shape ∷ drill_shape ∷ callers_shape ∷ [];
+  subs = run_shape ∷ new_shape (codes "eaw") ∷ new_shape (codes "dump") ∷ format_shape ∷ drill_shape ∷ callers_shape ∷ make_shape ∷ new_shape (codes "purge") ∷ [];
 }

@@ -16,3 +16,4 @@ pub mod Unwritten
 pub mod Clearing
 pub mod Purged
 pub mod Reading
+pub mod Tabled

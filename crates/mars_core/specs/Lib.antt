@@ -7,3 +7,4 @@ pub mod Attached
 pub mod TableCall
 pub mod Works
 pub mod Purging
+pub mod Making

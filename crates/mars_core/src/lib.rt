@@ -10,6 +10,7 @@ mod doubt;
 mod fault;
 mod live;
 mod locks;
+mod making;
 mod masks;
 mod purging;
 mod reading;
@@ -19,5 +20,6 @@ mod table_call;
 mod turns;
 
 pub use fault::CoreFault;
+pub use making::make_table;
 pub use reading::read_records;
 pub use turns::Core;

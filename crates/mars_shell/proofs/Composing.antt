@@ -37,7 +37,7 @@ use Rattle.mars_shell.specs.Next.{AllSound, IsOfRecords, LeavesFresh}
 use Rattle.mars_shell.specs.Outcome.{Idle, OutcomeOf}
 use Rattle.mars_shell.specs.Run.{HoldsRecords, TakesTurns, Answers, IsDamaged, Exceeds, OverRecords}
 use Rattle.mars_shell.specs.declared.status.Status.{Status}
-use Rattle.mars_shell.specs.declared.status.Status.TheVariants.{Good, Usage, TooLong, ReadFault, WriteFault, MediaFault, NoMemory, Damaged, BadRow, NotMars, BadShape}
+use Rattle.mars_shell.specs.declared.status.Status.TheVariants.{Good, Usage, TooLong, ReadFault, WriteFault, MediaFault, NoMemory, Damaged, BadRow, NotMars, BadShape, Refused}
 use Rattle.mars_shell.proofs.Forming.{sound_is_own}
 
 -- ---- what is asked for
@@ -92,6 +92,7 @@ outcome_gives P spares Works Broken Looks Lacks old (Damaged page) new cut text 
 outcome_gives P spares Works Broken Looks Lacks old (BadRow logger tid) new cut text idle works outcome = idle _ _ _ outcome
 outcome_gives P spares Works Broken Looks Lacks old NotMars new cut text idle works outcome = idle _ _ _ outcome
 outcome_gives P spares Works Broken Looks Lacks old (BadShape which given) new cut text idle works outcome = idle _ _ _ outcome
+outcome_gives P spares Works Broken Looks Lacks old (Refused refusal) new cut text idle works outcome = absurd outcome
 
 module _ (tells : Bool) (told : IsTrue tells) (old new : View) (counts_now : (t : ℕ) (image : List ℕ) → IsTrue tells → t ≤ new.moment → MayLeave new.content image → new.left_since t image) (shape : Shape) where
   module _ (all : AllOpen shape old.content) where

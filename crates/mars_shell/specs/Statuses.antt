@@ -8,7 +8,7 @@ use Rattle.mars_core.specs.declared.fault.CoreFault.TheVariants as core
 use Rattle.script_run.specs.declared.ended.Ended.{Ended}
 use Rattle.script_run.specs.declared.ended.Ended.TheVariants as script
 use Rattle.mars_shell.specs.declared.status.Status.{Status}
-use Rattle.mars_shell.specs.declared.status.Status.TheVariants.{Good, Usage, TooLong, ReadFault, WriteFault, MediaFault, NoMemory, Damaged, BadRow, NotMars, BadShape}
+use Rattle.mars_shell.specs.declared.status.Status.TheVariants.{Good, Usage, TooLong, ReadFault, WriteFault, MediaFault, NoMemory, Damaged, BadRow, NotMars, BadShape, Refused}
 
 -- the statuses of a run whose input is not taken, and which ends before the medium is touched
 abbrev pub IsEarly : Status → Type 0
@@ -16,13 +16,14 @@ IsEarly TooLong = Unit {0}
 IsEarly ReadFault = Unit {0}
 IsEarly _ = ⊥
 
--- the array on the medium, or what is there in place of one, is refused
+-- the array on the medium, what is there in place of one, or what is asked of it is refused
 abbrev pub IsRefusal : Status → Type 0
 IsRefusal Usage = Unit {0}
 IsRefusal (Damaged page) = Unit {0}
 IsRefusal (BadRow logger tid) = Unit {0}
 IsRefusal NotMars = Unit {0}
 IsRefusal (BadShape which given) = Unit {0}
+IsRefusal (Refused refusal) = Unit {0}
 IsRefusal _ = ⊥
 
 -- the status of a script that ended this way

@@ -26,7 +26,6 @@ mod media_room;
 mod number_line;
 mod opening;
 mod record_work;
-mod record_work;
 mod records;
 mod responder;
 mod status;

@@ -5,6 +5,7 @@ ghost use Rattle.mars_shell.specs.Statuses.{status_of, script_status, served_sta
 use array_shape::ShapeNumber;
 use eaw_device::AttachFault;
 use mars_core::CoreFault;
+use record_slots::Name;
 use script_run::Ended;
 
 /// How a run ended.
@@ -29,6 +30,19 @@ pub enum Status {
     NotMars,
     /// A number in the header is out of range, or the medium has not the length that the numbers give.
     BadShape { which: ShapeNumber, given: u64 },
+    /// There is no such table, and none was made.
+    Refused(Refusal),
+}
+
+/// Why a table was not made.
+#[derive(Clone, Copy, Debug, PartialEq, Eq)]
+pub enum Refusal {
+    /// A table has this name.
+    Exists(Name),
+    /// There are eight tables.
+    TablesFull,
+    /// All `pages` pages for indexes are given.
+    PagesFull { pages: u32 },
 }
 
 impl Status {
@@ -48,6 +62,7 @@ impl Status {
             Status::BadRow { .. } => 8,
             Status::NotMars => 9,
             Status::BadShape { .. } => 9,
+            Status::Refused(_) => 10,
         }
     }
 }

@@ -1,7 +1,7 @@
 use Rattle.std.proofs.Common.{rules, ◌≡◌, ◌∙◌, ap, ap₂, true, codes}
 use Rattle.std.proofs.lemmas.Result.{IfOk-weaker}
 use Rattle.clap.specs.Words.{App, app_of, new_app, with_subcommand}
-use Rattle.command_words.specs.CommandLine.{run_shape, format_shape, drill_shape}
+use Rattle.command_words.specs.CommandLine.{run_shape, format_shape, drill_shape, callers_shape, make_shape}
 use Rattle.command_words.proofs.command_line.command_line.Goals as goal
 
 abbrev set : App → App
@@ -20,4 +20,8 @@ returns c =
     c.in_ok-subcommand-4.ensures.shape c.in_ok-format_command.ensures.local ∙ ap₂ with_subcommand dump c.in_ok-format_command.ensures.shape in
     let drill : app_of c.in_ok-subcommand-5.field-0 ≡ with_subcommand (with_subcommand (with_subcommand (with_subcommand (with_subcommand (set (new_app (codes "mars"))) run_shape) (new_app (codes "eaw")).top) (new_app (codes "dump")).top) format_shape) drill_shape =
     c.in_ok-subcommand-5.ensures.shape c.in_ok-drill_command.ensures.local ∙ ap₂ with_subcommand format c.in_ok-drill_command.ensures.shape in
-    IfOk-weaker c.subcommand-6.result _ _ (λ command adds. adds.shape c.in_ok-callers_command.ensures.local ∙ ap₂ with_subcommand drill c.in_ok-callers_command.ensures.shape) c.subcommand-6.ensures
+    let callers : app_of c.in_ok-subcommand-6.field-0 ≡ with_subcommand (with_subcommand (with_subcommand (with_subcommand (with_subcommand (with_subcommand (set (new_app (codes "mars"))) run_shape) (new_app (codes "eaw")).top) (new_app (codes "dump")).top) format_shape) drill_shape) callers_shape =
+    c.in_ok-subcommand-6.ensures.shape c.in_ok-callers_command.ensures.local ∙ ap₂ with_subcommand drill c.in_ok-callers_command.ensures.shape in
+    let make : app_of c.in_ok-subcommand-7.field-0 ≡ with_subcommand (with_subcommand (with_subcommand (with_subcommand (with_subcommand (with_subcommand (with_subcommand (set (new_app (codes "mars"))) run_shape) (new_app (codes "eaw")).top) (new_app (codes "dump")).top) format_shape) drill_shape) callers_shape) make_shape =
+    c.in_ok-subcommand-7.ensures.shape c.in_ok-make_command.ensures.local ∙ ap₂ with_subcommand callers c.in_ok-make_command.ensures.shape in
+    IfOk-weaker c.subcommand-8.result _ _ (λ command adds. adds.shape (search rules) ∙ ap₂ with_subcommand make (ap (λ (a : App). a.top) c.new-4.ensures.app)) c.subcommand-8.ensures
