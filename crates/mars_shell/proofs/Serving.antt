@@ -51,9 +51,9 @@ untaken tells Opens index old new fault told cause back = record {
 }
 
 -- a store that is left as it was
-pub unread : (tells : Bool) (Opens : Shape → List ℕ → List ℕ → Type 0) (index : Index) (old new : StoreView) (failed : Bool) (fault : CoreFault) → IsTrue tells → CoreCause tells index old fault
-    → LeftAsItWas tells (Opens old.shape) failed old new → Untaken true Opens index old fault false [] new
-unread tells Opens index old new failed fault told cause left = record {
+pub unread : (spares tells : Bool) (Opens : Shape → List ℕ → List ℕ → Type 0) (index : Index) (old new : StoreView) (failed : Bool) (fault : CoreFault) → IsTrue tells → CoreCause tells index old fault
+    → LeftAsItWas tells (Opens old.shape) failed old new → Untaken spares Opens index old fault false [] new
+unread spares tells Opens index old new failed fault told cause left = record {
   whole = refl;
   silent = refl;
   cause = subst (λ (b : Bool). CoreCause b index old fault) told cause;

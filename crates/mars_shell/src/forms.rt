@@ -2,7 +2,7 @@
 ghost use Rattle.std.specs.Prelude.{IfOk, IfErr};
 ghost use Rattle.eaw_face.specs.Causes.{IsAlive};
 ghost use Rattle.record_table.specs.Form.{form_number};
-ghost use Rattle.mars_core.specs.Attached.{CoreCause, GivesBack, is_media_fault};
+ghost use Rattle.mars_core.specs.Attached.{CoreCause, LeftAsItWas, is_media_fault};
 ghost use Rattle.mars_shell.specs.Forms.{index_at};
 ghost use Rattle.mars_shell.specs.Served.{SaysForm};
 
@@ -15,7 +15,7 @@ pub fn find_form<S: EawStore>(store: &mut S) -> Result<Form, CoreFault>
     requires alive { IsAlive (S.view store.old) }
     ensures says { IfOk result (λ form. SaysForm S.tells (S.opens (S.view store.old).shape) (form_number form) (S.view store.old) (S.view store.new)) }
     ensures cause { IfErr result (λ fault. CoreCause S.tells (index_at (S.view store.old).state.bytes) (S.view store.old) fault) }
-    ensures gives_back { IfErr result (λ fault. GivesBack S.tells (S.opens (S.view store.old).shape) (is_media_fault fault) (S.view store.old) (S.view store.new)) }
+    ensures left { IfErr result (λ fault. LeftAsItWas S.tells (S.opens (S.view store.old).shape) (is_media_fault fault) (S.view store.old) (S.view store.new)) }
 {
     match form_of(store) {
         Ok(form) => Ok(form),

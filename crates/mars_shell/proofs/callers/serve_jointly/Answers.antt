@@ -1,9 +1,13 @@
-use Rattle.std.proofs.Common.{false, subst}
+use Rattle.std.proofs.Common.{[], false, refl, sym, subst}
+use Rattle.std.proofs.lemmas.List.{append-nil}
+use Rattle.mars_core.specs.Attached.{is_media_fault}
 use Rattle.record_table.specs.Form.{form_number}
 use Rattle.record_table.specs.declared.form.Form.{Form}
 use Rattle.mars_shell.specs.Joint.{JointWork}
+use Rattle.mars_shell.specs.Forms.{index_at}
 use Rattle.mars_shell.specs.Served.{SaysForm}
 use Rattle.mars_shell.proofs.Forming.{serves_on}
+use Rattle.mars_shell.proofs.Serving.{unread}
 use Rattle.mars_shell.proofs.callers.serve_jointly.Goals as goal
 
 pub returns-in-Ok-Chain-clause-served : goal.returns-in-Ok-Chain-clause-served
@@ -47,3 +51,15 @@ returns-in-Ok-Tree-clause-untold g c = c.work_under-in-Ok-Tree.ensures.untold
 
 pub returns-in-Ok-Tree-clause-counts : goal.returns-in-Ok-Tree-clause-counts
 returns-in-Ok-Tree-clause-counts g c = rw c.in-Ok-Tree.ensures.says.faults at c.work_under-in-Ok-Tree.ensures.counts
+
+pub returns-in-Err-clause-served : goal.returns-in-Err-clause-served
+returns-in-Err-clause-served g c =
+    let s = g.S.EawStore in
+    record {
+      cut = false;
+      text = [];
+      wrote = λ _. sym (append-nil _);
+      counts = refl;
+      holds = λ told. unread false s.tells s.opens (index_at (s.view c.args.store).state.bytes) (s.view c.args.store) (s.view c.find_form.new.store) (is_media_fault c.in-Err.fault) c.in-Err.fault told c.in-Err.ensures.cause
+          c.in-Err.ensures.left;
+    }
