@@ -32,8 +32,8 @@ scan_fault _ = Media
 
 -- the same of what came of a reading
 abbrev pub is_failed : {T : Type 0} → Result T CoreFault → Bool
-is_failed (Err Media) = true
-is_failed _ = false
+is_failed (Err fault) = is_media_fault fault
+is_failed (Ok value) = false
 
 -- The store is as it was, unless the medium failed. Whatever a loss of power might have left meanwhile opens with the data that it had.
 pub record LeftAsItWas (tells : Bool) (Opens : List ℕ → List ℕ → Type 0) (failed : Bool) (old new : StoreView) : Type 0 where

@@ -1,7 +1,7 @@
 // A table that is made in a store.
 ghost use Rattle.std.specs.Prelude.{◌≡◌, ℕ, None, IfOk, IfErr};
 ghost use Rattle.eaw_face.specs.Causes.{IsAlive};
-ghost use Rattle.mars_core.specs.Attached.{CoreCause, LeftAsItWas, is_failed};
+ghost use Rattle.mars_core.specs.Attached.{CoreCause, LeftAsItWas, is_media_fault};
 ghost use Rattle.mars_core.specs.Making.{MakesTable};
 
 use crate::fault::CoreFault;
@@ -22,7 +22,7 @@ pub fn make_table<S: EawStore, K: KeyIndex>(
     requires idle { (t : ℕ) → (S.view store).ranges t ≡ None }
     ensures makes { IfOk result.0 (λ made. MakesTable S.tells (S.opens (S.view store).shape) K.index name.now (S.view store) (S.view result.1) made) }
     ensures cause { IfErr result.0 (λ fault. CoreCause S.tells K.index (S.view store) fault) }
-    ensures left { IfErr result.0 (λ fault. LeftAsItWas S.tells (S.opens (S.view store).shape) (is_failed result.0) (S.view store) (S.view result.1)) }
+    ensures left { IfErr result.0 (λ fault. LeftAsItWas S.tells (S.opens (S.view store).shape) (is_media_fault fault) (S.view store) (S.view result.1)) }
 {
     let mut records = match Records::<S, K>::attach(Pages::attach_in(room, store)) {
         Ok(records) => records,

@@ -1,8 +1,6 @@
 -- What the kinds of a status give.
 use Rattle.std.proofs.Common.{◌≡◌, ◌≢◌, ◌⊎◌, ℕ, inl, inr, refl, ap, subst, sym, Result, Ok, Err, List, [], length, ◌≤◌}
 use Rattle.std.specs.Result.{IfErr, IfOk}
-use Rattle.command_words.specs.declared.words.Words.{Words}
-use Rattle.command_words.specs.declared.words.Words.TheVariants.{Dump}
 use Rattle.command_words.specs.declared.words.FormatNumbers.{FormatNumbers}
 use Rattle.mars_shell.specs.Formats.{FormatSays}
 use Rattle.mars_core.specs.declared.fault.CoreFault.{CoreFault}
@@ -54,14 +52,6 @@ counts_unread (BadRow logger tid) s k k' m m' late counts = (refl, counts.1, cou
 counts_unread NotMars s k k' m m' late counts = (refl, counts.1, counts.2)
 counts_unread (BadShape which given) s k k' m m' late counts = (refl, counts.1, counts.2)
 counts_unread (Refused refusal) s k k' m m' late counts = (refl, counts.1, counts.2)
-
--- only a dump is a dump
-abbrev IsNoDump : Words → Type 0
-IsNoDump Dump = ⊥
-IsNoDump asked = Unit {0}
-
-pub no_dump : (asked : Words) → IsNoDump asked → asked ≡ Dump → ⊥
-no_dump asked is same = subst IsNoDump same is
 
 -- a format ends late
 pub format_late : (asked : FormatNumbers) (size : ℕ) (status : Status) (Untold Untouched : Type 0) → FormatSays asked size status Untold Untouched → IsEarly status → ⊥

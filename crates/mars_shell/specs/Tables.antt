@@ -39,9 +39,10 @@ HasNewName name shape old image = OpensWithName (Opens shape) (index_in shape ol
 
 -- The records are sound, and a table of this name was to be made. An image that might have been left at some moment opens with the records
 -- that were there, under the names that were there or under those and the new one, or with the data of an image that could be left at
--- first, if all of those open.
+-- first, if all of those open. Then no moment is repeated.
 pub record Tries (name : List ℕ) (shape : Shape) (old new : View) : Type 0 where
   pub holds : HoldsRecords shape old
+  pub later : AllOpen shape old.content → old.moment ≤ new.moment
   pub since : AllOpen shape old.content → (image : List ℕ) → new.left_since old.moment image → OpensLike shape old.content image ⊎ (HasNames shape old image ⊎ HasNewName name shape old image)
 
 -- The table was made: no table had the name, there were fewer than eight, and a page was left. It has the number behind those that there
@@ -79,7 +80,7 @@ pub record Refuses (name : List ℕ) (refusal : Refusal) (old new : View) (cut :
   pub quiet : HasNoVote shape new.content.bytes
   pub silent : IsWritten cut text []
 
--- what comes of it, by the status
+-- what comes of it, by the status: the table was made, or the records could not be worked on, or it was refused
 abbrev pub MakeOutcome : List ℕ → View → Status → View → Bool → List ℕ → Type 0
-MakeOutcome name old (Refused refusal) new cut text = Refuses name refusal old new cut text
-MakeOutcome name old status new cut text = OverRecords true 0 (MadeBy name old new cut text) old status new cut text
+MakeOutcome name old status new cut text =
+    OverRecords true 0 (MadeBy name old new cut text) old status new cut text ⊎ ((refusal : Refusal) × (status ≡ Refused refusal) × Refuses name refusal old new cut text)

@@ -1,17 +1,17 @@
 // Makes a table in the array that a medium holds, and tells its number.
-ghost use Rattle.std.specs.Prelude.{◌≡◌, ◌⊎◌, ℕ, None, IfOk, IfErr, IsTrue};
+ghost use Rattle.std.specs.Prelude.{◌≡◌, ◌⊎◌, ℕ, None, IfOk, IfErr, IsTrue, if◌then◌else◌};
 ghost use Rattle.eaw_face.specs.Causes.{IsAlive};
-ghost use Rattle.mars_core.specs.Attached.{CoreCause, GivesBack, is_media_fault};
+ghost use Rattle.mars_core.specs.Attached.{CoreCause, LeftAsItWas, is_media_fault};
 ghost use Rattle.mars_core.specs.Making.{MakesTable};
 ghost use Rattle.texts.specs.Written.{Wrote, IsWritten};
 ghost use Rattle.mars_shell.specs.Forms.{index_at};
-ghost use Rattle.mars_shell.specs.Statuses.{Counts, IsEarly, IsRefusal, core_status, made_status};
+ghost use Rattle.mars_shell.specs.Statuses.{Counts, IsEarly, IsRefusal};
 ghost use Rattle.mars_shell.specs.Tables.{MakeOutcome, table_line};
 
 use crate::ending::write_ended;
 use crate::forms::find_form;
 use crate::opening::open_for;
-use crate::status::{Status, core_status, made_status, script_status};
+use crate::status::{Status, made_status, script_status, served_status};
 use btree_pages::BTreePages;
 use eaw_device::AtOnce;
 use eaw_face::EawStore;
@@ -53,7 +53,7 @@ pub fn run_make<S: Source, K: Sink, M: Media + Drop + Send>(
     match made {
         Ok(Ok(number)) => (tell_table(sink, number, name), media),
         Ok(Err(fault)) => (made_status(fault, name), media),
-        Err(fault) => (core_status(fault), media),
+        Err(fault) => (served_status(Err(fault)), media),
     }
 }
 
@@ -67,7 +67,7 @@ fn make_over<S: EawStore>(
     requires free { (t : ℕ) → (S.view store).ranges t ≡ None }
     ensures makes { IfOk result.0 (λ made. MakesTable S.tells (S.opens (S.view store).shape) (index_at (S.view store).state.bytes) name.now (S.view store) (S.view result.1) made) }
     ensures cause { IfErr result.0 (λ fault. CoreCause S.tells (index_at (S.view store).state.bytes) (S.view store) fault) }
-    ensures gives_back { IfErr result.0 (λ fault. GivesBack S.tells (S.opens (S.view store).shape) (is_media_fault fault) (S.view store) (S.view result.1)) }
+    ensures left { IfErr result.0 (λ fault. LeftAsItWas S.tells (S.opens (S.view store).shape) (is_media_fault fault) (S.view store) (S.view result.1)) }
 {
     let mut store = store;
     match find_form(&mut store) {

@@ -1,11 +1,12 @@
 ghost use Rattle.std.specs.Prelude.{◌≡◌};
 ghost use Rattle.mars_shell.specs.Fault.{status_number};
-ghost use Rattle.mars_shell.specs.Statuses.{status_of, script_status, served_status};
+ghost use Rattle.mars_shell.specs.Statuses.{status_of, script_status, served_status, made_status};
 
 use array_shape::ShapeNumber;
 use eaw_device::AttachFault;
 use mars_core::CoreFault;
 use record_slots::Name;
+use record_table::MakeFault;
 use script_run::Ended;
 
 /// How a run ended.
@@ -104,5 +105,18 @@ pub(crate) fn served_status(served: Result<Ended, CoreFault>) -> Status
         Err(CoreFault::Damaged { page }) => Status::Damaged { page },
         Err(CoreFault::Media) => Status::MediaFault,
         Err(CoreFault::NoMemory) => Status::NoMemory,
+    }
+}
+
+// The status of a table of this name that was not made. A store that met no fault before gives no `Dead`.
+pub(crate) fn made_status(fault: MakeFault, name: &Name) -> Status
+    ensures { result ≡ made_status fault name.now }
+{
+    match fault {
+        MakeFault::Exists => Status::Refused(Refusal::Exists(*name)),
+        MakeFault::TablesFull => Status::Refused(Refusal::TablesFull),
+        MakeFault::PagesFull { pages } => Status::Refused(Refusal::PagesFull { pages }),
+        MakeFault::Media | MakeFault::Dead => Status::MediaFault,
+        MakeFault::Damaged { page } => Status::Damaged { page },
     }
 }

@@ -1,0 +1,125 @@
+-- A table that is made in an array that was opened.
+use Rattle.std.proofs.Common.{◌≡◌, ◌⊎◌, ◌<◌, inl, inr, ⊎_elim, ℕ, Bool, true, false, List, [], ◌++◌, ◌∷◌, length, Result, Ok, Err, refl, sym, ap, subst, ◌∙◌, arith}
+use Rattle.std.specs.Prelude.{IsTrue, if◌then◌else◌, Some, slice_get}
+use Rattle.std.proofs.lemmas.Bool.{false≢true}
+use Rattle.mars_base.specs.Causes.{Rose}
+use Rattle.pcm_media.specs.Images.{MayLeave}
+use Rattle.pcm_media.specs.View.{View}
+use Rattle.array_shape.specs.declared.shape.Shape.{Shape}
+use Rattle.array_image.specs.Decided.{settled_data}
+use Rattle.device_recovery.specs.Recovered.{HasNoVote}
+use Rattle.eaw_face.specs.StoreView.{StoreView}
+use Rattle.eaw_device.specs.Opens.{Opens, AllOpen, OpensLike, KeepsData, Attached, HoldsArray, IsBehind}
+use Rattle.record_slots.specs.Places.{next_page}
+use Rattle.page_store.specs.Index.{Index, index_pages_of}
+use Rattle.record_table.specs.Making.{is_make_failed}
+use Rattle.record_table.specs.Names.{names_of, IsNew}
+use Rattle.record_table.specs.declared.making.MakeFault.{MakeFault}
+use Rattle.record_table.specs.declared.making.MakeFault.TheVariants as make
+use Rattle.mars_core.specs.Making.{OpensAsNamed, OpensWithName}
+use Rattle.mars_core.specs.Making as store
+use Rattle.mars_core.specs.declared.fault.CoreFault.{CoreFault}
+use Rattle.texts.specs.Written.{IsWritten}
+use Rattle.script_run.specs.declared.ended.Ended.{Ended}
+use Rattle.script_run.specs.declared.ended.Ended.TheVariants as script
+use Rattle.mars_shell.specs.Forms.{index_at}
+use Rattle.mars_shell.specs.Run.{HoldsRecords, IsDamaged, Exceeds, OverRecords}
+use Rattle.mars_shell.specs.Served.{Untaken}
+use Rattle.mars_shell.specs.Statuses.{Counts, IsEarly, IsRefused, served_status, made_status}
+use Rattle.mars_shell.specs.Tables.{table_line, HasNames, HasNewName, Tries, MakesTable, MadeBy, RefusalCause, Refuses, MakeOutcome}
+use Rattle.mars_shell.specs.declared.status.Refusal.{Refusal}
+use Rattle.mars_shell.specs.declared.status.Refusal.TheVariants.{Exists, TablesFull, PagesFull}
+use Rattle.mars_shell.specs.declared.status.Status.{Status}
+use Rattle.mars_shell.specs.declared.status.Status.TheVariants.{Good, WriteFault, NoMemory}
+use Rattle.mars_shell.proofs.Completing.{complete_records, nothing_read}
+use Rattle.mars_shell.proofs.Running.{holds, at_entry, untaken_outcome}
+use Rattle.mars_shell.proofs.Statuses.{outcome_as}
+
+-- nothing was done, whatever the name is
+pub as_made : (name : List ℕ) (old : View) (status : Status) (new : View) → OverRecords true 0 (λ none. ⊥) old status new false [] → MakeOutcome name old status new false []
+as_made name old status new outcome = inl (outcome_as true (λ none. ⊥) (MadeBy name old new false []) (λ page. IsDamaged old page × (Exceeds 0 old → ⊥)) (HoldsArray old × (Exceeds 0 old → ⊥)) (Exceeds 0 old) old status new false []
+    (λ ended none. absurd none) outcome)
+
+module _ (tells : Bool) (told : IsTrue tells) (old : View) (only_now : (image : List ℕ) → IsTrue tells → old.left_since old.moment image → MayLeave old.content image)
+    (store : StoreView) (attached : Attached tells old store) (keeps : KeepsData tells old store.moment store.left_since)
+    (later : StoreView) (new : View) (behind : IsBehind tells false later new) (counts_now : (t : ℕ) (image : List ℕ) → IsTrue tells → t ≤ new.moment → MayLeave new.content image → new.left_since t image) (name : List ℕ) where
+  -- in terms of the data of the array
+  own : {P : List ℕ → Type 0} → P store.state.bytes → P (settled_data store.shape old.content.bytes)
+  own {P} p = subst P (attached.bytes told) p
+
+  left_now : (image : List ℕ) → MayLeave new.content image → later.left_since later.moment image
+  left_now image left = subst (λ (t : ℕ). later.left_since t image) behind.moment (behind.left new.moment image (counts_now new.moment image told (omega arith) left))
+
+  module _ (result : Result ℕ MakeFault) (made : store.MakesTable tells (Opens store.shape) (index_at store.state.bytes) name store later result) where
+    had : (image : List ℕ) → OpensAsNamed (Opens store.shape) (index_at store.state.bytes) store.state.bytes image → HasNames store.shape old image
+    had image opens = own {λ b. OpensAsNamed (Opens store.shape) (index_at b) b image} opens
+
+    has : (image : List ℕ) → OpensWithName (Opens store.shape) (index_at store.state.bytes) name store.state.bytes image → HasNewName name store.shape old image
+    has image opens = own {λ b. OpensWithName (Opens store.shape) (index_at b) name b image} opens
+
+    tries : Tries name store.shape old new
+    tries = record {
+      holds = holds tells told old only_now store attached keeps (made.sound told);
+      later = λ all. omega (arith, (keeps told store.shape all).later, (made.time told).later, behind.moment);
+      since = λ all image left. ⊎_elim (λ was. inl (at_entry tells told old only_now store attached keeps store.shape all image was)) (λ named. inr (⊎_elim (λ same. inl (had image same)) (λ more. inr (has image more)) named))
+          ((made.time told).only old.moment image (keeps told store.shape all).later (behind.left old.moment image left));
+    }
+
+    quiet : later.is_dead ≡ false → HasNoVote store.shape new.content.bytes
+    quiet living = subst (λ (s : Shape). HasNoVote s new.content.bytes) made.shape (behind.quiet told living refl)
+
+  -- it was made, and told in whole or in part
+  makes : (j : ℕ) (made : store.MakesTable tells (Opens store.shape) (index_at store.state.bytes) name store later (Ok j)) (ended : Ended) (cut : Bool) (text : List ℕ) → ended ≡ (if cut then script.WriteFault else script.All)
+      → IsWritten cut text (table_line j name) → MakesTable name ended old new cut text
+  makes j made ended cut text end wrote =
+      let cause = own {λ b. IsNew name (names_of b) × (j ≡ length (names_of b)) × (j < 8) × (next_page b < index_pages_of store.shape)} (made.cause.1 told) in
+      record {
+        shape = store.shape;
+        tries = tries (Ok j) made;
+        is_new = cause.0;
+        few = subst (λ (n : ℕ). n < 8) cause.1 cause.2;
+        page = cause.3;
+        now = λ image left. has (Ok j) made image (made.now told image (left_now image left));
+        quiet = quiet (Ok j) made ((made.kept refl).0 ∙ attached.alive);
+        end = end;
+        told = subst (λ (n : ℕ). IsWritten cut text (table_line n name)) cause.1 wrote;
+      }
+
+  pub made_outcome : (j : ℕ) → store.MakesTable tells (Opens store.shape) (index_at store.state.bytes) name store later (Ok j) → (status : Status) (cut : Bool) (text : List ℕ) → status ≡ (if cut then WriteFault else Good)
+      → IsWritten cut text (table_line j name) → MakeOutcome name old status new cut text
+  made_outcome j made status true text is wrote = subst (λ (s : Status). MakeOutcome name old s new true text) (sym is) (inl (makes j made script.WriteFault true text refl wrote))
+  made_outcome j made status false text is wrote = subst (λ (s : Status). MakeOutcome name old s new false text) (sym is) (inl (makes j made script.All false text refl wrote))
+
+  -- it was not made
+  refuses : (f : MakeFault) (made : store.MakesTable tells (Opens store.shape) (index_at store.state.bytes) name store later (Err f)) → (let r : Result ℕ MakeFault = Err f in is_make_failed r ≡ false) → (refusal : Refusal)
+      → RefusalCause name store.shape old refusal → Refuses name refusal old new false []
+  refuses f made well refusal cause = record {
+    shape = store.shape;
+    tries = tries (Err f) made;
+    cause = cause;
+    now = λ image left. had (Err f) made image (made.same told well image (left_now image left));
+    quiet = quiet (Err f) made ((made.kept well).0 ∙ attached.alive);
+    silent = refl;
+  }
+
+  pub unmade_outcome : (f : MakeFault) → store.MakesTable tells (Opens store.shape) (index_at store.state.bytes) name store later (Err f) → MakeOutcome name old (made_status f name) new false []
+  unmade_outcome make.Exists made = inr (Exists name, refl, refuses make.Exists made refl (Exists name) (refl, own {λ b. (j : ℕ) × (slice_get (names_of b) j ≡ Some name)} (made.cause.1 told)))
+  unmade_outcome make.TablesFull made = inr (TablesFull, refl, refuses make.TablesFull made refl TablesFull (own {λ b. IsNew name (names_of b) × (length (names_of b) ≡ 8)} (made.cause.1 told)))
+  unmade_outcome (make.PagesFull n) made =
+      let cause = own {λ b. IsNew name (names_of b) × (length (names_of b) < 8) × (next_page b ≡ index_pages_of store.shape)} (made.cause.2 told) in
+      inr (PagesFull n, refl, refuses (make.PagesFull n) made refl (PagesFull n) (cause.0, cause.1, cause.2, made.cause.1))
+  unmade_outcome make.Media made = inl (inr (refl, store.shape, tries (Err make.Media) made))
+  unmade_outcome make.Dead made = absurd (false≢true (sym attached.alive ∙ made.cause))
+  unmade_outcome (make.Damaged page) made = absurd (made.cause.1 told)
+
+  -- the records were not taken
+  pub untaken_make : (fault : CoreFault) → Untaken true Opens (index_at store.state.bytes) store fault false [] later → MakeOutcome name old (served_status (Err fault)) new false []
+  untaken_make fault off = inl (untaken_outcome tells told old only_now store attached keeps false later new behind true (MadeBy name old new false []) 0 (omega arith) fault false [] off)
+
+-- What can be made is made, unless memory runs out or it is refused.
+module _ (name : List ℕ) (old new : View) (cut : Bool) (text : List ℕ) (s s' k k' m m' : ℕ) (shape : Shape) (holds : HoldsRecords shape old) (no_source : Rose s s' → ⊥) (no_sink : Rose k k' → ⊥) (no_media : Rose m m' → ⊥) where
+  pub complete_make : (status : Status) → (IsEarly status → ⊥) → Counts status s s' k k' m m' → MakeOutcome name old status new cut text → (status ≡ Good) ⊎ ((status ≡ NoMemory) ⊎ IsRefused status)
+  complete_make status late counts outcome = ⊎_elim
+      (λ over. ⊎_elim (λ good. inl good) (λ short. inr (inl short))
+      (complete_records true 0 (MadeBy name old new cut text) old status new cut text [] [] s s' k k' m m' (omega arith) shape holds (omega arith) no_source no_sink no_media counts (nothing_read status late) over))
+      (λ refused. inr (inr (subst IsRefused (sym refused.1) tt))) outcome
