@@ -27,7 +27,6 @@ pub fn usual_words()
     ensures joined { (numbers : FormatNumbers) → AreSmall numbers → AsksFor (joined_words numbers) (Words.Format numbers) }
     ensures drill { (numbers : DrillNumbers) → AreOfDrill numbers → AsksFor (drill_words numbers) (Words.Drill numbers) }
     ensures make { (table : List ℕ) → IsName table → AsksFor (codes "make" ∷ table ∷ []) (Words.Make table) }
-    ensures purge { AsksFor (codes "purge" ∷ []) Words.Purge }
     ensures no_word { AskForNothing [] }
     ensures help { AskForNothing (codes "help" ∷ []) }
     ensures help_option { AskForNothing (codes "--help" ∷ []) }

@@ -28,8 +28,6 @@ pub enum Words {
     Format(FormatNumbers),
     /// To make a table of this name.
     Make(Name),
-    /// To take keys without records out of the index.
-    Purge,
 }
 
 /// How callers by turns are answered.
@@ -104,7 +102,7 @@ pub enum WordsFault {
     NoMemory,
 }
 
-/// Reads the words after the image's: `run`, `eaw`, `dump`, `purge`, `make` with the name of a table, `callers` with a number and the option `tries`, `drill` with a seed and a
+/// Reads the words after the image's: `run`, `eaw`, `dump`, `make` with the name of a table, `callers` with a number and the option `tries`, `drill` with a seed and a
 /// count, or `format` with its options in any order. `run`, `callers` and `drill` have the option `late` too. Each option is given at
 /// most once.
 pub fn read_words(alloc: Global, words: &[String]) -> Result<Words, WordsFault>
@@ -155,7 +153,6 @@ fn asked(matches: &ArgMatches<'_>) -> Option<Words>
             let table = read_name(options)?;
             Some(Words::Make(table))
         }
-        "purge" => Some(Words::Purge),
         _ => None,
     }
 }

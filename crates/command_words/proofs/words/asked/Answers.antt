@@ -31,9 +31,6 @@ returns-in_err-table-in-make c =
 pub returns-in_ok-table-in-make : goal.returns-in_ok-table-in-make
 returns-in_ok-table-in-make c = (c.in_ok-name.name.now, rows_of (found_of c.in_ok-name.options.now), met_is c.args.matches.now c.in_ok-name.name.now (rows_of (found_of c.in_ok-name.options.now)) c.in_ok-name.ensures.name c.in_ok-name.ensures.rows, (c.in-make.is, c.in_ok-table-in-make.ensures))
 
-pub returns-in-purge : goal.returns-in-purge
-returns-in-purge c = (c.in_ok-name.name.now, rows_of (found_of c.in_ok-name.options.now), met_is c.args.matches.now c.in_ok-name.name.now (rows_of (found_of c.in_ok-name.options.now)) c.in_ok-name.ensures.name c.in_ok-name.ensures.rows, c.in-purge.is)
-
 pub returns-in_ok-writing-in-run : goal.returns-in_ok-writing-in-run
 returns-in_ok-writing-in-run c = (c.in_ok-name.name.now, rows_of (found_of c.in_ok-name.options.now), met_is c.args.matches.now c.in_ok-name.name.now (rows_of (found_of c.in_ok-name.options.now)) c.in_ok-name.ensures.name c.in_ok-name.ensures.rows, (c.in-run.is, record { writing = c.in_ok-writing-in-run.ensures }))
 
@@ -60,4 +57,4 @@ pub returns-in_default : goal.returns-in_default
 returns-in_default c =
     let options = rows_of (found_of c.in_ok-name.options.now) in
     none_said c.args.matches.now c.in_ok-name.name.now c.in_ok-name.name.now options refl c.in_ok-name.ensures.name c.in_ok-name.ensures.rows
-    (none_other c.in_ok-name.name.now c.in_default.not-run c.in_default.not-callers c.in_default.not-eaw c.in_default.not-dump c.in_default.not-drill c.in_default.not-format c.in_default.not-make c.in_default.not-purge options)
+    (none_other c.in_ok-name.name.now c.in_default.not-run c.in_default.not-callers c.in_default.not-eaw c.in_default.not-dump c.in_default.not-drill c.in_default.not-format c.in_default.not-make options)
