@@ -15,5 +15,5 @@ pub mod Attaching
 pub mod Unwritten
 pub mod Clearing
 pub mod Purged
-pub mod Reading
+pub mod LeftAlone
 pub mod Tabled

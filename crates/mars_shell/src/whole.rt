@@ -17,7 +17,7 @@ use crate::drilling::DrawnScript;
 use crate::dump::RecordDump;
 use crate::formatting::run_format;
 use crate::lines::ByTurns;
-use crate::making::run_make;
+use crate::tables::run_make;
 use crate::records::over_records;
 use crate::status::Status;
 use caller_work::Gate;

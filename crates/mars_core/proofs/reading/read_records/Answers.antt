@@ -10,7 +10,7 @@ use Rattle.record_table.specs.Shown.{state_of}
 use Rattle.mars_core.specs.Attached.{is_media_fault, attach_fault, scan_fault, CoreCause, LeftAsItWas}
 use Rattle.mars_core.specs.declared.fault.CoreFault.{CoreFault}
 use Rattle.mars_core.proofs.Attaching.{attach_cause, attach_left}
-use Rattle.mars_core.proofs.Reading.{read_left, rows_of}
+use Rattle.mars_core.proofs.LeftAlone.{read_left, rows_of}
 use Rattle.mars_core.proofs.reading.read_records.Goals as goal
 
 pub attach-requires : goal.attach-requires
