@@ -43,7 +43,7 @@ returns-clause-ran g c =
         c.in-Ok.ensures.read refl,
         λ told.
             subst (λ (s : Status). OutcomeFor Eaw old s new input said.ran.cut said.ran.text) (sym c.script_status.ensures)
-            (outcome_of (λ end. Obeys old input end new said.ran.cut said.ran.text) (λ page. ⊥) ⊥ ⊥ old new said.ran.cut said.ran.text ended
+            (outcome_of true (λ end. Obeys old input end new said.ran.cut said.ran.text) (λ page. ⊥) ⊥ ⊥ old new said.ran.cut said.ran.text ended
             (obeys media.tells told old (g.met.M.Media.only_now c.args.media) _ c.in-Ok.ensures.attached c.in-Ok.ensures.keeps _ new c.into_media.ensures (g.met.M.Media.counts_now c.into_media.result)
             input ended said.ran.cut said.ran.text (rw c.deref.ensures.value at (said.ran.holds told)) said.alive)),
       );
