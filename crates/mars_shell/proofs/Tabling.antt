@@ -1,14 +1,16 @@
 -- A table that is made in an array that was opened.
-use Rattle.std.proofs.Common.{◌≡◌, ◌⊎◌, ◌<◌, inl, inr, ⊎_elim, ℕ, Bool, true, false, List, [], ◌++◌, ◌∷◌, length, Result, Ok, Err, refl, sym, ap, subst, ◌∙◌, arith}
+use Rattle.std.proofs.Common.{◌≡◌, ◌⊎◌, ◌<◌, inl, inr, ⊎_elim, ℕ, Bool, true, false, List, [], ◌++◌, ◌∷◌, length, Result, Ok, Err, IfOk, IfErr, OnOk, OnErr, refl, sym, ap, subst, ◌∙◌, arith}
 use Rattle.std.specs.Prelude.{IsTrue, if◌then◌else◌, Some, slice_get}
 use Rattle.std.proofs.lemmas.Bool.{false≢true}
 use Rattle.mars_base.specs.Causes.{Rose}
+use Rattle.mars_base.proofs.Going.{weaker, then}
 use Rattle.pcm_media.specs.Images.{MayLeave}
 use Rattle.pcm_media.specs.View.{View}
 use Rattle.array_shape.specs.declared.shape.Shape.{Shape}
 use Rattle.array_image.specs.Decided.{settled_data}
 use Rattle.device_recovery.specs.Recovered.{HasNoVote}
-use Rattle.eaw_face.specs.StoreView.{StoreView}
+use Rattle.eaw_face.specs.State.{State}
+use Rattle.eaw_face.specs.StoreView.{StoreView, LeavesOnly}
 use Rattle.eaw_device.specs.Opens.{Opens, AllOpen, OpensLike, KeepsData, Attached, HoldsArray, IsBehind}
 use Rattle.record_slots.specs.Places.{next_page}
 use Rattle.page_store.specs.Index.{Index, index_pages_of}
@@ -18,21 +20,26 @@ use Rattle.record_table.specs.declared.making.MakeFault.{MakeFault}
 use Rattle.record_table.specs.declared.making.MakeFault.TheVariants as make
 use Rattle.mars_core.specs.Making.{OpensAsNamed, OpensWithName}
 use Rattle.mars_core.specs.Making as store
+use Rattle.mars_core.specs.Attached.{CoreCause, LeftAsItWas, is_media_fault}
 use Rattle.mars_core.specs.declared.fault.CoreFault.{CoreFault}
+use Rattle.mars_core.specs.declared.fault.CoreFault.TheVariants as core
+use Rattle.mars_core.proofs.Tabled.{moved_cause}
 use Rattle.texts.specs.Written.{IsWritten}
 use Rattle.script_run.specs.declared.ended.Ended.{Ended}
 use Rattle.script_run.specs.declared.ended.Ended.TheVariants as script
-use Rattle.mars_shell.specs.Forms.{index_at}
+use Rattle.mars_shell.specs.Forms.{index_of_form, index_at}
 use Rattle.mars_shell.specs.Run.{HoldsRecords, IsDamaged, Exceeds, OverRecords}
-use Rattle.mars_shell.specs.Served.{Untaken}
+use Rattle.mars_shell.specs.Served.{SaysForm}
 use Rattle.mars_shell.specs.Statuses.{Counts, IsEarly, IsRefused, served_status, made_status}
-use Rattle.mars_shell.specs.Tables.{table_line, HasNames, HasNewName, Tries, MakesTable, MadeBy, RefusalCause, Refuses, MakeOutcome}
+use Rattle.mars_shell.specs.Tables.{Tells, MakeCounts, table_line, HasNames, HasNewName, Tries, MakesTable, MadeBy, RefusalCause, Refuses, MakeOutcome}
 use Rattle.mars_shell.specs.declared.status.Refusal.{Refusal}
 use Rattle.mars_shell.specs.declared.status.Refusal.TheVariants.{Exists, TablesFull, PagesFull}
 use Rattle.mars_shell.specs.declared.status.Status.{Status}
 use Rattle.mars_shell.specs.declared.status.Status.TheVariants.{Good, WriteFault, NoMemory}
 use Rattle.mars_shell.proofs.Completing.{complete_records, nothing_read}
+use Rattle.mars_shell.proofs.Forming.{of_form}
 use Rattle.mars_shell.proofs.Running.{holds, at_entry, untaken_outcome}
+use Rattle.mars_shell.proofs.Serving.{unread}
 use Rattle.mars_shell.proofs.Statuses.{outcome_as}
 
 -- nothing was done, whatever the name is
@@ -112,9 +119,55 @@ module _ (tells : Bool) (told : IsTrue tells) (old : View) (only_now : (image : 
   unmade_outcome make.Dead made = absurd (false≢true (sym attached.alive ∙ made.cause))
   unmade_outcome (make.Damaged page) made = absurd (made.cause.1 told)
 
-  -- the records were not taken
-  pub untaken_make : (fault : CoreFault) → Untaken true Opens (index_at store.state.bytes) store fault false [] later → MakeOutcome name old (served_status (Err fault)) new false []
-  untaken_make fault off = inl (untaken_outcome tells told old only_now store attached keeps false later new behind true (MadeBy name old new false []) 0 (omega arith) fault false [] off)
+  -- what is told of it
+  pub told_outcome : (result : Result (Result ℕ MakeFault) CoreFault) → IfOk result (λ made. store.MakesTable tells (Opens store.shape) (index_at store.state.bytes) name store later made)
+      → IfErr result (λ fault. CoreCause tells (index_at store.state.bytes) store fault) → IfErr result (λ fault. LeftAsItWas tells (Opens store.shape) (is_media_fault fault) store later)
+      → (status : Status) (cut : Bool) (text : List ℕ) → Tells name result status cut text → MakeOutcome name old status new cut text
+  told_outcome (Ok (Ok j)) made cause left status cut text said = made_outcome j made status cut text said.0 said.1
+  told_outcome (Ok (Err f)) made cause left status cut text said =
+      subst (λ (x : Status × Bool × List ℕ). MakeOutcome name old x.0 new x.1 x.2) (λ i. (sym said.0 i, sym said.1 i, sym said.2 i)) (unmade_outcome f made)
+  told_outcome (Err f) made cause left status cut text said = subst (λ (x : Status × Bool × List ℕ). MakeOutcome name old x.0 new x.1 x.2) (λ i. (sym said.0 i, sym said.1 i, sym said.2 i))
+      (inl (untaken_outcome tells told old only_now store attached keeps false later new behind true (MadeBy name old new false []) 0 (omega arith) f false []
+      (unread true tells Opens (index_at store.state.bytes) store later (is_media_fault f) f told cause left)))
+
+-- the count of the medium's faults
+made_counts : (tells : Bool) (Opens : List ℕ → List ℕ → Type 0) (index : Index) (name : List ℕ) (old new : StoreView) → old.is_dead ≡ false → (made : Result ℕ MakeFault) → store.MakesTable tells Opens index name old new made
+    → (let r : Result (Result ℕ MakeFault) CoreFault = Ok made in MakeCounts r old.faults new.faults)
+made_counts tells Opens index name old new alive (Ok j) makes = (makes.kept refl).1
+made_counts tells Opens index name old new alive (Err make.Exists) makes = (makes.kept refl).1
+made_counts tells Opens index name old new alive (Err make.TablesFull) makes = (makes.kept refl).1
+made_counts tells Opens index name old new alive (Err (make.PagesFull n)) makes = (makes.kept refl).1
+made_counts tells Opens index name old new alive (Err make.Media) makes = (makes.dies refl).1
+made_counts tells Opens index name old new alive (Err make.Dead) makes = absurd (false≢true (sym alive ∙ makes.cause))
+made_counts tells Opens index name old new alive (Err (make.Damaged page)) makes = (makes.kept refl).1
+
+pub counts_of : (tells : Bool) (Opens : List ℕ → List ℕ → Type 0) (index : Index) (name : List ℕ) (old new : StoreView) → old.is_dead ≡ false → (result : Result (Result ℕ MakeFault) CoreFault)
+    → IfOk result (λ made. store.MakesTable tells Opens index name old new made) → IfErr result (λ fault. LeftAsItWas tells Opens (is_media_fault fault) old new) → MakeCounts result old.faults new.faults
+counts_of tells Opens index name old new alive (Ok made) makes left = made_counts tells Opens index name old new alive made makes
+counts_of tells Opens index name old new alive (Err (core.Damaged page)) makes left = (left.kept refl).1
+counts_of tells Opens index name old new alive (Err core.Media) makes left = (left.dies refl).1
+counts_of tells Opens index name old new alive (Err core.NoMemory) makes left = (left.kept refl).1
+
+-- the same for a table that was made under the index that the data names
+pub makes_over : (tells : Bool) (Opens : Shape → List ℕ → List ℕ → Type 0) (form : ℕ) (name : List ℕ) (old mid new : StoreView) → old.is_dead ≡ false → SaysForm tells (Opens old.shape) form old mid → (made : Result ℕ MakeFault)
+    → store.MakesTable tells (Opens mid.shape) (index_of_form form) name mid new made → store.MakesTable tells (Opens old.shape) (index_at old.state.bytes) name old new made
+makes_over tells Opens form name old mid new alive says made makes = record {
+  shape = makes.shape ∙ says.shape;
+  sound = λ told. moved told {λ h b i. i.sound b} (makes.sound told);
+  cause = moved_cause tells name old mid alive (says.alive ∙ sym alive) says.shape (λ told. bytes told) made makes.cause;
+  kept = λ well. ((makes.kept well).0 ∙ says.alive ∙ sym alive, (makes.kept well).1 ∙ says.faults);
+  dies = λ failed. ((makes.dies failed).0, subst (λ (n : ℕ). Rose n new.faults) says.faults (makes.dies failed).1);
+  time = λ told. then (weaker (λ image opens. inl (record { bytes = old.state.bytes; opened = opens; sound = moved told {λ h b i. i.sound b} (makes.sound told); named = refl; shows = refl })) (says.time told))
+      (moved told {λ h b i. LeavesOnly (λ image. OpensAsNamed (Opens h) i b image ⊎ OpensWithName (Opens h) i name b image) mid new} (makes.time told));
+  now = λ told. moved told {λ h b i. OnOk made ((image : List ℕ) → new.left_since new.moment image → OpensWithName (Opens h) i name b image)} (makes.now told);
+  same = λ told well. moved told {λ h b i. OnErr made ((image : List ℕ) → new.left_since new.moment image → OpensAsNamed (Opens h) i b image)} (makes.same told well);
+}
+  where
+    bytes : IsTrue tells → mid.state.bytes ≡ old.state.bytes
+    bytes told = ap (λ (s : State). s.bytes) (says.state told)
+
+    moved : IsTrue tells → {P : Shape → List ℕ → Index → Type 0} → P mid.shape mid.state.bytes (index_of_form form) → P old.shape old.state.bytes (index_at old.state.bytes)
+    moved told {P} p = subst (λ (x : Shape × List ℕ × Index). P x.0 x.1 x.2) (λ i. (says.shape i, bytes told i, sym (of_form form old.state.bytes (says.is told)) i)) p
 
 -- What can be made is made, unless memory runs out or it is refused.
 module _ (name : List ℕ) (old new : View) (cut : Bool) (text : List ℕ) (s s' k k' m m' : ℕ) (shape : Shape) (holds : HoldsRecords shape old) (no_source : Rose s s' → ⊥) (no_sink : Rose k k' → ⊥) (no_media : Rose m m' → ⊥) where

@@ -1,5 +1,6 @@
 -- What the making of a table does and writes, on a medium that tells its bytes.
-use Rattle.std.specs.Prelude.{ℕ, ◌≡◌, ◌⊎◌, ◌-◌, ◌<◌, ◌≤◌, Bool, false, if◌then◌else◌, List, [], ◌∷◌, ◌++◌, length, codes, Some, slice_get}
+use Rattle.std.specs.Prelude.{ℕ, ◌≡◌, ◌⊎◌, ◌-◌, ◌<◌, ◌≤◌, Bool, false, if◌then◌else◌, List, [], ◌∷◌, ◌++◌, length, codes, Some, slice_get, Result, Ok, Err}
+use Rattle.mars_base.specs.Causes.{Rose}
 use Rattle.std.specs.Fmt.{decimal}
 use Rattle.pcm_media.specs.Images.{MayLeave}
 use Rattle.pcm_media.specs.View.{View}
@@ -10,16 +11,22 @@ use Rattle.eaw_device.specs.Opens.{Opens, AllOpen, OpensLike}
 use Rattle.record_slots.specs.Places.{next_page}
 use Rattle.page_store.specs.Index.{index_pages_of}
 use Rattle.record_table.specs.Names.{names_of, IsNew}
+use Rattle.record_table.specs.declared.making.MakeFault.{MakeFault}
+use Rattle.record_table.specs.declared.making.MakeFault.TheVariants as make
 use Rattle.mars_core.specs.Making.{OpensAsNamed, OpensWithName}
+use Rattle.mars_core.specs.declared.fault.CoreFault.{CoreFault}
+use Rattle.mars_core.specs.declared.fault.CoreFault.TheVariants as core
 use Rattle.texts.specs.Written.{IsWritten}
 use Rattle.script_run.specs.declared.ended.Ended.{Ended}
 use Rattle.script_run.specs.declared.ended.Ended.TheVariants.{All, WriteFault, MediaFault, NoMemory}
 use Rattle.mars_shell.specs.Forms.{index_in}
 use Rattle.mars_shell.specs.Run.{HoldsRecords, OverRecords}
+use Rattle.mars_shell.specs.Statuses.{made_status, served_status}
 use Rattle.mars_shell.specs.declared.status.Refusal.{Refusal}
 use Rattle.mars_shell.specs.declared.status.Refusal.TheVariants.{Exists, TablesFull, PagesFull}
 use Rattle.mars_shell.specs.declared.status.Status.{Status}
-use Rattle.mars_shell.specs.declared.status.Status.TheVariants.{Refused}
+use Rattle.mars_shell.specs.declared.status.Status.TheVariants.{Good, Refused}
+use Rattle.mars_shell.specs.declared.status.Status.TheVariants.{WriteFault as WriteStatus}
 
 -- the line that tells a new table: its number and its name
 abbrev pub table_line : ℕ → List ℕ → List ℕ
@@ -84,3 +91,16 @@ pub record Refuses (name : List ℕ) (refusal : Refusal) (old new : View) (cut :
 abbrev pub MakeOutcome : List ℕ → View → Status → View → Bool → List ℕ → Type 0
 MakeOutcome name old status new cut text =
     OverRecords true 0 (MadeBy name old new cut text) old status new cut text ⊎ ((refusal : Refusal) × (status ≡ Refused refusal) × Refuses name refusal old new cut text)
+
+-- what is told, and the status, by what came of the making: the line of the new table, whole or cut, or nothing
+abbrev pub Tells : List ℕ → Result (Result ℕ MakeFault) CoreFault → Status → Bool → List ℕ → Type 0
+Tells name (Ok (Ok j)) status cut text = (status ≡ (if cut then WriteStatus else Good)) × IsWritten cut text (table_line j name)
+Tells name (Ok (Err fault)) status cut text = (status ≡ made_status fault name) × (cut ≡ false) × (text ≡ [])
+Tells name (Err fault) status cut text = (status ≡ served_status (Err fault)) × (cut ≡ false) × (text ≡ [])
+
+-- the count of the medium's faults, by what came of the making on a store that was not dead
+abbrev pub MakeCounts : Result (Result ℕ MakeFault) CoreFault → ℕ → ℕ → Type 0
+MakeCounts (Ok (Err make.Media)) media media' = Rose media media'
+MakeCounts (Ok (Err make.Dead)) media media' = ⊥
+MakeCounts (Err core.Media) media media' = Rose media media'
+MakeCounts _ media media' = media' ≡ media

@@ -6,7 +6,7 @@ ghost use Rattle.mars_core.specs.Making.{MakesTable};
 ghost use Rattle.texts.specs.Written.{Wrote, IsWritten};
 ghost use Rattle.mars_shell.specs.Forms.{index_at};
 ghost use Rattle.mars_shell.specs.Statuses.{Counts, IsEarly, IsRefusal};
-ghost use Rattle.mars_shell.specs.Tables.{MakeOutcome, table_line};
+ghost use Rattle.mars_shell.specs.Tables.{MakeCounts, MakeOutcome, Tells, table_line};
 
 use crate::ending::write_ended;
 use crate::forms::find_form;
@@ -49,12 +49,7 @@ pub fn run_make<S: Source, K: Sink, M: Media + Drop + Send>(
         Err(ended) => return ended,
     };
     let (made, store) = make_over(room, store, name);
-    let media = store.into_media();
-    match made {
-        Ok(Ok(number)) => (tell_table(sink, number, name), media),
-        Ok(Err(fault)) => (made_status(fault, name), media),
-        Err(fault) => (served_status(Err(fault)), media),
-    }
+    (tell_made(sink, made, name), store.into_media())
 }
 
 // Makes the table in the data of a store, under the index that the data names.
@@ -74,6 +69,26 @@ fn make_over<S: EawStore>(
         Ok(Form::Chain) => make_table::<S, KeyList>(room, store, name),
         Ok(Form::Tree) => make_table::<S, BTreePages>(room, store, name),
         Err(fault) => (Err(fault), store),
+    }
+}
+
+// Tells the number of a table that was made, and says how the run then ended.
+fn tell_made<K: Sink>(
+    sink: &mut K,
+    made: Result<Result<u8, MakeFault>, CoreFault>,
+    name: &Name,
+) -> Status
+    ensures told { Wrote K.tells (K.written sink.old) (K.written sink.new) (K.faults sink.old) (K.faults sink.new) (λ cut text. Tells name.now made result cut text) }
+    ensures no_usage { result ≡ Status.Usage → ⊥ }
+    ensures late { IsEarly result → ⊥ }
+    ensures refused { IsRefusal result → sink.new ≡ sink.old }
+    ensures untold { (result ≡ Status.MediaFault) ⊎ (result ≡ Status.NoMemory) → sink.new ≡ sink.old }
+    ensures counts { (source media media' : ℕ) → MakeCounts made media media' → Counts result source source (K.faults sink.old) (K.faults sink.new) media media' }
+{
+    match made {
+        Ok(Ok(number)) => tell_table(sink, number, name),
+        Ok(Err(fault)) => made_status(fault, name),
+        Err(fault) => served_status(Err(fault)),
     }
 }
 
