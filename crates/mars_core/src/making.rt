@@ -29,5 +29,6 @@ pub fn make_table<S: EawStore, K: KeyIndex>(
         Err((fault, pages)) => return (Err(CoreFault::from(fault)), pages.into_store()),
     };
     let made = records.make(name);
-    (Ok(made), records.into_pages().into_store())
+    let store = records.into_pages().into_store();
+    (Ok(made), store)
 }

@@ -31,10 +31,10 @@ pub fn read_records<S: EawStore, K: KeyIndex>(
         Ok(records) => records,
         Err((fault, pages)) => return (Err(CoreFault::from(fault)), pages.into_store()),
     };
-    let rows = records.scan(alloc, 0, 0, u64::MAX);
+    let rows = match records.scan(alloc, 0, 0, u64::MAX) {
+        Ok(rows) => rows,
+        Err(fault) => return (Err(CoreFault::from(fault)), records.into_pages().into_store()),
+    };
     let store = records.into_pages().into_store();
-    match rows {
-        Ok(rows) => (Ok(rows), store),
-        Err(fault) => (Err(CoreFault::from(fault)), store),
-    }
+    (Ok(rows), store)
 }
