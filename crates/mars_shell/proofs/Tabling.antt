@@ -169,6 +169,25 @@ makes_over tells Opens form name old mid new alive says made makes = record {
     moved : IsTrue tells → {P : Shape → List ℕ → Index → Type 0} → P mid.shape mid.state.bytes (index_of_form form) → P old.shape old.state.bytes (index_at old.state.bytes)
     moved told {P} p = subst (λ (x : Shape × List ℕ × Index). P x.0 x.1 x.2) (λ i. (says.shape i, bytes told i, sym (of_form form old.state.bytes (says.is told)) i)) p
 
+-- the same for records that were not taken
+pub cause_over : (tells : Bool) (Opens : List ℕ → List ℕ → Type 0) (form : ℕ) (old mid : StoreView) → SaysForm tells Opens form old mid → (fault : CoreFault) → CoreCause tells (index_of_form form) mid fault → CoreCause tells (index_at old.state.bytes) old fault
+cause_over tells Opens form old mid says (core.Damaged page) cause = λ told. subst (λ (x : List ℕ × Index). x.1.fails x.0 page) (λ i. (ap (λ (s : State). s.bytes) (says.state told) i, sym (of_form form old.state.bytes (says.is told)) i)) (cause told)
+cause_over tells Opens form old mid says core.Media cause = tt
+cause_over tells Opens form old mid says core.NoMemory cause = tt
+
+pub left_over : (tells : Bool) (Opens : Shape → List ℕ → List ℕ → Type 0) (form : ℕ) (old mid new : StoreView) → old.is_dead ≡ false → SaysForm tells (Opens old.shape) form old mid → (failed : Bool) → LeftAsItWas tells (Opens mid.shape) failed mid new
+    → LeftAsItWas tells (Opens old.shape) failed old new
+left_over tells Opens form old mid new alive says failed left = record {
+  shape = left.shape ∙ says.shape;
+  kept = λ well. ((left.kept well).0 ∙ says.alive ∙ sym alive, (left.kept well).1 ∙ says.faults);
+  unwritten = λ told well. left.unwritten told well ∙ bytes told;
+  dies = λ dead. ((left.dies dead).0, subst (λ (n : ℕ). Rose n new.faults) says.faults (left.dies dead).1);
+  time = λ told. then (says.time told) (subst (λ (x : Shape × List ℕ). LeavesOnly (λ image. Opens x.0 image x.1) mid new) (λ i. (says.shape i, bytes told i)) (left.time told));
+}
+  where
+    bytes : IsTrue tells → mid.state.bytes ≡ old.state.bytes
+    bytes told = ap (λ (s : State). s.bytes) (says.state told)
+
 -- What can be made is made, unless memory runs out or it is refused.
 module _ (name : List ℕ) (old new : View) (cut : Bool) (text : List ℕ) (s s' k k' m m' : ℕ) (shape : Shape) (holds : HoldsRecords shape old) (no_source : Rose s s' → ⊥) (no_sink : Rose k k' → ⊥) (no_media : Rose m m' → ⊥) where
   pub complete_make : (status : Status) → (IsEarly status → ⊥) → Counts status s s' k k' m m' → MakeOutcome name old status new cut text → (status ≡ Good) ⊎ ((status ≡ NoMemory) ⊎ IsRefused status)
