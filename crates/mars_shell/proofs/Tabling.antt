@@ -1,6 +1,6 @@
 -- A table that is made in an array that was opened.
 use Rattle.std.proofs.Common.{◌≡◌, ◌⊎◌, ◌<◌, inl, inr, ⊎_elim, ℕ, Bool, true, false, List, [], ◌++◌, ◌∷◌, length, Result, Ok, Err, IfOk, IfErr, OnOk, OnErr, refl, sym, ap, subst, ◌∙◌, arith}
-use Rattle.std.specs.Prelude.{IsTrue, if◌then◌else◌, Some, slice_get}
+use Rattle.std.specs.Prelude.{IsTrue, MatchBool, if◌then◌else◌, Some, slice_get}
 use Rattle.std.proofs.lemmas.Bool.{false≢true}
 use Rattle.mars_base.specs.Causes.{Rose}
 use Rattle.mars_base.proofs.Going.{weaker, then}
@@ -30,12 +30,12 @@ use Rattle.script_run.specs.declared.ended.Ended.TheVariants as script
 use Rattle.mars_shell.specs.Forms.{index_of_form, index_at}
 use Rattle.mars_shell.specs.Run.{HoldsRecords, IsDamaged, Exceeds, OverRecords}
 use Rattle.mars_shell.specs.Served.{SaysForm}
-use Rattle.mars_shell.specs.Statuses.{Counts, IsEarly, IsRefused, served_status, made_status}
+use Rattle.mars_shell.specs.Statuses.{Counts, IsEarly, IsRefusal, IsRefused, served_status, made_status}
 use Rattle.mars_shell.specs.Tables.{Tells, MakeCounts, table_line, HasNames, HasNewName, Tries, MakesTable, MadeBy, RefusalCause, Refuses, MakeOutcome}
 use Rattle.mars_shell.specs.declared.status.Refusal.{Refusal}
 use Rattle.mars_shell.specs.declared.status.Refusal.TheVariants.{Exists, TablesFull, PagesFull}
 use Rattle.mars_shell.specs.declared.status.Status.{Status}
-use Rattle.mars_shell.specs.declared.status.Status.TheVariants.{Good, WriteFault, NoMemory}
+use Rattle.mars_shell.specs.declared.status.Status.TheVariants.{Good, Usage, WriteFault, MediaFault, NoMemory}
 use Rattle.mars_shell.proofs.Completing.{complete_records, nothing_read}
 use Rattle.mars_shell.proofs.Forming.{of_form}
 use Rattle.mars_shell.proofs.Running.{holds, at_entry, untaken_outcome}
@@ -187,6 +187,62 @@ left_over tells Opens form old mid new alive says failed left = record {
   where
     bytes : IsTrue tells → mid.state.bytes ≡ old.state.bytes
     bytes told = ap (λ (s : State). s.bytes) (says.state told)
+
+-- ---- the status with which it ends
+
+-- of a table whose line was written, whole or in part
+pub line_usage : (status : Status) → (status ≡ Good) ⊎ (status ≡ WriteFault) → status ≡ Usage → ⊥
+line_usage status (inl is) usage = cc (is, usage)
+line_usage status (inr is) usage = cc (is, usage)
+
+pub line_late : (status : Status) → (status ≡ Good) ⊎ (status ≡ WriteFault) → IsEarly status → ⊥
+line_late status (inl is) early = subst IsEarly is early
+line_late status (inr is) early = subst IsEarly is early
+
+pub line_accepted : (status : Status) → (status ≡ Good) ⊎ (status ≡ WriteFault) → IsRefusal status → ⊥
+line_accepted status (inl is) refusal = subst IsRefusal is refusal
+line_accepted status (inr is) refusal = subst IsRefusal is refusal
+
+pub line_untold : (Silent : Type 0) (status : Status) → (status ≡ Good) ⊎ (status ≡ WriteFault) → (status ≡ MediaFault) ⊎ (status ≡ NoMemory) → Silent
+line_untold Silent status (inl is) (inl other) = absurd (cc (is, other))
+line_untold Silent status (inl is) (inr other) = absurd (cc (is, other))
+line_untold Silent status (inr is) (inl other) = absurd (cc (is, other))
+line_untold Silent status (inr is) (inr other) = absurd (cc (is, other))
+
+pub line_counts : (status : Status) (cut : Bool) (s k k' m m' : ℕ) → status ≡ (if cut then WriteFault else Good) → MatchBool cut (Rose k k') (k' ≡ k) → m' ≡ m → Counts status s s k k' m m'
+line_counts status true s k k' m m' is rose same = subst (λ (x : Status). Counts x s s k k' m m') (sym is) (refl, rose, same)
+line_counts status false s k k' m m' is still same = subst (λ (x : Status). Counts x s s k k' m m') (sym is) (refl, still, same)
+
+-- of a table that was not made
+pub made_usage : (f : MakeFault) (name : List ℕ) → made_status f name ≡ Usage → ⊥
+made_usage make.Exists name is = cc is
+made_usage make.TablesFull name is = cc is
+made_usage (make.PagesFull n) name is = cc is
+made_usage make.Media name is = cc is
+made_usage make.Dead name is = cc is
+made_usage (make.Damaged page) name is = cc is
+
+pub made_late : (f : MakeFault) (name : List ℕ) → IsEarly (made_status f name) → ⊥
+made_late make.Exists name early = early
+made_late make.TablesFull name early = early
+made_late (make.PagesFull n) name early = early
+made_late make.Media name early = early
+made_late make.Dead name early = early
+made_late (make.Damaged page) name early = early
+
+pub made_counted : (f : MakeFault) (name : List ℕ) (s k m m' : ℕ) → (let r : Result (Result ℕ MakeFault) CoreFault = Ok (Err f) in MakeCounts r m m') → Counts (made_status f name) s s k k m m'
+made_counted make.Exists name s k m m' same = (refl, refl, same)
+made_counted make.TablesFull name s k m m' same = (refl, refl, same)
+made_counted (make.PagesFull n) name s k m m' same = (refl, refl, same)
+made_counted make.Media name s k m m' rose = (refl, rose)
+made_counted make.Dead name s k m m' none = absurd none
+made_counted (make.Damaged page) name s k m m' same = (refl, refl, same)
+
+-- of records that were not taken
+pub core_counted : (f : CoreFault) (s k m m' : ℕ) → (let r : Result (Result ℕ MakeFault) CoreFault = Err f in MakeCounts r m m') → (let r : Result Ended CoreFault = Err f in Counts (served_status r) s s k k m m')
+core_counted (core.Damaged page) s k m m' same = (refl, refl, same)
+core_counted core.Media s k m m' rose = (refl, rose)
+core_counted core.NoMemory s k m m' same = (refl, refl, same)
 
 -- What can be made is made, unless memory runs out or it is refused.
 module _ (name : List ℕ) (old new : View) (cut : Bool) (text : List ℕ) (s s' k k' m m' : ℕ) (shape : Shape) (holds : HoldsRecords shape old) (no_source : Rose s s' → ⊥) (no_sink : Rose k k' → ⊥) (no_media : Rose m m' → ⊥) where

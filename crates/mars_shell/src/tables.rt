@@ -92,18 +92,24 @@ fn tell_made<K: Sink>(
     }
 }
 
-// Writes the line of a new table, which is formed without memory.
+// Writes the line of a new table. It is formed without memory, so the status does not depend on memory.
 fn tell_table<K: Sink>(sink: &mut K, number: u8, name: &Name) -> Status
     ensures wrote { Wrote K.tells (K.written sink.old) (K.written sink.new) (K.faults sink.old) (K.faults sink.new)
         (λ cut part. (result ≡ (if cut then Status.WriteFault else Status.Good)) × IsWritten cut part (table_line number name.now)) }
     ensures end { (result ≡ Status.Good) ⊎ (result ≡ Status.WriteFault) }
 {
-    let line = ShortText::of(&[
+    let line = table_line(number, name);
+    script_status(write_ended(sink, line.as_bytes()))
+}
+
+fn table_line(number: u8, name: &Name) -> ShortText
+    ensures { result ≡ table_line number name.now }
+{
+    ShortText::of(&[
         Piece::Words(b"table "),
         Piece::Number(u64::from(number)),
         Piece::Words(b" "),
         Piece::Words(name.as_bytes()),
         Piece::Words(b"\n"),
-    ]);
-    script_status(write_ended(sink, line.as_bytes()))
+    ])
 }
