@@ -72,7 +72,14 @@ pub fn run<
         Err(WordsFault::NoCommand) => (Status::Usage, media),
         Err(WordsFault::NoMemory) => (Status::NoMemory, media),
         Ok(Words::Run(options)) => {
-            over_records(rt.alloc(), source, sink, media, options.writing, &OnCore { work: ByTurns })
+            over_records(
+                rt.alloc(),
+                source,
+                sink,
+                media,
+                options.writing,
+                &OnCore { work: ByTurns },
+            )
         }
         Ok(Words::Callers(numbers)) => {
             let crew = Crew { rt, numbers, gate };

@@ -63,7 +63,7 @@ returns-in-Err-scan-clause-left g c =
     let living = (attached.looks.still refl).dead ∙ attached.alive in
     let media = media_alone s.tells g.K.KeyIndex.index q 0 0 18446744073709551615 Rows living f c.in-Err-scan.ensures.does.cause in
     let left = read_left s.tells s.opens (pages_of (s.view c.attach_in.result.store) c.attach_in.result) q (pages_of (s.view c.scan.new.self.store) c.scan.new.self) (let r : Result Rows TableFault = Err f in is_failed r) attached.alive attached.looks c.in-Err-scan.ensures.looks in
-    let store : c.into_store-in-Err-scan.result ≡ c.scan.new.self.store = c.into_store-in-Err-scan.ensures ∙ ap (λ (r : Shown g.row.S.Denot). r.store) c.into_pages-in-Err-scan.ensures in
+    let store : c.into_store-in-Err-scan.result ≡ c.scan.new.self.store = c.into_store-in-Err-scan.ensures ∙ ap (λ (r : Shown g.row.S.Denot). r.store) c.into_pages.ensures in
     subst (λ (x : g.row.S.Denot × Bool × g.row.S.Denot). LeftAsItWas g.S.EawStore.tells (g.S.EawStore.opens (g.S.EawStore.view x.0).shape) x.1 (g.S.EawStore.view x.0) (g.S.EawStore.view x.2))
     (λ i. (c.attach_in.ensures.store i, (media ∙ ap is_media_fault (sym c.from-in-Err-scan.ensures)) i, sym store i)) left
 
@@ -89,5 +89,5 @@ returns-clause-left g c =
     let s = g.S.EawStore in
     let attached = c.in-Ok.ensures.attached in
     let left = read_left s.tells s.opens (pages_of (s.view c.attach_in.result.store) c.attach_in.result) (pages_of (s.view c.in-Ok.records.store) c.in-Ok.records) (pages_of (s.view c.scan.new.self.store) c.scan.new.self) false attached.alive attached.looks c.in-Ok-scan.ensures.looks in
-    let store : c.into_store-store.result ≡ c.scan.new.self.store = c.into_store-store.ensures ∙ ap (λ (r : Shown g.row.S.Denot). r.store) c.into_pages.ensures in
+    let store : c.into_store-store.result ≡ c.scan.new.self.store = c.into_store-store.ensures ∙ ap (λ (r : Shown g.row.S.Denot). r.store) c.into_pages-2.ensures in
     subst (λ (x : g.row.S.Denot × g.row.S.Denot). LeftAsItWas g.S.EawStore.tells (g.S.EawStore.opens (g.S.EawStore.view x.0).shape) false (g.S.EawStore.view x.0) (g.S.EawStore.view x.1)) (λ i. (c.attach_in.ensures.store i, sym store i)) left
