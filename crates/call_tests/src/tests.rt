@@ -1,9 +1,7 @@
 mod accounts;
 mod arrays;
 mod counting;
-mod groups;
 mod histories;
-mod late;
 mod lists;
 mod opening;
 mod queues;

@@ -13,8 +13,6 @@ mod laws;
 mod marks;
 mod overlay;
 mod reading;
-#[cfg(test)]
-mod tests;
 
 pub use deferred::DeferredParts;
 pub use entry::Entry;

@@ -1,21 +1,25 @@
 -- A dump over the records of a store, which is left as it was.
 use Rattle.std.proofs.Common.{◌≡◌, ℕ, List, [], Bool, true, false, refl, sym, ap, subst, ◌∙◌, arith}
-use Rattle.std.specs.Prelude.{IsTrue, if◌then◌else◌}
+use Rattle.std.specs.Prelude.{IsTrue, MatchBool, if◌then◌else◌, Result, Ok, Err}
 use Rattle.std.specs.FinMap.{entries}
+use Rattle.mars_base.specs.Causes.{Rose}
 use Rattle.mars_base.proofs.Going as going
 use Rattle.array_shape.specs.declared.shape.Shape.{Shape}
 use Rattle.eaw_face.specs.StoreView.{StoreView}
 use Rattle.eaw_face.specs.Causes.{IsAlive}
 use Rattle.page_store.specs.Index.{Index}
 use Rattle.record_table.specs.Shown.{table_of}
-use Rattle.mars_core.specs.Attached.{LeftAsItWas}
+use Rattle.mars_core.specs.Attached.{LeftAsItWas, is_media_fault}
+use Rattle.mars_core.specs.declared.fault.CoreFault.{CoreFault}
+use Rattle.mars_core.specs.declared.fault.CoreFault.TheVariants as core
 use Rattle.mars_core.specs.Over.{index_of}
 use Rattle.texts.specs.Written.{IsWritten}
+use Rattle.script_run.specs.Counts.{Counts}
 use Rattle.script_run.specs.declared.ended.Ended.{Ended}
 use Rattle.script_run.specs.declared.ended.Ended.TheVariants.{All, WriteFault}
 use Rattle.mars_shell.specs.Dump.{Dumps, dump_lines}
 use Rattle.mars_shell.specs.Run.{begun_on}
-use Rattle.mars_shell.specs.Served.{opens_of, Served}
+use Rattle.mars_shell.specs.Served.{opens_of, Served, ServedCounts}
 
 module _ (tells : Bool) (told : IsTrue tells) (Opens : Shape → List ℕ → List ℕ → Type 0) (index : Index) (old new : StoreView) (alive : IsAlive old) (sound : index.sound old.state.bytes) (left : LeftAsItWas tells (Opens old.shape) false old new)
     (only : IsAlive new → (image : List ℕ) → new.left_since new.moment image → Opens new.shape image new.state.bytes) where
@@ -48,3 +52,15 @@ module _ (tells : Bool) (told : IsTrue tells) (Opens : Shape → List ℕ → Li
     unwritten = λ _ _. same;
     spared = λ _. record { alive = lives; time = left.time told; now = opens_now };
   }
+
+-- the counts of faults of a dump that came to its end
+pub dump_counts : (ended : Ended) (cut : Bool) (k k' m m' : ℕ) → ended ≡ (if cut then WriteFault else All) → MatchBool cut (Rose k k') (k' ≡ k) → m' ≡ m → Counts ended k k' m m'
+dump_counts ended true k k' m m' is rose same = subst (λ (e : Ended). Counts e k k' m m') (sym is) (rose, same)
+dump_counts ended false k k' m m' is still same = subst (λ (e : Ended). Counts e k k' m m') (sym is) (still, same)
+
+-- and of one whose records were not read
+pub unread_counts : (tells : Bool) (Opens : List ℕ → List ℕ → Type 0) (old new : StoreView) (fault : CoreFault) (k : ℕ) → LeftAsItWas tells Opens (is_media_fault fault) old new
+    → (let r : Result Ended CoreFault = Err fault in ServedCounts r k k old.faults new.faults)
+unread_counts tells Opens old new (core.Damaged page) k left = (refl, (left.kept refl).1)
+unread_counts tells Opens old new core.Media k left = (refl, (left.dies refl).1)
+unread_counts tells Opens old new core.NoMemory k left = (refl, (left.kept refl).1)

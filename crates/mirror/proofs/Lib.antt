@@ -7,3 +7,4 @@ pub mod Cuts
 pub mod Grouping
 pub mod Streams
 pub mod Joining
+pub mod Ways

@@ -63,6 +63,12 @@ pub record Follows (tells : Bool) (old new : Stand) (piece : List ℕ) : Type 0 
   pub data_is : HasFollowed tells frames old.store new.store
   pub ready : IsReady new
 
+-- two followers stand alike
+pub record StandsAs (tells : Bool) (one other : Stand) : Type 0 where
+  pub applied : one.applied ≡ other.applied
+  pub rest : one.rest ≡ other.rest
+  pub data_is : IsTrue tells → one.store.state.bytes ≡ other.store.state.bytes
+
 -- what might have been left: the data with a first part of the frames of this feed applied
 pub record LeavesFirst (Opens : Shape → List ℕ → List ℕ → Type 0) (old : Stand) (piece image : List ℕ) : Type 0 where
   pub frames : List Frame

@@ -19,7 +19,7 @@ mod to_come;
 pub use follow_fault::FollowFault;
 pub use follower::Follower;
 pub use frame_test::is_frame;
-pub use laws::frames_are_cut_in_one_way;
+pub use laws::{frames_are_cut_in_one_way, streams_are_followed_in_one_way};
 
 #[cfg(test)]
 mod tests;

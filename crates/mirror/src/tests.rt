@@ -4,7 +4,9 @@ ghost use Rattle.eaw_face.specs.Causes.{IsAlive};
 ghost use Rattle.mirror.specs.Applying.{IsFree};
 ghost use Rattle.memory_eaw.specs.Shown.{shown};
 
-use crate::{FollowFault, Follower, frames_are_cut_in_one_way, is_frame};
+use crate::{
+    FollowFault, Follower, frames_are_cut_in_one_way, is_frame, streams_are_followed_in_one_way,
+};
 use array_shape::Shape;
 use eaw_face::EawStore;
 use memory_eaw::MemoryEaw;
@@ -52,6 +54,7 @@ fn bytes_at(follower: Follower<MemoryEaw>, addr: u64) -> Option<[u8; 4]> {
 #[test]
 fn a_frame_is_told_from_other_bytes(rt: HostRuntime) -> Result<(), Fail> {
     frames_are_cut_in_one_way();
+    streams_are_followed_in_one_way::<MemoryEaw>();
     assert!(rt; is_frame(&FIRST, Shape::default()));
     assert!(rt; is_frame(&SECOND, Shape::default()));
     assert!(rt; !is_frame(&FIRST[..28], Shape::default()));

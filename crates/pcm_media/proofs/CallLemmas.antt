@@ -5,10 +5,10 @@ use Rattle.std.specs.Prelude.{replicate, zero, suc}
 use Rattle.pcm_media.specs.declared.call.Call.{Call}
 use Rattle.pcm_media.specs.declared.call.Call.TheVariants.{Read, Write, Barrier}
 use Rattle.pcm_media.specs.declared.call.Place.{Place}
-use Rattle.pcm_media.specs.declared.call.Pause.{Pause}
-use Rattle.pcm_media.specs.declared.call.Pause.TheVariants.{Reads, Settled, FailedRead, FailedWrite, FailedBarrier}
+use Rattle.pcm_media.specs.declared.call.End.{End}
+use Rattle.pcm_media.specs.declared.call.End.TheVariants.{Open, Settled, FailedRead, FailedWrite, FailedBarrier}
 use Rattle.pcm_media.specs.declared.call.Mark.{Mark}
-use Rattle.pcm_media.specs.Calls.{Record, writes_at, failed_writes, calls_of, places_under, all_under, calls_in, numbered, records_in, ranges_in, with_call}
+use Rattle.pcm_media.specs.Calls.{Record, writes_at, failed_writes, calls_at, calls_of, places_under, all_under, calls_in, numbered, records_in, ranges_in, with_call}
 use Rattle.pcm_media.specs.Replay.{next_unsettled, unsettled_after}
 use Rattle.pcm_media.specs.Logged.{AreCounted}
 use Rattle.pcm_media.proofs.ChoiceLemmas.{unsettled_after-push, ranges_in-push}
@@ -36,13 +36,22 @@ replicate-push (suc n) c =
     let next : suc n + 1 ≡ suc (n + 1) = omega arith in
     ap (λ (k : ℕ). replicate k c) next ∙ ap (λ (l : List (Call × Bool)). c ∷ l) (replicate-push n c)
 
--- places behind those of a pause do not change its calls
-calls_of-append : (pause : Pause) (ps qs : List Place) → failed_writes pause ≤ length ps → calls_of pause (ps ++ qs) ≡ calls_of pause ps
-calls_of-append (Reads count) ps qs fits = refl
-calls_of-append Settled ps qs fits = refl
-calls_of-append FailedRead ps qs fits = refl
-calls_of-append FailedWrite ps qs fits = ap (λ (l : List Place). writes_at l false) (take-append-le 1 ps qs fits)
-calls_of-append FailedBarrier ps qs fits = refl
+-- places behind those of an end do not change its call
+calls_at-append : (end : End) (ps qs : List Place) → failed_writes end ≤ length ps → calls_at end (ps ++ qs) ≡ calls_at end ps
+calls_at-append Open ps qs fits = refl
+calls_at-append Settled ps qs fits = refl
+calls_at-append FailedRead ps qs fits = refl
+calls_at-append FailedWrite ps qs fits = ap (λ (l : List Place). writes_at l false) (take-append-le 1 ps qs fits)
+calls_at-append FailedBarrier ps qs fits = refl
+
+-- nor do places behind those of a mark change its calls
+calls_of-append : (m : Mark) (ps qs : List Place) → places_under m ≤ length ps → calls_of m (ps ++ qs) ≡ calls_of m ps
+calls_of-append m ps qs fits =
+    let rest = length-drop m.writes ps in
+    let front : take m.writes (ps ++ qs) ≡ take m.writes ps = take-append-le m.writes ps qs (omega arith) in
+    let mid : calls_at m.end (drop m.writes (ps ++ qs)) ≡ calls_at m.end (drop m.writes ps)
+    = ap (calls_at m.end) (drop-append-le m.writes ps qs (omega arith)) ∙ calls_at-append m.end (drop m.writes ps) qs (omega (arith, rest)) in
+    ap (λ (l : List (Call × Bool)). replicate m.reads (Read, true) ++ l) (both (ap (λ (l : List Place). writes_at l true) front) mid)
 
 pub all_under-append : (ms ns : List Mark) → all_under (ms ++ ns) ≡ all_under ms + all_under ns
 all_under-append [] ns = omega arith
@@ -52,150 +61,175 @@ all_under-append (m ∷ ms) ns = omega (arith, all_under-append ms ns)
 calls_in-append : (ms ns : List Mark) (ps qs : List Place) → all_under ms ≡ length ps → calls_in (ms ++ ns) (ps ++ qs) ≡ calls_in ms ps ++ calls_in ns qs
 calls_in-append [] ns ps qs all = rw (nil_from_length ps (sym all)) refl
 calls_in-append (m ∷ ms) ns ps qs all =
-    let rest = length-drop m.writes ps in
     let under = length-drop (places_under m) ps in
-    let front : take m.writes (ps ++ qs) ≡ take m.writes ps = take-append-le m.writes ps qs (omega arith) in
-    let mid : calls_of m.pause (drop m.writes (ps ++ qs)) ≡ calls_of m.pause (drop m.writes ps)
-    = ap (calls_of m.pause) (drop-append-le m.writes ps qs (omega arith)) ∙ calls_of-append m.pause (drop m.writes ps) qs (omega (arith, rest)) in
     let back : calls_in (ms ++ ns) (drop (places_under m) (ps ++ qs)) ≡ calls_in ms (drop (places_under m) ps) ++ calls_in ns qs
     = ap (calls_in (ms ++ ns)) (drop-append-le (places_under m) ps qs (omega arith)) ∙ calls_in-append ms ns (drop (places_under m) ps) qs (omega (arith, under)) in
-    let w : List (Call × Bool) = writes_at (take m.writes ps) true in
-    let k : List (Call × Bool) = calls_of m.pause (drop m.writes ps) in
-    let a : List (Call × Bool) = calls_in ms (drop (places_under m) ps) in
-    let b : List (Call × Bool) = calls_in ns qs in
-    let tail : calls_of m.pause (drop m.writes (ps ++ qs)) ++ calls_in (ms ++ ns) (drop (places_under m) (ps ++ qs)) ≡ (k ++ a) ++ b
-    = both mid back ∙ sym (append_assoc k a b) in
-    both (ap (λ (l : List Place). writes_at l true) front) tail ∙ sym (append_assoc w (k ++ a) b)
+    both (calls_of-append m ps qs (omega arith)) back ∙ sym (append_assoc (calls_of m ps) (calls_in ms (drop (places_under m) ps)) (calls_in ns qs))
 
--- the calls of one mark, all of whose places these are
-calls_in-one : (m : Mark) (ps extra : List Place) → m.writes ≡ length ps → failed_writes m.pause ≡ length extra → calls_in (m ∷ []) (ps ++ extra) ≡ writes_at ps true ++ calls_of m.pause extra
-calls_in-one m ps extra writes failed =
-    let front : take m.writes (ps ++ extra) ≡ ps = take-append-le m.writes ps extra (omega arith) ∙ take_all m.writes ps (omega arith) in
-    let mid : drop m.writes (ps ++ extra) ≡ extra = drop-append-le m.writes ps extra (omega arith) ∙ ap (λ (l : List Place). l ++ extra) (drop_all m.writes ps (omega arith)) in
-    let back : drop (places_under m) (ps ++ extra) ≡ [] = drop_all (places_under m) (ps ++ extra) (omega (arith, length-append ps extra)) in
-    both (ap (λ (l : List Place). writes_at l true) front) (both (ap (calls_of m.pause) mid) (ap (λ (l : List Place). writes_at l true) back) ∙ append-nil (calls_of m.pause extra))
+-- the calls of a mark, by its reads, its writes and its end
+calls_of-is : (m : Mark) (places : List Place) (reads writes : ℕ) (end : End) → m.reads ≡ reads → m.writes ≡ writes → m.end ≡ end
+    → calls_of m places ≡ replicate reads (Read, true) ++ (writes_at (take writes places) true ++ calls_at end (drop writes places))
+calls_of-is m places reads writes end is_reads is_writes is_end =
+    ap (λ (n : ℕ). replicate n (Read, true) ++ (writes_at (take m.writes places) true ++ calls_at m.end (drop m.writes places))) is_reads
+    ∙ ap (λ (n : ℕ). replicate reads (Read, true) ++ (writes_at (take n places) true ++ calls_at m.end (drop n places))) is_writes
+    ∙ ap (λ (e : End). replicate reads (Read, true) ++ (writes_at (take writes places) true ++ calls_at e (drop writes places))) is_end
 
--- reads that one more joins
-pub one_read : (init : List Mark) (before count : ℕ) (places : List Place) → all_under init + before ≡ length places
-    → calls_in (init ++ record { writes = before; pause = Reads (count + 1) } ∷ []) places ≡ calls_in (init ++ record { writes = before; pause = Reads count } ∷ []) places ++ (Read, true) ∷ []
-one_read init before count places whole =
-    let front = take (all_under init) places in
-    let back = drop (all_under init) places in
-    let long : length back ≡ before = omega (arith, length-drop (all_under init) places) in
-    let split : (n : ℕ) → calls_in (init ++ record { writes = before; pause = Reads n } ∷ []) places ≡ calls_in init front ++ (writes_at back true ++ replicate n (Read, true))
-    = λ n.
-    ap (calls_in (init ++ record { writes = before; pause = Reads n } ∷ [])) (sym (take-append-drop (all_under init) places))
-    ∙ calls_in-append init (record { writes = before; pause = Reads n } ∷ []) front back (sym (length-take-le (all_under init) places (omega arith)))
-    ∙ ap (λ (l : List Place). calls_in init front ++ calls_in (record { writes = before; pause = Reads n } ∷ []) l) (sym (append-nil back))
-    ∙ ap (λ (l : List (Call × Bool)). calls_in init front ++ l) (calls_in-one (record { writes = before; pause = Reads n }) back [] (sym long) refl) in
-    split (count + 1)
-    ∙ ap (λ (l : List (Call × Bool)). calls_in init front ++ (writes_at back true ++ l)) (replicate-push count (Read, true))
-    ∙ ap (λ (l : List (Call × Bool)). calls_in init front ++ l) (sym (append_assoc (writes_at back true) (replicate count (Read, true)) ((Read, true) ∷ [])))
-    ∙ sym (append_assoc (calls_in init front) (writes_at back true ++ replicate count (Read, true)) ((Read, true) ∷ []))
-    ∙ ap (λ (l : List (Call × Bool)). l ++ (Read, true) ∷ []) (sym (split count))
+-- the calls of a mark whose writes are at all of some places, which others follow
+whole_mark : (m : Mark) (ps qs : List Place) (reads : ℕ) (end : End) → m.reads ≡ reads → m.writes ≡ length ps → m.end ≡ end
+    → calls_of m (ps ++ qs) ≡ (replicate reads (Read, true) ++ writes_at ps true) ++ calls_at end qs
+whole_mark m ps qs reads end is_reads is_writes is_end =
+    let front : take (length ps) (ps ++ qs) ≡ ps = take-append-le (length ps) ps qs (omega arith) ∙ take_all (length ps) ps (omega arith) in
+    let behind : drop (length ps) (ps ++ qs) ≡ qs = drop-append-le (length ps) ps qs (omega arith) ∙ ap (λ (l : List Place). l ++ qs) (drop_all (length ps) ps (omega arith)) in
+    calls_of-is m (ps ++ qs) reads (length ps) end is_reads is_writes is_end
+    ∙ ap (λ (l : List (Call × Bool)). replicate reads (Read, true) ++ l) (both (ap (λ (l : List Place). writes_at l true) front) (ap (calls_at end) behind))
+    ∙ sym (append_assoc (replicate reads (Read, true)) (writes_at ps true) (calls_at end qs))
 
-module _ (marks : List Mark) (places : List Place) (marked settled : ℕ) (counted : AreCounted marks places marked settled) where
-  -- further marks, and further places behind those under the marks
-  joined_calls : (ns : List Mark) (qs : List Place) → calls_in (marks ++ ns) (take marked places ++ qs) ≡ calls_in marks (take marked places) ++ calls_in ns qs
-  joined_calls ns qs = calls_in-append marks ns (take marked places) qs (counted.under ∙ sym (length-take-le marked places counted.within))
+module _ (marks : List Mark) (last : Mark) (places : List Place) (settled : ℕ) (counted : AreCounted marks last places settled) where
+  abbrev front : List Place
+  front = take (all_under marks) places
 
-  parted : (extra : List Place) → places ++ extra ≡ take marked places ++ (drop marked places ++ extra)
-  parted extra = ap (λ (l : List Place). l ++ extra) (sym (take-append-drop marked places)) ∙ append_assoc (take marked places) (drop marked places) extra
+  -- the places of the last mark
+  abbrev back : List Place
+  back = drop (all_under marks) places
 
-  -- writes behind the last mark
-  calls_behind : (extra : List Place) → calls_in marks (places ++ extra) ≡ calls_in marks (take marked places) ++ writes_at (drop marked places ++ extra) true
-  calls_behind extra =
-      ap (λ (l : List Mark). calls_in l (places ++ extra)) (sym (append-nil marks))
-      ∙ ap (calls_in (marks ++ [])) (parted extra)
-      ∙ joined_calls [] (drop marked places ++ extra)
+  long : length back ≡ last.writes
+  long = omega (arith, length-drop (all_under marks) places, counted.under)
 
-  calls_now : calls_in marks places ≡ calls_in marks (take marked places) ++ writes_at (drop marked places) true
-  calls_now = ap (calls_in marks) (sym (append-nil places)) ∙ calls_behind []
-      ∙ ap (λ (l : List Place). calls_in marks (take marked places) ++ writes_at l true) (append-nil (drop marked places))
+  parted : (extra : List Place) → places ++ extra ≡ front ++ (back ++ extra)
+  parted extra = ap (λ (l : List Place). l ++ extra) (sym (take-append-drop (all_under marks) places)) ∙ append_assoc front back extra
 
-  pub one_write : (p : Place) → calls_in marks (places ++ p ∷ []) ≡ calls_in marks places ++ (Write p.at p.len, true) ∷ []
-  one_write p =
-      let call : List (Call × Bool) = (Write p.at p.len, true) ∷ [] in
-      calls_behind (p ∷ [])
-      ∙ ap (λ (l : List (Call × Bool)). calls_in marks (take marked places) ++ l) (writes_at-append (drop marked places) (p ∷ []) true)
-      ∙ sym (append_assoc (calls_in marks (take marked places)) (writes_at (drop marked places) true) call)
-      ∙ sym (ap (λ (l : List (Call × Bool)). l ++ call) calls_now)
+  -- the calls before the last mark, and those of others in its place
+  joined : (ns : List Mark) (extra : List Place) → calls_in (marks ++ ns) (places ++ extra) ≡ calls_in marks front ++ calls_in ns (back ++ extra)
+  joined ns extra = ap (calls_in (marks ++ ns)) (parted extra)
+      ∙ calls_in-append marks ns front (back ++ extra) (sym (length-take-le (all_under marks) places (omega (arith, counted.under))))
 
-  pub one_mark : (m : Mark) (extra : List Place) → m.writes ≡ length places - marked → failed_writes m.pause ≡ length extra → calls_in (marks ++ m ∷ []) (places ++ extra) ≡ calls_in marks places ++ calls_of m.pause extra
-  one_mark m extra writes failed =
-      ap (calls_in (marks ++ m ∷ [])) (parted extra)
-      ∙ joined_calls (m ∷ []) (drop marked places ++ extra)
-      ∙ ap (λ (l : List (Call × Bool)). calls_in marks (take marked places) ++ l) (calls_in-one m (drop marked places) extra (omega (arith, length-drop marked places)) failed)
-      ∙ sym (append_assoc (calls_in marks (take marked places)) (writes_at (drop marked places) true) (calls_of m.pause extra))
-      ∙ sym (ap (λ (l : List (Call × Bool)). l ++ calls_of m.pause extra) calls_now)
+  -- what the last mark has
+  abbrev own : List (Call × Bool)
+  own = replicate last.reads (Read, true) ++ writes_at back true
+
+  last_is : (extra : List Place) → calls_of last (back ++ extra) ≡ own
+  last_is extra = whole_mark last back extra last.reads Open refl (sym long) counted.ended ∙ append-nil own
+
+  calls_now : calls_in (marks ++ last ∷ []) places ≡ calls_in marks front ++ own
+  calls_now = ap (calls_in (marks ++ last ∷ [])) (sym (append-nil places)) ∙ joined (last ∷ []) []
+      ∙ ap (λ (l : List (Call × Bool)). calls_in marks front ++ l) (append-nil (calls_of last (back ++ [])) ∙ last_is [])
+
+  -- marks in place of the last one that have one more call
+  one_more : (ns : List Mark) (extra : List Place) (c : Call × Bool) → calls_in ns (back ++ extra) ≡ own ++ c ∷ [] → calls_in (marks ++ ns) (places ++ extra) ≡ calls_in (marks ++ last ∷ []) places ++ c ∷ []
+  one_more ns extra c is =
+      joined ns extra
+      ∙ ap (λ (l : List (Call × Bool)). calls_in marks front ++ l) is
+      ∙ sym (append_assoc (calls_in marks front) own (c ∷ []))
+      ∙ ap (λ (l : List (Call × Bool)). l ++ c ∷ []) (sym calls_now)
 
   -- the calls are then these, with one more
-  module _ (marks' : List Mark) (places' : List Place) (call : Call) (is_done : Bool) (more : calls_in marks' places' ≡ calls_in marks places ++ (call, is_done) ∷ []) where
-    pub one_record : records_in marks' places' ≡ with_call (records_in marks places) call is_done
+  module _ (marks' : List Mark) (last' : Mark) (places' : List Place) (call : Call) (is_done : Bool) (more : calls_in (marks' ++ last' ∷ []) places' ≡ calls_in (marks ++ last ∷ []) places ++ (call, is_done) ∷ []) where
+    one_record : records_in (marks' ++ last' ∷ []) places' ≡ with_call (records_in (marks ++ last ∷ []) places) call is_done
     one_record =
-        ap (numbered 0) more ∙ numbered-push 0 (calls_in marks places) (call, is_done)
-        ∙ ap (λ (n : ℕ). numbered 0 (calls_in marks places) ++ record { moment = n; call = call; is_done = is_done } ∷ []) here
+        ap (numbered 0) more ∙ numbered-push 0 (calls_in (marks ++ last ∷ []) places) (call, is_done)
+        ∙ ap (λ (n : ℕ). numbered 0 (calls_in (marks ++ last ∷ []) places) ++ record { moment = n; call = call; is_done = is_done } ∷ []) here
       where
-        here : 0 + length (calls_in marks places) + 1 ≡ length (numbered 0 (calls_in marks places)) + 1
-        here = omega (arith, numbered-length 0 (calls_in marks places))
+        here : 0 + length (calls_in (marks ++ last ∷ []) places) + 1 ≡ length (numbered 0 (calls_in (marks ++ last ∷ []) places)) + 1
+        here = omega (arith, numbered-length 0 (calls_in (marks ++ last ∷ []) places))
 
-    pub one_counted : (marked' settled' : ℕ) → all_under marks' ≡ marked' → marked' ≤ length places' → settled' ≤ length places' → next_unsettled call is_done (ranges_in (drop settled places)) ≡ ranges_in (drop settled' places') → AreCounted marks' places' marked' settled'
-    one_counted marked' settled' under within past unsettled = record {
+    one_counted : (settled' : ℕ) → all_under marks' + last'.writes ≡ length places' → last'.end ≡ Open → settled' ≤ length places' → next_unsettled call is_done (ranges_in (drop settled places)) ≡ ranges_in (drop settled' places') → AreCounted marks' last' places' settled'
+    one_counted settled' under ended past unsettled = record {
       under = under;
-      within = within;
+      ended = ended;
       past = past;
       unsettled =
           ap (λ (l : List Record). unsettled_after l []) one_record
-          ∙ unsettled_after-push (records_in marks places) (record { moment = length (records_in marks places) + 1; call = call; is_done = is_done }) []
+          ∙ unsettled_after-push (records_in (marks ++ last ∷ []) places) (record { moment = length (records_in (marks ++ last ∷ []) places) + 1; call = call; is_done = is_done }) []
           ∙ ap (next_unsettled call is_done) counted.unsettled
           ∙ unsettled;
     }
 
   -- what a push comes to: the marks and places are counted, and hold one more call
-  abbrev pub Keeps : List Mark → List Place → ℕ → ℕ → Call → Bool → Type 0
-  Keeps marks' places' marked' settled' call is_done = AreCounted marks' places' marked' settled' × (records_in marks' places' ≡ with_call (records_in marks places) call is_done)
+  abbrev pub Keeps : List Mark → Mark → List Place → ℕ → Call → Bool → Type 0
+  Keeps marks' last' places' settled' call is_done = AreCounted marks' last' places' settled' × (records_in (marks' ++ last' ∷ []) places' ≡ with_call (records_in (marks ++ last ∷ []) places) call is_done)
 
-  -- a mark of a call that is no write
-  pub mark_kept : (marks' : List Mark) (m : Mark) (call : Call) (is_done : Bool) (marked' settled' : ℕ) → marks' ≡ marks ++ m ∷ [] → marked' ≡ length places → m.writes ≡ length places - marked → failed_writes m.pause ≡ 0
-      → calls_of m.pause [] ≡ (call, is_done) ∷ [] → settled' ≤ length places → next_unsettled call is_done (ranges_in (drop settled places)) ≡ ranges_in (drop settled' places) → Keeps marks' places marked' settled' call is_done
-  mark_kept marks' m call is_done marked' settled' new all writes failed is past unsettled =
-      let calls : calls_in marks' places ≡ calls_in marks places ++ (call, is_done) ∷ []
-      = ap (λ (l : List Mark). calls_in l places) new ∙ ap (calls_in (marks ++ m ∷ [])) (sym (append-nil places)) ∙ one_mark m [] writes failed ∙ both refl is in
-      let under : all_under marks' ≡ marked' = ap all_under new ∙ omega (arith, all_under-append marks (m ∷ []), counted.under, counted.within) in
-      (one_counted marks' places call is_done calls marked' settled' under (omega arith) past unsettled, one_record marks' places call is_done calls)
+  -- one more read that was done, in the last mark or in one behind it
+  pub read_kept : (marks' : List Mark) (last' : Mark) → (((marks' ≡ marks) × (last.writes ≡ 0) × (last' ≡ record last { reads = last.reads + 1 }))
+      ⊎ ((marks' ≡ marks ++ last ∷ []) × (last' ≡ record { reads = 1; writes = 0; end = Open }))) → Keeps marks' last' places settled Read true
+  read_kept marks' last' (inl (same, none, is)) =
+      let one : last'.writes ≡ length back = ap (λ (m : Mark). m.writes) is ∙ sym long in
+      let ended : last'.end ≡ Open = ap (λ (m : Mark). m.end) is ∙ counted.ended in
+      let empty : back ≡ [] = nil_from_length back (long ∙ none) in
+      let c : Call × Bool = (Read, true) in
+      let mine : own ≡ replicate last.reads c = ap (λ (l : List Place). replicate last.reads c ++ writes_at l true) empty ∙ append-nil (replicate last.reads c) in
+      let now : calls_in (last' ∷ []) (back ++ []) ≡ own ++ c ∷ [] = append-nil (calls_of last' (back ++ []))
+      ∙ whole_mark last' back [] (last.reads + 1) Open (ap (λ (m : Mark). m.reads) is) one ended ∙ append-nil (replicate (last.reads + 1) c ++ writes_at back true)
+      ∙ ap (λ (l : List Place). replicate (last.reads + 1) c ++ writes_at l true) empty ∙ append-nil (replicate (last.reads + 1) c)
+      ∙ replicate-push last.reads c ∙ ap (λ (l : List (Call × Bool)). l ++ c ∷ []) (sym mine) in
+      let calls : calls_in (marks' ++ last' ∷ []) places ≡ calls_in (marks ++ last ∷ []) places ++ c ∷ []
+      = ap (λ (l : List Mark). calls_in (l ++ last' ∷ []) places) same ∙ ap (calls_in (marks ++ last' ∷ [])) (sym (append-nil places)) ∙ one_more (last' ∷ []) [] c now in
+      (one_counted marks' last' places Read true calls settled (omega (arith, ap all_under same, one, long, counted.under)) ended counted.past refl, one_record marks' last' places Read true calls)
+  read_kept marks' last' (inr (new, is)) =
+      let c : Call × Bool = (Read, true) in
+      let next : calls_of last' (drop (places_under last) (back ++ [])) ≡ c ∷ []
+      = whole_mark last' [] (drop (places_under last) (back ++ [])) 1 Open (ap (λ (m : Mark). m.reads) is) (ap (λ (m : Mark). m.writes) is) (ap (λ (m : Mark). m.end) is) in
+      let now : calls_in (last ∷ last' ∷ []) (back ++ []) ≡ own ++ c ∷ [] = both (last_is []) (append-nil (calls_of last' (drop (places_under last) (back ++ []))) ∙ next) in
+      let calls : calls_in (marks' ++ last' ∷ []) places ≡ calls_in (marks ++ last ∷ []) places ++ c ∷ []
+      = ap (λ (l : List Mark). calls_in (l ++ last' ∷ []) places) new ∙ ap (λ (l : List Mark). calls_in l places) (append_assoc marks (last ∷ []) (last' ∷ []))
+      ∙ ap (calls_in (marks ++ last ∷ last' ∷ [])) (sym (append-nil places)) ∙ one_more (last ∷ last' ∷ []) [] c now in
+      let under : all_under marks' + last'.writes ≡ length places
+      = omega (arith, ap all_under new, all_under-append marks (last ∷ []), ap failed_writes counted.ended, ap (λ (m : Mark). m.writes) is, counted.under) in
+      (one_counted marks' last' places Read true calls settled under (ap (λ (m : Mark). m.end) is) counted.past refl, one_record marks' last' places Read true calls)
 
-  write_unsettled : (places' : List Place) (p : Place) → places' ≡ places ++ p ∷ [] → (p.at, p.len) ∷ ranges_in (drop settled places) ≡ ranges_in (drop settled places')
+  pub write_unsettled : (places' : List Place) (p : Place) → places' ≡ places ++ p ∷ [] → (p.at, p.len) ∷ ranges_in (drop settled places) ≡ ranges_in (drop settled places')
   write_unsettled places' p new = sym (ap (λ (l : List Place). ranges_in (drop settled l)) new ∙ ap ranges_in (drop-append-le settled places (p ∷ []) counted.past) ∙ ranges_in-push (drop settled places) p)
 
-  -- a write that was done
-  pub write_kept : (places' : List Place) (p : Place) → places' ≡ places ++ p ∷ [] → Keeps marks places' marked settled (Write p.at p.len) true
-  write_kept places' p new =
-      let long : length places' ≡ length places + 1 = ap length new ∙ length-append places (p ∷ []) in
-      let calls : calls_in marks places' ≡ calls_in marks places ++ (Write p.at p.len, true) ∷ [] = ap (calls_in marks) new ∙ one_write p in
-      (one_counted marks places' (Write p.at p.len) true calls marked settled counted.under (omega (arith, counted.within)) (omega (arith, counted.past)) (write_unsettled places' p new), one_record marks places' (Write p.at p.len) true calls)
+  -- one more write that was done, in the last mark or in one behind it
+  pub write_kept : (marks' : List Mark) (last' : Mark) (places' : List Place) (p : Place) → places' ≡ places ++ p ∷ [] → (((marks' ≡ marks) × (last' ≡ record last { writes = last.writes + 1 }))
+      ⊎ ((marks' ≡ marks ++ last ∷ []) × (last' ≡ record { reads = 0; writes = 1; end = Open }))) → Keeps marks' last' places' settled (Write p.at p.len) true
+  write_kept marks' last' places' p more (inl (same, is)) =
+      let c : Call × Bool = (Write p.at p.len, true) in
+      let grown : length places' ≡ length places + 1 = ap length more ∙ length-append places (p ∷ []) in
+      let writes : last'.writes ≡ last.writes + 1 = ap (λ (m : Mark). m.writes) is in
+      let one : last'.writes ≡ length (back ++ p ∷ []) = omega (arith, writes, long, length-append back (p ∷ [])) in
+      let ended : last'.end ≡ Open = ap (λ (m : Mark). m.end) is ∙ counted.ended in
+      let reads : List (Call × Bool) = replicate last.reads (Read, true) in
+      let now : calls_in (last' ∷ []) (back ++ p ∷ []) ≡ own ++ c ∷ [] = append-nil (calls_of last' (back ++ p ∷ []))
+      ∙ ap (calls_of last') (sym (append-nil (back ++ p ∷ [])))
+      ∙ whole_mark last' (back ++ p ∷ []) [] last.reads Open (ap (λ (m : Mark). m.reads) is) one ended ∙ append-nil (reads ++ writes_at (back ++ p ∷ []) true)
+      ∙ ap (λ (l : List (Call × Bool)). reads ++ l) (writes_at-append back (p ∷ []) true) ∙ sym (append_assoc reads (writes_at back true) (c ∷ [])) in
+      let calls : calls_in (marks' ++ last' ∷ []) places' ≡ calls_in (marks ++ last ∷ []) places ++ c ∷ []
+      = ap (λ (l : List Mark). calls_in (l ++ last' ∷ []) places') same ∙ ap (calls_in (marks ++ last' ∷ [])) more ∙ one_more (last' ∷ []) (p ∷ []) c now in (
+        one_counted marks' last' places' (Write p.at p.len) true calls settled (omega (arith, ap all_under same, writes, counted.under, grown)) ended (omega (arith, counted.past, grown)) (write_unsettled places' p more),
+        one_record marks' last' places' (Write p.at p.len) true calls,
+      )
+  write_kept marks' last' places' p more (inr (new, is)) =
+      let c : Call × Bool = (Write p.at p.len, true) in
+      let grown : length places' ≡ length places + 1 = ap length more ∙ length-append places (p ∷ []) in
+      let under_last : places_under last ≡ length back = omega (arith, ap failed_writes counted.ended, long) in
+      let rest : drop (places_under last) (back ++ p ∷ []) ≡ p ∷ [] = drop-append-le (places_under last) back (p ∷ []) (omega arith) ∙ ap (λ (l : List Place). l ++ p ∷ []) (drop_all (places_under last) back (omega arith)) in
+      let next : calls_of last' (drop (places_under last) (back ++ p ∷ [])) ≡ c ∷ []
+      = ap (calls_of last') rest ∙ whole_mark last' (p ∷ []) [] 0 Open (ap (λ (m : Mark). m.reads) is) (ap (λ (m : Mark). m.writes) is) (ap (λ (m : Mark). m.end) is) in
+      let now : calls_in (last ∷ last' ∷ []) (back ++ p ∷ []) ≡ own ++ c ∷ [] = both (last_is (p ∷ [])) (append-nil (calls_of last' (drop (places_under last) (back ++ p ∷ []))) ∙ next) in
+      let calls : calls_in (marks' ++ last' ∷ []) places' ≡ calls_in (marks ++ last ∷ []) places ++ c ∷ []
+      = ap (λ (l : List Mark). calls_in (l ++ last' ∷ []) places') new ∙ ap (λ (l : List Mark). calls_in l places') (append_assoc marks (last ∷ []) (last' ∷ []))
+      ∙ ap (calls_in (marks ++ last ∷ last' ∷ [])) more ∙ one_more (last ∷ last' ∷ []) (p ∷ []) c now in
+      let under : all_under marks' + last'.writes ≡ length places'
+      = omega (arith, ap all_under new, all_under-append marks (last ∷ []), ap failed_writes counted.ended, ap (λ (m : Mark). m.writes) is, counted.under, grown) in (
+        one_counted marks' last' places' (Write p.at p.len) true calls settled under (ap (λ (m : Mark). m.end) is) (omega (arith, counted.past, grown)) (write_unsettled places' p more),
+        one_record marks' last' places' (Write p.at p.len) true calls,
+      )
 
-  -- a write that was not
-  pub failed_write_kept : (marks' : List Mark) (places' : List Place) (p : Place) (m : Mark) (marked' : ℕ) → marks' ≡ marks ++ m ∷ [] → places' ≡ places ++ p ∷ [] → marked' ≡ length places' → m.writes ≡ length places - marked → m.pause ≡ FailedWrite
-      → Keeps marks' places' marked' settled (Write p.at p.len) false
-  failed_write_kept marks' places' p m marked' new new_places all writes failed =
-      let long : length places' ≡ length places + 1 = ap length new_places ∙ length-append places (p ∷ []) in
-      let one : failed_writes m.pause ≡ 1 = ap failed_writes failed in
-      let calls : calls_in marks' places' ≡ calls_in marks places ++ (Write p.at p.len, false) ∷ []
-      = ap (λ (l : List Mark). calls_in l places') new ∙ ap (calls_in (marks ++ m ∷ [])) new_places ∙ one_mark m (p ∷ []) writes one ∙ ap (λ (x : Pause). calls_in marks places ++ calls_of x (p ∷ [])) failed in
-      let under : all_under marks' ≡ marked' = ap all_under new ∙ omega (arith, all_under-append marks (m ∷ []), counted.under, counted.within, one) in
-      (one_counted marks' places' (Write p.at p.len) false calls marked' settled under (omega arith) (omega (arith, counted.past)) (write_unsettled places' p new_places), one_record marks' places' (Write p.at p.len) false calls)
-
-  -- one more read that was done, in a mark of its own or in the last one
-  pub read_kept : (marks' : List Mark) (m : Mark) (rest : List Mark) (writes marked' : ℕ) → marks' ≡ rest ++ m ∷ [] → marked' ≡ length places → writes ≡ length places - marked
-      → (((rest ≡ marks) × (m ≡ record { writes = writes; pause = Reads 1 }))
-      ⊎ ((before count : ℕ) × (writes ≡ 0) × (marks ≡ rest ++ record { writes = before; pause = Reads count } ∷ []) × (m ≡ record { writes = before; pause = Reads (count + 1) })))
-      → Keeps marks' places marked' settled Read true
-  read_kept marks' m rest writes marked' new all since (inl own) =
-      mark_kept marks' (record { writes = writes; pause = Reads 1 }) Read true marked' settled (new ∙ ap (λ (l : List Mark). l ++ m ∷ []) own.0 ∙ ap (λ (x : Mark). marks ++ x ∷ []) own.1) all since refl refl counted.past refl
-  read_kept marks' m rest writes marked' new all since (inr (before, count, none, old, is)) =
-      let now : marks' ≡ rest ++ record { writes = before; pause = Reads (count + 1) } ∷ [] = new ∙ ap (λ (x : Mark). rest ++ x ∷ []) is in
-      let sum : all_under rest + before ≡ length places = omega (arith, all_under-append rest (record { writes = before; pause = Reads count } ∷ []), ap all_under old, counted.under, counted.within) in
-      let calls : calls_in marks' places ≡ calls_in marks places ++ (Read, true) ∷ []
-      = ap (λ (l : List Mark). calls_in l places) now ∙ one_read rest before count places sum ∙ ap (λ (l : List Mark). calls_in l places ++ (Read, true) ∷ []) (sym old) in
-      let under : all_under marks' ≡ marked' = ap all_under now ∙ omega (arith, all_under-append rest (record { writes = before; pause = Reads (count + 1) } ∷ [])) in
-      (one_counted marks' places Read true calls marked' settled under (omega arith) counted.past refl, one_record marks' places Read true calls)
+  -- the end of the last mark, and an empty one behind it; a failed write has one more place
+  pub end_kept : (marks' : List Mark) (last' m : Mark) (places' extra : List Place) (settled' : ℕ) (call : Call) (is_done : Bool) → marks' ≡ marks ++ m ∷ [] → last' ≡ record { reads = 0; writes = 0; end = Open }
+      → m.reads ≡ last.reads → m.writes ≡ last.writes → places' ≡ places ++ extra → failed_writes m.end ≡ length extra → calls_at m.end extra ≡ (call, is_done) ∷ [] → settled' ≤ length places'
+      → next_unsettled call is_done (ranges_in (drop settled places)) ≡ ranges_in (drop settled' places') → Keeps marks' last' places' settled' call is_done
+  end_kept marks' last' m places' extra settled' call is_done new is reads writes more failed at_end past unsettled =
+      let c : Call × Bool = (call, is_done) in
+      let grown : length places' ≡ length places + length extra = ap length more ∙ length-append places extra in
+      let next : calls_of last' (drop (places_under m) (back ++ extra)) ≡ []
+      = whole_mark last' [] (drop (places_under m) (back ++ extra)) 0 Open (ap (λ (x : Mark). x.reads) is) (ap (λ (x : Mark). x.writes) is) (ap (λ (x : Mark). x.end) is) in
+      let now : calls_in (m ∷ last' ∷ []) (back ++ extra) ≡ own ++ c ∷ [] =
+      both (whole_mark m back extra last.reads m.end reads (writes ∙ sym long) refl ∙ ap (λ (l : List (Call × Bool)). own ++ l) at_end) (append-nil (calls_of last' (drop (places_under m) (back ++ extra))) ∙ next)
+      ∙ append-nil (own ++ c ∷ []) in
+      let calls : calls_in (marks' ++ last' ∷ []) places' ≡ calls_in (marks ++ last ∷ []) places ++ c ∷ []
+      = ap (λ (l : List Mark). calls_in (l ++ last' ∷ []) places') new ∙ ap (λ (l : List Mark). calls_in l places') (append_assoc marks (m ∷ []) (last' ∷ []))
+      ∙ ap (calls_in (marks ++ m ∷ last' ∷ [])) more ∙ one_more (m ∷ last' ∷ []) extra c now in
+      let under : all_under marks' + last'.writes ≡ length places'
+      = omega (arith, ap all_under new, all_under-append marks (m ∷ []), ap (λ (x : Mark). x.writes) is, writes, failed, counted.under, grown) in
+      (one_counted marks' last' places' call is_done calls settled' under (ap (λ (x : Mark). x.end) is) past unsettled, one_record marks' last' places' call is_done calls)

@@ -1,7 +1,8 @@
 -- What the record of a medium's calls shows, and what is counted beside it.
-use Rattle.std.specs.Prelude.{ℕ, ◌≡◌, ◌-◌, ◌≤◌, List, [], ◌∷◌, ◌++◌, length, drop, min}
+use Rattle.std.specs.Prelude.{ℕ, ◌≡◌, ◌+◌, ◌-◌, List, [], ◌∷◌, ◌++◌, ◌≤◌, length, drop, min}
 use Rattle.pcm_media.specs.declared.call.Call.{Call}
 use Rattle.pcm_media.specs.declared.call.Place.{Place}
+use Rattle.pcm_media.specs.declared.call.End.TheVariants.{Open}
 use Rattle.pcm_media.specs.declared.call.Mark.{Mark}
 use Rattle.pcm_media.specs.Calls.{Record, all_under, records_in, ranges_in}
 use Rattle.pcm_media.specs.Replay.{unsettled_after}
@@ -15,9 +16,10 @@ pub record Logged : Type 0 where
 abbrev pub least_room : ℕ → ℕ → ℕ → ℕ → ℕ
 least_room capacity len capacity' len' = min (capacity - len) (capacity' - len')
 
--- How many places come before the last mark, and how many before the last barrier that was done: those behind it are unsettled.
-pub record AreCounted (marks : List Mark) (places : List Place) (marked settled : ℕ) : Type 0 where
-  pub under : all_under marks ≡ marked
-  pub within : marked ≤ length places
+-- The places are those of the marks, the last among them, which has no end yet. So many come before the last barrier that was done: those
+-- behind it are unsettled.
+pub record AreCounted (marks : List Mark) (last : Mark) (places : List Place) (settled : ℕ) : Type 0 where
+  pub under : all_under marks + last.writes ≡ length places
+  pub ended : last.end ≡ Open
   pub past : settled ≤ length places
-  pub unsettled : unsettled_after (records_in marks places) [] ≡ ranges_in (drop settled places)
+  pub unsettled : unsettled_after (records_in (marks ++ last ∷ []) places) [] ≡ ranges_in (drop settled places)

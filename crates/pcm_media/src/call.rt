@@ -18,11 +18,11 @@ pub struct Place {
     pub len: u64,
 }
 
-/// Calls that are no writes which were done, or one write that was not.
+/// What came behind the calls of a mark that were done.
 #[derive(Clone, Copy, Debug)]
-pub enum Pause {
-    /// So many reads that were done.
-    Reads { count: u32 },
+pub enum End {
+    /// The calls of the next mark.
+    Open,
     /// A barrier that was done.
     Settled,
     FailedRead,
@@ -30,15 +30,24 @@ pub enum Pause {
     FailedBarrier,
 }
 
-/// A pause among the writes.
+/// Reads that were done, then writes that were, and what came behind them.
 #[derive(Clone, Copy, Debug)]
 pub struct Mark {
-    /// How many writes were done since the mark before.
-    pub writes: u64,
-    pub pause: Pause,
+    pub reads: u8,
+    pub writes: u8,
+    pub end: End,
 }
 
-// What a write takes in the record beside its own bytes, and what a pause takes.
+impl Mark {
+    /// No call yet.
+    pub const EMPTY: Mark = Mark {
+        reads: 0,
+        writes: 0,
+        end: End::Open,
+    };
+}
+
+// What a write takes in the record beside its own bytes, and what a mark takes.
 const _: () = prove!(size_of::<Place>() == 16);
 
-const _: () = prove!(size_of::<Mark>() == 16);
+const _: () = prove!(size_of::<Mark>() == 3);

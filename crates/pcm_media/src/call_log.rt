@@ -1,12 +1,13 @@
-// The calls that a medium in memory keeps, in little room: 16 bytes for a write, and as many for a pause among the writes.
-ghost use Rattle.std.specs.Prelude.{◌≡◌, ◌+◌, ◌<◌, ◌≤◌, ◌⊎◌, ℕ, [], ◌∷◌, ◌++◌, IfOk, OnOk, OnErr};
+// The calls that a medium in memory keeps, in little room: 16 bytes for a write, and three for a mark, which counts reads and then writes
+// up to a barrier.
+ghost use Rattle.std.specs.Prelude.{◌≡◌, ◌+◌, ◌<◌, ◌≤◌, ◌⊎◌, ℕ, [], ◌∷◌, ◌++◌, IfOk, OnOk, OnErr, vec_len};
 ghost use Rattle.std.specs.Vec.{vec_capacity};
 ghost use Rattle.pcm_media.specs.declared.call.Call.TheVariants.{Read, Write, Barrier};
-ghost use Rattle.pcm_media.specs.declared.call.Pause.TheVariants.{Reads};
+ghost use Rattle.pcm_media.specs.declared.call.End.TheVariants.{Open};
 ghost use Rattle.pcm_media.specs.Calls.{ranges_in, with_call};
 ghost use Rattle.pcm_media.specs.Replay.{unsettled_after};
 
-use crate::call::{Call, Mark, Pause, Place};
+use crate::call::{Call, End, Mark, Place};
 use mars_base::NoMemory;
 use std::alloc::Global;
 use std::marker::Model;
@@ -16,49 +17,62 @@ pub struct CallLog {
     // Of all writes, also of those that failed.
     places: Vec<Place>,
     marks: Vec<Mark>,
-    // How many of the places came before the last mark.
-    marked: usize,
+    // The mark behind those, which further calls may join.
+    last: Mark,
     // How many of the places came before the last barrier that was done.
     settled: usize,
 }
 
 impl Model for CallLog {
-    ghost use Rattle.std.specs.Prelude.{length};
+    ghost use Rattle.std.specs.Prelude.{length, ◌∷◌, ◌++◌, []};
     ghost use Rattle.std.specs.Vec.{vec_capacity};
     ghost use Rattle.pcm_media.specs.Calls.{records_in};
     ghost use Rattle.pcm_media.specs.Logged.{Logged, least_room, AreCounted};
 
     ghost Value = { Logged };
 
-    ghost view = { λ l. record { records = records_in l.marks.items l.places.items; room = least_room (vec_capacity l.places) (length l.places.items) (vec_capacity l.marks) (length l.marks.items) } };
+    ghost view = { λ l. record { records = records_in (l.marks.items ++ l.last ∷ []) l.places.items; room = least_room (vec_capacity l.places) (length l.places.items) (vec_capacity l.marks) (length l.marks.items) } };
 
-    ghost invariant = { λ l. AreCounted l.marks.items l.places.items l.marked l.settled };
+    ghost invariant = { λ l. AreCounted l.marks.items l.last l.places.items l.settled };
 }
 
-// The mark for a read that was done behind so many writes. If it joins the reads of the last mark, that mark is taken off.
-fn read_mark(marks: &mut Vec<Mark>, writes: u64) -> Mark
+// The last mark with one more read. If that can not join its reads, the mark is put behind the others, and a new one begins.
+fn with_read(marks: &mut Vec<Mark>, last: Mark) -> Mark
+    requires room { vec_len marks.old < vec_capacity marks.old }
     ensures room { vec_capacity marks.new ≡ vec_capacity marks.old }
-    ensures mark { ((marks.new.items ≡ marks.old.items) × (result ≡ record { writes = writes; pause = Reads 1 }))
-        ⊎ ((before count : ℕ) × (writes ≡ 0) × (marks.old.items ≡ marks.new.items ++ record { writes = before; pause = Reads count } ∷ [])
-        × (result ≡ record { writes = before; pause = Reads (count + 1) })) }
+    ensures mark { ((marks.new.items ≡ marks.old.items) × (last.writes ≡ 0) × (result ≡ record last { reads = last.reads + 1 }))
+        ⊎ ((marks.new.items ≡ marks.old.items ++ last ∷ []) × (result ≡ record { reads = 1; writes = 0; end = Open })) }
 {
-    match marks.last().copied() {
-        Some(
-            Mark {
-                writes: before,
-                pause: Pause::Reads { count },
-            },
-        ) if writes == 0 && count < u32::MAX => {
-            let _last = marks.take_last();
-            Mark {
-                writes: before,
-                pause: Pause::Reads { count: count + 1 },
-            }
-        }
-        _ => Mark {
-            writes,
-            pause: Pause::Reads { count: 1 },
-        },
+    if last.writes == 0 && last.reads < u8::MAX {
+        return Mark {
+            reads: last.reads + 1,
+            ..last
+        };
+    }
+    marks.push_reserved(last);
+    Mark {
+        reads: 1,
+        ..Mark::EMPTY
+    }
+}
+
+// The last mark with one more write, or a new one.
+fn with_write(marks: &mut Vec<Mark>, last: Mark) -> Mark
+    requires room { vec_len marks.old < vec_capacity marks.old }
+    ensures room { vec_capacity marks.new ≡ vec_capacity marks.old }
+    ensures mark { ((marks.new.items ≡ marks.old.items) × (result ≡ record last { writes = last.writes + 1 }))
+        ⊎ ((marks.new.items ≡ marks.old.items ++ last ∷ []) × (result ≡ record { reads = 0; writes = 1; end = Open })) }
+{
+    if last.writes < u8::MAX {
+        return Mark {
+            writes: last.writes + 1,
+            ..last
+        };
+    }
+    marks.push_reserved(last);
+    Mark {
+        writes: 1,
+        ..Mark::EMPTY
     }
 }
 
@@ -71,7 +85,7 @@ impl CallLog {
         Ok(CallLog {
             places: Vec::with_capacity(alloc, calls as usize)?,
             marks: Vec::with_capacity(alloc, calls as usize)?,
-            marked: 0,
+            last: Mark::EMPTY,
             settled: 0,
         })
     }
@@ -113,17 +127,15 @@ impl CallLog {
         ensures records { self.new.records ≡ with_call self.old.records Read is_done }
         ensures room { self.old.room ≤ self.new.room + 1 }
     {
-        let writes = (self.places.len() - self.marked) as u64;
-        self.marked = self.places.len();
-        if !is_done {
+        if is_done {
+            self.last = with_read(&mut self.marks, self.last);
+        } else {
             self.marks.push_reserved(Mark {
-                writes,
-                pause: Pause::FailedRead,
+                end: End::FailedRead,
+                ..self.last
             });
-            return;
+            self.last = Mark::EMPTY;
         }
-        let mark = read_mark(&mut self.marks, writes);
-        self.marks.push_reserved(mark);
     }
 
     fn push_write(&mut self, place: Place, is_done: bool)
@@ -131,14 +143,15 @@ impl CallLog {
         ensures records { self.new.records ≡ with_call self.old.records (Write place.at place.len) is_done }
         ensures room { self.old.room ≤ self.new.room + 1 }
     {
-        let writes = (self.places.len() - self.marked) as u64;
         self.places.push_reserved(place);
-        if !is_done {
+        if is_done {
+            self.last = with_write(&mut self.marks, self.last);
+        } else {
             self.marks.push_reserved(Mark {
-                writes,
-                pause: Pause::FailedWrite,
+                end: End::FailedWrite,
+                ..self.last
             });
-            self.marked = self.places.len();
+            self.last = Mark::EMPTY;
         }
     }
 
@@ -147,19 +160,19 @@ impl CallLog {
         ensures records { self.new.records ≡ with_call self.old.records Barrier is_done }
         ensures room { self.old.room ≤ self.new.room + 1 }
     {
-        let writes = (self.places.len() - self.marked) as u64;
-        self.marked = self.places.len();
         if is_done {
             self.settled = self.places.len();
             self.marks.push_reserved(Mark {
-                writes,
-                pause: Pause::Settled,
+                end: End::Settled,
+                ..self.last
             });
+            self.last = Mark::EMPTY;
         } else {
             self.marks.push_reserved(Mark {
-                writes,
-                pause: Pause::FailedBarrier,
+                end: End::FailedBarrier,
+                ..self.last
             });
+            self.last = Mark::EMPTY;
         }
     }
 }
