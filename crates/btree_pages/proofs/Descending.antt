@@ -3,6 +3,7 @@ use Rattle.std.proofs.Common.{◌≡◌, ◌≢◌, ℕ, zero, suc, ◌+◌, ◌
 use Rattle.std.proofs.lemmas.Bool.Decides.{nat_tests, leb_tells}
 use Rattle.std.proofs.lemmas.List.{append-nil}
 use Rattle.std.specs.Option.{option_or}
+use Rattle.std.specs.Prelude.{IfSome}
 use Rattle.record_slots.specs.Places.{page_bytes, next_page}
 use Rattle.page_store.specs.Pairs.{Pair, found, next}
 use Rattle.index_pages.specs.Keys.{or_else, head, key_end}
@@ -11,6 +12,7 @@ use Rattle.index_pages.specs.Pieces.{joined}
 use Rattle.index_pages.proofs.PageFacts.{length-page_pairs}
 use Rattle.index_pages.proofs.Rising.{next-append, next-head, next-right}
 use Rattle.index_pages.proofs.Tiling.{tile_bounds, joined_rises}
+use Rattle.index_pages.proofs.Turns.{next_least, next_below}
 use Rattle.btree_laws.proofs.Apart.{child_facts, entries_tile, start_of, tree_some}
 use Rattle.btree_laws.proofs.Ways.{child_given, found_on_way}
 use Rattle.btree_laws.specs.Descent.{child_for, leaf_for, page_for}
@@ -257,6 +259,11 @@ module _ (root : Root) (m : ℕ) (bytes : List ℕ) (key steps page low high : �
         begins = b.1;
       }
 
+-- of two bounds above a key the one that counts is above it
+pub or_above : (a b : Option ℕ) (key : ℕ) → IfSome a (λ x. key < x) → IfSome b (λ x. key < x) → IfSome (option_or a b) (λ x. key < x)
+or_above None b key first second = second
+or_above (Some x) b key first second = first
+
 -- the level of the page says whether it is a leaf
 down_level : (root : Root) (bytes : List ℕ) (key steps page : ℕ) (bound : Option ℕ) → (d : Down root bytes key steps page bound) → level_of bytes page ≡ d.m
 down_level root bytes key steps page bound d = tree_level root d.m bytes page d.low d.high d.tree
@@ -298,6 +305,11 @@ last root zero bytes key steps page bound d is none =
       found_is = d.finds key d.from d.to ∙ ap (λ (n : ℕ). found (pairs_under n bytes page) key) is;
       next_is = d.nexts key d.from d.to ∙ ap (λ (n : ℕ). or_else (next (pairs_under n bytes page) key) (from_bound root bytes bound)) is;
       begins = d.begins;
+      rises = (d.low, d.high, leaf.0.rises);
+      later = λ k p above there.
+          let lt : k < d.high = omega (arith, next_least (page_pairs bytes page) k p there, next_below d.low d.high (page_pairs bytes page) k p leaf.0.rises there) in
+          d.nexts k (omega (arith, above, d.from)) lt ∙ ap (λ (n : ℕ). or_else (next (pairs_under n bytes page) k) (from_bound root bytes bound)) is
+          ∙ ap (λ (o : Option Pair). or_else o (from_bound root bytes bound)) there;
     }
 
 pub down_last : (root : Root) (bytes : List ℕ) (key steps page : ℕ) (bound : Option ℕ) → Down root bytes key steps page bound → level_of bytes page ≡ 0 → AtLeaf root bytes key bound (page_bytes bytes page)

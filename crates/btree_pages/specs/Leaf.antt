@@ -1,7 +1,7 @@
 -- The leaf of a key, and what comes after it.
-use Rattle.std.specs.Prelude.{ℕ, ◌≡◌, ◌≢◌, nat_lt, if◌then◌else◌, List, [], ◌∷◌, Option, Some, None}
+use Rattle.std.specs.Prelude.{ℕ, ◌≡◌, ◌≢◌, ◌≤◌, nat_lt, if◌then◌else◌, List, [], ◌∷◌, Option, Some, None}
 use Rattle.record_slots.specs.Places.{AreGiven}
-use Rattle.page_store.specs.Pairs.{Pair, found, next}
+use Rattle.page_store.specs.Pairs.{Pair, Rise, InTurn, found, next}
 use Rattle.index_pages.specs.Keys.{or_else}
 use Rattle.index_pages.specs.Page.{page_pairs, pairs_said}
 use Rattle.btree_laws.specs.Descent.{leaf_for}
@@ -31,9 +31,13 @@ pub record AtLeaf (root : Root) (bytes : List ℕ) (key : ℕ) (bound : Option �
   pub found_is : found (pairs_of_tree bytes root.page) key ≡ found (pairs_said leaf) key
   pub next_is : next (pairs_of_tree bytes root.page) key ≡ or_else (next (pairs_said leaf) key) (from_bound root bytes bound)
   pub begins : IsBegin root bytes bound
+  pub rises : (low : ℕ) × (high : ℕ) × Rise low high (pairs_said leaf)
+  pub later : (k : ℕ) (p : Pair) → key ≤ k → next (pairs_said leaf) k ≡ Some p → next (pairs_of_tree bytes root.page) k ≡ Some p
 
--- the first pair from the key on in the key's leaf, and the bound at which the next leaf begins
-pub record Reaches (root : Root) (bytes : List ℕ) (key : ℕ) (least : Option Pair) (bound : Option ℕ) : Type 0 where
-  pub least_is : least ≡ next (page_pairs bytes (leaf_for bytes root.page key)) key
-  pub next_is : next (pairs_of_tree bytes root.page) key ≡ or_else least (from_bound root bytes bound)
+-- The pairs from the key on in the key's leaf. They come one after another in the tree, and if there is none, the next pair is the first from
+-- the bound on, at which the next leaf begins.
+pub record Reaches (root : Root) (bytes : List ℕ) (key : ℕ) (some : List Pair) (bound : Option ℕ) : Type 0 where
+  pub turn : InTurn (pairs_of_tree bytes root.page) key some
+  pub none : some ≡ [] → next (pairs_of_tree bytes root.page) key ≡ from_bound root bytes bound
+  pub here : some ≡ [] → next (page_pairs bytes (leaf_for bytes root.page key)) key ≡ None
   pub begins : IsBegin root bytes bound

@@ -5,10 +5,10 @@ ghost use Rattle.btree_pages.specs.Index.{tree};
 use crate::{checking, insertion, look, removal};
 use btree_laws::Root;
 use eaw_face::EawStore;
-use page_store::{CheckFault, IndexFault, KeyIndex, PageFault, Pages};
+use page_store::{CheckFault, IndexFault, KeyIndex, NextPairs, PageFault, Pages};
 
 /// Indexes that are B+ trees of pages, one for each table. A look-up reads the pages from the root down to the leaf of its key, eight at
-/// most. To find the pair with the least key from a bound on, it may also read the next leaf. An insertion splits each full page on its way
+/// most. To find the next pairs from a key on, it may go down once more, to the next leaf. An insertion splits each full page on its way
 /// down and then adds the pair. A split is one nested top action of four parts: both halves, the page that names them, and the super page.
 /// Adding the pair takes three: the slot, the leaf and the super page. Free pages and free slots are taken first.
 ///
@@ -36,12 +36,12 @@ impl KeyIndex for BTreePages {
         look::find(pages, Root { page: root, table }, key)
     }
 
-    fn next_key<S: EawStore>(
+    fn next_pairs<S: EawStore>(
         pages: &mut Pages<S>,
         root: u32,
         table: u8,
         from: u64,
-    ) -> Result<Option<(u64, u32)>, PageFault> {
+    ) -> Result<NextPairs, PageFault> {
         look::next(pages, Root { page: root, table }, from)
     }
 

@@ -1,11 +1,11 @@
 // Look-ups from the root down.
-ghost use Rattle.std.specs.Prelude.{◌≡◌, ◌<◌, ◌≤◌, IfOk, IfSome, OnOk, IsErrOf, IsTrue};
+ghost use Rattle.std.specs.Prelude.{◌≡◌, ◌<◌, ◌≤◌, [], IfOk, IfErr, IfSome, OnOk, IsErrOf, IsTrue, length};
 ghost use Rattle.array_shape.specs.Places.{page_count};
 ghost use Rattle.eaw_face.specs.Causes.{IsAlive};
 ghost use Rattle.record_slots.specs.Places.{page_bytes};
 ghost use Rattle.page_store.specs.Index.{IsTable, slots_of};
 ghost use Rattle.page_store.specs.Looks.{Looks, LookCause, is_failed};
-ghost use Rattle.page_store.specs.Pairs.{found, next};
+ghost use Rattle.page_store.specs.Pairs.{AreInside, AreNext, found};
 ghost use Rattle.page_store.specs.Shown.{pages_of};
 ghost use Rattle.index_pages.specs.Fetched.{TestCause};
 ghost use Rattle.index_pages.specs.Page.{count_said};
@@ -18,9 +18,9 @@ use crate::page::{child_in, read_node_head, slot_in};
 use btree_laws::Root;
 use eaw_face::EawStore;
 use index_pages::{
-    Head, LEVEL_MAX, PAGE_LEN, SLOTS_IN_PAGE, fetch_page, index_page_count, next_pair,
+    Head, LEVEL_MAX, PAGE_LEN, SLOTS_IN_PAGE, fetch_page, index_page_count, rest_of,
 };
-use page_store::{PageFault, Pages};
+use page_store::{NextPairs, PageFault, Pages};
 
 // The most pages on the way from the root to a leaf.
 pub const WAY_MAX: u32 = LEVEL_MAX as u32 + 1;
@@ -71,6 +71,7 @@ fn descend<S: EawStore>(
     ensures leaf { IsTrue S.tells → IfOk result (λ leaf. AtLeaf root (S.view pages.old.store).state.bytes key leaf.bound bytes.new) }
     ensures count { IfOk result (λ leaf. leaf.count ≡ count_said bytes.new) }
     ensures most { IfOk result (λ leaf. leaf.count ≤ 30) }
+    ensures above { IfOk result (λ leaf. IfSome leaf.bound (λ bound. key < bound)) }
     ensures dead { IsErrOf result PageFault.Dead → pages.new ≡ pages.old }
 {
     let count = index_page_count(pages);
@@ -129,15 +130,15 @@ pub fn find<S: EawStore>(
     Ok(Some(slot as u32))
 }
 
-// What the leaf of a key says from that key on: its first such pair, and where the next leaf begins.
-#[derive(Clone, Copy)]
+// The pairs of the leaf of a key from that key on, and where the next leaf begins.
+#[derive(Drop)]
 struct Reached {
     page: u32,
-    least: Option<(u64, u32)>,
+    some: NextPairs,
     bound: Option<u64>,
 }
 
-// Finds the least pair from a key on in the leaf of that key.
+// Finds the pairs from a key on in the leaf of that key.
 fn reach<S: EawStore>(pages: &mut Pages<S>, root: Root, from: u64) -> Result<Reached, PageFault>
     requires root { root.page < page_count (S.view pages.old.store).shape }
     requires sound { IsTrue S.tells → IsAlive (S.view pages.old.store) → AreSoundTrees (S.view pages.old.store).state.bytes }
@@ -145,66 +146,65 @@ fn reach<S: EawStore>(pages: &mut Pages<S>, root: Root, from: u64) -> Result<Rea
     ensures looks { Looks S.tells (S.opens (S.view pages.old.store).shape) (is_failed result)
         (pages_of (S.view pages.old.store) pages.old) (pages_of (S.view pages.new.store) pages.new) }
     ensures cause { LookCause S.tells (S.view pages.old.store) result }
-    ensures least { IsTrue S.tells → IfOk result (λ at. Reaches root (S.view pages.old.store).state.bytes from at.least at.bound) }
-    ensures inside { IfOk result (λ at. IfSome at.least (λ pair. pair.1 < slots_of (S.view pages.old.store).shape)) }
+    ensures reaches { IsTrue S.tells → IfOk result (λ at. Reaches root (S.view pages.old.store).state.bytes from at.some.items at.bound) }
+    ensures inside { IfOk result (λ at. AreInside from (slots_of (S.view pages.old.store).shape) at.some.items) }
+    ensures above { IfOk result (λ at. IfSome at.bound (λ bound. from < bound)) }
     ensures dead { IsErrOf result PageFault.Dead → pages.new ≡ pages.old }
 {
-    let count = index_page_count(pages);
+    let slots = SLOTS_IN_PAGE * index_page_count(pages);
     let mut bytes = [0; PAGE_LEN];
     let leaf = match descend(pages, root, from, &mut bytes) {
         Ok(leaf) => leaf,
         Err(fault) => return Err(fault),
     };
-    let Leaf { page, bound, .. } = leaf;
-    let Some((key, slot)) = next_pair(&bytes, leaf.count, from) else {
-        return Ok(Reached {
-            page,
-            least: None,
-            bound,
-        });
-    };
-    if slot >= u64::from(SLOTS_IN_PAGE * count) {
+    let Leaf { page, count, bound } = leaf;
+    let Some(some) = rest_of(&bytes, count, from, slots) else {
         return Err(PageFault::Damaged { page });
-    }
-    Ok(Reached {
-        page,
-        least: Some((key, slot as u32)),
-        bound,
-    })
+    };
+    Ok(Reached { page, some, bound })
 }
 
-// The pair with the least key from this one on, in the leaf of that key or in the next leaf.
+// The pairs of a leaf from its beginning on. It is damaged if it has none.
+fn begun(at: Reached) -> Result<NextPairs, PageFault>
+    ensures some { IfOk result (λ some. (some ≡ at.some) × (1 ≤ length some.items)) }
+    ensures none { IfErr result (λ fault. (fault ≡ PageFault.Damaged at.page) × (at.some.items ≡ [])) }
+{
+    let Reached { page, some, .. } = at;
+    if some.is_empty() {
+        return Err(PageFault::Damaged { page });
+    }
+    Ok(some)
+}
+
+// The pairs from this key on in the leaf of the key; those of the next leaf, if that one has none.
 pub fn next<S: EawStore>(
     pages: &mut Pages<S>,
     root: Root,
     from: u64,
-) -> Result<Option<(u64, u32)>, PageFault>
+) -> Result<NextPairs, PageFault>
     requires root { root.page < page_count (S.view pages.old.store).shape }
     requires sound { IsTrue S.tells → IsAlive (S.view pages.old.store) → AreSoundTrees (S.view pages.old.store).state.bytes }
     requires named { IsTrue S.tells → IsAlive (S.view pages.old.store) → IsTable (S.view pages.old.store).state.bytes root.table root.page }
     ensures looks { Looks S.tells (S.opens (S.view pages.old.store).shape) (is_failed result)
         (pages_of (S.view pages.old.store) pages.old) (pages_of (S.view pages.new.store) pages.new) }
     ensures cause { LookCause S.tells (S.view pages.old.store) result }
-    ensures next { IsTrue S.tells → IfOk result (λ pair. pair ≡ next (pairs_of_tree (S.view pages.old.store).state.bytes root.page) from) }
-    ensures inside { IfOk result (λ pair. IfSome pair (λ pair. pair.1 < slots_of (S.view pages.old.store).shape)) }
+    ensures next { IsTrue S.tells → IfOk result (λ some. AreNext (pairs_of_tree (S.view pages.old.store).state.bytes root.page) from some.items) }
+    ensures inside { IfOk result (λ some. AreInside from (slots_of (S.view pages.old.store).shape) some.items) }
     ensures dead { IsErrOf result PageFault.Dead → pages.new ≡ pages.old }
 {
     let at = match reach(pages, root, from) {
         Ok(at) => at,
         Err(fault) => return Err(fault),
     };
-    if at.least.is_some() {
-        return Ok(at.least);
+    let Reached { some, bound, .. } = at;
+    if !some.is_empty() {
+        return Ok(some);
     }
-    let Some(low) = at.bound else {
-        return Ok(None);
+    let Some(low) = bound else {
+        return Ok(some);
     };
-    let behind = match reach(pages, root, low) {
-        Ok(behind) => behind,
-        Err(fault) => return Err(fault),
-    };
-    if behind.least.is_none() {
-        return Err(PageFault::Damaged { page: behind.page });
+    match reach(pages, root, low) {
+        Ok(behind) => begun(behind),
+        Err(fault) => Err(fault),
     }
-    Ok(behind.least)
 }

@@ -1,5 +1,5 @@
 // What a page of the tree says.
-ghost use Rattle.std.specs.Prelude.{◌≡◌, ◌≤◌, IfSome, IfNone};
+ghost use Rattle.std.specs.Prelude.{◌≡◌, ◌<◌, ◌≤◌, IfSome, IfNone};
 ghost use Rattle.page_store.specs.Pairs.{found};
 ghost use Rattle.index_pages.specs.Page.{count_said, pairs_said};
 ghost use Rattle.btree_laws.specs.Descent.{child_for};
@@ -35,6 +35,7 @@ pub fn child_in(page: &[u8; PAGE_LEN], count: u16, key: u64) -> (u64, Option<u64
     requires most { count ≤ 30 }
     ensures child { result.0 ≡ child_for (pairs_said page.now) key }
     ensures bound { result.1 ≡ bound_in (pairs_said page.now) key }
+    ensures above { IfSome result.1 (λ low. key < low) }
 {
     let mut child = read_pair(page, 0).1;
     for i in 1..count {

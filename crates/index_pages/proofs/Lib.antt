@@ -39,3 +39,4 @@ pub mod Tests
 pub mod Removals
 pub mod Even
 pub mod Extending
+pub mod Turns

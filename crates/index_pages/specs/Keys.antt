@@ -1,5 +1,5 @@
 -- Places in a list of pairs.
-use Rattle.std.specs.Prelude.{ℕ, zero, suc, ◌^◌, List, [], ◌∷◌, Option, Some, None}
+use Rattle.std.specs.Prelude.{ℕ, zero, suc, ◌^◌, nat_le, if◌then◌else◌, List, [], ◌∷◌, Option, Some, None}
 use Rattle.page_store.specs.Pairs.{Pair}
 
 -- the key of pair n
@@ -16,6 +16,16 @@ or_else (Some p) other = Some p
 abbrev pub head : List Pair → Option Pair
 head [] = None
 head (p ∷ ps) = Some p
+
+-- the pairs from the first on whose key is not below this one
+abbrev pub from_on : List Pair → ℕ → List Pair
+from_on [] from = []
+from_on (p ∷ ps) from = if nat_le from p.0 then p ∷ ps else from_on ps from
+
+-- the least key that may follow the last one, or be the first from a key on
+abbrev pub low_for : ℕ → Option ℕ → ℕ
+low_for from None = from
+low_for from (Some last) = suc last
 
 -- above all keys
 abbrev pub key_end : ℕ

@@ -13,6 +13,7 @@ mod giving;
 mod laws;
 mod page;
 mod place;
+mod rest;
 mod taking;
 
 pub use action::{PagePart, act_all};
@@ -31,4 +32,5 @@ pub use page::{
     write_page,
 };
 pub use place::{place_found, place_of};
+pub use rest::rest_of;
 pub use taking::{Claim, take_page, take_slot};

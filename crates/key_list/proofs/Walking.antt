@@ -1,8 +1,8 @@
 -- A walk along a sound chain.
-use Rattle.std.proofs.Common.{◌≡◌, ◌≢◌, ℕ, zero, suc, ◌+◌, ◌-◌, ◌<◌, ◌≤◌, true, false, nat_eq, nat_lt, List, [], ◌∷◌, Some, None, inl, inr, refl, sym, ◌∙◌, ap, subst, arith}
-use Rattle.std.specs.Prelude.{nat_le, if◌then◌else◌}
+use Rattle.std.proofs.Common.{◌≡◌, ◌≢◌, ℕ, zero, suc, ◌+◌, ◌-◌, ◌<◌, ◌≤◌, true, false, nat_eq, nat_lt, List, [], ◌∷◌, Option, Some, None, inl, inr, refl, sym, ◌∙◌, ap, subst, arith}
+use Rattle.std.specs.Prelude.{is_some, nat_le, if◌then◌else◌}
 use Rattle.std.proofs.lemmas.Bool.Decides.{nat_tests, eqb_tells, leb_tells}
-use Rattle.page_store.specs.Pairs.{Pair, Rise, found, next}
+use Rattle.page_store.specs.Pairs.{Pair, Rise, AreInside, AreNext, InTurn, found, next}
 use Rattle.record_slots.specs.Places.{page_bytes, next_slot, next_page, AreGiven, first_slot_page, IsSuper}
 use Rattle.index_pages.specs.Page.{page_pairs, link_of, count_of, count_said, pair_said, pairs_from, pairs_said}
 use Rattle.index_pages.proofs.Reading.{from_first}
@@ -12,8 +12,9 @@ use Rattle.key_list.specs.Seen.{IsChain, IsChainPage, pages_of_sound, pieces_hav
 use Rattle.index_pages.proofs.Rising.{next-none, next-some, found-below}
 use Rattle.key_list.specs.ChainFacts.{chain_head}
 use Rattle.key_list.proofs.ChainActions.{first_below, linked_some}
-use Rattle.index_pages.specs.Keys.{key_end}
-use Rattle.key_list.specs.Linked.{IsLinked}
+use Rattle.index_pages.specs.Keys.{from_on, key_end}
+use Rattle.index_pages.proofs.Turns.{are_next, rest_none, turn_in, turn_rest}
+use Rattle.key_list.specs.Linked.{IsLinked, Reaches}
 
 -- after `steps` steps the chain from this page on answers
 pub record Next (bytes : List ℕ) (root table from steps page : ℕ) : Type 0 where
@@ -22,7 +23,7 @@ pub record Next (bytes : List ℕ) (root table from steps page : ℕ) : Type 0 w
   pub start : ℕ
   pub chain : IsChain table (suc n) bytes page low
   pub left : suc n + steps ≡ next_page bytes
-  pub answers : next (pairs_of_chain bytes root) from ≡ next (joined (chain_pieces (suc n) bytes page start)) from
+  pub answers : (k : ℕ) → from ≤ k → next (pairs_of_chain bytes root) k ≡ next (joined (chain_pieces (suc n) bytes page start)) k
 
 pub next_first : (bytes : List ℕ) (root table from : ℕ) → 1 ≤ next_page bytes → chain_check bytes root table None → Next bytes root table from 0 root
 next_first bytes root table from some sound =
@@ -33,7 +34,7 @@ next_first bytes root table from some sound =
       start = 0;
       chain = subst (λ (n : ℕ). IsChain table n bytes root 0) e (pages_of_sound bytes root table sound);
       left = omega arith;
-      answers = ap (λ (ps : List Pair). next ps from) (sym (pieces_have bytes root)) ∙ ap (λ (n : ℕ). next (joined (chain_pieces n bytes root 0)) from) e;
+      answers = λ k le. ap (λ (ps : List Pair). next ps k) (sym (pieces_have bytes root)) ∙ ap (λ (n : ℕ). next (joined (chain_pieces n bytes root 0)) k) e;
     }
 
 -- a page of the chain is linked as it has to be
@@ -49,8 +50,20 @@ page_linked bytes table pages page low sound is head = record {
 pub next_linked : (bytes : List ℕ) (root table pages from steps page : ℕ) → IsSuper 0 bytes → first_slot_page bytes ≡ pages → Next bytes root table from steps page → IsLinked pages (page_bytes bytes page)
 next_linked bytes root table pages from steps page sound is at = page_linked bytes table pages page at.low sound is (chain_head table (suc at.n) bytes page at.low at.chain)
 
+-- no pair from a key on, and so none from a later one on
+none_later : (from k : ℕ) (ps : List Pair) → from ≤ k → next ps from ≡ None → next ps k ≡ None
+none_later from k [] le none = refl
+none_later from k (q ∷ qs) le none =
+    elim (leb_tells from q.0) [
+      | inl here ↦ let b : nat_le from q.0 ≡ true = here.0 in let e : Some q ≡ None = (rw b at none) in absurd (cc)
+      | inr there ↦
+          let b : nat_le from q.0 ≡ false = there.0 in
+          let b' : nat_le k q.0 ≡ false = grind (arith, nat_tests, there.1, le) in
+          rw b' (none_later from k qs le (rw b at none))
+    ]
+
 next_on : (n : ℕ) (bytes : List ℕ) (root table from steps page low start : ℕ) → IsChain table (suc n) bytes page low → suc n + steps ≡ next_page bytes
-    → next (pairs_of_chain bytes root) from ≡ next (joined (chain_pieces (suc n) bytes page start)) from
+    → ((k : ℕ) → from ≤ k → next (pairs_of_chain bytes root) k ≡ next (joined (chain_pieces (suc n) bytes page start)) k)
     → link_of bytes page ≢ 0 → next (page_pairs bytes page) from ≡ None → Next bytes root table from (steps + 1) (link_of bytes page)
 next_on zero bytes root table from steps page low start chain left answers more none = absurd (chain.1 more)
 next_on (suc n) bytes root table from steps page low start chain left answers more none =
@@ -61,26 +74,43 @@ next_on (suc n) bytes root table from steps page low start chain left answers mo
       start = first_key (page_pairs bytes (link_of bytes page));
       chain = chain.1 more;
       left = omega arith;
-      answers = answers
-          ∙ next-none from (page_pairs bytes page) (joined (if nat_eq (link_of bytes page) 0 then [] else chain_pieces (suc n) bytes (link_of bytes page) (first_key (page_pairs bytes (link_of bytes page))))) none
+      answers = λ k le.
+          answers k le
+          ∙ next-none k (page_pairs bytes page) (joined (if nat_eq (link_of bytes page) 0 then [] else chain_pieces (suc n) bytes (link_of bytes page) (first_key (page_pairs bytes (link_of bytes page))))) (none_later from k (page_pairs bytes page) le none)
           ∙ (rw b refl);
     }
 
 pub next_step : (bytes : List ℕ) (root table from steps page : ℕ) → Next bytes root table from steps page → link_of bytes page ≢ 0 → next (page_pairs bytes page) from ≡ None → Next bytes root table from (steps + 1) (link_of bytes page)
 next_step bytes root table from steps page at more none = next_on at.n bytes root table from steps page at.low at.start at.chain at.left at.answers more none
 
-pub next_here : (bytes : List ℕ) (root table from steps page : ℕ) (p : Pair) → Next bytes root table from steps page → next (page_pairs bytes page) from ≡ Some p → next (pairs_of_chain bytes root) from ≡ Some p
-next_here bytes root table from steps page p at some = at.answers ∙ next-some from p (page_pairs bytes page) _ some
+-- what the page says is next from the key on, or from a later one, is so in the chain
+pub reached : (bytes : List ℕ) (root table from steps page : ℕ) → Next bytes root table from steps page → Reaches bytes root table from (page_bytes bytes page)
+reached bytes root table from steps page at =
+    let head = chain_head table (suc at.n) bytes page at.low at.chain in
+    record {
+      rises = (at.low, head.rises);
+      given = head.given;
+      later = λ k p le some. at.answers k le ∙ next-some k p (page_pairs bytes page) _ some;
+    }
+
+-- the pairs of the page from the key on come next in the chain
+pub reached_next : (bytes : List ℕ) (root table from slots : ℕ) (said : List ℕ) → Reaches bytes root table from said → next (pairs_said said) from ≢ None → (some : List Pair) → some ≡ from_on (pairs_said said) from → AreInside from slots some
+    → AreNext (pairs_of_chain bytes root) from some
+reached_next bytes root table from slots said at there some is inside =
+    are_next (pairs_of_chain bytes root) from some
+    (turn_in (pairs_of_chain bytes root) (pairs_said said) from some at.later
+    (subst (λ (l : List Pair). InTurn (pairs_said said) from l) (sym is) (turn_rest from slots (pairs_said said) (subst (λ (l : List Pair). AreInside from slots l) is inside))))
+    (λ e. absurd (there (rest_none (pairs_said said) from (sym is ∙ e))))
 
 pub next_last : (bytes : List ℕ) (root table from steps page : ℕ) → Next bytes root table from steps page → link_of bytes page ≡ 0 → next (page_pairs bytes page) from ≡ None → next (pairs_of_chain bytes root) from ≡ None
 next_last bytes root table from steps page at last none =
     let b : nat_eq (link_of bytes page) 0 ≡ true = grind (arith, nat_tests) in
-    at.answers
+    at.answers from (omega arith)
     ∙ next-none from (page_pairs bytes page) (joined (if nat_eq (link_of bytes page) 0 then [] else chain_pieces at.n bytes (link_of bytes page) (first_key (page_pairs bytes (link_of bytes page))))) none
     ∙ (rw b refl)
 
 -- the slot of a pair that is found is given
-given_next : (bytes : List ℕ) (table from : ℕ) (p : Pair) (ps : List Pair) → AreGiven bytes table ps → next ps from ≡ Some p → p.1 < next_slot bytes
+pub given_next : (bytes : List ℕ) (table from : ℕ) (p : Pair) (ps : List Pair) → AreGiven bytes table ps → next ps from ≡ Some p → p.1 < next_slot bytes
 given_next bytes table from p [] given some = absurd (cc)
 given_next bytes table from p (q ∷ qs) given some =
     elim (leb_tells from q.0) [
@@ -88,8 +118,13 @@ given_next bytes table from p (q ∷ qs) given some =
       | inr lt ↦ let b : nat_le from q.0 ≡ false = lt.0 in given_next bytes table from p qs given.2 (let some' : (if nat_le from q.0 then Some q else next qs from) ≡ Some p = some in rw b at some')
     ]
 
-pub next_slot_given : (bytes : List ℕ) (root table from steps page : ℕ) (p : Pair) → Next bytes root table from steps page → next (page_pairs bytes page) from ≡ Some p → p.1 < next_slot bytes
-next_slot_given bytes root table from steps page p at some = given_next bytes table from p (page_pairs bytes page) (chain_head table (suc at.n) bytes page at.low at.chain).given some
+pub none_is : (o : Option Pair) → false ≡ is_some o → o ≡ None
+none_is None is = refl
+none_is (Some p) is = absurd (cc)
+
+pub some_is : (o : Option Pair) → true ≡ is_some o → o ≢ None
+some_is None is = absurd (cc)
+some_is (Some p) is = λ none. absurd (cc)
 
 -- what a key leads to follows from the least pair from it on
 pub found_next : (ps : List Pair) (key : ℕ) (p : Pair) → next ps key ≡ Some p → p.0 ≡ key → found ps key ≡ Some p.1

@@ -7,7 +7,7 @@ ghost use Rattle.key_list.specs.Index.{chain};
 
 use crate::{checking, insertion, look, removal};
 use eaw_face::EawStore;
-use page_store::{CheckFault, IndexFault, KeyIndex, PageFault, Pages};
+use page_store::{CheckFault, IndexFault, KeyIndex, NextPairs, PageFault, Pages};
 
 /// Indexes that are chains of pages in the order of their keys, one for each table: it begins in the table's root and follows the links. A
 /// look-up reads each page of the chain up to that of its key. An insertion is one nested top action of three parts: the slot, the page and
@@ -35,12 +35,12 @@ impl KeyIndex for KeyList {
         look::find(pages, root, table, key)
     }
 
-    fn next_key<S: EawStore>(
+    fn next_pairs<S: EawStore>(
         pages: &mut Pages<S>,
         root: u32,
         table: u8,
         from: u64,
-    ) -> Result<Option<(u64, u32)>, PageFault> {
+    ) -> Result<NextPairs, PageFault> {
         look::next(pages, root, table, from)
     }
 

@@ -1,22 +1,23 @@
 // Look-ups along the chain.
-ghost use Rattle.std.specs.Prelude.{◌≡◌, ◌<◌, IfOk, IfSome, OnOk, IsErrOf, IsTrue};
+ghost use Rattle.std.specs.Prelude.{◌≡◌, ◌≢◌, ◌<◌, ◌≤◌, None, IfOk, IfSome, IfNone, OnOk, IsErrOf, IsTrue};
 ghost use Rattle.array_shape.specs.Places.{page_count};
 ghost use Rattle.eaw_face.specs.Causes.{IsAlive};
 ghost use Rattle.record_slots.specs.Places.{page_bytes};
 ghost use Rattle.page_store.specs.Index.{slots_of, index_pages_of, IsTable};
 ghost use Rattle.page_store.specs.Looks.{Looks, LookCause, is_failed};
-ghost use Rattle.page_store.specs.Pairs.{found, next};
+ghost use Rattle.page_store.specs.Pairs.{AreInside, AreNext, found, next};
 ghost use Rattle.page_store.specs.Shown.{pages_of};
 ghost use Rattle.key_list.specs.Chain.{IsSoundChain, pairs_of_chain, page_of_key};
 ghost use Rattle.index_pages.specs.Fetched.{TestCause};
-ghost use Rattle.key_list.specs.Linked.{IsLinked, SaysLeaf};
+ghost use Rattle.index_pages.specs.Page.{count_said, pairs_said};
+ghost use Rattle.key_list.specs.Linked.{IsLinked, Reaches, SaysLeaf};
 
 use crate::page::read_leaf_head;
 use eaw_face::EawStore;
 use index_pages::{
-    Head, PAGE_LEN, SLOTS_IN_PAGE, fetch_page, index_page_count, next_pair, read_pair,
+    Head, PAGE_LEN, SLOTS_IN_PAGE, fetch_page, index_page_count, next_pair, read_pair, rest_of,
 };
-use page_store::{PageFault, Pages};
+use page_store::{NextPairs, PageFault, Pages};
 
 // Reads a page of the chain.
 pub fn read_page<S: EawStore>(
@@ -45,13 +46,21 @@ pub fn read_page<S: EawStore>(
     Ok(head)
 }
 
-// The pair with the least key that is not below `from`, if there is one.
-pub fn next<S: EawStore>(
+// A page of the chain on the way to a key, and how many pairs it has.
+#[derive(Clone, Copy, Debug)]
+struct Reached {
+    page: u32,
+    count: u16,
+}
+
+// Goes along to the first page that has a pair from a key on, if there is one.
+fn reach<S: EawStore>(
     pages: &mut Pages<S>,
     root: u32,
     table: u8,
     from: u64,
-) -> Result<Option<(u64, u32)>, PageFault>
+    bytes: &mut [u8; PAGE_LEN],
+) -> Result<Option<Reached>, PageFault>
     requires table { table < 8 }
     requires root { root < page_count (S.view pages.old.store).shape }
     requires sound { IsTrue S.tells → IsAlive (S.view pages.old.store) → IsSoundChain (S.view pages.old.store).state.bytes }
@@ -59,23 +68,23 @@ pub fn next<S: EawStore>(
     ensures looks { Looks S.tells (S.opens (S.view pages.old.store).shape) (is_failed result)
         (pages_of (S.view pages.old.store) pages.old) (pages_of (S.view pages.new.store) pages.new) }
     ensures cause { LookCause S.tells (S.view pages.old.store) result }
-    ensures next { IsTrue S.tells → IfOk result (λ pair. pair ≡ next (pairs_of_chain (S.view pages.old.store).state.bytes root) from) }
-    ensures inside { IfOk result (λ pair. IfSome pair (λ pair. pair.1 < slots_of (S.view pages.old.store).shape)) }
+    ensures reaches { IsTrue S.tells → IfOk result (λ at. IfSome at (λ at. Reaches (S.view pages.old.store).state.bytes root table from bytes.new)) }
+    ensures end { IsTrue S.tells → IfOk result (λ at. IfNone at (next (pairs_of_chain (S.view pages.old.store).state.bytes root) from ≡ None)) }
+    ensures some { IfOk result (λ at. IfSome at (λ at. (at.count ≡ count_said bytes.new) × (at.count ≤ 30) × (next (pairs_said bytes.new) from ≢ None))) }
     ensures dead { IsErrOf result PageFault.Dead → pages.new ≡ pages.old }
 {
     let count = index_page_count(pages);
     let mut page = root;
-    let mut bytes = [0; PAGE_LEN];
     for _step in 0..count {
-        let head = match read_page(pages, page, &mut bytes) {
+        let head = match read_page(pages, page, bytes) {
             Ok(head) => head,
             Err(fault) => return Err(fault),
         };
-        if let Some((key, slot)) = next_pair(&bytes, head.count, from) {
-            if slot >= u64::from(SLOTS_IN_PAGE * count) {
-                return Err(PageFault::Damaged { page });
-            }
-            return Ok(Some((key, slot as u32)));
+        if next_pair(bytes, head.count, from).is_some() {
+            return Ok(Some(Reached {
+                page,
+                count: head.count,
+            }));
         }
         if head.link == 0 {
             return Ok(None);
@@ -83,6 +92,37 @@ pub fn next<S: EawStore>(
         page = head.link;
     }
     Err(PageFault::Damaged { page })
+}
+
+// The pairs from a key on in the first page that has any.
+pub fn next<S: EawStore>(
+    pages: &mut Pages<S>,
+    root: u32,
+    table: u8,
+    from: u64,
+) -> Result<NextPairs, PageFault>
+    requires table { table < 8 }
+    requires root { root < page_count (S.view pages.old.store).shape }
+    requires sound { IsTrue S.tells → IsAlive (S.view pages.old.store) → IsSoundChain (S.view pages.old.store).state.bytes }
+    requires named { IsTrue S.tells → IsAlive (S.view pages.old.store) → IsTable (S.view pages.old.store).state.bytes table root }
+    ensures looks { Looks S.tells (S.opens (S.view pages.old.store).shape) (is_failed result)
+        (pages_of (S.view pages.old.store) pages.old) (pages_of (S.view pages.new.store) pages.new) }
+    ensures cause { LookCause S.tells (S.view pages.old.store) result }
+    ensures next { IsTrue S.tells → IfOk result (λ some. AreNext (pairs_of_chain (S.view pages.old.store).state.bytes root) from some.items) }
+    ensures inside { IfOk result (λ some. AreInside from (slots_of (S.view pages.old.store).shape) some.items) }
+    ensures dead { IsErrOf result PageFault.Dead → pages.new ≡ pages.old }
+{
+    let slots = SLOTS_IN_PAGE * index_page_count(pages);
+    let mut bytes = [0; PAGE_LEN];
+    let at = match reach(pages, root, table, from, &mut bytes) {
+        Ok(Some(at)) => at,
+        Ok(None) => return Ok(NextPairs::new()),
+        Err(fault) => return Err(fault),
+    };
+    let Some(some) = rest_of(&bytes, at.count, from, slots) else {
+        return Err(PageFault::Damaged { page: at.page });
+    };
+    Ok(some)
 }
 
 // The slot of a key.
@@ -103,9 +143,23 @@ pub fn find<S: EawStore>(
     ensures inside { IfOk result (λ slot. IfSome slot (λ slot. slot < slots_of (S.view pages.old.store).shape)) }
     ensures dead { IsErrOf result PageFault.Dead → pages.new ≡ pages.old }
 {
-    match next(pages, root, table, key)? {
-        Some((least, slot)) if least == key => Ok(Some(slot)),
-        _ => Ok(None),
+    let slots = SLOTS_IN_PAGE * index_page_count(pages);
+    let mut bytes = [0; PAGE_LEN];
+    let at = match reach(pages, root, table, key, &mut bytes) {
+        Ok(Some(at)) => at,
+        Ok(None) => return Ok(None),
+        Err(fault) => return Err(fault),
+    };
+    let Some((least, slot)) = next_pair(&bytes, at.count, key) else {
+        return Ok(None);
+    };
+    if slot >= u64::from(slots) {
+        return Err(PageFault::Damaged { page: at.page });
+    }
+    if least == key {
+        Ok(Some(slot as u32))
+    } else {
+        Ok(None)
     }
 }
 

@@ -33,7 +33,10 @@ pub fn read_records<S: EawStore, K: KeyIndex>(
     };
     let rows = match records.scan(alloc, 0, 0, u64::MAX) {
         Ok(rows) => rows,
-        Err(fault) => return (Err(CoreFault::from(fault)), records.into_pages().into_store()),
+        Err(fault) => return (
+            Err(CoreFault::from(fault)),
+            records.into_pages().into_store(),
+        ),
     };
     let store = records.into_pages().into_store();
     (Ok(rows), store)

@@ -89,7 +89,7 @@ module _ (tells : Bool) (told : IsTrue tells) (old : View) (only_now : (image : 
         silent = subst (λ (c : Bool). IsWritten c text []) (sym off.whole) off.silent;
         later = λ shape all. omega (arith, (keeps told shape all).later, off.time.later, behind.moment);
         keeps = λ shape all image left. ⊎_elim (λ was. inl (at_entry shape all image was))
-            (λ as. ⊎_elim (λ opens. inl (like_data shape all image opens)) (λ two. inr (two.0, in_two shape all image two.1)) as)
+            (λ either. ⊎_elim (λ opens. inl (like_data shape all image opens)) (λ two. inr (two.0, in_two shape all image two.1)) either)
             (off.time.only old.moment image (keeps told shape all).later (behind.left old.moment image left));
         spared = inr (store.shape, array);
         cause = cause;

@@ -1,5 +1,5 @@
 -- What comes of a run whose array is not opened.
-use Rattle.std.specs.Prelude.{[], false}
+use Rattle.std.specs.Prelude.{[], true, false}
 use Rattle.pcm_media.specs.View.{View}
 use Rattle.mars_shell.specs.Outcome.{OutcomeOf}
 use Rattle.mars_shell.specs.declared.status.Status.{Status}

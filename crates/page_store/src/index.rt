@@ -7,13 +7,20 @@ ghost use Rattle.page_store.specs.Index.{Index, IsTable, HasCounts, KeepsIndex, 
 ghost use Rattle.page_store.specs.Inserts.{Inserts};
 ghost use Rattle.page_store.specs.Removes.{HasAbsent, Removes};
 ghost use Rattle.page_store.specs.Looks.{Looks, LookCause, CheckCause, is_failed, is_check_failed};
-ghost use Rattle.page_store.specs.Pairs.{Rise, found, next};
+ghost use Rattle.page_store.specs.Pairs.{Rise, AreInside, AreNext, found};
 ghost use Rattle.page_store.specs.Shown.{pages_of, top_in};
 
 use crate::fault::PageFault;
 use crate::index_fault::{CheckFault, IndexFault};
 use crate::pages::Pages;
+use arrayvec::ArrayVec;
 use eaw_face::EawStore;
+
+/// The most pairs that a look gives: as many as a page of an index has.
+pub const NEXT_MAX: usize = 30;
+
+/// Keys, and the slots that they lead to.
+pub type NextPairs = ArrayVec<(u64, u32), NEXT_MAX>;
 
 /// Indexes of u64 keys in the data of pages, one for each table, told by the page of its root: for each key the slot that holds its record.
 /// They have no state of their own.
@@ -53,13 +60,14 @@ pub trait KeyIndex {
         ensures inside { IfOk result (λ slot. IfSome slot (λ slot. slot < slots_of (S.view pages.old.store).shape)) }
         ensures dead { IsErrOf result PageFault.Dead → pages.new ≡ pages.old };
 
-    /// The pair of a table with the least key from `from` on, if there is one.
-    fn next_key<S: EawStore>(
+    /// The pairs of a table that come next from the key `from` on, one after another, as far as one page has them: none only if the table has
+    /// none from there on.
+    fn next_pairs<S: EawStore>(
         pages: &mut Pages<S>,
         root: u32,
         table: u8,
         from: u64,
-    ) -> Result<Option<(u64, u32)>, PageFault>
+    ) -> Result<NextPairs, PageFault>
         requires table { table < 8 }
         requires root { root < page_count (S.view pages.old.store).shape }
         requires sound { IsTrue S.tells → IsAlive (S.view pages.old.store) → index.sound (S.view pages.old.store).state.bytes }
@@ -67,8 +75,8 @@ pub trait KeyIndex {
         ensures looks { Looks S.tells (S.opens (S.view pages.old.store).shape) (is_failed result)
             (pages_of (S.view pages.old.store) pages.old) (pages_of (S.view pages.new.store) pages.new) }
         ensures cause { LookCause S.tells (S.view pages.old.store) result }
-        ensures next { IsTrue S.tells → IfOk result (λ pair. pair ≡ next (index.pairs (S.view pages.old.store).state.bytes root) from) }
-        ensures inside { IfOk result (λ pair. IfSome pair (λ pair. pair.1 < slots_of (S.view pages.old.store).shape)) }
+        ensures next { IsTrue S.tells → IfOk result (λ some. AreNext (index.pairs (S.view pages.old.store).state.bytes root) from some.items) }
+        ensures inside { IfOk result (λ some. AreInside from (slots_of (S.view pages.old.store).shape) some.items) }
         ensures dead { IsErrOf result PageFault.Dead → pages.new ≡ pages.old };
 
     /// Inserts a key that is not there, as number `tid`, and returns its slot: the first free one, or the next if none is free. It is then

@@ -13,7 +13,7 @@ mod pages;
 mod room;
 
 pub use fault::PageFault;
-pub use index::KeyIndex;
+pub use index::{KeyIndex, NEXT_MAX, NextPairs};
 pub use index_fault::{CheckFault, IndexFault};
 pub use laws::{
     a_top_is_one_write, a_write_is_seen, back_restores, commands_are_the_stores, commands_keep,

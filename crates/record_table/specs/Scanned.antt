@@ -23,6 +23,11 @@ rows_in (suc table) rows = map (λ row. (key_in (suc table) row.0, row.1)) rows
 abbrev pub rows_seen : Index → ℕ → PagesView → ℕ → ℕ → List (ℕ × List ℕ)
 rows_seen index t old low high = rows_within low high (seen_by (state_of index old) t)
 
+-- those of a table from a key on, or none if there is no such key
+abbrev pub rows_left : Index → ℕ → ℕ → PagesView → Option ℕ → ℕ → List (ℕ × List ℕ)
+rows_left index table t old None high = []
+rows_left index table t old (Some from) high = rows_seen index t old (key_in table from) (key_in table high)
+
 -- there are no rows of the table; or the first is that of this key, if it has a record, and the others come after it
 abbrev pub Follows : Index → ℕ → ℕ → ℕ → ℕ → PagesView → Option Next → Type 0
 Follows index table t from high old None = rows_seen index t old (key_in table from) (key_in table high) ≡ []
@@ -30,7 +35,7 @@ Follows index table t from high old (Some next) =
     rows_seen index t old (key_in table from) (key_in table high) ≡ row_at (key_in table next.key) next.value ++ rows_seen index t old (key_in table (suc next.key)) (key_in table high)
 
 -- why a scan of a store that is not dead may be refused
-abbrev pub ScanCause : Bool → Result (Unit {0}) TableFault → Type 0
+abbrev pub ScanCause : {T : Type 0} → Bool → Result T TableFault → Type 0
 ScanCause tells (Ok done) = Unit {0}
 ScanCause tells (Err Media) = Unit {0}
 ScanCause tells (Err NoMemory) = Unit {0}

@@ -52,14 +52,15 @@ fn next_in_data<S: EawStore, K: KeyIndex>(
     ensures inside { IfOk result (λ next. IfSome next (λ next. from ≤ next.key)) }
     ensures dead { IsErrOf result PageFault.Dead → pages.new ≡ pages.old }
 {
-    let (key, slot) = match K::next_key(pages, root, table, from) {
-        Ok(Some(pair)) => pair,
-        Ok(None) => return Ok(None),
+    let some = match K::next_pairs(pages, root, table, from) {
+        Ok(some) => some,
         Err(fault) => return Err(fault),
     };
-    if key < from {
-        return Err(PageFault::Damaged { page: 0 });
+    let some = some.as_slice();
+    if some.is_empty() {
+        return Ok(None);
     }
+    let (key, slot) = some[0];
     let page = page_of(pages, slot);
     match read_said(pages, slot) {
         Ok(Some(said)) => Ok(Some(Next {

@@ -1,13 +1,14 @@
 // Gathers the records from one key to another along the index.
-ghost use Rattle.std.specs.Prelude.{◌≡◌, ◌≤◌, ◌<◌, [], ◌++◌, IfOk, IfSome, OnOk, IsErrOf, IsTrue};
+ghost use Rattle.std.specs.Prelude.{◌≡◌, ◌≤◌, ◌<◌, [], ◌++◌, Some, IfOk, IfSome, OnOk, IsTrue, length};
 ghost use Rattle.array_shape.specs.Places.{page_count};
 ghost use Rattle.eaw_face.specs.Causes.{IsAlive};
-ghost use Rattle.page_store.specs.Index.{IsTable};
+ghost use Rattle.page_store.specs.Index.{IsTable, slots_of};
 ghost use Rattle.page_store.specs.Looks.{LookCause, is_failed};
+ghost use Rattle.page_store.specs.Pairs.{AreInside, InTurn, next};
 ghost use Rattle.page_store.specs.Shown.{pages_of};
 ghost use Rattle.record_table.specs.Does as answers;
 ghost use Rattle.record_table.specs.Invariant.{Holds};
-ghost use Rattle.record_table.specs.Scanned.{row_at, rows_seen, rows_in, Follows, ScanCause};
+ghost use Rattle.record_table.specs.Scanned.{row_at, rows_seen, rows_in, rows_left, Follows, ScanCause};
 ghost use Rattle.record_table.specs.Shown.{asked_tables};
 ghost use Rattle.record_table.specs.State.{key_in};
 ghost use Rattle.record_table.specs.Sought.{LooksAs};
@@ -27,44 +28,43 @@ pub struct Next {
     pub value: Option<Value>,
 }
 
-// The least key of a table from `from` to `high`, with its value.
-fn next_row<S: EawStore, K: KeyIndex>(
-    pages: &mut Pages<S>,
-    tid: u8,
+/// Keys of a table, from one to another, and the root of its index.
+#[derive(Clone, Copy, Debug)]
+struct Span {
     table: u8,
     root: u32,
-    from: u64,
+    low: u64,
     high: u64,
-) -> Result<Option<Next>, PageFault>
+}
+
+// Reads what the number sees under the pair with the least key of these.
+fn read_row<S: EawStore, K: KeyIndex>(
+    pages: &mut Pages<S>,
+    tid: u8,
+    span: Span,
+    pair: (u64, u32),
+) -> Result<Next, PageFault>
     requires tid { tid < (S.view pages.old.store).shape.numbers }
-    requires table { table < asked_tables }
-    requires root { root < page_count (S.view pages.old.store).shape }
-    requires named { IsTrue S.tells → IsAlive (S.view pages.old.store) → IsTable (S.view pages.old.store).state.bytes table root }
+    requires table { span.table < asked_tables }
+    requires named { IsTrue S.tells → IsAlive (S.view pages.old.store) → IsTable (S.view pages.old.store).state.bytes span.table span.root }
     requires holds { Holds S.tells K.index (pages_of (S.view pages.old.store) pages.old) }
+    requires alive { IsAlive (S.view pages.old.store) }
+    requires next { IsTrue S.tells → next (K.index.pairs (S.view pages.old.store).state.bytes span.root) span.low ≡ Some pair }
+    requires slot { pair.1 < slots_of (S.view pages.old.store).shape }
+    requires most { pair.0 ≤ span.high }
     ensures looks { LooksAs S.tells (S.opens (S.view pages.old.store).shape) tid (is_failed result)
         (pages_of (S.view pages.old.store) pages.old) (pages_of (S.view pages.new.store) pages.new) }
     ensures cause { LookCause S.tells (S.view pages.old.store) result }
-    ensures follows { IsTrue S.tells → IfOk result (Follows K.index table tid from high (pages_of (S.view pages.old.store) pages.old)) }
-    ensures inside { IfOk result (λ next. IfSome next (λ next. (from ≤ next.key) × (next.key ≤ high))) }
-    ensures dead { IsErrOf result PageFault.Dead → pages.new ≡ pages.old }
+    ensures follows { IsTrue S.tells → IfOk result (λ row. Follows K.index span.table tid span.low span.high (pages_of (S.view pages.old.store) pages.old) (Some row)) }
+    ensures key { IfOk result (λ row. row.key ≡ pair.0) }
 {
-    let (key, slot) = match K::next_key(pages, root, table, from) {
-        Ok(Some(pair)) => pair,
-        Ok(None) => return Ok(None),
-        Err(fault) => return Err(fault),
-    };
-    if key > high {
-        return Ok(None);
-    }
-    if key < from {
-        return Err(PageFault::Damaged { page: 0 });
-    }
+    let (key, slot) = pair;
     let page = page_of(pages, slot);
     match read_as(pages, tid, slot) {
-        Ok(Some(said)) => Ok(Some(Next {
+        Ok(Some(said)) => Ok(Next {
             key,
             value: value_in(&said),
-        })),
+        }),
         Ok(None) => Err(PageFault::Damaged { page }),
         Err(fault) => Err(fault),
     }
@@ -78,6 +78,51 @@ fn push_row(rows: &mut Rows, next: &Next) -> Result<(), NoMemory>
         Some(value) => rows.push(next.key, value),
         None => Ok(()),
     }
+}
+
+// Appends the rows of pairs that come next, as far as their keys are among these. Returns the key from which on there may be more.
+fn push_rows<S: EawStore, K: KeyIndex>(
+    pages: &mut Pages<S>,
+    tid: u8,
+    span: Span,
+    pairs: &[(u64, u32)],
+    rows: &mut Rows,
+) -> Result<Option<u64>, TableFault>
+    requires tid { tid < (S.view pages.old.store).shape.numbers }
+    requires table { span.table < asked_tables }
+    requires named { IsTrue S.tells → IsAlive (S.view pages.old.store) → IsTable (S.view pages.old.store).state.bytes span.table span.root }
+    requires holds { Holds S.tells K.index (pages_of (S.view pages.old.store) pages.old) }
+    requires alive { IsAlive (S.view pages.old.store) }
+    requires some { 1 ≤ length pairs.now }
+    requires order { span.low ≤ span.high }
+    requires turn { IsTrue S.tells → InTurn (K.index.pairs (S.view pages.old.store).state.bytes span.root) span.low pairs.now }
+    requires inside { AreInside span.low (slots_of (S.view pages.old.store).shape) pairs.now }
+    ensures looks { LooksAs S.tells (S.opens (S.view pages.old.store).shape) tid (answers.is_failed result)
+        (pages_of (S.view pages.old.store) pages.old) (pages_of (S.view pages.new.store) pages.new) }
+    ensures cause { ScanCause S.tells result }
+    ensures rows { IsTrue S.tells → IfOk result (λ from. rows_in span.table rows.new ++ rows_left K.index span.table tid (pages_of (S.view pages.old.store) pages.old) from span.high
+        ≡ rows_in span.table rows.old ++ rows_seen K.index tid (pages_of (S.view pages.old.store) pages.old) (key_in span.table span.low) (key_in span.table span.high)) }
+    ensures further { IfOk result (λ from. IfSome from (λ from. (span.low < from) × (from ≤ span.high))) }
+{
+    let mut from = span.low;
+    for pair in pairs {
+        if pair.0 > span.high {
+            return Ok(None);
+        }
+        let row = match read_row::<S, K>(pages, tid, Span { low: from, ..span }, *pair) {
+            Ok(row) => row,
+            Err(fault) => return Err(TableFault::from(fault)),
+        };
+        match push_row(rows, &row) {
+            Ok(()) => {}
+            Err(_) => return Err(TableFault::NoMemory),
+        }
+        if row.key == span.high {
+            return Ok(None);
+        }
+        from = row.key + 1;
+    }
+    Ok(Some(from))
 }
 
 // The records of a table from one key to another, as the number sees them.
@@ -104,19 +149,24 @@ pub fn gather<S: EawStore, K: KeyIndex>(
 {
     let mut from = low;
     while from <= high {
-        let next = match next_row::<S, K>(pages, tid, table, root, from, high) {
-            Ok(Some(next)) => next,
-            Ok(None) => return Ok(()),
+        let pairs = match K::next_pairs(pages, root, table, from) {
+            Ok(pairs) => pairs,
             Err(fault) => return Err(TableFault::from(fault)),
         };
-        match push_row(rows, &next) {
-            Ok(()) => {}
-            Err(_) => return Err(TableFault::NoMemory),
-        }
-        if next.key == high {
+        if pairs.is_empty() {
             return Ok(());
         }
-        from = next.key + 1;
+        let span = Span {
+            table,
+            root,
+            low: from,
+            high,
+        };
+        match push_rows::<S, K>(pages, tid, span, pairs.as_slice(), rows) {
+            Ok(Some(next)) => from = next,
+            Ok(None) => return Ok(()),
+            Err(fault) => return Err(fault),
+        }
     }
     Ok(())
 }

@@ -1,6 +1,7 @@
 use Rattle.std.proofs.Common.{◌≤◌}
 use Rattle.btree_pages.proofs.Nexting.{no_error, not_damaged_page}
-use Rattle.std.proofs.Common.{◌≡◌, ◌≢◌, ◌+◌, ℕ, false, List, Option, refl, sym, ◌∙◌, ap, subst, arith}
+use Rattle.std.specs.Prelude.{IfSome}
+use Rattle.std.proofs.Common.{◌≡◌, ◌≢◌, ◌+◌, ◌<◌, ℕ, false, List, Option, refl, sym, ◌∙◌, ap, subst, arith}
 use Rattle.std.proofs.lemmas.Bool.{false≢true}
 use Rattle.std.specs.Option.{option_or}
 use Rattle.eaw_face.specs.State.{State}
@@ -16,7 +17,7 @@ use Rattle.btree_pages.specs.Node.{IsNode}
 use Rattle.index_pages.specs.declared.page.Head.{Head}
 use Rattle.btree_pages.specs.declared.look.Leaf.{Leaf}
 use Rattle.index_pages.proofs.Causing.{look_cause}
-use Rattle.btree_pages.proofs.Descending.{Down, down_first, down_step, down_node, down_last}
+use Rattle.btree_pages.proofs.Descending.{Down, down_first, down_step, down_node, down_last, or_above}
 use Rattle.btree_pages.specs.Trees.{whole_of, table_sound}
 use Rattle.btree_pages.proofs.look.descend.Goals as goal
 
@@ -26,6 +27,7 @@ loop-step-init g c = record {
   looks = looks_none g.S.EawStore.tells (g.S.EawStore.opens (g.S.EawStore.view c.args.pages.now.store).shape) (pages_of (g.S.EawStore.view c.args.pages.now.store) c.args.pages.now);
   alive = λ some. absurd (omega arith);
   dead = λ dead. refl;
+  above = tt;
   down = λ told alive. down_first c.args.root (g.S.EawStore.view c.args.pages.now.store).state.bytes c.args.key (table_sound (g.S.EawStore.view c.args.pages.now.store).state.bytes c.args.root (c.requires.sound told alive) (c.requires.named told alive)) (omega arith);
 }
 
@@ -77,6 +79,8 @@ loop-step-preserved g c =
       looks = looks;
       alive = λ some. alive';
       dead = λ dead. absurd (false≢true (sym alive' ∙ dead));
+      above = subst (λ (o : Option ℕ). IfSome o (λ bound. c.args.key < bound)) (sym c.or-bound.ensures)
+          (or_above c.child_in-child.result.1 c.loop-step.bound c.args.key c.child_in-child.ensures.above c.loop-step.invariant.above);
       down = λ told living.
           let bytes = view.state.bytes in
           let buf = c.in-Ok.ensures.bytes told ∙ ap (λ (s : State). page_bytes s.bytes c.loop-step.page) (still.state told) in
@@ -124,3 +128,6 @@ returns-clause-looks g c = c.loop-step.invariant.looks
 
 pub returns-clause-dead : goal.returns-clause-dead
 returns-clause-dead g c = λ told. not_damaged_page _ told
+
+pub returns-then-head-eq0-clause-above : goal.returns-then-head-eq0-clause-above
+returns-then-head-eq0-clause-above g c = c.loop-step.invariant.above

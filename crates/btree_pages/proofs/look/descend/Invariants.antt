@@ -1,4 +1,5 @@
 use Rattle.std.proofs.Common.{◌≡◌, ◌<◌, true, false, IsTrue}
+use Rattle.std.specs.Prelude.{IfSome}
 use Rattle.eaw_face.specs.Causes.{IsAlive}
 use Rattle.array_shape.specs.Places.{page_count}
 use Rattle.page_store.specs.Looks.{Looks}
@@ -14,5 +15,6 @@ invariant-loop-step g l = record {
       (pages_of (g.S.EawStore.view l.fn.pages.store) l.fn.pages) (pages_of (g.S.EawStore.view l.pages.store) l.pages);
   alive : 0 < l._step → IsAlive (g.S.EawStore.view l.pages.store);
   dead : (g.S.EawStore.view l.pages.store).is_dead ≡ true → l.pages ≡ l.fn.pages;
+  above : IfSome l.bound (λ bound. l.key < bound);
   down : IsTrue g.S.EawStore.tells → IsAlive (g.S.EawStore.view l.fn.pages.store) → Down l.fn.root (g.S.EawStore.view l.fn.pages.store).state.bytes l.key l._step l.page l.bound;
 }

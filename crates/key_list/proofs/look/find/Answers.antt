@@ -1,20 +1,42 @@
-use Rattle.std.proofs.Common.{◌^◌, sym, ◌∙◌}
+use Rattle.std.proofs.Common.{◌^◌, ◌≡◌, Some, sym, ◌∙◌, arith}
+use Rattle.page_store.specs.Pairs.{next}
+use Rattle.index_pages.specs.Page.{pairs_said}
+use Rattle.index_pages.proofs.Sizes.{slots_are}
 use Rattle.key_list.specs.Chain.{pairs_of_chain}
 use Rattle.key_list.specs.ChainFacts.{sound_chain_rises}
 use Rattle.key_list.specs.Resting.{sound_table}
-use Rattle.key_list.proofs.Walking.{found_next, found_other, found_none}
+use Rattle.key_list.proofs.Walking.{found_next, found_other, found_none, given_next}
 use Rattle.key_list.proofs.look.find.Goals as goal
 
-pub returns-in-Some-clause-found : goal.returns-in-Some-clause-found
-returns-in-Some-clause-found g c = λ told.
-    sym (found_next (pairs_of_chain (g.S.EawStore.view c.args.pages.now.store).state.bytes c.args.root) c.args.key (c.in-Some.least, c.in-Some.slot) (sym (c.in_ok-least.ensures.next told) ∙ c.in-Some.is) c.if-least-key.true)
+pub returns-in-Ok-None-clause-found : goal.returns-in-Ok-None-clause-found
+returns-in-Ok-None-clause-found g c = λ told.
+    sym (found_none (pairs_of_chain (g.S.EawStore.view c.args.pages.now.store).state.bytes c.args.root) c.args.key (rw c.in-Ok-None.field-0-is at (c.in-Ok-None.ensures.end told)))
 
 pub returns-in_default-clause-found : goal.returns-in_default-clause-found
-returns-in_default-clause-found g c = λ told.
-    let view = g.S.EawStore.view c.args.pages.now.store in
-    sym (found_other 0 (2 ^ 64) (pairs_of_chain view.state.bytes c.args.root) c.args.key (c.in-Some.least, c.in-Some.slot)
-    (sound_chain_rises view.state.bytes c.args.root c.args.table (sound_table view.state.bytes c.args.table c.args.root (c.requires.sound told c.in_ok-least.ensures.cause) (c.requires.named told c.in_ok-least.ensures.cause))) (sym (c.in_ok-least.ensures.next told) ∙ c.in-Some.is) c.if-least-key.false)
+returns-in_default-clause-found g c = λ told. absurd ((rw c.in-Ok-Some.field-0-is at c.in-Ok-Some.ensures.some).2 (sym c.next_pair.ensures ∙ c.in_default.is))
 
-pub returns-in_default-2-clause-found : goal.returns-in_default-2-clause-found
-returns-in_default-2-clause-found g c = λ told.
-    sym (found_none (pairs_of_chain (g.S.EawStore.view c.args.pages.now.store).state.bytes c.args.root) c.args.key (sym (c.in_ok-least.ensures.next told) ∙ c.in_default.is))
+pub returns-then-slot-from-clause-cause : goal.returns-then-slot-from-clause-cause
+returns-then-slot-from-clause-cause g c =
+    let view = g.S.EawStore.view c.args.pages.now.store in (
+      c.in-Ok-Some.ensures.cause,
+      λ told.
+          let at = rw c.in-Ok-Some.field-0-is at (c.in-Ok-Some.ensures.reaches told) in
+          let some : next (pairs_said c.reach.new.bytes) c.args.key ≡ Some (c.in-Some.least, c.in-Some.slot) = sym c.next_pair.ensures ∙ c.in-Some.is in
+          let given = given_next view.state.bytes c.args.table c.args.key (c.in-Some.least, c.in-Some.slot) (pairs_said c.reach.new.bytes) at.given some in
+          omega (arith, given, (c.requires.sound told c.in-Ok-Some.ensures.cause).0.slots, slots_are view.shape view.state.bytes (g.met.S.EawStore.long c.args.pages.now.store told), c.index_page_count-slots.ensures.all, c.if-slot-from.true, c.from.ensures),
+    )
+
+pub returns-then-least-key-clause-found : goal.returns-then-least-key-clause-found
+returns-then-least-key-clause-found g c = λ told.
+    let at = rw c.in-Ok-Some.field-0-is at (c.in-Ok-Some.ensures.reaches told) in
+    let some : next (pairs_said c.reach.new.bytes) c.args.key ≡ Some (c.in-Some.least, c.in-Some.slot) = sym c.next_pair.ensures ∙ c.in-Some.is in
+    sym (found_next (pairs_of_chain (g.S.EawStore.view c.args.pages.now.store).state.bytes c.args.root) c.args.key (c.in-Some.least, c.in-Some.slot) (at.later c.args.key (c.in-Some.least, c.in-Some.slot) (omega arith) some) c.if-least-key.true)
+
+pub returns-else-least-key-clause-found : goal.returns-else-least-key-clause-found
+returns-else-least-key-clause-found g c = λ told.
+    let view = g.S.EawStore.view c.args.pages.now.store in
+    let at = rw c.in-Ok-Some.field-0-is at (c.in-Ok-Some.ensures.reaches told) in
+    let some : next (pairs_said c.reach.new.bytes) c.args.key ≡ Some (c.in-Some.least, c.in-Some.slot) = sym c.next_pair.ensures ∙ c.in-Some.is in
+    sym (found_other 0 (2 ^ 64) (pairs_of_chain view.state.bytes c.args.root) c.args.key (c.in-Some.least, c.in-Some.slot)
+    (sound_chain_rises view.state.bytes c.args.root c.args.table (sound_table view.state.bytes c.args.table c.args.root (c.requires.sound told c.in-Ok-Some.ensures.cause) (c.requires.named told c.in-Ok-Some.ensures.cause)))
+    (at.later c.args.key (c.in-Some.least, c.in-Some.slot) (omega arith) some) c.if-least-key.false)

@@ -45,7 +45,7 @@ returns g c =
     let q = c.in-Ok.records in
     let r = c.make-made.new.self in
     let made = made_table g.S.EawStore.tells g.S.EawStore.opens g.K.KeyIndex.index g.met.S.EawStore.one_data (pages_of (V p.store) p) (pages_of (V q.store) q) (pages_of (V r.store) r) (laws_at g p.store) (laws_at g q.store) (laws_at g r.store) c.args.name.now
-        c.in-Ok.ensures.attached c.make-made.result c.make-made.ensures.makes in
+    c.in-Ok.ensures.attached c.make-made.result c.make-made.ensures.makes in
     let store : c.into_store-store.result ≡ c.make-made.new.self.store = c.into_store-store.ensures ∙ ap (λ (x : Shown g.row.S.Denot). x.store) c.into_pages.ensures in
     record {
       makes = subst (λ (x : g.row.S.Denot × g.row.S.Denot). MakesTable g.S.EawStore.tells (g.S.EawStore.opens (g.S.EawStore.view x.0).shape) g.K.KeyIndex.index c.args.name.now (g.S.EawStore.view x.0) (g.S.EawStore.view x.1) c.make-made.result)

@@ -28,9 +28,9 @@ left_by tells failed Opens old new alive looks = record {
 pub returns-in-Err-Damaged-clause-left : goal.returns-in-Err-Damaged-clause-left
 returns-in-Err-Damaged-clause-left g c =
     let s = g.S.EawStore in
-    left_by s.tells false (s.opens (s.view c.args.store.now).shape) (s.view c.args.store.now) (s.view c.form_of.new.store) c.requires (rw c.in-Err-Damaged.field-0-is at c.in-Err-Damaged.ensures.looks)
+    left_by s.tells false (s.opens (s.view c.args.store.now).shape) (s.view c.args.store.now) (s.view c.form_of.new.store) c.requires.alive (rw c.in-Err-Damaged.field-0-is at c.in-Err-Damaged.ensures.looks)
 
 pub returns-in-Err-Media-clause-left : goal.returns-in-Err-Media-clause-left
 returns-in-Err-Media-clause-left g c =
     let s = g.S.EawStore in
-    left_by s.tells true (s.opens (s.view c.args.store.now).shape) (s.view c.args.store.now) (s.view c.form_of.new.store) c.requires (rw c.in-Err-Media.field-0-is at c.in-Err-Media.ensures.looks)
+    left_by s.tells true (s.opens (s.view c.args.store.now).shape) (s.view c.args.store.now) (s.view c.form_of.new.store) c.requires.alive (rw c.in-Err-Media.field-0-is at c.in-Err-Media.ensures.looks)

@@ -1,51 +1,45 @@
-use Rattle.std.proofs.Common.{refl, sym, ◌∙◌, ap, arith}
+use Rattle.std.proofs.lemmas.Bool.{eqb-true, eqb-false}
+use Rattle.page_store.specs.Pairs.{Pair, AreNext}
+use Rattle.std.proofs.Common.{List, get_or, subst, refl, sym, ◌∙◌, ap, arith}
 use Rattle.eaw_face.specs.State.{State}
 use Rattle.record_slots.specs.Slots.{slot_said}
 use Rattle.record_slots.specs.Places.{slot_of}
-use Rattle.record_table.proofs.Following.{comes_none, comes_some, it, says_some}
+use Rattle.index_pages.proofs.Turns.{turn_at, next_first, next_empty}
+use Rattle.record_table.proofs.Following.{comes_none, comes_some, says_some}
 use Rattle.record_table.proofs.Sharing.{Laws}
 use Rattle.record_table.proofs.removing.next_in_data.Goals as goal
 
-pub returns-in-Ok-None-clause-comes : goal.returns-in-Ok-None-clause-comes
-returns-in-Ok-None-clause-comes g c = λ told.
+pub returns-then-is_empty-clause-comes : goal.returns-then-is_empty-clause-comes
+returns-then-is_empty-clause-comes g c = λ told.
     let K = g.met.K.KeyIndex in
     let laws : Laws g.K.KeyIndex.index = record { rises = K.rises; given = K.given; counts = K.counts; rests = K.rests; extends = K.extends } in
     let d = (g.S.EawStore.view c.args.pages.now.store).state.bytes in
-    let alive = c.in-Ok-None.ensures.cause in
-    comes_none g.K.KeyIndex.index laws c.args.table c.args.root c.args.from c.requires.table d ((c.requires.holds alive).tied told).sound (c.requires.named told alive) (sym (c.in-Ok-None.ensures.next told) ∙ c.in-Ok-None.field-0-is)
+    let alive = c.in-Ok.ensures.cause in
+    let are : AreNext (g.K.KeyIndex.index.pairs (g.S.EawStore.view c.args.pages.now.store).state.bytes c.args.root) c.args.from c.as_slice-some.result.now = subst (λ (l : List Pair). AreNext (g.K.KeyIndex.index.pairs (g.S.EawStore.view c.args.pages.now.store).state.bytes c.args.root) c.args.from l) (sym c.as_slice-some.ensures.value) (c.in-Ok.ensures.next told) in
+    comes_none g.K.KeyIndex.index laws c.args.table c.args.root c.args.from c.requires.table d ((c.requires.holds alive).tied told).sound (c.requires.named told alive)
+    (next_empty (g.K.KeyIndex.index.pairs d c.args.root) c.args.from c.as_slice-some.result.now (eqb-true _ 0 (sym c.if-is_empty.ensures)) are)
 
-pub returns-then-key-from-clause-cause : goal.returns-then-key-from-clause-cause
-returns-then-key-from-clause-cause g c =
+pub returns-in-Ok-Some-clause-comes : goal.returns-in-Ok-Some-clause-comes
+returns-in-Ok-Some-clause-comes g c = λ told.
     let K = g.met.K.KeyIndex in
     let laws : Laws g.K.KeyIndex.index = record { rises = K.rises; given = K.given; counts = K.counts; rests = K.rests; extends = K.extends } in
     let d = (g.S.EawStore.view c.args.pages.now.store).state.bytes in
-    let alive = c.in-Ok-Some.ensures.cause in (
+    let alive = c.in-Ok.ensures.cause in
+    let are : AreNext (g.K.KeyIndex.index.pairs (g.S.EawStore.view c.args.pages.now.store).state.bytes c.args.root) c.args.from c.as_slice-some.result.now = subst (λ (l : List Pair). AreNext (g.K.KeyIndex.index.pairs (g.S.EawStore.view c.args.pages.now.store).state.bytes c.args.root) c.args.from l) (sym c.as_slice-some.ensures.value) (c.in-Ok.ensures.next told) in
+    rw c.value_in.ensures (comes_some g.K.KeyIndex.index laws c.args.table c.args.root c.args.from c.requires.table d ((c.requires.holds alive).tied told).sound (c.requires.named told alive) (get_or c.as_slice-some.result.now 0 (0, 0)).0 (get_or c.as_slice-some.result.now 0 (0, 0)).1
+    (turn_at (g.K.KeyIndex.index.pairs d c.args.root) c.args.from 0 c.as_slice-some.result.now 0 (omega (arith, eqb-false _ 0 (sym c.if-is_empty.ensures))) (next_first (g.K.KeyIndex.index.pairs d c.args.root) c.args.from c.as_slice-some.result.now (omega (arith, eqb-false _ 0 (sym c.if-is_empty.ensures))) are)).0 _ (sym c.in-Ok-Some.field-0-is ∙ c.in-Ok-Some.ensures.said told
+    ∙ ap (λ (s : State). slot_said (slot_of s.bytes (get_or c.as_slice-some.result.now 0 (0, 0)).1)) ((c.in-Ok.ensures.looks.still refl).state told)))
+
+pub returns-in-Ok-None-clause-cause : goal.returns-in-Ok-None-clause-cause
+returns-in-Ok-None-clause-cause g c =
+    let K = g.met.K.KeyIndex in
+    let laws : Laws g.K.KeyIndex.index = record { rises = K.rises; given = K.given; counts = K.counts; rests = K.rests; extends = K.extends } in
+    let d = (g.S.EawStore.view c.args.pages.now.store).state.bytes in
+    let alive = c.in-Ok.ensures.cause in (
       alive,
       λ told.
-          let first = it g.K.KeyIndex.index laws c.args.table c.args.root c.args.from c.requires.table d ((c.requires.holds alive).tied told).sound (c.requires.named told alive) c.in-Ok-Some.pair.0 c.in-Ok-Some.pair.1
-          (sym (c.in-Ok-Some.ensures.next told) ∙ c.in-Ok-Some.field-0-is) in
-          omega (arith, first.le, c.if-key-from.true),
-    )
-
-pub returns-in-Ok-Some-read_said-clause-comes : goal.returns-in-Ok-Some-read_said-clause-comes
-returns-in-Ok-Some-read_said-clause-comes g c = λ told.
-    let K = g.met.K.KeyIndex in
-    let laws : Laws g.K.KeyIndex.index = record { rises = K.rises; given = K.given; counts = K.counts; rests = K.rests; extends = K.extends } in
-    let d = (g.S.EawStore.view c.args.pages.now.store).state.bytes in
-    let alive = c.in-Ok-Some.ensures.cause in
-    rw c.value_in.ensures (comes_some g.K.KeyIndex.index laws c.args.table c.args.root c.args.from c.requires.table d ((c.requires.holds alive).tied told).sound (c.requires.named told alive) c.in-Ok-Some.pair.0 c.in-Ok-Some.pair.1
-    (sym (c.in-Ok-Some.ensures.next told) ∙ c.in-Ok-Some.field-0-is) _ (sym c.in-Ok-Some-read_said.field-0-is ∙ c.in-Ok-Some-read_said.ensures.said told
-    ∙ ap (λ (s : State). slot_said (slot_of s.bytes c.in-Ok-Some.pair.1)) ((c.in-Ok-Some.ensures.looks.still refl).state told)))
-
-pub returns-in-Ok-None-read_said-clause-cause : goal.returns-in-Ok-None-read_said-clause-cause
-returns-in-Ok-None-read_said-clause-cause g c =
-    let K = g.met.K.KeyIndex in
-    let laws : Laws g.K.KeyIndex.index = record { rises = K.rises; given = K.given; counts = K.counts; rests = K.rests; extends = K.extends } in
-    let d = (g.S.EawStore.view c.args.pages.now.store).state.bytes in
-    let alive = c.in-Ok-Some.ensures.cause in (
-      alive,
-      λ told.
-          says_some g.K.KeyIndex.index laws c.args.table c.args.root c.args.from c.requires.table d ((c.requires.holds alive).tied told).sound (c.requires.named told alive) c.in-Ok-Some.pair.0 c.in-Ok-Some.pair.1
-          (sym (c.in-Ok-Some.ensures.next told) ∙ c.in-Ok-Some.field-0-is) (sym c.in-Ok-None-read_said.field-0-is ∙ c.in-Ok-None-read_said.ensures.said told
-          ∙ ap (λ (s : State). slot_said (slot_of s.bytes c.in-Ok-Some.pair.1)) ((c.in-Ok-Some.ensures.looks.still refl).state told)),
+          let are : AreNext (g.K.KeyIndex.index.pairs (g.S.EawStore.view c.args.pages.now.store).state.bytes c.args.root) c.args.from c.as_slice-some.result.now = subst (λ (l : List Pair). AreNext (g.K.KeyIndex.index.pairs (g.S.EawStore.view c.args.pages.now.store).state.bytes c.args.root) c.args.from l) (sym c.as_slice-some.ensures.value) (c.in-Ok.ensures.next told) in
+          says_some g.K.KeyIndex.index laws c.args.table c.args.root c.args.from c.requires.table d ((c.requires.holds alive).tied told).sound (c.requires.named told alive) (get_or c.as_slice-some.result.now 0 (0, 0)).0 (get_or c.as_slice-some.result.now 0 (0, 0)).1
+          (turn_at (g.K.KeyIndex.index.pairs d c.args.root) c.args.from 0 c.as_slice-some.result.now 0 (omega (arith, eqb-false _ 0 (sym c.if-is_empty.ensures))) (next_first (g.K.KeyIndex.index.pairs d c.args.root) c.args.from c.as_slice-some.result.now (omega (arith, eqb-false _ 0 (sym c.if-is_empty.ensures))) are)).0 (sym c.in-Ok-None.field-0-is ∙ c.in-Ok-None.ensures.said told
+          ∙ ap (λ (s : State). slot_said (slot_of s.bytes (get_or c.as_slice-some.result.now 0 (0, 0)).1)) ((c.in-Ok.ensures.looks.still refl).state told)),
     )

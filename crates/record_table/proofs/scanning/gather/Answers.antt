@@ -1,17 +1,24 @@
-use Rattle.std.proofs.Common.{false, ◌≡◌, suc, ◌++◌, sym, ◌∙◌, ap, arith}
+use Rattle.std.proofs.lemmas.Bool.{eqb-true, eqb-false}
+use Rattle.std.proofs.Common.{false, ◌≡◌, ◌+◌, suc, ℕ, List, ◌++◌, length, refl, sym, ◌∙◌, ap, subst, arith}
+use Rattle.std.proofs.lemmas.List.{append-nil}
+use Rattle.eaw_face.specs.State.{State}
+use Rattle.page_store.specs.Index.{slots_of}
+use Rattle.page_store.specs.Pairs.{Pair, AreInside, InTurn, AreNext}
 use Rattle.page_store.specs.Shown.{pages_of}
 use Rattle.history.specs.Writes.{rows_within}
-use Rattle.record_table.specs.Scanned.{row_at, rows_seen, rows_in}
+use Rattle.index_pages.proofs.Turns.{next_first, next_empty}
+use Rattle.record_table.specs.Scanned.{rows_seen, rows_in, rows_left}
+use Rattle.record_table.specs.Sought.{LooksAs}
 use Rattle.record_table.specs.State.{TableState, seen_by, key_in}
 use Rattle.record_table.proofs.Joint.{key_sum}
-use Rattle.record_table.proofs.Looking.{looks_next}
-use Rattle.record_table.proofs.Gathering.{follows_past, last_row, no_row, more_row, rows_more, rows_none}
+use Rattle.record_table.proofs.Looking.{looks_as, looks_none, looks_next}
+use Rattle.record_table.proofs.Gathering.{follows_end, follows_past, no_row, rows_none}
 use Rattle.record_table.proofs.Moving.{moved_by_look, rests_moved}
 use Rattle.record_table.proofs.Sharing.{Laws}
 use Rattle.record_table.proofs.scanning.gather.Goals as goal
 
-pub next_row-requires-clause-holds : goal.next_row-requires-clause-holds
-next_row-requires-clause-holds g c = λ living.
+pub next_pairs-requires-clause-sound : goal.next_pairs-requires-clause-sound
+next_pairs-requires-clause-sound g c = λ told living.
     let K = g.met.K.KeyIndex in
     let V = g.S.EawStore.view in
     let I = g.K.KeyIndex.index in
@@ -20,14 +27,12 @@ next_row-requires-clause-holds g c = λ living.
     let laws : Laws g.K.KeyIndex.index = record { rises = K.rises; given = K.given; counts = K.counts; rests = K.rests; extends = K.extends } in
     let v0 = pages_of (V c.args.pages.now.store) c.args.pages.now in
     let v1 = pages_of (V c.loop-from.pages.store) c.loop-from.pages in
-    let alive = c.requires.alive in
     let t = c.args.tid in
-    let rests = c.requires.holds alive in
-    let moved = moved_by_look T E I t v0 v1 alive rests c.loop-from.invariant.looks in
-    rests_moved T E I t v0 v1 rests moved
+    let rests = c.requires.holds c.requires.alive in
+    ((rests_moved T E I t v0 v1 rests (moved_by_look T E I t v0 v1 c.requires.alive rests c.loop-from.invariant.looks)).tied told).sound
 
-pub returns-then-next-high-clause-rows : goal.returns-then-next-high-clause-rows
-returns-then-next-high-clause-rows g c = λ told.
+pub push_rows-requires-clause-holds : goal.push_rows-requires-clause-holds
+push_rows-requires-clause-holds g c = λ living.
     let K = g.met.K.KeyIndex in
     let V = g.S.EawStore.view in
     let I = g.K.KeyIndex.index in
@@ -36,19 +41,60 @@ returns-then-next-high-clause-rows g c = λ told.
     let laws : Laws g.K.KeyIndex.index = record { rises = K.rises; given = K.given; counts = K.counts; rests = K.rests; extends = K.extends } in
     let v0 = pages_of (V c.args.pages.now.store) c.args.pages.now in
     let v1 = pages_of (V c.loop-from.pages.store) c.loop-from.pages in
-    let alive = c.requires.alive in
     let t = c.args.tid in
-    let rests = c.requires.holds alive in
-    let moved = moved_by_look T E I t v0 v1 alive rests c.loop-from.invariant.looks in
-    let f = rw c.in-Ok-Some.field-0-is at (c.in-Ok-Some.ensures.follows told) in
-    let key = key_in c.args.table c.in-Ok-Some.next.key in
-    let behind = key_in c.args.table (suc c.in-Ok-Some.next.key) in
-    let top = key_in c.args.table c.args.high in
-    let seen : rows_seen g.K.KeyIndex.index c.args.tid (pages_of (g.S.EawStore.view c.args.pages.now.store) c.args.pages.now) (key_in c.args.table c.loop-from.from) (key_in c.args.table c.args.high) ≡ row_at (key_in c.args.table c.in-Ok-Some.next.key) c.in-Ok-Some.next.value ++ rows_seen g.K.KeyIndex.index c.args.tid (pages_of (g.S.EawStore.view c.args.pages.now.store) c.args.pages.now) (key_in c.args.table (suc c.in-Ok-Some.next.key)) (key_in c.args.table c.args.high) =
-    ap (λ (s : TableState). rows_within (key_in c.args.table c.loop-from.from) top (seen_by s t)) (sym (moved.state told)) ∙ f ∙ ap (λ (s : TableState). row_at key c.in-Ok-Some.next.value ++ rows_within behind top (seen_by s t)) (moved.state told) in
-    last_row (rows_in c.args.table c.loop-from.rows) (row_at key c.in-Ok-Some.next.value) _ _ _ _ (c.loop-from.invariant.rows told) seen
-    (follows_past I laws t v0 (rests.tied told) behind top (omega (arith, key_sum c.args.table (suc c.in-Ok-Some.next.key), key_sum c.args.table c.args.high, c.if-next-high.true)))
-    (ap (rows_in c.args.table) c.in-Ok.ensures ∙ rows_more c.args.table c.loop-from.rows c.in-Ok-Some.next.key c.in-Ok-Some.next.value)
+    let rests = c.requires.holds c.requires.alive in
+    let v2 = pages_of (V c.next_pairs.new.pages.store) c.next_pairs.new.pages in
+    let looked : LooksAs g.S.EawStore.tells (g.S.EawStore.opens (g.S.EawStore.view c.args.pages.now.store).shape) c.args.tid false (pages_of (g.S.EawStore.view c.args.pages.now.store) c.args.pages.now) (pages_of (g.S.EawStore.view c.next_pairs.new.pages.store) c.next_pairs.new.pages) =
+    looks_next T g.S.EawStore.opens t false v0 v1 v2 c.loop-from.invariant.looks (looks_as T (g.S.EawStore.opens v1.store.shape) t false v1 v2 c.in-Ok.ensures.looks) in
+    rests_moved T E I t v0 v2 rests (moved_by_look T E I t v0 v2 c.requires.alive rests looked)
+
+pub push_rows-requires-clause-turn : goal.push_rows-requires-clause-turn
+push_rows-requires-clause-turn g c = λ told.
+    subst (λ (l : List Pair). InTurn (g.K.KeyIndex.index.pairs (g.S.EawStore.view c.next_pairs.new.pages.store).state.bytes c.args.root) c.loop-from.from l) (sym c.as_slice.ensures.value)
+    (subst (λ (s : State). InTurn (g.K.KeyIndex.index.pairs s.bytes c.args.root) c.loop-from.from c.in-Ok.pairs.items) (sym ((c.in-Ok.ensures.looks.still refl).state told))
+    (next_first (g.K.KeyIndex.index.pairs (g.S.EawStore.view c.loop-from.pages.store).state.bytes c.args.root) c.loop-from.from c.in-Ok.pairs.items (omega (arith, eqb-false _ 0 (sym c.if-is_empty.ensures))) (c.in-Ok.ensures.next told)))
+
+pub push_rows-requires-clause-inside : goal.push_rows-requires-clause-inside
+push_rows-requires-clause-inside g c =
+    subst (λ (l : List Pair). AreInside c.loop-from.from (slots_of (g.S.EawStore.view c.next_pairs.new.pages.store).shape) l) (sym c.as_slice.ensures.value)
+    (subst (λ (n : ℕ). AreInside c.loop-from.from n c.in-Ok.pairs.items) (ap slots_of (sym c.in-Ok.ensures.looks.shape)) c.in-Ok.ensures.inside)
+
+pub returns-then-is_empty-clause-rows : goal.returns-then-is_empty-clause-rows
+returns-then-is_empty-clause-rows g c = λ told.
+    let K = g.met.K.KeyIndex in
+    let V = g.S.EawStore.view in
+    let I = g.K.KeyIndex.index in
+    let T = g.S.EawStore.tells in
+    let E = g.S.EawStore.opens (g.S.EawStore.view c.args.pages.now.store).shape in
+    let laws : Laws g.K.KeyIndex.index = record { rises = K.rises; given = K.given; counts = K.counts; rests = K.rests; extends = K.extends } in
+    let v0 = pages_of (V c.args.pages.now.store) c.args.pages.now in
+    let v1 = pages_of (V c.loop-from.pages.store) c.loop-from.pages in
+    let t = c.args.tid in
+    let rests = c.requires.holds c.requires.alive in
+    let none = subst (λ (s : State). AreNext (g.K.KeyIndex.index.pairs s.bytes c.args.root) c.loop-from.from c.in-Ok.pairs.items) ((c.loop-from.invariant.looks.same refl).still.state told) (c.in-Ok.ensures.next told) in
+    no_row (rows_in c.args.table c.loop-from.rows) _ _ (c.loop-from.invariant.rows told)
+    (follows_end I laws t v0 (rests.tied told) c.args.table c.args.root c.requires.table (c.requires.named told c.requires.alive) c.loop-from.from c.args.high (omega arith)
+    (next_empty (I.pairs v0.store.state.bytes c.args.root) c.loop-from.from c.in-Ok.pairs.items (eqb-true _ 0 (sym c.if-is_empty.ensures)) none))
+
+pub returns-in-Ok-None-clause-rows : goal.returns-in-Ok-None-clause-rows
+returns-in-Ok-None-clause-rows g c = λ told.
+    let K = g.met.K.KeyIndex in
+    let V = g.S.EawStore.view in
+    let I = g.K.KeyIndex.index in
+    let T = g.S.EawStore.tells in
+    let E = g.S.EawStore.opens (g.S.EawStore.view c.args.pages.now.store).shape in
+    let laws : Laws g.K.KeyIndex.index = record { rises = K.rises; given = K.given; counts = K.counts; rests = K.rests; extends = K.extends } in
+    let v0 = pages_of (V c.args.pages.now.store) c.args.pages.now in
+    let v1 = pages_of (V c.loop-from.pages.store) c.loop-from.pages in
+    let t = c.args.tid in
+    let rests = c.requires.holds c.requires.alive in
+    let v2 = pages_of (V c.next_pairs.new.pages.store) c.next_pairs.new.pages in
+    let looked : LooksAs g.S.EawStore.tells (g.S.EawStore.opens (g.S.EawStore.view c.args.pages.now.store).shape) c.args.tid false (pages_of (g.S.EawStore.view c.args.pages.now.store) c.args.pages.now) (pages_of (g.S.EawStore.view c.next_pairs.new.pages.store) c.next_pairs.new.pages) =
+    looks_next T g.S.EawStore.opens t false v0 v1 v2 c.loop-from.invariant.looks (looks_as T (g.S.EawStore.opens v1.store.shape) t false v1 v2 c.in-Ok.ensures.looks) in
+    let moved = moved_by_look T E I t v0 v2 c.requires.alive rests looked in
+    sym (append-nil (rows_in c.args.table c.push_rows.new.rows)) ∙ (rw c.in-Ok-None.field-0-is at (c.in-Ok-None.ensures.rows told))
+    ∙ ap (λ (s : TableState). rows_in c.args.table c.loop-from.rows ++ rows_within (key_in c.args.table c.loop-from.from) (key_in c.args.table c.args.high) (seen_by s t)) (moved.state told)
+    ∙ c.loop-from.invariant.rows told
 
 pub returns-clause-rows : goal.returns-clause-rows
 returns-clause-rows g c = λ told.
@@ -60,42 +106,10 @@ returns-clause-rows g c = λ told.
     let laws : Laws g.K.KeyIndex.index = record { rises = K.rises; given = K.given; counts = K.counts; rests = K.rests; extends = K.extends } in
     let v0 = pages_of (V c.args.pages.now.store) c.args.pages.now in
     let v1 = pages_of (V c.loop-from.pages.store) c.loop-from.pages in
-    let alive = c.requires.alive in
     let t = c.args.tid in
-    let rests = c.requires.holds alive in
-    let moved = moved_by_look T E I t v0 v1 alive rests c.loop-from.invariant.looks in
+    let rests = c.requires.holds c.requires.alive in
     no_row (rows_in c.args.table c.loop-from.rows) _ _ (c.loop-from.invariant.rows told)
     (follows_past I laws t v0 (rests.tied told) (key_in c.args.table c.loop-from.from) (key_in c.args.table c.args.high) (omega (arith, key_sum c.args.table c.loop-from.from, key_sum c.args.table c.args.high, c.loop-from-test.false)))
-
-pub returns-in-Err-clause-rows : goal.returns-in-Err-clause-rows
-returns-in-Err-clause-rows g c = λ told. tt
-
-pub returns-in-Err-push_row-clause-rows : goal.returns-in-Err-push_row-clause-rows
-returns-in-Err-push_row-clause-rows g c = λ told. tt
-
-pub returns-in-Ok-None-clause-looks : goal.returns-in-Ok-None-clause-looks
-returns-in-Ok-None-clause-looks g c =
-    let T = g.S.EawStore.tells in
-    let E = g.S.EawStore.opens in
-    let V = g.S.EawStore.view in
-    let v0 = pages_of (V c.args.pages.now.store) c.args.pages.now in
-    looks_next T E c.args.tid false v0 (pages_of (V c.loop-from.pages.store) c.loop-from.pages) (pages_of (V c.next_row.new.pages.store) c.next_row.new.pages) c.loop-from.invariant.looks c.in-Ok-None.ensures.looks
-
-pub returns-then-next-high-clause-looks : goal.returns-then-next-high-clause-looks
-returns-then-next-high-clause-looks g c =
-    let T = g.S.EawStore.tells in
-    let E = g.S.EawStore.opens in
-    let V = g.S.EawStore.view in
-    let v0 = pages_of (V c.args.pages.now.store) c.args.pages.now in
-    looks_next T E c.args.tid false v0 (pages_of (V c.loop-from.pages.store) c.loop-from.pages) (pages_of (V c.next_row.new.pages.store) c.next_row.new.pages) c.loop-from.invariant.looks c.in-Ok-Some.ensures.looks
-
-pub returns-in-Err-push_row-clause-looks : goal.returns-in-Err-push_row-clause-looks
-returns-in-Err-push_row-clause-looks g c =
-    let T = g.S.EawStore.tells in
-    let E = g.S.EawStore.opens in
-    let V = g.S.EawStore.view in
-    let v0 = pages_of (V c.args.pages.now.store) c.args.pages.now in
-    looks_next T E c.args.tid false v0 (pages_of (V c.loop-from.pages.store) c.loop-from.pages) (pages_of (V c.next_row.new.pages.store) c.next_row.new.pages) c.loop-from.invariant.looks c.in-Ok-Some.ensures.looks
 
 pub returns-clause-looks : goal.returns-clause-looks
 returns-clause-looks g c = c.loop-from.invariant.looks

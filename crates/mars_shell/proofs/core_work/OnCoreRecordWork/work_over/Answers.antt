@@ -16,7 +16,7 @@ work_on-worked-requires-clause-ready g c =
     let store = c.in-Ok.core.records.store in
     let begins = c.in-Ok.ensures.begins in
     can_share s.tells s.opens g.I.KeyIndex.index (s.view c.args.store) (s.view store) _ begins 0 (omega arith)
-    (λ told image left. (g.met.S.EawStore g.world.𝓛 g.world.𝓜 g.world.𝓡 ((λ s x. x), (λ x. x), (λ x. x), λ x. x)).only_now store image told begins.alive left)
+    (λ told image left. g.met.S.EawStore.only_now store image told begins.alive left)
 
 pub returns-in-Ok-worked-clause-served : goal.returns-in-Ok-worked-clause-served
 returns-in-Ok-worked-clause-served g c =

@@ -1,4 +1,4 @@
-use Rattle.std.proofs.Common.{◌≡◌, [], false, refl, sym, ◌∙◌}
+use Rattle.std.proofs.Common.{◌≡◌, [], true, false, refl, sym, ◌∙◌}
 use Rattle.std.proofs.lemmas.List.{append-nil}
 use Rattle.mars_core.specs.Attached.{is_media_fault}
 use Rattle.mars_shell.proofs.Dumping.{dumped, dump_counts, unread_counts}
@@ -20,7 +20,7 @@ returns-in-Ok-dump_lines-clause-served g c =
       wrote = wrote.wrote;
       counts = wrote.counts;
       holds = λ told. dumped s.tells told s.opens g.I.KeyIndex.index (s.view old) (s.view new) c.requires.alive (sound told) left
-          (λ living image has. (g.met.S.EawStore g.world.𝓛 g.world.𝓜 g.world.𝓡 ((λ s x. x), (λ x. x), (λ x. x), λ x. x)).only_now new image told living has)
+          (λ living image has. g.met.S.EawStore.only_now new image told living has)
           c.in-Ok.rows c.deref.result.now c.write_ended.result wrote.cut wrote.text (rows told) (c.deref.ensures.value ∙ c.in-Ok-dump_lines.ensures) wrote.holds.0 wrote.holds.1;
     }
 
@@ -48,20 +48,3 @@ returns-in-Err-clause-counts g c =
     let s = g.S.EawStore in
     let left = rw c.in-Err.is at c.read_records-read.ensures.left in
     unread_counts s.tells (s.opens (s.view c.args.store).shape) (s.view c.args.store) (s.view c.read_records-read.result.1) c.in-Err.fault _ left
-
-pub returns-in-Err-dump_lines-clause-served : goal.returns-in-Err-dump_lines-clause-served
-returns-in-Err-dump_lines-clause-served g c =
-    let s = g.S.EawStore in
-    let left = rw c.in-Ok.is at c.read_records-read.ensures.left in
-    record {
-      cut = false;
-      text = [];
-      wrote = λ _. sym (append-nil _);
-      counts = refl;
-      holds = λ told. unread true s.tells s.opens g.I.KeyIndex.index (s.view c.args.store) (s.view c.read_records-read.result.1) false _ told tt left;
-    }
-
-pub returns-in-Err-dump_lines-clause-counts : goal.returns-in-Err-dump_lines-clause-counts
-returns-in-Err-dump_lines-clause-counts g c =
-    let left = rw c.in-Ok.is at c.read_records-read.ensures.left in
-    (refl, (left.kept refl).1)

@@ -4,7 +4,7 @@ use Rattle.array_shape.specs.Places.{page_count}
 use Rattle.page_store.specs.Looks.{Looks}
 use Rattle.page_store.specs.Shown.{pages_of}
 use Rattle.key_list.proofs.Walking.{Next}
-use Rattle.key_list.proofs.look.next.Given as goal
+use Rattle.key_list.proofs.look.reach.Given as goal
 
 -- the data is as it was, and the chain from the page on answers
 abbrev pub invariant-loop-step : goal.invariant-loop-step

@@ -1,0 +1,129 @@
+use Rattle.std.proofs.Common.{◌≡◌, ◌≢◌, ◌≤◌, ◌+◌, ℕ, false, List, None, refl, sym, ◌∙◌, ap, subst, arith}
+use Rattle.std.proofs.lemmas.Bool.{false≢true}
+use Rattle.eaw_face.specs.State.{State}
+use Rattle.eaw_face.specs.Causes.{IsAlive}
+use Rattle.page_store.specs.Pairs.{next}
+use Rattle.record_slots.specs.Places.{page_bytes}
+use Rattle.index_pages.specs.Page.{pairs_said, link_said, page_pairs, link_of}
+use Rattle.index_pages.proofs.Looking.{looks_none, looks_next}
+use Rattle.index_pages.proofs.Sizes.{index_pages_are}
+use Rattle.page_store.specs.Index.{index_pages_of}
+use Rattle.page_store.specs.Shown.{pages_of}
+use Rattle.key_list.specs.Resting.{sound_table}
+use Rattle.key_list.specs.Linked.{Reaches}
+use Rattle.key_list.proofs.Walking.{Next, next_first, next_step, next_last, reached, none_is, some_is}
+use Rattle.key_list.proofs.look.reach.Goals as goal
+
+pub loop-step-init : goal.loop-step-init
+loop-step-init g c = record {
+  inside = c.requires.root;
+  looks = looks_none g.S.EawStore.tells (g.S.EawStore.opens (g.S.EawStore.view c.args.pages.now.store).shape) (pages_of (g.S.EawStore.view c.args.pages.now.store) c.args.pages.now);
+  alive = λ some. absurd (omega arith);
+  dead = λ dead. refl;
+  chain = λ told alive. (let b = (g.S.EawStore.view c.args.pages.now.store).state.bytes in next_first b c.args.root c.args.table c.args.from (omega (arith, (c.requires.sound told alive).0.some_pages)) (sound_table b c.args.table c.args.root (c.requires.sound told alive) (c.requires.named told alive)));
+}
+
+pub loop-step-preserved : goal.loop-step-preserved
+loop-step-preserved g c =
+    let view = g.S.EawStore.view c.args.pages.now.store in
+    let still = c.loop-step.invariant.looks.still refl in
+    let looks = looks_next g.S.EawStore.tells g.S.EawStore.opens false (pages_of view c.args.pages.now) (pages_of (g.S.EawStore.view c.loop-step.pages.store) c.loop-step.pages)
+    (pages_of (g.S.EawStore.view c.read_page.new.pages.store) c.read_page.new.pages) c.loop-step.invariant.looks c.in-Ok.ensures.looks in
+    let alive : IsAlive view = sym still.dead ∙ c.in-Ok.ensures.cause in
+    let alive' : IsAlive (g.S.EawStore.view c.read_page.new.pages.store) = (looks.still refl).dead ∙ alive in
+    record {
+      inside = (let e : index_pages_of (g.S.EawStore.view c.loop-step.pages.store).shape ≡ index_pages_of view.shape = ap index_pages_of (c.loop-step.invariant.looks.shape) in omega (arith, c.in-Ok.ensures.link, e));
+      looks = looks;
+      alive = λ some. alive';
+      dead = λ dead. absurd (false≢true (sym alive' ∙ dead));
+      chain = λ told living.
+          let bytes = view.state.bytes in
+          let buf = c.in-Ok.ensures.bytes told ∙ ap (λ (s : State). page_bytes s.bytes c.loop-step.page) (still.state told) in
+          let none : next (page_pairs bytes c.loop-step.page) c.args.from ≡ None =
+          ap (λ (b : List ℕ). next (pairs_said b) c.args.from) (sym buf) ∙ sym c.next_pair.ensures ∙ none_is c.next_pair.result c.if-is_some.ensures in
+          let link : c.in-Ok.head.link ≡ link_of bytes c.loop-step.page = c.in-Ok.ensures.head.link ∙ ap link_said buf in
+          subst (λ (n : ℕ). Next bytes c.args.root c.args.table c.args.from (c.loop-step._step + 1) n) (sym link)
+          (next_step bytes c.args.root c.args.table c.args.from c.loop-step._step c.loop-step.page (c.loop-step.invariant.chain told alive) (λ e. c.if-head-eq0.false (link ∙ e)) none);
+    }
+
+pub returns-clause-cause : goal.returns-clause-cause
+returns-clause-cause g c =
+    let view = g.S.EawStore.view c.args.pages.now.store in
+    let still = c.loop-step.invariant.looks.still refl in
+    let alive : IsAlive view = sym still.dead ∙ c.loop-step.invariant.alive (omega (arith, c.index_page_count-count.ensures.some, c.loop-step-test.false)) in (
+      alive,
+      λ told.
+          let at = c.loop-step.invariant.chain told alive in
+          omega (arith, at.left, (c.requires.sound told alive).0.pages, index_pages_are view.shape view.state.bytes (g.met.S.EawStore.long c.args.pages.now.store told), c.index_page_count-count.ensures.count, c.loop-step-test.false),
+    )
+
+pub returns-then-is_some-clause-looks : goal.returns-then-is_some-clause-looks
+returns-then-is_some-clause-looks g c = looks_next g.S.EawStore.tells g.S.EawStore.opens false (pages_of (g.S.EawStore.view c.args.pages.now.store) c.args.pages.now) (pages_of (g.S.EawStore.view c.loop-step.pages.store) c.loop-step.pages) (pages_of (g.S.EawStore.view c.read_page.new.pages.store) c.read_page.new.pages) c.loop-step.invariant.looks c.in-Ok.ensures.looks
+
+pub returns-then-is_some-clause-dead : goal.returns-then-is_some-clause-dead
+returns-then-is_some-clause-dead g c = λ is. cc
+
+pub returns-then-head-eq0-clause-looks : goal.returns-then-head-eq0-clause-looks
+returns-then-head-eq0-clause-looks g c = looks_next g.S.EawStore.tells g.S.EawStore.opens false (pages_of (g.S.EawStore.view c.args.pages.now.store) c.args.pages.now) (pages_of (g.S.EawStore.view c.loop-step.pages.store) c.loop-step.pages) (pages_of (g.S.EawStore.view c.read_page.new.pages.store) c.read_page.new.pages) c.loop-step.invariant.looks c.in-Ok.ensures.looks
+
+pub returns-then-head-eq0-clause-dead : goal.returns-then-head-eq0-clause-dead
+returns-then-head-eq0-clause-dead g c = λ is. cc
+
+pub returns-clause-looks : goal.returns-clause-looks
+returns-clause-looks g c = c.loop-step.invariant.looks
+
+pub returns-clause-dead : goal.returns-clause-dead
+returns-clause-dead g c = λ is. cc
+
+pub returns-then-is_some-clause-reaches : goal.returns-then-is_some-clause-reaches
+returns-then-is_some-clause-reaches g c = λ told.
+    let view = g.S.EawStore.view c.args.pages.now.store in
+    let still = c.loop-step.invariant.looks.still refl in
+    let alive : IsAlive view = sym still.dead ∙ c.in-Ok.ensures.cause in
+    let buf = c.in-Ok.ensures.bytes told ∙ ap (λ (s : State). page_bytes s.bytes c.loop-step.page) (still.state told) in
+    subst (λ (b : List ℕ). Reaches view.state.bytes c.args.root c.args.table c.args.from b) (sym buf)
+    (reached view.state.bytes c.args.root c.args.table c.args.from c.loop-step._step c.loop-step.page (c.loop-step.invariant.chain told alive))
+
+pub returns-then-is_some-clause-end : goal.returns-then-is_some-clause-end
+returns-then-is_some-clause-end g c = λ told. tt
+
+pub returns-then-is_some-clause-some : goal.returns-then-is_some-clause-some
+returns-then-is_some-clause-some g c = (
+  c.in-Ok.ensures.head.count,
+  subst (λ (n : ℕ). n ≤ 30) (sym c.in-Ok.ensures.head.count) c.in-Ok.ensures.head.leaf.most,
+  λ none. some_is c.next_pair.result c.if-is_some.ensures (c.next_pair.ensures ∙ none),
+)
+
+pub returns-then-head-eq0-clause-reaches : goal.returns-then-head-eq0-clause-reaches
+returns-then-head-eq0-clause-reaches g c = λ told. tt
+
+pub returns-then-head-eq0-clause-end : goal.returns-then-head-eq0-clause-end
+returns-then-head-eq0-clause-end g c = λ told.
+    let view = g.S.EawStore.view c.args.pages.now.store in
+    let still = c.loop-step.invariant.looks.still refl in
+    let alive : IsAlive view = sym still.dead ∙ c.in-Ok.ensures.cause in
+    let buf = c.in-Ok.ensures.bytes told ∙ ap (λ (s : State). page_bytes s.bytes c.loop-step.page) (still.state told) in
+    let link : link_of view.state.bytes c.loop-step.page ≡ 0 = sym (ap link_said buf) ∙ sym c.in-Ok.ensures.head.link ∙ c.if-head-eq0.true in
+    next_last view.state.bytes c.args.root c.args.table c.args.from c.loop-step._step c.loop-step.page (c.loop-step.invariant.chain told alive) link
+    (ap (λ (b : List ℕ). next (pairs_said b) c.args.from) (sym buf) ∙ sym c.next_pair.ensures ∙ none_is c.next_pair.result c.if-is_some.ensures)
+
+pub returns-then-head-eq0-clause-some : goal.returns-then-head-eq0-clause-some
+returns-then-head-eq0-clause-some g c = tt
+
+pub returns-in-Err-clause-reaches : goal.returns-in-Err-clause-reaches
+returns-in-Err-clause-reaches g c = λ told. tt
+
+pub returns-in-Err-clause-end : goal.returns-in-Err-clause-end
+returns-in-Err-clause-end g c = λ told. tt
+
+pub returns-in-Err-clause-some : goal.returns-in-Err-clause-some
+returns-in-Err-clause-some g c = tt
+
+pub returns-clause-reaches : goal.returns-clause-reaches
+returns-clause-reaches g c = λ told. tt
+
+pub returns-clause-end : goal.returns-clause-end
+returns-clause-end g c = λ told. tt
+
+pub returns-clause-some : goal.returns-clause-some
+returns-clause-some g c = tt

@@ -1,0 +1,135 @@
+use Rattle.std.proofs.Common.{◌≡◌, ◌<◌, ◌≤◌, ◌+◌, false, ℕ, suc, List, ◌++◌, length, get_or, drop, refl, sym, ◌∙◌, ap, subst, arith}
+use Rattle.std.specs.Prelude.{Some}
+use Rattle.std.proofs.lemmas.List.{append-nil}
+use Rattle.eaw_face.specs.Causes.{IsAlive}
+use Rattle.eaw_face.specs.State.{State}
+use Rattle.history.specs.Writes.{rows_within}
+use Rattle.page_store.specs.Index.{slots_of}
+use Rattle.page_store.specs.Pairs.{AreInside, InTurn, next}
+use Rattle.page_store.specs.Shown.{pages_of}
+use Rattle.index_pages.proofs.Turns.{turn_at, inside_at}
+use Rattle.record_table.specs.Scanned.{row_at, rows_seen, rows_in}
+use Rattle.record_table.specs.State.{TableState, seen_by, key_in}
+use Rattle.record_table.proofs.Joint.{key_sum}
+use Rattle.record_table.proofs.Looking.{looks_none, looks_next}
+use Rattle.record_table.proofs.Gathering.{follows_above, follows_past, last_row, no_row, more_row, rows_more}
+use Rattle.record_table.proofs.Moving.{moved_by_look, rests_moved}
+use Rattle.record_table.proofs.Sharing.{Laws}
+use Rattle.record_table.proofs.scanning.push_rows.Goals as goal
+
+pub loop-pair-init : goal.loop-pair-init
+loop-pair-init g c = record {
+  looks = looks_none g.S.EawStore.tells (g.S.EawStore.opens (g.S.EawStore.view c.args.pages.now.store).shape) c.args.tid (pages_of (g.S.EawStore.view c.args.pages.now.store) c.args.pages.now);
+  turn = c.requires.turn;
+  inside = c.requires.inside;
+  low = omega arith;
+  later = λ some. absurd (omega arith);
+  high = c.requires.order;
+  rows = λ told. refl;
+}
+
+pub read_row-requires-clause-holds : goal.read_row-requires-clause-holds
+read_row-requires-clause-holds g c = λ living.
+    let V = g.S.EawStore.view in
+    let I = g.K.KeyIndex.index in
+    let T = g.S.EawStore.tells in
+    let E = g.S.EawStore.opens (g.S.EawStore.view c.args.pages.now.store).shape in
+    let v0 = pages_of (V c.args.pages.now.store) c.args.pages.now in
+    let v1 = pages_of (V c.loop-pair.pages.store) c.loop-pair.pages in
+    let rests = c.requires.holds c.requires.alive in
+    rests_moved T E I c.args.tid v0 v1 rests (moved_by_look T E I c.args.tid v0 v1 c.requires.alive rests c.loop-pair.invariant.looks)
+
+pub read_row-requires-clause-alive : goal.read_row-requires-clause-alive
+read_row-requires-clause-alive g c = (c.loop-pair.invariant.looks.same refl).still.dead ∙ c.requires.alive
+
+pub read_row-requires-clause-next : goal.read_row-requires-clause-next
+read_row-requires-clause-next g c = λ told.
+    let bytes = (g.S.EawStore.view c.args.pages.now.store).state.bytes in
+    subst (λ (s : State). next (g.K.KeyIndex.index.pairs s.bytes c.args.span.root) c.loop-pair.from ≡ Some (get_or c.args.pairs.now c.loop-pair.pair-index (0, 0))) (sym ((c.loop-pair.invariant.looks.same refl).still.state told))
+    (turn_at (g.K.KeyIndex.index.pairs bytes c.args.span.root) c.loop-pair.from 0 c.args.pairs.now c.loop-pair.pair-index c.loop-pair-test.true (c.loop-pair.invariant.turn told)).0
+
+pub read_row-requires-clause-slot : goal.read_row-requires-clause-slot
+read_row-requires-clause-slot g c =
+    let here = inside_at c.args.pairs.now c.loop-pair.from (slots_of (g.S.EawStore.view c.args.pages.now.store).shape) c.args.pairs.now c.loop-pair.pair-index c.loop-pair-test.true c.loop-pair.invariant.inside in
+    omega (arith, here.1, ap slots_of c.loop-pair.invariant.looks.shape)
+
+pub loop-pair-preserved : goal.loop-pair-preserved
+loop-pair-preserved g c =
+    let V = g.S.EawStore.view in
+    let I = g.K.KeyIndex.index in
+    let T = g.S.EawStore.tells in
+    let E = g.S.EawStore.opens (g.S.EawStore.view c.args.pages.now.store).shape in
+    let v0 = pages_of (V c.args.pages.now.store) c.args.pages.now in
+    let v1 = pages_of (V c.loop-pair.pages.store) c.loop-pair.pages in
+    let v2 = pages_of (V c.read_row.new.pages.store) c.read_row.new.pages in
+    let t = c.args.tid in
+    let i = c.loop-pair.pair-index in
+    let rests = c.requires.holds c.requires.alive in
+    let moved = moved_by_look T E I t v0 v1 c.requires.alive rests c.loop-pair.invariant.looks in
+    let here = inside_at c.args.pairs.now c.loop-pair.from (slots_of v0.store.shape) c.args.pairs.now c.loop-pair.pair-index c.loop-pair-test.true c.loop-pair.invariant.inside in
+    let on : suc c.loop-pair.pair-index ≡ c.loop-pair.pair-index + 1 = omega arith in
+    let key : suc (get_or c.args.pairs.now c.loop-pair.pair-index (0, 0)).0 ≡ c.in-Ok.row.key + 1 = omega (arith, c.in-Ok.ensures.key) in
+    record {
+      looks = looks_next T g.S.EawStore.opens t false v0 v1 v2 c.loop-pair.invariant.looks c.in-Ok.ensures.looks;
+      turn = λ told.
+          subst (λ (n : ℕ). InTurn (I.pairs v0.store.state.bytes c.args.span.root) n (drop (c.loop-pair.pair-index + 1) c.args.pairs.now)) key
+          (subst (λ (j : ℕ). InTurn (I.pairs v0.store.state.bytes c.args.span.root) (suc (get_or c.args.pairs.now c.loop-pair.pair-index (0, 0)).0) (drop j c.args.pairs.now)) on
+          (turn_at (I.pairs v0.store.state.bytes c.args.span.root) c.loop-pair.from 0 c.args.pairs.now c.loop-pair.pair-index c.loop-pair-test.true (c.loop-pair.invariant.turn told)).1);
+      inside =
+          subst (λ (n : ℕ). AreInside n (slots_of v0.store.shape) (drop (c.loop-pair.pair-index + 1) c.args.pairs.now)) key
+          (subst (λ (j : ℕ). AreInside (suc (get_or c.args.pairs.now c.loop-pair.pair-index (0, 0)).0) (slots_of v0.store.shape) (drop j c.args.pairs.now)) on here.2);
+      low = omega (arith, c.loop-pair.invariant.low, here.0, key);
+      later = λ some. omega (arith, c.loop-pair.invariant.low, here.0, key);
+      high = omega (arith, c.in-Ok.ensures.key, c.if-row-span.false, c.if-pair-span.false);
+      rows = λ told.
+          let f = c.in-Ok.ensures.follows told in
+          let seen : rows_seen I t v0 (key_in c.args.span.table c.loop-pair.from) (key_in c.args.span.table c.args.span.high) ≡ row_at (key_in c.args.span.table c.in-Ok.row.key) c.in-Ok.row.value ++ rows_seen I t v0 (key_in c.args.span.table (suc c.in-Ok.row.key)) (key_in c.args.span.table c.args.span.high) =
+          ap (λ (s : TableState). rows_within (key_in c.args.span.table c.loop-pair.from) (key_in c.args.span.table c.args.span.high) (seen_by s t)) (sym (moved.state told)) ∙ f
+          ∙ ap (λ (s : TableState). row_at (key_in c.args.span.table c.in-Ok.row.key) c.in-Ok.row.value ++ rows_within (key_in c.args.span.table (suc c.in-Ok.row.key)) (key_in c.args.span.table c.args.span.high) (seen_by s t)) (moved.state told) in
+          let after : suc c.in-Ok.row.key ≡ c.in-Ok.row.key + 1 = omega arith in
+          subst (λ (n : ℕ). rows_in c.args.span.table c.push_row.new.rows ++ rows_seen I t v0 (key_in c.args.span.table n) (key_in c.args.span.table c.args.span.high)
+          ≡ rows_in c.args.span.table c.args.rows.now ++ rows_seen I t v0 (key_in c.args.span.table c.args.span.low) (key_in c.args.span.table c.args.span.high)) after
+          (more_row (rows_in c.args.span.table c.loop-pair.rows) (row_at (key_in c.args.span.table c.in-Ok.row.key) c.in-Ok.row.value) _ _ _ (rows_in c.args.span.table c.push_row.new.rows) (c.loop-pair.invariant.rows told) seen
+          (ap (rows_in c.args.span.table) c.in-Ok-push_row.ensures ∙ rows_more c.args.span.table c.loop-pair.rows c.in-Ok.row.key c.in-Ok.row.value));
+    }
+
+pub returns-then-pair-span-clause-rows : goal.returns-then-pair-span-clause-rows
+returns-then-pair-span-clause-rows g c = λ told.
+    let K = g.met.K.KeyIndex in
+    let V = g.S.EawStore.view in
+    let I = g.K.KeyIndex.index in
+    let T = g.S.EawStore.tells in
+    let E = g.S.EawStore.opens (g.S.EawStore.view c.args.pages.now.store).shape in
+    let laws : Laws g.K.KeyIndex.index = record { rises = K.rises; given = K.given; counts = K.counts; rests = K.rests; extends = K.extends } in
+    let v0 = pages_of (V c.args.pages.now.store) c.args.pages.now in
+    let v1 = pages_of (V c.loop-pair.pages.store) c.loop-pair.pages in
+    let t = c.args.tid in
+    let rests = c.requires.holds c.requires.alive in
+    let moved = moved_by_look T E I t v0 v1 c.requires.alive rests c.loop-pair.invariant.looks in
+    let is = (turn_at (I.pairs v0.store.state.bytes c.args.span.root) c.loop-pair.from 0 c.args.pairs.now c.loop-pair.pair-index c.loop-pair-test.true (c.loop-pair.invariant.turn told)).0 in
+    append-nil (rows_in c.args.span.table c.loop-pair.rows)
+    ∙ no_row (rows_in c.args.span.table c.loop-pair.rows) _ _ (c.loop-pair.invariant.rows told)
+    (follows_above I laws t v0 (rests.tied told) c.args.span.table c.args.span.root c.requires.table (c.requires.named told c.requires.alive) c.loop-pair.from c.args.span.high (omega arith)
+    (get_or c.args.pairs.now c.loop-pair.pair-index (0, 0)).0 (get_or c.args.pairs.now c.loop-pair.pair-index (0, 0)).1 is (omega (arith, c.if-pair-span.true)))
+
+pub returns-then-row-span-clause-rows : goal.returns-then-row-span-clause-rows
+returns-then-row-span-clause-rows g c = λ told.
+    let K = g.met.K.KeyIndex in
+    let V = g.S.EawStore.view in
+    let I = g.K.KeyIndex.index in
+    let T = g.S.EawStore.tells in
+    let E = g.S.EawStore.opens (g.S.EawStore.view c.args.pages.now.store).shape in
+    let laws : Laws g.K.KeyIndex.index = record { rises = K.rises; given = K.given; counts = K.counts; rests = K.rests; extends = K.extends } in
+    let v0 = pages_of (V c.args.pages.now.store) c.args.pages.now in
+    let v1 = pages_of (V c.loop-pair.pages.store) c.loop-pair.pages in
+    let t = c.args.tid in
+    let rests = c.requires.holds c.requires.alive in
+    let moved = moved_by_look T E I t v0 v1 c.requires.alive rests c.loop-pair.invariant.looks in
+    let f = c.in-Ok.ensures.follows told in
+    let seen : rows_seen g.K.KeyIndex.index c.args.tid (pages_of (g.S.EawStore.view c.args.pages.now.store) c.args.pages.now) (key_in c.args.span.table c.loop-pair.from) (key_in c.args.span.table c.args.span.high) ≡ row_at (key_in c.args.span.table c.in-Ok.row.key) c.in-Ok.row.value ++ rows_seen g.K.KeyIndex.index c.args.tid (pages_of (g.S.EawStore.view c.args.pages.now.store) c.args.pages.now) (key_in c.args.span.table (suc c.in-Ok.row.key)) (key_in c.args.span.table c.args.span.high) =
+    ap (λ (s : TableState). rows_within (key_in c.args.span.table c.loop-pair.from) (key_in c.args.span.table c.args.span.high) (seen_by s t)) (sym (moved.state told)) ∙ f
+    ∙ ap (λ (s : TableState). row_at (key_in c.args.span.table c.in-Ok.row.key) c.in-Ok.row.value ++ rows_within (key_in c.args.span.table (suc c.in-Ok.row.key)) (key_in c.args.span.table c.args.span.high) (seen_by s t)) (moved.state told) in
+    append-nil (rows_in c.args.span.table c.push_row.new.rows)
+    ∙ last_row (rows_in c.args.span.table c.loop-pair.rows) (row_at (key_in c.args.span.table c.in-Ok.row.key) c.in-Ok.row.value) _ _ _ _ (c.loop-pair.invariant.rows told) seen
+    (follows_past I laws t v0 (rests.tied told) (key_in c.args.span.table (suc c.in-Ok.row.key)) (key_in c.args.span.table c.args.span.high) (omega (arith, key_sum c.args.span.table (suc c.in-Ok.row.key), key_sum c.args.span.table c.args.span.high, c.if-row-span.true)))
+    (ap (rows_in c.args.span.table) c.in-Ok-push_row.ensures ∙ rows_more c.args.span.table c.loop-pair.rows c.in-Ok.row.key c.in-Ok.row.value)

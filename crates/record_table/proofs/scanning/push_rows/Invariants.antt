@@ -1,0 +1,21 @@
+use Rattle.std.proofs.Common.{◌≡◌, ◌<◌, ◌≤◌, ◌++◌, false, IsTrue, drop}
+use Rattle.page_store.specs.Index.{slots_of}
+use Rattle.page_store.specs.Pairs.{AreInside, InTurn}
+use Rattle.page_store.specs.Shown.{pages_of}
+use Rattle.record_table.specs.Scanned.{rows_seen, rows_in}
+use Rattle.record_table.specs.State.{key_in}
+use Rattle.record_table.specs.Sought.{LooksAs}
+use Rattle.record_table.proofs.scanning.push_rows.Given as goal
+
+-- the pairs that are left come next from the key on, and so do the rows under them
+abbrev pub invariant-loop-pair : goal.invariant-loop-pair
+invariant-loop-pair g l = record {
+  looks : LooksAs g.S.EawStore.tells (g.S.EawStore.opens (g.S.EawStore.view l.initial.pages.store).shape) l.tid false (pages_of (g.S.EawStore.view l.initial.pages.store) l.initial.pages) (pages_of (g.S.EawStore.view l.pages.store) l.pages);
+  turn : IsTrue g.S.EawStore.tells → InTurn (g.K.KeyIndex.index.pairs (g.S.EawStore.view l.initial.pages.store).state.bytes l.span.root) l.from (drop l.pair-index l.pairs);
+  inside : AreInside l.from (slots_of (g.S.EawStore.view l.initial.pages.store).shape) (drop l.pair-index l.pairs);
+  low : l.span.low ≤ l.from;
+  later : 1 ≤ l.pair-index → l.span.low < l.from;
+  high : l.from ≤ l.span.high;
+  rows : IsTrue g.S.EawStore.tells → rows_in l.span.table l.rows ++ rows_seen g.K.KeyIndex.index l.tid (pages_of (g.S.EawStore.view l.initial.pages.store) l.initial.pages) (key_in l.span.table l.from) (key_in l.span.table l.span.high)
+      ≡ rows_in l.span.table l.initial.rows ++ rows_seen g.K.KeyIndex.index l.tid (pages_of (g.S.EawStore.view l.initial.pages.store) l.initial.pages) (key_in l.span.table l.span.low) (key_in l.span.table l.span.high);
+}
