@@ -1,5 +1,5 @@
 -- What a pass was told grows by one list after another.
-use Rattle.std.proofs.Common.{◌≡◌, [], ◌∷◌, ◌++◌, append_assoc, refl, sym, ap, ◌∙◌}
+use Rattle.std.proofs.Common.{◌≡◌, ℕ, List, subst, [], ◌∷◌, ◌++◌, append_assoc, refl, sym, ap, ◌∙◌}
 use Rattle.std.proofs.lemmas.List.{append-nil}
 use Rattle.history.specs.Table.{Granted}
 use Rattle.history.specs.declared.call.Call.{Call}
@@ -9,8 +9,12 @@ use Rattle.std.proofs.lemmas.List.Elements.{filter-append}
 use Rattle.caller_steps.specs.Fate.{is_busy}
 use Rattle.mars_manager.specs.declared.view.Known.{Known}
 use Rattle.mars_manager.specs.Pass.{PassView, told_of}
-use Rattle.mars_manager.specs.Locks.{steps_of}
+use Rattle.mars_manager.specs.declared.view.Met.{Met}
+use Rattle.mars_manager.specs.Locks.{steps_of, IsAgain, IsBusyBy}
+use Rattle.mars_manager.specs.Asked.{IsStepOf, Meets}
 use Rattle.caller_work.specs.Standing.{IsSame, Adds}
+use Rattle.caller_work.specs.Asked.{IsToldOf}
+use Rattle.caller_work.proofs.Asking.{told_none, told_one, told_both}
 
 -- the replies that came of turns, of one list after another
 pub steps_both : (xs ys : Granted) → steps_of (xs ++ ys) ≡ steps_of xs ++ steps_of ys
@@ -19,11 +23,15 @@ steps_both xs ys = filter-append (λ (entry : Call × Reply). not (is_busy entry
 module _ {C : Type 0} where
   -- one call of a pass adds one reply
   pub adds_one : (was now : PassView C) (call : Call) (reply : Reply) → (now.known.number ≡ was.known.number) × (now.known.setup ≡ was.known.setup) → told_of now.known ≡ told_of was.known ++ steps_of ((call, reply) ∷ []) → now.table ≡ was.table
+      → (m : Meets (IsStepOf call) was.known now.known) → ((n : ℕ) × (last : Known C) × IsAgain n was.known last × IsBusyBy call reply last now.known)
       → (Holds : Granted → Type 0) → Holds ((call, reply) ∷ []) → Adds was now Holds
-  adds_one was now call reply same told table Holds holds = record {
+  adds_one was now call reply same told table met busy Holds holds = record {
     same = record { table = table; number = same.0; setup = same.1 };
     more = (call, reply) ∷ [];
     told = told;
+    steps = met.more;
+    met = met.is;
+    tells = told_one was.known now.known call reply met busy;
     holds = holds;
   }
 
@@ -35,7 +43,7 @@ module _ {C : Type 0} where
 
   -- nothing was told
   pub adds_none : (pass : PassView C) (Holds : Granted → Type 0) → Holds [] → Adds pass pass Holds
-  adds_none pass Holds holds = record { same = same_none pass; more = []; told = sym (append-nil (told_of pass.known)); holds = holds }
+  adds_none pass Holds holds = record { same = same_none pass; more = []; told = sym (append-nil (told_of pass.known)); steps = []; met = sym (append-nil pass.known.met); tells = told_none pass.known.number; holds = holds }
 
   -- one list after another
   pub adds_on : (was mid now : PassView C) (First Second Both : Granted → Type 0) → Adds was mid First → Adds mid now Second
@@ -44,8 +52,11 @@ module _ {C : Type 0} where
     same = same_on was mid now one.same other.same;
     more = one.more ++ other.more;
     told = other.told ∙ ap (λ (l : Granted). l ++ steps_of other.more) one.told ∙ append_assoc (told_of was.known) (steps_of one.more) (steps_of other.more) ∙ ap (λ (l : Granted). told_of was.known ++ l) (sym (steps_both one.more other.more));
+    steps = one.steps ++ other.steps;
+    met = other.met ∙ ap (λ (l : List Met). l ++ other.steps) one.met ∙ append_assoc was.known.met one.steps other.steps;
+    tells = told_both was.known.number one.more other.more one.steps other.steps one.tells (subst (λ n. IsToldOf n other.more other.steps) one.same.number other.tells);
     holds = both one.more other.more one.holds other.holds;
   }
 
   pub adds_as : (was now : PassView C) (One Other : Granted → Type 0) → ((xs : Granted) → One xs → Other xs) → Adds was now One → Adds was now Other
-  adds_as was now One Other so adds = record { same = adds.same; more = adds.more; told = adds.told; holds = so adds.more adds.holds }
+  adds_as was now One Other so adds = record { same = adds.same; more = adds.more; told = adds.told; steps = adds.steps; met = adds.met; tells = adds.tells; holds = so adds.more adds.holds }

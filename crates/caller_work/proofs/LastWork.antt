@@ -5,6 +5,7 @@ use Rattle.history.specs.declared.call.Reply.TheVariants as says
 use Rattle.std.specs.Prelude.{option_map}
 use Rattle.history.specs.Table.{Granted}
 use Rattle.mars_manager.specs.Pass.{PassView}
+use Rattle.mars_manager.specs.declared.view.Met.{Met}
 use Rattle.mars_manager.specs.Locks.{steps_of}
 use Rattle.mars_manager.specs.Sharing.{MarsView}
 use Rattle.caller_work.specs.declared.stop.Stop.TheVariants as stop
@@ -17,8 +18,10 @@ use Rattle.caller_work.specs.declared.end.WorkEnd.{WorkEnd}
 use Rattle.caller_work.specs.declared.end.WorkEnd.TheVariants as work
 use Rattle.caller_work.specs.Standing.{stop_for}
 use Rattle.caller_work.specs.Tries.{Works}
+use Rattle.caller_work.specs.Asked.{IsToldOf}
 use Rattle.caller_work.specs.Worked.{end_of, worse}
 use Rattle.caller_work.specs.Crew.{IsLeft, IsDone, WentOn}
+use Rattle.caller_work.proofs.Asking.{told_both}
 use Rattle.caller_work.proofs.Adding.{steps_both}
 use Rattle.caller_work.proofs.TriesLemmas.{endless}
 use Rattle.caller_work.proofs.Ending.{worth_same, worth_now, left_busy, whole_none}
@@ -56,6 +59,7 @@ module _ {C : Type 0} (mars : MarsView C) (caller : ℕ) (was now : Worker C) (e
       subst (λ (w : Worker C). IsDone next caller was.tries was.plans w.fates.items left.stopped w.pass) (sym same) (record {
         number = left.number;
         works = (left.works.0, left.works.1, inl left.works.2);
+        asked = left.asked;
         whole = λ all. none_at left.stopped (sym left.stop_is ∙ none why (sym is ∙ all));
       }),
     )
@@ -85,6 +89,8 @@ module _ {C : Type 0} (mars : MarsView C) (caller : ℕ) (was now : Worker C) (e
                 worked.works.holds,
               ),
             );
+            asked = subst (λ (ms : List Met). IsToldOf caller (left.works.0 ++ worked.works.more) ms) (sym worked.works.met)
+                (told_both caller left.works.0 worked.works.more was.pass.known.met worked.works.steps left.asked (subst (λ n. IsToldOf n worked.works.more worked.works.steps) left.number worked.works.tells));
             whole = λ ended. none_at worked.stopped (sym worked.stop_is ∙ whole_none now.stop
                 (λ holder stops. endless late worked.works.more worked.made holder
                 (subst (λ (s : Option Reply). Works NoLimit late worked.works.more worked.made s) (busy_at worked.stopped holder (sym worked.stop_is ∙ stops)) worked.works.holds))
@@ -94,4 +100,4 @@ module _ {C : Type 0} (mars : MarsView C) (caller : ℕ) (was now : Worker C) (e
 
   -- what was done before stays done
   pub done_then : WentOn end was now next → (n : ℕ) (tries : Tries) (plans : List Plan) (fates : List Fate) (stopped : Option Reply) (pass : PassView C) → IsDone end n tries plans fates stopped pass → IsDone next n tries plans fates stopped pass
-  done_then went n tries plans fates stopped pass done = record { number = done.number; works = done.works; whole = λ all. done.whole (all_before went all) }
+  done_then went n tries plans fates stopped pass done = record { number = done.number; works = done.works; asked = done.asked; whole = λ all. done.whole (all_before went all) }

@@ -25,6 +25,9 @@ use Rattle.caller_work.specs.declared.end.WorkEnd.{WorkEnd}
 use Rattle.caller_work.specs.Standing.{stop_for}
 use Rattle.caller_work.specs.Tries.{IsWorkOf}
 use Rattle.caller_work.specs.Crew.{IsDone}
+use Rattle.caller_work.specs.Asked.{HaveCauses}
+use Rattle.mars_manager.specs.Asked.{HaveAsked}
+use Rattle.caller_work.proofs.Asking.{causes_of}
 use Rattle.caller_work.specs.Worked.{of_caller, end_of, worst, is_fault, Worked}
 use Rattle.caller_work.proofs.Ending.{fault_of_one, one_of_fault}
 use Rattle.caller_work.proofs.Faults.{in_work, steps_media}
@@ -69,7 +72,7 @@ module _ {C : Type 0} where
       (done : (k : ℕ) (p : PassView C) → k < length plans → IsDone end k (Times tries) (of_caller plans k) (of_caller told k) (get_or stopped k None) (get_or passes k p))
       (end_is : end ≡ worst (map (option_map stop_for) stopped))
       (since : Since tells (show mars.setup.first) (show last))
-      (gathered : AreGathered tells show mars.setup last passes) where
+      (gathered : AreGathered tells show mars.setup last passes) (asked : HaveAsked mars.setup.callers passes) where
     somebody : PassView C
     somebody = record { table = mars.table; known = newcomer mars.setup 0 }
 
@@ -90,7 +93,13 @@ module _ {C : Type 0} where
     works k within =
         let d = done k somebody within in
         let fits = fits_at tells show mars.setup turns now passes k somebody gathered.each (omega arith) in
-        subst (λ (l : Granted). IsWorkOf (Times tries) (of_caller plans k) l (of_caller told k) (get_or stopped k None)) (told_all tells show mars.setup turns now (get_or passes k somebody).known fits ∙ ap (λ (n : ℕ). turns_of n turns) d.number) d.works
+        (d.works.0, sym (told_all tells show mars.setup turns now (get_or passes k somebody).known fits ∙ ap (λ (n : ℕ). turns_of n turns) d.number) ∙ d.works.1, d.works.2)
+
+    -- and each `Busy` that it was told has its cause
+    causes : (k : ℕ) (within : k < length plans) → HaveCauses (length plans) (of_caller plans) k (works k within).0
+    unfolding works
+    causes k within = causes_of (length plans) (of_caller plans) (Times tries) passes somebody (λ i l. (done i somebody l).works.0) (of_caller told) (λ i. get_or stopped i None)
+        (subst (λ n. HaveAsked n passes) few asked) (omega arith) (λ i l. (done i somebody l).number) (λ i l. (done i somebody l).asked) (λ i l. (done i somebody l).works.2) k within
 
     media_work : (k : ℕ) → k < length plans → has_media (turns_of k turns) ≡ is_fault (end_of (option_map stop_for (get_or stopped k None)))
     media_work k within =
@@ -136,6 +145,7 @@ module _ {C : Type 0} where
       stopped = stopped;
       each_stopped = each_stopped;
       works = works;
+      causes = causes;
       end_is = end_is;
       whole = λ all k within. (done k somebody within).whole all;
     }

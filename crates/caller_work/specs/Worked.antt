@@ -13,6 +13,7 @@ use Rattle.caller_work.specs.declared.end.WorkEnd.{WorkEnd}
 use Rattle.caller_work.specs.declared.end.WorkEnd.TheVariants as work
 use Rattle.caller_work.specs.Standing.{stop_for}
 use Rattle.caller_work.specs.Tries.{IsWorkOf}
+use Rattle.caller_work.specs.Asked.{HaveCauses}
 
 -- the list of one caller, empty if there is none
 abbrev pub of_caller : {A : Type 0} → List (List A) → ℕ → List A
@@ -43,7 +44,7 @@ worst [] = work.All
 worst (stops ∷ others) = worse (end_of stops) (worst others)
 
 -- Callers' plans were worked on, on a core that came to a later one by a run of these callers. Each caller's turns are those that its plans
--- ask for, and its fates are what came of them. How all work ended is the worst of what the workers came to. At the end of all work none of
+-- ask for, and its fates are what came of them. Each `Busy` that a caller was told has its cause in another's plans. How all work ended is the worst of what the workers came to. At the end of all work none of
 -- them has stopped.
 pub record Worked (tells : Bool) (tries : ℕ) (plans : List (List Plan)) (first last : CoreView) (fates : List (List Fate)) (end : WorkEnd) : Type 0 where
   pub since : Since tells first last
@@ -56,5 +57,6 @@ pub record Worked (tells : Bool) (tries : ℕ) (plans : List (List Plan)) (first
   pub stopped : List (Option Reply)
   pub each_stopped : length stopped ≡ length plans
   pub works : (caller : ℕ) → caller < length plans → IsWorkOf (Times tries) (of_caller plans caller) (turns_of caller turns) (of_caller fates caller) (slice_index_or stopped caller None)
+  pub causes : (caller : ℕ) (within : caller < length plans) → HaveCauses (length plans) (of_caller plans) caller (works caller within).0
   pub end_is : end ≡ worst (map (option_map stop_for) stopped)
   pub whole : end ≡ work.All → (caller : ℕ) → caller < length plans → slice_index_or stopped caller None ≡ None

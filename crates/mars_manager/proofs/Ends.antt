@@ -12,7 +12,12 @@ use Rattle.caller_steps.specs.State.{State as CoreState}
 use Rattle.atomic_table.specs.Table.{step, takes, gives, Allows, Splits, Joins, Final, Seen, opening, rest}
 use Rattle.atomic_table.specs.Seated.{TableId}
 use Rattle.atomic_table.proofs.Lists.{set_here, set_else, at_snoc, at_longer}
+use Rattle.history.specs.declared.locks.Mode.{Mode}
+use Rattle.history.specs.declared.locks.Mode.TheVariants as mode
 use Rattle.mars_manager.specs.declared.view.Known.{Known}
+use Rattle.mars_manager.specs.declared.view.Met.{Met}
+use Rattle.mars_manager.specs.Asked.{set_for, AreMet, AreCaused}
+use Rattle.mars_manager.proofs.Asking.{none_here}
 use Rattle.mars_manager.specs.declared.view.Stage.{Stage}
 use Rattle.mars_manager.specs.declared.view.Stage.TheVariants.{Vacant, Opening, Shared}
 use Rattle.mars_manager.specs.declared.view.View.{View}
@@ -26,7 +31,7 @@ use Rattle.history.specs.Table.{Granted}
 use Rattle.history.specs.Locks.{touched}
 use Rattle.stripe_words.specs.declared.hold.Hold.{Hold}
 use Rattle.stripe_words.specs.declared.hold.Hold.TheVariants.{Free, Trying}
-use Rattle.stripe_words.specs.Words.{Stands}
+use Rattle.stripe_words.specs.Words.{Stands, marked, locked}
 use Rattle.stripe_words.proofs.Steps.{stands_free}
 use Rattle.mars_manager.specs.Locks.{IsCovered, hold_of}
 use Rattle.mars_manager.proofs.Locked.{covered_none}
@@ -39,6 +44,11 @@ repeated : {A : Type 0} (n t : ℕ) (a : A) → get_or (replicate n a) t a ≡ a
 repeated zero t a = refl
 repeated (suc n) zero a = refl
 repeated (suc n) (suc t) a = repeated n t a
+
+-- nobody has a bit where all have nothing
+no_bit : {X : Type 0} (asked : Mode) (x : Hold) → x ≡ Free → set_for asked x ≡ 1 → X
+no_bit mode.Shared x free bit = (let z = ap marked free in absurd (omega arith))
+no_bit mode.Exclusive x free bit = (let z = ap locked free in absurd (omega arith))
 
 no_try : Free ≢ Trying
 no_try e = absurd (cc)
@@ -118,9 +128,9 @@ module _ {C : Type 0} (f : Face C) (setup : Setup C) where
     fresh_fit (suc m) n none_done,
   )
 
-  fresh_have : (m n : ℕ) → AllHave (λ i. replicate 64 Free) (newcomers setup m n)
+  fresh_have : (m n : ℕ) → AllHave (λ i. replicate 64 Free) (λ i. []) (newcomers setup m n)
   fresh_have m zero = tt
-  fresh_have m (suc n) = (refl, fresh_have (suc m) n)
+  fresh_have m (suc n) = ((refl, refl), fresh_have (suc m) n)
 
   pub opens_keeps : (slots id : ℕ) → CanShare f.tells setup.callers (f.show setup.first) → setup.callers ≤ 32
       → Allows (Rule f setup) slots id (opener Opening setup, (0, Some setup.first) ∷ []) 64 (λ _. 0) (λ _. gives_turn (step slots 64 0 0 none) (opener Opening setup, (0, Some setup.first) ∷ []) 0)
@@ -139,9 +149,12 @@ module _ {C : Type 0} (f : Face C) (setup : Setup C) where
           turns = [];
           wide = ap length words;
           holds = λ n. replicate 64 Free;
+          met = λ n. [];
           locks = record {
-            have = only (λ v. AllHave (λ n. replicate 64 Free) v.passes) (fresh_have 0 setup.callers);
-            strangers = λ n le. refl;
+            have = only (λ v. AllHave (λ n. replicate 64 Free) (λ n. []) v.passes) (fresh_have 0 setup.callers);
+            strangers = λ n le. (refl, refl);
+            asked = λ asked n t bit. no_bit asked (get_or (replicate 64 Free) t Free) (repeated 64 t Free) bit;
+            caused = λ n step there. none_here step there;
             long = λ n. refl;
             stripes = λ t l. subst (λ w. Stands w (λ n. get_or (replicate 64 Free) t Free)) (sym (ap (λ ws. get_or ws t 0) words ∙ repeated 66 t 0)) (stands_free (λ n. get_or (replicate 64 Free) t Free) (λ h. repeated 64 t Free));
             covered = λ alive n. subst (λ (live : Option Granted). IsCovered (touched (unwrap_or live [])) (replicate 64 Free)) (sym (can.live n)) (covered_none (replicate 64 Free));
@@ -207,7 +220,7 @@ module _ {C : Type 0} (f : Face C) (setup : Setup C) where
         others = λ i u apart e. after_deal (λ i u. i ≢ x.seat → u.held ≡ None) s.views id left right (λ _. refl) (λ _ _. refl) (λ i u e apart. x.others i u apart e) i u e apart;
       }))
       h.place)
-      (after_deal (λ _ u. u.stage ≡ Shared) s.views id left right refl (λ _. refl) h.staged) (after_deal (λ _ u. AllFit f.tells f.show setup h.turns (f.show h.core).state u.passes) s.views id left right fit.1 (λ _. (fit.0, tt)) h.fit) counts (λ t l. refl) (after_deal (λ _ u. AllHave h.holds u.passes) s.views id left right (h.locks.have id v at).1 (λ _. ((h.locks.have id v at).0, tt)) h.locks.have)
+      (after_deal (λ _ u. u.stage ≡ Shared) s.views id left right refl (λ _. refl) h.staged) (after_deal (λ _ u. AllFit f.tells f.show setup h.turns (f.show h.core).state u.passes) s.views id left right fit.1 (λ _. (fit.0, tt)) h.fit) counts (λ t l. refl) (after_deal (λ _ u. AllHave h.holds h.met u.passes) s.views id left right (h.locks.have id v at).1 (λ _. ((h.locks.have id v at).0, tt)) h.locks.have)
 
   pub deals_keeps : (id : ℕ) (k : Known C) (ks : List (Known C)) → Splits (Rule f setup) id (shared_view (k ∷ ks) None) (shared_view ks None) (shared_view (k ∷ []) None)
   deals_keeps id k ks s rule at = inr (inr (dealt_by s id k ks (is_open f setup s id (shared_view (k ∷ ks) None) rule at refl) at))
@@ -216,9 +229,9 @@ module _ {C : Type 0} (f : Face C) (setup : Setup C) where
   all_append turns state [] ls a b = b
   all_append turns state (k ∷ ks) ls a b = (a.0, all_append turns state ks ls a.1 b)
 
-  have_append : (holds : ℕ → List Hold) (ks ls : List (Known C)) → AllHave holds ks → AllHave holds ls → AllHave holds (ks ++ ls)
-  have_append holds [] ls a b = b
-  have_append holds (k ∷ ks) ls a b = (a.0, have_append holds ks ls a.1 b)
+  have_append : (holds : ℕ → List Hold) (met : ℕ → List Met) (ks ls : List (Known C)) → AllHave holds met ks → AllHave holds met ls → AllHave holds met (ks ++ ls)
+  have_append holds met [] ls a b = b
+  have_append holds met (k ∷ ks) ls a b = (a.0, have_append holds met ks ls a.1 b)
 
   after_join : (P : ℕ → View C → Type 0) (vs : List (View C)) (id other : ℕ) (both gone : View C) → P id both → P other gone → ((j : ℕ) (v : View C) → get_elem? vs j ≡ some v → P j v) → (j : ℕ) (v : View C) → get_elem? (set (set vs id both) other gone) j ≡ some v → P j v
   after_join P vs id other both gone a b each = each_set P (set vs id both) other gone b (λ j v _ e. each_set P vs id both a (λ j v _ e. each j v e) j v e)
@@ -251,11 +264,24 @@ module _ {C : Type 0} (f : Face C) (setup : Setup C) where
         others = λ i u ne e. after_join (λ i u. i ≢ x.seat → u.held ≡ None) s.views id other both rest (λ _. refl) (λ _. refl) (λ i u e ne. x.others i u ne e) i u e ne;
       }))
       h.place)
-      (after_join (λ _ u. u.stage ≡ Shared) s.views id other both rest refl refl h.staged) (after_join (λ _ u. AllFit f.tells f.show setup h.turns (f.show h.core).state u.passes) s.views id other both rest (all_append h.turns (f.show h.core).state ks ls (h.fit id v at) (h.fit other w there)) tt h.fit) counts (λ t l. refl) (after_join (λ _ u. AllHave h.holds u.passes) s.views id other both rest (have_append h.holds ks ls (h.locks.have id v at) (h.locks.have other w there)) tt h.locks.have)
+      (after_join (λ _ u. u.stage ≡ Shared) s.views id other both rest refl refl h.staged) (after_join (λ _ u. AllFit f.tells f.show setup h.turns (f.show h.core).state u.passes) s.views id other both rest (all_append h.turns (f.show h.core).state ks ls (h.fit id v at) (h.fit other w there)) tt h.fit) counts (λ t l. refl) (after_join (λ _ u. AllHave h.holds h.met u.passes) s.views id other both rest (have_append h.holds h.met ks ls (h.locks.have id v at) (h.locks.have other w there)) tt h.locks.have)
 
   pub gathers_keeps : (id other : ℕ) (ks ls : List (Known C)) → Joins (Rule f setup) id (shared_view ks None) other (shared_view ls None) (shared_view (ks ++ ls) None) (shared_view [] None)
   gathers_keeps id other ks ls s rule at apart there =
       inr (inr (gathered_by s id other ks ls (is_open f setup s id (shared_view ks None) rule at refl) at apart (sym (set_else s.views id other (shared_view (ks ++ ls) None) apart) ∙ there)))
+
+  -- the steps of each of these passes are those of its number
+  abbrev pub AllMeet : (ℕ → List Met) → List (Known C) → Type 0
+  AllMeet met [] = Unit {0}
+  AllMeet met (k ∷ ks) = (k.met ≡ met k.number) × AllMeet met ks
+
+  have_met : (holds : ℕ → List Hold) (met : ℕ → List Met) (ks : List (Known C)) → AllHave holds met ks → AllMeet met ks
+  have_met holds met [] a = tt
+  have_met holds met (k ∷ ks) a = (a.0.1, have_met holds met ks a.1)
+
+  pub all_met : (met : ℕ → List Met) (ps : List (PassView C)) → AllMeet met (map known_of ps) → AreMet met ps
+  all_met met [] a = tt
+  all_met met (p ∷ ps) a = (a.0, all_met met ps a.1)
 
   -- what is known of the core in the slot at the end
   pub record Ended (ks : List (Known C)) (core : C) : Type 0 where
@@ -265,6 +291,10 @@ module _ {C : Type 0} (f : Face C) (setup : Setup C) where
     pub run : GoesAlong f.tells (f.show setup.first).limits (f.show setup.first).state turns (f.show core).state
     pub whose : AreOf setup.callers turns
     pub ready : CanShare f.tells setup.callers (f.show setup.first)
+    pub met : ℕ → List Met
+    pub each : AllMeet met ks
+    pub strangers : (n : ℕ) → setup.callers ≤ n → met n ≡ []
+    pub caused : AreCaused met
 
   pub ends : (id : ℕ) (ks : List (Known C)) (ws : List ℕ) (xs : List (Option C)) → ((n : ℕ) → n < setup.callers → 0 < times n ks) → Final (Seen (Rule f setup) id (shared_view ks None)) ws xs
       → (core : C) × (get_elem? xs 0 ≡ some (Some core)) × Ended ks core
@@ -274,7 +304,7 @@ module _ {C : Type 0} (f : Face C) (setup : Setup C) where
       let v : View C = shared_view ks None in
       let h : IsKept f setup s = is_open f setup s id v final.1.0 at refl in
       ⊎_elim
-      (λ (x : IsFree h.core s). (h.core, final.4 0 (Some h.core) x.home, record { turns = h.turns; fit = h.fit id v at; since = h.since; run = h.run; whose = h.whose; ready = h.ready }))
+      (λ (x : IsFree h.core s). (h.core, final.4 0 (Some h.core) x.home, record { turns = h.turns; fit = h.fit id v at; since = h.since; run = h.run; whose = h.whose; ready = h.ready; met = h.met; each = have_met h.holds h.met ks (h.locks.have id v at); strangers = λ n le. (h.locks.strangers n le).1; caused = h.locks.caused }))
       (λ (x : IsHeld h.core s).
       let t = total_two (λ (v : View C). times x.number v.passes) s.views x.seat id x.holder v (not_holder s h.core x id v at refl) x.there at in
       let o = h.once x.number in

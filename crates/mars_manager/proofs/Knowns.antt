@@ -135,8 +135,8 @@ module _ {C : Type 0} where
   }
 
   -- a step that notes the word which it found
-  moves_noted : (t found : ℕ) (x : Hold) (k k' : Known C) → Moves t x k k' → Moves t x k (noted t found k')
-  moves_noted t found x k k' m = record { same = ap (noted t found) m.same; here = m.here; there = m.there; long = m.long; covered = m.covered }
+  moves_noted : (t found : ℕ) (asked : Mode) (x : Hold) (k k' : Known C) → Moves t x k k' → Moves t x k (noted t asked found k')
+  moves_noted t found asked x k k' m = record { same = ap (noted t asked found) m.same; here = m.here; there = m.there; long = m.long; covered = m.covered }
 
   -- a stripe that a pass has not is not touched
   unread_free : (t : ℕ) (k : Known C) → Covered k → granted (hold_of t k) ≡ 0 → IsTrue (touched_by k t mode.Shared) → ⊥
@@ -148,12 +148,12 @@ module _ {C : Type 0} where
   pub moves_mark : (t found : ℕ) (k : Known C) → t < 64 → length k.holds ≡ 64 → Covered k → hold_of t k ≡ Free → Moves t (gained (eqb (found / 2 ^ 32) 0)) k (marked_by t found k)
   moves_mark t found k l long c free =
       let x : Hold = gained (eqb (found / 2 ^ 32) 0) in
-      moves_noted t found x k (with_hold t (gained (eqb (found / 2 ^ 32) 0)) k) (moves_with t x k l long c (λ a. absurd (unread_free t k c (ap granted free) a)) (λ a. absurd (unwritten_low t k c (ap locked free) a)))
+      moves_noted t found mode.Shared x k (with_hold t (gained (eqb (found / 2 ^ 32) 0)) k) (moves_with t x k l long c (λ a. absurd (unread_free t k c (ap granted free) a)) (λ a. absurd (unwritten_low t k c (ap locked free) a)))
 
   pub moves_exclude : (t found : ℕ) (k : Known C) → t < 64 → length k.holds ≡ 64 → Covered k → Moves t Exclusive k (excluded_by t found k)
-  moves_exclude t found k l long c = moves_noted t found Exclusive k (with_hold t Exclusive k) (moves_with t Exclusive k l long c (λ _. refl) (λ _. refl))
+  moves_exclude t found k l long c = moves_noted t found mode.Exclusive Exclusive k (with_hold t Exclusive k) (moves_with t Exclusive k l long c (λ _. refl) (λ _. refl))
 
-  pub moves_note : (t found : ℕ) (k : Known C) → length k.holds ≡ 64 → Covered k → Moves t (hold_of t k) k (noted t found k)
+  pub moves_note : (t found : ℕ) (k : Known C) → length k.holds ≡ 64 → Covered k → Moves t (hold_of t k) k (noted t mode.Exclusive found k)
   moves_note t found k long c = record { same = refl; here = refl; there = λ r ne. refl; long = long; covered = c }
 
   pub moves_release : (t : ℕ) (k : Known C) → t < 64 → length k.holds ≡ 64 → Covered k → IsUntouched t k → Moves t Free k (with_hold t Free k)
@@ -166,8 +166,8 @@ module _ {C : Type 0} where
   moves_back t k l long c u = moves_with t Shared k l long c (λ _. refl) (λ a. absurd (u a))
 
   -- a try that is undone leaves what was there
-  pub try_undone : (t found : ℕ) (k : Known C) → hold_of t k ≡ Free → with_hold t Free (marked_by t found k) ≡ noted t found k
-  try_undone t found k free = let F : List Hold → Known C = λ hs. with_locks hs (k.met ++ met t found ∷ []) k in ap F (held_back k.holds t (gained (eqb (found / 2 ^ 32) 0)) free)
+  pub try_undone : (t found : ℕ) (k : Known C) → hold_of t k ≡ Free → with_hold t Free (marked_by t found k) ≡ noted t mode.Shared found k
+  try_undone t found k free = let F : List Hold → Known C = λ hs. with_locks hs (k.met ++ met t mode.Shared found ∷ []) k in ap F (held_back k.holds t (gained (eqb (found / 2 ^ 32) 0)) free)
 
   -- a stripe that is held as asked for
   pub held_before : (m : Mode) (t : ℕ) (k : Known C) → raised m (hold_of t k) ≡ hold_of t k → HasLocked m t k k
@@ -180,15 +180,15 @@ module _ {C : Type 0} where
   held_shared t k f n = held_before mode.Shared t k (raised_same (hold_of t k) f n)
 
   -- a mark and then the exclusive lock
-  pub locked_twice : (t f g : ℕ) (k : Known C) → HasLocked mode.Exclusive t k (excluded_by t g (noted t f (with_hold t Shared k)))
+  pub locked_twice : (t f g : ℕ) (k : Known C) → HasLocked mode.Exclusive t k (excluded_by t g (noted t mode.Shared f (with_hold t Shared k)))
   locked_twice t f g k = record {
-    more = met t f ∷ met t g ∷ [];
-    is = λ i. with_locks (set-set k.holds t Shared Exclusive i) (both_notes k.met (met t f) (met t g) i) k;
+    more = met t mode.Shared f ∷ met t mode.Exclusive g ∷ [];
+    is = λ i. with_locks (set-set k.holds t Shared Exclusive i) (both_notes k.met (met t mode.Shared f) (met t mode.Exclusive g) i) k;
   }
 
   -- a mark, a failed exclusive step, and the mark given back
-  pub refused_twice : (t f g : ℕ) (k : Known C) → hold_of t k ≡ Free → with_hold t Free (noted t g (noted t f (with_hold t Shared k))) ≡ with_locks k.holds (k.met ++ ((met t f ∷ []) ++ met t g ∷ [])) k
-  refused_twice t f g k free = λ i. with_locks (held_back k.holds t Shared free i) (both_notes k.met (met t f) (met t g) i) k
+  pub refused_twice : (t f g : ℕ) (k : Known C) → hold_of t k ≡ Free → with_hold t Free (noted t mode.Exclusive g (noted t mode.Shared f (with_hold t Shared k))) ≡ with_locks k.holds (k.met ++ ((met t mode.Shared f ∷ []) ++ met t mode.Exclusive g ∷ [])) k
+  refused_twice t f g k free = λ i. with_locks (held_back k.holds t Shared free i) (both_notes k.met (met t mode.Shared f) (met t mode.Exclusive g) i) k
 
   -- a stripe may be given up where the pass is then covered
   pub untouched_from : (t : ℕ) (x : Hold) (k : Known C) → t < 64 → length k.holds ≡ 64 → x ≡ Free → IsCovered (touched_by k) (set k.holds t x) → IsUntouched t k
@@ -242,9 +242,10 @@ module _ {C : Type 0} where
 
   pub refused_after : (m : Mode) (n t h : ℕ) (k k1 k2 k3 : Known C) → HasReadable n k k1 → IsRefused m t h k1 k2 → k3 ≡ with_holds k.holds k2 → IsRefused m t h k k3
   refused_after m n t h k k1 k2 k3 a r e = record {
+    step = r.step;
     found = r.found;
     before = a.more ++ r.before;
-    is = e ∙ ap (λ (j : Known C). with_holds k.holds j) r.is ∙ ap (λ (j : Known C). with_locks k.holds (j.met ++ (r.before ++ met t r.found ∷ [])) j) a.same
-        ∙ ap (λ (ms : List Met). with_locks k.holds ms k) (append_assoc k.met a.more (r.before ++ met t r.found ∷ []) ∙ ap (λ (x : List Met). k.met ++ x) (sym (append_assoc a.more r.before (met t r.found ∷ []))));
+    is = e ∙ ap (λ (j : Known C). with_holds k.holds j) r.is ∙ ap (λ (j : Known C). with_locks k.holds (j.met ++ (r.before ++ met t r.step r.found ∷ [])) j) a.same
+        ∙ ap (λ (ms : List Met). with_locks k.holds ms k) (append_assoc k.met a.more (r.before ++ met t r.step r.found ∷ []) ∙ ap (λ (x : List Met). k.met ++ x) (sym (append_assoc a.more r.before (met t r.step r.found ∷ []))));
     why = subst (λ n. Refuses m r.found n h) (ap (λ (j : Known C). j.number) a.same) r.why;
   }

@@ -22,6 +22,7 @@ use Rattle.stripe_words.specs.declared.hold.Hold.{Hold}
 use Rattle.stripe_words.specs.declared.hold.Hold.TheVariants.{Free, Trying, Shared, Exclusive}
 use Rattle.stripe_words.specs.Words.{granted, locked, Stands}
 use Rattle.mars_manager.specs.declared.view.Known.{Known}
+use Rattle.mars_manager.specs.declared.view.Met.{Met}
 use Rattle.mars_manager.specs.declared.view.View.{View}
 use Rattle.mars_manager.specs.Pass.{live_of}
 use Rattle.mars_manager.specs.Locks.{IsCovered, hold_of}
@@ -109,22 +110,26 @@ own_covered old new n call reply holds m call_covered begun sure false is c = su
 
 module _ {C : Type 0} (callers : ℕ) where
   -- the words of the stripes stay, and the passes have what they had
-  pub locked_same : (state : State) (holds : ℕ → List Hold) (words words' : List ℕ) (views views' : List (View C)) → AreLocked callers state holds words views → ((t : ℕ) → t < 64 → get_or words' t 0 ≡ get_or words t 0)
-      → ((i : ℕ) (v : View C) → get_elem? views' i ≡ some v → AllHave holds v.passes) → AreLocked callers state holds words' views'
-  locked_same state holds words words' views views' h same have = record {
+  pub locked_same : (state : State) (holds : ℕ → List Hold) (met : ℕ → List Met) (words words' : List ℕ) (views views' : List (View C)) → AreLocked callers state holds met words views → ((t : ℕ) → t < 64 → get_or words' t 0 ≡ get_or words t 0)
+      → ((i : ℕ) (v : View C) → get_elem? views' i ≡ some v → AllHave holds met v.passes) → AreLocked callers state holds met words' views'
+  locked_same state holds met words words' views views' h same have = record {
     have = have;
     strangers = h.strangers;
+    asked = h.asked;
+    caused = h.caused;
     long = h.long;
     stripes = λ t l. subst (λ w. Stands w (λ n. get_or (holds n) t Free)) (sym (same t l)) (h.stripes t l);
     covered = h.covered;
   }
 
   -- a call of the pass n, which has what the call touches
-  pub locked_step : (old new : State) (holds : ℕ → List Hold) (words : List ℕ) (views : List (View C)) (n : ℕ) (call : Call) (reply : Reply) → AreLocked callers old holds words views → Moves old n call reply new
-      → (IsFalse old.is_dead → IsTrue (is_some (old.live n)) → IsCovered (touches call) (holds n)) → (IsFalse (is_refusal reply) → IsTrue (is_some (old.live n)) ⊎ (call ≡ Begin)) → AreLocked callers new holds words views
-  locked_step old new holds words views n call reply h m call_covered begun = record {
+  pub locked_step : (old new : State) (holds : ℕ → List Hold) (met : ℕ → List Met) (words : List ℕ) (views : List (View C)) (n : ℕ) (call : Call) (reply : Reply) → AreLocked callers old holds met words views → Moves old n call reply new
+      → (IsFalse old.is_dead → IsTrue (is_some (old.live n)) → IsCovered (touches call) (holds n)) → (IsFalse (is_refusal reply) → IsTrue (is_some (old.live n)) ⊎ (call ≡ Begin)) → AreLocked callers new holds met words views
+  locked_step old new holds met words views n call reply h m call_covered begun = record {
     have = h.have;
     strangers = h.strangers;
+    asked = h.asked;
+    caused = h.caused;
     long = h.long;
     stripes = h.stripes;
     covered = λ alive k. (let both = or_parts old.is_dead (is_media reply) (sym m.dead ∙ alive) in

@@ -123,12 +123,13 @@ module _ {C : Type 0} (f : Face C) (setup : Setup C) where
       → (let new : TableOf C = record { words = words; homes = homes; views = views } in IsFree h.core new ⊎ IsHeld h.core new
       → ((i : ℕ) (v : View C) → get_elem? views i ≡ some v → v.stage ≡ Shared)
       → ((i : ℕ) (v : View C) → get_elem? views i ≡ some v → AllFit f.tells f.show setup h.turns (f.show h.core).state v.passes)
-      → ((n : ℕ) → count n views ≡ count n s.views) → ((t : ℕ) → t < 64 → get_or words t 0 ≡ get_or s.words t 0) → ((i : ℕ) (v : View C) → get_elem? views i ≡ some v → AllHave h.holds v.passes) → IsKept f setup new)
+      → ((n : ℕ) → count n views ≡ count n s.views) → ((t : ℕ) → t < 64 → get_or words t 0 ≡ get_or s.words t 0) → ((i : ℕ) (v : View C) → get_elem? views i ≡ some v → AllHave h.holds h.met v.passes) → IsKept f setup new)
   same_run s h words homes views wide one told place staged fit counts stripes have = record {
     core = h.core;
     turns = h.turns;
     holds = h.holds;
-    locks = locked_same setup.callers (f.show h.core).state h.holds s.words words s.views views h.locks stripes have;
+    met = h.met;
+    locks = locked_same setup.callers (f.show h.core).state h.holds h.met s.words words s.views views h.locks stripes have;
     wide = wide;
     one = one;
     told = told;
@@ -147,13 +148,13 @@ module _ {C : Type 0} (f : Face C) (setup : Setup C) where
   -- A step of one seat keeps the rule if it leaves the core, the seat's passes and the number of words and homes, and what it changes is right.
   same_core : (s : TableOf C) (h : IsKept f setup s) (id : ℕ) (v w : View C) (words : List ℕ) (homes : List (Home (Option C))) → get_elem? s.views id ≡ some v
       → w.stage ≡ Shared → ((n : ℕ) → times n w.passes ≡ times n v.passes) → AllFit f.tells f.show setup h.turns (f.show h.core).state w.passes
-      → AllHave h.holds w.passes → ((t : ℕ) → t < 64 → get_or words t 0 ≡ get_or s.words t 0)
+      → AllHave h.holds h.met w.passes → ((t : ℕ) → t < 64 → get_or words t 0 ≡ get_or s.words t 0)
       → length words ≡ 66 → length homes ≡ 1 → get_or words 65 0 ≡ length (f.show h.core).state.history
       → (let new : TableOf C = record { words = words; homes = homes; views = set s.views id w } in IsFree h.core new ⊎ IsHeld h.core new → IsKept f setup new)
   same_core s h id v w words homes at stage same fit have stripes wide one told place = same_run s h words homes (set s.views id w) wide one told place
       (each_set (λ i u. u.stage ≡ Shared) s.views id w stage (λ j u _ e. h.staged j u e))
       (each_set (λ i u. AllFit f.tells f.show setup h.turns (f.show h.core).state u.passes) s.views id w fit (λ j u _ e. h.fit j u e))
-      (λ n. same_count n s.views id v w at (same n)) stripes (each_set (λ i u. AllHave h.holds u.passes) s.views id w have (λ j u _ e. h.locks.have j u e))
+      (λ n. same_count n s.views id v w at (same n)) stripes (each_set (λ i u. AllHave h.holds h.met u.passes) s.views id w have (λ j u _ e. h.locks.have j u e))
 
   -- the word of the turn or of the length is none of a stripe
   beside : (words : List ℕ) (i w t : ℕ) → 64 ≤ i → t < 64 → get_or (set words i w) t 0 ≡ get_or words t 0
@@ -193,7 +194,7 @@ module _ {C : Type 0} (f : Face C) (setup : Setup C) where
 
   alone_at : (s : TableOf C) (id : ℕ) (k : Known C) (h : IsKept f setup s) → get_elem? s.views id ≡ some (shared_view (k ∷ []) None) → IsFalse (f.show h.core).state.is_dead → HasAlone f h.core k
   alone_at s id k h at alive =
-      let mine = (h.locks.have id (shared_view (k ∷ []) None) at).0 in
+      let mine = (h.locks.have id (shared_view (k ∷ []) None) at).0.0 in
       let has : (t : ℕ) → hold_of t k ≡ get_or (h.holds k.number) t Free = λ t. ap (λ (hs : List Hold). get_or hs t Free) mine in record {
         mine = live_at h.turns h.core k (h.ready.live k.number) (h.fit id (shared_view (k ∷ []) None) at).0 alive;
         reads = λ t i l ne g. unread (touched (calls_of (f.show h.core).state i) t mode.Exclusive) (get_or (h.holds k.number) t Free) (get_or (h.holds i) t Free)
@@ -315,10 +316,11 @@ module _ {C : Type 0} (f : Face C) (setup : Setup C) where
         core = new;
         turns = turns;
         holds = h.holds;
-        locks = locked_same setup.callers (f.show new).state h.holds s.words (set s.words 65 told) s.views (set s.views id w)
-            (locked_step setup.callers (f.show h.core).state (f.show new).state h.holds s.words s.views k.number call reply h.locks goes.moves
-            (λ alive live. subst (λ (hs : List Hold). IsCovered (touches call) hs) (h.locks.have id v at).0 (has alive live)) m.begun)
-            (λ t l. beside s.words 65 told t (omega arith) l) (each_set (λ i u. AllHave h.holds u.passes) s.views id w ((h.locks.have id v at).0, tt) (λ j u _ e. h.locks.have j u e));
+        met = h.met;
+        locks = locked_same setup.callers (f.show new).state h.holds h.met s.words (set s.words 65 told) s.views (set s.views id w)
+            (locked_step setup.callers (f.show h.core).state (f.show new).state h.holds h.met s.words s.views k.number call reply h.locks goes.moves
+            (λ alive live. subst (λ (hs : List Hold). IsCovered (touches call) hs) (h.locks.have id v at).0.0 (has alive live)) m.begun)
+            (λ t l. beside s.words 65 told t (omega arith) l) (each_set (λ i u. AllHave h.holds h.met u.passes) s.views id w ((h.locks.have id v at).0, tt) (λ j u _ e. h.locks.have j u e));
         wide = length-set s.words 65 told ∙ h.wide;
         one = h.one;
         told = get_or-set_same s.words 65 told 0 long ∙ is;

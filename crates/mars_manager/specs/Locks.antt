@@ -32,8 +32,8 @@ IsBelow Trying y = ⊥
 IsBelow Shared y = granted y ≡ 1
 IsBelow Exclusive y = locked y ≡ 1
 
-abbrev pub met : ℕ → ℕ → Met
-met stripe found = record { stripe = stripe; found = found }
+abbrev pub met : ℕ → Mode → ℕ → Met
+met stripe asked found = record { stripe = stripe; asked = asked; found = found }
 
 -- what a pass has of a stripe once it has what a call touches
 abbrev pub raised_for : Touch → Hold → Hold
@@ -86,14 +86,14 @@ module _ {C : Type 0} where
   with_locks holds met known = record known { holds = holds; met = met }
 
   -- a step found a word
-  abbrev pub noted : ℕ → ℕ → Known C → Known C
-  noted t found known = record known { met = known.met ++ met t found ∷ [] }
+  abbrev pub noted : ℕ → Mode → ℕ → Known C → Known C
+  noted t asked found known = record known { met = known.met ++ met t asked found ∷ [] }
 
   abbrev pub marked_by : ℕ → ℕ → Known C → Known C
-  marked_by t found known = noted t found (with_hold t (gained (found / 2 ^ 32 == 0)) known)
+  marked_by t found known = noted t mode.Shared found (with_hold t (gained (found / 2 ^ 32 == 0)) known)
 
   abbrev pub excluded_by : ℕ → ℕ → Known C → Known C
-  excluded_by t found known = noted t found (with_hold t Exclusive known)
+  excluded_by t found known = noted t mode.Exclusive found (with_hold t Exclusive known)
 
   abbrev pub IsUnwritten : ℕ → Known C → Type 0
   IsUnwritten t known = IsTrue (touched_by known t mode.Exclusive) → ⊥
@@ -118,9 +118,10 @@ module _ {C : Type 0} where
 
   -- A pass has what it had. The last word that it found is why, and h the lowest pass that this word has in its way
   pub record IsRefused (asked : Mode) (t h : ℕ) (was now : Known C) : Type 0 where
+    pub step : Mode
     pub found : ℕ
     pub before : List Met
-    pub is : now ≡ with_locks was.holds (was.met ++ (before ++ met t found ∷ [])) was
+    pub is : now ≡ with_locks was.holds (was.met ++ (before ++ met t step found ∷ [])) was
     pub why : Refuses asked found was.number h
 
   -- the stripes below n were locked for reading, or were before

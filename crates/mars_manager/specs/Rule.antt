@@ -8,6 +8,7 @@ use Rattle.history.specs.declared.call.Reply.{Reply}
 use Rattle.caller_steps.specs.Core.{CoreView}
 use Rattle.atomic_table.specs.Table.{Step}
 use Rattle.mars_manager.specs.declared.view.Known.{Known}
+use Rattle.mars_manager.specs.declared.view.Met.{Met}
 use Rattle.mars_manager.specs.declared.view.Stage.TheVariants.{Vacant, Opening, Shared}
 use Rattle.mars_manager.specs.declared.view.View.{View}
 use Rattle.mars_manager.specs.declared.setup.Setup.{Setup}
@@ -16,11 +17,13 @@ use Rattle.mars_manager.specs.Pass.{AllFit, known_after, live_of, finds, hears, 
 use Rattle.mars_manager.specs.Sharing.{CanShare, Since}
 use Rattle.mars_manager.specs.Seat.{TableOf, SeatOf, view, shared_view, seat_of, first_of, opener}
 use Rattle.mars_manager.specs.Locks.{IsCovered, Finds, FindsOther, hold_of, with_hold, marked_by, excluded_by, noted}
+use Rattle.mars_manager.specs.Asked.{set_for, HasAsked, AreCaused}
 use Rattle.stripe_words.specs.declared.hold.Hold.{Hold}
 use Rattle.stripe_words.specs.declared.hold.Hold.TheVariants as hold
 use Rattle.stripe_words.specs.Words.{Stands, granted, locked}
 use Rattle.caller_steps.specs.State.{State, calls_of}
 use Rattle.history.specs.Locks.{touched, is_touch}
+use Rattle.history.specs.declared.locks.Mode.{Mode}
 use Rattle.history.specs.declared.locks.Mode.TheVariants as mode
 
 -- how a kind of core is seen
@@ -67,16 +70,24 @@ module _ {C : Type 0} where
     pub has : 0 < times number holder.passes
     pub others : (i : ℕ) (v : View C) → i ≢ seat → get_elem? s.views i ≡ some v → v.held ≡ None
 
-  -- what each of these passes has is what its number has
-  abbrev pub AllHave : (ℕ → List Hold) → List (Known C) → Type 0
-  AllHave holds [] = Unit {0}
-  AllHave holds (known ∷ others) = (known.holds ≡ holds known.number) × AllHave holds others
+  -- what a pass has, and the steps that it made, are those of its number
+  abbrev pub Has : (ℕ → List Hold) → (ℕ → List Met) → Known C → Type 0
+  Has holds met known = (known.holds ≡ holds known.number) × (known.met ≡ met known.number)
 
-  -- `holds n` is what the pass n has of each stripe. Each word of a stripe stands for what all have of it. While the medium has not failed,
-  -- what a live transaction reads its pass has shared or exclusive, and what it writes its pass has exclusive.
-  pub record AreLocked (callers : ℕ) (state : State) (holds : ℕ → List Hold) (words : List ℕ) (views : List (View C)) : Type 0 where
-    pub have : (i : ℕ) (v : View C) → get_elem? views i ≡ some v → AllHave holds v.passes
-    pub strangers : (n : ℕ) → callers ≤ n → holds n ≡ replicate 64 hold.Free
+  -- so it is of each of these passes
+  abbrev pub AllHave : (ℕ → List Hold) → (ℕ → List Met) → List (Known C) → Type 0
+  AllHave holds met [] = Unit {0}
+  AllHave holds met (known ∷ others) = Has holds met known × AllHave holds met others
+
+  -- `holds n` is what the pass n has of each stripe, and `met n` are the steps that it made on their words. Each word of a stripe stands for
+  -- what all have of it. While the medium has not failed, what a live transaction reads its pass has shared or exclusive, and what it writes
+  -- its pass has exclusive. Whoever has a mark has asked for the stripe, and whoever has it exclusive has asked for it for writing; and so has
+  -- each other pass whose bit was in a word that a step found.
+  pub record AreLocked (callers : ℕ) (state : State) (holds : ℕ → List Hold) (met : ℕ → List Met) (words : List ℕ) (views : List (View C)) : Type 0 where
+    pub have : (i : ℕ) (v : View C) → get_elem? views i ≡ some v → AllHave holds met v.passes
+    pub strangers : (n : ℕ) → callers ≤ n → (holds n ≡ replicate 64 hold.Free) × (met n ≡ [])
+    pub asked : (mode : Mode) (n t : ℕ) → set_for mode (slice_index_or (holds n) t hold.Free) ≡ 1 → HasAsked mode t (met n)
+    pub caused : AreCaused met
     pub long : (n : ℕ) → length (holds n) ≡ 64
     pub stripes : (t : ℕ) → t < 64 → Stands (slice_index words t) (λ n. slice_index_or (holds n) t hold.Free)
     pub covered : IsFalse state.is_dead → (n : ℕ) → IsCovered (touched (calls_of state n)) (holds n)
@@ -95,11 +106,12 @@ module _ {C : Type 0} where
   module _ (f : Face C) where
     -- From the opening on: the core that was reported last is one that the shared core has come to by a run of these callers. The length of
     -- its history is published, and what each pass knows is true of the run. No caller has two passes. The words of the stripes say what the
-    -- passes have, and that covers what their live transactions touched.
+    -- passes have, and that covers what their live transactions touched. Who has or had a bit in one has asked for the stripe.
     pub record IsKept (setup : Setup C) (s : TableOf C) : Type 0 where
       pub core : C
       pub turns : List Turn
       pub holds : ℕ → List Hold
+      pub met : ℕ → List Met
       pub wide : length s.words ≡ 66
       pub one : length s.homes ≡ 1
       pub told : slice_index s.words 65 ≡ length (f.show core).state.history
@@ -109,7 +121,7 @@ module _ {C : Type 0} where
       pub once : (n : ℕ) → count n s.views ≤ 1
       pub below : (n : ℕ) → setup.callers ≤ n → count n s.views ≡ 0
       pub few : setup.callers ≤ 32
-      pub locks : AreLocked setup.callers (f.show core).state holds s.words s.views
+      pub locks : AreLocked setup.callers (f.show core).state holds met s.words s.views
       pub ready : CanShare f.tells setup.callers (f.show setup.first)
       pub since : Since f.tells (f.show setup.first) (f.show core)
       pub run : GoesAlong f.tells (f.show setup.first).limits (f.show setup.first).state turns (f.show core).state
@@ -171,7 +183,7 @@ module _ {C : Type 0} where
 
   -- the exclusive lock was taken, or a bit of another was found
   abbrev pub excludes : Step (Option C) → SeatOf C → ℕ → SeatOf C → Type 0
-  excludes st m r n = (r ≡ st.first → n ≡ seat_of (excluded_by st.word r (first_of m.0.passes))) × (r ≢ st.first → (n ≡ seat_of (noted st.word r (first_of m.0.passes))) × FindsOther (first_of m.0.passes).number r)
+  excludes st m r n = (r ≡ st.first → n ≡ seat_of (excluded_by st.word r (first_of m.0.passes))) × (r ≢ st.first → (n ≡ seat_of (noted st.word mode.Exclusive r (first_of m.0.passes))) × FindsOther (first_of m.0.passes).number r)
 
   abbrev pub releases : Step (Option C) → SeatOf C → ℕ → SeatOf C → Type 0
   releases st m r n = n ≡ seat_of (with_hold st.word hold.Free (first_of m.0.passes))

@@ -2,6 +2,7 @@
 ghost use Rattle.std.specs.Prelude.{ℕ, ◌≡◌, ◌<◌, IfOk, IfErr, slice_index_or};
 ghost use Rattle.history.specs.declared.locks.Mode.TheVariants as mode;
 ghost use Rattle.stripe_words.specs.declared.hold.Hold.TheVariants.{Free, Shared};
+ghost use Rattle.mars_manager.specs.Asked.{IsStepFor, IsReadingBelow, IsStepOf, Meets};
 ghost use Rattle.mars_manager.specs.Locks.{IsCovered, IsBelow, Locks, HasReadable, HasLocked, HasLockedFor, IsRefused, IsRefusedFor, FindsOther, hold_of, touched_by, with_hold, with_holds, noted, excluded_by};
 
 use crate::mars::Mars;
@@ -33,6 +34,7 @@ impl<C: Core + Drop> Mars<C> {
         ensures table { pass.new.table ≡ pass.old.table }
         ensures held { IfOk result (λ _. HasLocked mode.Shared stripe pass.old.known pass.new.known) }
         ensures busy { IfErr result (λ b. IsRefused mode.Shared stripe b.holder pass.old.known pass.new.known) }
+        ensures steps { Meets (IsStepFor mode.Shared stripe) pass.old.known pass.new.known }
     {
         let at = usize::from(stripe);
         match pass.holds[at] {
@@ -57,7 +59,7 @@ impl<C: Core + Drop> Mars<C> {
         requires shared { hold_of stripe pass.old.known ≡ Shared }
         ensures table { pass.new.table ≡ pass.old.table }
         ensures raised { IfOk result (λ _. (found : ℕ) × (pass.new.known ≡ excluded_by stripe found pass.old.known)) }
-        ensures refused { IfErr result (λ found. (pass.new.known ≡ noted stripe found pass.old.known) × FindsOther pass.old.known.number found) }
+        ensures refused { IfErr result (λ found. (pass.new.known ≡ noted stripe mode.Exclusive found pass.old.known) × FindsOther pass.old.known.number found) }
     {
         let found = self.exclude(&mut pass.seat, pass.number, stripe);
         if found == mark_bit(pass.number) {
@@ -74,6 +76,7 @@ impl<C: Core + Drop> Mars<C> {
         ensures table { pass.new.table ≡ pass.old.table }
         ensures held { IfOk result (λ _. HasLocked mode.Exclusive stripe pass.old.known pass.new.known) }
         ensures busy { IfErr result (λ b. IsRefused mode.Exclusive stripe b.holder pass.old.known pass.new.known) }
+        ensures steps { Meets (IsStepFor mode.Exclusive stripe) pass.old.known pass.new.known }
     {
         let at = usize::from(stripe);
         match pass.holds[at] {
@@ -113,6 +116,7 @@ impl<C: Core + Drop> Mars<C> {
         ensures table { pass.new.table ≡ pass.old.table }
         ensures held { IfOk result (λ _. HasLocked asked stripe pass.old.known pass.new.known) }
         ensures busy { IfErr result (λ b. IsRefused asked stripe b.holder pass.old.known pass.new.known) }
+        ensures steps { Meets (IsStepFor asked stripe) pass.old.known pass.new.known }
     {
         match asked {
             Mode::Shared => self.lock_shared(pass, stripe),
@@ -169,6 +173,7 @@ impl<C: Core + Drop> Mars<C> {
         ensures table { pass.new.table ≡ pass.old.table }
         ensures held { IfOk result (λ _. HasReadable 64 pass.old.known pass.new.known) }
         ensures busy { IfErr result (λ e. (e.0 < 64) × IsRefused mode.Shared e.0 e.1.holder pass.old.known pass.new.known) }
+        ensures steps { Meets (IsReadingBelow 64) pass.old.known pass.new.known }
     {
         pass.number();
         let before = pass.holds;
@@ -187,13 +192,17 @@ impl<C: Core + Drop> Mars<C> {
         ensures table { pass.new.table ≡ pass.old.table }
         ensures held { IfOk result (λ _. HasLockedFor call.now pass.old.known pass.new.known) }
         ensures busy { IfErr result (λ b. IsRefusedFor call.now b.holder pass.old.known pass.new.known) }
+        ensures steps { Meets (IsStepOf call.now) pass.old.known pass.new.known }
     {
         pass.number();
         match call {
             Call::Get { key } => {
                 self.try_lock(pass, stripe_of(MAIN_TABLE, *key) as u8, Mode::Shared)
             }
-            Call::Put { key, value: _ } | Call::Del { key } => {
+            Call::Put { key, value: _ } => {
+                self.try_lock(pass, stripe_of(MAIN_TABLE, *key) as u8, Mode::Exclusive)
+            }
+            Call::Del { key } => {
                 self.try_lock(pass, stripe_of(MAIN_TABLE, *key) as u8, Mode::Exclusive)
             }
             Call::Scan { low: _, high: _ } => self.lock_all(pass).map_err(|refused| refused.1),
@@ -208,6 +217,7 @@ impl<C: Core + Drop> Mars<C> {
         requires stripe { stripe < 64 }
         ensures table { pass.new.table ≡ pass.old.table }
         ensures lock { Locks asked stripe pass.old.known result pass.new.known }
+        ensures steps { Meets (IsStepFor asked stripe) pass.old.known pass.new.known }
     {
         if !pass.live {
             return Lock::NoTransaction;

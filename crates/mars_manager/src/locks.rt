@@ -1,5 +1,6 @@
 // The steps on the words of the stripes.
 ghost use Rattle.std.specs.Prelude.{ℕ, ◌≡◌, ◌≢◌, ◌<◌, ◌^◌, ◌/◌, IfOk, IfErr};
+ghost use Rattle.history.specs.declared.locks.Mode.TheVariants as mode;
 ghost use Rattle.stripe_words.specs.declared.hold.Hold.TheVariants.{Free, Trying, Shared, Exclusive};
 ghost use Rattle.mars_manager.specs.Seat.{first_of, IsSeat};
 ghost use Rattle.mars_manager.specs.Locks.{hold_of, with_hold, noted, marked_by, excluded_by, Finds, FindsOther, IsUntouched, IsUnwritten};
@@ -37,7 +38,7 @@ impl<C: Core + Drop> Mars<C> {
         ensures table { (seat.new.table_id ≡ seat.old.table_id) × (seat.new.id ≡ seat.old.id) }
         ensures seat { IsSeat number seat.new.me }
         ensures known { result ≡ 2 ^ number → first_of seat.new.me.0.passes ≡ excluded_by stripe result (first_of seat.old.me.0.passes) }
-        ensures refused { result ≢ 2 ^ number → (first_of seat.new.me.0.passes ≡ noted stripe result (first_of seat.old.me.0.passes)) × FindsOther number result }
+        ensures refused { result ≢ 2 ^ number → (first_of seat.new.me.0.passes ≡ noted stripe mode.Exclusive result (first_of seat.old.me.0.passes)) × FindsOther number result }
     {
         let mark = mark_bit(number);
         self.table
@@ -58,8 +59,8 @@ impl<C: Core + Drop> Mars<C> {
         requires free { hold_of stripe (first_of seat.old.me.0.passes) ≡ Free }
         ensures table { (seat.new.table_id ≡ seat.old.table_id) × (seat.new.id ≡ seat.old.id) }
         ensures seat { IsSeat number seat.new.me }
-        ensures gained { IfOk result (λ _. (found : ℕ) × (first_of seat.new.me.0.passes ≡ noted stripe found (with_hold stripe Shared (first_of seat.old.me.0.passes)))) }
-        ensures refused { IfErr result (λ found. (first_of seat.new.me.0.passes ≡ noted stripe found (first_of seat.old.me.0.passes)) × Finds number found × (found / 2 ^ 32 ≢ 0)) }
+        ensures gained { IfOk result (λ _. (found : ℕ) × (first_of seat.new.me.0.passes ≡ noted stripe mode.Shared found (with_hold stripe Shared (first_of seat.old.me.0.passes)))) }
+        ensures refused { IfErr result (λ found. (first_of seat.new.me.0.passes ≡ noted stripe mode.Shared found (first_of seat.old.me.0.passes)) × Finds number found × (found / 2 ^ 32 ≢ 0)) }
     {
         let found = self.mark(seat, number, stripe);
         if found >> 32 == 0 {

@@ -18,7 +18,8 @@ use Rattle.caller_plans.specs.Plans.{AllSay, planned, calls_by, faults_from, pla
 use Rattle.caller_work.specs.declared.end.WorkEnd.{WorkEnd}
 use Rattle.caller_work.specs.declared.end.WorkEnd.TheVariants as work
 use Rattle.caller_work.specs.declared.tries.Tries.TheVariants.{Times}
-use Rattle.caller_work.specs.Tries.{IsWorkOf}
+use Rattle.caller_work.specs.Tries.{IsWork, IsWorkOf}
+use Rattle.caller_work.specs.Asked.{IsPlanned, HaveCauses}
 use Rattle.caller_work.specs.Worked.{Worked, is_fault, of_caller}
 use Rattle.history_text.specs.Text.{done_lines, work_text}
 use Rattle.script_run.specs.Lines.{lines_of}
@@ -69,6 +70,33 @@ module _ (tells : Bool) (core last : CoreView) (callers tries : ℕ) (input : Li
   fault_of work.All is = absurd (true≢false (sym is))
   fault_of work.NoMemory is = absurd (true≢false (sym is))
 
+  within : (caller : ℕ) → caller < callers → caller < length plans
+  within caller less = omega (arith, less, counted)
+
+  abbrev his : ℕ → List Plan
+  his caller = planned None (calls_by caller said)
+
+  planned_at : (caller : ℕ) → caller < callers → of_caller plans caller ≡ his caller
+  planned_at caller less = ap (λ (all : List (List Plan)). of_caller all caller) plans_are ∙ plans_at 0 callers caller caller said less (omega arith)
+
+  its : (caller : ℕ) → caller < callers → IsWorkOf (Times tries) (his caller) (turns_of caller worked.turns) (of_caller fates caller) (get_or worked.stopped caller None)
+  its caller less =
+      let w = worked.works caller (within caller less) in
+      (w.0, w.1, subst (λ (ps : List Plan). IsWork (Times tries) ps (worked.works caller (within caller less)).0 (of_caller fates caller) (get_or worked.stopped caller None)) (planned_at caller less) w.2)
+
+  caused : (caller : ℕ) (less : caller < callers) → HaveCauses callers his caller (its caller less).0
+  unfolding its
+  caused caller less call holder there =
+      let c = worked.causes caller (within caller less) call holder there in
+      let among : holder < callers = omega (arith, c.among, counted) in record {
+        among = among;
+        other = c.other;
+        its = c.its;
+        planned = subst (λ (ps : List Plan). IsPlanned ps c.its) (planned_at holder among) c.planned;
+        stripe = c.stripe;
+        clashes = c.clashes;
+      }
+
   joint_work : (ended : Ended) (cut : Bool) (text : List ℕ) → (ended ≢ ends.MediaFault → ended ≢ ends.NoMemory → end ≡ work.All) → (ended ≡ ends.MediaFault) ↔ (end ≡ work.MediaFault)
       → TellsEnd ended cut text (work_text (faults_from 1 (λ caller. false) said) last.state.history fates (entries (records last.state.base last.state.history))) (flat_map done_lines last.state.history ++ media_line)
       → JointWork callers tries input ended cut text core.limits worked.turns last.state
@@ -79,12 +107,12 @@ module _ (tells : Bool) (core last : CoreView) (callers tries : ℕ) (input : Li
     whose = subst (λ (n : ℕ). AreOf n worked.turns) counted worked.whose;
     fates = fates;
     each = worked.each ∙ counted;
-    works = λ caller less.
-        let within : caller < length plans = omega (arith, less, counted) in (
-          get_or worked.stopped caller None,
-          subst (λ (his : List Plan). IsWorkOf (Times tries) his (turns_of caller worked.turns) (of_caller fates caller) (get_or worked.stopped caller None)) (ap (λ (all : List (List Plan)). of_caller all caller) plans_are ∙ plans_at 0 callers caller caller said less (omega arith)) (worked.works caller within),
-          (λ unfailed remembered. worked.whole (whole unfailed remembered) caller within),
-        );
+    works = λ caller less. (
+      get_or worked.stopped caller None,
+      its caller less,
+      (λ unfailed remembered. worked.whole (whole unfailed remembered) caller (within caller less)),
+    );
+    causes = λ caller less call holder there. caused caller less call holder there;
     fault = (λ is. worked.dead ∙ ap is_fault (fault.0 is), λ has. fault.1 (fault_of end (sym worked.dead ∙ has)));
     tells = tells_work;
   }

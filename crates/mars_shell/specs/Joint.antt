@@ -11,6 +11,7 @@ use Rattle.caller_plans.specs.declared.fate.Fate.{Fate}
 use Rattle.caller_plans.specs.Plans.{planned, calls_by, AllSay, faults_from}
 use Rattle.caller_work.specs.declared.tries.Tries.TheVariants.{Times}
 use Rattle.caller_work.specs.Tries.{IsWorkOf}
+use Rattle.caller_work.specs.Asked.{HaveCauses}
 use Rattle.caller_work.specs.Worked.{of_caller}
 use Rattle.history_text.specs.Text.{done_lines, work_text}
 use Rattle.script_run.specs.Lines.{lines_of}
@@ -21,7 +22,8 @@ use Rattle.script_run.specs.declared.ended.Ended.TheVariants.{MediaFault, NoMemo
 use Rattle.mars_shell.specs.Told.{TellsEnd}
 
 -- What comes of the callers' work on a core of these limits, which has at least as many callers: what the lines of the input say, and that
--- each caller's turns are those that its plans ask for, of which its fates are told. The work ended at a fault of the medium exactly if the
+-- each caller's turns are those that its plans ask for, of which its fates are told. Each `Busy` that a caller was told names another one that
+-- plans a call on the same stripe, one of the two for writing. The work ended at a fault of the medium exactly if the
 -- medium has failed. If neither that was so nor memory ran out, each caller came to the end of its plans. The text has all of this, or, if the
 -- medium failed, the history and a line that says so.
 pub record JointWork (callers tries : ℕ) (input : List ℕ) (ended : Ended) (cut : Bool) (text : List ℕ) (limits : Limits) (turns : List Turn) (final : State) : Type 0 where
@@ -33,6 +35,7 @@ pub record JointWork (callers tries : ℕ) (input : List ℕ) (ended : Ended) (c
   pub each : length fates ≡ callers
   pub works : (caller : ℕ) → caller < callers → (stopped : Option Reply) × IsWorkOf (Times tries) (planned None (calls_by caller said)) (turns_of caller turns) (of_caller fates caller) stopped
       × (ended ≢ MediaFault → ended ≢ NoMemory → stopped ≡ None)
+  pub causes : (caller : ℕ) (within : caller < callers) → HaveCauses callers (λ other. planned None (calls_by other said)) caller (works caller within).1.0
   pub fault : (ended ≡ MediaFault) ↔ IsTrue final.is_dead
   pub tells : TellsEnd ended cut text (work_text (faults_from 1 (λ caller. false) said) final.history fates (entries (records final.base final.history)))
       (flat_map done_lines final.history ++ media_line)

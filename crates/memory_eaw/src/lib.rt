@@ -1,5 +1,5 @@
 //! The commands of the array over plain memory, for tests of what stands on an `EawStore`: `MemoryEaw` fails at just the calls that are
-//! listed, and keeps the data before each change.
+//! listed, and keeps the data before each change. `PlainLog` is what one number has logged.
 //!
 //! Read first `eaw.rt`, and `specs/Plain`: what it holds.
 #![tactic(auto)]
@@ -10,3 +10,4 @@ mod log;
 mod part;
 
 pub use eaw::MemoryEaw;
+pub use log::PlainLog;

@@ -13,7 +13,7 @@ use mars_base::NoMemory;
 use std::alloc::Global;
 use std::marker::Model;
 
-// The parts that a number has logged. Room for all of them is taken when it is made.
+/// The parts that a number has logged. Room for all of them is taken when it is made.
 #[derive(Drop)]
 pub struct PlainLog {
     is_live: bool,
@@ -92,7 +92,7 @@ pub fn count_range(shape: Shape, logger: u8, addr: u64, len: u64) -> u16
 }
 
 impl PlainLog {
-    // A log that is not live, with room for `room` parts.
+    /// A log that is not live, with room for `room` parts.
     pub fn new(alloc: Global, room: usize) -> Result<PlainLog, NoMemory>
         ensures { IfOk result (λ log. log ≡ record { is_live = false; parts = []; room = room }) }
     {
@@ -114,12 +114,22 @@ impl PlainLog {
         self.parts.len()
     }
 
-    // The address and the length of a part in bytes.
+    /// The address and the length of a part in bytes.
     pub fn range(&self, pos: usize) -> (u64, u16)
         requires { pos < length self.now.parts }
         ensures { result ≡ range_at (ranges_of self.now.parts) pos }
     {
         self.parts[pos].range()
+    }
+
+    /// The address and the bytes of a part.
+    pub fn part(&self, pos: usize) -> (u64, &[u8])
+        requires { pos < length self.now.parts }
+        ensures addr { result.0 ≡ (part_at self.now.parts pos).0 }
+        ensures bytes { result.1.now ≡ (part_at self.now.parts pos).1 }
+    {
+        let part = &self.parts[pos];
+        (part.addr(), part.bytes())
     }
 
     // Reads a part into the front of the buffer. Returns its address and its length in bytes.
@@ -149,7 +159,7 @@ impl PlainLog {
         apply_all(&self.parts[offset..], target);
     }
 
-    // Logs the parts of a write. The log is then live.
+    /// Logs the parts of a write. The log is then live.
     pub fn append(&mut self, shape: Shape, addr: u64, bytes: &[u8])
         requires inside { addr + length bytes.now ≤ data_len shape }
         requires room { length self.old.parts + length (parts_of_write addr bytes.now) ≤ self.old.room }
@@ -159,7 +169,7 @@ impl PlainLog {
         push_parts(&mut self.parts, shape, addr, bytes);
     }
 
-    // Replaces bytes of a part, from byte `at` of it on.
+    /// Replaces bytes of a part, from byte `at` of it on.
     pub fn edit(&mut self, pos: usize, at: u32, bytes: &[u8])
         requires pos { pos < length self.old.parts }
         requires within { at + length bytes.now ≤ (range_at (ranges_of self.old.parts) pos).1 }
@@ -168,14 +178,14 @@ impl PlainLog {
         self.parts[pos].edit(at, bytes);
     }
 
-    // Drops the parts from `offset` on.
+    /// Drops the parts from `offset` on.
     pub fn truncate(&mut self, offset: usize)
         ensures { self.new ≡ record self.old { parts = take offset self.old.parts } }
     {
         self.parts.truncate(offset);
     }
 
-    // Drops all parts. The log is then not live.
+    /// Drops all parts. The log is then not live.
     pub fn free(&mut self)
         ensures { self.new ≡ record { is_live = false; parts = []; room = self.old.room } }
     {

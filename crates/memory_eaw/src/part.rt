@@ -66,6 +66,12 @@ impl PlainPart {
         (self.addr, self.len)
     }
 
+    pub fn bytes(&self) -> &[u8]
+        ensures { result.now ≡ self.now.1 }
+    {
+        &self.bytes[..usize::from(self.len)]
+    }
+
     // Replaces bytes of it from byte `at` on.
     pub fn edit(&mut self, at: u32, bytes: &[u8])
         requires { at + length bytes.now ≤ length self.old.1 }
@@ -79,10 +85,6 @@ impl PlainPart {
         requires { self.now.0 + length self.now.1 ≤ length target.old }
         ensures { target.new ≡ put target.old self.now.0 self.now.1 }
     {
-        overwrite(
-            target,
-            self.addr as usize,
-            &self.bytes[..usize::from(self.len)],
-        );
+        overwrite(target, self.addr as usize, self.bytes());
     }
 }

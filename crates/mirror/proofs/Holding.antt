@@ -1,12 +1,13 @@
 -- How many parts of a group each logger holds.
 use Rattle.std.proofs.Common.{◌≡◌, ◌≢◌, ℕ, zero, suc, ◌+◌, ◌*◌, ◌/◌, ◌<◌, ◌≤◌, Bool, true, false, cond, nat_eq, List, [], ◌∷◌, ◌++◌, length, refl, sym, ◌∙◌, ap, subst, arith}
-use Rattle.std.specs.Prelude.{◌↔◌, ◌-◌, filter, slice_index, replicate}
+use Rattle.std.specs.Prelude.{◌↔◌, ◌-◌, filter, slice_index, replicate, None}
 use Rattle.std.proofs.Math.Nat.{mod-lt}
 use Rattle.std.proofs.lemmas.Bool.{eq-eqb, eqb-true, ne_eqb}
 use Rattle.std.proofs.lemmas.List.{get_or-set_same, get_or-set_other, get_or-replicate}
 use Rattle.array_shape.specs.declared.shape.Shape.{Shape}
 use Rattle.array_shape.specs.Places.{logger_of}
 use Rattle.eaw_face.specs.State.{is_range_on, count_on}
+use Rattle.eaw_face.specs.Causes.{fit}
 use Rattle.array_shape.specs.Logged.{Part, ranges_of}
 use Rattle.mirror.specs.Rest.{HasRoom, one_more}
 
@@ -79,6 +80,13 @@ module _ (shape : Shape) where
       as_many : (ps : List Part) → length ps ≡ length (ranges_of ps)
       as_many [] = refl
       as_many (p ∷ ps) = let rest = as_many ps in omega (arith, rest)
+
+  -- an empty log has room for so many ranges at most
+  pub fit_most : 0 < shape.loggers → (rs : List (ℕ × ℕ)) → fit shape [] rs None → length rs ≤ shape.loggers * shape.entries
+  fit_most some rs fits =
+      let all = all_counted some rs in
+      let most = total_most (λ g. count_on shape g rs) shape.entries shape.loggers (λ g lt. let room = fits g lt in omega (arith, room)) in
+      omega (arith, all, most)
 
   -- the first of some ranges has room where the rest has room beside it
   module _ (held : List ℕ) (r : ℕ × ℕ) (rs : List (ℕ × ℕ)) (within : logger_of shape r.0 < length held) where

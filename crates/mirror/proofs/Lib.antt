@@ -8,3 +8,11 @@ pub mod Grouping
 pub mod Streams
 pub mod Joining
 pub mod Ways
+pub mod Writing
+pub mod Sendable
+pub mod Copies
+pub mod Mirrored
+pub mod GroupWriting
+pub mod Atomic
+pub mod Frees
+pub mod GroupCopies

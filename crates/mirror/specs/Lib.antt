@@ -1,7 +1,11 @@
 pub mod Partial
 pub mod Frame
+pub mod Links
 pub mod Rest
 pub mod Applying
 pub mod Following
 pub mod Reading
 pub mod FollowerView
+pub mod Sending
+pub mod Mirroring
+pub mod Groups

@@ -11,15 +11,23 @@ mod follower;
 mod following;
 mod frame_test;
 mod laws;
+mod link;
+mod memory_link;
 mod partial_number;
 mod place;
+mod primary;
 mod reader;
+mod sender;
 mod to_come;
+mod writer;
 
 pub use follow_fault::FollowFault;
 pub use follower::Follower;
 pub use frame_test::is_frame;
 pub use laws::{frames_are_cut_in_one_way, streams_are_followed_in_one_way};
+pub use link::Link;
+pub use memory_link::MemoryLink;
+pub use primary::Primary;
 
 #[cfg(test)]
 mod tests;

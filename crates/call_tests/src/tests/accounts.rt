@@ -29,8 +29,8 @@ fn open_account<C: Steps>(core: &mut C, account: u64, value: Value)
     let _ = core.step(0, &Call::Commit);
 }
 
-// An array with 100 in the account 1 and 50 in the account 2.
-fn with_accounts(alloc: Global) -> Option<MemoryMedia> {
+/// An array with 100 in the account 1 and 50 in the account 2.
+pub fn with_accounts(alloc: Global) -> Option<MemoryMedia> {
     let mut core = open_bank(alloc, fresh(alloc)?)?;
     open_both(&mut core)?;
     Some(core.into_store().into_media())

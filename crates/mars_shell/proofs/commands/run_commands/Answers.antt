@@ -1,4 +1,4 @@
-use Rattle.std.proofs.Common.{[], false, ⊎_elim, refl, sym, subst}
+use Rattle.std.proofs.Common.{[], true, false, ⊎_elim, refl, sym, subst}
 use Rattle.std.proofs.lemmas.List.{append-nil}
 use Rattle.command_words.specs.declared.words.Words.TheVariants.{Eaw}
 use Rattle.mars_shell.specs.Asked.{OutcomeFor}

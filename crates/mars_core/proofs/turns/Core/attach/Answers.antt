@@ -17,7 +17,7 @@ returns-in-Err g c =
     let cause = attach_cause g.S.EawStore.tells g.K.KeyIndex.index (g.S.EawStore.view c.attach_in.result.store) c.in-Err.fault c.in-Err.ensures.cause in
     let alive = subst (λ (s : g.row.S.Denot). IsAlive (g.S.EawStore.view s)) (sym c.attach_in.ensures.store) c.requires.alive in
     let back = left_gives g.S.EawStore.tells (g.S.EawStore.opens (g.S.EawStore.view c.attach_in.result.store).shape) (is_media_fault (attach_fault c.in-Err.fault)) (g.S.EawStore.view c.attach_in.result.store) (g.S.EawStore.view c.in-Err.pages.store)
-        (attach_left g.S.EawStore.tells (g.S.EawStore.opens (g.S.EawStore.view c.attach_in.result.store).shape) g.K.KeyIndex.index (pages_of (g.S.EawStore.view c.attach_in.result.store) c.attach_in.result) (pages_of (g.S.EawStore.view c.in-Err.pages.store) c.in-Err.pages) alive c.in-Err.fault c.in-Err.ensures.cause c.in-Err.ensures.looks) in
+    (attach_left g.S.EawStore.tells (g.S.EawStore.opens (g.S.EawStore.view c.attach_in.result.store).shape) g.K.KeyIndex.index (pages_of (g.S.EawStore.view c.attach_in.result.store) c.attach_in.result) (pages_of (g.S.EawStore.view c.in-Err.pages.store) c.in-Err.pages) alive c.in-Err.fault c.in-Err.ensures.cause c.in-Err.ensures.looks) in
     record {
       begins = tt;
       cause = subst (λ (x : g.row.S.Denot × CoreFault). CoreCause g.S.EawStore.tells g.K.KeyIndex.index (g.S.EawStore.view x.0) x.1) (λ i. (c.attach_in.ensures.store i, sym c.from.ensures i)) cause;

@@ -2,9 +2,10 @@ use Rattle.std.proofs.Common.{ℕ, ◌<◌, List, [], ◌∷◌, ◌++◌, Optio
 use Rattle.std.specs.Option.{IsSome}
 use Rattle.mars_manager.specs.Pass.{PassView, AllOf, HasEach, times, known_of}
 use Rattle.mars_manager.specs.Sharing.{MarsView, Since, AreGathered}
+use Rattle.mars_manager.specs.Asked.{HaveAsked}
 use Rattle.mars_manager.specs.Seat.{SeatOf, view}
 use Rattle.mars_manager.specs.Rule.{face}
-use Rattle.mars_manager.proofs.Ends.{gathers_as, one_more, all_known, taken_all, last_core, ended_as}
+use Rattle.mars_manager.proofs.Ends.{all_met, gathers_as, one_more, all_known, taken_all, last_core, ended_as}
 use Rattle.mars_manager.proofs.mars.Mars.close.Goals as goal
 
 pub loop-pass-init : goal.loop-pass-init
@@ -77,3 +78,16 @@ returns-clause-passes g c =
     let end = ended_as f key _ last.0 c.unwrap-core.result c.take.result last.1 c.unwrap-core.ensures last.2 in
     subst (λ (m : MarsView g.row.C.Denot). AreGathered g.C.Core.tells g.C.Core.view m.setup c.unwrap-core.result c.args.passes.list) c.self.view_is
     (record { turns = end.turns; run = end.run; whose = end.whose; ready = end.ready; each = all_known f key c.unwrap-core.result end.turns c.args.passes.list end.fit })
+
+pub returns-clause-asked : goal.returns-clause-asked
+returns-clause-asked g c =
+    let f = face g.C.Core.tells g.C.Core.view in
+    let key = c.self.inside.table.shared.key in
+    let i = c.loop-pass.invariant in
+    let gone = sym c.loop-pass.pass-iterator.rest.ok.0 ∙ c.in-None.ensures.steps.0 in
+    let all = taken_all f key _ i.taken.0 c.loop-pass.pass-iterator.rest.items c.args.passes.list i.taken.1 i.taken.2 gone in
+    let each : (n : ℕ) → n < key.callers → 0 < times n (map known_of c.args.passes.list) = subst (λ (m : MarsView g.row.C.Denot). HasEach m.setup.callers c.args.passes.list) (sym c.self.view_is) c.requires.all in
+    let last = last_core f key _ (map known_of c.args.passes.list) _ _ _ c.take.result all each c.close_with-closed.ensures.values.2 c.take.ensures.value in
+    let end = ended_as f key _ last.0 c.unwrap-core.result c.take.result last.1 c.unwrap-core.ensures last.2 in
+    subst (λ (m : MarsView g.row.C.Denot). HaveAsked m.setup.callers c.args.passes.list) c.self.view_is
+    (record { met = end.met; each = all_met f key end.met c.args.passes.list end.each; strangers = end.strangers; caused = end.caused })

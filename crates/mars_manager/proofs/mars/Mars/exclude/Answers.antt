@@ -1,6 +1,7 @@
 use Rattle.std.proofs.Common.{◌≡◌, ◌≢◌, ◌<◌, ap, ◌∙◌, arith, sym}
 use mathlib.Core.Logic.{dite}
 use native.Mathlib.Decide.{ℕ_discrete}
+use Rattle.history.specs.declared.locks.Mode.TheVariants as mode
 use Rattle.std.specs.Int.RustNames.{bit_or}
 use Rattle.stripe_words.specs.declared.hold.Hold.TheVariants.{Exclusive}
 use Rattle.mars_manager.specs.Rule.{face}
@@ -22,4 +23,4 @@ returns-clause-seat g c =
     let l : t < 64 = (let e = c.from.ensures in let l = c.requires.stripe in omega arith) in
     dite (ℕ_discrete r c.mark_bit-mark.result)
     (λ (e : r ≡ c.mark_bit-mark.result). seated c.args.number t Exclusive c.args.seat.now.me _ i (excluded_by t r) (c.compare_exchange.ensures.2.0 e) (moves_exclude t r i.known l i.long i.covered))
-    (λ (ne : r ≢ c.mark_bit-mark.result). seated c.args.number t (hold_of t i.known) c.args.seat.now.me _ i (noted t r) (c.compare_exchange.ensures.2.1 ne).0 (moves_note t r i.known i.long i.covered))
+    (λ (ne : r ≢ c.mark_bit-mark.result). seated c.args.number t (hold_of t i.known) c.args.seat.now.me _ i (noted t mode.Exclusive r) (c.compare_exchange.ensures.2.1 ne).0 (moves_note t r i.known i.long i.covered))

@@ -1,5 +1,6 @@
 use Rattle.std.proofs.Common.{◌≡◌}
 use Rattle.mars_manager.specs.Locks.{HasReadable}
+use Rattle.mars_manager.specs.Asked.{IsReadingBelow, Meets}
 use Rattle.mars_manager.proofs.mars.Mars.lock_all.Given as goal
 
 -- the first stripes were locked
@@ -7,4 +8,5 @@ abbrev pub invariant-loop-stripe : goal.invariant-loop-stripe
 invariant-loop-stripe g l = record {
   table : l.pass.table ≡ l.fn.pass.table;
   known : HasReadable l.stripe l.fn.pass.known l.pass.known;
+  steps : Meets (IsReadingBelow 64) l.fn.pass.known l.pass.known;
 }

@@ -1,0 +1,217 @@
+-- What callers asked for, and why they were told `Busy`.
+use Rattle.std.proofs.Common.{◌≡◌, ◌≢◌, ◌⊎◌, ◌||◌, ◌&&◌, ℕ, zero, suc, ◌+◌, ◌<◌, ◌≤◌, Bool, true, false, List, [], ◌∷◌, ◌++◌, get_or, length, drop, Option, Some, None, Result, Ok, Err, append_assoc, refl, sym, ap, ◌∙◌, subst, inl, inr, ⊎_elim, arith}
+use Rattle.std.specs.Prelude.{Contains, MatchBool, if◌then◌else◌}
+use Rattle.std.proofs.lemmas.List.{append_cancel_left}
+use Rattle.std.proofs.lemmas.Bool.{false≢true}
+use Rattle.std.proofs.lemmas.List.Elements.{Contains-append_left, Contains-append_right, Contains-append_cases}
+use mathlib.Core.Logic.{dite}
+use native.Mathlib.Decide.{dec_le}
+use Rattle.history.specs.Table.{Granted}
+use Rattle.history.specs.Locks.{touches, is_touch, clash}
+use Rattle.history.specs.declared.call.Call.{Call}
+use Rattle.history.specs.declared.call.Call.TheVariants.{Begin, Commit, Abort}
+use Rattle.history.specs.declared.call.Reply.{Reply}
+use Rattle.history.specs.declared.call.Reply.TheVariants as says
+use Rattle.history.specs.declared.locks.Mode.{Mode}
+use Rattle.history.specs.declared.locks.Mode.TheVariants as mode
+use Rattle.caller_steps.specs.Fate.{is_refusal}
+use Rattle.stripe_words.specs.Words.{Refuses}
+use Rattle.mars_manager.specs.declared.view.Met.{Met}
+use Rattle.mars_manager.specs.declared.view.Known.{Known}
+use Rattle.mars_manager.specs.Pass.{PassView, finds}
+use Rattle.mars_manager.specs.Locks.{met, with_locks, IsAgain, IsBusyBy, IsRefusedFor}
+use Rattle.mars_manager.specs.Asked.{IsStepOf, IsUpTo, AsksFor, HasAsked, against, Meets, AreMet, AreCaused, HaveAsked}
+use Rattle.mars_manager.proofs.Asking.{only_one, one_here, none_here, refused_caused}
+use Rattle.caller_plans.specs.declared.plan.Plan.{Plan}
+use Rattle.caller_plans.specs.declared.plan.PlanEnd.{PlanEnd}
+use Rattle.caller_plans.specs.declared.plan.PlanEnd.TheVariants as end
+use Rattle.caller_plans.specs.declared.fate.Fate.{Fate}
+use Rattle.caller_work.specs.declared.tries.Tries.{Tries}
+use Rattle.caller_work.specs.declared.tries.Tries.TheVariants.{NoLimit}
+use Rattle.caller_work.specs.Tries.{end_call, is_last, end_outcome, refusal_outcome, IsOne, GivesUp, Takes, IsTry, AreHeldUp, IsMade, Works, IsWork}
+use Rattle.caller_work.specs.Asked.{IsHit, IsToldOf, IsPlanned, HasCause, HaveCauses}
+
+-- no call, and the calls of one list after another
+pub told_none : (n : ℕ) → IsToldOf n [] []
+told_none n = record { named = λ step there. none_here step there; hits = λ call holder there. none_here (call, says.Busy holder) there }
+
+pub told_both : (n : ℕ) (xs ys : Granted) (ms ns : List Met) → IsToldOf n xs ms → IsToldOf n ys ns → IsToldOf n (xs ++ ys) (ms ++ ns)
+told_both n xs ys ms ns a b = record {
+  named = λ step there. ⊎_elim
+      (λ (first : Contains ms step). let one = a.named step first in (one.0, Contains-append_left xs ys one.0 one.1, one.2))
+      (λ (second : Contains ns step). let one = b.named step second in (one.0, Contains-append_right xs ys one.0 one.1, one.2))
+      (Contains-append_cases ms ns step there);
+  hits = λ call holder there. ⊎_elim
+      (λ (first : Contains xs (call, says.Busy holder)). let hit = a.hits call holder first in record { step = hit.step; asked = hit.asked; there = Contains-append_left ms ns hit.step hit.there; touches_it = hit.touches_it; why = hit.why })
+      (λ (second : Contains ys (call, says.Busy holder)). let hit = b.hits call holder second in record { step = hit.step; asked = hit.asked; there = Contains-append_right ms ns hit.step hit.there; touches_it = hit.touches_it; why = hit.why })
+      (Contains-append_cases xs ys (call, says.Busy holder) there);
+}
+
+module _ {C : Type 0} where
+  -- the step that a `Busy` comes of is among those that the call made
+  hit_of : (was last now : Known C) (call : Call) (h n : ℕ) (steps : List Met) → now.met ≡ was.met ++ steps → IsAgain n was last → IsRefusedFor call h last now → IsHit was.number call h steps
+  hit_of was last now call h n steps is again refused =
+      let r = refused.refused in
+      let x : Met = met refused.stripe r.step r.found in
+      let after : now.met ≡ last.met ++ (r.before ++ x ∷ []) = ap (λ (k : Known C). k.met) r.is in
+      let before : last.met ≡ was.met ++ again.more = ap (λ (k : Known C). k.met) again.is in
+      let same : steps ≡ again.more ++ (r.before ++ x ∷ []) = append_cancel_left was.met steps (again.more ++ (r.before ++ x ∷ []))
+      (sym is ∙ after ∙ ap (λ (ms : List Met). ms ++ (r.before ++ x ∷ [])) before ∙ append_assoc was.met again.more (r.before ++ x ∷ [])) in record {
+        step = x;
+        asked = refused.asked;
+        there = subst (λ (ms : List Met). Contains ms x) (sym same) (Contains-append_right again.more (r.before ++ x ∷ []) x (Contains-append_right r.before (x ∷ []) x (one_here x)));
+        touches_it = refused.touches_it;
+        why = subst (λ i. Refuses refused.asked r.found i h) (ap (λ (k : Known C). k.number) again.is) r.why;
+      }
+
+  -- one call of a pass
+  pub told_one : (was now : Known C) (call : Call) (reply : Reply) → (m : Meets (IsStepOf call) was now) → ((n : ℕ) × (last : Known C) × IsAgain n was last × IsBusyBy call reply last now) → IsToldOf was.number ((call, reply) ∷ []) m.more
+  told_one was now call reply m busy = record {
+    named = λ step there. ((call, reply), one_here (call, reply), m.each step there);
+    hits = λ its holder there.
+        let e : (call, reply) ≡ (its, says.Busy holder) = only_one (call, reply) (its, says.Busy holder) there in
+        let by : IsBusyBy its (says.Busy holder) busy.1 now = subst (λ (x : Call × Reply). IsBusyBy x.0 x.1 busy.1 now) e busy.3 in
+        hit_of was busy.1 now its holder busy.0 m.more m.is busy.2 by.1;
+  }
+
+-- each call that a caller was told of has a property that the calls of its plans have
+module _ (P : Call → Type 0) (begin : P Begin) (commit : P Commit) (abort : P Abort) where
+  abbrev pub AllAre : Granted → Type 0
+  AllAre told = (entry : Call × Reply) → Contains told entry → P entry.0
+
+  are_none : (told : Granted) → told ≡ [] → AllAre told
+  are_none told is entry there = none_here entry (subst (λ (l : Granted). Contains l entry) is there)
+
+  are_both : (told front back : Granted) → told ≡ front ++ back → AllAre front → AllAre back → AllAre told
+  are_both told front back is a b entry there = ⊎_elim (a entry) (b entry) (Contains-append_cases front back entry (subst (λ (l : Granted). Contains l entry) is there))
+
+  are_one : (told : Granted) (call : Call) (reply : Reply) → told ≡ (call, reply) ∷ [] → P call → AllAre told
+  are_one told call reply is holds entry there = subst (λ (x : Call × Reply). P x.0) (only_one (call, reply) entry (subst (λ (l : Granted). Contains l entry) is there)) holds
+
+  ending : (ends : PlanEnd) → P (end_call ends)
+  ending end.Commit = commit
+  ending end.Abort = abort
+  ending end.Unended = abort
+
+  given_up : (reply : Reply) (told : Granted) (made : Result Fate Reply) → (b : Bool) → MatchBool b ((told ≡ []) × (made ≡ Err reply)) (IsOne Abort (λ answer. if is_refusal answer then Err answer else refusal_outcome reply) told made) → AllAre told
+  given_up reply told made true (none, is) = are_none told none
+  given_up reply told made false (answer, one, is) = are_one told Abort answer one abort
+
+  either_way : (calls : List Call) (ends : PlanEnd) (reply : Reply) (rest : Granted) (made : Result Fate Reply) (b : Bool) → MatchBool b (GivesUp reply rest made) (Takes calls ends rest made) → (Takes calls ends rest made → AllAre rest) → AllAre rest
+  either_way calls ends reply rest made true gives on = given_up reply rest made (is_last reply) gives
+  either_way calls ends reply rest made false takes on = on takes
+
+  taken : (calls : List Call) (ends : PlanEnd) (told : Granted) (made : Result Fate Reply) → ((call : Call) → Contains calls call → P call) → Takes calls ends told made → AllAre told
+  taken [] ends told made each (reply, is, outcome) = are_one told (end_call ends) reply is (ending ends)
+  taken (call ∷ calls) ends told made each (reply, rest, is, more) = are_both told ((call, reply) ∷ []) rest is (are_one ((call, reply) ∷ []) call reply refl (each call (Contains-append_left (call ∷ []) calls call (one_here call))))
+      (either_way calls ends reply rest made (is_refusal reply) more (λ takes. taken calls ends rest made (λ other there. each other (Contains-append_right (call ∷ []) calls other there)) takes))
+
+  tried : (plan : Plan) (told : Granted) (made : Result Fate Reply) → ((call : Call) → Contains plan.calls call → P call) → IsTry plan told made → AllAre told
+  tried plan told made each trial = taken (Begin ∷ plan.calls) plan.end told made
+      (λ call there. ⊎_elim (λ (first : Contains (Begin ∷ []) call). subst P (only_one Begin call first) begin) (each call) (Contains-append_cases (Begin ∷ []) plan.calls call there)) trial
+
+  held_up : (plan : Plan) (n : ℕ) (told : Granted) → ((call : Call) → Contains plan.calls call → P call) → AreHeldUp plan n told → AllAre told
+  held_up plan zero told each none = are_none told none
+  held_up plan (suc n) told each (front, last, holder, is, held, trial) = are_both told front last is (held_up plan n front each held) (tried plan last (Err (says.Busy holder)) each trial)
+
+  made_as : (tries : Tries) (plan : Plan) (told : Granted) (made : Result Fate Reply) → ((call : Call) → Contains plan.calls call → P call) → IsMade tries plan told made → AllAre told
+  made_as tries plan told made each (held, front, last, is, holds, trial, allows) = are_both told front last is (held_up plan held front each holds) (tried plan last made each trial)
+
+  worked : (tries : Tries) (plans : List Plan) (told : Granted) (fates : List Fate) (stopped : Option Reply) → ((plan : Plan) → Contains plans plan → (call : Call) → Contains plan.calls call → P call) → Works tries plans told fates stopped → AllAre told
+  worked tries [] told [] stopped each (none, is) = are_none told none
+  worked tries [] told (fate ∷ fates) stopped each never = absurd never
+  worked tries (plan ∷ plans) told [] stopped each (reply, is, made) = made_as tries plan told (Err reply) (each plan (Contains-append_left (plan ∷ []) plans plan (one_here plan))) made
+  worked tries (plan ∷ plans) told (fate ∷ fates) stopped each (front, back, is, made, works) = are_both told front back is
+      (made_as tries plan front (Ok fate) (each plan (Contains-append_left (plan ∷ []) plans plan (one_here plan))) made)
+      (worked tries plans back fates stopped (λ other there. each other (Contains-append_right (plan ∷ []) plans other there)) works)
+
+  in_drop : (n : ℕ) (plans : List Plan) (plan : Plan) → Contains (drop n plans) plan → Contains plans plan
+  in_drop zero [] plan there = there
+  in_drop zero (first ∷ plans) plan there = there
+  in_drop (suc n) [] plan there = there
+  in_drop (suc n) (first ∷ plans) plan there = Contains-append_right (first ∷ []) plans plan (in_drop n plans plan there)
+
+  pub all_worked : (tries : Tries) (plans : List Plan) (told : Granted) (fates : List Fate) (stopped : Option Reply) → ((plan : Plan) → Contains plans plan → (call : Call) → Contains plan.calls call → P call) → IsWork tries plans told fates stopped → AllAre told
+  all_worked tries plans told fates stopped each (inl works) = worked tries plans told fates stopped each works
+  all_worked tries plans told fates stopped each (inr (front, back, early, late, holder, is, are, first, second)) = are_both told front back is
+      (worked tries plans front early (Some (says.Busy holder)) each first)
+      (worked NoLimit (drop (length early) plans) back late stopped (λ plan there. each plan (in_drop (length early) plans plan there)) second)
+
+-- a call that a caller was told of and that touches a stripe is one of its plans'
+pub planned_by : (tries : Tries) (plans : List Plan) (told : Granted) (fates : List Fate) (stopped : Option Reply) → IsWork tries plans told fates stopped → (entry : Call × Reply) → Contains told entry → (t : ℕ) (asked : Mode) → touches entry.0 t asked ≡ true → IsPlanned plans entry.0
+planned_by tries plans told fates stopped work entry there t asked touch = all_worked (λ (call : Call). (t : ℕ) (asked : Mode) → touches call t asked ≡ true → IsPlanned plans call)
+    (λ t asked e. absurd (false≢true e)) (λ t asked e. absurd (false≢true e)) (λ t asked e. absurd (false≢true e)) tries plans told fates stopped
+    (λ plan has call its t asked e. record { plan = plan; there = has; its = its }) work entry there t asked touch
+
+or_right : (a b : Bool) → b ≡ true → (a || b) ≡ true
+or_right true b e = refl
+or_right false b e = e
+
+-- two calls that touch a stripe, the second in a mode that refuses the first
+clashing : (call its : Call) (t : ℕ) (asked other : Mode) → touches call t asked ≡ true → touches its t other ≡ true → IsUpTo (against asked) other → clash (touches call t) (touches its t) ≡ true
+clashing call its t mode.Shared other reads touch up =
+    let writes : touches its t mode.Exclusive ≡ true = ap (touches its t) (sym up) ∙ touch in
+    second (touches call t mode.Exclusive) (touches call t mode.Shared) (touches its t mode.Exclusive) (touches its t mode.Shared) reads writes
+  where
+    second : (cw cr iw ir : Bool) → cr ≡ true → iw ≡ true → ((cw && (ir || iw)) || ((cr || cw) && iw)) ≡ true
+    second true true true true a b = refl
+    second true true true false a b = refl
+    second false true true true a b = refl
+    second false true true false a b = refl
+    second cw false iw ir a b = absurd (false≢true a)
+    second cw true false ir a b = absurd (false≢true b)
+clashing call its t mode.Exclusive other writes touch up = first (touches call t mode.Exclusive) (touches call t mode.Shared) (touches its t mode.Exclusive) (touches its t mode.Shared) writes (any other touch)
+  where
+    any : (other : Mode) → touches its t other ≡ true → (touches its t mode.Shared || touches its t mode.Exclusive) ≡ true
+    any mode.Shared e = ap (λ b. b || touches its t mode.Exclusive) e
+    any mode.Exclusive e = or_right (touches its t mode.Shared) (touches its t mode.Exclusive) e
+
+    first : (cw cr iw ir : Bool) → cw ≡ true → (ir || iw) ≡ true → ((cw && (ir || iw)) || ((cr || cw) && iw)) ≡ true
+    first false cr iw ir a b = absurd (false≢true a)
+    first true cr iw true a b = refl
+    first true cr true false a b = refl
+    first true cr false false a b = absurd (false≢true b)
+
+-- the mode that a step asked for
+asked_up : (asked : Mode) (t : ℕ) (step : Met) (other : Mode) → AsksFor asked t step → IsUpTo step.asked other → IsUpTo asked other
+asked_up mode.Shared t step other asks up = tt
+asked_up mode.Exclusive t step other asks up = subst (λ m. IsUpTo m other) asks.1 up
+
+asked_at : (asked : Mode) (t : ℕ) (step : Met) → AsksFor asked t step → step.stripe ≡ t
+asked_at mode.Shared t step asks = asks
+asked_at mode.Exclusive t step asks = asks.0
+
+module _ {C : Type 0} where
+  met_at : (met : ℕ → List Met) (passes : List (PassView C)) (i : ℕ) (p : PassView C) → AreMet met passes → i < length passes → (get_or passes i p).known.met ≡ met (get_or passes i p).known.number
+  met_at met [] i p a within = absurd (omega arith)
+  met_at met (q ∷ passes) zero p a within = a.0
+  met_at met (q ∷ passes) (suc i) p a within = met_at met passes i p a.1 (omega arith)
+
+  -- why a caller was told `Busy`, from what all passes asked for and what each caller was told
+  pub causes_of : (callers : ℕ) (plans : ℕ → List Plan) (tries : Tries) (passes : List (PassView C)) (p : PassView C) (told : (k : ℕ) → k < callers → Granted) (fates : ℕ → List Fate) (stopped : ℕ → Option Reply) → HaveAsked callers passes → callers ≤ length passes
+      → ((k : ℕ) → k < callers → (get_or passes k p).known.number ≡ k) → ((k : ℕ) (l : k < callers) → IsToldOf k (told k l) (get_or passes k p).known.met) → ((k : ℕ) (l : k < callers) → IsWork tries (plans k) (told k l) (fates k) (stopped k))
+      → (k : ℕ) (within : k < callers) → HaveCauses callers plans k (told k within)
+  causes_of callers plans tries passes p told fates stopped asked many numbers tells works k within call h there =
+      let hit = (tells k within).hits call h there in
+      let mine : (i : ℕ) → i < callers → (get_or passes i p).known.met ≡ asked.met i = (λ i l. met_at asked.met passes i p asked.each (omega arith) ∙ ap asked.met (numbers i l)) in
+      let here : Contains (asked.met k) hit.step = subst (λ (ms : List Met). Contains ms hit.step) (mine k within) hit.there in
+      let his : HasAsked (against hit.asked) hit.step.stripe (asked.met h) = refused_caused hit.asked hit.step.found k h asked.met hit.step refl (asked.caused k hit.step here) hit.why in
+      let among : h < callers = dite (dec_le callers h)
+      (λ (far : callers ≤ h). none_here his.0 (subst (λ (ms : List Met). Contains ms his.0) (asked.strangers h far) his.1))
+      (λ (near : ¬ (callers ≤ h)). omega arith) in
+      let one = (tells h among).named his.0 (subst (λ (ms : List Met). Contains ms his.0) (sym (mine h among)) his.1) in
+      let entry = one.0 in
+      let step = one.2 in
+      let place = asked_at (against hit.asked) hit.step.stripe his.0 his.2 in
+      let touch : touches entry.0 hit.step.stripe step.0 ≡ true = subst (λ t. touches entry.0 t step.0 ≡ true) place step.1 in record {
+        among = among;
+        other = other hit.asked hit.step.found hit.why;
+        its = entry.0;
+        planned = planned_by tries (plans h) (told h among) (fates h) (stopped h) (works h among) entry one.1 hit.step.stripe step.0 touch;
+        stripe = hit.step.stripe;
+        clashes = clashing call entry.0 hit.step.stripe hit.asked step.0 hit.touches_it touch (asked_up (against hit.asked) hit.step.stripe his.0 step.0 his.2 step.2);
+      }
+    where
+      other : (asked : Mode) (found : ℕ) → Refuses asked found k h → h ≢ k
+      other mode.Shared found why = why.other
+      other mode.Exclusive found why = why.other

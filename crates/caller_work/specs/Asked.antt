@@ -1,0 +1,45 @@
+-- Why a caller was told `Busy`: what each caller asked for.
+use Rattle.std.specs.Prelude.{ℕ, ◌≡◌, ◌≢◌, ◌<◌, IsTrue, List, Contains}
+use Rattle.history.specs.Table.{Granted}
+use Rattle.history.specs.Locks.{touches, clash}
+use Rattle.history.specs.declared.call.Call.{Call}
+use Rattle.history.specs.declared.call.Reply.{Reply}
+use Rattle.history.specs.declared.call.Reply.TheVariants as says
+use Rattle.history.specs.declared.locks.Mode.{Mode}
+use Rattle.stripe_words.specs.Words.{Refuses}
+use Rattle.mars_manager.specs.declared.view.Met.{Met}
+use Rattle.mars_manager.specs.Asked.{IsStepOf}
+use Rattle.caller_plans.specs.declared.plan.Plan.{Plan}
+
+-- one of these steps of the pass n was refused for a call: it found the pass h in its way
+pub record IsHit (n : ℕ) (call : Call) (h : ℕ) (steps : List Met) : Type 0 where
+  pub step : Met
+  pub asked : Mode
+  pub there : Contains steps step
+  pub touches_it : IsTrue (touches call step.stripe asked)
+  pub why : Refuses asked step.found n h
+
+-- What the pass n was told at its calls, and the steps that it made for them on the words of stripes: each step is for what one of the calls
+-- touches, and each `Busy` is that of a step.
+pub record IsToldOf (n : ℕ) (told : Granted) (steps : List Met) : Type 0 where
+  pub named : (step : Met) → Contains steps step → (entry : Call × Reply) × Contains told entry × IsStepOf entry.0 step
+  pub hits : (call : Call) (holder : ℕ) → Contains told (call, says.Busy holder) → IsHit n call holder steps
+
+-- the call is one of these plans'
+pub record IsPlanned (plans : List Plan) (call : Call) : Type 0 where
+  pub plan : Plan
+  pub there : Contains plans plan
+  pub its : Contains plan.calls call
+
+-- the holder is another of so many callers and plans a call that touches a stripe of this one, one of the two for writing
+pub record HasCause (callers : ℕ) (plans : ℕ → List Plan) (caller : ℕ) (call : Call) (holder : ℕ) : Type 0 where
+  pub among : holder < callers
+  pub other : holder ≢ caller
+  pub its : Call
+  pub planned : IsPlanned (plans holder) its
+  pub stripe : ℕ
+  pub clashes : IsTrue (clash (touches call stripe) (touches its stripe))
+
+-- so it is at each `Busy` that a caller was told
+abbrev pub HaveCauses : ℕ → (ℕ → List Plan) → ℕ → Granted → Type 0
+HaveCauses callers plans caller told = (call : Call) (holder : ℕ) → Contains told (call, says.Busy holder) → HasCause callers plans caller call holder

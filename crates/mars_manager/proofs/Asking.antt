@@ -1,0 +1,126 @@
+-- Who asked for what: what steps add, and what stays.
+use Rattle.std.proofs.Common.{◌≡◌, ◌≢◌, ◌⊎◌, ℕ, zero, suc, ◌+◌, ◌<◌, ◌≤◌, Bool, true, false, List, [], ◌∷◌, ◌++◌, length, refl, sym, ap, ◌∙◌, subst, inl, inr, ⊎_elim, arith, append_assoc}
+use Rattle.std.specs.Prelude.{Contains}
+use Rattle.std.specs.Int.{bit_at}
+use mathlib.Core.List.{append-nil}
+use Rattle.std.proofs.lemmas.List.Elements.{Contains-append_left, Contains-append_right, Contains-append_cases}
+use Rattle.history.specs.Locks.{touches}
+use Rattle.history.specs.declared.call.Call.{Call}
+use Rattle.history.specs.declared.call.Call.TheVariants.{Scan}
+use Rattle.std.proofs.lemmas.Bool.{lt-ltb}
+use Rattle.history.specs.declared.locks.Mode.{Mode}
+use Rattle.history.specs.declared.locks.Mode.TheVariants as mode
+use Rattle.stripe_words.specs.declared.hold.Hold.{Hold}
+use Rattle.stripe_words.specs.declared.hold.Hold.TheVariants.{Free, Trying, Shared, Exclusive}
+use Rattle.stripe_words.specs.Words.{Stands, gained, marked, locked, HasBit, HasLock, IsLowest, Refuses}
+use Rattle.mars_manager.specs.declared.view.Met.{Met}
+use Rattle.mars_manager.specs.declared.view.Known.{Known}
+use Rattle.mars_manager.specs.Locks.{met}
+use Rattle.mars_manager.specs.Asked.{bit_for, set_for, AsksFor, HasAsked, IsCaused, AreCaused, against, IsStepFor, IsReadingBelow, IsStepOf, Meets}
+
+pub only_one : {A : Type 0} (x y : A) → Contains (x ∷ []) y → x ≡ y
+only_one x y (zero, l, e) = e
+only_one x y (suc k, l, e) = absurd (omega arith)
+
+pub one_here : {A : Type 0} (x : A) → Contains (x ∷ []) x
+one_here x = (0, omega arith, refl)
+
+pub none_here : {A X : Type 0} (y : A) → Contains [] y → X
+none_here y (k, l, e) = absurd (omega arith)
+
+-- a bit of a word is set where its pass has what sets it
+pub bit_is : (asked : Mode) (w : ℕ) (has : ℕ → Hold) (n : ℕ) → n < 32 → Stands w has → bit_at w (bit_for asked n) ≡ set_for asked (has n)
+bit_is mode.Shared w has n l s = s.marks n l
+bit_is mode.Exclusive w has n l s = s.locks n l
+
+pub asked_left : (asked : Mode) (t : ℕ) (xs ys : List Met) → HasAsked asked t xs → HasAsked asked t (xs ++ ys)
+asked_left asked t xs ys (step, there, asks) = (step, Contains-append_left xs ys step there, asks)
+
+pub asked_right : (asked : Mode) (t : ℕ) (xs ys : List Met) → HasAsked asked t ys → HasAsked asked t (xs ++ ys)
+asked_right asked t xs ys (step, there, asks) = (step, Contains-append_right xs ys step there, asks)
+
+-- who asked for writing asked for reading
+pub asked_less : (t : ℕ) (steps : List Met) → HasAsked mode.Exclusive t steps → HasAsked mode.Shared t steps
+asked_less t steps (step, there, asks) = (step, there, asks.0)
+
+-- whoever refuses a call by a word has asked for its stripe
+pub refused_caused : (asked : Mode) (found n h : ℕ) (met : ℕ → List Met) (step : Met) → step.found ≡ found → IsCaused met n step → Refuses asked found n h → HasAsked (against asked) step.stripe (met h)
+refused_caused mode.Shared found n h met step is c r = c mode.Exclusive h r.small r.other (ap (λ w. bit_at w (32 + h)) is ∙ r.it_has)
+refused_caused mode.Exclusive found n h met step is c r = ⊎_elim
+    (λ (mark : bit_at found h ≡ 1). c mode.Shared h r.small r.other (ap (λ w. bit_at w h) is ∙ mark))
+    (λ (lock : HasLock found h). asked_less step.stripe (met h) (c mode.Exclusive h r.small r.other (ap (λ w. bit_at w (32 + h)) is ∙ lock)))
+    r.it_has
+
+-- a step for a stripe that a call touches in this mode
+pub step_of : (call : Call) (asked : Mode) (t : ℕ) → touches call t asked ≡ true → (step : Met) → IsStepFor asked t step → IsStepOf call step
+step_of call asked t touch step (same, up) = (asked, subst (λ i. touches call i asked ≡ true) (sym same) touch, up)
+
+-- a step of a scan
+pub scan_step : (call : Call) (low high : ℕ) → call ≡ Scan low high → (step : Met) → IsReadingBelow 64 step → IsStepOf call step
+scan_step call low high is step (less, up) = subst (λ (c : Call). IsStepOf c step) (sym is) (mode.Shared, lt-ltb step.stripe 64 less, up)
+
+module _ {C : Type 0} where
+  -- what a step that found the word w adds to the steps of its pass, which then has x of the stripe
+  pub record Notes (t w : ℕ) (was x : Hold) (k k' : Known C) : Type 0 where
+    pub more : List Met
+    pub is : k'.met ≡ k.met ++ more
+    pub of : (step : Met) → Contains more step → (step.stripe ≡ t) × (step.found ≡ w)
+    pub asks : (asked : Mode) → set_for asked x ≡ 1 → (set_for asked was ≡ 1) ⊎ HasAsked asked t more
+
+  -- a step that is noted, with what it asked for
+  pub notes_one : (t w : ℕ) (asked : Mode) (was x : Hold) (k k' : Known C) → k'.met ≡ k.met ++ met t asked w ∷ [] → ((m : Mode) → set_for m x ≡ 1 → (set_for m was ≡ 1) ⊎ AsksFor m t (met t asked w)) → Notes t w was x k k'
+  notes_one t w asked was x k k' is asks = record {
+    more = met t asked w ∷ [];
+    is = is;
+    of = λ step there. (let e = only_one (met t asked w) step there in (ap (λ (s : Met). s.stripe) (sym e), ap (λ (s : Met). s.found) (sym e)));
+    asks = λ m e. ⊎_elim inl (λ (a : AsksFor m t (met t asked w)). inr (met t asked w, one_here (met t asked w), a)) (asks m e);
+  }
+
+  -- one that is not
+  pub notes_none : (t w : ℕ) (was x : Hold) (k k' : Known C) → k'.met ≡ k.met → ((m : Mode) → set_for m x ≡ 1 → set_for m was ≡ 1) → Notes t w was x k k'
+  notes_none t w was x k k' is less = record {
+    more = [];
+    is = is ∙ sym (append-nil k.met);
+    of = λ step there. none_here step there;
+    asks = λ m e. inl (less m e);
+  }
+
+  -- more steps of a pass: none, one, two, and those of one call after another
+  pub meets_none : (Holds : Met → Type 0) (k k' : Known C) → k'.met ≡ k.met → Meets Holds k k'
+  meets_none Holds k k' is = record { more = []; is = is ∙ sym (append-nil k.met); each = λ step there. none_here step there }
+
+  pub meets_one : (Holds : Met → Type 0) (step : Met) (k k' : Known C) → k'.met ≡ k.met ++ step ∷ [] → Holds step → Meets Holds k k'
+  meets_one Holds step k k' is holds = record { more = step ∷ []; is = is; each = λ one there. subst Holds (only_one step one there) holds }
+
+  pub meets_on : (Holds : Met → Type 0) (k1 k2 k3 : Known C) → Meets Holds k1 k2 → Meets Holds k2 k3 → Meets Holds k1 k3
+  meets_on Holds k1 k2 k3 a b = record {
+    more = a.more ++ b.more;
+    is = b.is ∙ ap (λ (ms : List Met). ms ++ b.more) a.is ∙ append_assoc k1.met a.more b.more;
+    each = λ step there. ⊎_elim (a.each step) (b.each step) (Contains-append_cases a.more b.more step there);
+  }
+
+  pub meets_as : (One Other : Met → Type 0) (k k' : Known C) → ((step : Met) → One step → Other step) → Meets One k k' → Meets Other k k'
+  meets_as One Other k k' so a = record { more = a.more; is = a.is; each = λ step there. so step (a.each step there) }
+
+  -- what changes besides the steps does not matter
+  pub meets_same : (Holds : Met → Type 0) (j k k' j' : Known C) → k.met ≡ j.met → j'.met ≡ k'.met → Meets Holds k k' → Meets Holds j j'
+  meets_same Holds j k k' j' before after a = record { more = a.more; is = after ∙ a.is ∙ ap (λ (ms : List Met). ms ++ a.more) before; each = a.each }
+
+-- a mark asks for reading
+pub mark_asks : (t w : ℕ) (was : Hold) (b : Bool) (m : Mode) → set_for m (gained b) ≡ 1 → (set_for m was ≡ 1) ⊎ AsksFor m t (met t mode.Shared w)
+mark_asks t w was b mode.Shared e = inr refl
+mark_asks t w was true mode.Exclusive e = absurd (omega arith)
+mark_asks t w was false mode.Exclusive e = absurd (omega arith)
+
+-- and the exclusive step for both
+pub exclude_asks : (t w : ℕ) (was x : Hold) (m : Mode) → set_for m x ≡ 1 → (set_for m was ≡ 1) ⊎ AsksFor m t (met t mode.Exclusive w)
+exclude_asks t w was x mode.Shared e = inr refl
+exclude_asks t w was x mode.Exclusive e = inr (refl, refl)
+
+pub free_asks : (was : Hold) (m : Mode) → set_for m Free ≡ 1 → set_for m was ≡ 1
+free_asks was mode.Shared e = absurd (omega arith)
+free_asks was mode.Exclusive e = absurd (omega arith)
+
+pub back_asks : (was : Hold) → was ≡ Exclusive → (m : Mode) → set_for m Shared ≡ 1 → set_for m was ≡ 1
+back_asks was full mode.Shared e = ap marked full
+back_asks was full mode.Exclusive e = absurd (omega arith)
