@@ -1,11 +1,11 @@
 use Rattle.std.proofs.Common.{◌≡◌, [], inl, ⊎_elim, refl, arith}
 use Rattle.std.specs.Prelude.{map, string_bytes, true, false, IsTrue}
 use Rattle.std.proofs.lemmas.Bool.{false≢true}
-use Rattle.command_words.specs.declared.words.Words.TheVariants.{Run, Callers, Eaw, Dump, Drill, Format}
+use Rattle.command_words.specs.declared.words.Words.TheVariants.{Run, Callers, Eaw, Dump, Drill, Format, Make}
 use Rattle.mars_shell.specs.Commands.{Obeys}
 use Rattle.mars_shell.specs.Drill.{Drills}
 use Rattle.mars_shell.specs.Dump.{Dumps}
-use Rattle.mars_shell.proofs.Endings.{is_early, silent_of, counts_unread, read_fault_early, no_dump, format_late}
+use Rattle.mars_shell.proofs.Endings.{is_early, silent_of, counts_unread, read_fault_early, format_late}
 use Rattle.mars_shell.proofs.FormatLemmas.{no_usage}
 use Rattle.mars_shell.specs.Joint.{JointWork}
 use Rattle.mars_shell.specs.Late.{is_late}
@@ -13,6 +13,7 @@ use Rattle.mars_shell.specs.Run.{TakesTurns, Answers}
 use Rattle.mars_shell.specs.Served.{TakesTurnsFor}
 use Rattle.mars_shell.proofs.Completing.{words_say, callers_say, nothing_read, complete_of, complete_records}
 use Rattle.mars_shell.proofs.Outcomes.{turns_only, turns_spared}
+use Rattle.mars_shell.proofs.Tabling.{complete_make}
 use Rattle.mars_shell.proofs.Waiting.{run_depth, callers_depth, callers_few, drill_depth}
 use Rattle.mars_shell.proofs.whole.run.Goals as goal
 
@@ -28,8 +29,8 @@ returns-in-Err-NoCommand-clause-formats g c = inl (c.in-Err-NoCommand.ensures.re
 pub returns-in-Err-NoCommand-clause-ran : goal.returns-in-Err-NoCommand-clause-ran
 returns-in-Err-NoCommand-clause-ran g c = inl (c.in-Err-NoCommand.ensures.refused c.in-Err-NoCommand.field-0-is)
 
-pub returns-in-Err-NoCommand-clause-dumps : goal.returns-in-Err-NoCommand-clause-dumps
-returns-in-Err-NoCommand-clause-dumps g c = inl (c.in-Err-NoCommand.ensures.refused c.in-Err-NoCommand.field-0-is)
+pub returns-in-Err-NoCommand-clause-untold : goal.returns-in-Err-NoCommand-clause-untold
+returns-in-Err-NoCommand-clause-untold g c = inl (c.in-Err-NoCommand.ensures.refused c.in-Err-NoCommand.field-0-is)
 
 pub returns-in-Err-NoCommand-clause-complete : goal.returns-in-Err-NoCommand-clause-complete
 returns-in-Err-NoCommand-clause-complete g c = inl (c.in-Err-NoCommand.ensures.refused c.in-Err-NoCommand.field-0-is)
@@ -58,8 +59,8 @@ returns-in-Ok-Run-clause-input g c = words_say (map string_bytes c.args.words.no
 pub returns-in-Ok-Run-clause-formats : goal.returns-in-Ok-Run-clause-formats
 returns-in-Ok-Run-clause-formats g c = words_say (map string_bytes c.args.words.now) c.over_records.result.0 _ _ (Run c.in-Ok-Run.options) c.over_records.ensures.no_usage (rw c.in-Ok-Run.field-0-is at c.in-Ok-Run.ensures.asked) (λ numbers is. absurd (let no : ⊥ = cc is in no))
 
-pub returns-in-Ok-Run-clause-dumps : goal.returns-in-Ok-Run-clause-dumps
-returns-in-Ok-Run-clause-dumps g c = words_say (map string_bytes c.args.words.now) c.over_records.result.0 _ _ (Run c.in-Ok-Run.options) c.over_records.ensures.no_usage (rw c.in-Ok-Run.field-0-is at c.in-Ok-Run.ensures.asked) (λ is. absurd (no_dump (Run c.in-Ok-Run.options) tt is))
+pub returns-in-Ok-Run-clause-untold : goal.returns-in-Ok-Run-clause-untold
+returns-in-Ok-Run-clause-untold g c = words_say (map string_bytes c.args.words.now) c.over_records.result.0 _ _ (Run c.in-Ok-Run.options) c.over_records.ensures.no_usage (rw c.in-Ok-Run.field-0-is at c.in-Ok-Run.ensures.asked) (λ is. absurd is)
 
 pub returns-in-Ok-Run-clause-ran : goal.returns-in-Ok-Run-clause-ran
 returns-in-Ok-Run-clause-ran g c =
@@ -104,8 +105,8 @@ returns-in-Ok-Callers-clause-input g c = callers_say (map string_bytes c.args.wo
 pub returns-in-Ok-Callers-clause-formats : goal.returns-in-Ok-Callers-clause-formats
 returns-in-Ok-Callers-clause-formats g c = callers_say (map string_bytes c.args.words.now) c.run_callers.result.0 _ _ c.in-Ok-Callers.numbers (rw c.in-Ok-Callers.field-0-is at c.in-Ok-Callers.ensures.asked) (λ numbers is. absurd (let no : ⊥ = cc is in no))
 
-pub returns-in-Ok-Callers-clause-dumps : goal.returns-in-Ok-Callers-clause-dumps
-returns-in-Ok-Callers-clause-dumps g c = callers_say (map string_bytes c.args.words.now) c.run_callers.result.0 _ _ c.in-Ok-Callers.numbers (rw c.in-Ok-Callers.field-0-is at c.in-Ok-Callers.ensures.asked) (λ is. absurd (no_dump (Callers c.in-Ok-Callers.numbers) tt is))
+pub returns-in-Ok-Callers-clause-untold : goal.returns-in-Ok-Callers-clause-untold
+returns-in-Ok-Callers-clause-untold g c = callers_say (map string_bytes c.args.words.now) c.run_callers.result.0 _ _ c.in-Ok-Callers.numbers (rw c.in-Ok-Callers.field-0-is at c.in-Ok-Callers.ensures.asked) (λ is. absurd is)
 
 pub returns-in-Ok-Callers-clause-ran : goal.returns-in-Ok-Callers-clause-ran
 returns-in-Ok-Callers-clause-ran g c = callers_say (map string_bytes c.args.words.now) c.run_callers.result.0 _ _ c.in-Ok-Callers.numbers (rw c.in-Ok-Callers.field-0-is at c.in-Ok-Callers.ensures.asked) c.run_callers.ensures.ran
@@ -146,8 +147,8 @@ returns-in-Ok-Dump-clause-input g c = words_say (map string_bytes c.args.words.n
 pub returns-in-Ok-Dump-clause-formats : goal.returns-in-Ok-Dump-clause-formats
 returns-in-Ok-Dump-clause-formats g c = words_say (map string_bytes c.args.words.now) c.over_records-in-Ok-Dump.result.0 _ _ Dump c.over_records-in-Ok-Dump.ensures.no_usage (rw c.in-Ok-Dump.field-0-is at c.in-Ok-Dump.ensures.asked) (λ numbers is. absurd (let no : ⊥ = cc is in no))
 
-pub returns-in-Ok-Dump-clause-dumps : goal.returns-in-Ok-Dump-clause-dumps
-returns-in-Ok-Dump-clause-dumps g c = words_say (map string_bytes c.args.words.now) c.over_records-in-Ok-Dump.result.0 _ _ Dump c.over_records-in-Ok-Dump.ensures.no_usage (rw c.in-Ok-Dump.field-0-is at c.in-Ok-Dump.ensures.asked) (λ is. c.over_records-in-Ok-Dump.ensures.untold refl)
+pub returns-in-Ok-Dump-clause-untold : goal.returns-in-Ok-Dump-clause-untold
+returns-in-Ok-Dump-clause-untold g c = words_say (map string_bytes c.args.words.now) c.over_records-in-Ok-Dump.result.0 _ _ Dump c.over_records-in-Ok-Dump.ensures.no_usage (rw c.in-Ok-Dump.field-0-is at c.in-Ok-Dump.ensures.asked) (λ is. c.over_records-in-Ok-Dump.ensures.untold refl)
 
 pub returns-in-Ok-Dump-clause-ran : goal.returns-in-Ok-Dump-clause-ran
 returns-in-Ok-Dump-clause-ran g c =
@@ -192,8 +193,8 @@ returns-in-Ok-Drill-clause-input g c = words_say (map string_bytes c.args.words.
 pub returns-in-Ok-Drill-clause-formats : goal.returns-in-Ok-Drill-clause-formats
 returns-in-Ok-Drill-clause-formats g c = words_say (map string_bytes c.args.words.now) c.over_records-in-Ok-Drill.result.0 _ _ (Drill c.in-Ok-Drill.numbers) c.over_records-in-Ok-Drill.ensures.no_usage (rw c.in-Ok-Drill.field-0-is at c.in-Ok-Drill.ensures.asked) (λ numbers is. absurd (let no : ⊥ = cc is in no))
 
-pub returns-in-Ok-Drill-clause-dumps : goal.returns-in-Ok-Drill-clause-dumps
-returns-in-Ok-Drill-clause-dumps g c = words_say (map string_bytes c.args.words.now) c.over_records-in-Ok-Drill.result.0 _ _ (Drill c.in-Ok-Drill.numbers) c.over_records-in-Ok-Drill.ensures.no_usage (rw c.in-Ok-Drill.field-0-is at c.in-Ok-Drill.ensures.asked) (λ is. absurd (no_dump (Drill c.in-Ok-Drill.numbers) tt is))
+pub returns-in-Ok-Drill-clause-untold : goal.returns-in-Ok-Drill-clause-untold
+returns-in-Ok-Drill-clause-untold g c = words_say (map string_bytes c.args.words.now) c.over_records-in-Ok-Drill.result.0 _ _ (Drill c.in-Ok-Drill.numbers) c.over_records-in-Ok-Drill.ensures.no_usage (rw c.in-Ok-Drill.field-0-is at c.in-Ok-Drill.ensures.asked) (λ is. absurd is)
 
 pub returns-in-Ok-Drill-clause-ran : goal.returns-in-Ok-Drill-clause-ran
 returns-in-Ok-Drill-clause-ran g c =
@@ -262,8 +263,8 @@ returns-in-Ok-Eaw-clause-input g c = words_say (map string_bytes c.args.words.no
 pub returns-in-Ok-Eaw-clause-formats : goal.returns-in-Ok-Eaw-clause-formats
 returns-in-Ok-Eaw-clause-formats g c = words_say (map string_bytes c.args.words.now) c.run_commands.result.0 _ _ Eaw c.run_commands.ensures.no_usage (rw c.in-Ok-Eaw.field-0-is at c.in-Ok-Eaw.ensures.asked) (λ numbers is. absurd (let no : ⊥ = cc is in no))
 
-pub returns-in-Ok-Eaw-clause-dumps : goal.returns-in-Ok-Eaw-clause-dumps
-returns-in-Ok-Eaw-clause-dumps g c = words_say (map string_bytes c.args.words.now) c.run_commands.result.0 _ _ Eaw c.run_commands.ensures.no_usage (rw c.in-Ok-Eaw.field-0-is at c.in-Ok-Eaw.ensures.asked) (λ is. absurd (no_dump Eaw tt is))
+pub returns-in-Ok-Eaw-clause-untold : goal.returns-in-Ok-Eaw-clause-untold
+returns-in-Ok-Eaw-clause-untold g c = words_say (map string_bytes c.args.words.now) c.run_commands.result.0 _ _ Eaw c.run_commands.ensures.no_usage (rw c.in-Ok-Eaw.field-0-is at c.in-Ok-Eaw.ensures.asked) (λ is. absurd is)
 
 pub returns-in-Ok-Eaw-clause-ran : goal.returns-in-Ok-Eaw-clause-ran
 returns-in-Ok-Eaw-clause-ran g c = words_say (map string_bytes c.args.words.now) c.run_commands.result.0 _ _ Eaw c.run_commands.ensures.no_usage (rw c.in-Ok-Eaw.field-0-is at c.in-Ok-Eaw.ensures.asked) c.run_commands.ensures.ran
@@ -289,8 +290,8 @@ returns-in-Ok-Format-clause-input g c = words_say (map string_bytes c.args.words
 pub returns-in-Ok-Format-clause-formats : goal.returns-in-Ok-Format-clause-formats
 returns-in-Ok-Format-clause-formats g c = words_say (map string_bytes c.args.words.now) c.run_format.result.0 _ _ (Format c.in-Ok-Format.numbers) (no_usage c.in-Ok-Format.numbers _ c.run_format.result.0 _ _ c.run_format.ensures.says) (rw c.in-Ok-Format.field-0-is at c.in-Ok-Format.ensures.asked) (λ numbers is. rw (let same : c.in-Ok-Format.numbers ≡ numbers = cc is in same) at c.run_format.ensures.says)
 
-pub returns-in-Ok-Format-clause-dumps : goal.returns-in-Ok-Format-clause-dumps
-returns-in-Ok-Format-clause-dumps g c = words_say (map string_bytes c.args.words.now) c.run_format.result.0 _ _ (Format c.in-Ok-Format.numbers) (no_usage c.in-Ok-Format.numbers _ c.run_format.result.0 _ _ c.run_format.ensures.says) (rw c.in-Ok-Format.field-0-is at c.in-Ok-Format.ensures.asked) (λ is. absurd (no_dump (Format c.in-Ok-Format.numbers) tt is))
+pub returns-in-Ok-Format-clause-untold : goal.returns-in-Ok-Format-clause-untold
+returns-in-Ok-Format-clause-untold g c = words_say (map string_bytes c.args.words.now) c.run_format.result.0 _ _ (Format c.in-Ok-Format.numbers) (no_usage c.in-Ok-Format.numbers _ c.run_format.result.0 _ _ c.run_format.ensures.says) (rw c.in-Ok-Format.field-0-is at c.in-Ok-Format.ensures.asked) (λ is. absurd is)
 
 pub over_records-requires-clause-depth : goal.over_records-requires-clause-depth
 over_records-requires-clause-depth g c = λ κs lives. run_depth (map string_bytes c.args.words.now) c.in-Ok-Run.options (rw c.in-Ok-Run.field-0-is at c.in-Ok-Run.ensures.asked)
@@ -300,3 +301,45 @@ run_callers-requires-clause-few g c = λ κs lives. callers_few (map string_byte
 
 pub run_callers-requires-clause-depth : goal.run_callers-requires-clause-depth
 run_callers-requires-clause-depth g c = λ κs lives. callers_depth (map string_bytes c.args.words.now) c.in-Ok-Callers.numbers (rw c.in-Ok-Callers.field-0-is at c.in-Ok-Callers.ensures.asked)
+
+pub returns-in-Ok-Make-clause-words : goal.returns-in-Ok-Make-clause-words
+returns-in-Ok-Make-clause-words g c = words_say (map string_bytes c.args.words.now) c.run_make.result.0 _ _ (Make c.in-Ok-Make.name) c.run_make.ensures.no_usage (rw c.in-Ok-Make.field-0-is at c.in-Ok-Make.ensures.asked) tt
+
+pub returns-in-Ok-Make-clause-usage : goal.returns-in-Ok-Make-clause-usage
+returns-in-Ok-Make-clause-usage g c = λ nothing. absurd (nothing (Make c.in-Ok-Make.name) (rw c.in-Ok-Make.field-0-is at c.in-Ok-Make.ensures.asked))
+
+pub returns-in-Ok-Make-clause-early : goal.returns-in-Ok-Make-clause-early
+returns-in-Ok-Make-clause-early g c = λ either. absurd (c.run_make.ensures.late (is_early c.run_make.result.0 either))
+
+pub returns-in-Ok-Make-clause-silent : goal.returns-in-Ok-Make-clause-silent
+returns-in-Ok-Make-clause-silent g c = silent_of _ c.run_make.result.0 (λ either. ⊎_elim (λ early. absurd (c.run_make.ensures.late early)) c.run_make.ensures.refused either)
+
+pub returns-in-Ok-Make-clause-counts : goal.returns-in-Ok-Make-clause-counts
+returns-in-Ok-Make-clause-counts g c = c.run_make.ensures.counts
+
+pub returns-in-Ok-Make-clause-steady : goal.returns-in-Ok-Make-clause-steady
+returns-in-Ok-Make-clause-steady g c = λ steady is. c.run_make.ensures.late (read_fault_early c.run_make.result.0 is)
+
+pub returns-in-Ok-Make-clause-input : goal.returns-in-Ok-Make-clause-input
+returns-in-Ok-Make-clause-input g c = words_say (map string_bytes c.args.words.now) c.run_make.result.0 _ _ (Make c.in-Ok-Make.name) c.run_make.ensures.no_usage (rw c.in-Ok-Make.field-0-is at c.in-Ok-Make.ensures.asked) c.run_make.ensures.unread
+
+pub returns-in-Ok-Make-clause-formats : goal.returns-in-Ok-Make-clause-formats
+returns-in-Ok-Make-clause-formats g c = words_say (map string_bytes c.args.words.now) c.run_make.result.0 _ _ (Make c.in-Ok-Make.name) c.run_make.ensures.no_usage (rw c.in-Ok-Make.field-0-is at c.in-Ok-Make.ensures.asked) (λ numbers is. absurd (let no : ⊥ = cc is in no))
+
+pub returns-in-Ok-Make-clause-untold : goal.returns-in-Ok-Make-clause-untold
+returns-in-Ok-Make-clause-untold g c = words_say (map string_bytes c.args.words.now) c.run_make.result.0 _ _ (Make c.in-Ok-Make.name) c.run_make.ensures.no_usage (rw c.in-Ok-Make.field-0-is at c.in-Ok-Make.ensures.asked) (λ late. c.run_make.ensures.untold)
+
+pub returns-in-Ok-Make-clause-ran : goal.returns-in-Ok-Make-clause-ran
+returns-in-Ok-Make-clause-ran g c =
+    let ran = c.run_make.ensures.ran in
+    words_say (map string_bytes c.args.words.now) c.run_make.result.0 _ _ (Make c.in-Ok-Make.name) c.run_make.ensures.no_usage (rw c.in-Ok-Make.field-0-is at c.in-Ok-Make.ensures.asked)
+    (record { cut = ran.cut; text = ran.text; wrote = ran.wrote; counts = ran.counts; holds = (g.S.Source.left c.args.source.now, (λ _. refl), ran.holds) })
+
+pub returns-in-Ok-Make-clause-complete : goal.returns-in-Ok-Make-clause-complete
+returns-in-Ok-Make-clause-complete g c =
+    let old = g.M.Media.view c.args.media in
+    let new = g.M.Media.view c.run_make.result.1 in
+    let said = c.run_make.ensures in
+    words_say (map string_bytes c.args.words.now) c.run_make.result.0 (Unit {0}) _ (Make c.in-Ok-Make.name) said.no_usage (rw c.in-Ok-Make.field-0-is at c.in-Ok-Make.ensures.asked)
+    (λ fit no_source no_sink no_media.
+    complete_make c.in-Ok-Make.name old new said.ran.cut said.ran.text _ _ _ _ _ _ fit.1.0 fit.1.1 no_source no_sink no_media c.run_make.result.0 said.late said.counts (said.ran.holds fit.0))
