@@ -1,5 +1,5 @@
 -- What the making of a table does and writes, on a medium that tells its bytes.
-use Rattle.std.specs.Prelude.{ℕ, ◌≡◌, ◌⊎◌, ◌-◌, ◌<◌, ◌≤◌, Bool, false, if◌then◌else◌, List, [], ◌∷◌, ◌++◌, length, codes, Some, slice_get, Result, Ok, Err}
+use Rattle.std.specs.Prelude.{ℕ, ◌≡◌, ◌⊎◌, ◌-◌, ◌<◌, ◌≤◌, Bool, true, false, if◌then◌else◌, List, [], ◌∷◌, ◌++◌, length, codes, Some, slice_get, Result, Ok, Err}
 use Rattle.mars_base.specs.Causes.{Rose}
 use Rattle.std.specs.Fmt.{decimal}
 use Rattle.pcm_media.specs.Images.{MayLeave}

@@ -48,12 +48,13 @@ pub fn run_make<S: Source, K: Sink, M: Media + Drop + Send>(
         Ok(opened) => opened,
         Err(ended) => return ended,
     };
-    let (made, store) = make_over(room, store, name);
+    let (made, store) = make_over(alloc, room, store, name);
     (tell_made(sink, made, name), store.into_media())
 }
 
 // Makes the table in the data of a store, under the index that the data names.
 fn make_over<S: EawStore>(
+    alloc: Global,
     room: SaveRoom,
     store: S,
     name: &Name,
@@ -66,8 +67,8 @@ fn make_over<S: EawStore>(
 {
     let mut store = store;
     match find_form(&mut store) {
-        Ok(Form::Chain) => make_table::<S, KeyList>(room, store, name),
-        Ok(Form::Tree) => make_table::<S, BTreePages>(room, store, name),
+        Ok(Form::Chain) => make_table::<S, KeyList>(alloc, room, store, name),
+        Ok(Form::Tree) => make_table::<S, BTreePages>(alloc, room, store, name),
         Err(fault) => (Err(fault), store),
     }
 }
