@@ -1,9 +1,9 @@
 -- A table that is made in an array that was opened.
-use Rattle.std.proofs.Common.{◌≡◌, ◌⊎◌, ◌<◌, inl, inr, ⊎_elim, ℕ, Bool, true, false, List, [], ◌++◌, ◌∷◌, length, Result, Ok, Err, IfOk, IfErr, OnOk, OnErr, refl, sym, ap, subst, ◌∙◌, arith}
+use Rattle.std.proofs.Common.{◌≡◌, ◌⊎◌, ◌<◌, ◌≤◌, inl, inr, ⊎_elim, ℕ, Bool, true, false, List, [], ◌++◌, ◌∷◌, length, Result, Ok, Err, IfOk, IfErr, OnOk, OnErr, refl, sym, ap, subst, ◌∙◌, arith}
 use Rattle.std.specs.Prelude.{IsTrue, MatchBool, if◌then◌else◌, Some, slice_get}
 use Rattle.std.proofs.lemmas.Bool.{false≢true}
 use Rattle.mars_base.specs.Causes.{Rose}
-use Rattle.mars_base.proofs.Going.{weaker, then}
+use Rattle.mars_base.proofs.Going as going
 use Rattle.pcm_media.specs.Images.{MayLeave}
 use Rattle.pcm_media.specs.View.{View}
 use Rattle.array_shape.specs.declared.shape.Shape.{Shape}
@@ -19,7 +19,7 @@ use Rattle.record_table.specs.Names.{names_of, IsNew}
 use Rattle.record_table.specs.declared.making.MakeFault.{MakeFault}
 use Rattle.record_table.specs.declared.making.MakeFault.TheVariants as make
 use Rattle.mars_core.specs.Making.{OpensAsNamed, OpensWithName}
-use Rattle.mars_core.specs.Making as store
+use Rattle.mars_core.specs.Making as making
 use Rattle.mars_core.specs.Attached.{CoreCause, LeftAsItWas, is_media_fault}
 use Rattle.mars_core.specs.declared.fault.CoreFault.{CoreFault}
 use Rattle.mars_core.specs.declared.fault.CoreFault.TheVariants as core
@@ -51,18 +51,18 @@ module _ (tells : Bool) (told : IsTrue tells) (old : View) (only_now : (image : 
     (store : StoreView) (attached : Attached tells old store) (keeps : KeepsData tells old store.moment store.left_since)
     (later : StoreView) (new : View) (behind : IsBehind tells false later new) (counts_now : (t : ℕ) (image : List ℕ) → IsTrue tells → t ≤ new.moment → MayLeave new.content image → new.left_since t image) (name : List ℕ) where
   -- in terms of the data of the array
-  own : {P : List ℕ → Type 0} → P store.state.bytes → P (settled_data store.shape old.content.bytes)
-  own {P} p = subst P (attached.bytes told) p
+  own : (P : List ℕ → Type 0) → P store.state.bytes → P (settled_data store.shape old.content.bytes)
+  own P p = subst P (attached.bytes told) p
 
   left_now : (image : List ℕ) → MayLeave new.content image → later.left_since later.moment image
   left_now image left = subst (λ (t : ℕ). later.left_since t image) behind.moment (behind.left new.moment image (counts_now new.moment image told (omega arith) left))
 
-  module _ (result : Result ℕ MakeFault) (made : store.MakesTable tells (Opens store.shape) (index_at store.state.bytes) name store later result) where
+  module _ (result : Result ℕ MakeFault) (made : making.MakesTable tells (Opens store.shape) (index_at store.state.bytes) name store later result) where
     had : (image : List ℕ) → OpensAsNamed (Opens store.shape) (index_at store.state.bytes) store.state.bytes image → HasNames store.shape old image
-    had image opens = own {λ b. OpensAsNamed (Opens store.shape) (index_at b) b image} opens
+    had image opens = own (λ b. OpensAsNamed (Opens store.shape) (index_at b) b image) opens
 
     has : (image : List ℕ) → OpensWithName (Opens store.shape) (index_at store.state.bytes) name store.state.bytes image → HasNewName name store.shape old image
-    has image opens = own {λ b. OpensWithName (Opens store.shape) (index_at b) name b image} opens
+    has image opens = own (λ b. OpensWithName (Opens store.shape) (index_at b) name b image) opens
 
     tries : Tries name store.shape old new
     tries = record {
@@ -76,10 +76,10 @@ module _ (tells : Bool) (told : IsTrue tells) (old : View) (only_now : (image : 
     quiet living = subst (λ (s : Shape). HasNoVote s new.content.bytes) made.shape (behind.quiet told living refl)
 
   -- it was made, and told in whole or in part
-  makes : (j : ℕ) (made : store.MakesTable tells (Opens store.shape) (index_at store.state.bytes) name store later (Ok j)) (ended : Ended) (cut : Bool) (text : List ℕ) → ended ≡ (if cut then script.WriteFault else script.All)
+  makes : (j : ℕ) (made : making.MakesTable tells (Opens store.shape) (index_at store.state.bytes) name store later (Ok j)) (ended : Ended) (cut : Bool) (text : List ℕ) → ended ≡ (if cut then script.WriteFault else script.All)
       → IsWritten cut text (table_line j name) → MakesTable name ended old new cut text
   makes j made ended cut text end wrote =
-      let cause = own {λ b. IsNew name (names_of b) × (j ≡ length (names_of b)) × (j < 8) × (next_page b < index_pages_of store.shape)} (made.cause.1 told) in
+      let cause = own (λ b. IsNew name (names_of b) × (j ≡ length (names_of b)) × (j < 8) × (next_page b < index_pages_of store.shape)) (made.cause.1 told) in
       record {
         shape = store.shape;
         tries = tries (Ok j) made;
@@ -92,13 +92,13 @@ module _ (tells : Bool) (told : IsTrue tells) (old : View) (only_now : (image : 
         told = subst (λ (n : ℕ). IsWritten cut text (table_line n name)) cause.1 wrote;
       }
 
-  pub made_outcome : (j : ℕ) → store.MakesTable tells (Opens store.shape) (index_at store.state.bytes) name store later (Ok j) → (status : Status) (cut : Bool) (text : List ℕ) → status ≡ (if cut then WriteFault else Good)
+  pub made_outcome : (j : ℕ) → making.MakesTable tells (Opens store.shape) (index_at store.state.bytes) name store later (Ok j) → (status : Status) (cut : Bool) (text : List ℕ) → status ≡ (if cut then WriteFault else Good)
       → IsWritten cut text (table_line j name) → MakeOutcome name old status new cut text
   made_outcome j made status true text is wrote = subst (λ (s : Status). MakeOutcome name old s new true text) (sym is) (inl (makes j made script.WriteFault true text refl wrote))
   made_outcome j made status false text is wrote = subst (λ (s : Status). MakeOutcome name old s new false text) (sym is) (inl (makes j made script.All false text refl wrote))
 
   -- it was not made
-  refuses : (f : MakeFault) (made : store.MakesTable tells (Opens store.shape) (index_at store.state.bytes) name store later (Err f)) → (let r : Result ℕ MakeFault = Err f in is_make_failed r ≡ false) → (refusal : Refusal)
+  refuses : (f : MakeFault) (made : making.MakesTable tells (Opens store.shape) (index_at store.state.bytes) name store later (Err f)) → (let r : Result ℕ MakeFault = Err f in is_make_failed r ≡ false) → (refusal : Refusal)
       → RefusalCause name store.shape old refusal → Refuses name refusal old new false []
   refuses f made well refusal cause = record {
     shape = store.shape;
@@ -109,18 +109,20 @@ module _ (tells : Bool) (told : IsTrue tells) (old : View) (only_now : (image : 
     silent = refl;
   }
 
-  pub unmade_outcome : (f : MakeFault) → store.MakesTable tells (Opens store.shape) (index_at store.state.bytes) name store later (Err f) → MakeOutcome name old (made_status f name) new false []
-  unmade_outcome make.Exists made = inr (Exists name, refl, refuses make.Exists made refl (Exists name) (refl, own {λ b. (j : ℕ) × (slice_get (names_of b) j ≡ Some name)} (made.cause.1 told)))
-  unmade_outcome make.TablesFull made = inr (TablesFull, refl, refuses make.TablesFull made refl TablesFull (own {λ b. IsNew name (names_of b) × (length (names_of b) ≡ 8)} (made.cause.1 told)))
+  pub unmade_outcome : (f : MakeFault) → making.MakesTable tells (Opens store.shape) (index_at store.state.bytes) name store later (Err f) → MakeOutcome name old (made_status f name) new false []
+  unmade_outcome make.Exists made =
+      let cause = own (λ b. (j : ℕ) × (slice_get (names_of b) j ≡ Some name)) (made.cause.1 told) in
+      inr (Exists name, refl, refuses make.Exists made refl (Exists name) (refl, cause.0, cause.1))
+  unmade_outcome make.TablesFull made = inr (TablesFull, refl, refuses make.TablesFull made refl TablesFull (own (λ b. IsNew name (names_of b) × (length (names_of b) ≡ 8)) (made.cause.1 told)))
   unmade_outcome (make.PagesFull n) made =
-      let cause = own {λ b. IsNew name (names_of b) × (length (names_of b) < 8) × (next_page b ≡ index_pages_of store.shape)} (made.cause.2 told) in
+      let cause = own (λ b. IsNew name (names_of b) × (length (names_of b) < 8) × (next_page b ≡ index_pages_of store.shape)) (made.cause.2 told) in
       inr (PagesFull n, refl, refuses (make.PagesFull n) made refl (PagesFull n) (cause.0, cause.1, cause.2, made.cause.1))
-  unmade_outcome make.Media made = inl (inr (refl, store.shape, tries (Err make.Media) made))
+  unmade_outcome make.Media made = inl (inr (refl, (store.shape, tries (Err make.Media) made)))
   unmade_outcome make.Dead made = absurd (false≢true (sym attached.alive ∙ made.cause))
   unmade_outcome (make.Damaged page) made = absurd (made.cause.1 told)
 
   -- what is told of it
-  pub told_outcome : (result : Result (Result ℕ MakeFault) CoreFault) → IfOk result (λ made. store.MakesTable tells (Opens store.shape) (index_at store.state.bytes) name store later made)
+  pub told_outcome : (result : Result (Result ℕ MakeFault) CoreFault) → IfOk result (λ made. making.MakesTable tells (Opens store.shape) (index_at store.state.bytes) name store later made)
       → IfErr result (λ fault. CoreCause tells (index_at store.state.bytes) store fault) → IfErr result (λ fault. LeftAsItWas tells (Opens store.shape) (is_media_fault fault) store later)
       → (status : Status) (cut : Bool) (text : List ℕ) → Tells name result status cut text → MakeOutcome name old status new cut text
   told_outcome (Ok (Ok j)) made cause left status cut text said = made_outcome j made status cut text said.0 said.1
@@ -131,7 +133,7 @@ module _ (tells : Bool) (told : IsTrue tells) (old : View) (only_now : (image : 
       (unread true tells Opens (index_at store.state.bytes) store later (is_media_fault f) f told cause left)))
 
 -- the count of the medium's faults
-made_counts : (tells : Bool) (Opens : List ℕ → List ℕ → Type 0) (index : Index) (name : List ℕ) (old new : StoreView) → old.is_dead ≡ false → (made : Result ℕ MakeFault) → store.MakesTable tells Opens index name old new made
+made_counts : (tells : Bool) (Opens : List ℕ → List ℕ → Type 0) (index : Index) (name : List ℕ) (old new : StoreView) → old.is_dead ≡ false → (made : Result ℕ MakeFault) → making.MakesTable tells Opens index name old new made
     → (let r : Result (Result ℕ MakeFault) CoreFault = Ok made in MakeCounts r old.faults new.faults)
 made_counts tells Opens index name old new alive (Ok j) makes = (makes.kept refl).1
 made_counts tells Opens index name old new alive (Err make.Exists) makes = (makes.kept refl).1
@@ -142,7 +144,7 @@ made_counts tells Opens index name old new alive (Err make.Dead) makes = absurd 
 made_counts tells Opens index name old new alive (Err (make.Damaged page)) makes = (makes.kept refl).1
 
 pub counts_of : (tells : Bool) (Opens : List ℕ → List ℕ → Type 0) (index : Index) (name : List ℕ) (old new : StoreView) → old.is_dead ≡ false → (result : Result (Result ℕ MakeFault) CoreFault)
-    → IfOk result (λ made. store.MakesTable tells Opens index name old new made) → IfErr result (λ fault. LeftAsItWas tells Opens (is_media_fault fault) old new) → MakeCounts result old.faults new.faults
+    → IfOk result (λ made. making.MakesTable tells Opens index name old new made) → IfErr result (λ fault. LeftAsItWas tells Opens (is_media_fault fault) old new) → MakeCounts result old.faults new.faults
 counts_of tells Opens index name old new alive (Ok made) makes left = made_counts tells Opens index name old new alive made makes
 counts_of tells Opens index name old new alive (Err (core.Damaged page)) makes left = (left.kept refl).1
 counts_of tells Opens index name old new alive (Err core.Media) makes left = (left.dies refl).1
@@ -150,24 +152,24 @@ counts_of tells Opens index name old new alive (Err core.NoMemory) makes left = 
 
 -- the same for a table that was made under the index that the data names
 pub makes_over : (tells : Bool) (Opens : Shape → List ℕ → List ℕ → Type 0) (form : ℕ) (name : List ℕ) (old mid new : StoreView) → old.is_dead ≡ false → SaysForm tells (Opens old.shape) form old mid → (made : Result ℕ MakeFault)
-    → store.MakesTable tells (Opens mid.shape) (index_of_form form) name mid new made → store.MakesTable tells (Opens old.shape) (index_at old.state.bytes) name old new made
+    → making.MakesTable tells (Opens mid.shape) (index_of_form form) name mid new made → making.MakesTable tells (Opens old.shape) (index_at old.state.bytes) name old new made
 makes_over tells Opens form name old mid new alive says made makes = record {
   shape = makes.shape ∙ says.shape;
-  sound = λ told. moved told {λ h b i. i.sound b} (makes.sound told);
+  sound = λ told. moved told (λ h b i. i.sound b) (makes.sound told);
   cause = moved_cause tells name old mid alive (says.alive ∙ sym alive) says.shape (λ told. bytes told) made makes.cause;
   kept = λ well. ((makes.kept well).0 ∙ says.alive ∙ sym alive, (makes.kept well).1 ∙ says.faults);
   dies = λ failed. ((makes.dies failed).0, subst (λ (n : ℕ). Rose n new.faults) says.faults (makes.dies failed).1);
-  time = λ told. then (weaker (λ image opens. inl (record { bytes = old.state.bytes; opened = opens; sound = moved told {λ h b i. i.sound b} (makes.sound told); named = refl; shows = refl })) (says.time told))
-      (moved told {λ h b i. LeavesOnly (λ image. OpensAsNamed (Opens h) i b image ⊎ OpensWithName (Opens h) i name b image) mid new} (makes.time told));
-  now = λ told. moved told {λ h b i. OnOk made ((image : List ℕ) → new.left_since new.moment image → OpensWithName (Opens h) i name b image)} (makes.now told);
-  same = λ told well. moved told {λ h b i. OnErr made ((image : List ℕ) → new.left_since new.moment image → OpensAsNamed (Opens h) i b image)} (makes.same told well);
+  time = λ told. going.then (going.weaker (λ image opens. inl (record { bytes = old.state.bytes; opened = opens; sound = moved told (λ h b i. i.sound b) (makes.sound told); named = refl; shows = refl })) (says.time told))
+      (moved told (λ h b i. LeavesOnly (λ image. OpensAsNamed (Opens h) i b image ⊎ OpensWithName (Opens h) i name b image) mid new) (makes.time told));
+  now = λ told. moved told (λ h b i. OnOk made ((image : List ℕ) → new.left_since new.moment image → OpensWithName (Opens h) i name b image)) (makes.now told);
+  same = λ told well. moved told (λ h b i. OnErr made ((image : List ℕ) → new.left_since new.moment image → OpensAsNamed (Opens h) i b image)) (makes.same told well);
 }
   where
     bytes : IsTrue tells → mid.state.bytes ≡ old.state.bytes
     bytes told = ap (λ (s : State). s.bytes) (says.state told)
 
-    moved : IsTrue tells → {P : Shape → List ℕ → Index → Type 0} → P mid.shape mid.state.bytes (index_of_form form) → P old.shape old.state.bytes (index_at old.state.bytes)
-    moved told {P} p = subst (λ (x : Shape × List ℕ × Index). P x.0 x.1 x.2) (λ i. (says.shape i, bytes told i, sym (of_form form old.state.bytes (says.is told)) i)) p
+    moved : IsTrue tells → (P : Shape → List ℕ → Index → Type 0) → P mid.shape mid.state.bytes (index_of_form form) → P old.shape old.state.bytes (index_at old.state.bytes)
+    moved told P p = subst (λ (x : Shape × List ℕ × Index). P x.0 x.1 x.2) (λ i. (says.shape i, bytes told i, sym (of_form form old.state.bytes (says.is told)) i)) p
 
 -- the same for records that were not taken
 pub cause_over : (tells : Bool) (Opens : List ℕ → List ℕ → Type 0) (form : ℕ) (old mid : StoreView) → SaysForm tells Opens form old mid → (fault : CoreFault) → CoreCause tells (index_of_form form) mid fault → CoreCause tells (index_at old.state.bytes) old fault
@@ -182,7 +184,7 @@ left_over tells Opens form old mid new alive says failed left = record {
   kept = λ well. ((left.kept well).0 ∙ says.alive ∙ sym alive, (left.kept well).1 ∙ says.faults);
   unwritten = λ told well. left.unwritten told well ∙ bytes told;
   dies = λ dead. ((left.dies dead).0, subst (λ (n : ℕ). Rose n new.faults) says.faults (left.dies dead).1);
-  time = λ told. then (says.time told) (subst (λ (x : Shape × List ℕ). LeavesOnly (λ image. Opens x.0 image x.1) mid new) (λ i. (says.shape i, bytes told i)) (left.time told));
+  time = λ told. going.then (says.time told) (subst (λ (x : Shape × List ℕ). LeavesOnly (λ image. Opens x.0 image x.1) mid new) (λ i. (says.shape i, bytes told i)) (left.time told));
 }
   where
     bytes : IsTrue tells → mid.state.bytes ≡ old.state.bytes

@@ -92,15 +92,24 @@ abbrev pub MakeOutcome : List ℕ → View → Status → View → Bool → List
 MakeOutcome name old status new cut text =
     OverRecords true 0 (MadeBy name old new cut text) old status new cut text ⊎ ((refusal : Refusal) × (status ≡ Refused refusal) × Refuses name refusal old new cut text)
 
--- what is told, and the status, by what came of the making: the line of the new table, whole or cut, or nothing
+-- what is told of a table that was tried, and the status: the line of the new one, whole or cut, or nothing
+abbrev pub TellsTried : List ℕ → Result ℕ MakeFault → Status → Bool → List ℕ → Type 0
+TellsTried name (Ok j) status cut text = (status ≡ (if cut then WriteStatus else Good)) × IsWritten cut text (table_line j name)
+TellsTried name (Err fault) status cut text = (status ≡ made_status fault name) × (cut ≡ false) × (text ≡ [])
+
+-- that, or nothing is told of records that were not taken
 abbrev pub Tells : List ℕ → Result (Result ℕ MakeFault) CoreFault → Status → Bool → List ℕ → Type 0
-Tells name (Ok (Ok j)) status cut text = (status ≡ (if cut then WriteStatus else Good)) × IsWritten cut text (table_line j name)
-Tells name (Ok (Err fault)) status cut text = (status ≡ made_status fault name) × (cut ≡ false) × (text ≡ [])
+Tells name (Ok tried) status cut text = TellsTried name tried status cut text
 Tells name (Err fault) status cut text = (status ≡ served_status (Err fault)) × (cut ≡ false) × (text ≡ [])
 
--- the count of the medium's faults, by what came of the making on a store that was not dead
+-- the count of the medium's faults, by what came of a table that was tried on a store that was not dead
+abbrev pub TriedCounts : Result ℕ MakeFault → ℕ → ℕ → Type 0
+TriedCounts (Err make.Media) media media' = Rose media media'
+TriedCounts (Err make.Dead) media media' = ⊥
+TriedCounts _ media media' = media' ≡ media
+
+-- the same where the records may not have been taken
 abbrev pub MakeCounts : Result (Result ℕ MakeFault) CoreFault → ℕ → ℕ → Type 0
-MakeCounts (Ok (Err make.Media)) media media' = Rose media media'
-MakeCounts (Ok (Err make.Dead)) media media' = ⊥
+MakeCounts (Ok tried) media media' = TriedCounts tried media media'
 MakeCounts (Err core.Media) media media' = Rose media media'
-MakeCounts _ media media' = media' ≡ media
+MakeCounts (Err fault) media media' = media' ≡ media

@@ -6,7 +6,7 @@ ghost use Rattle.mars_core.specs.Making.{MakesTable};
 ghost use Rattle.texts.specs.Written.{Wrote, IsWritten};
 ghost use Rattle.mars_shell.specs.Forms.{index_at};
 ghost use Rattle.mars_shell.specs.Statuses.{Counts, IsEarly, IsRefusal};
-ghost use Rattle.mars_shell.specs.Tables.{MakeCounts, MakeOutcome, Tells, table_line};
+ghost use Rattle.mars_shell.specs.Tables.{MakeCounts, MakeOutcome, Tells, TellsTried, TriedCounts, table_line};
 
 use crate::ending::write_ended;
 use crate::forms::find_form;
@@ -87,9 +87,23 @@ fn tell_made<K: Sink>(
     ensures counts { (source media media' : ℕ) → MakeCounts made media media' → Counts result source source (K.faults sink.old) (K.faults sink.new) media media' }
 {
     match made {
-        Ok(Ok(number)) => tell_table(sink, number, name),
-        Ok(Err(fault)) => made_status(fault, name),
+        Ok(tried) => tell_tried(sink, tried, name),
         Err(fault) => served_status(Err(fault)),
+    }
+}
+
+// The same once the records were taken.
+fn tell_tried<K: Sink>(sink: &mut K, tried: Result<u8, MakeFault>, name: &Name) -> Status
+    ensures told { Wrote K.tells (K.written sink.old) (K.written sink.new) (K.faults sink.old) (K.faults sink.new) (λ cut text. TellsTried name.now tried result cut text) }
+    ensures no_usage { result ≡ Status.Usage → ⊥ }
+    ensures late { IsEarly result → ⊥ }
+    ensures refused { IsRefusal result → sink.new ≡ sink.old }
+    ensures untold { (result ≡ Status.MediaFault) ⊎ (result ≡ Status.NoMemory) → sink.new ≡ sink.old }
+    ensures counts { (source media media' : ℕ) → TriedCounts tried media media' → Counts result source source (K.faults sink.old) (K.faults sink.new) media media' }
+{
+    match tried {
+        Ok(number) => tell_table(sink, number, name),
+        Err(fault) => made_status(fault, name),
     }
 }
 

@@ -97,6 +97,6 @@ pub fn run<
             over_records(rt.alloc(), source, sink, media, numbers.writing, &work)
         }
         Ok(Words::Format(numbers)) => run_format(sink, media, &numbers),
-        Ok(Words::Make(name)) => run_make(rt.alloc(), source, sink, media, &name),
+        Ok(Words::Make(ref name)) => run_make(rt.alloc(), source, sink, media, name),
     }
 }

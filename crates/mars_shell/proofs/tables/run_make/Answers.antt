@@ -33,6 +33,7 @@ returns-clause-unread g c = c.open_for.ensures.unread refl
 
 pub returns-clause-ran : goal.returns-clause-ran
 returns-clause-ran g c =
+    let met = (g.met.M.Media g.world.𝓛 g.world.𝓜 g.world.𝓡 ((λ s x. x), (λ x. x), (λ x. x), λ x. x)) in
     let media = g.M.Media in
     let old = media.view c.args.media in
     let new = media.view c.into_media.result in
@@ -43,7 +44,7 @@ returns-clause-ran g c =
       text = said.text;
       wrote = said.wrote;
       counts = said.counts;
-      holds = λ told. told_outcome media.tells told old (g.met.M.Media.only_now c.args.media) _ c.in-Ok.ensures.attached c.in-Ok.ensures.keeps _ new c.into_media.ensures (g.met.M.Media.counts_now c.into_media.result) c.args.name.now c.make_over-made.result.0
+      holds = λ told. told_outcome media.tells told old (met.only_now c.args.media) _ c.in-Ok.ensures.attached c.in-Ok.ensures.keeps _ new c.into_media.ensures (met.counts_now c.into_media.result) c.args.name.now c.make_over-made.result.0
           made.makes made.cause made.left c.tell_made.result said.cut said.text said.holds;
     }
 
