@@ -13,6 +13,7 @@ use Rattle.eaw_face.specs.State.{State, Logs, listed, with_log}
 use Rattle.eaw_face.specs.StoreView.{StoreView, IsLive, LeavesOnly}
 use Rattle.eaw_face.specs.Command.{log_write, commit, atomic_write, after}
 use Rattle.eaw_face.specs.Causes.{IsAlive, fit, Cause}
+use Rattle.eaw_face.proofs.Mirroring.{sent_then}
 use Rattle.eaw_face.specs.Does.{Becomes, IsEither, Does}
 use Rattle.eaw_face.specs.declared.fault.EawFault.{EawFault}
 use Rattle.eaw_face.specs.declared.fault.EawFault.TheVariants.{UnknownTid, LogFull, Media, Dead}
@@ -91,8 +92,8 @@ module _ (tells : Bool) (Opens : Shape → List ℕ → List ℕ → Type 0) (ol
           done.state told ∙ (λ i. record { bytes = written told i; logs = logs i });
     }
 
-  pub atomic : (r : Result (Unit {0}) EawFault) → Does tells (Opens mid.shape) (commit t) mid new r → Does tells (Opens old.shape) (atomic_write t addr bytes) old new r
-  atomic (Ok x) second = record {
+  pub atomic : mid.sending.sent ≡ old.sending.sent → (r : Result (Unit {0}) EawFault) → Does tells (Opens mid.shape) (commit t) mid new r → Does tells (Opens old.shape) (atomic_write t addr bytes) old new r
+  atomic still (Ok x) second = record {
     shape = second.shape ∙ first.shape;
     later = omega (arith, first.later, second.later);
     cause = (alive, tt, room);
@@ -101,10 +102,12 @@ module _ (tells : Bool) (Opens : Shape → List ℕ → List ℕ → Type 0) (ol
     dies = λ is. cc;
     others = λ u other. second.others u other ∙ first.others u other;
     time = time (Ok x) second;
+    mirrors = sent_then tells old mid new first.mirrors second.mirrors;
+    one = omega (arith, second.one, still);
   }
-  atomic (Err (UnknownTid u)) second = absurd (second.cause.1.0 mid_live)
-  atomic (Err (LogFull g h n)) second = absurd second.cause.2
-  atomic (Err Media) second = record {
+  atomic still (Err (UnknownTid u)) second = absurd (second.cause.1.0 mid_live)
+  atomic still (Err (LogFull g h n)) second = absurd second.cause.2
+  atomic still (Err Media) second = record {
     shape = second.shape ∙ first.shape;
     later = omega (arith, first.later, second.later);
     cause = (alive, tt, room, omega (arith, first.later, second.cause.3));
@@ -113,8 +116,10 @@ module _ (tells : Bool) (Opens : Shape → List ℕ → List ℕ → Type 0) (ol
     dies = second.dies;
     others = λ u other. second.others u other ∙ first.others u other;
     time = time (Err Media) second;
+    mirrors = sent_then tells old mid new first.mirrors second.mirrors;
+    one = omega (arith, second.one, still);
   }
-  atomic (Err Dead) second = absurd (false≢true (sym mid_alive ∙ second.cause))
+  atomic still (Err Dead) second = absurd (false≢true (sym mid_alive ∙ second.cause))
 
 -- nothing is logged if there are no ranges
 pub none_ranges : {A B C : Type 0} (f : List A → List B) (h : List A → List C) (o : Option (List A)) → option_map f o ≡ None → option_map h o ≡ None
@@ -138,6 +143,8 @@ write_fails tells Opens old new t addr bytes free small fault does = record {
   dies = λ is. does.dies (ap (λ (f : EawFault). let r : Result ℕ EawFault = Err f in r) (same is));
   others = does.others;
   time = λ told alive. weaker (λ image either. ⊎_elim (λ before. inl before) (λ before. inl before) either) (does.time told alive);
+  mirrors = does.mirrors;
+  one = does.one;
 }
   where
     none : listed (old.ranges t) ≡ []

@@ -1,5 +1,5 @@
 -- What a command does, from what its calls do.
-use Rattle.std.proofs.Common.{◌≡◌, ℕ, ◌<◌, ◌≤◌, Bool, true, false, List, length, get_or, Result, Ok, Err, refl, sym, ◌∙◌, ap, subst, arith}
+use Rattle.std.proofs.Common.{◌≡◌, ℕ, ◌+◌, ◌<◌, ◌≤◌, Bool, true, false, List, length, get_or, Result, Ok, Err, refl, sym, ◌∙◌, ap, subst, arith}
 use Rattle.std.specs.Prelude.{None, IsTrue, OnOk, OnErr, IsErrAnd, is_err, slice_get, Some}
 use Rattle.std.proofs.lemmas.Bool.{false≢true}
 use Rattle.mars_base.specs.Causes.{Rose}
@@ -11,6 +11,9 @@ use Rattle.eaw_face.specs.StoreView.{StoreView, IsLive, LeavesOnly}
 use Rattle.eaw_face.specs.Command.{commit_group, Command, after}
 use Rattle.eaw_face.specs.Causes.{IsAlive, known, IsNumberOf, room_for, Cause}
 use Rattle.eaw_face.proofs.Others.{others_after}
+use Rattle.eaw_face.proofs.Mirroring.{none_sent}
+use Rattle.eaw_face.specs.Sending.{Sending}
+use Rattle.eaw_face.specs.Mirroring.{Mirrors}
 use Rattle.eaw_face.specs.Does.{Becomes, IsEither, Does}
 use Rattle.eaw_face.specs.declared.fault.EawFault.{EawFault}
 use Rattle.eaw_face.specs.declared.fault.EawFault.TheVariants.{UnknownTid, LogFull, Media, Dead}
@@ -20,8 +23,15 @@ use Rattle.eaw_device.specs.Logs.{IsKept, IsHeld}
 use Rattle.eaw_device.specs.Sound.{IsSound, IsTold, LacksLog, LacksGroup, view_of}
 use Rattle.eaw_device.proofs.Tables.{found_log, live_there}
 
-module _ (tells : Bool) (Opens : List ℕ → List ℕ → Type 0) (command : Command) (old new : StoreView) (shape : new.shape ≡ old.shape) (later : old.faults ≤ new.faults)
+module _ (tells : Bool) (Opens : List ℕ → List ℕ → Type 0) (command : Command) (old new : StoreView) (shape : new.shape ≡ old.shape) (still : (new.sending ≡ old.sending) × (new.is_dead ≡ false → old.sending.mirrors ≡ false)) (later : old.faults ≤ new.faults)
     (time : IsTrue tells → old.is_dead ≡ false → LeavesOnly (IsEither Opens old.state.bytes (after command old.state).bytes) old new) where
+  -- nothing was sent
+  mirrors : IsAlive old → Mirrors tells old new
+  mirrors alive = none_sent tells old new shape still.0 (λ _. alive) (λ told mirrors fine. absurd (false≢true (sym (still.1 fine) ∙ mirrors)))
+
+  sent : new.sending.sent ≤ old.sending.sent + 1
+  sent = omega (arith, ap (λ (s : Sending). s.sent) still.0)
+
   -- a command that is done
   pub done : {T : Type 0} (x : T) → new.faults ≡ old.faults → IsAlive old → known old command None → room_for old command None → Becomes tells command old new → (let r : Result T EawFault = Ok x in Does tells Opens command old new r)
   done x kept alive knows room becomes = record {
@@ -33,6 +43,8 @@ module _ (tells : Bool) (Opens : List ℕ → List ℕ → Type 0) (command : Co
     dies = λ is. cc;
     others = λ u other. ap (λ (ranges : Logs (ℕ × ℕ)). ranges u) becomes.ranges ∙ others_after command old.ranges u other;
     time = time;
+    mirrors = mirrors alive;
+    one = sent;
   }
 
   -- a command in which the medium failed
@@ -46,6 +58,8 @@ module _ (tells : Bool) (Opens : List ℕ → List ℕ → Type 0) (command : Co
     dies = λ is. dead;
     others = others;
     time = time;
+    mirrors = mirrors alive;
+    one = sent;
   }
 
 -- a command that is refused, by a fault other than the medium's
@@ -61,6 +75,8 @@ refused {T} tells Opens command store fault cause other (Err e) is = record {
   dies = λ dead. absurd (other (sym is ∙ same dead));
   others = λ u apart. refl;
   time = λ told fine. stays store.moment store.left_since (IsEither Opens store.state.bytes (after command store.state).bytes);
+  mirrors = none_sent tells store store refl refl (λ alive. alive) (λ told mirrors alive. refl);
+  one = omega arith;
 }
   where
     same : (let r : Result T EawFault = Err e in let s : Result T EawFault = Err Media in r ≡ s) → e ≡ Media

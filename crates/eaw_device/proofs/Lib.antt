@@ -14,6 +14,7 @@ pub mod Alone
 pub mod Members
 pub mod Staged
 pub mod Tables
+pub mod Steady
 pub mod Sure
 pub mod Doing
 pub mod Cutting

@@ -24,6 +24,8 @@ use Rattle.eaw_face.specs.StoreView.{StoreView, LeavesOnly}
 use Rattle.eaw_face.specs.Command.{Command, after, log_write, ranges_after}
 use Rattle.eaw_face.specs.Causes.{Cause, IsAlive, fit, known, room_for}
 use Rattle.eaw_face.specs.Does.{Does, IsEither}
+use Rattle.eaw_face.specs.Sending.{Sending}
+use Rattle.eaw_face.proofs.Mirroring.{none_sent, sent_then}
 use Rattle.eaw_face.specs.declared.fault.EawFault.{EawFault}
 use Rattle.eaw_face.specs.declared.fault.EawFault.TheVariants.{Dead, LogFull, Media, UnknownTid}
 use Rattle.eaw_device.specs.declared.log.Log.{Log}
@@ -39,9 +41,9 @@ use Rattle.eaw_device.proofs.Doing.{failed}
 use Rattle.eaw_device.proofs.Tables.{held_kept, others_kept}
 
 -- a command after a quiet step is that command, where its cause stood before the step too
-pub quiet_then : {T : Type 0} (tells : Bool) (Opens : List ℕ → List ℕ → Type 0) (command : Command) (old mid new : StoreView) (x : Unit {0}) → (let ok : Result (Unit {0}) EawFault = Ok x in IsQuiet tells Opens old mid ok)
+pub quiet_then : {T : Type 0} (tells : Bool) (Opens : List ℕ → List ℕ → Type 0) (command : Command) (old mid new : StoreView) (x : Unit {0}) → IsAlive old → (let ok : Result (Unit {0}) EawFault = Ok x in IsQuiet tells Opens old mid ok)
     → (r : Result T EawFault) → Cause old command new.faults r → Does tells Opens command mid new r → Does tells Opens command old new r
-quiet_then tells Opens command old mid new x quiet r cause does = record {
+quiet_then tells Opens command old mid new x was_alive quiet r cause does = record {
   shape = does.shape ∙ quiet.shape;
   later = omega (arith, quiet.later, does.later);
   cause = cause;
@@ -56,19 +58,21 @@ quiet_then tells Opens command old mid new x quiet r cause does = record {
   time = λ told alive.
       then (weaker (λ image opens. inl opens) (quiet.time told))
       (subst (λ (s : State). LeavesOnly (IsEither Opens s.bytes (after command s).bytes) mid new) (quiet.state told) (does.time told quiet.alive));
+  mirrors = sent_then tells old mid new (none_sent tells old mid quiet.shape quiet.sending (λ _. was_alive) (λ told mirrors alive. ap (λ (s : State). s.bytes) (quiet.state told))) does.mirrors;
+  one = omega (arith, does.one, ap (λ (s : Sending). s.sent) quiet.sending);
 }
 
 -- a command of which that step fails
 pub quiet_fails : {T : Type 0} (tells : Bool) (Opens : List ℕ → List ℕ → Type 0) (command : Command) (old new : StoreView) (fault : EawFault) → (let bad : Result (Unit {0}) EawFault = Err fault in IsQuiet tells Opens old new bad)
     → IsAlive old → known old command None → room_for old command None → (let r : Result T EawFault = Err Media in Does tells Opens command old new r)
-quiet_fails {T} tells Opens command old new fault quiet alive knows room = failed tells Opens command old new quiet.shape quiet.later (λ told fine. weaker (λ image opens. inl opens) (quiet.time told)) {T = T}
+quiet_fails {T} tells Opens command old new fault quiet alive knows room = failed tells Opens command old new quiet.shape (quiet.sending, λ fine. absurd (false≢true (sym fine ∙ quiet.failed.1))) quiet.later (λ told fine. weaker (λ image opens. inl opens) (quiet.time told)) {T = T}
     alive knows room quiet.failed.2 quiet.failed.1 (λ u other. ap (λ ranges. ranges u) quiet.ranges)
 
 -- a write into a log after a quiet step is that write: what it asks for stood before the step too
 pub quiet_write : {T : Type 0} (tells : Bool) (Opens : Shape → List ℕ → List ℕ → Type 0) (t addr : ℕ) (bytes : List ℕ) (old mid new : StoreView) → IsAlive old → (x : Unit {0}) → (let ok : Result (Unit {0}) EawFault = Ok x in IsQuiet tells (Opens old.shape) old mid ok)
     → (r : Result T EawFault) → Does tells (Opens mid.shape) (log_write t addr bytes) mid new r → Does tells (Opens old.shape) (log_write t addr bytes) old new r
 quiet_write {T} tells Opens t addr bytes old mid new alive x quiet r does =
-    quiet_then tells (Opens old.shape) (log_write t addr bytes) old mid new x quiet r (cause_before r does.cause) (subst (λ (s : Shape). Does tells (Opens s) (log_write t addr bytes) mid new r) quiet.shape does)
+    quiet_then tells (Opens old.shape) (log_write t addr bytes) old mid new x alive quiet r (cause_before r does.cause) (subst (λ (s : Shape). Does tells (Opens s) (log_write t addr bytes) mid new r) quiet.shape does)
   where
     known_before : (u : Option ℕ) → known mid (log_write t addr bytes) u → known old (log_write t addr bytes) u
     known_before u knows = subst (λ (s : Shape). test (t < s.numbers) t u) quiet.shape knows
@@ -125,6 +129,7 @@ module _ (tells : Bool) (old new : View) (shape : Shape) (logs : List Log) (late
   quiet_done kept whole = record {
     shape = refl;
     ranges = refl;
+    sending = refl;
     later = back.does.does.cause.later;
     kept = kept;
     alive = alive;
@@ -140,6 +145,7 @@ module _ (tells : Bool) (old new : View) (shape : Shape) (logs : List Log) (late
   quiet_failed rose = record {
     shape = refl;
     ranges = refl;
+    sending = refl;
     later = back.does.does.cause.later;
     kept = tt;
     alive = tt;

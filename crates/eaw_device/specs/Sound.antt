@@ -16,6 +16,7 @@ use Rattle.deferred_parts.specs.Shown.{entries_of}
 use Rattle.deferred_parts.specs.Turns.{has_some}
 use Rattle.late_data.specs.declared.commits.LateData.{LateData}
 use Rattle.late_data.specs.Tied.{IsReady, IsTied}
+use Rattle.eaw_face.specs.Sending.{silent}
 use Rattle.eaw_face.specs.StoreView.{StoreView, IsLive}
 use Rattle.eaw_face.specs.Command.{commit_group}
 use Rattle.eaw_face.specs.Causes.{known}
@@ -79,6 +80,7 @@ view_of media shape logs late is_dead = record {
   faults = media.faults;
   moment = media.moment;
   left_since = media.left_since;
+  sending = silent;
 }
 
 -- why a commit of these numbers has no logs to work on

@@ -425,4 +425,14 @@ impl<M: Media, W: WriteBack> EawStore for Eaw<M, W> {
         let entry = self.logs[usize::from(tid)].entries[pos as usize];
         (entry.addr, entry.len)
     }
+
+    fn first_frame(&self) -> &[u8] {
+        &[]
+    }
+
+    fn drop_frame(&mut self) {}
+
+    fn link_down(&self) -> bool {
+        false
+    }
 }

@@ -4,10 +4,11 @@ use Rattle.mars_base.specs.Moments.{Elapses}
 use Rattle.array_shape.specs.declared.shape.Shape.{Shape}
 use Rattle.array_shape.specs.Places.{IsPlaced}
 use Rattle.eaw_face.specs.State.{Logs, State, listed}
+use Rattle.eaw_face.specs.Sending.{Sending}
 
 -- Its shape; its data and logs; for each live number the ranges of its parts; whether an earlier call met a fault of the
 -- medium; how often the medium has failed; the moment; whether a loss of power at this moment or a later one might have left
--- this image.
+-- this image; and what it has sent of its commits.
 pub record StoreView : Type 1 where
   pub shape : Shape
   pub state : State
@@ -16,6 +17,7 @@ pub record StoreView : Type 1 where
   pub faults : ℕ
   pub moment : ℕ
   pub left_since : ℕ → List ℕ → Type 0
+  pub sending : Sending
 
 -- how many parts a number has logged
 abbrev pub log_len : StoreView → ℕ → ℕ

@@ -1,5 +1,5 @@
 // The commands of an array, as the layers above see them.
-ghost use Rattle.std.specs.Prelude.{◌≡◌, ◌≢◌, ◌+◌, ◌≤◌, ◌<◌, true, false, Bool, List, ℕ, take, drop, length, Option, None, is_some, IsTrue, IfOk, IfErr, OnOk, OnErr, IsErrOf};
+ghost use Rattle.std.specs.Prelude.{◌≡◌, ◌≢◌, ◌+◌, ◌≤◌, ◌<◌, true, false, Bool, List, [], ℕ, slice_index_or, take, drop, length, Option, None, is_some, IsTrue, IfOk, IfErr, OnOk, OnErr, IsErrOf};
 ghost use Rattle.std.specs.Option.{option_map};
 ghost use Rattle.mars_base.specs.Bytes.{range};
 ghost use Rattle.mars_base.specs.Costs.{Costs};
@@ -10,6 +10,7 @@ ghost use Rattle.array_shape.specs.NumberSet.{members};
 ghost use Rattle.eaw_face.specs.State.{listed, group_log, range_at, part_at, count_on};
 ghost use Rattle.eaw_face.specs.Command.{Command, log_write, log_edit, commit, commit_group, abort, nested_top, partial_abort, atomic_write, log_read, read};
 ghost use Rattle.eaw_face.specs.StoreView.{StoreView, IsLive, ArePlaced, LeavesSome, log_len};
+ghost use Rattle.eaw_face.specs.Mirroring.{GivesUp};
 ghost use Rattle.eaw_face.specs.Does.{Does};
 
 use crate::fault::EawFault;
@@ -111,13 +112,15 @@ pub trait EawStore {
         ensures late { IsTrue defers → OnOk result (0 < waiting self.new) }
         ensures refused { IfErr result (λ fault. fault ≢ EawFault.Media → self.new ≡ self.old) };
 
-    /// Reads the part at position `pos` of the log into the front of the buffer. Returns its address and its length in bytes.
+    /// Reads the part at position `pos` of the log into the front of the buffer. Returns its address and its length in bytes. What each
+    /// command costs stays as it was.
     fn log_read(&mut self, tid: u8, pos: u32, buf: &mut [u8; 512]) -> Result<(u64, u16), EawFault>
         requires { IsLive (view self.old) tid → pos < log_len (view self.old) tid }
         ensures does { Does tells (opens (view self.old).shape) (log_read tid) (view self.old) (view self.new) result }
         ensures part { IfOk result (λ part. part ≡ range_at (listed ((view self.old).ranges tid)) pos) }
         ensures bytes { IsTrue tells → IfOk result (λ part. take part.1 buf.new ≡ (part_at (listed ((view self.old).state.logs tid)) pos).1) }
-        ensures costs { Costs tells (calls self.old (log_read tid)) (view self.old).moment (view self.new).moment result }
+        ensures costs { Costs true (calls self.old (log_read tid)) (view self.old).moment (view self.new).moment result }
+        ensures steady { OnOk result ((command : Command) → calls self.new command ≡ calls self.old command) }
         ensures refused { IfErr result (λ fault. fault ≢ EawFault.Media → self.new ≡ self.old) }
         ensures unread { IfErr result (λ fault. fault ≢ EawFault.Media → buf.new ≡ buf.old) };
 
@@ -129,12 +132,13 @@ pub trait EawStore {
         ensures costs { Costs tells (calls self.old (log_edit tid pos at bytes.now)) (view self.old).moment (view self.new).moment result }
         ensures refused { IfErr result (λ fault. fault ≢ EawFault.Media → self.new ≡ self.old) };
 
-    /// Fills the buffer with committed data from `addr` on.
+    /// Fills the buffer with committed data from `addr` on. What each command costs stays as it was.
     fn read(&mut self, addr: u64, buf: &mut [u8]) -> Result<(), EawFault>
         requires { addr + length buf.old ≤ data_len (view self.old).shape }
         ensures does { Does tells (opens (view self.old).shape) (read addr (length buf.old)) (view self.old) (view self.new) result }
         ensures bytes { IsTrue tells → OnOk result (buf.new ≡ range (view self.old).state.bytes addr (length buf.old)) }
-        ensures costs { Costs tells (calls self.old (read addr (length buf.old))) (view self.old).moment (view self.new).moment result }
+        ensures costs { Costs true (calls self.old (read addr (length buf.old))) (view self.old).moment (view self.new).moment result }
+        ensures steady { OnOk result ((command : Command) → calls self.new command ≡ calls self.old command) }
         ensures refused { IfErr result (λ fault. fault ≢ EawFault.Media → self.new ≡ self.old) }
         ensures unread { IfErr result (λ fault. fault ≢ EawFault.Media → buf.new ≡ buf.old) };
 
@@ -162,6 +166,20 @@ pub trait EawStore {
         requires tid { tid < (view self.now).shape.numbers }
         requires pos { pos < log_len (view self.now) tid }
         ensures { result ≡ range_at (listed ((view self.now).ranges tid)) pos };
+
+    /// The oldest frame that was sent and is not yet given up. It is empty if there is none.
+    fn first_frame(&self) -> &[u8]
+        ensures { IsTrue (view self.now).sending.told → result.now ≡ slice_index_or (view self.now).sending.frames 0 [] };
+
+    /// Gives that frame up. If there is none, it does nothing.
+    fn drop_frame(&mut self)
+        ensures gives_up { GivesUp (view self.old) (view self.new) }
+        ensures steady { (command : Command) → calls self.new command ≡ calls self.old command }
+        ensures waiting { waiting self.new ≡ waiting self.old };
+
+    /// Whether the sending has ended. A store that does not mirror never sends, and answers `false`.
+    fn link_down(&self) -> bool
+        ensures { result ≡ (view self.now).sending.is_down };
 
     /// The numbers of its shape are in range.
     ghost shaped: { (s : Self) → IsShape (view s).shape };

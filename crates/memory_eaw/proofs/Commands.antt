@@ -7,7 +7,7 @@ use Rattle.array_shape.specs.Parts.{parts_of_write}
 use Rattle.array_shape.specs.Logged.{Part, applied, ranges_of}
 use Rattle.eaw_face.specs.State.{State, listed, with_log, edited, range_at}
 use Rattle.eaw_face.specs.StoreView.{IsLive, LeavesOnly}
-use Rattle.eaw_face.specs.Command.{Command, log_write, log_edit, commit, abort, nested_top, partial_abort, atomic_write, after}
+use Rattle.eaw_face.specs.Command.{Command, log_write, log_edit, commit, abort, nested_top, partial_abort, atomic_write, after, ranges_after}
 use Rattle.eaw_face.specs.Causes.{IsAlive, fit}
 use Rattle.eaw_face.specs.Does.{Does, IsEither}
 use Rattle.memory_eaw.specs.Kept.{Kept, changed, MustFailChange}
@@ -17,7 +17,7 @@ use Rattle.memory_eaw.specs.Steps.{log_at, relogged, called_plain, changed_plain
 use Rattle.memory_eaw.specs.Calls.{IsCounted, is_change, FailsAs, kept_after, Counts}
 use Rattle.memory_eaw.proofs.Views.{is_live_from}
 use Rattle.memory_eaw.proofs.Time.{time_same, time_changed, time_committed, bytes-committed, logs-committed}
-use Rattle.memory_eaw.proofs.Doing.{answer, done, does_done, becomes_written, becomes_freed, becomes_edited, becomes_cut, parts_is, log_len_is}
+use Rattle.memory_eaw.proofs.Doing.{answer, done, does_done, May, becomes_same, becomes_written, becomes_freed, becomes_edited, becomes_cut, parts_is, log_len_is}
 use Rattle.memory_eaw.proofs.Counting.{counts_done, counts_idle}
 
 -- what a commit of parts leaves alone
@@ -148,3 +148,11 @@ pub parts-relogged : (old new : Plain) (t : ℕ) (is_live : Bool) (parts : List 
 parts-relogged old new t is_live parts lt is =
     ap (λ (p : Plain). (log_at p.logs t).parts) is
     ∙ ap (λ (log : Log). log.parts) (get_or-set_same old.logs t (record { is_live = is_live; parts = parts; room = (log_at old.logs t).room }) (record { is_live = false; parts = []; room = 0 }) lt)
+
+-- a command that changes nothing
+pub does_looked : {T : Type 0} (x : T) (old new : Plain) (command : Command) → May (view_of old) command → new ≡ called_plain old → ranges_after command (view_of old).ranges ≡ (view_of old).ranges → after command (view_of old).state ≡ (view_of old).state
+    → Does true IsData command (view_of old) (view_of new) (answer x)
+does_looked x old new command may is ranges state =
+    does_done x old new command may (ap (λ (p : Plain). p.shape) is) (omega (arith, ap (λ (p : Plain). p.kept.faults) is))
+    (becomes_same old new command (ap (λ (p : Plain). p.is_dead) is ∙ may.0) (ap (λ (p : Plain). p.bytes) is) (ap (λ (p : Plain). p.logs) is) ranges state)
+    (time_same old new (IsEither IsData old.bytes (after command (view_of old).state).bytes) (ap (λ (p : Plain). p.bytes) is) (ap (λ (p : Plain). p.kept.past) is) (omega (arith, ap (λ (p : Plain). p.kept.moment) is)))

@@ -1,5 +1,5 @@
 -- A command that is done: what it makes of data and logs is what the model says.
-use Rattle.std.proofs.Common.{◌≡◌, ℕ, ◌+◌, ◌<◌, ◌≤◌, Bool, true, false, cond, List, [], ◌++◌, length, set, take, Result, Ok, refl, sym, ◌∙◌, ap, arith}
+use Rattle.std.proofs.Common.{◌≡◌, ℕ, ◌+◌, ◌<◌, ◌≤◌, Bool, true, false, cond, List, [], ◌++◌, length, set, take, Result, Ok, Err, refl, sym, ◌∙◌, ap, arith}
 use Rattle.std.specs.Prelude.{Option, Some, None}
 use Rattle.std.specs.Option.{option_map}
 use Rattle.array_shape.specs.Parts.{parts_of_write}
@@ -7,10 +7,14 @@ use Rattle.array_shape.specs.Logged.{Part, ranges_of}
 use Rattle.eaw_face.specs.State.{Logs, State, listed, with_log, edited, range_at}
 use Rattle.eaw_face.specs.StoreView.{StoreView, LeavesOnly, log_len}
 use Rattle.eaw_face.specs.Command.{Command, log_write, log_edit, after, ranges_after}
-use Rattle.eaw_face.specs.Causes.{IsAlive, known, room_for}
+use Rattle.eaw_face.specs.Causes.{IsAlive, known, room_for, Cause}
 use Rattle.eaw_face.specs.Does.{Becomes, Does, IsEither}
 use Rattle.eaw_face.specs.declared.fault.EawFault.{EawFault}
+use Rattle.eaw_face.specs.declared.fault.EawFault.TheVariants.{Media}
+use Rattle.mars_base.proofs.Going.{stays}
 use Rattle.eaw_face.proofs.Others.{others_after}
+use Rattle.eaw_face.proofs.Mirroring.{none_sent}
+use Rattle.std.proofs.lemmas.Bool.{false≢true}
 use Rattle.memory_eaw.specs.Log.{Log, log_of, logged, outline}
 use Rattle.memory_eaw.specs.Plain.{Plain, IsData, view_of, IsSound}
 use Rattle.memory_eaw.specs.Steps.{log_at}
@@ -39,7 +43,27 @@ does_done x old new command may shape faults becomes time = record {
   dies = λ is. absurd (cc is);
   others = λ u other. ap (λ (ranges : Logs (ℕ × ℕ)). ranges u) becomes.ranges ∙ others_after command (view_of old).ranges u other;
   time = λ told alive. time;
+  mirrors = none_sent true (view_of old) (view_of new) shape refl (λ _. may.0) (λ told mirrors alive. absurd (false≢true mirrors));
+  one = omega arith;
 }
+
+-- a command that is refused, by a fault other than the medium's
+pub does_refused : {T : Type 0} (store : StoreView) (command : Command) (fault : EawFault) → (let r : Result T EawFault = Err fault in Cause store command store.faults r) → (fault ≡ Media → ⊥) → (let r : Result T EawFault = Err fault in Does true IsData command store store r)
+does_refused {T} store command fault cause other = record {
+  shape = refl;
+  later = omega arith;
+  cause = cause;
+  done = tt;
+  kept = tt;
+  dies = λ is. absurd (other (same is));
+  others = λ u apart. refl;
+  time = λ told alive. stays store.moment store.left_since (IsEither IsData store.state.bytes (after command store.state).bytes);
+  mirrors = none_sent true store store refl refl (λ alive. alive) (λ told mirrors alive. refl);
+  one = omega arith;
+}
+  where
+    same : (let r : Result T EawFault = Err fault in let s : Result T EawFault = Err Media in r ≡ s) → fault ≡ Media
+    same is = cc
 
 -- data and logs are as they were
 pub becomes_same : (old new : Plain) (command : Command) → new.is_dead ≡ false → new.bytes ≡ old.bytes → new.logs ≡ old.logs → ranges_after command (view_of old).ranges ≡ (view_of old).ranges → after command (view_of old).state ≡ (view_of old).state

@@ -1,16 +1,16 @@
 -- The steps of a commit of several numbers.
-use Rattle.std.proofs.Common.{◌≡◌, ℕ, ◌+◌, ◌<◌, Bool, true, false, cond, inl, inr, ⊎_elim, List, [], ◌∷◌, ◌++◌, length, get_or, drop, refl, sym, ◌∙◌, ap, subst, arith}
-use Rattle.std.specs.Prelude.{Option, Some, None}
+use Rattle.std.proofs.Common.{◌≡◌, ℕ, ◌<◌, Bool, true, false, cond, ⊎_elim, List, [], ◌∷◌, ◌++◌, length, get_or, drop, refl, sym, ◌∙◌, ap, subst, arith}
+use Rattle.std.specs.Prelude.{None}
 use Rattle.std.specs.Option.{option_map}
 use Rattle.std.proofs.lemmas.List.{length-append, nil_from_length}
 use Rattle.array_shape.specs.Logged.{Part, applied, ranges_of}
-use Rattle.eaw_face.specs.State.{State, Logs, listed, is_one_of, with_each, with_log, group_log}
+use Rattle.eaw_face.specs.State.{Logs, listed, is_one_of, with_each, group_log}
 use Rattle.eaw_face.specs.StoreView.{StoreView, IsLive}
-use Rattle.eaw_face.specs.Command.{commit_group, after}
+use Rattle.eaw_face.specs.Command.{commit_group}
 use Rattle.eaw_face.specs.Causes.{IsAlive, known}
 use Rattle.eaw_face.specs.Does.{Does}
 use Rattle.eaw_face.proofs.Groups.{with_each_next, applied_append, group_ranges, known_there, known_whole}
-use Rattle.memory_eaw.specs.Kept.{Kept, changed, MustFailChange}
+use Rattle.memory_eaw.specs.Kept.{Kept, MustFailChange}
 use Rattle.memory_eaw.specs.Log.{Log, logged, outline}
 use Rattle.memory_eaw.specs.Plain.{Plain, IsData, view_of, IsSound}
 use Rattle.memory_eaw.specs.Steps.{log_at, relogged, committed, IsUnknownIn}
@@ -20,7 +20,7 @@ use Rattle.memory_eaw.proofs.Views.{logged-set, listed-map, parts_are, log_is}
 use Rattle.memory_eaw.proofs.Doing.{done, does_done}
 use Rattle.memory_eaw.proofs.Commands.{counts_parts, same-committed, moment-committed}
 use Rattle.eaw_face.specs.declared.fault.EawFault.{EawFault}
-use Rattle.eaw_face.specs.declared.fault.EawFault.TheVariants.{UnknownTid, Media, Dead}
+use Rattle.eaw_face.specs.declared.fault.EawFault.TheVariants.{Media}
 use Rattle.std.proofs.lemmas.Bool.{false≢true}
 use Rattle.memory_eaw.proofs.Stopping.{stop}
 use Rattle.memory_eaw.proofs.Time.{time_committed, bytes-committed, logs-committed}

@@ -2,6 +2,7 @@
 use Rattle.std.specs.Prelude.{ℕ, ◌≡◌, ◌-◌, ◌^◌, ◌<◌, ◌≤◌, ◌⊎◌, ◌↔◌, Bool, List, [], ◌∷◌, length, All}
 use Rattle.array_shape.specs.declared.shape.Shape.{Shape}
 use Rattle.array_shape.specs.Places.{data_len}
+use Rattle.eaw_face.specs.Sending.{silent}
 use Rattle.eaw_face.specs.StoreView.{StoreView}
 use Rattle.memory_eaw.specs.Kept.{Version, Kept}
 use Rattle.memory_eaw.specs.Log.{Log, IsSoundLog, logged, outline}
@@ -37,6 +38,7 @@ view_of plain = record {
   faults = plain.kept.faults;
   moment = plain.kept.moment;
   left_since = LeftSince plain.bytes plain.kept.past;
+  sending = silent;
 }
 
 -- It has the data and the logs of its shape, and no change is stamped later than now.

@@ -8,7 +8,7 @@ ghost use Rattle.array_shape.specs.Parts.{parts_of_write};
 ghost use Rattle.array_shape.specs.Logged.{applied, ranges_of};
 ghost use Rattle.eaw_face.specs.State.{listed, group_log, with_each, edited, range_at, part_at};
 ghost use Rattle.eaw_face.specs.StoreView.{IsLive, log_len};
-ghost use Rattle.eaw_face.specs.Command.{log_write, log_edit, commit, commit_group, abort, nested_top, partial_abort, atomic_write, log_read, read};
+ghost use Rattle.eaw_face.specs.Command.{Command, log_write, log_edit, commit, commit_group, abort, nested_top, partial_abort, atomic_write, log_read, read};
 ghost use Rattle.eaw_face.specs.Does.{Does};
 ghost use Rattle.eaw_face.specs.Causes.{fit, known};
 ghost use Rattle.memory_eaw.specs.Kept.{fresh_kept, MustFail, MustFailChange};
@@ -480,6 +480,7 @@ impl EawStore for MemoryEaw {
         ensures part { IfOk result (λ part. part ≡ range_at (listed ((shown self.old).ranges tid)) pos) }
         ensures bytes { IfOk result (λ part. take part.1 buf.new ≡ (part_at (listed ((shown self.old).state.logs tid)) pos).1) }
         ensures costs { Costs true (plain_calls (log_read tid) (shown self.old)) (shown self.old).moment (shown self.new).moment result }
+        ensures steady { OnOk result ((command : Command) → plain_calls command (shown self.new) ≡ plain_calls command (shown self.old)) }
         ensures refused { IfErr result (λ fault. fault ≢ EawFault.Media → self.new ≡ self.old) }
         ensures unread { IfErr result (λ fault. fault ≢ EawFault.Media → buf.new ≡ buf.old) }
         ensures calls { Counts (log_read tid) (shown self.old) (kept_of self.old) (kept_of self.new) result }
@@ -509,6 +510,7 @@ impl EawStore for MemoryEaw {
         ensures does { Does true IsData (read addr (length buf.old)) (shown self.old) (shown self.new) result }
         ensures bytes { OnOk result (buf.new ≡ range (shown self.old).state.bytes addr (length buf.old)) }
         ensures costs { Costs true (plain_calls (read addr (length buf.old)) (shown self.old)) (shown self.old).moment (shown self.new).moment result }
+        ensures steady { OnOk result ((command : Command) → plain_calls command (shown self.new) ≡ plain_calls command (shown self.old)) }
         ensures refused { IfErr result (λ fault. fault ≢ EawFault.Media → self.new ≡ self.old) }
         ensures unread { IfErr result (λ fault. fault ≢ EawFault.Media → buf.new ≡ buf.old) }
         ensures calls { Counts (read addr (length buf.old)) (shown self.old) (kept_of self.old) (kept_of self.new) result }
@@ -537,5 +539,15 @@ impl EawStore for MemoryEaw {
 
     fn part_range(&self, tid: u8, pos: u32) -> (u64, u16) {
         self.logs[usize::from(tid)].range(pos as usize)
+    }
+
+    fn first_frame(&self) -> &[u8] {
+        &[]
+    }
+
+    fn drop_frame(&mut self) {}
+
+    fn link_down(&self) -> bool {
+        false
     }
 }

@@ -15,7 +15,7 @@ use Rattle.eaw_face.specs.StoreView.{StoreView}
 use Rattle.eaw_face.specs.Causes.{fit}
 use Rattle.memory_eaw.specs.Log.{Log, IsWritePart}
 use Rattle.memory_eaw.proofs.Views.{log_is}
-use Rattle.mirror.specs.Frame.{Group}
+use Rattle.eaw_face.specs.Frame.{Group}
 use Rattle.mirror.specs.Sending.{IsSendable, group_of}
 use Rattle.mirror.specs.Mirroring.{IsCopy}
 use Rattle.mirror.proofs.Copies.{log_here}

@@ -8,7 +8,7 @@ use Rattle.array_shape.specs.Places.{IsShape}
 use Rattle.array_shape.specs.Logged.{Part, ranges_of, AllPlaced}
 use Rattle.eaw_face.specs.State.{State, Logs, listed, with_log, edited, range_at, count_on}
 use Rattle.eaw_face.specs.StoreView.{StoreView, ArePlaced}
-use Rattle.eaw_face.specs.Command.{Command, read, after}
+use Rattle.eaw_face.specs.Command.{Command, after}
 use Rattle.eaw_face.specs.Causes.{fit}
 use Rattle.eaw_face.specs.Does.{Becomes}
 use Rattle.eaw_face.proofs.Others.{with_log_other}

@@ -6,7 +6,7 @@ use Rattle.std.proofs.lemmas.List.Elements.{All-head, All-tail}
 use Rattle.byteorder.specs.Endian.{little_bytes, little_number}
 use Rattle.byteorder.specs.Numbers.{little_number-reads_back, length-bytes_low_first}
 use Rattle.array_shape.specs.Logged.{Part}
-use Rattle.mirror.specs.Frame.{Group, Frame, mark, part_bytes, group_bytes, frame_bytes, IsPart, IsGroup, IsFrame}
+use Rattle.eaw_face.specs.Frame.{Group, Frame, mark, part_bytes, group_bytes, frame_bytes, IsPart, IsGroup, IsFrame}
 use Rattle.mirror.proofs.Numbers.{first_same, rest_same}
 
 -- the first of two things that are written one behind the other is told by the bytes

@@ -10,7 +10,7 @@ use Rattle.eaw_face.specs.Command.{commit_group}
 use Rattle.eaw_face.specs.Causes.{known, fit}
 use Rattle.memory_eaw.specs.Log.{Log}
 use Rattle.memory_eaw.specs.Steps.{log_at}
-use Rattle.mirror.specs.Frame.{Group}
+use Rattle.eaw_face.specs.Frame.{Group}
 use Rattle.mirror.specs.Groups.{IsSendableAt, AreSendable, groups_of}
 use Rattle.mirror.specs.Mirroring.{IsCopy, AreLogs, AreCopies, IsFreed}
 use Rattle.mirror.proofs.Copies.{copy_sendable}

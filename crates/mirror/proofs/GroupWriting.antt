@@ -14,7 +14,7 @@ use Rattle.array_shape.specs.NumberSet.{has, numbers_from, numbers_in}
 use Rattle.array_shape.specs.Logged.{Part, AllPlaced}
 use Rattle.memory_eaw.specs.Log.{Log}
 use Rattle.memory_eaw.specs.Steps.{log_at}
-use Rattle.mirror.specs.Frame.{Group, Frame, part_bytes, group_bytes, Rise, IsGroup, IsGroupIn, IsFrameIn}
+use Rattle.eaw_face.specs.Frame.{Group, Frame, part_bytes, group_bytes, Rise, IsGroup, IsGroupIn, IsFrameIn}
 use Rattle.mirror.specs.Sending.{IsSendable, HasBytes, group_of, frame_most}
 use Rattle.mirror.specs.Groups.{IsSendableAt, AreSendable, IsListed, HasByteLog, groups_of}
 use Rattle.mirror.proofs.Sendable.{good_group, few_parts, parts_fit, short_parts}

@@ -22,7 +22,7 @@ use Rattle.eaw_face.proofs.Groups.{known_there, known_whole}
 use Rattle.eaw_face.proofs.Others.{with_log_other}
 use Rattle.eaw_face.specs.declared.fault.EawFault.{EawFault}
 use Rattle.eaw_face.specs.declared.fault.EawFault.TheVariants.{UnknownTid, LogFull, Media, Dead}
-use Rattle.mirror.specs.Frame.{Group, mark, part_bytes, group_bytes, written_by, IsPart, IsGroup, Rise, IsGroupIn, AreFrame}
+use Rattle.eaw_face.specs.Frame.{Group, mark, part_bytes, group_bytes, written_by, IsPart, IsGroup, Rise, IsGroupIn, AreFrame}
 use Rattle.mirror.specs.Applying.{HasParts, Wrote, WroteParts, logged_more, IsNewFault, IsFree, Applied, OpensEither}
 use Rattle.mirror.proofs.Logging.{listed_more}
 use Rattle.mirror.proofs.Cuts.{part_cut, list_cut}

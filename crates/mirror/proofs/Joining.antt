@@ -10,8 +10,9 @@ use Rattle.array_shape.specs.Logged.{applied}
 use Rattle.eaw_face.specs.StoreView.{StoreView, LeavesOnly}
 use Rattle.mirror.specs.declared.follow_fault.FollowFault.{FollowFault}
 use Rattle.mirror.specs.declared.follow_fault.FollowFault.TheVariants.{BadFrame, Gap, Media, Dead, NoMemory}
-use Rattle.mirror.specs.Frame.{Frame, frame_bytes, written_by, IsFrameIn}
-use Rattle.mirror.specs.Following.{AreInSequence, followed, HasNoFrame, IsBroken, Stand, IsReady, Cuts, HasFollowed, Follows, LeavesFirst, IsGap, StopCause}
+use Rattle.eaw_face.specs.Frame.{Frame, frame_bytes, written_by, IsFrameIn}
+use Rattle.eaw_face.specs.Mirroring.{AreInSequence, followed}
+use Rattle.mirror.specs.Following.{HasNoFrame, IsBroken, Stand, IsReady, Cuts, HasFollowed, Follows, LeavesFirst, IsGap, StopCause}
 
 sequence_append : (n : ℕ) (f1 f2 : List Frame) → AreInSequence n f1 → AreInSequence (n + length f1) f2 → AreInSequence n (f1 ++ f2)
 sequence_append n [] f2 one two = subst (λ (m : ℕ). AreInSequence m f2) (let same : n + 0 ≡ n = omega arith in same) two

@@ -11,6 +11,7 @@ pub mod Ways
 pub mod Writing
 pub mod Sendable
 pub mod Copies
+pub mod Over
 pub mod Mirrored
 pub mod GroupWriting
 pub mod Atomic

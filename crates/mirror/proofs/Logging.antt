@@ -20,7 +20,7 @@ use Rattle.eaw_face.specs.Causes.{Cause, fit}
 use Rattle.eaw_face.specs.Does.{IsEither, Does}
 use Rattle.eaw_face.specs.declared.fault.EawFault.{EawFault}
 use Rattle.eaw_face.specs.declared.fault.EawFault.TheVariants.{UnknownTid, LogFull, Media, Dead}
-use Rattle.mirror.specs.Frame.{part_bytes, IsPart, IsInside}
+use Rattle.eaw_face.specs.Frame.{part_bytes, IsPart, IsInside}
 use Rattle.mirror.specs.Applying.{HasParts, Wrote, WroteParts, logged_more, IsNewFault}
 use Rattle.mirror.proofs.Holding.{count_append}
 

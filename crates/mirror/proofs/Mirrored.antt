@@ -1,75 +1,69 @@
 -- What a command of a store that mirrors sends.
-use Rattle.std.proofs.Common.{◌≡◌, ◌≢◌, ℕ, ◌+◌, ◌⊎◌, inl, inr, ⊎_elim, Bool, true, false, List, [], ◌∷◌, ◌++◌, drop, Result, Ok, Err, refl, sym, ◌∙◌, ap, arith}
-use Rattle.std.specs.Prelude.{IsTrue, All, flat_map, IsErrOf, IfErr, OnOk}
+use Rattle.std.proofs.Common.{◌≡◌, ◌≢◌, ℕ, ◌+◌, ◌≤◌, inl, inr, ⊎_elim, Bool, true, false, List, [], ◌∷◌, ◌++◌, drop, Result, Ok, Err, refl, sym, ◌∙◌, ap, arith}
+use Rattle.std.specs.Prelude.{IsTrue, All, flat_map, IfErr}
 use Rattle.std.proofs.lemmas.Bool.{false≢true}
 use Rattle.std.proofs.lemmas.List.{append-nil}
 use Rattle.std.proofs.lemmas.List.Elements.{All-nil, All-cons, All-head, All-tail}
 use Rattle.std.proofs.lemmas.List.Concat.{flat_map-append}
-use Rattle.array_shape.specs.declared.shape.Shape.{Shape}
 use Rattle.array_shape.specs.Logged.{Part, applied}
 use Rattle.eaw_face.specs.State.{State, Logs, listed, group_log}
 use Rattle.memory_eaw.specs.Log.{Log}
 use Rattle.memory_eaw.specs.Steps.{log_at}
 use Rattle.eaw_face.specs.StoreView.{StoreView}
 use Rattle.eaw_face.specs.Command.{Command, after as command_after}
-use Rattle.eaw_face.specs.Does.{Becomes}
+use Rattle.eaw_face.specs.Does.{Does}
 use Rattle.eaw_face.specs.declared.fault.EawFault.{EawFault}
-use Rattle.eaw_face.specs.declared.fault.EawFault.TheVariants.{Media}
-use Rattle.mirror.specs.Frame.{Group, IsFrameIn}
-use Rattle.mirror.specs.Sending.{Sending, group_of, next_frame, Sends}
+use Rattle.eaw_face.specs.declared.fault.EawFault.TheVariants.{UnknownTid, LogFull, Media, Dead}
+use Rattle.eaw_face.specs.Frame.{Group, IsFrameIn}
+use Rattle.eaw_face.specs.Sending.{Sending}
+use Rattle.mirror.specs.Sending.{group_of, next_frame, Sends, WasSent, NotSent}
 use Rattle.mirror.specs.Groups.{groups_of}
-use Rattle.mirror.specs.Mirroring.{Adds, EndsFor, Mirrors}
+use Rattle.mirror.specs.Mirroring.{over}
+use Rattle.eaw_face.specs.Mirroring.{Mirrors, IsKindOf}
+use Rattle.eaw_face.proofs.Mirroring.{none_sent}
+use Rattle.mirror.proofs.Over.{does_over}
 
-module _ (told : Bool) (shape : Shape) (old new : Sending) where
-  -- nothing was sent, and nothing was due
-  none_added : new ≡ old → Adds told shape [] old new
-  none_added same = record {
-    good = All-nil (IsFrameIn shape);
-    sequence = tt;
-    count = let e = ap (λ (s : Sending). s.sent) same in omega (arith, e);
-    frames = λ is. ap (λ (s : Sending). s.frames) same ∙ sym (append-nil old.frames);
-  }
-
-  none_ends : new ≡ old → EndsFor [] old new
-  none_ends same = record {
-    cause = λ down. inl (ap (λ (s : Sending). s.is_down) (sym same) ∙ down);
-    goes_on = λ on. ap (λ (s : Sending). s.faults) same;
-    ended = λ down. (ap (λ (s : Sending). s.is_down) same ∙ down, refl);
-  }
-
-module _ {T : Type 0} (tells told : Bool) (old new : Sending) (before after : StoreView) where
+module _ {T : Type 0} (tells : Bool) (Opens : List ℕ → List ℕ → Type 0) (command : Command) (old new : Sending) (before after : StoreView) where
   -- a command that sends nothing, and leaves the data
-  pub quiet : (result : Result T EawFault) → new ≡ old → (IsTrue tells → (IsErrOf result Media → ⊥) → after.state.bytes ≡ before.state.bytes) → Mirrors tells told old new before after result
-  quiet result same same_data = record {
-    added = [];
-    adds = none_added told before.shape old new same;
-    ends = none_ends told before.shape old new same;
-    one = omega arith;
-    data_is = λ is up fine. same_data is fine;
-  }
+  still : (result : Result T EawFault) → Does tells Opens command before after result → new ≡ old → (IsTrue tells → after.is_dead ≡ false → after.state.bytes ≡ before.state.bytes)
+      → Does tells Opens command (over before old) (over after new) result
+  still result does same same_data = does_over tells Opens command before after old new result does
+      (none_sent tells (over before old) (over after new) does.shape same does.mirrors.lived (λ told mirrors alive. same_data told alive))
+      (omega (arith, ap (λ (s : Sending). s.sent) same))
 
   -- a command that was refused
-  pub refused : (result : Result T EawFault) → new ≡ old → (fault : EawFault) → result ≡ Err fault → (fault ≢ Media → after.state.bytes ≡ before.state.bytes) → Mirrors tells told old new before after result
-  refused result same fault is kept = quiet result same (λ told fine. kept (λ media. fine (is ∙ ap (λ (f : EawFault). let r : Result T EawFault = Err f in r) media)))
-
-  -- a command that sends nothing, with either answer
-  pub passed_on : {X : Type 0} (command : Command) (result : Result T EawFault) → new ≡ old → (command_after command before.state).bytes ≡ before.state.bytes → OnOk result (Becomes tells command before after)
-      → IfErr result (λ fault. fault ≢ Media → X) → (X → after.state.bytes ≡ before.state.bytes) → Mirrors tells told old new before after result
-  passed_on command (Ok answer) same keeps done refuses kept = quiet (Ok answer) same (λ is fine. ap (λ (s : State). s.bytes) (done.state is) ∙ keeps)
-  passed_on command (Err fault) same keeps done refuses kept = refused (Err fault) same fault refl (λ ne. kept (refuses ne))
+  pub refused : (fault : EawFault) → (let result : Result T EawFault = Err fault in Does tells Opens command before after result) → new ≡ old → (fault ≢ Media → after.state.bytes ≡ before.state.bytes)
+      → (let result : Result T EawFault = Err fault in Does tells Opens command (over before old) (over after new) result)
+  refused Media does same kept = still (Err Media) does same (λ told alive. absurd (false≢true (sym alive ∙ does.dies refl)))
+  refused Dead does same kept = still (Err Dead) does same (λ told alive. kept (λ is. cc))
+  refused (UnknownTid u) does same kept = still (Err (UnknownTid u)) does same (λ told alive. kept (λ is. cc))
+  refused (LogFull g h n) does same kept = still (Err (LogFull g h n)) does same (λ told alive. kept (λ is. cc))
 
   -- a command that is done, and sends nothing
-  pub done_quiet : (command : Command) (answer : T) → new ≡ old → (command_after command before.state).bytes ≡ before.state.bytes → Becomes tells command before after
-      → (let result : Result T EawFault = Ok answer in Mirrors tells told old new before after result)
-  done_quiet command answer same keeps done = quiet (Ok answer) same (λ is fine. ap (λ (s : State). s.bytes) (done.state is) ∙ keeps)
+  pub done_quiet : (answer : T) → (let result : Result T EawFault = Ok answer in Does tells Opens command before after result) → new ≡ old → (command_after command before.state).bytes ≡ before.state.bytes
+      → (let result : Result T EawFault = Ok answer in Does tells Opens command (over before old) (over after new) result)
+  done_quiet answer does same keeps = still (Ok answer) does same (λ told alive. ap (λ (s : State). s.bytes) (does.done.state told) ∙ keeps)
+
+  -- a command that sends nothing, with either answer
+  pub passed_on : {X : Type 0} (result : Result T EawFault) → Does tells Opens command before after result → new ≡ old → (command_after command before.state).bytes ≡ before.state.bytes
+      → IfErr result (λ fault. fault ≢ Media → X) → (X → after.state.bytes ≡ before.state.bytes) → Does tells Opens command (over before old) (over after new) result
+  passed_on (Ok answer) does same keeps refuses kept = done_quiet answer does same keeps
+  passed_on (Err fault) does same keeps refuses kept = refused fault does same (λ ne. kept (refuses ne))
 
   -- a commit that is done
-  pub mirrored : (answer : T) (groups : List Group) → Sends told before.shape groups old new → (IsTrue tells → after.state.bytes ≡ applied (flat_map (λ (g : Group). g.parts) groups) before.state.bytes)
-      → (let result : Result T EawFault = Ok answer in Mirrors tells told old new before after result)
-  mirrored answer [] sends same_data = quiet (Ok answer) sends (λ is fine. same_data is)
-  mirrored answer (g ∷ gs) sends same_data = ⊎_elim
-      (λ was. record {
+  pub mirrored : (answer : T) (groups : List Group) → (let result : Result T EawFault = Ok answer in Does tells Opens command before after result) → IsKindOf old new → old.mirrors ≡ true → Sends old.told before.shape groups old new
+      → (IsTrue tells → after.state.bytes ≡ applied (flat_map (λ (g : Group). g.parts) groups) before.state.bytes) → (let result : Result T EawFault = Ok answer in Does tells Opens command (over before old) (over after new) result)
+  mirrored answer [] does kind mirrors sends same_data = still (Ok answer) does sends (λ told alive. same_data told)
+  mirrored answer (g ∷ gs) does kind mirrors sends same_data = ⊎_elim sent not_sent sends
+    where
+      lifted : Mirrors tells (over before old) (over after new) → new.sent ≤ old.sent + 1 → (let result : Result T EawFault = Ok answer in Does tells Opens command (over before old) (over after new) result)
+      lifted mirrors one = does_over tells Opens command before after old new (Ok answer) does mirrors one
+
+      sent : WasSent old.told before.shape (g ∷ gs) old new → (let result : Result T EawFault = Ok answer in Does tells Opens command (over before old) (over after new) result)
+      sent was = lifted (record {
         added = next_frame old (g ∷ gs) ∷ [];
+        shape = does.shape;
+        kind = kind;
         adds = record {
           good = All-cons (IsFrameIn before.shape) (next_frame old (g ∷ gs)) [] was.good (All-nil (IsFrameIn before.shape));
           sequence = (refl, tt);
@@ -77,30 +71,37 @@ module _ {T : Type 0} (tells told : Bool) (old new : Sending) (before after : St
           frames = was.frames;
         };
         ends = record {
+          later = let e = was.faults in omega (arith, e);
           cause = λ down. absurd (false≢true (sym was.goes_on ∙ down));
           goes_on = λ on. was.faults;
           ended = λ down. absurd (false≢true (sym was.went_on ∙ down));
         };
-        one = omega arith;
-        data_is = λ is up fine. same_data is;
-      })
-      (λ not. record {
+        none = λ not. absurd (false≢true (sym not ∙ mirrors));
+        lived = does.mirrors.lived;
+        data_is = λ told mirrors up alive. same_data told;
+      }) (let e = was.count in omega (arith, e))
+
+      not_sent : NotSent old.told old new → (let result : Result T EawFault = Ok answer in Does tells Opens command (over before old) (over after new) result)
+      not_sent not = lifted (record {
         added = [];
+        shape = does.shape;
+        kind = kind;
         adds = record {
           good = All-nil (IsFrameIn before.shape);
           sequence = tt;
           count = let e = not.count in omega (arith, e);
-          frames = λ is. not.frames is ∙ sym (append-nil old.frames);
+          frames = λ told. not.frames told ∙ sym (append-nil old.frames);
         };
         ends = record {
-          cause = λ down. ⊎_elim (λ was. inl was.0) (λ later. ⊎_elim (λ last. inr (inl last.0)) (λ rose. inr (inr rose)) later) not.cause;
+          later = not.later;
+          cause = λ down. ⊎_elim (λ was. inl was.0) (λ then. ⊎_elim (λ last. inr (inl (let e = not.count in omega (arith, e, last.0)))) (λ rose. inr (inr rose)) then) not.cause;
           goes_on = λ on. absurd (false≢true (sym on ∙ not.ended));
           ended = λ down. (not.ended, refl);
         };
-        one = omega arith;
-        data_is = λ is up fine. absurd (false≢true (sym up ∙ not.ended));
-      })
-      sends
+        none = λ is. refl;
+        lived = does.mirrors.lived;
+        data_is = λ told mirrors up alive. absurd (false≢true (sym up ∙ not.ended));
+      }) (let e = not.count in omega (arith, e))
 
 -- what the parts of a number are as groups, and as parts again
 pub group_parts : (t : ℕ) (ps : List Part) → flat_map (λ (g : Group). g.parts) (group_of t ps) ≡ ps

@@ -8,7 +8,7 @@ use Rattle.byteorder.specs.Endian.{little_bytes}
 use Rattle.byteorder.specs.Numbers.{length-bytes_low_first}
 use Rattle.std.proofs.lemmas.List.{length-append}
 use Rattle.std.proofs.lemmas.List.Elements.{All-nil, All-cons, All-tail}
-use Rattle.mirror.specs.Frame.{IsByte}
+use Rattle.eaw_face.specs.Frame.{IsByte}
 use Rattle.mirror.specs.Rest.{NumberRest, BytesRest}
 
 byte_at-next : (j n : ℕ) → byte_at (suc j) n ≡ byte_at j (n / 256)

@@ -9,7 +9,7 @@ use Rattle.array_shape.specs.Places.{IsShape, data_len, page_count, logger_of}
 use Rattle.array_shape.specs.Logged.{Part, ranges_of}
 use Rattle.mirror.specs.declared.to_come.Groups.{Groups}
 use Rattle.mirror.specs.declared.to_come.Parts.{Parts}
-use Rattle.mirror.specs.Frame.{Group, part_bytes, group_bytes, IsPart, IsGroup, Rise, IsInside, IsGroupIn}
+use Rattle.eaw_face.specs.Frame.{Group, part_bytes, group_bytes, IsPart, IsGroup, Rise, IsInside, IsGroupIn}
 use Rattle.mirror.specs.Rest.{NumberRest, GroupsRest, IsPartsRest, NumberThen, HasRoom, AfterLength, AfterAddress, AfterPartCount, one_more, behind}
 use Rattle.mirror.proofs.Numbers.{number_first, number_whole}
 use Rattle.mirror.proofs.Holding.{room_over, free_here, none_held}

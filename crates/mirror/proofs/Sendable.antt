@@ -10,9 +10,10 @@ use Rattle.array_shape.specs.Logged.{Part, ranges_of, AllPlaced}
 use Rattle.eaw_face.specs.State.{count_on}
 use Rattle.eaw_face.specs.Causes.{fit}
 use Rattle.memory_eaw.proofs.Parts.{length-ranges_of, ranges_of-append}
-use Rattle.mirror.specs.Frame.{Group, Frame, frame_bytes, IsPart, IsGroup, IsInside, IsGroupIn, IsFrameIn}
+use Rattle.eaw_face.specs.Frame.{Group, Frame, frame_bytes, IsPart, IsGroup, IsInside, IsGroupIn, IsFrameIn}
 use Rattle.mars_base.specs.Causes.{Rose}
-use Rattle.mirror.specs.Sending.{IsSendable, HasBytes, AreShort, group_of, Sending, SenderView, sending_of, NotSent, Sends}
+use Rattle.eaw_face.specs.Sending.{Sending}
+use Rattle.mirror.specs.Sending.{IsSendable, HasBytes, AreShort, group_of, SenderView, sending_of, NotSent, Sends}
 use Rattle.mirror.proofs.Holding.{fit_most, count_append}
 
 module _ (shape : Shape) where
@@ -108,17 +109,18 @@ module _ {L : Type 0} {a b : SenderView L} (same : a ≡ b) where
 
 -- What was committed of some groups was due, from one view of a sender to a later one, and the next sequence was taken.
 module _ {L : Type 0} (frames : L → List (List ℕ)) (faults : L → ℕ) (tells : Bool) (shape : Shape) (gs : List Group) (some : 0 < length gs) (old mid : SenderView L) where
-  not_due : (new : Sending) → NotSent tells (sending_of frames faults old) new → Sends tells shape gs (sending_of frames faults old) new
+  not_due : (new : Sending) → NotSent tells (sending_of tells frames faults old) new → Sends tells shape gs (sending_of tells frames faults old) new
   not_due new not = go gs some
     where
-      go : (gs : List Group) → 0 < length gs → Sends tells shape gs (sending_of frames faults old) new
+      go : (gs : List Group) → 0 < length gs → Sends tells shape gs (sending_of tells frames faults old) new
       go [] some = absurd (omega (arith, some))
       go (g ∷ gs) some = inr not
 
   -- the sending had ended, or ends behind the last sequence
-  pub none_left : mid ≡ record old { is_down = true } → ((old.is_down ≡ true) ⊎ (2 ^ 64 ≤ old.sent + 1)) → Sends tells shape gs (sending_of frames faults old) (sending_of frames faults mid)
-  none_left is cause = not_due (sending_of frames faults mid) (record {
+  pub none_left : mid ≡ record old { is_down = true } → ((old.is_down ≡ true) ⊎ (2 ^ 64 ≤ old.sent + 1)) → Sends tells shape gs (sending_of tells frames faults old) (sending_of tells frames faults mid)
+  none_left is cause = not_due (sending_of tells frames faults mid) (record {
     ended = ap (λ (s : SenderView L). s.is_down) is;
+    later = let e : faults mid.link ≡ faults old.link = ap (λ (s : SenderView L). faults s.link) is in omega (arith, e);
     frames = λ told. ap (λ (s : SenderView L). frames s.link) is;
     count = ap (λ (s : SenderView L). s.sent) is;
     cause = ⊎_elim (λ down. inl (down, ap (λ (s : SenderView L). faults s.link) is)) (λ last. inr (inl (last, ap (λ (s : SenderView L). faults s.link) is))) cause;
@@ -128,12 +130,12 @@ module _ {L : Type 0} (frames : L → List (List ℕ)) (faults : L → ℕ) (tel
     -- the frame was sent
     pub frame_sent : mid.is_down ≡ false → (let f : Frame = record { sequence = mid.sent + 1; groups = gs } in IsFrameIn shape f) → (bytes : List ℕ)
         → (let f : Frame = record { sequence = mid.sent + 1; groups = gs } in bytes ≡ frame_bytes f) → (IsTrue tells → frames link ≡ frames mid.link ++ bytes ∷ []) → faults link ≡ faults mid.link
-        → Sends tells shape gs (sending_of frames faults old) (record { frames = frames link; faults = faults link; sent = mid.sent + 1; is_down = mid.is_down })
+        → Sends tells shape gs (sending_of tells frames faults old) (record { mirrors = true; told = tells; frames = frames link; faults = faults link; sent = mid.sent + 1; is_down = mid.is_down })
     frame_sent up good bytes is sent fault =
-        subst (λ (o : SenderView L). Sends tells shape gs (sending_of frames faults o) (record { frames = frames link; faults = faults link; sent = mid.sent + 1; is_down = mid.is_down })) same (go gs some good is)
+        subst (λ (o : SenderView L). Sends tells shape gs (sending_of tells frames faults o) (record { mirrors = true; told = tells; frames = frames link; faults = faults link; sent = mid.sent + 1; is_down = mid.is_down })) same (go gs some good is)
       where
         go : (gs : List Group) → 0 < length gs → (let f : Frame = record { sequence = mid.sent + 1; groups = gs } in IsFrameIn shape f) → (let f : Frame = record { sequence = mid.sent + 1; groups = gs } in bytes ≡ frame_bytes f)
-            → Sends tells shape gs (sending_of frames faults mid) (record { frames = frames link; faults = faults link; sent = mid.sent + 1; is_down = mid.is_down })
+            → Sends tells shape gs (sending_of tells frames faults mid) (record { mirrors = true; told = tells; frames = frames link; faults = faults link; sent = mid.sent + 1; is_down = mid.is_down })
         go [] some good is = absurd (omega (arith, some))
         go (g ∷ gs) some good is = inl (record {
           went_on = up;
@@ -145,10 +147,11 @@ module _ {L : Type 0} (frames : L → List (List ℕ)) (faults : L → ℕ) (tel
         })
 
     -- the send has failed
-    pub frame_failed : (IsTrue tells → frames link ≡ frames mid.link) → Rose (faults mid.link) (faults link)
-        → Sends tells shape gs (sending_of frames faults old) (record { frames = frames link; faults = faults link; sent = mid.sent; is_down = true })
-    frame_failed kept rose = not_due (record { frames = frames link; faults = faults link; sent = mid.sent; is_down = true }) (record {
+    pub frame_failed : (IsTrue tells → frames link ≡ frames mid.link) → Rose (faults mid.link) (faults link) → faults mid.link ≤ faults link
+        → Sends tells shape gs (sending_of tells frames faults old) (record { mirrors = true; told = tells; frames = frames link; faults = faults link; sent = mid.sent; is_down = true })
+    frame_failed kept rose later = not_due (record { mirrors = true; told = tells; frames = frames link; faults = faults link; sent = mid.sent; is_down = true }) (record {
       ended = refl;
+      later = let e : faults mid.link ≡ faults old.link = ap (λ (s : SenderView L). faults s.link) same in omega (arith, e, later);
       frames = λ told. kept told ∙ ap (λ (s : SenderView L). frames s.link) same;
       count = ap (λ (s : SenderView L). s.sent) same;
       cause = inr (inr (subst (λ (s : SenderView L). Rose (faults s.link) (faults link)) same rose));

@@ -10,7 +10,7 @@ use Rattle.array_shape.specs.declared.shape.Shape.{Shape}
 use Rattle.eaw_face.specs.StoreView.{StoreView, LeavesOnly}
 use Rattle.mirror.specs.declared.follow_fault.FollowFault.{FollowFault}
 use Rattle.mirror.specs.declared.follow_fault.FollowFault.TheVariants.{BadFrame, Gap, Media, Dead, NoMemory}
-use Rattle.mirror.specs.Frame.{mark, frame_bytes, group_bytes, IsFrameIn, AreFrame}
+use Rattle.eaw_face.specs.Frame.{mark, frame_bytes, group_bytes, IsFrameIn, AreFrame}
 use Rattle.mirror.specs.Applying.{Applied, OpensEither}
 use Rattle.mirror.specs.Following.{HasNoFrame, IsBroken, Stand, IsReady, Cuts, HasFollowed, Follows, LeavesFirst, IsGap, StopCause, AppliesNext, NotApplied, OpensNext}
 use Rattle.mirror.proofs.Grouping.{head_long}

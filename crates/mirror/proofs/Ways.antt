@@ -4,8 +4,9 @@ use Rattle.std.specs.Prelude.{All, flat_map}
 use Rattle.std.proofs.lemmas.List.Elements.{All-head, All-tail}
 use Rattle.array_shape.specs.declared.shape.Shape.{Shape}
 use Rattle.eaw_face.specs.StoreView.{StoreView}
-use Rattle.mirror.specs.Frame.{Frame, frame_bytes, IsFrameIn}
-use Rattle.mirror.specs.Following.{AreInSequence, followed, HasNoFrame, Stand, Follows, IsGap, StopsAtGap, StandsAs}
+use Rattle.eaw_face.specs.Frame.{Frame, frame_bytes, IsFrameIn}
+use Rattle.eaw_face.specs.Mirroring.{AreInSequence, followed}
+use Rattle.mirror.specs.Following.{HasNoFrame, Stand, Follows, IsGap, StopsAtGap, StandsAs}
 use Rattle.mirror.proofs.Cuts.{frame_cut}
 
 module _ (shape : Shape) where

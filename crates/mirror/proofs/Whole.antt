@@ -4,7 +4,7 @@ use Rattle.std.specs.Prelude.{◌↔◌, flat_map}
 use Rattle.std.proofs.lemmas.List.{length-append, length-drop}
 use Rattle.byteorder.specs.Endian.{little_bytes}
 use Rattle.array_shape.specs.declared.shape.Shape.{Shape}
-use Rattle.mirror.specs.Frame.{mark, group_bytes, AreFrame}
+use Rattle.eaw_face.specs.Frame.{mark, group_bytes, AreFrame}
 use Rattle.mirror.specs.Rest.{Rest, IsOpen, MarkRest, AfterSequence, AfterGroupCount, AfterPartCount, AfterAddress, AfterLength, IsPartsRest}
 use Rattle.mirror.specs.declared.place.Place.{Place}
 use Rattle.mirror.specs.declared.place.Place.TheVariants.{Mark, Sequence, GroupCount, Number, PartCount, Address, Length, Bytes, End}

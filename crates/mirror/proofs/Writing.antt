@@ -7,7 +7,7 @@ use Rattle.array_shape.specs.Logged.{Part}
 use Rattle.eaw_face.specs.State.{part_at}
 use Rattle.byteorder.specs.Endian.{little_bytes}
 use Rattle.byteorder.specs.Numbers.{length-bytes_low_first}
-use Rattle.mirror.specs.Frame.{mark, part_bytes, group_bytes}
+use Rattle.eaw_face.specs.Frame.{mark, part_bytes, group_bytes}
 use Rattle.mirror.specs.Sending.{HasBytes, group_of}
 
 -- how long a part is

@@ -8,7 +8,7 @@ use Rattle.eaw_face.specs.StoreView.{StoreView}
 use Rattle.eaw_face.specs.Causes.{fit}
 use Rattle.eaw_face.specs.declared.fault.EawFault.{EawFault}
 use Rattle.eaw_face.specs.declared.fault.EawFault.TheVariants.{Media}
-use Rattle.mirror.specs.Frame.{part_bytes, written_by, IsPart, IsInside, AreFrame}
+use Rattle.eaw_face.specs.Frame.{part_bytes, written_by, IsPart, IsInside, AreFrame}
 
 -- bytes that begin with so many parts, for which an empty log has room
 pub record HasParts (shape : Shape) (count : ℕ) (bytes : List ℕ) : Type 0 where

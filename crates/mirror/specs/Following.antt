@@ -1,23 +1,14 @@
 -- A store that follows a stream of frames.
-use Rattle.std.specs.Prelude.{ℕ, ◌≡◌, ◌≢◌, ◌+◌, ◌^◌, ◌<◌, ◌≤◌, ◌⊎◌, Bool, false, IsTrue, List, [], ◌∷◌, ◌++◌, length, flat_map, All}
+use Rattle.std.specs.Prelude.{ℕ, ◌≡◌, ◌≢◌, ◌+◌, ◌^◌, ◌<◌, ◌≤◌, ◌⊎◌, Bool, false, IsTrue, List, ◌++◌, length, flat_map, All}
 use Rattle.mars_base.specs.Causes.{Rose}
 use Rattle.array_shape.specs.declared.shape.Shape.{Shape}
 use Rattle.array_shape.specs.Logged.{applied}
 use Rattle.eaw_face.specs.StoreView.{StoreView}
-use Rattle.mirror.specs.Frame.{Frame, frame_bytes, written_by, IsFrameIn, AreFrame}
+use Rattle.eaw_face.specs.Mirroring.{AreInSequence, followed}
+use Rattle.eaw_face.specs.Frame.{Frame, frame_bytes, written_by, IsFrameIn, AreFrame}
 use Rattle.mirror.specs.Applying.{IsFree, Applied}
 use Rattle.mirror.specs.declared.follow_fault.FollowFault.{FollowFault}
 use Rattle.mirror.specs.declared.follow_fault.FollowFault.TheVariants.{BadFrame, Gap, Media, Dead, NoMemory}
-
--- their sequences rise by one from this on
-abbrev pub AreInSequence : ℕ → List Frame → Type 0
-AreInSequence next [] = Unit {0}
-AreInSequence next (f ∷ fs) = (f.sequence ≡ next) × AreInSequence (next + 1) fs
-
--- the data once frames are applied, one after another
-abbrev pub followed : List Frame → List ℕ → List ℕ
-followed [] bytes = bytes
-followed (f ∷ fs) bytes = followed fs (applied (written_by f) bytes)
 
 -- no beginning of these bytes is a whole frame
 abbrev pub HasNoFrame : Shape → List ℕ → Type 0

@@ -3,7 +3,7 @@ use Rattle.std.specs.Prelude.{ℕ, ◌^◌, ◌<◌, List, length, flat_map, All
 use Rattle.array_shape.specs.declared.shape.Shape.{Shape}
 use Rattle.memory_eaw.specs.Log.{Log}
 use Rattle.memory_eaw.specs.Steps.{log_at}
-use Rattle.mirror.specs.Frame.{Group}
+use Rattle.eaw_face.specs.Frame.{Group}
 use Rattle.mirror.specs.Sending.{IsSendable, HasBytes, AreShort, group_of}
 
 -- a group for each of these numbers that has logged anything

@@ -1,5 +1,4 @@
 pub mod Partial
-pub mod Frame
 pub mod Links
 pub mod Rest
 pub mod Applying

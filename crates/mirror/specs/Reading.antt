@@ -2,7 +2,7 @@
 use Rattle.std.specs.Prelude.{ℕ, ◌≡◌, ◌↔◌, List, ◌++◌}
 use Rattle.array_shape.specs.declared.shape.Shape.{Shape}
 use Rattle.eaw_face.specs.StoreView.{StoreView}
-use Rattle.mirror.specs.Frame.{AreFrame}
+use Rattle.eaw_face.specs.Frame.{AreFrame}
 use Rattle.mirror.specs.Following.{stand, IsReady}
 use Rattle.mirror.specs.Rest.{Rest, IsOpen}
 use Rattle.mirror.specs.declared.place.Place.{Place}

@@ -5,7 +5,7 @@ use Rattle.array_shape.specs.declared.shape.Shape.{Shape}
 use Rattle.array_shape.specs.Places.{data_len, logger_of}
 use Rattle.array_shape.specs.Logged.{Part, ranges_of}
 use Rattle.eaw_face.specs.State.{count_on}
-use Rattle.mirror.specs.Frame.{Group, mark, part_bytes, group_bytes, IsByte, IsPart, IsGroup, Rise, IsInside, IsGroupIn}
+use Rattle.eaw_face.specs.Frame.{Group, mark, part_bytes, group_bytes, IsByte, IsPart, IsGroup, Rise, IsInside, IsGroupIn}
 use Rattle.mirror.specs.declared.to_come.Groups.{Groups}
 use Rattle.mirror.specs.declared.to_come.Parts.{Parts}
 use Rattle.mirror.specs.declared.place.Place.{Place}

@@ -5,15 +5,8 @@ use Rattle.array_shape.specs.declared.shape.Shape.{Shape}
 use Rattle.array_shape.specs.Logged.{Part, ranges_of, AllPlaced}
 use Rattle.eaw_face.specs.State.{part_at}
 use Rattle.eaw_face.specs.Causes.{fit}
-use Rattle.mirror.specs.Frame.{Frame, Group, frame_bytes, IsByte, IsFrameIn}
-
--- The frames that a link keeps, the oldest first; how often a send of it has failed; how many frames were sent in all; and whether the
--- sending has ended.
-pub record Sending : Type 0 where
-  pub frames : List (List ℕ)
-  pub faults : ℕ
-  pub sent : ℕ
-  pub is_down : Bool
+use Rattle.eaw_face.specs.Sending.{Sending}
+use Rattle.eaw_face.specs.Frame.{Frame, Group, frame_bytes, IsByte, IsFrameIn}
 
 -- what a number has logged can go into a frame: its parts lie in the data, and an empty log has room for them
 pub record IsSendable (shape : Shape) (parts : List Part) : Type 0 where
@@ -45,8 +38,8 @@ pub record SenderView (L : Type 0) : Type 0 where
   pub is_down : Bool
 
 -- the same of any sender
-abbrev pub sending_of : {L : Type 0} → (L → List (List ℕ)) → (L → ℕ) → SenderView L → Sending
-sending_of frames faults s = record { frames = frames s.link; faults = faults s.link; sent = s.sent; is_down = s.is_down }
+abbrev pub sending_of : {L : Type 0} → Bool → (L → List (List ℕ)) → (L → ℕ) → SenderView L → Sending
+sending_of told frames faults s = record { mirrors = true; told = told; frames = frames s.link; faults = faults s.link; sent = s.sent; is_down = s.is_down }
 
 -- the most bytes that a frame of a shape has
 abbrev pub frame_most : Shape → ℕ
@@ -64,6 +57,7 @@ pub record WasSent (tells : Bool) (shape : Shape) (groups : List Group) (old new
 -- it was not sent: the sending has ended
 pub record NotSent (tells : Bool) (old new : Sending) : Type 0 where
   pub ended : new.is_down ≡ true
+  pub later : old.faults ≤ new.faults
   pub frames : IsTrue tells → new.frames ≡ old.frames
   pub count : new.sent ≡ old.sent
   pub cause : ((old.is_down ≡ true) × (new.faults ≡ old.faults)) ⊎ (((2 ^ 64 ≤ old.sent + 1) × (new.faults ≡ old.faults)) ⊎ Rose old.faults new.faults)

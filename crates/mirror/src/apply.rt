@@ -3,7 +3,7 @@ ghost use Rattle.std.specs.Prelude.{◌≡◌, ◌+◌, ◌<◌, ◌≤◌, leng
 ghost use Rattle.byteorder.specs.Endian.{little_number};
 ghost use Rattle.eaw_face.specs.Causes.{IsAlive};
 ghost use Rattle.eaw_face.specs.StoreView.{LeavesOnly};
-ghost use Rattle.mirror.specs.Frame.{AreFrame};
+ghost use Rattle.eaw_face.specs.Frame.{AreFrame};
 ghost use Rattle.mirror.specs.Applying.{HasParts, WroteParts, IsNewFault, IsFree, Applied, OpensEither};
 
 use array_shape::NumberSet;

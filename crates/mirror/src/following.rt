@@ -2,7 +2,7 @@
 ghost use Rattle.std.specs.Prelude.{◌≡◌, ◌∷◌, [], IsTrue, OnOk, IfErr};
 ghost use Rattle.eaw_face.specs.Causes.{IsAlive};
 ghost use Rattle.eaw_face.specs.StoreView.{LeavesOnly};
-ghost use Rattle.mirror.specs.Frame.{AreFrame};
+ghost use Rattle.eaw_face.specs.Frame.{AreFrame};
 ghost use Rattle.mirror.specs.Applying.{IsFree};
 ghost use Rattle.mirror.specs.Reading.{LeadTo};
 ghost use Rattle.mirror.specs.Following.{stand, IsReady, Follows, StopCause, LeavesFirst, AppliesNext, NotApplied, OpensNext};

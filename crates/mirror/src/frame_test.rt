@@ -1,6 +1,6 @@
 // Whether bytes are one whole frame.
 ghost use Rattle.std.specs.Prelude.{◌↔◌, IsTrue};
-ghost use Rattle.mirror.specs.Frame.{AreFrame};
+ghost use Rattle.eaw_face.specs.Frame.{AreFrame};
 
 use crate::place::Place;
 use array_shape::Shape;

@@ -1,6 +1,6 @@
 // Laws of frames: each follows from the definitions alone.
 ghost use Rattle.std.specs.Prelude.{◌≡◌, ◌++◌, List, ℕ, []};
-ghost use Rattle.mirror.specs.Frame.{Frame, IsFrame, frame_bytes};
+ghost use Rattle.eaw_face.specs.Frame.{Frame, IsFrame, frame_bytes};
 ghost use Rattle.mirror.specs.FollowerView.{FollowerView, IsFollowed, HasGap, AreAlike};
 
 use eaw_face::EawStore;

@@ -1,6 +1,6 @@
 //! A second array that follows the first, frame by frame.
 //!
-//! Read first `specs/Frame`, what a frame is and its bytes; then `specs/Following`, what of a stream of frames is applied, and
+//! Read first `eaw_face`'s `specs/Frame`, what a frame is and its bytes; then `specs/Following`, what of a stream of frames is applied, and
 //! `follower.rt`. Below it `place.rt` reads a frame byte by byte (`specs/Rest` says what may still come), and `apply.rt` writes a whole one
 //! into a store.
 #![tactic(auto)]

@@ -2,7 +2,7 @@
 ghost use Rattle.std.specs.Prelude.{◌↔◌, ◌<◌, ℕ, List, [], ◌∷◌, IsTrue};
 ghost use Rattle.array_shape.specs.Places.{IsShape};
 ghost use Rattle.array_shape.specs.declared.shape.Shape.{Shape};
-ghost use Rattle.mirror.specs.Frame.{AreFrame};
+ghost use Rattle.eaw_face.specs.Frame.{AreFrame};
 ghost use Rattle.mirror.specs.declared.place.Place.{Place};
 ghost use Rattle.mirror.specs.Rest.{Rest, IsOpen, Takes, IsPartsRest};
 

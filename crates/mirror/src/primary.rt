@@ -1,17 +1,10 @@
 // A store that sends what its commits write.
-ghost use Rattle.std.specs.Prelude.{ℕ, ◌≡◌, ◌≢◌, ◌+◌, ◌≤◌, ◌<◌, [], All, false, drop, length, replicate, slice_index_or, take, None, IsTrue, IfOk, IfErr, OnOk, OnErr, IsErrOf};
-ghost use Rattle.mars_base.specs.Bytes.{range};
-ghost use Rattle.mars_base.specs.Costs.{Costs};
-ghost use Rattle.array_shape.specs.Places.{data_len};
+ghost use Rattle.std.specs.Prelude.{ℕ, ◌≡◌, ◌<◌, [], All, false, length, replicate, IfOk, IfErr};
 ghost use Rattle.array_shape.specs.NumberSet.{members};
-ghost use Rattle.eaw_face.specs.State.{listed, group_log, range_at, part_at};
-ghost use Rattle.eaw_face.specs.Command.{log_write, log_edit, commit, commit_group, abort, nested_top, partial_abort, atomic_write, log_read, read};
 ghost use Rattle.eaw_face.specs.Causes.{IsAlive};
-ghost use Rattle.eaw_face.specs.StoreView.{IsLive, log_len};
-ghost use Rattle.eaw_face.specs.Does.{Does};
 ghost use Rattle.mirror.specs.Applying.{IsFree};
 ghost use Rattle.memory_eaw.specs.Steps.{log_at};
-ghost use Rattle.mirror.specs.Mirroring.{PrimaryView, Mirrors, IsFreed, sending_in};
+ghost use Rattle.mirror.specs.Mirroring.{IsFreed};
 
 use crate::link::Link;
 use crate::sender::Sender;
@@ -65,7 +58,7 @@ fn free_logs(logs: &mut Vec<PlainLog>, tids: NumberSet)
 }
 
 impl<S: EawStore, L: Link> Primary<S, L> {
-    ghost use Rattle.std.specs.Prelude.{◌≡◌, [], false, IsTrue, IfOk, IfErr, drop, slice_index_or};
+    ghost use Rattle.std.specs.Prelude.{◌≡◌, false, IfOk, IfErr};
 
     /// A primary that has sent nothing. An error returns the store and the link.
     pub fn attach(alloc: Global, store: S, link: L) -> Result<Primary<S, L>, (NoMemory, S, L)>
@@ -97,35 +90,14 @@ impl<S: EawStore, L: Link> Primary<S, L> {
         let Primary { store, sender, .. } = self;
         (store, sender.into_link())
     }
-
-    /// The oldest frame that was sent and is not yet given up. It is empty if there is none.
-    pub fn first_frame(&self) -> &[u8]
-        ensures { IsTrue L.tells → result.now ≡ slice_index_or (L.frames self.now.link) 0 [] }
-    {
-        self.sender.first_frame()
-    }
-
-    /// Gives that frame up. If there is none, it does nothing.
-    pub fn drop_frame(&mut self)
-        ensures frames { IsTrue L.tells → L.frames self.new.link ≡ drop 1 (L.frames self.old.link) }
-        ensures faults { L.faults self.new.link ≡ L.faults self.old.link }
-        ensures rest { self.new ≡ record self.old { link = self.new.link } }
-    {
-        self.sender.drop_frame();
-    }
-
-    /// Whether the sending has ended.
-    pub fn link_down(&self) -> bool
-        ensures { result ≡ self.now.is_down }
-    {
-        self.sender.is_down()
-    }
 }
 
 impl<S: EawStore, L: Link> EawStore for Primary<S, L> {
+    ghost use Rattle.mirror.specs.Mirroring.{over, sending_in};
+
     ghost tells = { S.tells };
 
-    ghost view = { λ p. S.view p.store };
+    ghost view = { λ p. over (S.view p.store) (sending_in L.tells L.frames L.faults p) };
 
     ghost opens = { S.opens };
 
@@ -145,7 +117,7 @@ impl<S: EawStore, L: Link> EawStore for Primary<S, L> {
 
     ghost beyond = { λ p. S.beyond p.store };
 
-    ghost some_now = { λ p. S.some_now p.store };
+    ghost some_now = { λ p told alive. let some = S.some_now p.store told alive in record { image = some.image; left = some.left } };
 
     ghost counts_now = { λ p. S.counts_now p.store };
 
@@ -157,30 +129,14 @@ impl<S: EawStore, L: Link> EawStore for Primary<S, L> {
         self.store.shape()
     }
 
-    fn log_write(&mut self, tid: u8, addr: u64, bytes: &[u8]) -> Result<u32, EawFault>
-        requires some { 0 < length bytes.now }
-        requires inside { addr + length bytes.now ≤ data_len (S.view self.old.store).shape }
-        ensures does { Does S.tells (S.opens (S.view self.old.store).shape) (log_write tid addr bytes.now) (S.view self.old.store) (S.view self.new.store) result }
-        ensures len { IfOk result (λ n. n ≡ log_len (S.view self.new.store) tid) }
-        ensures costs { Costs S.tells (S.calls self.old.store (log_write tid addr bytes.now)) (S.view self.old.store).moment (S.view self.new.store).moment result }
-        ensures refused { IfErr result (λ fault. fault ≢ EawFault.Media → self.new ≡ self.old) }
-        ensures mirrors { Mirrors S.tells L.tells (sending_in L.frames L.faults self.old) (sending_in L.frames L.faults self.new) (S.view self.old.store) (S.view self.new.store) result }
-    {
+    fn log_write(&mut self, tid: u8, addr: u64, bytes: &[u8]) -> Result<u32, EawFault> {
         let len = self.store.log_write(tid, addr, bytes)?;
         let shape = self.store.shape();
         self.logs[usize::from(tid)].append(shape, addr, bytes);
         Ok(len)
     }
 
-    fn commit(&mut self, tid: u8) -> Result<(), EawFault>
-        ensures does { Does S.tells (S.opens (S.view self.old.store).shape) (commit tid) (S.view self.old.store) (S.view self.new.store) result }
-        ensures due { IsErrOf result EawFault.Media → 0 < log_len (S.view self.old.store) tid }
-        ensures idle { log_len (S.view self.old.store) tid ≡ 0 → (S.view self.new.store).moment ≡ (S.view self.old.store).moment }
-        ensures costs { Costs S.tells (S.calls self.old.store (commit tid)) (S.view self.old.store).moment (S.view self.new.store).moment result }
-        ensures late { IsTrue S.defers → 0 < log_len (S.view self.old.store) tid → OnOk result (0 < S.waiting self.new.store) }
-        ensures refused { IfErr result (λ fault. fault ≢ EawFault.Media → self.new ≡ self.old) }
-        ensures mirrors { Mirrors S.tells L.tells (sending_in L.frames L.faults self.old) (sending_in L.frames L.faults self.new) (S.view self.old.store) (S.view self.new.store) result }
-    {
+    fn commit(&mut self, tid: u8) -> Result<(), EawFault> {
         self.store.commit(tid)?;
         let at = usize::from(tid);
         self.sender.send_log(tid, &self.logs[at], 0);
@@ -188,44 +144,20 @@ impl<S: EawStore, L: Link> EawStore for Primary<S, L> {
         Ok(())
     }
 
-    fn commit_group(&mut self, tids: NumberSet) -> Result<(), EawFault>
-        ensures does { Does S.tells (S.opens (S.view self.old.store).shape) (commit_group (members tids)) (S.view self.old.store) (S.view self.new.store) result }
-        ensures due { IsErrOf result EawFault.Media → 0 < length (group_log (S.view self.old.store).ranges (members tids)) }
-        ensures idle { length (group_log (S.view self.old.store).ranges (members tids)) ≡ 0 → (S.view self.new.store).moment ≡ (S.view self.old.store).moment }
-        ensures costs { Costs S.tells (S.calls self.old.store (commit_group (members tids))) (S.view self.old.store).moment (S.view self.new.store).moment result }
-        ensures late { IsTrue S.defers → 0 < length (group_log (S.view self.old.store).ranges (members tids)) → OnOk result (0 < S.waiting self.new.store) }
-        ensures refused { IfErr result (λ fault. fault ≢ EawFault.Media → self.new ≡ self.old) }
-        ensures mirrors { Mirrors S.tells L.tells (sending_in L.frames L.faults self.old) (sending_in L.frames L.faults self.new) (S.view self.old.store) (S.view self.new.store) result }
-    {
+    fn commit_group(&mut self, tids: NumberSet) -> Result<(), EawFault> {
         self.store.commit_group(tids)?;
         self.sender.send_logs(tids, &self.logs);
         free_logs(&mut self.logs, tids);
         Ok(())
     }
 
-    fn abort(&mut self, tid: u8) -> Result<(), EawFault>
-        ensures does { Does S.tells (S.opens (S.view self.old.store).shape) (abort tid) (S.view self.old.store) (S.view self.new.store) result }
-        ensures due { IsErrOf result EawFault.Media → ⊥ }
-        ensures idle { (S.view self.new.store).moment ≡ (S.view self.old.store).moment }
-        ensures costs { Costs S.tells (S.calls self.old.store (abort tid)) (S.view self.old.store).moment (S.view self.new.store).moment result }
-        ensures refused { OnErr result (self.new ≡ self.old) }
-        ensures mirrors { Mirrors S.tells L.tells (sending_in L.frames L.faults self.old) (sending_in L.frames L.faults self.new) (S.view self.old.store) (S.view self.new.store) result }
-    {
+    fn abort(&mut self, tid: u8) -> Result<(), EawFault> {
         self.store.abort(tid)?;
         self.logs[usize::from(tid)].free();
         Ok(())
     }
 
-    fn nested_top(&mut self, tid: u8, offset: u32) -> Result<(), EawFault>
-        requires { offset ≤ log_len (S.view self.old.store) tid }
-        ensures does { Does S.tells (S.opens (S.view self.old.store).shape) (nested_top tid offset) (S.view self.old.store) (S.view self.new.store) result }
-        ensures due { IsErrOf result EawFault.Media → offset < log_len (S.view self.old.store) tid }
-        ensures idle { log_len (S.view self.old.store) tid ≡ offset → (S.view self.new.store).moment ≡ (S.view self.old.store).moment }
-        ensures costs { Costs S.tells (S.calls self.old.store (nested_top tid offset)) (S.view self.old.store).moment (S.view self.new.store).moment result }
-        ensures late { IsTrue S.defers → offset < log_len (S.view self.old.store) tid → OnOk result (0 < S.waiting self.new.store) }
-        ensures refused { IfErr result (λ fault. fault ≢ EawFault.Media → self.new ≡ self.old) }
-        ensures mirrors { Mirrors S.tells L.tells (sending_in L.frames L.faults self.old) (sending_in L.frames L.faults self.new) (S.view self.old.store) (S.view self.new.store) result }
-    {
+    fn nested_top(&mut self, tid: u8, offset: u32) -> Result<(), EawFault> {
         self.store.nested_top(tid, offset)?;
         let at = usize::from(tid);
         self.sender.send_log(tid, &self.logs[at], offset as usize);
@@ -233,31 +165,13 @@ impl<S: EawStore, L: Link> EawStore for Primary<S, L> {
         Ok(())
     }
 
-    fn partial_abort(&mut self, tid: u8, offset: u32) -> Result<(), EawFault>
-        requires { offset ≤ log_len (S.view self.old.store) tid }
-        ensures does { Does S.tells (S.opens (S.view self.old.store).shape) (partial_abort tid offset) (S.view self.old.store) (S.view self.new.store) result }
-        ensures due { IsErrOf result EawFault.Media → ⊥ }
-        ensures idle { (S.view self.new.store).moment ≡ (S.view self.old.store).moment }
-        ensures costs { Costs S.tells (S.calls self.old.store (partial_abort tid offset)) (S.view self.old.store).moment (S.view self.new.store).moment result }
-        ensures refused { OnErr result (self.new ≡ self.old) }
-        ensures mirrors { Mirrors S.tells L.tells (sending_in L.frames L.faults self.old) (sending_in L.frames L.faults self.new) (S.view self.old.store) (S.view self.new.store) result }
-    {
+    fn partial_abort(&mut self, tid: u8, offset: u32) -> Result<(), EawFault> {
         self.store.partial_abort(tid, offset)?;
         self.logs[usize::from(tid)].truncate(offset as usize);
         Ok(())
     }
 
-    fn atomic_write(&mut self, tid: u8, addr: u64, bytes: &[u8]) -> Result<(), EawFault>
-        requires some { 0 < length bytes.now }
-        requires inside { addr + length bytes.now ≤ data_len (S.view self.old.store).shape }
-        requires tid { tid < (S.view self.old.store).shape.numbers }
-        requires free { (S.view self.old.store).ranges tid ≡ None }
-        ensures does { Does S.tells (S.opens (S.view self.old.store).shape) (atomic_write tid addr bytes.now) (S.view self.old.store) (S.view self.new.store) result }
-        ensures costs { Costs S.tells (S.calls self.old.store (atomic_write tid addr bytes.now)) (S.view self.old.store).moment (S.view self.new.store).moment result }
-        ensures late { IsTrue S.defers → OnOk result (0 < S.waiting self.new.store) }
-        ensures refused { IfErr result (λ fault. fault ≢ EawFault.Media → self.new ≡ self.old) }
-        ensures mirrors { Mirrors S.tells L.tells (sending_in L.frames L.faults self.old) (sending_in L.frames L.faults self.new) (S.view self.old.store) (S.view self.new.store) result }
-    {
+    fn atomic_write(&mut self, tid: u8, addr: u64, bytes: &[u8]) -> Result<(), EawFault> {
         self.store.atomic_write(tid, addr, bytes)?;
         let at = usize::from(tid);
         let shape = self.store.shape();
@@ -267,41 +181,17 @@ impl<S: EawStore, L: Link> EawStore for Primary<S, L> {
         Ok(())
     }
 
-    fn log_read(&mut self, tid: u8, pos: u32, buf: &mut [u8; 512]) -> Result<(u64, u16), EawFault>
-        requires { IsLive (S.view self.old.store) tid → pos < log_len (S.view self.old.store) tid }
-        ensures does { Does S.tells (S.opens (S.view self.old.store).shape) (log_read tid) (S.view self.old.store) (S.view self.new.store) result }
-        ensures part { IfOk result (λ part. part ≡ range_at (listed ((S.view self.old.store).ranges tid)) pos) }
-        ensures bytes { IsTrue S.tells → IfOk result (λ part. take part.1 buf.new ≡ (part_at (listed ((S.view self.old.store).state.logs tid)) pos).1) }
-        ensures unread { IfErr result (λ fault. fault ≢ EawFault.Media → buf.new ≡ buf.old) }
-        ensures costs { Costs S.tells (S.calls self.old.store (log_read tid)) (S.view self.old.store).moment (S.view self.new.store).moment result }
-        ensures refused { IfErr result (λ fault. fault ≢ EawFault.Media → self.new ≡ self.old) }
-        ensures mirrors { Mirrors S.tells L.tells (sending_in L.frames L.faults self.old) (sending_in L.frames L.faults self.new) (S.view self.old.store) (S.view self.new.store) result }
-    {
+    fn log_read(&mut self, tid: u8, pos: u32, buf: &mut [u8; 512]) -> Result<(u64, u16), EawFault> {
         self.store.log_read(tid, pos, buf)
     }
 
-    fn log_edit(&mut self, tid: u8, pos: u32, at: u32, bytes: &[u8]) -> Result<(), EawFault>
-        requires pos { IsLive (S.view self.old.store) tid → pos < log_len (S.view self.old.store) tid }
-        requires within { IsLive (S.view self.old.store) tid → at + length bytes.now ≤ (range_at (listed ((S.view self.old.store).ranges tid)) pos).1 }
-        ensures does { Does S.tells (S.opens (S.view self.old.store).shape) (log_edit tid pos at bytes.now) (S.view self.old.store) (S.view self.new.store) result }
-        ensures costs { Costs S.tells (S.calls self.old.store (log_edit tid pos at bytes.now)) (S.view self.old.store).moment (S.view self.new.store).moment result }
-        ensures refused { IfErr result (λ fault. fault ≢ EawFault.Media → self.new ≡ self.old) }
-        ensures mirrors { Mirrors S.tells L.tells (sending_in L.frames L.faults self.old) (sending_in L.frames L.faults self.new) (S.view self.old.store) (S.view self.new.store) result }
-    {
+    fn log_edit(&mut self, tid: u8, pos: u32, at: u32, bytes: &[u8]) -> Result<(), EawFault> {
         self.store.log_edit(tid, pos, at, bytes)?;
         self.logs[usize::from(tid)].edit(pos as usize, at, bytes);
         Ok(())
     }
 
-    fn read(&mut self, addr: u64, buf: &mut [u8]) -> Result<(), EawFault>
-        requires { addr + length buf.old ≤ data_len (S.view self.old.store).shape }
-        ensures does { Does S.tells (S.opens (S.view self.old.store).shape) (read addr (length buf.old)) (S.view self.old.store) (S.view self.new.store) result }
-        ensures bytes { IsTrue S.tells → OnOk result (buf.new ≡ range (S.view self.old.store).state.bytes addr (length buf.old)) }
-        ensures unread { IfErr result (λ fault. fault ≢ EawFault.Media → buf.new ≡ buf.old) }
-        ensures costs { Costs S.tells (S.calls self.old.store (read addr (length buf.old))) (S.view self.old.store).moment (S.view self.new.store).moment result }
-        ensures refused { IfErr result (λ fault. fault ≢ EawFault.Media → self.new ≡ self.old) }
-        ensures mirrors { Mirrors S.tells L.tells (sending_in L.frames L.faults self.old) (sending_in L.frames L.faults self.new) (S.view self.old.store) (S.view self.new.store) result }
-    {
+    fn read(&mut self, addr: u64, buf: &mut [u8]) -> Result<(), EawFault> {
         self.store.read(addr, buf)
     }
 
@@ -323,5 +213,17 @@ impl<S: EawStore, L: Link> EawStore for Primary<S, L> {
 
     fn part_range(&self, tid: u8, pos: u32) -> (u64, u16) {
         self.store.part_range(tid, pos)
+    }
+
+    fn first_frame(&self) -> &[u8] {
+        self.sender.first_frame()
+    }
+
+    fn drop_frame(&mut self) {
+        self.sender.drop_frame();
+    }
+
+    fn link_down(&self) -> bool {
+        self.sender.is_down()
     }
 }

@@ -1,6 +1,6 @@
 // A frame that comes byte by byte.
 ghost use Rattle.std.specs.Prelude.{◌≡◌, ◌↔◌, ◌∷◌, ◌++◌, [], IsTrue, OnOk, IfOk, IfErr, ◌⊎◌};
-ghost use Rattle.mirror.specs.Frame.{AreFrame};
+ghost use Rattle.eaw_face.specs.Frame.{AreFrame};
 ghost use Rattle.mirror.specs.Following.{IsBroken};
 ghost use Rattle.mirror.specs.Reading.{LeadTo};
 

@@ -101,7 +101,7 @@ impl<L: Link> Sender<L> {
         requires offset { offset ≤ length log.now.parts }
         requires log { IsSendable self.old.shape log.now.parts }
         ensures shape { self.new.shape ≡ self.old.shape }
-        ensures sends { Sends L.tells self.old.shape (group_of number (drop offset log.now.parts)) (sending_of L.frames L.faults self.old) (sending_of L.frames L.faults self.new) }
+        ensures sends { Sends L.tells self.old.shape (group_of number (drop offset log.now.parts)) (sending_of L.tells L.frames L.faults self.old) (sending_of L.tells L.frames L.faults self.new) }
     {
         if log.len() == offset {
             return;
@@ -121,7 +121,7 @@ impl<L: Link> Sender<L> {
     pub(crate) fn send_logs(&mut self, tids: NumberSet, logs: &[PlainLog])
         requires logs { AreSendable self.old.shape logs.now (members tids) }
         ensures shape { self.new.shape ≡ self.old.shape }
-        ensures sends { Sends L.tells self.old.shape (groups_of logs.now (members tids)) (sending_of L.frames L.faults self.old) (sending_of L.frames L.faults self.new) }
+        ensures sends { Sends L.tells self.old.shape (groups_of logs.now (members tids)) (sending_of L.tells L.frames L.faults self.old) (sending_of L.tells L.frames L.faults self.new) }
     {
         let count = count_groups(tids, logs);
         if count == 0 {

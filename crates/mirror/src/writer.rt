@@ -1,7 +1,7 @@
 // The bytes of a frame, written one behind the other into a buffer that has room for them.
 ghost use Rattle.std.specs.Prelude.{◌≡◌, ◌+◌, ◌*◌, ◌-◌, ◌^◌, ◌≤◌, ◌<◌, ◌∷◌, ◌++◌, length, drop, flat_map, All, vec_capacity};
 ghost use Rattle.byteorder.specs.Endian.{little_bytes};
-ghost use Rattle.mirror.specs.Frame.{mark, part_bytes, group_bytes, IsByte};
+ghost use Rattle.eaw_face.specs.Frame.{mark, part_bytes, group_bytes, IsByte};
 ghost use Rattle.mirror.specs.Sending.{HasBytes, AreShort, group_of};
 ghost use Rattle.mirror.specs.Groups.{IsListed, HasByteLog, groups_of};
 ghost use Rattle.array_shape.specs.NumberSet.{members};

@@ -1,7 +1,7 @@
 use Rattle.std.proofs.Common.{ℕ, List, ◌≡◌, ◌+◌, [], ◌∷◌, ◌++◌, take, drop, subst, sym, ◌∙◌, ap, slice_index}
 use Rattle.std.proofs.lemmas.Bool.{false≢true}
 use Rattle.std.proofs.lemmas.List.{append-nil, take_all, take-append-drop, drop_more}
-use Rattle.mirror.specs.Frame.{AreFrame}
+use Rattle.eaw_face.specs.Frame.{AreFrame}
 use Rattle.mirror.proofs.frame_test.is_frame.Goals as goal
 
 pub returns-in-None : goal.returns-in-None

@@ -1,6 +1,6 @@
 use Rattle.std.proofs.Common.{ℕ, List, ◌++◌, take}
 use Rattle.std.specs.Prelude.{◌↔◌}
-use Rattle.mirror.specs.Frame.{AreFrame}
+use Rattle.eaw_face.specs.Frame.{AreFrame}
 use Rattle.mirror.specs.Rest.{Rest, IsOpen}
 use Rattle.mirror.proofs.frame_test.is_frame.Given as goal
 

@@ -4,7 +4,7 @@ use Rattle.std.proofs.lemmas.List.Elements.{All-head, All-tail}
 use Rattle.array_shape.specs.NumberSet.{members}
 use Rattle.memory_eaw.specs.Log.{Log}
 use Rattle.memory_eaw.proofs.Views.{log_is}
-use Rattle.mirror.specs.Frame.{group_bytes}
+use Rattle.eaw_face.specs.Frame.{group_bytes}
 use Rattle.mirror.specs.Sending.{HasBytes, group_of}
 use Rattle.mirror.specs.Groups.{IsListed}
 use Rattle.mirror.proofs.GroupWriting.{groups_more, group_room}

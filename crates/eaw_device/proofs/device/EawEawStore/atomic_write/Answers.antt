@@ -56,7 +56,7 @@ returns-clause-does g c =
     atomic m.tells Opens (view_of (m.view s.media) s.shape s.logs.items s.late s.is_dead) (view_of (m.view mid.media) mid.shape mid.logs.items mid.late mid.is_dead) (view_of (m.view last.media) last.shape last.logs.items last.late last.is_dead)
     c.args.tid c.args.addr c.args.bytes.now c.requires.free
     (λ told fine. none_ranges ranges_in (parts_in s.shape (m.view s.media).content.bytes c.args.tid) (entries_at s.logs.items c.args.tid) c.requires.free)
-    (λ told. omega (arith, c.requires.inside, length-shown m.tells (m.view s.media) s.shape s.logs.items s.late s.is_dead s.sound told)) c.in_ok-write_log.field-0 c.in_ok-write_log.ensures.does c.commit.result c.commit.ensures.does
+    (λ told. omega (arith, c.requires.inside, length-shown m.tells (m.view s.media) s.shape s.logs.items s.late s.is_dead s.sound told)) c.in_ok-write_log.field-0 c.in_ok-write_log.ensures.does refl c.commit.result c.commit.ensures.does
 
 pub returns-clause-refused : goal.returns-clause-refused
 returns-clause-refused g c =

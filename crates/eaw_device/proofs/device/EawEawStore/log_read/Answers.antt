@@ -13,6 +13,7 @@ use Rattle.eaw_device.proofs.Doing.{lacking, found}
 use Rattle.eaw_device.proofs.Tables.{parts_there}
 use Rattle.eaw_device.proofs.Looks.{look_len, look_range, look_kept, entry_range, entry_part, entry_inside, entry_page, read_sound, log_read_done, log_read_failed}
 use Rattle.eaw_device.proofs.Edits.{range_at-ranges_of, take_part}
+use Rattle.eaw_device.proofs.Steady.{steady}
 use Rattle.eaw_device.proofs.device.EawEawStore.log_read.Goals as goal
 
 pub returns-in_err-at : goal.returns-in_err-at
@@ -28,6 +29,7 @@ returns-in_err-at g c =
       part = tt;
       bytes = λ told. tt;
       costs = record { done = λ exact. tt; most = omega arith };
+      steady = tt;
       refused = λ ne. refl;
       unread = λ ne. refl;
     })
@@ -121,3 +123,12 @@ returns-in-Err-clause-refused g c = λ ne. absurd (ne refl)
 
 pub returns-in-Err-clause-unread : goal.returns-in-Err-clause-unread
 returns-in-Err-clause-unread g c = λ ne. absurd (ne refl)
+
+pub returns-in-Ok-clause-steady : goal.returns-in-Ok-clause-steady
+returns-in-Ok-clause-steady g c =
+    let m = g.M.Media in
+    let s = c.args.self.now in
+    steady (m.view s.media) (m.view c.read_entry.new.media) s.shape s.logs.items s.late s.is_dead
+
+pub returns-in-Err-clause-steady : goal.returns-in-Err-clause-steady
+returns-in-Err-clause-steady g c = tt

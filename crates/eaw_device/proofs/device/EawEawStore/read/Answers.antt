@@ -7,6 +7,7 @@ use Rattle.eaw_device.specs.Opens.{Opens}
 use Rattle.eaw_device.specs.Sound.{view_of}
 use Rattle.eaw_device.proofs.Doing.{refused}
 use Rattle.eaw_device.proofs.Looks.{read_sound, read_done, read_failed}
+use Rattle.eaw_device.proofs.Steady.{steady}
 use Rattle.eaw_device.proofs.device.EawEawStore.read.Goals as goal
 
 pub returns-then-self : goal.returns-then-self
@@ -17,6 +18,7 @@ returns-then-self g c =
       does = refused m.tells (Opens s.shape) (read c.args.addr (length c.args.buf.now)) (view_of (m.view s.media) s.shape s.logs.items s.late s.is_dead) Dead c.if-self.true (λ is. cc) _ refl;
       bytes = λ told. tt;
       costs = record { done = λ exact. tt; most = omega arith };
+      steady = tt;
       refused = λ ne. refl;
       unread = λ ne. refl;
     }
@@ -70,3 +72,12 @@ returns-in-Err-clause-refused g c = λ ne. absurd (ne refl)
 
 pub returns-in-Err-clause-unread : goal.returns-in-Err-clause-unread
 returns-in-Err-clause-unread g c = λ ne. absurd (ne refl)
+
+pub returns-in-Ok-clause-steady : goal.returns-in-Ok-clause-steady
+returns-in-Ok-clause-steady g c =
+    let m = g.M.Media in
+    let s = c.args.self.now in
+    steady (m.view s.media) (m.view c.read.new.media) s.shape s.logs.items s.late s.is_dead
+
+pub returns-in-Err-clause-steady : goal.returns-in-Err-clause-steady
+returns-in-Err-clause-steady g c = tt

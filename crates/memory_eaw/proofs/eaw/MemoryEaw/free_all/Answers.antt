@@ -1,4 +1,4 @@
-use Rattle.std.proofs.Common.{◌≡◌, ℕ, List, sym, ◌∙◌, ap}
+use Rattle.std.proofs.Common.{ℕ, List, sym, ◌∙◌, ap}
 use Rattle.std.specs.Prelude.{None}
 use Rattle.array_shape.specs.NumberSet.{members}
 use Rattle.eaw_face.specs.State.{with_each}

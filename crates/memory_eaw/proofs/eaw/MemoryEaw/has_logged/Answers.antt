@@ -1,4 +1,4 @@
-use Rattle.std.proofs.Common.{◌∙◌, refl, sym, arith}
+use Rattle.std.proofs.Common.{refl, arith}
 use Rattle.array_shape.specs.NumberSet.{members}
 use Rattle.memory_eaw.specs.Shown.{plain_of}
 use Rattle.memory_eaw.proofs.Groups.{has_some, has_none, first_small}

@@ -1,16 +1,14 @@
-use Rattle.std.proofs.Common.{◌≡◌, ℕ, true, refl, sym, ◌∙◌, ap, subst, arith}
+use Rattle.std.proofs.Common.{true, sym, ◌∙◌, ap, subst, arith}
 use Rattle.std.specs.Prelude.{None}
 use Rattle.std.proofs.lemmas.Result.{err_from_is_err_and}
 use Rattle.array_shape.specs.NumberSet.{members}
 use Rattle.eaw_face.specs.State.{group_log}
 use Rattle.eaw_face.specs.Command.{commit_group}
 use Rattle.eaw_face.specs.Causes.{known}
-use Rattle.eaw_face.proofs.Groups.{known_there}
 use Rattle.mars_base.proofs.Costing.{costs_err, costs_all}
 use Rattle.memory_eaw.specs.Log.{logged}
 use Rattle.memory_eaw.specs.Plain.{Plain, view_of}
-use Rattle.memory_eaw.specs.Shown.{plain_of, shown}
-use Rattle.memory_eaw.specs.Steps.{committed}
+use Rattle.memory_eaw.specs.Shown.{plain_of}
 use Rattle.memory_eaw.proofs.Stopping.{counts_failed}
 use Rattle.memory_eaw.proofs.Commands.{calls-committed}
 use Rattle.memory_eaw.proofs.Groups.{group_len, does_group, counts_group, moment_stays, known_committed, counts_unknown}

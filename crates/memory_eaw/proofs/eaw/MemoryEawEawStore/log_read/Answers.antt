@@ -1,10 +1,12 @@
-use Rattle.std.proofs.Common.{length, sym, ◌∙◌, ap, arith}
+use Rattle.std.proofs.Common.{length, refl, sym, ◌∙◌, ap, arith}
 use Rattle.array_shape.specs.Logged.{ranges_of}
+use Rattle.eaw_face.specs.Command.{log_read}
 use Rattle.eaw_face.specs.State.{range_at, part_at}
 use Rattle.memory_eaw.specs.Plain.{Plain}
 use Rattle.memory_eaw.specs.Shown.{plain_of}
 use Rattle.memory_eaw.specs.Steps.{log_at}
 use Rattle.memory_eaw.proofs.Doing.{log_len_is, ranges_is, parts_is}
+use Rattle.memory_eaw.proofs.Commands.{does_looked}
 use Rattle.memory_eaw.proofs.eaw.MemoryEawEawStore.log_read.Goals as goal
 
 pub read_part-requires-clause-pos : goal.read_part-requires-clause-pos
@@ -12,6 +14,12 @@ read_part-requires-clause-pos c =
     let self = c.args.self.now in
     let known = c.in_ok-check_live.ensures.live.1 in
     omega (arith, c.requires known, log_len_is (plain_of self) self.sound c.args.tid known.small, ap (λ (p : Plain). length (log_at p.logs c.args.tid).parts) c.in_ok-call.ensures.done.1)
+
+pub returns-clause-does : goal.returns-clause-does
+returns-clause-does c =
+    let self = c.args.self.now in
+    let live = c.in_ok-check_live.ensures.live in
+    does_looked c.read_part.result (plain_of self) (plain_of c.call.new.self) (log_read c.args.tid) (live.0, live.1, tt) c.in_ok-call.ensures.done.1 refl refl
 
 pub returns-clause-part : goal.returns-clause-part
 returns-clause-part c =

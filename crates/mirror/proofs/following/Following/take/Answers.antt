@@ -2,7 +2,7 @@ use Rattle.std.proofs.Common.{ℕ, [], ◌∷◌, ◌++◌, ◌≡◌, ◌+◌, 
 use Rattle.std.proofs.lemmas.Bool.{false≢true}
 use Rattle.mars_base.proofs.Going.{stays}
 use Rattle.array_shape.specs.declared.shape.Shape.{Shape}
-use Rattle.mirror.specs.Frame.{AreFrame}
+use Rattle.eaw_face.specs.Frame.{AreFrame}
 use Rattle.mirror.specs.Following.{stand, LeavesFirst, IsBroken}
 use Rattle.mirror.specs.declared.follow_fault.FollowFault.TheVariants.{BadFrame, NoMemory}
 use Rattle.mirror.proofs.Streams.{byte_kept, byte_refused, frame_refused, byte_moments, frame_applied}

@@ -11,15 +11,16 @@ use Rattle.memory_eaw.specs.Log.{Log}
 use Rattle.mirror.specs.Sending.{Sends, IsSendable, group_of, sending_of}
 use Rattle.mirror.proofs.Copies.{copy_of, lt, memory_for, bytes_after}
 use Rattle.mirror.proofs.Atomic.{free_parts, write_sendable, read_back, write_data}
+use Rattle.eaw_face.specs.Command.{atomic_write}
 use Rattle.mirror.proofs.Mirrored.{refused, mirrored}
 use Rattle.mirror.proofs.primary.PrimaryEawStore.atomic_write.Goals as goal
 
-pub returns-in_err-atomic_write-clause-mirrors : goal.returns-in_err-atomic_write-clause-mirrors
-returns-in_err-atomic_write-clause-mirrors g c =
+pub returns-in_err-atomic_write-clause-does : goal.returns-in_err-atomic_write-clause-does
+returns-in_err-atomic_write-clause-does g c =
     let s = g.S.EawStore in
     let l = g.L.Link in
     let p = err_from_is_err_and c.from_residual.result c.from_residual.ensures.1 in
-    rw (← c.self.view_is) (refused s.tells l.tells _ _ (s.view c.self.inside.store) (s.view c.atomic_write.new.self) c.from_residual.result refl p.0 p.1 (λ ne. ap (λ x. (s.view x).state.bytes) (c.in_err-atomic_write.ensures.refused (λ media. ne (p.2 ∙ media)))))
+    rw (p.1, p.2) (rw (← c.self.view_is) (refused s.tells _ (atomic_write c.args.tid c.args.addr c.args.bytes.now) _ _ (s.view c.self.inside.store) (s.view c.atomic_write.new.self) c.in_err-atomic_write.field-0.0 c.in_err-atomic_write.ensures.does refl (λ ne. ap (λ x. (s.view x).state.bytes) (c.in_err-atomic_write.ensures.refused ne))))
 
 pub append-requires-clause-room : goal.append-requires-clause-room
 append-requires-clause-room g c =
@@ -48,8 +49,8 @@ send_log-requires-clause-log g c =
     subst (λ (ps : List Part). IsSendable c.self.inside.sender.shape ps) (sym parts)
     (subst (λ (sh : Shape). IsSendable sh more) (sym c.self.invariant.0) (write_sendable old.shape c.args.addr c.args.bytes.now inside d.cause.2))
 
-pub returns-clause-mirrors : goal.returns-clause-mirrors
-returns-clause-mirrors g c =
+pub returns-clause-does : goal.returns-clause-does
+returns-clause-does g c =
     let s = g.S.EawStore in
     let l = g.L.Link in
     let d = c.in_ok-atomic_write.ensures.does in
@@ -64,6 +65,6 @@ returns-clause-mirrors g c =
     let log = read_back c.self.inside.logs.items t c.from-at.result c.append.new.self c.index.result.now (lt s.tells old c.self.inside.logs.items c.self.invariant.1 t small d.cause.0 c.from-at.result c.from-at.ensures c.index_mut.result.now c.index_mut.ensures.value) c.from-at.ensures c.index.ensures in
     let parts : c.index.result.now.parts ≡ more = ap (λ (x : Log). x.parts) (log ∙ c.append.ensures) ∙ ap (λ (ps : List Part). ps ++ more) none in
     let sender = c.self.inside.sender in
-    rw (← c.self.view_is) (mirrored s.tells l.tells (sending_of l.frames l.faults sender) (sending_of l.frames l.faults c.send_log.new.self) old new tt (group_of t c.index.result.now.parts)
-    (subst (λ (sh : Shape). Sends l.tells sh (group_of t c.index.result.now.parts) (sending_of l.frames l.faults sender) (sending_of l.frames l.faults c.send_log.new.self)) c.self.invariant.0 c.send_log.ensures.sends)
+    rw (← c.self.view_is) (mirrored s.tells _ (atomic_write c.args.tid c.args.addr c.args.bytes.now) (sending_of l.tells l.frames l.faults sender) (sending_of l.tells l.frames l.faults c.send_log.new.self) old new tt (group_of t c.index.result.now.parts) d (record { mirrors = refl; told = refl }) refl
+    (subst (λ (sh : Shape). Sends l.tells sh (group_of t c.index.result.now.parts) (sending_of l.tells l.frames l.faults sender) (sending_of l.tells l.frames l.faults c.send_log.new.self)) c.self.invariant.0 c.send_log.ensures.sends)
     (write_data s.tells old new t c.args.addr c.args.bytes.now c.index.result.now.parts parts inside (g.met.S.EawStore.long c.self.inside.store) (bytes_after d.done)))

@@ -7,15 +7,16 @@ use Rattle.mirror.specs.Sending.{Sends, sending_of}
 use Rattle.mirror.specs.Groups.{AreSendable, groups_of}
 use Rattle.mirror.proofs.Copies.{logs_after, bytes_after}
 use Rattle.mirror.proofs.GroupCopies.{group_sendable, group_within, group_data, group_copies}
+use Rattle.eaw_face.specs.Command.{commit_group}
 use Rattle.mirror.proofs.Mirrored.{refused, mirrored}
 use Rattle.mirror.proofs.primary.PrimaryEawStore.commit_group.Goals as goal
 
-pub returns-in_err-commit_group-clause-mirrors : goal.returns-in_err-commit_group-clause-mirrors
-returns-in_err-commit_group-clause-mirrors g c =
+pub returns-in_err-commit_group-clause-does : goal.returns-in_err-commit_group-clause-does
+returns-in_err-commit_group-clause-does g c =
     let s = g.S.EawStore in
     let l = g.L.Link in
     let p = err_from_is_err_and c.from_residual.result c.from_residual.ensures.1 in
-    rw (← c.self.view_is) (refused s.tells l.tells _ _ (s.view c.self.inside.store) (s.view c.commit_group.new.self) c.from_residual.result refl p.0 p.1 (λ ne. ap (λ x. (s.view x).state.bytes) (c.in_err-commit_group.ensures.refused (λ media. ne (p.2 ∙ media)))))
+    rw (p.1, p.2) (rw (← c.self.view_is) (refused s.tells _ (commit_group (members c.args.tids)) _ _ (s.view c.self.inside.store) (s.view c.commit_group.new.self) c.in_err-commit_group.field-0.0 c.in_err-commit_group.ensures.does refl (λ ne. ap (λ x. (s.view x).state.bytes) (c.in_err-commit_group.ensures.refused ne))))
 
 pub send_logs-requires : goal.send_logs-requires
 send_logs-requires g c =
@@ -43,8 +44,8 @@ invariant_of-self-2 g c =
       group_copies s.tells old c.self.inside.logs.items c.self.invariant.1 d.cause.0 new c.free_logs.new.logs.items (members c.args.tids) c.free_logs.ensures.len c.free_logs.ensures.freed d.shape d.done.ranges (logs_after d.done),
     )
 
-pub returns-clause-mirrors : goal.returns-clause-mirrors
-returns-clause-mirrors g c =
+pub returns-clause-does : goal.returns-clause-does
+returns-clause-does g c =
     let s = g.S.EawStore in
     let l = g.L.Link in
     let d = c.in_ok-commit_group.ensures.does in
@@ -53,7 +54,7 @@ returns-clause-mirrors g c =
     let logs = c.self.inside.logs.items in
     let groups = groups_of logs (members c.args.tids) in
     let sender = c.self.inside.sender in
-    rw (← c.self.view_is) (mirrored s.tells l.tells (sending_of l.frames l.faults sender) (sending_of l.frames l.faults c.send_logs.new.self) old new tt groups
-    (subst (λ (sh : Shape). Sends l.tells sh groups (sending_of l.frames l.faults sender) (sending_of l.frames l.faults c.send_logs.new.self)) c.self.invariant.0
-    (subst (λ (ls : List Log). Sends l.tells sender.shape (groups_of ls (members c.args.tids)) (sending_of l.frames l.faults sender) (sending_of l.frames l.faults c.send_logs.new.self)) c.deref.ensures.value c.send_logs.ensures.sends))
+    rw (← c.self.view_is) (mirrored s.tells _ (commit_group (members c.args.tids)) (sending_of l.tells l.frames l.faults sender) (sending_of l.tells l.frames l.faults c.send_logs.new.self) old new tt groups d (record { mirrors = refl; told = refl }) refl
+    (subst (λ (sh : Shape). Sends l.tells sh groups (sending_of l.tells l.frames l.faults sender) (sending_of l.tells l.frames l.faults c.send_logs.new.self)) c.self.invariant.0
+    (subst (λ (ls : List Log). Sends l.tells sender.shape (groups_of ls (members c.args.tids)) (sending_of l.tells l.frames l.faults sender) (sending_of l.tells l.frames l.faults c.send_logs.new.self)) c.deref.ensures.value c.send_logs.ensures.sends))
     (group_data s.tells old logs c.self.invariant.1 d.cause.0 new (members c.args.tids) d.cause.1 (bytes_after d.done)))

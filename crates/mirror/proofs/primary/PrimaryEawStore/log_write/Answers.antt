@@ -1,4 +1,4 @@
-use Rattle.std.proofs.Common.{◌+◌, ◌++◌, ap, sym, ◌∙◌, refl, subst}
+use Rattle.std.proofs.Common.{◌++◌, ap, sym, ◌∙◌, refl, subst}
 use Rattle.std.specs.Prelude.{Some}
 use Rattle.std.proofs.lemmas.Result.{err_from_is_err_and}
 use Rattle.array_shape.specs.Parts.{parts_of_write}
@@ -9,12 +9,12 @@ use Rattle.mirror.proofs.Copies.{copy_of, memory_for, HasLogged, copies_now, oth
 use Rattle.mirror.proofs.Mirrored.{refused, done_quiet}
 use Rattle.mirror.proofs.primary.PrimaryEawStore.log_write.Goals as goal
 
-pub returns-in_err-len-clause-mirrors : goal.returns-in_err-len-clause-mirrors
-returns-in_err-len-clause-mirrors g c =
+pub returns-in_err-len-clause-does : goal.returns-in_err-len-clause-does
+returns-in_err-len-clause-does g c =
     let s = g.S.EawStore in
     let l = g.L.Link in
     let p = err_from_is_err_and c.from_residual.result c.from_residual.ensures.1 in
-    rw (← c.self.view_is) (refused s.tells l.tells _ _ (s.view c.self.inside.store) (s.view c.log_write.new.self) c.from_residual.result refl p.0 p.1 (λ ne. ap (λ x. (s.view x).state.bytes) (c.in_err-len.ensures.refused (λ media. ne (p.2 ∙ media)))))
+    rw (p.1, p.2) (rw (← c.self.view_is) (refused s.tells _ (log_write c.args.tid c.args.addr c.args.bytes.now) _ _ (s.view c.self.inside.store) (s.view c.log_write.new.self) c.in_err-len.field-0.0 c.in_err-len.ensures.does refl (λ ne. ap (λ x. (s.view x).state.bytes) (c.in_err-len.ensures.refused ne))))
 
 pub append-requires-clause-room : goal.append-requires-clause-room
 append-requires-clause-room g c =
@@ -38,8 +38,8 @@ invariant_of-self-2 g c =
           (subst (λ (l : Log). HasLogged s.tells old new t l.parts) (sym c.append.ensures) has),
     )
 
-pub returns-clause-mirrors : goal.returns-clause-mirrors
-returns-clause-mirrors g c =
+pub returns-clause-does : goal.returns-clause-does
+returns-clause-does g c =
     let s = g.S.EawStore in
     let l = g.L.Link in
-    rw (← c.self.view_is) (done_quiet s.tells l.tells _ _ (s.view c.self.inside.store) (s.view c.log_write.new.self) (log_write c.args.tid c.args.addr c.args.bytes.now) c.in_ok-len.len refl refl c.in_ok-len.ensures.does.done)
+    rw (← c.self.view_is) (done_quiet s.tells _ (log_write c.args.tid c.args.addr c.args.bytes.now) _ _ (s.view c.self.inside.store) (s.view c.log_write.new.self) c.in_ok-len.len c.in_ok-len.ensures.does refl refl)

@@ -10,12 +10,12 @@ use Rattle.mirror.proofs.Copies.{copy_of, sendable_at, length_of, HasLogged, cop
 use Rattle.mirror.proofs.Mirrored.{refused, mirrored, tail_data}
 use Rattle.mirror.proofs.primary.PrimaryEawStore.nested_top.Goals as goal
 
-pub returns-in_err-nested_top-clause-mirrors : goal.returns-in_err-nested_top-clause-mirrors
-returns-in_err-nested_top-clause-mirrors g c =
+pub returns-in_err-nested_top-clause-does : goal.returns-in_err-nested_top-clause-does
+returns-in_err-nested_top-clause-does g c =
     let s = g.S.EawStore in
     let l = g.L.Link in
     let p = err_from_is_err_and c.from_residual.result c.from_residual.ensures.1 in
-    rw (← c.self.view_is) (refused s.tells l.tells _ _ (s.view c.self.inside.store) (s.view c.nested_top.new.self) c.from_residual.result refl p.0 p.1 (λ ne. ap (λ x. (s.view x).state.bytes) (c.in_err-nested_top.ensures.refused (λ media. ne (p.2 ∙ media)))))
+    rw (p.1, p.2) (rw (← c.self.view_is) (refused s.tells _ (nested_top c.args.tid c.args.offset) _ _ (s.view c.self.inside.store) (s.view c.nested_top.new.self) c.in_err-nested_top.field-0.0 c.in_err-nested_top.ensures.does refl (λ ne. ap (λ x. (s.view x).state.bytes) (c.in_err-nested_top.ensures.refused ne))))
 
 pub send_log-requires-clause-log : goal.send_log-requires-clause-log
 send_log-requires-clause-log g c =
@@ -47,8 +47,8 @@ invariant_of-self-2 g c =
           (subst (λ (l : Log). HasLogged s.tells old new t l.parts) (sym c.truncate.ensures) has),
     )
 
-pub returns-clause-mirrors : goal.returns-clause-mirrors
-returns-clause-mirrors g c =
+pub returns-clause-does : goal.returns-clause-does
+returns-clause-does g c =
     let s = g.S.EawStore in
     let l = g.L.Link in
     let d = c.in_ok-nested_top.ensures.does in
@@ -58,6 +58,6 @@ returns-clause-mirrors g c =
     let log = c.index.result.now in
     let copy = copy_of s.tells (s.view c.self.inside.store) c.self.inside.logs.items c.self.invariant.1 c.args.tid (d.cause.1.small) d.cause.0 c.from-at.result c.from-at.ensures c.index.result.now c.index.ensures in
     let sender = c.self.inside.sender in
-    rw (← c.self.view_is) (mirrored s.tells l.tells (sending_of l.frames l.faults sender) (sending_of l.frames l.faults c.send_log.new.self) old new tt (group_of t (drop c.args.offset log.parts))
-    (subst (λ (sh : Shape). Sends l.tells sh (group_of t (drop c.args.offset log.parts)) (sending_of l.frames l.faults sender) (sending_of l.frames l.faults c.send_log.new.self)) c.self.invariant.0 c.send_log.ensures.sends)
+    rw (← c.self.view_is) (mirrored s.tells _ (nested_top c.args.tid c.args.offset) (sending_of l.tells l.frames l.faults sender) (sending_of l.tells l.frames l.faults c.send_log.new.self) old new tt (group_of t (drop c.args.offset log.parts)) d (record { mirrors = refl; told = refl }) refl
+    (subst (λ (sh : Shape). Sends l.tells sh (group_of t (drop c.args.offset log.parts)) (sending_of l.tells l.frames l.faults sender) (sending_of l.tells l.frames l.faults c.send_log.new.self)) c.self.invariant.0 c.send_log.ensures.sends)
     (tail_data s.tells old new t c.args.offset log.parts (bytes_after d.done) copy.parts_are))

@@ -8,12 +8,12 @@ use Rattle.mirror.proofs.Copies.{copy_of, HasLogged, copies_now, others_kept, lo
 use Rattle.mirror.proofs.Mirrored.{refused, done_quiet}
 use Rattle.mirror.proofs.primary.PrimaryEawStore.partial_abort.Goals as goal
 
-pub returns-in_err-partial_abort-clause-mirrors : goal.returns-in_err-partial_abort-clause-mirrors
-returns-in_err-partial_abort-clause-mirrors g c =
+pub returns-in_err-partial_abort-clause-does : goal.returns-in_err-partial_abort-clause-does
+returns-in_err-partial_abort-clause-does g c =
     let s = g.S.EawStore in
     let l = g.L.Link in
     let p = err_from_is_err_and c.from_residual.result c.from_residual.ensures.1 in
-    rw (← c.self.view_is) (refused s.tells l.tells _ _ (s.view c.self.inside.store) (s.view c.partial_abort.new.self) c.from_residual.result refl p.0 p.1 (λ ne. ap (λ x. (s.view x).state.bytes) (c.in_err-partial_abort.ensures.refused)))
+    rw (p.1, p.2) (rw (← c.self.view_is) (refused s.tells _ (partial_abort c.args.tid c.args.offset) _ _ (s.view c.self.inside.store) (s.view c.partial_abort.new.self) c.in_err-partial_abort.field-0.0 c.in_err-partial_abort.ensures.does refl (λ ne. ap (λ x. (s.view x).state.bytes) c.in_err-partial_abort.ensures.refused)))
 
 pub invariant_of-self-2 : goal.invariant_of-self-2
 invariant_of-self-2 g c =
@@ -31,8 +31,8 @@ invariant_of-self-2 g c =
           (subst (λ (l : Log). HasLogged s.tells old new t l.parts) (sym c.truncate.ensures) has),
     )
 
-pub returns-clause-mirrors : goal.returns-clause-mirrors
-returns-clause-mirrors g c =
+pub returns-clause-does : goal.returns-clause-does
+returns-clause-does g c =
     let s = g.S.EawStore in
     let l = g.L.Link in
-    rw (← c.self.view_is) (done_quiet s.tells l.tells _ _ (s.view c.self.inside.store) (s.view c.partial_abort.new.self) (partial_abort c.args.tid c.args.offset) tt refl refl c.in_ok-partial_abort.ensures.does.done)
+    rw (← c.self.view_is) (done_quiet s.tells _ (partial_abort c.args.tid c.args.offset) _ _ (s.view c.self.inside.store) (s.view c.partial_abort.new.self) tt c.in_ok-partial_abort.ensures.does refl refl)

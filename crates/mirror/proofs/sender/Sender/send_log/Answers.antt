@@ -2,7 +2,7 @@ use Rattle.std.proofs.Common.{ℕ, List, ◌≡◌, ◌+◌, ◌<◌, ◌≤◌,
 use Rattle.std.specs.Prelude.{flat_map, vec_capacity}
 use Rattle.std.proofs.lemmas.List.{length-drop}
 use Rattle.byteorder.specs.Endian.{little_bytes}
-use Rattle.mirror.specs.Frame.{mark, group_bytes}
+use Rattle.eaw_face.specs.Frame.{mark, group_bytes}
 use Rattle.array_shape.specs.declared.shape.Shape.{Shape}
 use Rattle.mirror.specs.Sending.{group_of, frame_most}
 use Rattle.mirror.proofs.Writing.{head_long, one_group_said}
@@ -69,4 +69,4 @@ returns-in-Err-clause-sends g c =
     let some : 0 < length (drop c.args.offset parts) = omega (arith, c.len.ensures, c.if-len-offset.false, c.requires.offset, left) in
     let mid = c.self.inside in
     frame_failed l.frames l.faults l.tells old.shape (group_of c.args.number (drop c.args.offset parts)) (some_group c.args.number (drop c.args.offset parts) some) old (record { link = mid.link; shape = mid.shape; sent = mid.sent; is_down = mid.is_down }) same
-    c.send.new.self c.in-Err.ensures.unsent c.in-Err.ensures.cause.failed
+    c.send.new.self c.in-Err.ensures.unsent c.in-Err.ensures.cause.failed c.in-Err.ensures.cause.later

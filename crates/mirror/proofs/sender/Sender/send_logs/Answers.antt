@@ -3,7 +3,7 @@ use Rattle.std.specs.Prelude.{flat_map, vec_capacity}
 use Rattle.byteorder.specs.Endian.{little_bytes}
 use Rattle.array_shape.specs.declared.shape.Shape.{Shape}
 use Rattle.array_shape.specs.NumberSet.{members}
-use Rattle.mirror.specs.Frame.{mark, group_bytes}
+use Rattle.eaw_face.specs.Frame.{mark, group_bytes}
 use Rattle.mirror.specs.Sending.{frame_most}
 use Rattle.mirror.specs.Groups.{groups_of}
 use Rattle.mirror.proofs.Writing.{head_long}
