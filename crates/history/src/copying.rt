@@ -22,7 +22,11 @@ impl Reply {
             Reply::NoSave { save } => Reply::NoSave { save: *save },
             Reply::SavesFull => Reply::SavesFull,
             Reply::Busy { holder } => Reply::Busy { holder: *holder },
-            Reply::LogFull { logger, held, needed } => Reply::LogFull {
+            Reply::LogFull {
+                logger,
+                held,
+                needed,
+            } => Reply::LogFull {
                 logger: *logger,
                 held: *held,
                 needed: *needed,
