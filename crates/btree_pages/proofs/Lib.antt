@@ -29,6 +29,7 @@ pub mod Ending
 pub mod Coming
 pub mod Giveable
 pub mod Looked
+pub mod Turning
 pub mod Keeping
 pub mod Righting
 pub mod Arriving

@@ -3,12 +3,14 @@ ghost use Rattle.std.specs.Prelude.{◌≡◌, ◌<◌, ◌≤◌, [], IfOk, IfE
 ghost use Rattle.array_shape.specs.Places.{page_count};
 ghost use Rattle.eaw_face.specs.Causes.{IsAlive};
 ghost use Rattle.record_slots.specs.Places.{page_bytes};
+ghost use Rattle.page_store.specs.Follows.{Follows, HasRead, Walks, one_reading};
 ghost use Rattle.page_store.specs.Index.{IsTable, slots_of};
 ghost use Rattle.page_store.specs.Looks.{Looks, LookCause, is_failed};
 ghost use Rattle.page_store.specs.Pairs.{AreInside, AreNext, found};
 ghost use Rattle.page_store.specs.Shown.{pages_of};
 ghost use Rattle.index_pages.specs.Fetched.{TestCause};
 ghost use Rattle.index_pages.specs.Page.{count_said};
+ghost use Rattle.btree_pages.specs.Downward.{Descended, Gathered, down, tree_finding, tree_nexting};
 ghost use Rattle.btree_pages.specs.Index.{AreSoundTrees};
 ghost use Rattle.btree_pages.specs.Leaf.{AtLeaf, Reaches};
 ghost use Rattle.btree_pages.specs.Node.{IsNode, SaysNode};
@@ -44,6 +46,8 @@ pub fn read_node<S: EawStore>(
     ensures looks { Looks S.tells (S.opens (S.view pages.old.store).shape) (is_failed result)
         (pages_of (S.view pages.old.store) pages.old) (pages_of (S.view pages.new.store) pages.new) }
     ensures cause { TestCause S.tells (IsNode (page_bytes (S.view pages.old.store).state.bytes page)) page (S.view pages.old.store) result }
+    ensures reads { HasRead S.tells (is_failed result) (S.calls pages.old.store) (S.calls pages.new.store) (S.view pages.old.store) (S.view pages.new.store)
+        (one_reading page bytes.new (page_bytes (S.view pages.old.store).state.bytes page) result) }
     ensures head { IfOk result (SaysNode bytes.new) }
     ensures bytes { IsTrue S.tells → OnOk result (bytes.new ≡ page_bytes (S.view pages.old.store).state.bytes page) }
     ensures dead { IsErrOf result PageFault.Dead → pages.new ≡ pages.old }
@@ -68,6 +72,8 @@ fn descend<S: EawStore>(
     ensures looks { Looks S.tells (S.opens (S.view pages.old.store).shape) (is_failed result)
         (pages_of (S.view pages.old.store) pages.old) (pages_of (S.view pages.new.store) pages.new) }
     ensures cause { LookCause S.tells (S.view pages.old.store) result }
+    ensures walks { Walks S.tells (S.calls pages.old.store) (S.calls pages.new.store) (down root.page key) 8 (Descended key bytes.new)
+        (S.view pages.old.store) (S.view pages.new.store) result }
     ensures leaf { IsTrue S.tells → IfOk result (λ leaf. AtLeaf root (S.view pages.old.store).state.bytes key leaf.bound bytes.new) }
     ensures count { IfOk result (λ leaf. leaf.count ≡ count_said bytes.new) }
     ensures most { IfOk result (λ leaf. leaf.count ≤ 30) }
@@ -76,6 +82,7 @@ fn descend<S: EawStore>(
 {
     let count = index_page_count(pages);
     let mut page = root.page;
+    let mut last = page;
     let mut bound = None;
     for _step in 0..WAY_MAX {
         let head = match read_node(pages, page, bytes) {
@@ -93,10 +100,11 @@ fn descend<S: EawStore>(
         if child >= u64::from(count) {
             return Err(PageFault::Damaged { page });
         }
+        last = page;
         page = child as u32;
         bound = behind.or(bound);
     }
-    Err(PageFault::Damaged { page })
+    Err(PageFault::Damaged { page: last })
 }
 
 // The slot of a key.
@@ -111,6 +119,8 @@ pub fn find<S: EawStore>(
     ensures looks { Looks S.tells (S.opens (S.view pages.old.store).shape) (is_failed result)
         (pages_of (S.view pages.old.store) pages.old) (pages_of (S.view pages.new.store) pages.new) }
     ensures cause { LookCause S.tells (S.view pages.old.store) result }
+    ensures follows { Follows S.tells (S.calls pages.old.store) (S.calls pages.new.store) (tree_finding root.page key) (λ slot. slot)
+        (S.view pages.old.store) (S.view pages.new.store) result }
     ensures found { IsTrue S.tells → IfOk result (λ slot. slot ≡ found (pairs_of_tree (S.view pages.old.store).state.bytes root.page) key) }
     ensures inside { IfOk result (λ slot. IfSome slot (λ slot. slot < slots_of (S.view pages.old.store).shape)) }
     ensures dead { IsErrOf result PageFault.Dead → pages.new ≡ pages.old }
@@ -146,6 +156,8 @@ fn reach<S: EawStore>(pages: &mut Pages<S>, root: Root, from: u64) -> Result<Rea
     ensures looks { Looks S.tells (S.opens (S.view pages.old.store).shape) (is_failed result)
         (pages_of (S.view pages.old.store) pages.old) (pages_of (S.view pages.new.store) pages.new) }
     ensures cause { LookCause S.tells (S.view pages.old.store) result }
+    ensures walks { Walks S.tells (S.calls pages.old.store) (S.calls pages.new.store) (down root.page from) 8 (Gathered from)
+        (S.view pages.old.store) (S.view pages.new.store) result }
     ensures reaches { IsTrue S.tells → IfOk result (λ at. Reaches root (S.view pages.old.store).state.bytes from at.some.items at.bound) }
     ensures inside { IfOk result (λ at. AreInside from (slots_of (S.view pages.old.store).shape) at.some.items) }
     ensures above { IfOk result (λ at. IfSome at.bound (λ bound. from < bound)) }
@@ -188,6 +200,8 @@ pub fn next<S: EawStore>(
     ensures looks { Looks S.tells (S.opens (S.view pages.old.store).shape) (is_failed result)
         (pages_of (S.view pages.old.store) pages.old) (pages_of (S.view pages.new.store) pages.new) }
     ensures cause { LookCause S.tells (S.view pages.old.store) result }
+    ensures follows { Follows S.tells (S.calls pages.old.store) (S.calls pages.new.store) (tree_nexting root.page from) (λ some. some.items)
+        (S.view pages.old.store) (S.view pages.new.store) result }
     ensures next { IsTrue S.tells → IfOk result (λ some. AreNext (pairs_of_tree (S.view pages.old.store).state.bytes root.page) from some.items) }
     ensures inside { IfOk result (λ some. AreInside from (slots_of (S.view pages.old.store).shape) some.items) }
     ensures dead { IsErrOf result PageFault.Dead → pages.new ≡ pages.old }

@@ -1,8 +1,10 @@
 mod accounts;
 mod arrays;
 mod counting;
+mod feeds;
 mod histories;
 mod lists;
+mod mirrors;
 mod opening;
 mod queues;
 mod reply_texts;

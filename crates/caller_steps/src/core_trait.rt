@@ -6,7 +6,7 @@ ghost use Rattle.caller_steps.specs.Core.{CoreView, Steps};
 ghost use Rattle.caller_steps.specs.Fate.{is_busy, is_refusal};
 ghost use Rattle.caller_steps.specs.Locked.{IsLocked};
 
-use history::{Call, Reply};
+use history::{Call, History, Reply};
 
 /// Makes one step at a time: a caller's call on a table of records, with locks on keys that are held until the transaction ends.
 pub trait Core {
@@ -34,6 +34,10 @@ pub trait Core {
     /// How many transactions have committed since the opening.
     fn told(&self) -> u64
         ensures { result ≡ length (view self.now).state.history };
+
+    /// The transactions committed since the opening, in the order of their commits.
+    fn history(&self) -> &History
+        ensures { result.now ≡ (view self.now).state.history };
 }
 
 /// A core behind a pointer, which is quick to hand on.
@@ -65,5 +69,11 @@ impl<C: Core> Core for Box<C> {
         ensures { result ≡ length (C.view self.now.value).state.history }
     {
         self.as_ref().told()
+    }
+
+    fn history(&self) -> &History
+        ensures { result.now ≡ (C.view self.now.value).state.history }
+    {
+        self.as_ref().history()
     }
 }

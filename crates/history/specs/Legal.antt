@@ -9,6 +9,11 @@ use Rattle.history.specs.declared.transaction.Done.{Done}
 abbrev pub records : Table → List Done → Table
 records base history = fold (λ was done. left_by was done.calls) base history
 
+-- transactions numbered from n on
+abbrev pub AreNumberedFrom : ℕ → List Done → Type 0
+AreNumberedFrom n [] = Unit {0}
+AreNumberedFrom n (done ∷ dones) = (done.at ≡ n) × AreNumberedFrom (n + 1) dones
+
 -- transactions numbered from n on, each right on what those before it leave
 abbrev pub IsLegalFrom : ℕ → Table → List Done → Type 0
 IsLegalFrom n base [] = Unit {0}

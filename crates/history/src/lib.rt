@@ -6,6 +6,7 @@
 #![tactic(auto)]
 
 mod call;
+mod copying;
 mod laws;
 mod locks;
 mod replay;
@@ -13,6 +14,7 @@ mod rows;
 mod transaction;
 
 pub use call::{Call, Reply};
+pub use copying::since;
 pub use laws::{logs_show_what_is_seen, others_stay_right, strict_locking, what_a_write_shows};
 pub use locks::{MAIN_TABLE, Mode, stripe_of};
 pub use replay::{is_legal, play};

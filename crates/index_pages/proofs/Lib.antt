@@ -14,6 +14,7 @@ pub mod Fronts
 pub mod Listed
 pub mod Placing
 pub mod Causing
+pub mod Courses
 pub mod Going
 pub mod Carrying
 pub mod Slotted

@@ -13,4 +13,6 @@ within index most actions = record {
   has_page = index.has_page;
   actions = actions;
   removal = index.removal;
+  finding = index.finding;
+  nexting = index.nexting;
 }

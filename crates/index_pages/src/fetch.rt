@@ -4,6 +4,7 @@ ghost use Rattle.array_shape.specs.Places.{page_count};
 ghost use Rattle.record_slots.specs.Places.{page_bytes, slot_of, free_slot_of, free_page_of, IsSuper};
 ghost use Rattle.record_slots.specs.Slots.{slot_said};
 ghost use Rattle.record_slots.specs.Super.{SaysSuper, HasTables};
+ghost use Rattle.page_store.specs.Follows.{HasRead, one_reading};
 ghost use Rattle.page_store.specs.Index.{slots_of, index_pages_of};
 ghost use Rattle.page_store.specs.Looks.{Looks, is_failed};
 ghost use Rattle.page_store.specs.Shown.{pages_of};
@@ -40,6 +41,8 @@ pub fn fetch_page<S: EawStore>(
     ensures looks { Looks S.tells (S.opens (S.view pages.old.store).shape) (is_failed result)
         (pages_of (S.view pages.old.store) pages.old) (pages_of (S.view pages.new.store) pages.new) }
     ensures cause { ReadCause (S.view pages.old.store) result }
+    ensures reads { HasRead S.tells (is_failed result) (S.calls pages.old.store) (S.calls pages.new.store) (S.view pages.old.store) (S.view pages.new.store)
+        (one_reading page bytes.new (page_bytes (S.view pages.old.store).state.bytes page) result) }
     ensures bytes { IsTrue S.tells → OnOk result (bytes.new ≡ page_bytes (S.view pages.old.store).state.bytes page) }
     ensures dead { IsErrOf result PageFault.Dead → pages.new ≡ pages.old }
 {

@@ -1,3 +1,4 @@
+pub mod Ends
 pub mod Walking
 pub mod Chains
 pub mod ChainActions

@@ -1,6 +1,7 @@
 pub mod Chain
 pub mod Changes
 pub mod Linked
+pub mod Along
 pub mod Index
 pub mod Located
 pub mod Checked

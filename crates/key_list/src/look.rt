@@ -3,10 +3,12 @@ ghost use Rattle.std.specs.Prelude.{◌≡◌, ◌≢◌, ◌<◌, ◌≤◌, No
 ghost use Rattle.array_shape.specs.Places.{page_count};
 ghost use Rattle.eaw_face.specs.Causes.{IsAlive};
 ghost use Rattle.record_slots.specs.Places.{page_bytes};
+ghost use Rattle.page_store.specs.Follows.{Follows, HasRead, Walks, one_reading};
 ghost use Rattle.page_store.specs.Index.{slots_of, index_pages_of, IsTable};
 ghost use Rattle.page_store.specs.Looks.{Looks, LookCause, is_failed};
 ghost use Rattle.page_store.specs.Pairs.{AreInside, AreNext, found, next};
 ghost use Rattle.page_store.specs.Shown.{pages_of};
+ghost use Rattle.key_list.specs.Along.{Arrives, along, chain_finding, chain_nexting};
 ghost use Rattle.key_list.specs.Chain.{IsSoundChain, pairs_of_chain, page_of_key};
 ghost use Rattle.index_pages.specs.Fetched.{TestCause};
 ghost use Rattle.index_pages.specs.Page.{count_said, pairs_said};
@@ -30,6 +32,8 @@ pub fn read_page<S: EawStore>(
         (pages_of (S.view pages.old.store) pages.old) (pages_of (S.view pages.new.store) pages.new) }
     ensures cause { TestCause S.tells (IsLinked (index_pages_of (S.view pages.old.store).shape) (page_bytes (S.view pages.old.store).state.bytes page)) page
         (S.view pages.old.store) result }
+    ensures reads { HasRead S.tells (is_failed result) (S.calls pages.old.store) (S.calls pages.new.store) (S.view pages.old.store) (S.view pages.new.store)
+        (one_reading page bytes.new (page_bytes (S.view pages.old.store).state.bytes page) result) }
     ensures head { IfOk result (SaysLeaf bytes.new) }
     ensures link { IfOk result (λ head. head.link < index_pages_of (S.view pages.old.store).shape) }
     ensures bytes { IsTrue S.tells → OnOk result (bytes.new ≡ page_bytes (S.view pages.old.store).state.bytes page) }
@@ -68,13 +72,17 @@ fn reach<S: EawStore>(
     ensures looks { Looks S.tells (S.opens (S.view pages.old.store).shape) (is_failed result)
         (pages_of (S.view pages.old.store) pages.old) (pages_of (S.view pages.new.store) pages.new) }
     ensures cause { LookCause S.tells (S.view pages.old.store) result }
+    ensures walks { Walks S.tells (S.calls pages.old.store) (S.calls pages.new.store) (along root from) (index_pages_of (S.view pages.old.store).shape) (Arrives from bytes.new)
+        (S.view pages.old.store) (S.view pages.new.store) result }
     ensures reaches { IsTrue S.tells → IfOk result (λ at. IfSome at (λ at. Reaches (S.view pages.old.store).state.bytes root table from bytes.new)) }
     ensures end { IsTrue S.tells → IfOk result (λ at. IfNone at (next (pairs_of_chain (S.view pages.old.store).state.bytes root) from ≡ None)) }
     ensures some { IfOk result (λ at. IfSome at (λ at. (at.count ≡ count_said bytes.new) × (at.count ≤ 30) × (next (pairs_said bytes.new) from ≢ None))) }
+    ensures none { IfOk result (λ at. IfNone at (next (pairs_said bytes.new) from ≡ None)) }
     ensures dead { IsErrOf result PageFault.Dead → pages.new ≡ pages.old }
 {
     let count = index_page_count(pages);
     let mut page = root;
+    let mut last = root;
     for _step in 0..count {
         let head = match read_page(pages, page, bytes) {
             Ok(head) => head,
@@ -89,9 +97,10 @@ fn reach<S: EawStore>(
         if head.link == 0 {
             return Ok(None);
         }
+        last = page;
         page = head.link;
     }
-    Err(PageFault::Damaged { page })
+    Err(PageFault::Damaged { page: last })
 }
 
 // The pairs from a key on in the first page that has any.
@@ -108,6 +117,8 @@ pub fn next<S: EawStore>(
     ensures looks { Looks S.tells (S.opens (S.view pages.old.store).shape) (is_failed result)
         (pages_of (S.view pages.old.store) pages.old) (pages_of (S.view pages.new.store) pages.new) }
     ensures cause { LookCause S.tells (S.view pages.old.store) result }
+    ensures follows { Follows S.tells (S.calls pages.old.store) (S.calls pages.new.store) (chain_nexting root from) (λ some. some.items)
+        (S.view pages.old.store) (S.view pages.new.store) result }
     ensures next { IsTrue S.tells → IfOk result (λ some. AreNext (pairs_of_chain (S.view pages.old.store).state.bytes root) from some.items) }
     ensures inside { IfOk result (λ some. AreInside from (slots_of (S.view pages.old.store).shape) some.items) }
     ensures dead { IsErrOf result PageFault.Dead → pages.new ≡ pages.old }
@@ -139,6 +150,8 @@ pub fn find<S: EawStore>(
     ensures looks { Looks S.tells (S.opens (S.view pages.old.store).shape) (is_failed result)
         (pages_of (S.view pages.old.store) pages.old) (pages_of (S.view pages.new.store) pages.new) }
     ensures cause { LookCause S.tells (S.view pages.old.store) result }
+    ensures follows { Follows S.tells (S.calls pages.old.store) (S.calls pages.new.store) (chain_finding root key) (λ slot. slot)
+        (S.view pages.old.store) (S.view pages.new.store) result }
     ensures found { IsTrue S.tells → IfOk result (λ slot. slot ≡ found (pairs_of_chain (S.view pages.old.store).state.bytes root) key) }
     ensures inside { IfOk result (λ slot. IfSome slot (λ slot. slot < slots_of (S.view pages.old.store).shape)) }
     ensures dead { IsErrOf result PageFault.Dead → pages.new ≡ pages.old }

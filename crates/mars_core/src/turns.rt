@@ -86,13 +86,6 @@ impl<S: EawStore, K: KeyIndex> Core<S, K> {
         begin_over(alloc, records, base)
     }
 
-    /// The transactions committed since the opening, in the order of their commits.
-    pub fn history(&self) -> &History
-        ensures { result.now ≡ self.now.history }
-    {
-        &self.history
-    }
-
     /// The records at the opening, in the order of their keys.
     pub fn base(&self) -> &Rows
         ensures base { result.now ≡ self.now.base }
@@ -305,6 +298,10 @@ impl<S: EawStore, K: KeyIndex> Steps for Core<S, K> {
 
     fn told(&self) -> u64 {
         self.history.len() as u64
+    }
+
+    fn history(&self) -> &History {
+        &self.history
     }
 }
 

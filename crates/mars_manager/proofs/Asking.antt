@@ -1,5 +1,5 @@
 -- Who asked for what: what steps add, and what stays.
-use Rattle.std.proofs.Common.{◌≡◌, ◌≢◌, ◌⊎◌, ℕ, zero, suc, ◌+◌, ◌<◌, ◌≤◌, Bool, true, false, List, [], ◌∷◌, ◌++◌, length, refl, sym, ap, ◌∙◌, subst, inl, inr, ⊎_elim, arith, append_assoc}
+use Rattle.std.proofs.Common.{◌≡◌, ◌⊎◌, ℕ, zero, suc, ◌+◌, ◌<◌, Bool, true, false, List, [], ◌∷◌, ◌++◌, refl, sym, ap, ◌∙◌, subst, inl, inr, ⊎_elim, arith, append_assoc}
 use Rattle.std.specs.Prelude.{Contains}
 use Rattle.std.specs.Int.{bit_at}
 use mathlib.Core.List.{append-nil}
@@ -11,12 +11,12 @@ use Rattle.std.proofs.lemmas.Bool.{lt-ltb}
 use Rattle.history.specs.declared.locks.Mode.{Mode}
 use Rattle.history.specs.declared.locks.Mode.TheVariants as mode
 use Rattle.stripe_words.specs.declared.hold.Hold.{Hold}
-use Rattle.stripe_words.specs.declared.hold.Hold.TheVariants.{Free, Trying, Shared, Exclusive}
-use Rattle.stripe_words.specs.Words.{Stands, gained, marked, locked, HasBit, HasLock, IsLowest, Refuses}
+use Rattle.stripe_words.specs.declared.hold.Hold.TheVariants.{Free, Shared, Exclusive}
+use Rattle.stripe_words.specs.Words.{Stands, gained, marked, HasLock, Refuses}
 use Rattle.mars_manager.specs.declared.view.Met.{Met}
 use Rattle.mars_manager.specs.declared.view.Known.{Known}
 use Rattle.mars_manager.specs.Locks.{met}
-use Rattle.mars_manager.specs.Asked.{bit_for, set_for, AsksFor, HasAsked, IsCaused, AreCaused, against, IsStepFor, IsReadingBelow, IsStepOf, Meets}
+use Rattle.mars_manager.specs.Asked.{bit_for, set_for, AsksFor, HasAsked, IsCaused, against, IsStepFor, IsReadingBelow, IsStepOf, Meets}
 
 pub only_one : {A : Type 0} (x y : A) → Contains (x ∷ []) y → x ≡ y
 only_one x y (zero, l, e) = e

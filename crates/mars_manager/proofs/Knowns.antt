@@ -5,7 +5,7 @@ use mathlib.Core.Logic.{dite}
 use native.Mathlib.Decide.{dec_le, ℕ_discrete}
 use mathlib.Core.List.{append-nil}
 use Rattle.std.proofs.lemmas.List.{set-set, set-get_or}
-use Rattle.history.specs.Locks.{Touch, touches}
+use Rattle.history.specs.Locks.{Touch}
 use Rattle.history.specs.declared.locks.Mode.{Mode}
 use Rattle.history.specs.declared.locks.Mode.TheVariants as mode
 use Rattle.stripe_words.specs.declared.hold.Hold.{Hold}

@@ -1,7 +1,7 @@
 -- What passes have of the stripes covers what their live transactions touched.
-use Rattle.std.proofs.Common.{◌≡◌, ◌≢◌, ◌⊎◌, ◌||◌, ℕ, ◌+◌, ◌*◌, ◌%◌, ◌<◌, ◌≤◌, mod-lt, eqb, Bool, true, false, List, [], ◌∷◌, ◌++◌, length, get_or, Option, Some, None, unwrap_or, refl, sym, ap, ◌∙◌, subst, inl, inr, ⊎_elim, arith, eq-eqb, ne_eqb}
-use Rattle.std.specs.Prelude.{if◌then◌else◌, IsTrue, IsFalse, is_some}
-use Rattle.std.proofs.lemmas.Bool.{eqb-true, ltb-true, true≢false, false≢true, or_cases, or_parts, false_from_ne_true}
+use Rattle.std.proofs.Common.{◌≡◌, ◌≢◌, ◌⊎◌, ℕ, ◌+◌, ◌*◌, ◌%◌, ◌<◌, mod-lt, Bool, true, false, List, [], ◌∷◌, ◌++◌, get_or, Option, unwrap_or, refl, sym, ap, ◌∙◌, subst, ⊎_elim, arith}
+use Rattle.std.specs.Prelude.{IsTrue, IsFalse, is_some}
+use Rattle.std.proofs.lemmas.Bool.{eqb-true, ltb-true, false≢true, or_cases, or_parts}
 use mathlib.Core.Logic.{dite}
 use mathlib.Core.Option.{some}
 use native.Mathlib.Decide.{ℕ_discrete}

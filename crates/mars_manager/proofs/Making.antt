@@ -1,7 +1,7 @@
 -- What a whole call guarantees: what it locks, its turn, and what it gives back.
-use Rattle.std.proofs.Common.{◌≡◌, ◌≢◌, ◌&&◌, ℕ, ◌+◌, ◌<◌, ◌≤◌, not, Bool, true, false, List, [], ◌∷◌, ◌++◌, length, get_or, replicate, Option, Some, None, unwrap_or, Result, Ok, Err, ⊎_elim, refl, sym, ap, ◌∙◌, subst, arith}
+use Rattle.std.proofs.Common.{◌≡◌, ◌≢◌, ◌&&◌, ℕ, not, Bool, true, false, List, [], ◌∷◌, ◌++◌, get_or, replicate, Option, None, unwrap_or, Result, Ok, Err, ⊎_elim, refl, sym, ap, ◌∙◌, subst}
 use Rattle.std.specs.Prelude.{IsTrue, IsFalse, IfOk, is_some, MatchBool, if◌then◌else◌}
-use Rattle.std.proofs.lemmas.Bool.{true≢false, false≢true, cond-true, cond-false}
+use Rattle.std.proofs.lemmas.Bool.{true≢false, false≢true}
 use Rattle.std.specs.List.{fold}
 use mathlib.Core.List.{append-nil}
 use Rattle.history.specs.Table.{Granted}
@@ -9,20 +9,17 @@ use Rattle.history.specs.Locks.{Touch, touches, touched}
 use Rattle.history.specs.declared.call.Call.{Call}
 use Rattle.history.specs.declared.call.Call.TheVariants.{Begin, Get, Put, Del, Scan, Save, Back, Commit, Abort}
 use Rattle.history.specs.declared.call.Reply.{Reply}
-use Rattle.history.specs.declared.call.Reply.TheVariants as says
 use Rattle.history.specs.declared.locks.Mode.TheVariants as mode
 use Rattle.caller_steps.specs.Core.{CoreView}
-use Rattle.caller_steps.specs.Fate.{is_refusal, is_media, is_busy, is_committed, live_with}
+use Rattle.caller_steps.specs.Fate.{is_refusal, is_media, live_with}
 use Rattle.caller_steps.specs.Own.{Own, own_after, nothing_own, is_commit, live_after, live_by}
-use Rattle.caller_steps.specs.Prefix.{Grows}
 use Rattle.stripe_words.specs.declared.hold.Hold.{Hold}
 use Rattle.stripe_words.specs.declared.hold.Hold.TheVariants.{Free, Trying, Shared, Exclusive}
 use Rattle.stripe_words.specs.Words.{granted, locked, raised}
 use Rattle.mars_manager.specs.declared.view.Known.{Known}
-use Rattle.mars_manager.specs.declared.view.Met.{Met}
-use Rattle.mars_manager.specs.Pass.{told_of, live_of, known_after, finds}
-use Rattle.mars_manager.specs.Locks.{IsCovered, IsBelow, raised_for, is_end, is_live_after, steps_of, touched_by, hold_of, with_holds, with_locks, HasLockedFor, HasReadied, HasAfter, IsAgain}
-use Rattle.mars_manager.specs.Sharing.{Called, Commits, IsLegalIn, HasCommitted, mine_of}
+use Rattle.mars_manager.specs.Pass.{told_of, live_of, known_after}
+use Rattle.mars_manager.specs.Locks.{IsCovered, IsBelow, raised_for, is_end, is_live_after, touched_by, hold_of, with_holds, with_locks, HasLockedFor, HasReadied, HasAfter}
+use Rattle.mars_manager.specs.Sharing.{Called}
 use Rattle.mars_manager.specs.Seat.{HasMade}
 use Rattle.mars_manager.proofs.Knowns.{below_raised, below_same}
 use Rattle.mars_manager.proofs.Locked.{covered_with, covered_none}

@@ -1,5 +1,5 @@
 -- Each step on the word of a stripe keeps the rule.
-use Rattle.std.proofs.Common.{◌≡◌, ◌≢◌, ◌⊎◌, ℕ, ◌+◌, ◌/◌, ◌^◌, ◌<◌, ◌≤◌, eqb, Bool, List, [], ◌∷◌, ◌++◌, length, set, get_or, replicate, Option, Some, None, unwrap_or, refl, sym, ap, ◌∙◌, subst, inl, inr, ⊎_elim, arith, w64, length-set, get_or-set_same, get_or-set_other, eq-eqb, ne_eqb}
+use Rattle.std.proofs.Common.{◌≡◌, ◌≢◌, ◌⊎◌, ℕ, ◌+◌, ◌/◌, ◌^◌, ◌<◌, eqb, Bool, List, [], ◌∷◌, ◌++◌, length, set, get_or, Option, None, unwrap_or, refl, sym, ap, ◌∙◌, subst, inl, inr, ⊎_elim, arith, w64, length-set, get_or-set_same, get_or-set_other, eq-eqb, ne_eqb}
 use Rattle.std.specs.Prelude.{if◌then◌else◌, Contains}
 use Rattle.std.proofs.lemmas.List.Elements.{Contains-append_cases}
 use Rattle.std.specs.Int.{bit_at, bit_not}
@@ -18,7 +18,7 @@ use Rattle.atomic_table.specs.Table.{step, Act, keeps, stepped, Valid, carried_a
 use Rattle.atomic_table.proofs.Lists.{exchanged, set_else}
 use Rattle.stripe_words.specs.declared.hold.Hold.{Hold}
 use Rattle.stripe_words.specs.declared.hold.Hold.TheVariants.{Free, Trying, Shared, Exclusive}
-use Rattle.stripe_words.specs.Words.{Stands, gained, marked, locked}
+use Rattle.stripe_words.specs.Words.{Stands, gained, locked}
 use Rattle.stripe_words.proofs.Steps.{stands_same, is_word, marks_word, undoes_word, unlocks_word, backs_word, locks_word, finds_other, finds_lock}
 use Rattle.mars_manager.specs.declared.view.Known.{Known}
 use Rattle.mars_manager.specs.declared.view.Met.{Met}
@@ -30,7 +30,7 @@ use Rattle.mars_manager.specs.Pass.{Fits, AllFit, times}
 use Rattle.mars_manager.specs.Locks.{IsCovered, IsPass, touched_by, hold_of, with_hold, noted, marked_by, excluded_by, IsUnwritten, IsUntouched}
 use Rattle.mars_manager.specs.Seat.{TableOf, SeatOf, IsSeat, IsIdle, first_of, seat_of, shared_view}
 use Rattle.mars_manager.specs.Rule.{Face, AllHave, IsFree, IsHeld, IsKept, Rule, marks, excludes, releases, backs}
-use Rattle.mars_manager.proofs.Seats.{times_first, inside, each_set}
+use Rattle.mars_manager.proofs.Seats.{times_first, each_set}
 use Rattle.mars_manager.proofs.Knowns.{Covered, Moves, number_moves, moves_mark, moves_exclude, moves_note, moves_release, moves_undo, moves_back}
 use Rattle.mars_manager.proofs.Asking.{bit_is, asked_left, asked_right, Notes, notes_one, notes_none, mark_asks, exclude_asks, free_asks, back_asks}
 use Rattle.mars_manager.proofs.Turns.{some≢none, is_open, same_at, same_count, number_below, one_seat, live_at}

@@ -18,17 +18,16 @@ use Rattle.mars_manager.specs.declared.view.Known.{Known}
 use Rattle.mars_manager.specs.declared.view.Stage.TheVariants.{Vacant, Opening, Shared}
 use Rattle.mars_manager.specs.declared.view.View.{View}
 use Rattle.mars_manager.specs.declared.setup.Setup.{Setup}
-use Rattle.mars_manager.specs.Pass.{Fits, AllFit, live_of, times, finds, hears}
+use Rattle.mars_manager.specs.Pass.{Fits, AllFit, known_at, live_of, times, finds, hears}
 use Rattle.mars_manager.specs.Sharing.{Since}
 use Rattle.mars_manager.specs.Seat.{TableOf, SeatOf, shared_view, opener}
-use Rattle.mars_manager.specs.Rule.{Face, AllHave, AreLocked, HasAlone, count, IsFree, IsHeld, IsKept, IsFresh, IsOpening, Rule, takes_turn, shown, tells_length, gives_turn, looks}
+use Rattle.mars_manager.specs.Rule.{Face, AllHave, HasAlone, count, IsFree, IsHeld, IsKept, IsFresh, IsOpening, Rule, takes_turn, shown, tells_length, gives_turn, gives_read, looks}
 use Rattle.mars_manager.specs.Locks.{IsCovered, hold_of}
 use Rattle.mars_manager.proofs.Locked.{locked_same, locked_step, locked_granted}
 use Rattle.stripe_words.specs.declared.hold.Hold.{Hold}
-use Rattle.stripe_words.specs.declared.hold.Hold.TheVariants.{Free, Trying, Exclusive}
-use Rattle.stripe_words.specs.declared.hold.Hold.TheVariants as hold
-use Rattle.stripe_words.specs.Words.{granted, locked, Stands}
-use Rattle.history.specs.Locks.{touches, touched, is_touch}
+use Rattle.stripe_words.specs.declared.hold.Hold.TheVariants.{Free}
+use Rattle.stripe_words.specs.Words.{granted, locked}
+use Rattle.history.specs.Locks.{touches, touched}
 use Rattle.history.specs.declared.call.Call.TheVariants.{Begin}
 use Rattle.history.specs.declared.locks.Mode.TheVariants as mode
 use Rattle.caller_steps.specs.State.{calls_of}
@@ -221,6 +220,7 @@ module _ {C : Type 0} (f : Face C) (setup : Setup C) where
             core = h.core;
             now = refl;
             alone = λ alive. alone_at s id k h at alive;
+            seen = grows_longer k.seen (f.show h.core).state.history (turn_grows f.tells (f.show setup.first).limits k.number k.past k.seen (f.show setup.first).state (f.show h.core).state h.turns (h.fit id (shared_view (k ∷ []) None) at).0.last);
             few = λ n has. (let m = h.ready.enough in let same = ap (λ (l : Limits). l.callers) h.since.limits in let l = number_below s h n id (shared_view (k ∷ []) None) at has in omega arith);
           },
           λ ne. absurd (ne free),
@@ -400,6 +400,46 @@ module _ {C : Type 0} (f : Face C) (setup : Setup C) where
       let x = holder_is s h id v core at refl in
       (shared_view (k ∷ []) None, gives, tt, inr (inr (given_by s id k core h x.3 at x.0 x.1)), refl)
 
+  read_by : (s : TableOf C) (id : ℕ) (k : Known C) (core : C) (h : IsKept f setup s) → h.core ≡ core → get_elem? s.views id ≡ some (shared_view (k ∷ []) (Some core))
+      → (x : IsHeld h.core s) → x.seat ≡ id
+      → IsKept f setup (stepped s 64 0 id ((0, Some core) ∷ []) (shared_view (known_at k h.turns (f.show h.core).state ∷ []) None) gives)
+  read_by s id k core h same at x seat =
+      let v : View C = shared_view (k ∷ []) (Some core) in
+      let w : View C = shared_view (known_at k h.turns (f.show h.core).state ∷ []) None in
+      let long : 64 < length s.words = (let t = h.wide in omega arith) in
+      let mine : Fits f.tells f.show setup h.turns (f.show h.core).state k = (h.fit id v at).0 in
+      same_core s h id v w (set s.words 64 0) (set s.homes 0 (some (Some core))) at refl (λ _. refl)
+      (record { setup_is = mine.setup_is; last = turn_own f.tells (f.show setup.first).limits k.number (f.show setup.first).state (f.show h.core).state h.turns h.run; heard = mine.heard }, tt)
+      ((h.locks.have id v at).0, tt) (λ t l. beside s.words 64 0 t (omega arith) l)
+      (length-set s.words 64 0 ∙ h.wide) (length-set s.homes 0 (some (Some core)) ∙ h.one) (get_or-set_other s.words 64 65 0 0 (λ e. omega arith) ∙ h.told)
+      (inl (record {
+        turn = get_or-set_same s.words 64 0 0 long;
+        home = set_here s.homes 0 (some (Some core)) (let o = h.one in omega arith) ∙ ap (λ (c : C). some (some (Some c))) (sym same);
+        nobody = each_set (λ i u. u.held ≡ None) s.views id w refl (λ j u ne e. x.others j u (λ z. ne (z ∙ seat)) e);
+      }))
+
+  pub gives_read_keeps : (slots id : ℕ) (k : Known C) (core : C)
+      → Allows (Rule f setup) slots id (shared_view (k ∷ []) (Some core), (0, Some core) ∷ []) 64 (λ _. 0) (λ _. gives_read f (step slots 64 0 0 none) (shared_view (k ∷ []) (Some core), (0, Some core) ∷ []) 0)
+  gives_read_keeps slots id k core s rule wide at _ =
+      let v : View C = shared_view (k ∷ []) (Some core) in
+      let h : IsKept f setup s = is_open s id v rule at refl in
+      let x = holder_is s h id v core at refl in (
+        shared_view (known_at k h.turns (f.show h.core).state ∷ []) None,
+        gives,
+        tt,
+        inr (inr (read_by s id k core h x.3 at x.0 x.1)),
+        λ was held. let now : C → SeatOf C = λ c. (shared_view (known_at k h.turns (f.show c).state ∷ []) None, []) in
+            let is : h.core ≡ was = x.3 ∙ some_same core was held in record {
+              setup = setup;
+              turns = h.turns;
+              now = ap now is;
+              fit = subst (λ c. AllFit f.tells f.show setup h.turns (f.show c).state (k ∷ [])) is (h.fit id v at);
+              since = subst (λ c. Since f.tells (f.show setup.first) (f.show c)) is h.since;
+              whose = h.whose;
+              ready = h.ready;
+            },
+      )
+
   looked_by : (s : TableOf C) (id : ℕ) (k : Known C) (h : IsKept f setup s) → get_elem? s.views id ≡ some (shared_view (k ∷ []) None)
       → IsKept f setup (stepped s 65 (get_or s.words 65 0) id [] (shared_view (hears (get_or s.words 65 0) k ∷ []) None) keeps)
   looked_by s id k h at =
@@ -454,6 +494,10 @@ module _ {C : Type 0} (f : Face C) (setup : Setup C) where
   pub gives_as : (slots id : ℕ) (k : Known C) (core : C) (m : SeatOf C) → m ≡ (shared_view (k ∷ []) (Some core), (0, Some core) ∷ [])
       → Allows (Rule f setup) slots id m 64 (λ _. 0) (λ _. gives_turn (step slots 64 0 0 none) m 0)
   gives_as slots id k core m e = subst (λ (m : SeatOf C). Allows (Rule f setup) slots id m 64 (λ _. 0) (λ _. gives_turn (step slots 64 0 0 none) m 0)) (sym e) (gives_keeps slots id k core)
+
+  pub gives_read_as : (slots id : ℕ) (k : Known C) (core : C) (m : SeatOf C) → m ≡ (shared_view (k ∷ []) (Some core), (0, Some core) ∷ [])
+      → Allows (Rule f setup) slots id m 64 (λ _. 0) (λ _. gives_read f (step slots 64 0 0 none) m 0)
+  gives_read_as slots id k core m e = subst (λ (m : SeatOf C). Allows (Rule f setup) slots id m 64 (λ _. 0) (λ _. gives_read f (step slots 64 0 0 none) m 0)) (sym e) (gives_read_keeps slots id k core)
 
   pub looks_as : (slots id : ℕ) (k : Known C) (m : SeatOf C) → m ≡ (shared_view (k ∷ []) None, [])
       → Allows (Rule f setup) slots id m 65 (λ n. n) (looks (step slots 65 0 0 none) m)

@@ -1,5 +1,5 @@
 -- What a pass has of the stripes of keys, and how its steps change that.
-use Rattle.std.specs.Prelude.{ℕ, ◌≡◌, ◌≢◌, ◌<◌, ◌≤◌, ◌+◌, ◌/◌, ◌^◌, ◌==◌, Bool, true, false, not, ◌&&◌, IsTrue, IsFalse, MatchBool, is_some, filter, Option, None, if◌then◌else◌, List, [], ◌∷◌, ◌++◌, length, replicate, slice_index_or, slice_set, unwrap_or}
+use Rattle.std.specs.Prelude.{ℕ, ◌≡◌, ◌≢◌, ◌<◌, ◌≤◌, ◌+◌, ◌/◌, ◌^◌, ◌==◌, Bool, true, false, not, ◌&&◌, IsTrue, IsFalse, MatchBool, is_some, filter, None, if◌then◌else◌, List, [], ◌∷◌, ◌++◌, length, replicate, slice_index_or, slice_set, unwrap_or}
 use Rattle.std.specs.Int.{bit_at}
 use Rattle.history.specs.Table.{Granted}
 use Rattle.history.specs.Locks.{Touch, touches, touched}

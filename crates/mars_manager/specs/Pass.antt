@@ -45,6 +45,10 @@ module _ {C : Type 0} where
   abbrev pub known_after : Known C → List Turn → State → Call → Reply → Known C
   known_after was turns state call reply = record was { past = turns ++ (was.number, call, reply) ∷ []; seen = state.history; found = 0 }
 
+  -- what a pass knows once it has read the history of a core that came to this state by these turns
+  abbrev pub known_at : Known C → List Turn → State → Known C
+  known_at was turns state = record was { past = turns; seen = state.history; found = 0 }
+
   -- what a pass knows once it has tried for the turn and found this number
   abbrev pub finds : ℕ → Known C → Known C
   finds n known = record known { found = n }

@@ -1,6 +1,6 @@
 -- The rule of the table, and what each step guarantees. Words 0 to 63 are those of the stripes. Word 64 is the turn: 0, or one more than the
 -- number of the pass that has it. Word 65 is the length of the history as last published. The slot has the core while the turn is free.
-use Rattle.std.specs.Prelude.{ℕ, ◌≡◌, ◌≢◌, ◌⊎◌, ◌+◌, ◌<◌, ◌≤◌, ◌/◌, ◌^◌, Bool, IsTrue, IsFalse, List, [], ◌∷◌, map, length, replicate, slice_index, slice_index_or, slice_set, Option, Some, None}
+use Rattle.std.specs.Prelude.{ℕ, ◌≡◌, ◌≢◌, ◌⊎◌, ◌+◌, ◌<◌, ◌≤◌, Bool, IsFalse, List, [], ◌∷◌, map, length, replicate, slice_index, slice_index_or, slice_set, Option, Some, None}
 use mathlib.Core.Option.{some}
 use lib.ListN.{get_elem?}
 use Rattle.history.specs.declared.call.Call.{Call}
@@ -13,7 +13,7 @@ use Rattle.mars_manager.specs.declared.view.Stage.TheVariants.{Vacant, Opening, 
 use Rattle.mars_manager.specs.declared.view.View.{View}
 use Rattle.mars_manager.specs.declared.setup.Setup.{Setup}
 use Rattle.caller_steps.specs.Run.{Turn, GoesAlong, AreOf}
-use Rattle.mars_manager.specs.Pass.{AllFit, known_after, live_of, finds, hears, times}
+use Rattle.mars_manager.specs.Pass.{AllFit, known_after, known_at, live_of, finds, hears, times}
 use Rattle.mars_manager.specs.Sharing.{CanShare, Since}
 use Rattle.mars_manager.specs.Seat.{TableOf, SeatOf, view, shared_view, seat_of, first_of, opener}
 use Rattle.mars_manager.specs.Locks.{IsCovered, Finds, FindsOther, hold_of, with_hold, marked_by, excluded_by, noted}
@@ -146,6 +146,7 @@ module _ {C : Type 0} where
       pub core : C
       pub now : n ≡ (shared_view (map (finds 0) m.0.passes) (Some core), (0, Some core) ∷ [])
       pub few : (k : ℕ) → 0 < times k m.0.passes → k < (f.show core).limits.callers
+      pub seen : length (first_of m.0.passes).seen ≤ length (f.show core).state.history
       pub alone : IsFalse (f.show core).state.is_dead → HasAlone core (first_of m.0.passes)
 
     -- The step from one core to another was recorded as the last turn of a run. The shared core had come to the first of them by the turns
@@ -159,6 +160,17 @@ module _ {C : Type 0} where
       pub whose : AreOf setup.callers turns
       pub ready : CanShare f.tells setup.callers (f.show setup.first)
 
+    -- The turn was given up, and the history of the core was read. The shared core had come to this one by the turns, and what the seat knew
+    -- was true of these.
+    pub record HasRead (core : C) (m n : SeatOf C) : Type 0 where
+      pub setup : Setup C
+      pub turns : List Turn
+      pub now : n ≡ (shared_view (map (λ (known : Known C). known_at known turns (f.show core).state) m.0.passes) None, [])
+      pub fit : AllFit f.tells f.show setup turns (f.show core).state m.0.passes
+      pub since : Since f.tells (f.show setup.first) (f.show core)
+      pub whose : AreOf setup.callers turns
+      pub ready : CanShare f.tells setup.callers (f.show setup.first)
+
     -- What a step guarantees, by the step, the seat before, the number found and the seat after. If the turn was not free, another pass had
     -- it, and the seat just notes what it found.
     abbrev pub takes_turn : Step (Option C) → SeatOf C → ℕ → SeatOf C → Type 0
@@ -166,6 +178,10 @@ module _ {C : Type 0} where
 
     abbrev pub tells_length : Call → Reply → Step (Option C) → SeatOf C → ℕ → SeatOf C → Type 0
     tells_length call reply st m r n = (old new : C) → m.0.held ≡ Some old → m.1 ≡ (0, Some new) ∷ [] → Told call reply old new m n
+
+    -- the turn is given up, and the core as it last reported it was read
+    abbrev pub gives_read : Step (Option C) → SeatOf C → ℕ → SeatOf C → Type 0
+    gives_read st m r n = (core : C) → m.0.held ≡ Some core → HasRead core m n
 
   abbrev pub began : Step (Option C) → SeatOf C → ℕ → SeatOf C → Type 0
   began st m r n = n ≡ (view Opening m.0.passes None, (0, None) ∷ [])

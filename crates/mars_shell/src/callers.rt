@@ -22,6 +22,7 @@ use crate::opening::open_for;
 use crate::status::{Status, served_status};
 use btree_pages::BTreePages;
 use caller_plans::{Script, read_script};
+use caller_steps::Core as Steps;
 use caller_work::{Gate, work};
 use command_words::{CallersNumbers, Writing};
 use eaw_device::{AtOnce, Late, WriteBack};

@@ -10,6 +10,7 @@ use crate::core_work::CoreWork;
 use crate::ending::write_ended;
 use crate::summary::summary_text;
 use crate::turns::make_turns;
+use caller_steps::Core as Steps;
 use command_words::DrillNumbers;
 use drill_gen::script;
 use eaw_face::EawStore;

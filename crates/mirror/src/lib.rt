@@ -28,6 +28,3 @@ pub use laws::{frames_are_cut_in_one_way, streams_are_followed_in_one_way};
 pub use link::Link;
 pub use memory_link::MemoryLink;
 pub use primary::Primary;
-
-#[cfg(test)]
-mod tests;

@@ -9,6 +9,7 @@ pub mod Exact
 pub mod Played
 pub mod Rows
 pub mod Reading
+pub mod Costing
 pub mod Outline
 pub mod Tops
 pub mod Others

@@ -14,8 +14,10 @@ pub mod Told
 pub mod Fits
 pub mod Reads
 pub mod Pairs
+pub mod Course
 pub mod Index
 pub mod Looks
+pub mod Follows
 pub mod Records
 pub mod Inserts
 pub mod Removes

@@ -1,6 +1,7 @@
--- What reads do to a store.
-use Rattle.std.specs.Prelude.{◌≡◌, ◌≤◌, Bool, true, false, IsTrue, List, ℕ, Result, Ok, Err, OnOk, IsErrOf}
+-- What reads do to a store, and what they cost.
+use Rattle.std.specs.Prelude.{◌≡◌, ◌≤◌, ◌+◌, min, max, nat_lt, if◌then◌else◌, Bool, true, false, IsTrue, List, [], ◌∷◌, ℕ, Result, Ok, Err, OnOk, IsErrOf}
 use Rattle.mars_base.specs.Causes.{Rose}
+use Rattle.eaw_face.specs.Command.{Command, log_read, read}
 use Rattle.eaw_face.specs.StoreView.{StoreView, LeavesOnly}
 use Rattle.eaw_face.specs.declared.fault.EawFault.{EawFault}
 use Rattle.eaw_face.specs.declared.fault.EawFault.TheVariants.{Media, Dead}
@@ -27,3 +28,19 @@ pub record Reads {T : Type 0} (tells : Bool) (Opens : List ℕ → List ℕ → 
   pub dies : IsErrOf result Media → new.is_dead ≡ true
   pub others : (u : ℕ) → (u ≡ t → ⊥) → new.ranges u ≡ old.ranges u
   pub time : IsTrue tells → old.is_dead ≡ false → LeavesOnly (λ image. Opens image old.state.bytes) old new
+
+-- whether two ranges share a byte
+abbrev pub overlap : ℕ × ℕ → ℕ × ℕ → Bool
+overlap r q = nat_lt (max q.0 r.0) (min (q.0 + q.1) (r.0 + r.1))
+
+-- the calls of what is laid over a range: a read of the log for each part of number t that shares a byte with it
+abbrev pub lay_cost : (Command → ℕ) → ℕ → ℕ × ℕ → ℕ × ℕ → ℕ
+lay_cost calls t r part = if overlap r part then calls (log_read t) else 0
+
+abbrev pub laid_cost : (Command → ℕ) → ℕ → ℕ × ℕ → List (ℕ × ℕ) → ℕ
+laid_cost calls t r [] = 0
+laid_cost calls t r (part ∷ parts) = lay_cost calls t r part + laid_cost calls t r parts
+
+-- those of a read of a range as number t, which has logged these parts
+abbrev pub seen_cost : (Command → ℕ) → ℕ → (addr len : ℕ) → List (ℕ × ℕ) → ℕ
+seen_cost calls t addr len parts = calls (read addr len) + laid_cost calls t (addr, len) parts

@@ -4,6 +4,7 @@ ghost use Rattle.array_shape.specs.Places.{page_count};
 ghost use Rattle.eaw_face.specs.Causes.{IsAlive};
 ghost use Rattle.record_slots.specs.Places.{next_page, page_bytes, version_of, AreGiven};
 ghost use Rattle.page_store.specs.Index.{Index, IsTable, HasCounts, KeepsIndex, IsEmptyRoot, Extends, slots_of};
+ghost use Rattle.page_store.specs.Follows.{Follows};
 ghost use Rattle.page_store.specs.Inserts.{Inserts};
 ghost use Rattle.page_store.specs.Removes.{HasAbsent, Removes};
 ghost use Rattle.page_store.specs.Looks.{Looks, LookCause, CheckCause, is_failed, is_check_failed};
@@ -29,8 +30,9 @@ pub type NextPairs = ArrayVec<(u64, u32), NEXT_MAX>;
 /// They have no state of their own.
 ///
 /// Look-ups read the committed data, and insertions and removals change it by nested top actions, which stay whatever becomes of the
-/// transaction around them. Over a store that does not tell its data, a page that breaks the layout is answered with `Damaged`, and so is a
-/// look-up that does not end within the pages of the index.
+/// transaction around them. What a look-up reads and answers is known of any store (`Follows`): it goes from page to page as each says, makes
+/// the calls of the medium that these reads cost and no other, and answers what the pages say. Over a store that does not tell its data, a
+/// page that breaks the layout is answered with `Damaged`, and so is one that leads on where a look-up has read as many pages as it may.
 pub trait KeyIndex {
     /// What it makes of data: whether it is sound, the pairs of key and slot under a root, and what an insertion takes.
     ghost index: { Index };
@@ -65,6 +67,8 @@ pub trait KeyIndex {
         ensures looks { Looks S.tells (S.opens (S.view pages.old.store).shape) (is_failed result)
             (pages_of (S.view pages.old.store) pages.old) (pages_of (S.view pages.new.store) pages.new) }
         ensures cause { LookCause S.tells (S.view pages.old.store) result }
+        ensures follows { Follows S.tells (S.calls pages.old.store) (S.calls pages.new.store) (index.finding root key) (λ slot. slot)
+            (S.view pages.old.store) (S.view pages.new.store) result }
         ensures found { IsTrue S.tells → IfOk result (λ slot. slot ≡ found (index.pairs (S.view pages.old.store).state.bytes root) key) }
         ensures inside { IfOk result (λ slot. IfSome slot (λ slot. slot < slots_of (S.view pages.old.store).shape)) }
         ensures dead { IsErrOf result PageFault.Dead → pages.new ≡ pages.old };
@@ -84,6 +88,8 @@ pub trait KeyIndex {
         ensures looks { Looks S.tells (S.opens (S.view pages.old.store).shape) (is_failed result)
             (pages_of (S.view pages.old.store) pages.old) (pages_of (S.view pages.new.store) pages.new) }
         ensures cause { LookCause S.tells (S.view pages.old.store) result }
+        ensures follows { Follows S.tells (S.calls pages.old.store) (S.calls pages.new.store) (index.nexting root from) (λ some. some.items)
+            (S.view pages.old.store) (S.view pages.new.store) result }
         ensures next { IsTrue S.tells → IfOk result (λ some. AreNext (index.pairs (S.view pages.old.store).state.bytes root) from some.items) }
         ensures inside { IfOk result (λ some. AreInside from (slots_of (S.view pages.old.store).shape) some.items) }
         ensures dead { IsErrOf result PageFault.Dead → pages.new ≡ pages.old };

@@ -1,19 +1,21 @@
 // Pages over a store of editable atomic writes.
 ghost use Rattle.std.specs.Prelude.{◌≡◌, ◌≢◌, ◌↔◌, ◌+◌, ◌^◌, ◌<◌, ◌≤◌, ℕ, [], true, List, None, Some, is_some, filter, if◌then◌else◌, IsTrue, IsOk, IfOk, IfErr, OnErr, OnOk, IsErrOf, length};
 ghost use Rattle.mars_base.specs.Bytes.{put, range};
+ghost use Rattle.mars_base.specs.Costs.{Costs};
 ghost use Rattle.array_shape.specs.NumberSet.{members};
 ghost use Rattle.array_shape.specs.Places.{data_len};
 ghost use Rattle.array_shape.specs.Logged.{applied};
 ghost use Rattle.eaw_face.specs.Causes.{IsAlive};
-ghost use Rattle.eaw_face.specs.Command.{commit, abort, nested_top, partial_abort};
-ghost use Rattle.eaw_face.specs.State.{listed, group_log, is_one_of, with_each, part_at};
+ghost use Rattle.eaw_face.specs.Command.{Command, commit, abort, nested_top, partial_abort};
+ghost use Rattle.eaw_face.specs.Command as model;
+ghost use Rattle.eaw_face.specs.State.{listed, group_log, is_one_of, with_each, part_at, range_at};
 ghost use Rattle.eaw_face.specs.StoreView.{log_len};
 ghost use Rattle.page_store.specs.Command.{write_as, save, back, top_begin, top_end, end, end_group, atomic_write, read_as, read};
 ghost use Rattle.page_store.specs.Does.{Becomes, Does};
 ghost use Rattle.page_store.specs.Edit.{edit_pos, meet};
 ghost use Rattle.page_store.specs.Fits.{FitAll, LacksRoom, is_page_on};
 ghost use Rattle.page_store.specs.Kept.{IsOrdered};
-ghost use Rattle.page_store.specs.Reads.{Reads};
+ghost use Rattle.page_store.specs.Reads.{Reads, lay_cost, seen_cost};
 ghost use Rattle.page_store.specs.Shown.{IsInPage, IsUnmarked, address, counts_in, outline_of, top_in, pages_of, state_of};
 ghost use Rattle.page_store.specs.Told.{IsKnown, TellsAs, DoesWhereLive};
 ghost use Rattle.page_store.specs.State.{view_of};
@@ -124,6 +126,8 @@ impl<S: EawStore> Pages<S> {
         ensures does { Does S.tells (S.opens (S.view self.old.store).shape) read
             (pages_of (S.view self.old.store) self.old) (pages_of (S.view self.new.store) self.new) result }
         ensures bytes { IsTrue S.tells → OnOk result (buf.new ≡ range (S.view self.old.store).state.bytes (address page at) (length buf.old)) }
+        ensures costs { Costs true (S.calls self.old.store (model.read (address page at) (length buf.old))) (S.view self.old.store).moment (S.view self.new.store).moment result }
+        ensures steady { OnOk result ((command : Command) → S.calls self.new.store command ≡ S.calls self.old.store command) }
         ensures refused { IfErr result (λ fault. fault ≢ PageFault.Media → self.new ≡ self.old) }
     {
         told(self.store.read(address(page, at), buf))
@@ -137,6 +141,9 @@ impl<S: EawStore> Pages<S> {
             (pages_of (S.view self.old.store) self.old) (pages_of (S.view self.new.store) self.new) result }
         ensures bytes { IsTrue S.tells → OnOk result (buf.new ≡
             range (view_of tid (state_of (pages_of (S.view self.old.store) self.old))) (address page at) (length buf.old)) }
+        ensures costs { Costs true (seen_cost (S.calls self.old.store) tid (address page at) (length buf.old) (listed ((S.view self.old.store).ranges tid)))
+            (S.view self.old.store).moment (S.view self.new.store).moment result }
+        ensures steady { OnOk result ((command : Command) → S.calls self.new.store command ≡ S.calls self.old.store command) }
         ensures refused { IfErr result (λ fault. fault ≢ PageFault.Media → self.new ≡ self.old) }
     {
         told(read_seen(&mut self.store, tid, address(page, at), buf))
@@ -352,6 +359,9 @@ fn read_seen<S: EawStore>(store: &mut S, tid: u8, addr: u64, buf: &mut [u8]) -> 
     ensures does { Reads S.tells (S.opens (S.view store.old).shape) tid (S.view store.old) (S.view store.new) result }
     ensures bytes { IsTrue S.tells → OnOk result (buf.new ≡
         range (applied (listed ((S.view store.old).state.logs tid)) (S.view store.old).state.bytes) addr (length buf.old)) }
+    ensures costs { Costs true (seen_cost (S.calls store.old) tid addr (length buf.old) (listed ((S.view store.old).ranges tid)))
+        (S.view store.old).moment (S.view store.new).moment result }
+    ensures steady { OnOk result ((command : Command) → S.calls store.new command ≡ S.calls store.old command) }
     ensures refused { IfErr result (λ fault. fault ≢ EawFault.Media → store.new ≡ store.old) }
 {
     match store.read(addr, buf) {
@@ -382,6 +392,9 @@ fn lay_part<S: EawStore>(
     ensures does { Reads S.tells (S.opens (S.view store.old).shape) tid (S.view store.old) (S.view store.new) result }
     ensures laid { IsTrue S.tells → (bytes : List ℕ) → length bytes ≡ data_len (S.view store.old).shape → buf.old ≡ range bytes addr (length buf.old)
         → OnOk result (buf.new ≡ (let part = part_at (listed ((S.view store.old).state.logs tid)) pos in range (put bytes part.0 part.1) addr (length buf.old))) }
+    ensures costs { Costs true (lay_cost (S.calls store.old) tid (addr, length buf.old) (range_at (listed ((S.view store.old).ranges tid)) pos))
+        (S.view store.old).moment (S.view store.new).moment result }
+    ensures steady { OnOk result ((command : Command) → S.calls store.new command ≡ S.calls store.old command) }
     ensures refused { IfErr result (λ fault. fault ≢ EawFault.Media → store.new ≡ store.old) }
 {
     let (start, len) = store.part_range(tid, pos);

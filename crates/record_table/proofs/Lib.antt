@@ -6,6 +6,7 @@ pub mod Looking
 pub mod Writing
 pub mod States
 pub mod Seeking
+pub mod SeekCosts
 pub mod Moving
 pub mod Wrote
 pub mod Doing

@@ -8,6 +8,7 @@ pub mod Invariant
 pub mod Attached
 pub mod Sought
 pub mod Faults
+pub mod Seeks
 pub mod Scanned
 pub mod Form
 pub mod Names

@@ -16,6 +16,7 @@ ghost use Rattle.record_table.specs.Removing.{IsAbsent, IsUnwritten, IsNextAbsen
 ghost use Rattle.record_table.specs.State.{key_in};
 ghost use Rattle.record_table.specs.Groups.{CommitsGroup, group_writes};
 ghost use Rattle.record_table.specs.Does.{Does, replied, is_failed};
+ghost use Rattle.record_table.specs.Seeks.{Gets};
 ghost use Rattle.record_table.specs.Shown.{asked_tables, state_of, table_of, pairs_of, held_on, is_write_on, AreNamed};
 ghost use Rattle.record_table.specs.Sought.{LooksAs};
 ghost use Rattle.record_table.specs.Upgrading.{Upgrades};
@@ -192,11 +193,12 @@ impl<S: EawStore, K: KeyIndex> Records<S, K> {
         self.pages.saves(tid)
     }
 
-    /// The value of a key, as the number sees it.
+    /// The value of a key, as the number sees it. It reads the pages of the index that lead to the key's slot, each once, and that slot.
     pub fn get(&mut self, tid: u8, key: u64) -> Result<Option<Value>, TableFault>
         requires { tid < (S.view self.old.store).shape.numbers }
         ensures does { Does S.tells (S.opens (S.view self.old.store).shape) K.index 0 tid (Get key)
             (pages_of (S.view self.old.store) self.old) (pages_of (S.view self.new.store) self.new) (replied found result) }
+        ensures gets { Gets (K.index.finding 1 key) tid (S.calls self.old.store) (S.view self.old.store) (S.view self.new.store) result }
         ensures dead { IsErrOf result TableFault.Dead → self.new ≡ self.old }
     {
         match seek::<S, K>(&mut self.pages, tid, MAIN, MAIN_ROOT, key) {

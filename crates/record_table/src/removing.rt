@@ -14,7 +14,7 @@ ghost use Rattle.record_table.specs.Shown.{asked_tables};
 ghost use Rattle.record_table.specs.State.{key_in};
 
 use crate::scanning::Next;
-use crate::slots::{SLOTS_IN_PAGE, page_of, value_in};
+use crate::slots::{SLOTS_IN_PAGE, heard, page_of, value_in};
 use eaw_face::EawStore;
 use page_store::{KeyIndex, PageFault, Pages};
 use record_slots::{SLOT_LEN, Slot, read_slot};
@@ -62,12 +62,15 @@ fn next_in_data<S: EawStore, K: KeyIndex>(
     }
     let (key, slot) = some[0];
     let page = page_of(pages, slot);
-    match read_said(pages, slot) {
-        Ok(Some(said)) => Ok(Some(Next {
+    let said = match read_said(pages, slot) {
+        Ok(said) => said,
+        Err(fault) => return Err(fault),
+    };
+    match heard(said, page) {
+        Ok(said) => Ok(Some(Next {
             key,
             value: value_in(&said),
         })),
-        Ok(None) => Err(PageFault::Damaged { page }),
         Err(fault) => Err(fault),
     }
 }

@@ -15,7 +15,7 @@ ghost use Rattle.record_table.specs.State.{key_in};
 ghost use Rattle.record_table.specs.Sought.{LooksAs};
 
 use crate::fault::TableFault;
-use crate::slots::{page_of, read_as, value_in};
+use crate::slots::{heard, page_of, read_as, value_in};
 use eaw_face::EawStore;
 use history::Rows;
 use mars_base::NoMemory;
@@ -61,12 +61,15 @@ fn read_row<S: EawStore, K: KeyIndex>(
 {
     let (key, slot) = pair;
     let page = page_of(pages, slot);
-    match read_as(pages, tid, slot) {
-        Ok(Some(said)) => Ok(Next {
+    let said = match read_as(pages, tid, slot) {
+        Ok(said) => said,
+        Err(fault) => return Err(fault),
+    };
+    match heard(said, page) {
+        Ok(said) => Ok(Next {
             key,
             value: value_in(&said),
         }),
-        Ok(None) => Err(PageFault::Damaged { page }),
         Err(fault) => Err(fault),
     }
 }

@@ -1,6 +1,7 @@
 // Slots of keys, read and written as a number.
-ghost use Rattle.std.specs.Prelude.{◌≡◌, ◌≢◌, ◌+◌, ◌*◌, ◌%◌, ◌<◌, Some, IfOk, IfErr, IfSome, IsErrOf, IsTrue, length};
+ghost use Rattle.std.specs.Prelude.{◌≡◌, ◌≢◌, ◌⊎◌, ◌/◌, true, None, ◌+◌, ◌*◌, ◌%◌, ◌<◌, Some, IfOk, IfErr, IfSome, IsErrOf, IsTrue, length};
 ghost use Rattle.mars_base.specs.Bytes.{range};
+ghost use Rattle.mars_base.specs.Costs.{Costs};
 ghost use Rattle.array_shape.specs.Places.{page_count};
 ghost use Rattle.eaw_face.specs.Causes.{IsAlive};
 ghost use Rattle.record_slots.specs.Slots.{slot_said, slot_bytes, table_of_slot};
@@ -15,6 +16,7 @@ ghost use Rattle.page_store.specs.State.{view_of};
 ghost use Rattle.record_table.specs.Invariant.{Holds};
 ghost use Rattle.record_table.specs.Shown.{asked_tables};
 ghost use Rattle.record_table.specs.State.{key_in};
+ghost use Rattle.record_table.specs.Seeks.{Seeks, slot_cost};
 ghost use Rattle.record_table.specs.Sought.{LooksAs, Finds, value_at};
 
 use eaw_face::EawStore;
@@ -34,6 +36,7 @@ pub struct Place {
 pub fn page_of<S: EawStore>(pages: &Pages<S>, slot: u32) -> u32
     requires { slot < slots_of (S.view pages.now.store).shape }
     ensures at { 512 * result + slot % 8 * 64 ≡ 64 * (slots_of (S.view pages.now.store).shape + slot) }
+    ensures page { result ≡ index_pages_of (S.view pages.now.store).shape + slot / 8 }
     ensures inside { result < page_count (S.view pages.now.store).shape }
 {
     let shape = pages.shape();
@@ -54,6 +57,8 @@ pub fn read_as<S: EawStore>(
     ensures cause { LookCause S.tells (S.view pages.old.store) result }
     ensures said { IsTrue S.tells → IfOk result (λ said. said ≡
         slot_said (range (view_of tid (state_of (pages_of (S.view pages.old.store) pages.old))) (64 * (slots_of (S.view pages.old.store).shape + slot)) 64)) }
+    ensures costs { Costs true (slot_cost (S.calls pages.old.store) tid (S.view pages.old.store) (Some slot)) (S.view pages.old.store).moment (S.view pages.new.store).moment result }
+    ensures faults { IfErr result (λ fault. (fault ≡ PageFault.Media) ⊎ (fault ≡ PageFault.Dead)) }
     ensures dead { IsErrOf result PageFault.Dead → pages.new ≡ pages.old }
 {
     let page = page_of(pages, slot);
@@ -89,6 +94,17 @@ pub fn write_as<S: EawStore>(
     pages.write_as(tid, page, slot % SLOTS_IN_PAGE * 64, &bytes)
 }
 
+// What a slot says. It is damage of the slot's page if it says nothing.
+pub fn heard(said: Option<Slot>, page: u32) -> Result<Slot, PageFault>
+    ensures slot { IfOk result (λ slot. said ≡ Some slot) }
+    ensures none { IfErr result (λ fault. (fault ≡ PageFault.Damaged page) × (said ≡ None)) }
+{
+    match said {
+        Some(slot) => Ok(slot),
+        None => Err(PageFault::Damaged { page }),
+    }
+}
+
 // Looks up a key in the index of its table, and then reads its slot.
 pub fn seek<S: EawStore, K: KeyIndex>(
     pages: &mut Pages<S>,
@@ -105,6 +121,7 @@ pub fn seek<S: EawStore, K: KeyIndex>(
     ensures looks { LooksAs S.tells (S.opens (S.view pages.old.store).shape) tid (is_failed result)
         (pages_of (S.view pages.old.store) pages.old) (pages_of (S.view pages.new.store) pages.new) }
     ensures cause { LookCause S.tells (S.view pages.old.store) result }
+    ensures seeks { Seeks (K.index.finding root key) tid (S.calls pages.old.store) (S.view pages.old.store) (S.view pages.new.store) result }
     ensures finds { IsTrue S.tells → IfOk result (Finds K.index tid (key_in table key) (pages_of (S.view pages.old.store) pages.old)) }
     ensures inside { IfOk result (λ place. IfSome place (λ place. place.slot < slots_of (S.view pages.old.store).shape)) }
     ensures dead { IsErrOf result PageFault.Dead → pages.new ≡ pages.old }
@@ -115,12 +132,15 @@ pub fn seek<S: EawStore, K: KeyIndex>(
         Err(fault) => return Err(fault),
     };
     let page = page_of(pages, slot);
-    match read_as(pages, tid, slot) {
-        Ok(Some(said)) => Ok(Some(Place {
+    let said = match read_as(pages, tid, slot) {
+        Ok(said) => said,
+        Err(fault) => return Err(fault),
+    };
+    match heard(said, page) {
+        Ok(said) => Ok(Some(Place {
             slot,
             value: value_in(&said),
         })),
-        Ok(None) => Err(PageFault::Damaged { page }),
         Err(fault) => Err(fault),
     }
 }

@@ -1,7 +1,8 @@
 -- Transactions that are numbered one after another.
 use Rattle.std.proofs.Common.{◌≡◌, ℕ, zero, suc, ◌+◌, ◌-◌, ◌<◌, ◌++◌, List, [], ◌∷◌, length, get_or, refl, ap, ◌∙◌, arith, length-append}
 use Rattle.history.specs.declared.transaction.Done.{Done}
-use Rattle.snapshot_readers.specs.Batches.{Batch, joined, with_batch, AreNumberedFrom}
+use Rattle.history.specs.Legal.{AreNumberedFrom}
+use Rattle.snapshot_readers.specs.Batches.{Batch, joined, with_batch}
 use Rattle.snapshot_readers.proofs.Joining.{joined-append}
 
 number_at : (n : ℕ) (dones : List Done) (i : ℕ) (done : Done) → AreNumberedFrom n dones → i < length dones → done ≡ get_or dones i done → done.at ≡ n + i

@@ -1,5 +1,5 @@
 -- Transactions as they were fed: each batch was fed at once.
-use Rattle.std.specs.Prelude.{ℕ, ◌≡◌, ◌+◌, List, [], ◌∷◌, ◌++◌}
+use Rattle.std.specs.Prelude.{List, [], ◌∷◌, ◌++◌}
 use Rattle.history.specs.Writes.{Table}
 use Rattle.history.specs.Legal.{records}
 use Rattle.history.specs.declared.transaction.Done.{Done}
@@ -21,8 +21,3 @@ with_batch batches (done ∷ dones) = batches ++ (done ∷ dones) ∷ []
 -- the table after all batches
 abbrev pub records_after : Table → List Batch → Table
 records_after base batches = records base (joined batches)
-
--- transactions numbered from n on
-abbrev pub AreNumberedFrom : ℕ → List Done → Type 0
-AreNumberedFrom n [] = Unit {0}
-AreNumberedFrom n (done ∷ dones) = (done.at ≡ n) × AreNumberedFrom (n + 1) dones

@@ -1,11 +1,11 @@
 ghost use Rattle.std.specs.Prelude.{◌≡◌, ◌+◌, ◌++◌, ◌∷◌, ◌⊎◌, [], length, drop, IfOk, OnOk, OnErr};
 ghost use mathlib.Core.List.{IsPrefix};
 ghost use Rattle.history.specs.Writes.{Table, all_written};
-ghost use Rattle.history.specs.Legal.{records};
+ghost use Rattle.history.specs.Legal.{records, AreNumberedFrom};
 ghost use Rattle.std.specs.Global.{Vec};
 ghost use Rattle.snapshot_readers.specs.Book.{word_of};
 ghost use Rattle.snapshot_readers.specs.Shown.{Leads};
-ghost use Rattle.snapshot_readers.specs.Batches.{joined, with_batch, AreNumberedFrom};
+ghost use Rattle.snapshot_readers.specs.Batches.{joined, with_batch};
 ghost use Rattle.snapshot_readers.specs.Waiting.{IsWaiting};
 
 use crate::prefix::{LengthWord, Prefix};

@@ -16,8 +16,6 @@ mod prefix;
 mod reader;
 mod records;
 mod snapshot;
-#[cfg(test)]
-mod tests;
 mod writes;
 
 pub use feed::{Feed, Receipt};

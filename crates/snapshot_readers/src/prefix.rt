@@ -2,7 +2,8 @@
 ghost use Rattle.std.specs.Prelude.{◌≡◌, ◌+◌, ◌<◌, ◌++◌, ◌∷◌, [], length, IfSome, MatchBool};
 ghost use mathlib.Core.List.{IsPrefix};
 ghost use Rattle.snapshot_readers.specs.Book.{word_of};
-ghost use Rattle.snapshot_readers.specs.Batches.{joined, with_batch, AreNumberedFrom};
+ghost use Rattle.history.specs.Legal.{AreNumberedFrom};
+ghost use Rattle.snapshot_readers.specs.Batches.{joined, with_batch};
 
 use history::{Done, History};
 use logbook::{Gain, Offer, Plain, Play, Rule, Seen, Start, Word};

@@ -19,6 +19,9 @@ use Rattle.btree_pages.specs.declared.look.Leaf.{Leaf}
 use Rattle.index_pages.proofs.Causing.{look_cause}
 use Rattle.btree_pages.proofs.Descending.{Down, down_first, down_step, down_node, down_last, or_above}
 use Rattle.btree_pages.specs.Trees.{whole_of, table_sound}
+use Rattle.index_pages.proofs.Courses.{on_first, on_step, on_end, on_bad, on_err, on_out}
+use Rattle.btree_pages.specs.Downward.{down, Descended}
+use Rattle.btree_pages.proofs.Turning.{inner_leads, leaf_said}
 use Rattle.btree_pages.proofs.look.descend.Goals as goal
 
 pub loop-step-init : goal.loop-step-init
@@ -28,6 +31,8 @@ loop-step-init g c = record {
   alive = λ some. absurd (omega arith);
   dead = λ dead. refl;
   above = tt;
+  on = (on_first g.S.EawStore.tells (g.S.EawStore.calls c.args.pages.now.store) (down c.args.root.page c.args.key) c.args.root.page c.args.root.page (g.S.EawStore.view c.args.pages.now.store) refl, refl);
+  few = omega arith;
   down = λ told alive. down_first c.args.root (g.S.EawStore.view c.args.pages.now.store).state.bytes c.args.key (table_sound (g.S.EawStore.view c.args.pages.now.store).state.bytes c.args.root (c.requires.sound told alive) (c.requires.named told alive)) (omega arith);
 }
 
@@ -81,6 +86,16 @@ loop-step-preserved g c =
       dead = λ dead. absurd (false≢true (sym alive' ∙ dead));
       above = subst (λ (o : Option ℕ). IfSome o (λ bound. c.args.key < bound)) (sym c.or-bound.ensures)
           (or_above c.child_in-child.result.1 c.loop-step.bound c.args.key c.child_in-child.ensures.above c.loop-step.invariant.above);
+      on = (
+        on_step g.S.EawStore.tells (g.S.EawStore.calls c.args.pages.now.store) (g.S.EawStore.calls c.loop-step.pages.store) (g.S.EawStore.calls c.read_node.new.pages.store)
+            (down c.args.root.page c.args.key) c.loop-step._step c.loop-step.page c.loop-step.last view (g.S.EawStore.view c.loop-step.pages.store) (g.S.EawStore.view c.read_node.new.pages.store)
+            (c.loop-step.invariant.looks.still refl) c.loop-step.invariant.looks.shape c.loop-step.invariant.on.0
+            c.read_node.new.bytes c.child_in-child.result.0 c.in-Ok.ensures.reads
+            (inner_leads c.args.root.page c.args.key c.loop-step.page c.read_node.new.bytes c.in-Ok.head.level c.child_in-child.result.0 c.in-Ok.ensures.head.level c.if-head-eq0.false c.child_in-child.ensures.child),
+        c.or-bound.ensures ∙ ap (λ (o : Option ℕ). option_or o c.loop-step.bound) c.child_in-child.ensures.bound
+            ∙ ap (λ (o : Option ℕ). option_or (bound_in (pairs_said c.read_node.new.bytes) c.args.key) o) c.loop-step.invariant.on.1,
+      );
+      few = omega (arith, c.loop-step-test.true);
       down = λ told living.
           let bytes = view.state.bytes in
           let buf = c.in-Ok.ensures.bytes told ∙ ap (λ (s : State). page_bytes s.bytes c.loop-step.page) (still.state told) in
@@ -131,3 +146,37 @@ returns-clause-dead g c = λ told. not_damaged_page _ told
 
 pub returns-then-head-eq0-clause-above : goal.returns-then-head-eq0-clause-above
 returns-then-head-eq0-clause-above g c = c.loop-step.invariant.above
+
+pub returns-in-Err-clause-walks : goal.returns-in-Err-clause-walks
+returns-in-Err-clause-walks g c =
+    let view = g.S.EawStore.view c.args.pages.now.store in
+    let mid = g.S.EawStore.view c.loop-step.pages.store in
+    on_err g.S.EawStore.tells (g.S.EawStore.calls c.args.pages.now.store) (g.S.EawStore.calls c.loop-step.pages.store) (g.S.EawStore.calls c.read_node.new.pages.store)
+    (down c.args.root.page c.args.key) c.loop-step._step c.loop-step.page c.loop-step.last view (g.S.EawStore.view c.loop-step.pages.store) (g.S.EawStore.view c.read_node.new.pages.store)
+    (c.loop-step.invariant.looks.still refl) c.loop-step.invariant.looks.shape c.loop-step.invariant.on.0 8 (Descended c.args.key c.read_node.new.bytes)
+    Head (IsNode (page_bytes mid.state.bytes c.loop-step.page)) c.read_node.new.bytes (page_bytes mid.state.bytes c.loop-step.page) c.in-Err.fault
+    (omega (arith, c.loop-step-test.true)) c.in-Err.ensures.reads c.in-Err.ensures.cause
+
+pub returns-then-head-eq0-clause-walks : goal.returns-then-head-eq0-clause-walks
+returns-then-head-eq0-clause-walks g c =
+    let view = g.S.EawStore.view c.args.pages.now.store in
+    on_end g.S.EawStore.tells (g.S.EawStore.calls c.args.pages.now.store) (g.S.EawStore.calls c.loop-step.pages.store) (g.S.EawStore.calls c.read_node.new.pages.store)
+    (down c.args.root.page c.args.key) c.loop-step._step c.loop-step.page c.loop-step.last view (g.S.EawStore.view c.loop-step.pages.store) (g.S.EawStore.view c.read_node.new.pages.store)
+    (c.loop-step.invariant.looks.still refl) c.loop-step.invariant.looks.shape c.loop-step.invariant.on.0 8 (Descended c.args.key c.read_node.new.bytes)
+    c.read_node.new.bytes _ (omega (arith, c.loop-step-test.true)) c.in-Ok.ensures.reads
+    (refl, refl, leaf_said c.read_node.new.bytes c.in-Ok.head.level c.in-Ok.ensures.head.level c.if-head-eq0.true, c.loop-step.invariant.on.1)
+
+pub returns-then-child-from-clause-walks : goal.returns-then-child-from-clause-walks
+returns-then-child-from-clause-walks g c =
+    let view = g.S.EawStore.view c.args.pages.now.store in
+    on_bad g.S.EawStore.tells (g.S.EawStore.calls c.args.pages.now.store) (g.S.EawStore.calls c.loop-step.pages.store) (g.S.EawStore.calls c.read_node.new.pages.store)
+    (down c.args.root.page c.args.key) c.loop-step._step c.loop-step.page c.loop-step.last view (g.S.EawStore.view c.loop-step.pages.store) (g.S.EawStore.view c.read_node.new.pages.store)
+    (c.loop-step.invariant.looks.still refl) c.loop-step.invariant.looks.shape c.loop-step.invariant.on.0 8 (Descended c.args.key c.read_node.new.bytes)
+    c.read_node.new.bytes (omega (arith, c.loop-step-test.true)) c.in-Ok.ensures.reads
+
+pub returns-clause-walks : goal.returns-clause-walks
+returns-clause-walks g c =
+    let view = g.S.EawStore.view c.args.pages.now.store in
+    on_out g.S.EawStore.tells (g.S.EawStore.calls c.args.pages.now.store) (g.S.EawStore.calls c.loop-step.pages.store) (down c.args.root.page c.args.key)
+    c.loop-step._step c.loop-step.page c.loop-step.last view (g.S.EawStore.view c.loop-step.pages.store) 8 (Descended c.args.key c.loop-step.bytes)
+    c.loop-step.invariant.on.0 (omega (arith, c.loop-step-test.false)) c.loop-step.invariant.few

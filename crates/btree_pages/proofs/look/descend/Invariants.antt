@@ -1,13 +1,15 @@
-use Rattle.std.proofs.Common.{◌≡◌, ◌<◌, true, false, IsTrue}
+use Rattle.std.proofs.Common.{◌≡◌, ◌<◌, ◌≤◌, true, false, IsTrue}
 use Rattle.std.specs.Prelude.{IfSome}
 use Rattle.eaw_face.specs.Causes.{IsAlive}
 use Rattle.array_shape.specs.Places.{page_count}
 use Rattle.page_store.specs.Looks.{Looks}
 use Rattle.page_store.specs.Shown.{pages_of}
+use Rattle.index_pages.proofs.Courses.{OnCourse}
+use Rattle.btree_pages.specs.Downward.{down, bound_along}
 use Rattle.btree_pages.proofs.Descending.{Down}
 use Rattle.btree_pages.proofs.look.descend.Given as goal
 
--- the data is as it was, and the page is on the key's way
+-- the data is as it was, so many pages were read, and the page is on the key's way
 abbrev pub invariant-loop-step : goal.invariant-loop-step
 invariant-loop-step g l = record {
   inside : l.page < page_count (g.S.EawStore.view l.fn.pages.store).shape;
@@ -16,5 +18,8 @@ invariant-loop-step g l = record {
   alive : 0 < l._step → IsAlive (g.S.EawStore.view l.pages.store);
   dead : (g.S.EawStore.view l.pages.store).is_dead ≡ true → l.pages ≡ l.fn.pages;
   above : IfSome l.bound (λ bound. l.key < bound);
+  on : (o : OnCourse g.S.EawStore.tells (g.S.EawStore.calls l.fn.pages.store) (g.S.EawStore.calls l.pages.store) (down l.fn.root.page l.fn.key) l._step l.page l.last
+      (g.S.EawStore.view l.fn.pages.store) (g.S.EawStore.view l.pages.store)) × (l.bound ≡ bound_along l.fn.key o.read);
+  few : l._step ≤ 8;
   down : IsTrue g.S.EawStore.tells → IsAlive (g.S.EawStore.view l.fn.pages.store) → Down l.fn.root (g.S.EawStore.view l.fn.pages.store).state.bytes l.key l._step l.page l.bound;
 }

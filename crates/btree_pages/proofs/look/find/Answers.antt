@@ -7,6 +7,10 @@ use Rattle.index_pages.specs.Page.{pairs_said}
 use Rattle.index_pages.proofs.Sizes.{slots_are}
 use Rattle.btree_pages.proofs.Given.{given_found}
 use Rattle.btree_pages.specs.Trees.{whole_of}
+use Rattle.std.proofs.Common.{ap}
+use Rattle.index_pages.proofs.Courses.{walks_ok, walks_bad, walks_err}
+use Rattle.btree_pages.specs.Downward.{down, slot_at, Descended}
+use Rattle.btree_pages.proofs.Turning.{slot_is, descended_last}
 use Rattle.btree_pages.proofs.look.find.Goals as goal
 
 pub returns-then-slot-from-clause-cause : goal.returns-then-slot-from-clause-cause
@@ -21,10 +25,26 @@ returns-then-slot-from-clause-cause g c =
     )
 
 pub returns-in-Err : goal.returns-in-Err
-returns-in-Err g c = record { looks = c.in-Err.ensures.looks; cause = c.in-Err.ensures.cause; found = λ told. tt; inside = tt; dead = λ told. c.in-Err.ensures.dead (other_error (Option ℕ) Leaf _ _ told) }
+returns-in-Err g c = record {
+  looks = c.in-Err.ensures.looks;
+  cause = c.in-Err.ensures.cause;
+  follows = walks_err g.S.EawStore.tells (g.S.EawStore.calls c.args.pages.now.store) (g.S.EawStore.calls c.descend.new.pages.store) (down c.args.root.page c.args.key) (down c.args.root.page c.args.key) 8 8
+      (Descended c.args.key c.descend.new.bytes) (λ slot read. slot_at c.args.key read ≡ Some slot) (g.S.EawStore.view c.args.pages.now.store) (g.S.EawStore.view c.descend.new.pages.store) (λ read way. way) (omega arith) c.in-Err.fault c.in-Err.ensures.walks;
+  found = λ told. tt;
+  inside = tt;
+  dead = λ told. c.in-Err.ensures.dead (other_error (Option ℕ) Leaf _ _ told);
+}
 
 pub returns-in_default : goal.returns-in_default
-returns-in_default g c = record { looks = c.in-Ok.ensures.looks; cause = c.in-Ok.ensures.cause; found = λ told. sym ((c.in-Ok.ensures.leaf told).found_is ∙ sym c.slot_in.ensures ∙ c.in_default.is); inside = tt; dead = λ told. no_error _ _ told }
+returns-in_default g c = record {
+  looks = c.in-Ok.ensures.looks;
+  cause = c.in-Ok.ensures.cause;
+  follows = walks_ok g.S.EawStore.tells (g.S.EawStore.calls c.args.pages.now.store) (g.S.EawStore.calls c.descend.new.pages.store) (down c.args.root.page c.args.key) (down c.args.root.page c.args.key) 8 8
+      (Descended c.args.key c.descend.new.bytes) (λ slot read. slot_at c.args.key read ≡ Some slot) (g.S.EawStore.view c.args.pages.now.store) (g.S.EawStore.view c.descend.new.pages.store) (λ read way. way) (omega arith) c.in-Ok.leaf _ c.in-Ok.ensures.walks (λ read way ends. slot_is c.args.key c.descend.new.bytes c.in-Ok.leaf read ends ∙ ap Some (sym c.slot_in.ensures ∙ c.in_default.is));
+  found = λ told. sym ((c.in-Ok.ensures.leaf told).found_is ∙ sym c.slot_in.ensures ∙ c.in_default.is);
+  inside = tt;
+  dead = λ told. no_error _ _ told;
+}
 
 pub returns-then-slot-from-clause-looks : goal.returns-then-slot-from-clause-looks
 returns-then-slot-from-clause-looks g c = c.in-Ok.ensures.looks
@@ -40,3 +60,13 @@ returns-clause-cause g c = c.in-Ok.ensures.cause
 
 pub returns-clause-dead : goal.returns-clause-dead
 returns-clause-dead g c = λ told. no_error _ _ told
+
+pub returns-then-slot-from-clause-follows : goal.returns-then-slot-from-clause-follows
+returns-then-slot-from-clause-follows g c =
+    walks_bad g.S.EawStore.tells (g.S.EawStore.calls c.args.pages.now.store) (g.S.EawStore.calls c.descend.new.pages.store) (down c.args.root.page c.args.key) (down c.args.root.page c.args.key) 8 8
+    (Descended c.args.key c.descend.new.bytes) (λ slot read. slot_at c.args.key read ≡ Some slot) (g.S.EawStore.view c.args.pages.now.store) (g.S.EawStore.view c.descend.new.pages.store) (λ read way. way) (omega arith) c.in-Ok.leaf c.in-Ok.leaf.page c.in-Ok.ensures.walks (descended_last c.args.key c.descend.new.bytes c.in-Ok.leaf)
+
+pub returns-clause-follows : goal.returns-clause-follows
+returns-clause-follows g c =
+    walks_ok g.S.EawStore.tells (g.S.EawStore.calls c.args.pages.now.store) (g.S.EawStore.calls c.descend.new.pages.store) (down c.args.root.page c.args.key) (down c.args.root.page c.args.key) 8 8
+    (Descended c.args.key c.descend.new.bytes) (λ slot read. slot_at c.args.key read ≡ Some slot) (g.S.EawStore.view c.args.pages.now.store) (g.S.EawStore.view c.descend.new.pages.store) (λ read way. way) (omega arith) c.in-Ok.leaf _ c.in-Ok.ensures.walks (λ read way ends. slot_is c.args.key c.descend.new.bytes c.in-Ok.leaf read ends ∙ ap Some (sym c.slot_in.ensures ∙ c.in-Some.is))

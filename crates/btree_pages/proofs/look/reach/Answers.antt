@@ -10,6 +10,10 @@ use Rattle.index_pages.proofs.Sizes.{slots_are}
 use Rattle.index_pages.proofs.Turns.{rest_inside}
 use Rattle.btree_pages.proofs.Nexting.{reaches_here}
 use Rattle.btree_pages.specs.Trees.{whole_of}
+use Rattle.std.proofs.Common.{refl}
+use Rattle.index_pages.proofs.Courses.{walks_ok, walks_bad, walks_err}
+use Rattle.btree_pages.specs.Downward.{down, Descended, Gathered}
+use Rattle.btree_pages.proofs.Turning.{descended_last, gathered_is}
 use Rattle.btree_pages.proofs.look.reach.Goals as goal
 
 pub returns-in_default-clause-cause : goal.returns-in_default-clause-cause
@@ -23,7 +27,16 @@ returns-in_default-clause-cause g c =
     )
 
 pub returns-in-Err : goal.returns-in-Err
-returns-in-Err g c = record { looks = c.in-Err.ensures.looks; cause = c.in-Err.ensures.cause; reaches = λ told. tt; inside = tt; above = tt; dead = λ told. c.in-Err.ensures.dead (other_error Reached Leaf _ _ told) }
+returns-in-Err g c = record {
+  looks = c.in-Err.ensures.looks;
+  cause = c.in-Err.ensures.cause;
+  walks = walks_err g.S.EawStore.tells (g.S.EawStore.calls c.args.pages.now.store) (g.S.EawStore.calls c.descend.new.pages.store) (down c.args.root.page c.args.from) (down c.args.root.page c.args.from) 8 8
+      (Descended c.args.from c.descend.new.bytes) (Gathered c.args.from) (g.S.EawStore.view c.args.pages.now.store) (g.S.EawStore.view c.descend.new.pages.store) (λ read way. way) (omega arith) c.in-Err.fault c.in-Err.ensures.walks;
+  reaches = λ told. tt;
+  inside = tt;
+  above = tt;
+  dead = λ told. c.in-Err.ensures.dead (other_error Reached Leaf _ _ told);
+}
 
 pub returns-in_default-clause-looks : goal.returns-in_default-clause-looks
 returns-in_default-clause-looks g c = c.in-Ok.ensures.looks
@@ -49,3 +62,14 @@ pub returns-clause-inside : goal.returns-clause-inside
 returns-clause-inside g c =
     let view = g.S.EawStore.view c.args.pages.now.store in
     subst (λ (n : ℕ). AreInside c.args.from n c.in-Some.some.items) (omega (arith, c.index_page_count-slots.ensures.all)) (rw c.in-Some.is at c.rest_of.ensures.inside)
+
+pub returns-in_default-clause-walks : goal.returns-in_default-clause-walks
+returns-in_default-clause-walks g c =
+    walks_bad g.S.EawStore.tells (g.S.EawStore.calls c.args.pages.now.store) (g.S.EawStore.calls c.descend.new.pages.store) (down c.args.root.page c.args.from) (down c.args.root.page c.args.from) 8 8
+    (Descended c.args.from c.descend.new.bytes) (Gathered c.args.from) (g.S.EawStore.view c.args.pages.now.store) (g.S.EawStore.view c.descend.new.pages.store) (λ read way. way) (omega arith) c.in-Ok.leaf c.in-Ok.leaf.page c.in-Ok.ensures.walks (descended_last c.args.from c.descend.new.bytes c.in-Ok.leaf)
+
+pub returns-clause-walks : goal.returns-clause-walks
+returns-clause-walks g c =
+    walks_ok g.S.EawStore.tells (g.S.EawStore.calls c.args.pages.now.store) (g.S.EawStore.calls c.descend.new.pages.store) (down c.args.root.page c.args.from) (down c.args.root.page c.args.from) 8 8
+    (Descended c.args.from c.descend.new.bytes) (Gathered c.args.from) (g.S.EawStore.view c.args.pages.now.store) (g.S.EawStore.view c.descend.new.pages.store) (λ read way. way) (omega arith) c.in-Ok.leaf _ c.in-Ok.ensures.walks
+    (λ read way ends. gathered_is c.args.from c.descend.new.bytes c.in-Ok.leaf _ read ends refl refl (rw c.in-Some.is at c.rest_of.ensures.rest))

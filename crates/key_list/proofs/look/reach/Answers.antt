@@ -1,4 +1,4 @@
-use Rattle.std.proofs.Common.{◌≡◌, ◌≢◌, ◌≤◌, ◌+◌, ℕ, false, List, None, refl, sym, ◌∙◌, ap, subst, arith}
+use Rattle.std.proofs.Common.{◌≡◌, ◌≤◌, ◌+◌, ℕ, false, List, None, refl, sym, ◌∙◌, ap, subst, arith}
 use Rattle.std.proofs.lemmas.Bool.{false≢true}
 use Rattle.eaw_face.specs.State.{State}
 use Rattle.eaw_face.specs.Causes.{IsAlive}
@@ -12,6 +12,11 @@ use Rattle.page_store.specs.Shown.{pages_of}
 use Rattle.key_list.specs.Resting.{sound_table}
 use Rattle.key_list.specs.Linked.{Reaches}
 use Rattle.key_list.proofs.Walking.{Next, next_first, next_step, next_last, reached, none_is, some_is}
+use Rattle.index_pages.specs.declared.page.Head.{Head}
+use Rattle.index_pages.proofs.Courses.{on_first, on_step, on_end, on_err, on_out}
+use Rattle.key_list.specs.Along.{along, Arrives}
+use Rattle.key_list.specs.Linked.{IsLinked}
+use Rattle.key_list.proofs.Ends.{leads_on, ends_last, ends_some}
 use Rattle.key_list.proofs.look.reach.Goals as goal
 
 pub loop-step-init : goal.loop-step-init
@@ -20,6 +25,8 @@ loop-step-init g c = record {
   looks = looks_none g.S.EawStore.tells (g.S.EawStore.opens (g.S.EawStore.view c.args.pages.now.store).shape) (pages_of (g.S.EawStore.view c.args.pages.now.store) c.args.pages.now);
   alive = λ some. absurd (omega arith);
   dead = λ dead. refl;
+  on = on_first g.S.EawStore.tells (g.S.EawStore.calls c.args.pages.now.store) (along c.args.root c.args.from) c.args.root c.args.root (g.S.EawStore.view c.args.pages.now.store) refl;
+  few = omega arith;
   chain = λ told alive. (let b = (g.S.EawStore.view c.args.pages.now.store).state.bytes in next_first b c.args.root c.args.table c.args.from (omega (arith, (c.requires.sound told alive).0.some_pages)) (sound_table b c.args.table c.args.root (c.requires.sound told alive) (c.requires.named told alive)));
 }
 
@@ -36,6 +43,11 @@ loop-step-preserved g c =
       looks = looks;
       alive = λ some. alive';
       dead = λ dead. absurd (false≢true (sym alive' ∙ dead));
+      on = on_step g.S.EawStore.tells (g.S.EawStore.calls c.args.pages.now.store) (g.S.EawStore.calls c.loop-step.pages.store) (g.S.EawStore.calls c.read_page.new.pages.store)
+          (along c.args.root c.args.from) c.loop-step._step c.loop-step.page c.loop-step.last view (g.S.EawStore.view c.loop-step.pages.store) (g.S.EawStore.view c.read_page.new.pages.store)
+          still c.loop-step.invariant.looks.shape c.loop-step.invariant.on c.read_page.new.bytes c.in-Ok.head.link c.in-Ok.ensures.reads
+          (leads_on c.args.root c.args.from c.loop-step.page c.read_page.new.bytes c.in-Ok.head.link (sym c.next_pair.ensures ∙ none_is c.next_pair.result c.if-is_some.ensures) c.in-Ok.ensures.head.link c.if-head-eq0.false);
+      few = omega (arith, c.loop-step-test.true, c.index_page_count-count.ensures.count);
       chain = λ told living.
           let bytes = view.state.bytes in
           let buf = c.in-Ok.ensures.bytes told ∙ ap (λ (s : State). page_bytes s.bytes c.loop-step.page) (still.state told) in
@@ -127,3 +139,41 @@ returns-clause-end g c = λ told. tt
 
 pub returns-clause-some : goal.returns-clause-some
 returns-clause-some g c = tt
+
+pub returns-in-Err-clause-walks : goal.returns-in-Err-clause-walks
+returns-in-Err-clause-walks g c =
+    let view = g.S.EawStore.view c.args.pages.now.store in
+    let mid = g.S.EawStore.view c.loop-step.pages.store in
+    on_err g.S.EawStore.tells (g.S.EawStore.calls c.args.pages.now.store) (g.S.EawStore.calls c.loop-step.pages.store) (g.S.EawStore.calls c.read_page.new.pages.store)
+    (along c.args.root c.args.from) c.loop-step._step c.loop-step.page c.loop-step.last view mid (g.S.EawStore.view c.read_page.new.pages.store)
+    (c.loop-step.invariant.looks.still refl) c.loop-step.invariant.looks.shape c.loop-step.invariant.on (index_pages_of view.shape) (Arrives c.args.from c.read_page.new.bytes)
+    Head (IsLinked (index_pages_of mid.shape) (page_bytes mid.state.bytes c.loop-step.page)) c.read_page.new.bytes (page_bytes mid.state.bytes c.loop-step.page) c.in-Err.fault
+    (omega (arith, c.loop-step-test.true, c.index_page_count-count.ensures.count)) c.in-Err.ensures.reads c.in-Err.ensures.cause
+
+pub returns-then-is_some-clause-walks : goal.returns-then-is_some-clause-walks
+returns-then-is_some-clause-walks g c =
+    let view = g.S.EawStore.view c.args.pages.now.store in
+    on_end g.S.EawStore.tells (g.S.EawStore.calls c.args.pages.now.store) (g.S.EawStore.calls c.loop-step.pages.store) (g.S.EawStore.calls c.read_page.new.pages.store)
+    (along c.args.root c.args.from) c.loop-step._step c.loop-step.page c.loop-step.last view (g.S.EawStore.view c.loop-step.pages.store) (g.S.EawStore.view c.read_page.new.pages.store)
+    (c.loop-step.invariant.looks.still refl) c.loop-step.invariant.looks.shape c.loop-step.invariant.on (index_pages_of view.shape) (Arrives c.args.from c.read_page.new.bytes)
+    c.read_page.new.bytes _ (omega (arith, c.loop-step-test.true, c.index_page_count-count.ensures.count)) c.in-Ok.ensures.reads
+    ((refl, ends_some c.args.from c.read_page.new.bytes (λ none. some_is c.next_pair.result c.if-is_some.ensures (c.next_pair.ensures ∙ none))), refl)
+
+pub returns-then-head-eq0-clause-walks : goal.returns-then-head-eq0-clause-walks
+returns-then-head-eq0-clause-walks g c =
+    let view = g.S.EawStore.view c.args.pages.now.store in
+    on_end g.S.EawStore.tells (g.S.EawStore.calls c.args.pages.now.store) (g.S.EawStore.calls c.loop-step.pages.store) (g.S.EawStore.calls c.read_page.new.pages.store)
+    (along c.args.root c.args.from) c.loop-step._step c.loop-step.page c.loop-step.last view (g.S.EawStore.view c.loop-step.pages.store) (g.S.EawStore.view c.read_page.new.pages.store)
+    (c.loop-step.invariant.looks.still refl) c.loop-step.invariant.looks.shape c.loop-step.invariant.on (index_pages_of view.shape) (Arrives c.args.from c.read_page.new.bytes)
+    c.read_page.new.bytes _ (omega (arith, c.loop-step-test.true, c.index_page_count-count.ensures.count)) c.in-Ok.ensures.reads
+    ((refl, ends_last c.args.from c.read_page.new.bytes c.in-Ok.head.link (sym c.next_pair.ensures ∙ none_is c.next_pair.result c.if-is_some.ensures) c.in-Ok.ensures.head.link c.if-head-eq0.true), tt)
+
+pub returns-clause-walks : goal.returns-clause-walks
+returns-clause-walks g c =
+    let view = g.S.EawStore.view c.args.pages.now.store in
+    on_out g.S.EawStore.tells (g.S.EawStore.calls c.args.pages.now.store) (g.S.EawStore.calls c.loop-step.pages.store) (along c.args.root c.args.from)
+    c.loop-step._step c.loop-step.page c.loop-step.last view (g.S.EawStore.view c.loop-step.pages.store) (index_pages_of view.shape) (Arrives c.args.from c.loop-step.bytes)
+    c.loop-step.invariant.on (omega (arith, c.index_page_count-count.ensures.some, c.loop-step-test.false)) c.loop-step.invariant.few
+
+pub returns-then-head-eq0-clause-none : goal.returns-then-head-eq0-clause-none
+returns-then-head-eq0-clause-none g c = sym c.next_pair.ensures ∙ none_is c.next_pair.result c.if-is_some.ensures

@@ -8,6 +8,9 @@ use Rattle.eaw_face.specs.Command.{log_read}
 use Rattle.page_store.proofs.Editing.{placed_at, data_small}
 use Rattle.page_store.proofs.Laying.{range_of_part, missed, laid}
 use Rattle.page_store.proofs.ReadCalls.{reads_of, reads_ok, reads_err, reads_none}
+use Rattle.mars_base.specs.Costs.{Costs}
+use Rattle.page_store.specs.Reads.{lay_cost}
+use Rattle.page_store.proofs.Costing.{missed_cost, met_cost}
 use Rattle.page_store.proofs.pages.lay_part.Goals as goal
 
 pub overflow_add-start : goal.overflow_add-start
@@ -84,3 +87,30 @@ returns-clause-laid g c tell bytes long read =
     (omega (arith, placed.page, len, c.log_read.array_long))
     (let count : c.min-last.result - c.part_range-start.result.0 - (c.max-first.result - c.part_range-start.result.0) ≡ c.min-last.result - c.max-first.result = omega (arith, c.max-first.ensures, c.if-first-last.false) in
     ap (λ (k : ℕ). take k (drop (c.max-first.result - c.part_range-start.result.0) c.log_read.new.buf)) count)
+
+pub returns-then-first-last-clause-costs : goal.returns-then-first-last-clause-costs
+returns-then-first-last-clause-costs g c =
+    let view = g.S.EawStore.view c.args.store.now in
+    let none : lay_cost (g.S.EawStore.calls c.args.store.now) c.args.tid (c.args.addr, length c.args.buf.now) (range_at (listed (view.ranges c.args.tid)) c.args.pos) ≡ 0 =
+    ap (λ (p : ℕ × ℕ). lay_cost (g.S.EawStore.calls c.args.store.now) c.args.tid (c.args.addr, length c.args.buf.now) p) (sym c.part_range-start.ensures) ∙
+    missed_cost (g.S.EawStore.calls c.args.store.now) c.args.tid c.args.addr (length c.args.buf.now) c.part_range-start.result.0 c.part_range-start.result.1 c.max-first.result c.min-last.result
+    c.max-first.ensures (omega (arith, c.min-last.ensures, c.from.ensures)) c.if-first-last.true in
+    record { done = λ exact. omega (arith, none); most = omega (arith, none) }
+
+pub returns-clause-costs : goal.returns-clause-costs
+returns-clause-costs g c =
+    let view = g.S.EawStore.view c.args.store.now in
+    let one : lay_cost (g.S.EawStore.calls c.args.store.now) c.args.tid (c.args.addr, length c.args.buf.now) (range_at (listed (view.ranges c.args.tid)) c.args.pos) ≡ g.S.EawStore.calls c.args.store.now (log_read c.args.tid) =
+    ap (λ (p : ℕ × ℕ). lay_cost (g.S.EawStore.calls c.args.store.now) c.args.tid (c.args.addr, length c.args.buf.now) p) (sym c.part_range-start.ensures) ∙
+    met_cost (g.S.EawStore.calls c.args.store.now) c.args.tid c.args.addr (length c.args.buf.now) c.part_range-start.result.0 c.part_range-start.result.1 c.max-first.result c.min-last.result
+    c.max-first.ensures (omega (arith, c.min-last.ensures, c.from.ensures)) (omega (arith, c.if-first-last.false)) in
+    record { done = λ exact. omega (arith, one, c.in-Ok.ensures.costs.done refl); most = omega (arith, one, c.in-Ok.ensures.costs.most) }
+
+pub returns-in-Err-clause-costs : goal.returns-in-Err-clause-costs
+returns-in-Err-clause-costs g c =
+    let view = g.S.EawStore.view c.args.store.now in
+    let one : lay_cost (g.S.EawStore.calls c.args.store.now) c.args.tid (c.args.addr, length c.args.buf.now) (range_at (listed (view.ranges c.args.tid)) c.args.pos) ≡ g.S.EawStore.calls c.args.store.now (log_read c.args.tid) =
+    ap (λ (p : ℕ × ℕ). lay_cost (g.S.EawStore.calls c.args.store.now) c.args.tid (c.args.addr, length c.args.buf.now) p) (sym c.part_range-start.ensures) ∙
+    met_cost (g.S.EawStore.calls c.args.store.now) c.args.tid c.args.addr (length c.args.buf.now) c.part_range-start.result.0 c.part_range-start.result.1 c.max-first.result c.min-last.result
+    c.max-first.ensures (omega (arith, c.min-last.ensures, c.from.ensures)) (omega (arith, c.if-first-last.false)) in
+    record { done = λ exact. tt; most = omega (arith, one, c.in-Err.ensures.costs.most) }

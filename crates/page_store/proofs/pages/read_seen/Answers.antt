@@ -13,6 +13,11 @@ use Rattle.page_store.proofs.Outline.{listed-ranges}
 use Rattle.page_store.proofs.Shown.{placed_parts}
 use Rattle.page_store.proofs.Laying.{more_applied, long_applied, length-ranges}
 use Rattle.page_store.proofs.ReadCalls.{reads_on}
+use Rattle.eaw_face.specs.Command.{Command, read}
+use Rattle.eaw_face.specs.State.{range_at}
+use Rattle.mars_base.specs.Costs.{Costs}
+use Rattle.page_store.specs.Reads.{lay_cost, laid_cost}
+use Rattle.page_store.proofs.Costing.{laid_more, laid_most, laid_all, lay_same}
 use Rattle.page_store.proofs.pages.read_seen.Goals as goal
 
 pub loop-pos-preserved : goal.loop-pos-preserved
@@ -28,6 +33,16 @@ loop-pos-preserved g c =
     subst (λ (shape : Shape). Reads tells (g.S.EawStore.opens shape) c.args.tid mid new done) so_far.shape c.in-Ok-lay_part.ensures.does in
     record {
       reads = reads_on tells (g.S.EawStore.opens first.shape) c.args.tid first mid new done refl so_far done more;
+      cost =
+          let ranges = ap (λ (rs : ℕ → Option (List (ℕ × ℕ))). listed (rs c.args.tid)) so_far.done.ranges in
+          let there : c.loop-pos.pos < length (listed (first.ranges c.args.tid)) = omega (arith, c.loop-pos-test.true, c.log_len-pos-end.ensures ∙ ap (λ (rs : ℕ → Option (List (ℕ × ℕ))). length (listed (rs c.args.tid))) c.in-Ok.ensures.does.done.ranges) in
+          let calls = g.S.EawStore.calls c.args.store.now in
+          let lay = ap (λ (rs : List (ℕ × ℕ)). lay_cost (g.S.EawStore.calls c.loop-pos.store) c.args.tid (c.args.addr, length c.loop-pos.buf) (range_at rs c.loop-pos.pos)) ranges
+          ∙ lay_same calls c.args.tid (c.args.addr, length c.loop-pos.buf) (g.S.EawStore.calls c.loop-pos.store) (range_at (listed (first.ranges c.args.tid)) c.loop-pos.pos) c.loop-pos.invariant.steady
+          ∙ ap (λ (n : ℕ). lay_cost calls c.args.tid (c.args.addr, n) (range_at (listed (first.ranges c.args.tid)) c.loop-pos.pos)) c.loop-pos.invariant.long in
+          let more = laid_more calls c.args.tid (c.args.addr, length c.args.buf.now) (listed (first.ranges c.args.tid)) c.loop-pos.pos there in
+          omega (arith, c.loop-pos.invariant.cost, c.in-Ok-lay_part.ensures.costs.done refl, lay, more);
+      steady = λ command. c.in-Ok-lay_part.ensures.steady command ∙ c.loop-pos.invariant.steady command;
       long = c.lay_part.auto.buf ∙ c.loop-pos.invariant.long;
       seen = λ tell.
           let same : mid.state ≡ first.state = so_far.done.state tell in
@@ -67,3 +82,26 @@ returns-in-Err-lay_part-clause-bytes g c = λ told. tt
 
 pub returns-clause-refused : goal.returns-clause-refused
 returns-clause-refused g c = tt
+
+pub returns-clause-costs : goal.returns-clause-costs
+returns-clause-costs g c =
+    let first = g.S.EawStore.view c.args.store.now in
+    let count = c.log_len-pos-end.ensures ∙ ap (λ (rs : ℕ → Option (List (ℕ × ℕ))). length (listed (rs c.args.tid))) c.in-Ok.ensures.does.done.ranges in
+    let all = laid_all (g.S.EawStore.calls c.args.store.now) c.args.tid (c.args.addr, length c.args.buf.now) (listed (first.ranges c.args.tid)) c.loop-pos.pos (omega (arith, c.loop-pos-test.false, c.loop-pos.auto.pos-end, count)) in
+    record { done = λ exact. omega (arith, c.loop-pos.invariant.cost, all); most = omega (arith, c.loop-pos.invariant.cost, all) }
+
+pub returns-in-Err-clause-costs : goal.returns-in-Err-clause-costs
+returns-in-Err-clause-costs g c = record { done = λ exact. tt; most = omega (arith, c.in-Err.ensures.costs.most) }
+
+pub returns-in-Err-lay_part-clause-costs : goal.returns-in-Err-lay_part-clause-costs
+returns-in-Err-lay_part-clause-costs g c =
+    let first = g.S.EawStore.view c.args.store.now in
+    let calls = g.S.EawStore.calls c.args.store.now in
+    let ranges = ap (λ (rs : ℕ → Option (List (ℕ × ℕ))). listed (rs c.args.tid)) c.loop-pos.invariant.reads.done.ranges in
+    let there : c.loop-pos.pos < length (listed (first.ranges c.args.tid)) = omega (arith, c.loop-pos-test.true, c.log_len-pos-end.ensures ∙ ap (λ (rs : ℕ → Option (List (ℕ × ℕ))). length (listed (rs c.args.tid))) c.in-Ok.ensures.does.done.ranges) in
+    let lay = ap (λ (rs : List (ℕ × ℕ)). lay_cost (g.S.EawStore.calls c.loop-pos.store) c.args.tid (c.args.addr, length c.loop-pos.buf) (range_at rs c.loop-pos.pos)) ranges
+    ∙ lay_same calls c.args.tid (c.args.addr, length c.loop-pos.buf) (g.S.EawStore.calls c.loop-pos.store) (range_at (listed (first.ranges c.args.tid)) c.loop-pos.pos) c.loop-pos.invariant.steady
+    ∙ ap (λ (n : ℕ). lay_cost calls c.args.tid (c.args.addr, n) (range_at (listed (first.ranges c.args.tid)) c.loop-pos.pos)) c.loop-pos.invariant.long in
+    let more = laid_more calls c.args.tid (c.args.addr, length c.args.buf.now) (listed (first.ranges c.args.tid)) c.loop-pos.pos there in
+    let most = laid_most calls c.args.tid (c.args.addr, length c.args.buf.now) (listed (first.ranges c.args.tid)) (c.loop-pos.pos + 1) in
+    record { done = λ exact. tt; most = omega (arith, c.loop-pos.invariant.cost, c.in-Err-lay_part.ensures.costs.most, lay, more, most) }

@@ -4,10 +4,15 @@ use Rattle.record_table.specs.State.{key_in}
 use Rattle.record_table.proofs.Gathering.{follows_some, next_is}
 use Rattle.record_table.proofs.Seeking.{read_is, some_slot}
 use Rattle.record_table.proofs.Sharing.{Laws}
+use Rattle.std.proofs.Common.{Result, Err, subst}
+use Rattle.page_store.specs.Looks.{LookCause}
+use Rattle.page_store.specs.declared.fault.PageFault.{PageFault}
+use Rattle.page_store.specs.declared.fault.PageFault.TheVariants.{Damaged}
+use Rattle.record_table.specs.declared.scanning.Next.{Next}
 use Rattle.record_table.proofs.scanning.read_row.Goals as goal
 
-pub returns-in-Ok-Some-clause-follows : goal.returns-in-Ok-Some-clause-follows
-returns-in-Ok-Some-clause-follows g c = λ told.
+pub returns-in-Ok-heard-clause-follows : goal.returns-in-Ok-heard-clause-follows
+returns-in-Ok-heard-clause-follows g c = λ told.
     let K = g.met.K.KeyIndex in
     let V = g.S.EawStore.view in
     let I = g.K.KeyIndex.index in
@@ -17,21 +22,22 @@ returns-in-Ok-Some-clause-follows g c = λ told.
     let tied = (c.requires.holds alive).tied told in
     let n = next_is I laws c.args.tid v0 tied c.args.span.table c.args.span.root c.requires.table (c.requires.named told alive) c.args.span.low c.args.span.high (omega arith) c.args.pair.0 c.args.pair.1 (c.requires.next told) c.requires.most in
     rw c.value_in.ensures (follows_some I laws c.args.tid v0 tied c.args.span.table c.args.span.root c.requires.table (c.requires.named told alive) c.args.span.low c.args.span.high (omega arith) c.args.pair.0 c.args.pair.1 (c.requires.next told) c.requires.most _
-    (sym c.in-Ok-Some.field-0-is ∙ c.in-Ok-Some.ensures.said told
+    (sym c.in-Ok-heard.ensures.slot ∙ c.in-Ok.ensures.said told
     ∙ read_is I laws c.args.tid (key_in c.args.span.table c.args.pair.0) v0 tied v0 refl refl (g.met.S.EawStore.long c.args.pages.now.store told) c.args.pair.1 n.1))
 
-pub returns-in-Ok-None-clause-cause : goal.returns-in-Ok-None-clause-cause
-returns-in-Ok-None-clause-cause g c =
+pub returns-in-Err-heard-clause-cause : goal.returns-in-Err-heard-clause-cause
+returns-in-Err-heard-clause-cause g c =
     let K = g.met.K.KeyIndex in
     let V = g.S.EawStore.view in
     let I = g.K.KeyIndex.index in
     let laws : Laws g.K.KeyIndex.index = record { rises = K.rises; given = K.given; counts = K.counts; rests = K.rests; extends = K.extends } in
     let v0 = pages_of (V c.args.pages.now.store) c.args.pages.now in
-    let alive = c.requires.alive in (
+    let alive = c.requires.alive in
+    (let damaged : LookCause g.S.EawStore.tells (V c.args.pages.now.store) (let r : Result Next PageFault = Err (Damaged c.page_of-page.result) in r) = (
       alive,
       λ told.
           let tied = (c.requires.holds alive).tied told in
           let n = next_is I laws c.args.tid v0 tied c.args.span.table c.args.span.root c.requires.table (c.requires.named told alive) c.args.span.low c.args.span.high (omega arith) c.args.pair.0 c.args.pair.1 (c.requires.next told) c.requires.most in
           some_slot I laws c.args.tid (key_in c.args.span.table c.args.pair.0) v0 tied v0 refl refl (g.met.S.EawStore.long c.args.pages.now.store told) c.args.pair.1 n.1
-          (sym c.in-Ok-None.field-0-is ∙ c.in-Ok-None.ensures.said told),
-    )
+          (sym c.in-Err-heard.ensures.none.1 ∙ c.in-Ok.ensures.said told),
+    ) in subst (λ (f : PageFault). LookCause g.S.EawStore.tells (V c.args.pages.now.store) (let r : Result Next PageFault = Err f in r)) (sym c.in-Err-heard.ensures.none.0) damaged)

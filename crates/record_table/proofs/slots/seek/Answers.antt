@@ -5,6 +5,13 @@ use Rattle.record_table.proofs.Looking.{looks_as, looks_next}
 use Rattle.record_table.specs.State.{key_in}
 use Rattle.record_table.proofs.Sharing.{Laws, found_in}
 use Rattle.record_table.proofs.Seeking.{seen_none, seen_some, some_slot}
+use Rattle.std.proofs.Common.{Bool, Option, Result, Err, subst}
+use Rattle.record_table.specs.Sought.{LooksAs}
+use Rattle.page_store.specs.Looks.{LookCause}
+use Rattle.page_store.specs.declared.fault.PageFault.{PageFault}
+use Rattle.page_store.specs.declared.fault.PageFault.TheVariants.{Damaged}
+use Rattle.record_table.specs.declared.slots.Place.{Place}
+use Rattle.record_table.proofs.SeekCosts.{seeks_none, seeks_err, seeks_unread, seeks_bad, seeks_some, damaged_not_dead, damaged_well}
 use Rattle.record_table.proofs.slots.seek.Goals as goal
 
 pub returns-in-Ok-None-clause-finds : goal.returns-in-Ok-None-clause-finds
@@ -16,8 +23,8 @@ returns-in-Ok-None-clause-finds g c = λ told.
     let none = found_in g.K.KeyIndex.index laws (V c.args.pages.now.store).state.bytes c.args.table c.args.root c.args.key ((c.requires.holds alive).tied told).sound c.requires.table (c.requires.named told alive) (omega arith) ∙ sym (c.in-Ok-None.ensures.found told) ∙ c.in-Ok-None.field-0-is in
     (none, seen_none g.K.KeyIndex.index laws c.args.tid (key_in c.args.table c.args.key) (pages_of (V c.args.pages.now.store) c.args.pages.now) ((c.requires.holds alive).tied told) none)
 
-pub returns-in-Ok-Some-read_as-clause-finds : goal.returns-in-Ok-Some-read_as-clause-finds
-returns-in-Ok-Some-read_as-clause-finds g c = λ told.
+pub returns-in-Ok-heard-clause-finds : goal.returns-in-Ok-heard-clause-finds
+returns-in-Ok-heard-clause-finds g c = λ told.
     let K = g.met.K.KeyIndex in
     let V = g.S.EawStore.view in
     let laws : Laws g.K.KeyIndex.index = record { rises = K.rises; given = K.given; counts = K.counts; rests = K.rests; extends = K.extends } in
@@ -27,23 +34,24 @@ returns-in-Ok-Some-read_as-clause-finds g c = λ told.
       some,
       seen_some g.K.KeyIndex.index laws c.args.tid (key_in c.args.table c.args.key) (pages_of (V c.args.pages.now.store) c.args.pages.now) ((c.requires.holds alive).tied told)
           (pages_of (V c.find.new.pages.store) c.find.new.pages) looks.shape ((looks.still refl).state told) (g.met.S.EawStore.long c.args.pages.now.store told) c.in-Ok-Some.slot some
-          c.in-Ok-Some-read_as.field-0 (c.in-Ok-Some-read_as.ensures.said told) ∙ ap value_of c.in-Ok-Some-read_as.field-0-is ∙ sym c.value_in.ensures,
+          c.in-Ok.said (c.in-Ok.ensures.said told) ∙ ap value_of c.in-Ok-heard.ensures.slot ∙ sym c.value_in.ensures,
     )
 
-pub returns-in-Ok-None-read_as-clause-cause : goal.returns-in-Ok-None-read_as-clause-cause
-returns-in-Ok-None-read_as-clause-cause g c =
+pub returns-in-Err-heard-clause-cause : goal.returns-in-Err-heard-clause-cause
+returns-in-Err-heard-clause-cause g c =
     let K = g.met.K.KeyIndex in
     let V = g.S.EawStore.view in
     let laws : Laws g.K.KeyIndex.index = record { rises = K.rises; given = K.given; counts = K.counts; rests = K.rests; extends = K.extends } in
     let alive = c.in-Ok-Some.ensures.cause in
-    let looks = c.in-Ok-Some.ensures.looks in (
+    let looks = c.in-Ok-Some.ensures.looks in
+    (let damaged : LookCause g.S.EawStore.tells (V c.args.pages.now.store) (let r : Result (Option Place) PageFault = Err (Damaged c.page_of-page.result) in r) = (
       alive,
       λ told.
           let some = found_in g.K.KeyIndex.index laws (V c.args.pages.now.store).state.bytes c.args.table c.args.root c.args.key ((c.requires.holds alive).tied told).sound c.requires.table (c.requires.named told alive) (omega arith) ∙ sym (c.in-Ok-Some.ensures.found told) ∙ c.in-Ok-Some.field-0-is in
           some_slot g.K.KeyIndex.index laws c.args.tid (key_in c.args.table c.args.key) (pages_of (V c.args.pages.now.store) c.args.pages.now) ((c.requires.holds alive).tied told)
           (pages_of (V c.find.new.pages.store) c.find.new.pages) looks.shape ((looks.still refl).state told) (g.met.S.EawStore.long c.args.pages.now.store told) c.in-Ok-Some.slot some
-          (sym c.in-Ok-None-read_as.field-0-is ∙ c.in-Ok-None-read_as.ensures.said told),
-    )
+          (sym c.in-Err-heard.ensures.none.1 ∙ c.in-Ok.ensures.said told),
+    ) in subst (λ (f : PageFault). LookCause g.S.EawStore.tells (V c.args.pages.now.store) (let r : Result (Option Place) PageFault = Err f in r)) (sym c.in-Err-heard.ensures.none.0) damaged)
 
 pub returns-in-Err-clause-finds : goal.returns-in-Err-clause-finds
 returns-in-Err-clause-finds g c = λ told. tt
@@ -60,20 +68,20 @@ returns-in-Ok-None-clause-dead g c = λ is. cc
 pub returns-in-Ok-None-clause-cause : goal.returns-in-Ok-None-clause-cause
 returns-in-Ok-None-clause-cause g c = c.in-Ok-None.ensures.cause
 
-pub returns-in-Ok-Some-read_as-clause-dead : goal.returns-in-Ok-Some-read_as-clause-dead
-returns-in-Ok-Some-read_as-clause-dead g c = λ is. cc
+pub returns-in-Ok-heard-clause-dead : goal.returns-in-Ok-heard-clause-dead
+returns-in-Ok-heard-clause-dead g c = λ is. cc
 
-pub returns-in-Ok-Some-read_as-clause-cause : goal.returns-in-Ok-Some-read_as-clause-cause
-returns-in-Ok-Some-read_as-clause-cause g c = c.in-Ok-Some.ensures.cause
+pub returns-in-Ok-heard-clause-cause : goal.returns-in-Ok-heard-clause-cause
+returns-in-Ok-heard-clause-cause g c = c.in-Ok-Some.ensures.cause
 
-pub returns-in-Ok-None-read_as-clause-finds : goal.returns-in-Ok-None-read_as-clause-finds
-returns-in-Ok-None-read_as-clause-finds g c = λ told. tt
+pub returns-in-Err-heard-clause-finds : goal.returns-in-Err-heard-clause-finds
+returns-in-Err-heard-clause-finds g c = λ told. tt
 
-pub returns-in-Ok-None-read_as-clause-inside : goal.returns-in-Ok-None-read_as-clause-inside
-returns-in-Ok-None-read_as-clause-inside g c = tt
+pub returns-in-Err-heard-clause-inside : goal.returns-in-Err-heard-clause-inside
+returns-in-Err-heard-clause-inside g c = tt
 
-pub returns-in-Ok-None-read_as-clause-dead : goal.returns-in-Ok-None-read_as-clause-dead
-returns-in-Ok-None-read_as-clause-dead g c = λ is. cc
+pub returns-in-Err-heard-clause-dead : goal.returns-in-Err-heard-clause-dead
+returns-in-Err-heard-clause-dead g c = λ is. damaged_not_dead c.in-Err-heard.fault c.page_of-page.result c.in-Err-heard.ensures.none.0 is
 
 pub returns-in-Err-read_as-clause-finds : goal.returns-in-Err-read_as-clause-finds
 returns-in-Err-read_as-clause-finds g c = λ told. tt
@@ -89,18 +97,55 @@ returns-in-Ok-None-clause-looks g c =
     let v0 = pages_of (V c.args.pages.now.store) c.args.pages.now in
     looks_as T (E v0.store.shape) c.args.tid false v0 (pages_of (V c.find.new.pages.store) c.find.new.pages) c.in-Ok-None.ensures.looks
 
-pub returns-in-Ok-Some-read_as-clause-looks : goal.returns-in-Ok-Some-read_as-clause-looks
-returns-in-Ok-Some-read_as-clause-looks g c =
+pub returns-in-Ok-heard-clause-looks : goal.returns-in-Ok-heard-clause-looks
+returns-in-Ok-heard-clause-looks g c =
     let T = g.S.EawStore.tells in
     let E = g.S.EawStore.opens in
     let V = g.S.EawStore.view in
     let v0 = pages_of (V c.args.pages.now.store) c.args.pages.now in
-    looks_next T E c.args.tid false v0 (pages_of (V c.find.new.pages.store) c.find.new.pages) (pages_of (V c.read_as.new.pages.store) c.read_as.new.pages) (looks_as T (E v0.store.shape) c.args.tid false v0 (pages_of (V c.find.new.pages.store) c.find.new.pages) c.in-Ok-Some.ensures.looks) c.in-Ok-Some-read_as.ensures.looks
+    looks_next T E c.args.tid false v0 (pages_of (V c.find.new.pages.store) c.find.new.pages) (pages_of (V c.read_as.new.pages.store) c.read_as.new.pages) (looks_as T (E v0.store.shape) c.args.tid false v0 (pages_of (V c.find.new.pages.store) c.find.new.pages) c.in-Ok-Some.ensures.looks) c.in-Ok.ensures.looks
 
-pub returns-in-Ok-None-read_as-clause-looks : goal.returns-in-Ok-None-read_as-clause-looks
-returns-in-Ok-None-read_as-clause-looks g c =
+pub returns-in-Err-heard-clause-looks : goal.returns-in-Err-heard-clause-looks
+returns-in-Err-heard-clause-looks g c =
     let T = g.S.EawStore.tells in
     let E = g.S.EawStore.opens in
     let V = g.S.EawStore.view in
     let v0 = pages_of (V c.args.pages.now.store) c.args.pages.now in
-    looks_next T E c.args.tid false v0 (pages_of (V c.find.new.pages.store) c.find.new.pages) (pages_of (V c.read_as.new.pages.store) c.read_as.new.pages) (looks_as T (E v0.store.shape) c.args.tid false v0 (pages_of (V c.find.new.pages.store) c.find.new.pages) c.in-Ok-Some.ensures.looks) c.in-Ok-None-read_as.ensures.looks
+    subst (λ (b : Bool). LooksAs T (E v0.store.shape) c.args.tid b v0 (pages_of (V c.read_as.new.pages.store) c.read_as.new.pages)) (sym (damaged_well (Option Place) c.in-Err-heard.fault c.page_of-page.result c.in-Err-heard.ensures.none.0))
+    (looks_next T E c.args.tid false v0 (pages_of (V c.find.new.pages.store) c.find.new.pages) (pages_of (V c.read_as.new.pages.store) c.read_as.new.pages) (looks_as T (E v0.store.shape) c.args.tid false v0 (pages_of (V c.find.new.pages.store) c.find.new.pages) c.in-Ok-Some.ensures.looks) c.in-Ok.ensures.looks)
+
+pub returns-in-Ok-None-clause-seeks : goal.returns-in-Ok-None-clause-seeks
+returns-in-Ok-None-clause-seeks g c =
+    let V = g.S.EawStore.view in
+    seeks_none g.S.EawStore.tells (g.K.KeyIndex.index.finding c.args.root c.args.key) c.args.tid (g.S.EawStore.calls c.args.pages.now.store) (g.S.EawStore.calls c.find.new.pages.store)
+    (V c.args.pages.now.store) (V c.find.new.pages.store) (rw c.in-Ok-None.field-0-is at c.in-Ok-None.ensures.follows)
+
+pub returns-in-Err-clause-seeks : goal.returns-in-Err-clause-seeks
+returns-in-Err-clause-seeks g c =
+    let V = g.S.EawStore.view in
+    seeks_err g.S.EawStore.tells (g.K.KeyIndex.index.finding c.args.root c.args.key) c.args.tid (g.S.EawStore.calls c.args.pages.now.store) (g.S.EawStore.calls c.find.new.pages.store)
+    (V c.args.pages.now.store) (V c.find.new.pages.store) c.in-Err.fault c.in-Err.ensures.follows
+
+pub returns-in-Err-read_as-clause-seeks : goal.returns-in-Err-read_as-clause-seeks
+returns-in-Err-read_as-clause-seeks g c =
+    let V = g.S.EawStore.view in
+    seeks_unread g.S.EawStore.tells (g.K.KeyIndex.index.finding c.args.root c.args.key) c.args.tid (g.S.EawStore.calls c.args.pages.now.store) (g.S.EawStore.calls c.find.new.pages.store)
+    (V c.args.pages.now.store) (V c.find.new.pages.store) c.in-Ok-Some.slot (rw c.in-Ok-Some.field-0-is at c.in-Ok-Some.ensures.inside) c.in-Ok-Some.ensures.looks.shape c.in-Ok-Some.ensures.looks.ranges
+    (V c.read_as.new.pages.store) (rw c.in-Ok-Some.field-0-is at c.in-Ok-Some.ensures.follows)
+    c.in-Err-read_as.fault ((c.in-Ok-Some.ensures.looks.still refl).dead ∙ c.in-Ok-Some.ensures.cause) c.in-Err-read_as.ensures.faults c.in-Err-read_as.ensures.cause c.in-Err-read_as.ensures.costs
+
+pub returns-in-Err-heard-clause-seeks : goal.returns-in-Err-heard-clause-seeks
+returns-in-Err-heard-clause-seeks g c =
+    let V = g.S.EawStore.view in
+    seeks_bad g.S.EawStore.tells (g.K.KeyIndex.index.finding c.args.root c.args.key) c.args.tid (g.S.EawStore.calls c.args.pages.now.store) (g.S.EawStore.calls c.find.new.pages.store)
+    (V c.args.pages.now.store) (V c.find.new.pages.store) c.in-Ok-Some.slot (rw c.in-Ok-Some.field-0-is at c.in-Ok-Some.ensures.inside) c.in-Ok-Some.ensures.looks.shape c.in-Ok-Some.ensures.looks.ranges
+    (V c.read_as.new.pages.store) (rw c.in-Ok-Some.field-0-is at c.in-Ok-Some.ensures.follows)
+    c.in-Ok.said c.in-Ok.ensures.costs c.in-Err-heard.fault c.page_of-page.result c.in-Err-heard.ensures.none.0 c.page_of-page.ensures.page
+
+pub returns-in-Ok-heard-clause-seeks : goal.returns-in-Ok-heard-clause-seeks
+returns-in-Ok-heard-clause-seeks g c =
+    let V = g.S.EawStore.view in
+    seeks_some g.S.EawStore.tells (g.K.KeyIndex.index.finding c.args.root c.args.key) c.args.tid (g.S.EawStore.calls c.args.pages.now.store) (g.S.EawStore.calls c.find.new.pages.store)
+    (V c.args.pages.now.store) (V c.find.new.pages.store) c.in-Ok-Some.slot (rw c.in-Ok-Some.field-0-is at c.in-Ok-Some.ensures.inside) c.in-Ok-Some.ensures.looks.shape c.in-Ok-Some.ensures.looks.ranges
+    (V c.read_as.new.pages.store) (rw c.in-Ok-Some.field-0-is at c.in-Ok-Some.ensures.follows)
+    c.in-Ok.said c.in-Ok.ensures.costs _ refl

@@ -1,7 +1,7 @@
 use Rattle.std.proofs.Common.{sym, ap, ◌∙◌, subst, arith, w64}
 use Rattle.std.specs.Int.{bit_not}
 use Rattle.mars_manager.specs.Rule.{face}
-use Rattle.mars_manager.specs.Seat.{first_of, SeatOf}
+use Rattle.mars_manager.specs.Seat.{first_of}
 use Rattle.mars_manager.specs.Locks.{hold_of, IsUnwritten}
 use Rattle.mars_manager.specs.Sharing.{MarsView}
 use Rattle.mars_manager.proofs.Striping.{backs_as}

@@ -5,7 +5,7 @@ use Rattle.history.specs.declared.locks.Mode.TheVariants as mode
 use Rattle.std.specs.Int.RustNames.{bit_or}
 use Rattle.stripe_words.specs.declared.hold.Hold.TheVariants.{Exclusive}
 use Rattle.mars_manager.specs.Rule.{face}
-use Rattle.mars_manager.specs.Seat.{first_of, SeatOf}
+use Rattle.mars_manager.specs.Seat.{first_of}
 use Rattle.mars_manager.specs.Locks.{hold_of, excluded_by, noted}
 use Rattle.mars_manager.specs.Sharing.{MarsView}
 use Rattle.mars_manager.proofs.Knowns.{moves_exclude, moves_note}

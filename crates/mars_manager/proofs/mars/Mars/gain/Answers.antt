@@ -1,7 +1,7 @@
 use Rattle.std.proofs.Common.{ap, ◌∙◌}
 use Rattle.stripe_words.specs.declared.hold.Hold.TheVariants.{Free}
 use Rattle.mars_manager.specs.Seat.{first_of}
-use Rattle.mars_manager.specs.Locks.{with_hold, with_locks}
+use Rattle.mars_manager.specs.Locks.{with_hold}
 use Rattle.mars_manager.proofs.Knowns.{try_undone}
 use Rattle.mars_manager.proofs.mars.Mars.gain.Goals as goal
 

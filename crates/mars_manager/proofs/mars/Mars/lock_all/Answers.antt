@@ -1,6 +1,5 @@
-use Rattle.std.proofs.Common.{◌≡◌, ◌<◌, ℕ, refl, ap, ◌∙◌, sym, subst, arith}
+use Rattle.std.proofs.Common.{◌<◌, ℕ, refl, ap, ◌∙◌, sym, subst, arith}
 use Rattle.history.specs.declared.locks.Mode.TheVariants as mode
-use Rattle.stripe_words.specs.declared.hold.Hold.{Hold}
 use Rattle.mars_manager.specs.declared.view.Known.{Known}
 use Rattle.mars_manager.specs.Pass.{PassView}
 use Rattle.mars_manager.specs.Locks.{with_holds}

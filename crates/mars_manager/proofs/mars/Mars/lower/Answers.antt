@@ -1,7 +1,7 @@
 use Rattle.std.proofs.Common.{◌≡◌, ap, ◌∙◌, sym, subst, length}
 use Rattle.mars_manager.specs.declared.view.Known.{Known}
 use Rattle.mars_manager.specs.Pass.{PassView}
-use Rattle.mars_manager.specs.Locks.{IsUntouched, IsUnwritten, with_locks}
+use Rattle.mars_manager.specs.Locks.{IsUntouched, IsUnwritten}
 use Rattle.mars_manager.proofs.Knowns.{untouched_from, unwritten_from}
 use Rattle.mars_manager.proofs.Striping.{long_is}
 use Rattle.mars_manager.proofs.mars.Mars.lower.Goals as goal

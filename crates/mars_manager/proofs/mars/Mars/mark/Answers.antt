@@ -2,7 +2,7 @@ use Rattle.std.proofs.Common.{◌≡◌, ◌<◌, ap, ◌∙◌, subst, arith, s
 use Rattle.stripe_words.specs.declared.hold.Hold.TheVariants.{Free}
 use Rattle.mars_manager.specs.declared.view.Known.{Known}
 use Rattle.mars_manager.specs.Rule.{face}
-use Rattle.mars_manager.specs.Seat.{first_of, SeatOf}
+use Rattle.mars_manager.specs.Seat.{first_of}
 use Rattle.mars_manager.specs.Locks.{hold_of, marked_by, Finds}
 use Rattle.mars_manager.specs.Sharing.{MarsView}
 use Rattle.mars_manager.proofs.Knowns.{moves_mark}

@@ -2,7 +2,7 @@ use Rattle.std.proofs.Common.{sym, subst, arith, w64, ap, ◌∙◌}
 use Rattle.std.specs.Int.{bit_not}
 use Rattle.std.specs.Int.RustNames.{bit_or}
 use Rattle.mars_manager.specs.Rule.{face}
-use Rattle.mars_manager.specs.Seat.{first_of, SeatOf}
+use Rattle.mars_manager.specs.Seat.{first_of}
 use Rattle.mars_manager.specs.Locks.{IsUntouched}
 use Rattle.mars_manager.specs.Sharing.{MarsView}
 use Rattle.mars_manager.proofs.Striping.{releases_as}

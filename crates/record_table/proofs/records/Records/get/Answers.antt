@@ -1,7 +1,9 @@
-use Rattle.std.proofs.Common.{◌∙◌, ap, sym, Ok}
+use Rattle.std.proofs.Common.{◌∙◌, ap, subst, refl, sym, Ok, Err}
 use Rattle.page_store.specs.Shown.{Shown, pages_of}
 use Rattle.history.specs.Table.{found}
 use Rattle.history.specs.declared.call.Call.TheVariants.{Get}
+use Rattle.record_table.specs.Faults.{as_table}
+use Rattle.record_table.specs.Seeks.{Gets}
 use Rattle.record_table.proofs.Seeking.{found_value}
 use Rattle.record_table.proofs.Doing.{got, look_refused}
 use Rattle.record_table.proofs.Ending.{does_of}
@@ -35,4 +37,16 @@ returns-clause-does g c =
       | in-Err w ↦ rw (w.result-is, w.from.ensures) (does_of V T g.S.EawStore.opens g.K.KeyIndex.index 0 c.args.tid (Get c.args.key) c.args.self.now inside c.self.view_is (pages_of (V new.store) new) _
           (look_refused T E g.K.KeyIndex.index 0 c.args.tid (Get c.args.key) (pages_of (V inside.store) inside) (pages_of (V new.store) new) c.self.invariant.0 _ w.in-Err.fault tt w.in-Err.ensures.cause w.in-Err.ensures.looks
           (λ e. ap (λ (p : Shown g.row.S.Denot). pages_of (V p.store) p) (w.in-Err.ensures.dead e))).0)
+    ]
+
+pub returns-clause-gets : goal.returns-clause-gets
+returns-clause-gets g c =
+    let V = g.S.EawStore.view in
+    let inside = c.self.inside.pages in
+    let new = c.seek.new.pages in
+    elim c.match-seek.branch [
+      | in-Ok w ↦ rw w.result-is (subst (λ (p : Shown g.row.S.Denot). Gets (g.K.KeyIndex.index.finding 1 c.args.key) c.args.tid (g.S.EawStore.calls p.store) (V p.store) (V new.store) (Ok w.value_at.result)) c.self.view_is
+          (record { sought = Ok w.in-Ok.found; seeks = w.in-Ok.ensures.seeks; told = ap Ok w.value_at.ensures }))
+      | in-Err w ↦ rw (w.result-is, w.from.ensures) (subst (λ (p : Shown g.row.S.Denot). Gets (g.K.KeyIndex.index.finding 1 c.args.key) c.args.tid (g.S.EawStore.calls p.store) (V p.store) (V new.store) (Err (as_table w.in-Err.fault))) c.self.view_is
+          (record { sought = Err w.in-Err.fault; seeks = w.in-Err.ensures.seeks; told = refl }))
     ]

@@ -1,10 +1,11 @@
+// What a reader reads behind a feed, where both learn from each other.
 ghost use Rattle.std.specs.Prelude.{◌≡◌, [], IfOk};
 ghost use Rattle.snapshot_readers.specs.Feeds.{fed, fed_book, read_book};
 
-use super::*;
 use history::{Call, Calls, Done, Reply, Rows};
 use mars_base::NoMemory;
 use record_slots::Value;
+use snapshot_readers::{Feed, Reader, open_readers};
 use std::alloc::Global;
 use std::process::Abort;
 use std::sync::Wait;

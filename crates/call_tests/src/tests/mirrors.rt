@@ -1,17 +1,17 @@
-// Frames and their followers, over arrays in memory. No clause says that these calls succeed at all.
+// Frames, their followers and a primary, over arrays in memory.
 ghost use Rattle.std.specs.Prelude.{◌≡◌, ◌+◌, ◌<◌, ◌≤◌, IfSome, IsTrue, false};
 ghost use Rattle.array_shape.specs.Places.{data_len};
 ghost use Rattle.eaw_face.specs.Causes.{IsAlive};
 ghost use Rattle.mirror.specs.Applying.{IsFree};
 ghost use Rattle.memory_eaw.specs.Shown.{shown};
 
-use crate::{
-    FollowFault, Follower, Link, MemoryLink, Primary, frames_are_cut_in_one_way, is_frame,
-    streams_are_followed_in_one_way,
-};
 use array_shape::{NumberSet, Shape};
 use eaw_face::EawStore;
 use memory_eaw::MemoryEaw;
+use mirror::{
+    FollowFault, Follower, Link, MemoryLink, Primary, frames_are_cut_in_one_way, is_frame,
+    streams_are_followed_in_one_way,
+};
 use std::alloc::Global;
 use std::process::Abort;
 use std::test::Fail;

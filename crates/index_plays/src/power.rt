@@ -1,0 +1,204 @@
+// Power that is lost within removals.
+use crate::array::{Array, Form, TABLES, check, close, fresh, insert, media_of, open, remove};
+use crate::beside::Beside;
+use crate::front::pages_in_use;
+use anyhow::{Result, bail, ensure};
+use array_shape::Shape;
+use page_store::{KeyIndex, PageFault};
+use pcm_media::MemoryMedia;
+use std::alloc::Global;
+
+// Each table has the keys below this, and its pages lie between those of the others.
+const KEYS: u64 = 70;
+
+// More calls than the opening of an array and a removal make.
+const CALLS: u64 = 10_000;
+
+// Bytes for what is not sure behind a loss of power. Where none are said, a read's bytes stay.
+const CHOICES: [&[u8]; 4] = [b"", b"\x00", b"\xFF", b"\xC3\x01"];
+
+/// How often power was lost, and what was there then.
+#[derive(Clone, Copy)]
+pub struct Stops {
+    /// The removals that free a page, and the first of each table.
+    pub removals: u64,
+    pub losses: u64,
+    /// The images that have what was there before the removal, and those that have what is there behind it.
+    pub before: u64,
+    pub behind: u64,
+}
+
+// The key of a table that is taken out, and whether it is its first.
+#[derive(Clone, Copy)]
+struct Removal {
+    table: u8,
+    key: u64,
+    is_first: bool,
+}
+
+// The removal of this number of a table. One table loses its greatest key first, so that its last leaf goes.
+fn removal_of(table: u8, nth: u64) -> Removal {
+    let key = if table == 1 {
+        KEYS.saturating_sub(nth).saturating_sub(1)
+    } else {
+        nth
+    };
+    Removal {
+        table,
+        key,
+        is_first: nth == 0,
+    }
+}
+
+/// Fills three tables, and takes their keys out again, one table behind the other. Power is lost at each call of
+/// the medium within each removal that frees a page, and within the first of a table.
+pub fn lose_power<K: KeyIndex>(alloc: Global, form: Form) -> Result<Stops> {
+    let (mut media, mut beside) = filled::<K>(alloc, form)?;
+    let mut stops = Stops {
+        removals: 0,
+        losses: 0,
+        before: 0,
+        behind: 0,
+    };
+    for table in 0..TABLES {
+        media = empty::<K>(alloc, media, table, &mut beside, &mut stops)?;
+    }
+    Ok(stops)
+}
+
+// Takes out the keys of a table, and gives the medium behind that.
+fn empty<K: KeyIndex>(
+    alloc: Global,
+    media: MemoryMedia,
+    table: u8,
+    beside: &mut Beside,
+    stops: &mut Stops,
+) -> Result<MemoryMedia> {
+    let mut media = media;
+    for nth in 0..KEYS {
+        media = take_out::<K>(alloc, media, removal_of(table, nth), beside, stops)?;
+    }
+    Ok(media)
+}
+
+// Takes a key out, and gives the medium behind that.
+fn take_out<K: KeyIndex>(
+    alloc: Global,
+    media: MemoryMedia,
+    removal: Removal,
+    beside: &mut Beside,
+    stops: &mut Stops,
+) -> Result<MemoryMedia> {
+    let mut array = opened(alloc, media_of(alloc, media.bytes())?)?;
+    let used = pages_in_use(&mut array)?;
+    if !remove::<K>(&mut array, 0, removal.table, removal.key)?? {
+        return Ok(close(array));
+    }
+    let is_freed = pages_in_use(&mut array)? < used;
+    let before = beside.copy(alloc)?;
+    beside.remove(removal.table, removal.key);
+    beside.compare::<K>(alloc, &mut array)?;
+    if is_freed || removal.is_first {
+        stops.removals = stops.removals.saturating_add(1);
+        stop_removal::<K>(alloc, media.bytes(), removal, (&before, beside), stops)?;
+    }
+    Ok(close(array))
+}
+
+// Makes a removal with power lost at each call of the medium, up to the one that goes through.
+fn stop_removal<K: KeyIndex>(
+    alloc: Global,
+    image: &[u8],
+    removal: Removal,
+    both: (&Beside, &Beside),
+    stops: &mut Stops,
+) -> Result<()> {
+    for passes in 0..CALLS {
+        let media = media_of(alloc, image)?;
+        if goes_through::<K>(alloc, open(alloc, media, passes)?, removal, both, stops)? {
+            return Ok(());
+        }
+    }
+    bail!("a removal that does not end")
+}
+
+// Whether a removal goes through on an array, if that was opened. What may be left behind it is compared.
+fn goes_through<K: KeyIndex>(
+    alloc: Global,
+    array: Option<Array>,
+    removal: Removal,
+    both: (&Beside, &Beside),
+    stops: &mut Stops,
+) -> Result<bool> {
+    let Some(mut array) = array else {
+        return Ok(false);
+    };
+    let is_done = is_done(remove::<K>(&mut array, 0, removal.table, removal.key)?)?;
+    if !is_done {
+        stops.losses = stops.losses.saturating_add(1);
+    }
+    compare_left::<K>(alloc, &close(array), both, is_done, stops)?;
+    Ok(is_done)
+}
+
+// Whether a key was taken out; if not, the medium failed.
+fn is_done(answer: Result<bool, PageFault>) -> Result<bool> {
+    match answer {
+        Ok(true) => Ok(true),
+        Err(PageFault::Media) => Ok(false),
+        Ok(false) => bail!("the key stays"),
+        Err(fault) => bail!("{fault}"),
+    }
+}
+
+// Opens what may be left: it has what was there before the removal or what is there behind it, and the latter if it was told as done.
+fn compare_left<K: KeyIndex>(
+    alloc: Global,
+    media: &MemoryMedia,
+    both: (&Beside, &Beside),
+    is_done: bool,
+    stops: &mut Stops,
+) -> Result<()> {
+    for choice in CHOICES {
+        let mut array = opened(alloc, media.leave(choice)?)?;
+        check::<K>(alloc, &mut array)?;
+        if both.1.is_all::<K>(alloc, &mut array)? {
+            stops.behind = stops.behind.saturating_add(1);
+        } else {
+            ensure!(!is_done, "a removal is lost that was done");
+            compare_before::<K>(alloc, both.0, &mut array)?;
+            stops.before = stops.before.saturating_add(1);
+        }
+    }
+    Ok(())
+}
+
+fn compare_before<K: KeyIndex>(alloc: Global, before: &Beside, array: &mut Array) -> Result<()> {
+    ensure!(
+        before.is_all::<K>(alloc, array)?,
+        "neither the one nor the other"
+    );
+    Ok(())
+}
+
+// The tables with all their keys.
+fn filled<K: KeyIndex>(alloc: Global, form: Form) -> Result<(MemoryMedia, Beside)> {
+    let shape = Shape::new(1, 2, 8, 64)?;
+    let mut array = opened(alloc, fresh(alloc, form, &shape)?)?;
+    let mut beside = Beside::new(alloc)?;
+    for key in 0..KEYS {
+        for table in 0..TABLES {
+            let slot = insert::<K>(&mut array, 0, table, key)??;
+            beside.insert(table, key, slot)?;
+        }
+    }
+    beside.compare::<K>(alloc, &mut array)?;
+    Ok((close(array), beside))
+}
+
+fn opened(alloc: Global, media: MemoryMedia) -> Result<Array> {
+    match open(alloc, media, u64::MAX)? {
+        Some(array) => Ok(array),
+        None => bail!("the array is not opened"),
+    }
+}

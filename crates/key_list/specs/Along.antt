@@ -1,0 +1,43 @@
+-- How look-ups go along a chain.
+use Rattle.std.specs.Prelude.{ℕ, ◌≡◌, ◌||◌, Bool, true, is_some, nat_eq, if◌then◌else◌, List, [], ◌∷◌, Option, Some, None, IfSome}
+use Rattle.page_store.specs.Course.{Reading, Course}
+use Rattle.page_store.specs.Follows.{IsLast}
+use Rattle.page_store.specs.Index.{index_pages_of}
+use Rattle.page_store.specs.Pairs.{Pair, next}
+use Rattle.index_pages.specs.Keys.{from_on}
+use Rattle.index_pages.specs.Page.{link_said, pairs_said}
+use Rattle.key_list.specs.declared.look.Reached.{Reached}
+
+-- a page has a pair from the key on, or none comes after it
+abbrev pub ends_at : ℕ → List ℕ → Bool
+ends_at from said = is_some (next (pairs_said said) from) || nat_eq (link_said said) 0
+
+-- from the root on along the links, up to a page where the way ends
+abbrev pub along : ℕ → ℕ → List Reading → Option ℕ
+along root from [] = Some root
+along root from (r ∷ rs) = if ends_at from r.1 then None else Some (link_said r.1)
+
+-- what the pairs of that page say
+abbrev pub answered : {A : Type 0} → (List Pair → A) → ℕ → List Reading → Option A
+answered says from [] = None
+answered says from (r ∷ rs) = if ends_at from r.1 then Some (says (pairs_said r.1)) else None
+
+-- what a key leads to, if this is the first pair from it on
+abbrev pub led_to : ℕ → Option Pair → Option ℕ
+led_to key None = None
+led_to key (Some p) = if nat_eq p.0 key then Some p.1 else None
+
+abbrev pub chain_finding : ℕ → ℕ → Course (Option ℕ)
+chain_finding root key = record { goes = along root key; answer = answered (λ pairs. led_to key (next pairs key)) key; most = index_pages_of }
+
+abbrev pub chain_nexting : ℕ → ℕ → Course (List Pair)
+chain_nexting root from = record { goes = along root from; answer = answered (λ pairs. from_on pairs from) from; most = index_pages_of }
+
+-- the page that was read last said this, and the way ends there
+abbrev pub Ended : ℕ → List ℕ → List Reading → Type 0
+Ended from said [] = ⊥
+Ended from said (r ∷ rs) = (r.1 ≡ said) × (ends_at from said ≡ true)
+
+-- so, and if it has a pair, it is the one that was reached
+abbrev pub Arrives : ℕ → List ℕ → Option Reached → List Reading → Type 0
+Arrives from said at read = Ended from said read × IfSome at (λ at. IsLast read at.page)

@@ -1,0 +1,131 @@
+-- What a look-up of a key and of its slot reads and costs, from what its two parts do.
+use Rattle.std.proofs.Common.{◌≡◌, ℕ, ◌+◌, ◌*◌, ◌/◌, ◌<◌, ◌≤◌, ◌⊎◌, inl, inr, Bool, true, false, List, [], ◌∷◌, length, Option, Some, None, Result, Ok, Err, refl, sym, ◌∙◌, ap, subst, arith}
+use Rattle.std.specs.Prelude.{if◌then◌else◌, IsTrue}
+use Rattle.std.specs.Option.{option_map}
+use Rattle.std.proofs.lemmas.Bool.{false≢true}
+use Rattle.mars_base.specs.Costs.{Costs}
+use Rattle.array_shape.specs.declared.shape.Shape.{Shape}
+use Rattle.eaw_face.specs.Command.{Command, log_read}
+use Rattle.eaw_face.specs.Command as store
+use Rattle.eaw_face.specs.Causes.{IsAlive}
+use Rattle.eaw_face.specs.State.{Logs, listed}
+use Rattle.eaw_face.specs.StoreView.{StoreView}
+use Rattle.page_store.specs.Course.{Reading, Course}
+use Rattle.page_store.specs.Follows.{Follows, reads_cost}
+use Rattle.page_store.specs.Index.{slots_of, index_pages_of}
+use Rattle.page_store.specs.Looks.{LookCause, is_failed}
+use Rattle.page_store.specs.Reads.{overlap, lay_cost, laid_cost, seen_cost}
+use Rattle.page_store.specs.declared.fault.PageFault.{PageFault}
+use Rattle.page_store.specs.declared.fault.PageFault.TheVariants.{LogFull, SavesFull, Media, Dead, Damaged}
+use Rattle.record_table.specs.Seeks.{Seeks, slot_cost}
+use Rattle.record_table.specs.declared.slots.Place.{Place}
+
+laid_same : (calls other : Command → ℕ) (t : ℕ) (r : ℕ × ℕ) (parts : List (ℕ × ℕ)) → ((command : Command) → other command ≡ calls command) → laid_cost other t r parts ≡ laid_cost calls t r parts
+laid_same calls other t r [] same = refl
+laid_same calls other t r (p ∷ ps) same =
+    let one : lay_cost other t r p ≡ lay_cost calls t r p = ap (λ (n : ℕ). if overlap r p then n else 0) (same (log_read t)) in
+    omega (arith, one, laid_same calls other t r ps same)
+
+-- reads leave what a slot costs
+slot_same : (calls other : Command → ℕ) (t slot : ℕ) (old mid : StoreView) → mid.shape ≡ old.shape → mid.ranges ≡ old.ranges → ((command : Command) → other command ≡ calls command)
+    → slot_cost other t mid (Some slot) ≡ slot_cost calls t old (Some slot)
+slot_same calls other t slot old mid shape ranges same =
+    let addr = 64 * (slots_of mid.shape + slot) in
+    let one : slot_cost other t mid (Some slot) ≡ slot_cost calls t mid (Some slot) =
+    omega (arith, same (store.read (64 * (slots_of mid.shape + slot)) 64), laid_same calls other t (64 * (slots_of mid.shape + slot), 64) (listed (mid.ranges t)) same) in
+    one ∙ ap (λ (s : Shape). seen_cost calls t (64 * (slots_of s + slot)) 64 (listed (mid.ranges t))) shape
+    ∙ ap (λ (rs : Logs (ℕ × ℕ)). seen_cost calls t (64 * (slots_of old.shape + slot)) 64 (listed (rs t))) ranges
+
+module _ (tells : Bool) (course : Course (Option ℕ)) (t : ℕ) (calls calls_mid : Command → ℕ) (old mid : StoreView) where
+  -- the index lacks the key
+  pub seeks_none : (let r : Result (Option ℕ) PageFault = Ok None in Follows tells calls calls_mid course (λ slot. slot) old mid r) → Seeks course t calls old mid (Ok None)
+  seeks_none walks = record {
+    read = walks.read;
+    slot = None;
+    there = walks.reads.there;
+    way = walks.way;
+    few = walks.few;
+    inside = tt;
+    most = omega (arith, walks.reads.most);
+    exact = λ well. omega (arith, walks.reads.exact refl);
+    answers = (walks.ends, refl);
+    blames = tt;
+  }
+
+  -- the index is not read to the end
+  pub seeks_err : (fault : PageFault) → (let r : Result (Option ℕ) PageFault = Err fault in Follows tells calls calls_mid course (λ slot. slot) old mid r) → Seeks course t calls old mid (Err fault)
+  seeks_err Media walks = record { read = walks.read; slot = None; there = walks.reads.there; way = walks.way; few = walks.few; inside = tt; most = omega (arith, walks.reads.most); exact = λ well. absurd (false≢true (sym well)); answers = tt; blames = tt }
+  seeks_err Dead walks = record { read = walks.read; slot = None; there = walks.reads.there; way = walks.way; few = walks.few; inside = tt; most = omega (arith, walks.reads.most); exact = λ well. omega (arith, walks.reads.exact refl); answers = tt; blames = tt }
+  seeks_err (Damaged bad) walks = record { read = walks.read; slot = None; there = walks.reads.there; way = walks.way; few = walks.few; inside = tt; most = omega (arith, walks.reads.most); exact = λ well. omega (arith, walks.reads.exact refl); answers = tt; blames = walks.blames }
+  seeks_err (LogFull g h n) walks = record { read = walks.read; slot = None; there = walks.reads.there; way = walks.way; few = walks.few; inside = tt; most = omega (arith, walks.reads.most); exact = λ well. omega (arith, walks.reads.exact refl); answers = tt; blames = tt }
+  seeks_err SavesFull walks = record { read = walks.read; slot = None; there = walks.reads.there; way = walks.way; few = walks.few; inside = tt; most = omega (arith, walks.reads.most); exact = λ well. omega (arith, walks.reads.exact refl); answers = tt; blames = tt }
+
+  -- the index has the key, and its slot is read
+  module _ (slot : ℕ) (inside : slot < slots_of old.shape) (shape : mid.shape ≡ old.shape) (ranges : mid.ranges ≡ old.ranges) (new : StoreView)
+      (walks : (let r : Result (Option ℕ) PageFault = Ok (Some slot) in Follows tells calls calls_mid course (λ slot. slot) old mid r)) where
+    same : slot_cost calls_mid t mid (Some slot) ≡ slot_cost calls t old (Some slot)
+    same = slot_same calls calls_mid t slot old mid shape ranges (walks.reads.steady refl)
+
+    -- the read fails
+    pub seeks_unread : {T : Type 0} (fault : PageFault) → IsAlive mid → (fault ≡ Media) ⊎ (fault ≡ Dead) → (let r : Result T PageFault = Err fault in LookCause tells mid r)
+        → (let r : Result T PageFault = Err fault in Costs true (slot_cost calls_mid t mid (Some slot)) mid.moment new.moment r) → Seeks course t calls old new (Err fault)
+    seeks_unread Media alive is cause costs = record {
+      read = walks.read;
+      slot = Some slot;
+      there = walks.reads.there;
+      way = walks.way;
+      few = walks.few;
+      inside = inside;
+      most = omega (arith, walks.reads.exact refl, costs.most, same);
+      exact = λ well. absurd (false≢true (sym well));
+      answers = tt;
+      blames = tt;
+    }
+    seeks_unread Dead alive is cause costs = absurd (false≢true (sym alive ∙ cause))
+    seeks_unread (Damaged bad) alive (inl is) cause costs = absurd (cc)
+    seeks_unread (Damaged bad) alive (inr is) cause costs = absurd (cc)
+    seeks_unread (LogFull g h n) alive is cause costs = absurd cause
+    seeks_unread SavesFull alive is cause costs = absurd cause
+
+    module _ {T : Type 0} (x : T) (costs : (let r : Result T PageFault = Ok x in Costs true (slot_cost calls_mid t mid (Some slot)) mid.moment new.moment r)) where
+      -- it says nothing
+      pub seeks_bad : (fault : PageFault) (page : ℕ) → fault ≡ Damaged page → page ≡ index_pages_of mid.shape + slot / 8 → Seeks course t calls old new (Err fault)
+      seeks_bad fault page is at = subst (λ (f : PageFault). Seeks course t calls old new (Err f)) (sym is)
+          (record {
+            read = walks.read;
+            slot = Some slot;
+            there = walks.reads.there;
+            way = walks.way;
+            few = walks.few;
+            inside = inside;
+            most = omega (arith, walks.reads.exact refl, costs.most, same);
+            exact = λ well. omega (arith, walks.reads.exact refl, costs.done refl, same);
+            answers = tt;
+            blames = at ∙ ap (λ (s : Shape). index_pages_of s + slot / 8) shape;
+          })
+
+      -- it is heard
+      pub seeks_some : (place : Place) → place.slot ≡ slot → Seeks course t calls old new (Ok (Some place))
+      seeks_some place is = record {
+        read = walks.read;
+        slot = Some slot;
+        there = walks.reads.there;
+        way = walks.way;
+        few = walks.few;
+        inside = inside;
+        most = omega (arith, walks.reads.exact refl, costs.most, same);
+        exact = λ well. omega (arith, walks.reads.exact refl, costs.done refl, same);
+        answers = (walks.ends ∙ ap (λ (n : ℕ). Some (Some n)) (sym is), ap Some (sym is));
+        blames = tt;
+      }
+
+-- a damaged page does not say that the store is dead
+pub damaged_not_dead : {P T : Type 0} (fault : PageFault) (page : ℕ) → fault ≡ Damaged page → (let r : Result T PageFault = Err fault in r ≡ Err Dead) → P
+damaged_not_dead Dead page is dead = absurd (cc)
+damaged_not_dead Media page is dead = absurd (cc)
+damaged_not_dead SavesFull page is dead = absurd (cc)
+damaged_not_dead (Damaged bad) page is dead = absurd (cc)
+damaged_not_dead (LogFull g h n) page is dead = absurd (cc)
+
+pub damaged_well : (T : Type 0) (fault : PageFault) (page : ℕ) → fault ≡ Damaged page → (let r : Result T PageFault = Err fault in is_failed r) ≡ false
+damaged_well T fault page is = ap (λ (f : PageFault). (let r : Result T PageFault = Err f in is_failed r)) is
