@@ -1,5 +1,5 @@
 -- What the values of options say, and what the subcommand says.
-use Rattle.std.proofs.Common.{◌≡◌, ◌<◌, ◌≤◌, ◌^◌, ℕ, List, Option, Some, None, MatchOption, codes, true, false, is_some, option_map, sym, refl, ap, ap₂, ◌∙◌, arith, rules}
+use Rattle.std.proofs.Common.{◌≡◌, ◌<◌, ◌≤◌, ◌^◌, ℕ, List, Option, Some, None, MatchOption, SomeIff, codes, true, false, is_some, option_map, sym, refl, ap, ap₂, subst, ◌∙◌, arith, rules}
 use Rattle.std.specs.Fmt.{decimal}
 use Rattle.std.specs.Str.{bytes_eq}
 use Rattle.std.proofs.lemmas.Slice.Eq.{bytes_eq-Decides}
@@ -8,7 +8,8 @@ use Rattle.clap.specs.Words.{Text, Row, subcommand_rows_of, first_of}
 use Rattle.clap.specs.Matches.{subcommand_name_of}
 use Rattle.clap.specs.declared.parser.ArgMatches.{ArgMatches}
 use Rattle.texts.specs.Reads.{Reads}
-use Rattle.command_words.specs.Asked.{SubcommandAsks, GivesRun, GivesNumbers, GivesDrill, GivesCallers, GivesWriting, IsNumber}
+use Rattle.record_slots.specs.Text.{IsName}
+use Rattle.command_words.specs.Asked.{SubcommandAsks, GivesRun, GivesNumbers, GivesDrill, GivesCallers, GivesWriting, GivesName, IsNumber}
 use Rattle.command_words.specs.declared.words.CallersNumbers.{CallersNumbers}
 use Rattle.command_words.specs.declared.words.DrillNumbers.{DrillNumbers}
 use Rattle.command_words.specs.declared.words.FormatNumbers.{FormatNumbers}
@@ -16,7 +17,7 @@ use Rattle.command_words.specs.declared.words.RunOptions.{RunOptions}
 use Rattle.command_words.specs.declared.words.Writing.{Writing}
 use Rattle.command_words.specs.declared.words.Writing.TheVariants.{AtOnce, Late}
 use Rattle.command_words.specs.declared.words.Words.{Words}
-use Rattle.command_words.specs.declared.words.Words.TheVariants.{Run, Callers, Eaw, Dump, Drill, Format}
+use Rattle.command_words.specs.declared.words.Words.TheVariants.{Run, Callers, Eaw, Dump, Drill, Format, Make}
 
 pub some_is_none : {X : Type 0} {x : X} → Some x ≡ None → ⊥
 some_is_none is = cc is
@@ -70,6 +71,7 @@ name_of Eaw = codes "eaw"
 name_of Dump = codes "dump"
 name_of (Drill numbers) = codes "drill"
 name_of (Format numbers) = codes "format"
+name_of (Make table) = codes "make"
 
 -- whoever says it has that name
 named : (name : Text) (options : List Row) (asked : Words) → SubcommandAsks name options asked → name ≡ name_of asked
@@ -79,6 +81,7 @@ named name options Eaw says = says
 named name options Dump says = says
 named name options (Drill numbers) says = says.0
 named name options (Format numbers) says = says.0
+named name options (Make table) says = says.0
 
 -- if the numbers are wrong, nothing is asked for
 pub no_run : (options : List Row) → ((given : RunOptions) → GivesRun options given → ⊥) → (asked : Words) → SubcommandAsks (codes "run") options asked → ⊥
@@ -96,6 +99,10 @@ no_drill values none asked says = apart (codes "drill") (name_of asked) refl (na
 pub no_format : (options : List Row) → ((numbers : FormatNumbers) → GivesNumbers options numbers → ⊥) → (asked : Words) → SubcommandAsks (codes "format") options asked → ⊥
 no_format options none (Format numbers) says = none numbers says.1
 no_format options none asked says = apart (codes "format") (name_of asked) refl (named (codes "format") options asked says)
+
+pub no_make : (values : List Row) → ((table : List ℕ) → GivesName values table → ⊥) → (asked : Words) → SubcommandAsks (codes "make") values asked → ⊥
+no_make values none (Make table) says = none table says.1
+no_make values none asked says = apart (codes "make") (name_of asked) refl (named (codes "make") values asked says)
 
 -- and so under whatever name and options the subcommand is found
 pub none_said : (m : ArgMatches) (word name : Text) (options : List Row) → name ≡ word → Some name ≡ subcommand_name_of m → Some options ≡ option_map (λ p. p.1) (subcommand_rows_of m)
@@ -127,6 +134,9 @@ one_drill values numbers other are also = search (rules, one_number, one_writing
 one_format : (options : List Row) (numbers other : FormatNumbers) → GivesNumbers options numbers → GivesNumbers options other → numbers ≡ other
 one_format options numbers other are also = search (rules, one_number)
 
+one_make : (values : List Row) (table other : List ℕ) → GivesName values table → GivesName values other → table ≡ other
+one_make values table other is also = inner (sym is.given ∙ also.given)
+
 -- a name and options say at most one thing
 pub one_asked : (name : Text) (options : List Row) (asked other : Words) → SubcommandAsks name options asked → SubcommandAsks name options other → asked ≡ other
 one_asked name options (Run given) (Run other) says also = ap Run (one_run options given other says.1 also.1)
@@ -135,17 +145,19 @@ one_asked name options Eaw Eaw says also = refl
 one_asked name options Dump Dump says also = refl
 one_asked name options (Drill numbers) (Drill other) says also = ap Drill (one_drill options numbers other says.1 also.1)
 one_asked name options (Format numbers) (Format other) says also = ap Format (one_format options numbers other says.1 also.1)
+one_asked name options (Make table) (Make other) says also = ap Make (one_make options table other says.1 also.1)
 one_asked name options asked other says also = apart (name_of asked) (name_of other) refl (sym (named name options asked says) ∙ named name options other also)
 
 -- a word that names no command asks for nothing
 pub none_other : (word : Text) → (word ≡ codes "run" → ⊥) → (word ≡ codes "callers" → ⊥) → (word ≡ codes "eaw" → ⊥) → (word ≡ codes "dump" → ⊥) → (word ≡ codes "drill" → ⊥)
-    → (word ≡ codes "format" → ⊥) → (options : List Row) (asked : Words) → SubcommandAsks word options asked → ⊥
-none_other word run callers eaw dump drill format options (Run given) says = run says.0
-none_other word run callers eaw dump drill format options (Callers numbers) says = callers says.0
-none_other word run callers eaw dump drill format options Eaw says = eaw says
-none_other word run callers eaw dump drill format options Dump says = dump says
-none_other word run callers eaw dump drill format options (Drill numbers) says = drill says.0
-none_other word run callers eaw dump drill format options (Format numbers) says = format says.0
+    → (word ≡ codes "format" → ⊥) → (word ≡ codes "make" → ⊥) → (options : List Row) (asked : Words) → SubcommandAsks word options asked → ⊥
+none_other word run callers eaw dump drill format make options (Run given) says = run says.0
+none_other word run callers eaw dump drill format make options (Callers numbers) says = callers says.0
+none_other word run callers eaw dump drill format make options Eaw says = eaw says
+none_other word run callers eaw dump drill format make options Dump says = dump says
+none_other word run callers eaw dump drill format make options (Drill numbers) says = drill says.0
+none_other word run callers eaw dump drill format make options (Format numbers) says = format says.0
+none_other word run callers eaw dump drill format make options (Make table) says = make says.0
 
 -- whether there is a value, by its text
 pub no_text : {X Y : Type 0} (f : X → Y) (found : Option X) → is_some found ≡ false → option_map f found ≡ None
@@ -160,3 +172,12 @@ some_text f (Some x) some none = cc none
 pub no_writing : (first : Option Text) → (first ≡ None → ⊥) → ((n : ℕ) → IsNumber 1 64 None first n → ⊥) → (writing : Writing) → GivesWriting first writing → ⊥
 no_writing first some none AtOnce gives = some gives
 no_writing first some none (Late depth) gives = none depth gives
+
+-- whether a word is the name of a table
+pub name_read : (values : List Row) (word : Text) (read : Option (List ℕ)) → first_of (codes "name") values ≡ Some word → SomeIff read (IsName word) word
+    → MatchOption read ((table : List ℕ) → GivesName values table → ⊥) (GivesName values)
+name_read values word None is h = λ table gives. h (subst IsName (inner (sym gives.given ∙ is)) gives.is_name)
+name_read values word (Some table) is h = record { given = is ∙ ap Some (sym h.1); is_name = subst IsName (sym h.1) h.0 }
+
+pub no_name : (values : List Row) → first_of (codes "name") values ≡ None → (table : List ℕ) → GivesName values table → ⊥
+no_name values none table gives = some_is_none (sym gives.given ∙ none)

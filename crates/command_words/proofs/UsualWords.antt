@@ -1,10 +1,11 @@
 -- What usual words ask for.
-use Rattle.std.proofs.Common.{◌≡◌, ◌<◌, ◌≤◌, ◌^◌, ℕ, zero, suc, false, List, [], ◌∷◌, Option, Some, None, codes, refl, sym, ap, subst, ◌∙◌, arith, drop, get_or, nat_lt, if◌then◌else◌}
+use Rattle.std.proofs.Common.{◌≡◌, ◌<◌, ◌≤◌, ◌^◌, ℕ, zero, suc, false, List, [], ◌∷◌, Option, Some, None, codes, refl, sym, ap, subst, ◌∙◌, arith, drop, get_or, nat_lt, nat_le, if◌then◌else◌}
 use Rattle.std.specs.Prelude.{fold, slice_get, unwrap_or}
 use Rattle.std.specs.Str.{bytes_eq}
 use Rattle.std.specs.Fmt.{decimal}
 use Rattle.std.specs.Option.{option_map_or}
-use Rattle.std.proofs.lemmas.Bool.{ne_eqb}
+use Rattle.std.specs.List.{list_all}
+use Rattle.std.proofs.lemmas.Bool.{and_parts, leb-true, ne_eqb}
 use Rattle.std.proofs.lemmas.Fmt.{first_decimal, decimal_digit}
 use Rattle.clap.specs.Words.{Text, Rule, Shape, fault_of, subcommand_of, first_of, built}
 use Rattle.clap.specs.Lexer.{long_of, short_of}
@@ -13,6 +14,7 @@ use Rattle.clap.specs.Faults.{turn_fault, walk_fault, step_fault, positional_fau
 use Rattle.clap.specs.Kinds.{Kinds, or_else}
 use Rattle.clap.specs.declared.error.ErrorKind.{ErrorKind}
 use Rattle.clap.specs.declared.error.ErrorKind.TheVariants as kind
+use Rattle.record_slots.specs.Text.{IsName, is_letter}
 use Rattle.command_words.specs.Usual.{late_words, format_words, joined_words, AreSmall, drill_words, AreOfDrill, callers_words, tries_words, AreOfCallers}
 use Rattle.command_words.specs.declared.words.CallersNumbers.{CallersNumbers}
 use Rattle.command_words.specs.declared.words.DrillNumbers.{DrillNumbers}
@@ -20,9 +22,9 @@ use Rattle.command_words.specs.declared.words.FormatNumbers.{FormatNumbers}
 use Rattle.command_words.specs.declared.words.Writing.{Writing}
 use Rattle.command_words.specs.declared.words.Writing.TheVariants.{AtOnce, Late}
 use Rattle.clap.proofs.OnLiterals.{clap_on_literals}
-use Rattle.command_words.specs.CommandLine.{command_line, run_shape, format_shape, drill_shape, callers_shape, option_of}
+use Rattle.command_words.specs.CommandLine.{command_line, run_shape, format_shape, drill_shape, callers_shape, make_shape, option_of}
 use Rattle.command_words.specs.Asked.{AsksFor, AskForNothing, IsNumber, GivesWriting}
-use Rattle.command_words.specs.declared.words.Words.TheVariants.{Run, Callers, Eaw, Dump, Drill, Format}
+use Rattle.command_words.specs.declared.words.Words.TheVariants.{Run, Callers, Eaw, Dump, Drill, Format, Make}
 
 -- the word is not a flag
 record IsPlain (word : Text) : Type 0 where
@@ -497,3 +499,41 @@ tries_asks numbers are =
         },
       ),
     )
+
+-- a name begins with a letter
+plain_name : (table : List ℕ) → IsName table → IsPlain table
+plain_name [] is = absurd (omega (arith, is.some))
+plain_name (letter ∷ rest) is = plain_of (letter ∷ rest) (omega (arith, leb-true 97 letter (and_parts (nat_le 97 letter) (nat_le letter 122) (and_parts (is_letter letter) (list_all is_letter rest) is.letters).0).0))
+
+-- `make` as it is built
+abbrev make_built : Shape
+make_built = unwrap_or (slice_get (built command_line).subs 6) make_shape
+
+module _ (table : Text) (plain : IsPlain table) where
+  abbrev with_table : Walk
+  with_table = to_positional make_built.rules (arg_by_index make_built.rules 1) table (stands nothing_held 1) nothing_held
+
+  make_walk : walk make_built.rules [] nothing_held (table ∷ []) ≡ with_table
+  unfolding clap_on_literals
+  make_walk = unnamed_walked make_built nothing_held 1 table plain
+
+  make_passes : walk_fault make_built [] (walk_from nothing_held) (table ∷ []) ≡ []
+  unfolding clap_on_literals
+  make_passes = unnamed_passes make_built nothing_held 1 table plain [] _ refl refl
+
+  make_taken : fault_of command_line (codes "make" ∷ table ∷ []) ≡ []
+  unfolding clap_on_literals
+  make_taken = ap (λ k. or_else k []) (level_passes make_built (table ∷ []) with_table make_passes make_walk refl)
+
+  make_met : subcommand_of command_line (codes "make" ∷ table ∷ []) ≡ Some (codes "make", finished make_built.rules with_table.held)
+  unfolding clap_on_literals
+  make_met = ap (λ (w : Walk). Some (codes "make", finished make_built.rules w.held)) make_walk
+
+  make_value : first_of (codes "name") (finished make_built.rules with_table.held) ≡ Some table
+  unfolding clap_on_literals
+  make_value = refl
+
+pub make_asks : (table : List ℕ) → IsName table → AsksFor (codes "make" ∷ table ∷ []) (Make table)
+make_asks table is =
+    let plain = plain_name table is in
+    (make_taken table plain, codes "make", _, make_met table plain, (refl, record { given = make_value table plain; is_name = is }))

@@ -2,6 +2,7 @@
 use Rattle.std.specs.Prelude.{ℕ, ◌≡◌, ◌≤◌, List, [], Option, Some, None, codes}
 use Rattle.std.specs.Fmt.{decimal}
 use Rattle.clap.specs.Words.{Text, Row, fault_of, subcommand_of, first_of}
+use Rattle.record_slots.specs.Text.{IsName}
 use Rattle.command_words.specs.CommandLine.{command_line}
 use Rattle.command_words.specs.declared.words.FormatNumbers.{FormatNumbers}
 use Rattle.command_words.specs.declared.words.RunOptions.{RunOptions}
@@ -10,7 +11,7 @@ use Rattle.command_words.specs.declared.words.Writing.TheVariants.{AtOnce, Late}
 use Rattle.command_words.specs.declared.words.DrillNumbers.{DrillNumbers}
 use Rattle.command_words.specs.declared.words.CallersNumbers.{CallersNumbers}
 use Rattle.command_words.specs.declared.words.Words.{Words}
-use Rattle.command_words.specs.declared.words.Words.TheVariants.{Run, Callers, Eaw, Dump, Drill, Format}
+use Rattle.command_words.specs.declared.words.Words.TheVariants.{Run, Callers, Eaw, Dump, Drill, Format, Make}
 
 -- the number from `least` to `most` that a value spells in decimal; if the value is missing, the default, if there is one
 abbrev pub IsNumber : ℕ → ℕ → Option ℕ → Option Text → ℕ → Type 0
@@ -45,6 +46,11 @@ pub record GivesCallers (options : List Row) (given : CallersNumbers) : Type 0 w
   pub tries : IsNumber 1 1000000 (Some 100) (first_of (codes "tries") options) given.tries
   pub writing : GivesWriting (first_of (codes "late") options) given.writing
 
+-- the name of a table that the word of `make` is
+pub record GivesName (values : List Row) (table : List ℕ) : Type 0 where
+  pub given : first_of (codes "name") values ≡ Some table
+  pub is_name : IsName table
+
 -- the subcommand with this name and these options asks for this
 abbrev pub SubcommandAsks : Text → List Row → Words → Type 0
 SubcommandAsks name options (Run given) = (name ≡ codes "run") × GivesRun options given
@@ -53,6 +59,7 @@ SubcommandAsks name options Eaw = name ≡ codes "eaw"
 SubcommandAsks name options Dump = name ≡ codes "dump"
 SubcommandAsks name options (Drill numbers) = (name ≡ codes "drill") × GivesDrill options numbers
 SubcommandAsks name options (Format numbers) = (name ≡ codes "format") × GivesNumbers options numbers
+SubcommandAsks name options (Make table) = (name ≡ codes "make") × GivesName options table
 
 -- clap accepts the words, and the subcommand that it finds in them asks for this
 abbrev pub AsksFor : List Text → Words → Type 0

@@ -1,6 +1,6 @@
 -- The command line of the program after the image, in clap's terms.
 use Rattle.std.specs.Prelude.{[], ◌∷◌, Some, true, false, map, codes}
-use Rattle.clap.specs.Words.{Text, Rule, Shape, App, new_rule}
+use Rattle.clap.specs.Words.{Text, Rule, Shape, App, new_app, new_rule}
 use Rattle.clap.specs.Simple.{new_shape}
 
 -- an option with one value: `--name value`, or `--name=value`
@@ -24,13 +24,21 @@ drill_shape = record (new_shape (codes "drill")) { rules = new_rule (codes "seed
 abbrev pub callers_shape : Shape
 callers_shape = record (new_shape (codes "callers")) { rules = new_rule (codes "callers") ∷ option_of (codes "tries") ∷ option_of (codes "late") ∷ [] }
 
+-- `make` with one positional word
+abbrev pub make_shape : Shape
+make_shape = record (new_shape (codes "make")) { rules = new_rule (codes "name") ∷ [] }
+
 -- the program, which needs a subcommand
 abbrev pub mars_shape : Shape
 mars_shape = record (new_shape (codes "mars")) { is_leaf = false; no_binary_name = true; subcommand_required = true }
 
--- the subcommand is one of six, and there is no help
+-- the program before it has commands
+abbrev pub no_commands : App
+no_commands = let app = new_app (codes "mars") in record app { top = record app.top { no_binary_name = true; disable_help_flag = true; disable_help_subcommand = true; subcommand_required = true } }
+
+-- the subcommand is one of seven, and there is no help
 abbrev pub command_line : App
 command_line = record {
   top = record mars_shape { disable_help_flag = true; disable_help_subcommand = true };
-  subs = run_shape ∷ new_shape (codes "eaw") ∷ new_shape (codes "dump") ∷ format_shape ∷ drill_shape ∷ callers_shape ∷ [];
+  subs = run_shape ∷ new_shape (codes "eaw") ∷ new_shape (codes "dump") ∷ format_shape ∷ drill_shape ∷ callers_shape ∷ make_shape ∷ [];
 }

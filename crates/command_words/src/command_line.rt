@@ -2,7 +2,7 @@
 ghost use Rattle.std.specs.Prelude.{◌≡◌, IfOk, false};
 ghost use Rattle.clap.specs.Words.{app_of, shape_of, rule_of};
 ghost use Rattle.clap.specs.declared.builder.Command.TheViews.{out-Command};
-ghost use Rattle.command_words.specs.CommandLine.{command_line, run_shape, format_shape, drill_shape, callers_shape, option_of};
+ghost use Rattle.command_words.specs.CommandLine.{command_line, no_commands, run_shape, format_shape, drill_shape, callers_shape, make_shape, option_of};
 
 use clap::{Arg, Command};
 use std::alloc::{AllocError, Global};
@@ -11,17 +11,24 @@ use std::alloc::{AllocError, Global};
 pub fn command_line<'a>(alloc: Global) -> Result<Command<'a>, AllocError>
     ensures { IfOk result (λ command. app_of command ≡ command_line) }
 {
-    Command::new(alloc, "mars")
-        .no_binary_name(true)
-        .disable_help_flag(true)
-        .disable_help_subcommand(true)
-        .subcommand_required(true)
+    no_commands(alloc)
         .subcommand(run_command(alloc)?)?
         .subcommand(Command::new(alloc, "eaw"))?
         .subcommand(Command::new(alloc, "dump"))?
         .subcommand(format_command(alloc)?)?
         .subcommand(drill_command(alloc)?)?
-        .subcommand(callers_command(alloc)?)
+        .subcommand(callers_command(alloc)?)?
+        .subcommand(make_command(alloc)?)
+}
+
+fn no_commands<'a>(alloc: Global) -> Command<'a>
+    ensures { app_of result ≡ no_commands }
+{
+    Command::new(alloc, "mars")
+        .no_binary_name(true)
+        .disable_help_flag(true)
+        .disable_help_subcommand(true)
+        .subcommand_required(true)
 }
 
 fn run_command<'a>(alloc: Global) -> Result<Command<'a>, AllocError>
@@ -60,6 +67,13 @@ fn callers_command<'a>(alloc: Global) -> Result<Command<'a>, AllocError>
         .arg(Arg::new(alloc, "callers"))?
         .arg(option(alloc, "tries"))?
         .arg(option(alloc, "late"))
+}
+
+fn make_command<'a>(alloc: Global) -> Result<Command<'a>, AllocError>
+    ensures shape { IfOk result (λ command. shape_of command ≡ make_shape) }
+    ensures local { IfOk result (λ command. (out-Command command).has_globals ≡ false) }
+{
+    Command::new(alloc, "make").arg(Arg::new(alloc, "name"))
 }
 
 // An option with one value.

@@ -1,6 +1,7 @@
 // Laws of the words.
 ghost use Rattle.std.specs.Prelude.{ℕ, ◌≡◌, ◌≤◌, List, [], ◌∷◌, codes};
 ghost use Rattle.clap.specs.Words.{Text};
+ghost use Rattle.record_slots.specs.Text.{IsName};
 ghost use Rattle.command_words.specs.declared.words.Words.{Words};
 ghost use Rattle.command_words.specs.declared.words.CallersNumbers.{CallersNumbers};
 ghost use Rattle.command_words.specs.declared.words.DrillNumbers.{DrillNumbers};
@@ -25,6 +26,7 @@ pub fn usual_words()
     ensures format { (numbers : FormatNumbers) → AreSmall numbers → AsksFor (format_words numbers) (Words.Format numbers) }
     ensures joined { (numbers : FormatNumbers) → AreSmall numbers → AsksFor (joined_words numbers) (Words.Format numbers) }
     ensures drill { (numbers : DrillNumbers) → AreOfDrill numbers → AsksFor (drill_words numbers) (Words.Drill numbers) }
+    ensures make { (table : List ℕ) → IsName table → AsksFor (codes "make" ∷ table ∷ []) (Words.Make table) }
     ensures no_word { AskForNothing [] }
     ensures help { AskForNothing (codes "help" ∷ []) }
     ensures help_option { AskForNothing (codes "--help" ∷ []) }

@@ -1,12 +1,13 @@
 ghost use Rattle.std.specs.Prelude.{◌≡◌, ℕ, List, Some, map, codes, string_bytes, MatchOption, IfOk, IfErr};
 ghost use Rattle.clap.specs.Words.{Text, Row, found_of, rows_of, first_of, subcommand_rows_of};
-ghost use Rattle.command_words.specs.Asked.{AsksFor, AskForNothing, SubcommandAsks, GivesRun, GivesNumbers, GivesDrill, GivesCallers, GivesWriting, IsNumber};
+ghost use Rattle.command_words.specs.Asked.{AsksFor, AskForNothing, SubcommandAsks, GivesRun, GivesNumbers, GivesDrill, GivesCallers, GivesWriting, GivesName, IsNumber};
 
 use crate::command_line::command_line;
 use crate::number::read_within;
 use array_shape::Shape;
 use clap::ArgMatches;
 use clap::error::ErrorKind;
+use record_slots::Name;
 use std::alloc::Global;
 use thiserror::Error;
 
@@ -25,6 +26,8 @@ pub enum Words {
     Drill(DrillNumbers),
     /// To make an array of these numbers, whatever was there before.
     Format(FormatNumbers),
+    /// To make a table of this name.
+    Make(Name),
 }
 
 /// How callers by turns are answered.
@@ -99,7 +102,7 @@ pub enum WordsFault {
     NoMemory,
 }
 
-/// Reads the words after the image's: `run`, `eaw`, `dump`, `callers` with a number and the option `tries`, `drill` with a seed and a
+/// Reads the words after the image's: `run`, `eaw`, `dump`, `make` with the name of a table, `callers` with a number and the option `tries`, `drill` with a seed and a
 /// count, or `format` with its options in any order. `run`, `callers` and `drill` have the option `late` too. Each option is given at
 /// most once.
 pub fn read_words(alloc: Global, words: &[String]) -> Result<Words, WordsFault>
@@ -145,6 +148,10 @@ fn asked(matches: &ArgMatches<'_>) -> Option<Words>
         "format" => {
             let numbers = read_numbers(options)?;
             Some(Words::Format(numbers))
+        }
+        "make" => {
+            let table = read_name(options)?;
+            Some(Words::Make(table))
         }
         _ => None,
     }
@@ -196,6 +203,15 @@ fn read_callers(options: &ArgMatches<'_>) -> Option<CallersNumbers>
         tries,
         writing,
     })
+}
+
+// The name of a table that the word of `make` is.
+fn read_name(values: &ArgMatches<'_>) -> Option<Name>
+    ensures { MatchOption result ((table : List ℕ) → GivesName (rows_of (found_of values.now)) table → ⊥)
+        (GivesName (rows_of (found_of values.now))) }
+{
+    let word = values.get_str("name")?;
+    Name::of(word.as_bytes())
 }
 
 // When data is written, by the option `late`.

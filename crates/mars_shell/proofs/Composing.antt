@@ -16,10 +16,12 @@ use Rattle.row_bytes.proofs.OneShape.{one_shape}
 use Rattle.device_recovery.proofs.Goods.{good_rows}
 use Rattle.command_words.specs.declared.words.FormatNumbers.{FormatNumbers}
 use Rattle.command_words.specs.declared.words.Words.{Words}
-use Rattle.command_words.specs.declared.words.Words.TheVariants.{Run, Callers, Eaw, Dump, Drill, Format}
+use Rattle.command_words.specs.declared.words.Words.TheVariants.{Run, Callers, Eaw, Dump, Drill, Format, Make}
 use Rattle.eaw_device.specs.Opens.{header_of, Opens, AllOpen, IsArray, HoldsArray}
 use Rattle.page_store.specs.Index.{Index}
+use Rattle.record_table.specs.Does.{OpensNamed}
 use Rattle.record_table.specs.Upgrading.{upgraded}
+use Rattle.history.specs.Writes.{Table}
 use Rattle.caller_steps.specs.State.{State}
 use Rattle.caller_steps.specs.Room.{Limits}
 use Rattle.caller_steps.specs.Run.{Turn}
@@ -36,8 +38,9 @@ use Rattle.mars_shell.specs.Late.{is_late}
 use Rattle.mars_shell.specs.Next.{AllSound, IsOfRecords, LeavesFresh}
 use Rattle.mars_shell.specs.Outcome.{Idle, OutcomeOf}
 use Rattle.mars_shell.specs.Run.{HoldsRecords, TakesTurns, Answers, IsDamaged, Exceeds, OverRecords}
+use Rattle.mars_shell.specs.Tables.{Tries, MadeBy, MakeOutcome}
 use Rattle.mars_shell.specs.declared.status.Status.{Status}
-use Rattle.mars_shell.specs.declared.status.Status.TheVariants.{Good, Usage, TooLong, ReadFault, WriteFault, MediaFault, NoMemory, Damaged, BadRow, NotMars, BadShape}
+use Rattle.mars_shell.specs.declared.status.Status.TheVariants.{Good, Usage, TooLong, ReadFault, WriteFault, MediaFault, NoMemory, Damaged, BadRow, NotMars, BadShape, Refused}
 use Rattle.mars_shell.proofs.Forming.{sound_is_own}
 
 -- ---- what is asked for
@@ -92,6 +95,7 @@ outcome_gives P spares Works Broken Looks Lacks old (Damaged page) new cut text 
 outcome_gives P spares Works Broken Looks Lacks old (BadRow logger tid) new cut text idle works outcome = idle _ _ _ outcome
 outcome_gives P spares Works Broken Looks Lacks old NotMars new cut text idle works outcome = idle _ _ _ outcome
 outcome_gives P spares Works Broken Looks Lacks old (BadShape which given) new cut text idle works outcome = idle _ _ _ outcome
+outcome_gives P spares Works Broken Looks Lacks old (Refused refusal) new cut text idle works outcome = absurd outcome
 
 module _ (tells : Bool) (told : IsTrue tells) (old new : View) (counts_now : (t : ℕ) (image : List ℕ) → IsTrue tells → t ≤ new.moment → MayLeave new.content image → new.left_since t image) (shape : Shape) where
   module _ (all : AllOpen shape old.content) where
@@ -146,11 +150,35 @@ module _ (tells : Bool) (told : IsTrue tells) (old new : View) (counts_now : (t 
         outcome_gives (AllSound shape form new.content) spares Works (λ page. IsDamaged old page × (Exceeds callers old → ⊥)) (HoldsArray old × (Exceeds callers old → ⊥)) (Exceeds callers old) old status new cut text
         (idle_sound cut text) works outcome
 
+    -- and so are those in which a table was to be made
+    named_sound : (at : Shape) → at ≡ shape → (image : List ℕ) (names : List (List ℕ)) (table : Table) → OpensNamed (Opens at) (index_in at old) image names table
+        → (bytes : List ℕ) × Opens shape image bytes × (index_of_form form).sound bytes
+    named_sound at same image names table o =
+        (o.bytes, subst (λ (s : Shape). Opens s image o.bytes) same o.opened, subst (λ (i : Index). i.sound o.bytes) (ap (λ (s : Shape). index_in s old) same ∙ own_index old shape form sound) o.sound)
+
+    tried_sound : (name : List ℕ) (at : Shape) → Tries name at old new → AllSound shape form new.content
+    tried_sound name at tried image left =
+        let same : at ≡ shape = one_shape (header_of old.content.bytes) at shape tried.holds.array.header opened.header in
+        let all : AllOpen at old.content = subst (λ (s : Shape). AllOpen s old.content) (sym same) (all_open old shape form sound) in
+        ⊎_elim (λ like. (like.2, subst (λ (s : Shape). Opens s image like.2) same like.4, like_sound like.0 like.2 like.1 (subst (λ (s : Shape). Opens s like.0 like.2) same like.3)))
+        (λ named. ⊎_elim (λ o. named_sound at same image _ _ o) (λ o. named_sound at same image _ _ o) named) (tried.since all image (counts_now old.moment image told (tried.later all) left))
+
+    made_by_sound : (name : List ℕ) (cut : Bool) (text : List ℕ) (ended : Ended) → MadeBy name old new cut text ended → AllSound shape form new.content
+    made_by_sound name cut text script.All made = tried_sound name made.shape made.tries
+    made_by_sound name cut text script.WriteFault made = tried_sound name made.shape made.tries
+    made_by_sound name cut text script.MediaFault made = tried_sound name made.1.0 made.1.1
+    made_by_sound name cut text script.NoMemory made = absurd made
+
+    made_sound : (name : List ℕ) (status : Status) (cut : Bool) (text : List ℕ) → MakeOutcome name old status new cut text → AllSound shape form new.content
+    made_sound name status cut text outcome =
+        ⊎_elim (λ over. records_sound true 0 (MadeBy name old new cut text) status cut text (made_by_sound name cut text) over) (λ refused. tried_sound name refused.2.shape refused.2.tries) outcome
+
     pub next_sound : (asked : Words) (status : Status) (input : List ℕ) (cut : Bool) (text : List ℕ) → IsOfRecords asked → OutcomeFor asked old status new input cut text → AllSound shape form new.content
     next_sound (Run given) status input cut text of outcome = records_sound false 0 (λ ended. TakesTurns false (is_late given.writing) (Answers input ended cut text) old ended new) status cut text (λ ended taken. turns_sound false (is_late given.writing) (Answers input ended cut text) ended taken) outcome
     next_sound (Callers numbers) status input cut text of outcome = records_sound false numbers.callers (λ ended. TakesTurns false (is_late numbers.writing) (JointWork numbers.callers numbers.tries input ended cut text) old ended new) status cut text (λ ended taken. turns_sound false (is_late numbers.writing) (JointWork numbers.callers numbers.tries input ended cut text) ended taken) outcome
     next_sound Dump status input cut text of outcome = records_sound true 0 (λ ended. (taken : TakesTurns true false (Dumps ended cut text) old ended new) × Spares taken.shape old new) status cut text (λ ended taken. turns_sound true false (Dumps ended cut text) ended taken.0) outcome
     next_sound (Drill numbers) status input cut text of outcome = records_sound false 0 (λ ended. TakesTurns false (is_late numbers.writing) (Drills numbers ended cut text) old ended new) status cut text (λ ended taken. turns_sound false (is_late numbers.writing) (Drills numbers ended cut text) ended taken) outcome
+    next_sound (Make name) status input cut text of outcome = made_sound name status cut text outcome
     next_sound Eaw status input cut text of outcome = absurd of
     next_sound (Format numbers) status input cut text of outcome = absurd of
 

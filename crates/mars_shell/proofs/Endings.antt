@@ -1,8 +1,6 @@
 -- What the kinds of a status give.
 use Rattle.std.proofs.Common.{◌≡◌, ◌≢◌, ◌⊎◌, ℕ, inl, inr, refl, ap, subst, sym, Result, Ok, Err, List, [], length, ◌≤◌}
 use Rattle.std.specs.Result.{IfErr, IfOk}
-use Rattle.command_words.specs.declared.words.Words.{Words}
-use Rattle.command_words.specs.declared.words.Words.TheVariants.{Dump}
 use Rattle.command_words.specs.declared.words.FormatNumbers.{FormatNumbers}
 use Rattle.mars_shell.specs.Formats.{FormatSays}
 use Rattle.mars_core.specs.declared.fault.CoreFault.{CoreFault}
@@ -16,7 +14,7 @@ use Rattle.mars_shell.specs.Opening.{IsUnread, IsUnopened}
 use Rattle.mars_shell.specs.Served.{ServedCounts}
 use Rattle.mars_shell.specs.Statuses.{Counts, IsEarly, IsRefusal, script_status, served_status}
 use Rattle.mars_shell.specs.declared.status.Status.{Status}
-use Rattle.mars_shell.specs.declared.status.Status.TheVariants.{Good, Usage, TooLong, ReadFault, WriteFault, MediaFault, NoMemory, Damaged, BadRow, NotMars, BadShape}
+use Rattle.mars_shell.specs.declared.status.Status.TheVariants.{Good, Usage, TooLong, ReadFault, WriteFault, MediaFault, NoMemory, Damaged, BadRow, NotMars, BadShape, Refused}
 
 pub read_fault_early : (status : Status) → status ≡ ReadFault → IsEarly status
 read_fault_early status is = subst IsEarly (sym is) tt
@@ -38,6 +36,7 @@ silent_of Silent (Damaged page) silent good write media memory = silent (inr tt)
 silent_of Silent (BadRow logger tid) silent good write media memory = silent (inr tt)
 silent_of Silent NotMars silent good write media memory = silent (inr tt)
 silent_of Silent (BadShape which given) silent good write media memory = silent (inr tt)
+silent_of Silent (Refused refusal) silent good write media memory = silent (inr tt)
 
 -- a command that reads nothing leaves the source's count
 pub counts_unread : (status : Status) (s k k' m m' : ℕ) → (IsEarly status → ⊥) → Counts status 0 0 k k' m m' → Counts status s s k k' m m'
@@ -52,14 +51,7 @@ counts_unread (Damaged page) s k k' m m' late counts = (refl, counts.1, counts.2
 counts_unread (BadRow logger tid) s k k' m m' late counts = (refl, counts.1, counts.2)
 counts_unread NotMars s k k' m m' late counts = (refl, counts.1, counts.2)
 counts_unread (BadShape which given) s k k' m m' late counts = (refl, counts.1, counts.2)
-
--- only a dump is a dump
-abbrev IsNoDump : Words → Type 0
-IsNoDump Dump = ⊥
-IsNoDump asked = Unit {0}
-
-pub no_dump : (asked : Words) → IsNoDump asked → asked ≡ Dump → ⊥
-no_dump asked is same = subst IsNoDump same is
+counts_unread (Refused refusal) s k k' m m' late counts = (refl, counts.1, counts.2)
 
 -- a format ends late
 pub format_late : (asked : FormatNumbers) (size : ℕ) (status : Status) (Untold Untouched : Type 0) → FormatSays asked size status Untold Untouched → IsEarly status → ⊥
@@ -74,6 +66,7 @@ format_late asked size NoMemory Untold Untouched says early = says
 format_late asked size (Damaged page) Untold Untouched says early = early
 format_late asked size (BadRow logger tid) Untold Untouched says early = early
 format_late asked size NotMars Untold Untouched says early = early
+format_late asked size (Refused refusal) Untold Untouched says early = early
 
 -- nothing is written before the array is opened
 pub counts_unwritten : (status : Status) (s s' k m m' : ℕ) → IsUnopened status → Counts status s s' 0 0 m m' → Counts status s s' k k m m'
@@ -88,6 +81,7 @@ counts_unwritten (Damaged page) s s' k m m' kind counts = absurd kind
 counts_unwritten (BadRow logger tid) s s' k m m' kind counts = (counts.0, refl, counts.2)
 counts_unwritten NotMars s s' k m m' kind counts = (counts.0, refl, counts.2)
 counts_unwritten (BadShape which given) s s' k m m' kind counts = (counts.0, refl, counts.2)
+counts_unwritten (Refused refusal) s s' k m m' kind counts = absurd kind
 
 -- work over an array that was opened does not end early
 pub script_late : (ended : Ended) → IsEarly (script_status ended) → ⊥
@@ -168,6 +162,7 @@ input_read (Damaged page) given left late short done = (short, done)
 input_read (BadRow logger tid) given left late short done = (short, done)
 input_read NotMars given left late short done = (short, done)
 input_read (BadShape which given') given left late short done = (short, done)
+input_read (Refused refusal) given left late short done = (short, done)
 
 -- an input that is not taken
 pub unread_unopened : (status : Status) → IsUnread status → IsUnopened status
@@ -182,6 +177,7 @@ unread_unopened (Damaged page) kind = kind
 unread_unopened (BadRow logger tid) kind = absurd kind
 unread_unopened NotMars kind = absurd kind
 unread_unopened (BadShape which given) kind = absurd kind
+unread_unopened (Refused refusal) kind = absurd kind
 
 -- leaves the medium's count
 pub counts_unlooked : (status : Status) (s s' m : ℕ) → IsUnread status → Counts status s s' 0 0 0 0 → Counts status s s' 0 0 m m
@@ -196,3 +192,4 @@ counts_unlooked (Damaged page) s s' m kind counts = absurd kind
 counts_unlooked (BadRow logger tid) s s' m kind counts = absurd kind
 counts_unlooked NotMars s s' m kind counts = absurd kind
 counts_unlooked (BadShape which given) s s' m kind counts = absurd kind
+counts_unlooked (Refused refusal) s s' m kind counts = absurd kind

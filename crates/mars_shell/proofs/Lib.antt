@@ -21,3 +21,4 @@ pub mod Commanding
 pub mod Statuses
 pub mod Outcomes
 pub mod Dumping
+pub mod Tabling

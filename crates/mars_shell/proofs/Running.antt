@@ -64,7 +64,7 @@ module _ (tells : Bool) (told : IsTrue tells) (old : View) (only_now : (image : 
   in_two shape all image opens =
       (old.content.bytes, left_as_read old.content, store.state.bytes, first_opens shape all, subst (λ (s : Shape). Opens s image (upgraded store.state.bytes)) (first_shape shape all) opens)
 
-  holds : (index_at store.state.bytes).sound store.state.bytes → HoldsRecords store.shape old
+  pub holds : (index_at store.state.bytes).sound store.state.bytes → HoldsRecords store.shape old
   holds sound = record { array = array; sound = subst (λ (b : List ℕ). (index_at b).sound b) (attached.bytes told) sound }
 
   module _ (defers : Bool) (later : StoreView) (new : View) (behind : IsBehind tells defers later new) where

@@ -30,6 +30,7 @@ outcome_as spares Works Works' Broken Looks Lacks old (ends.Damaged page) new cu
 outcome_as spares Works Works' Broken Looks Lacks old (ends.BadRow logger tid) new cut text less outcome = outcome
 outcome_as spares Works Works' Broken Looks Lacks old ends.NotMars new cut text less outcome = outcome
 outcome_as spares Works Works' Broken Looks Lacks old (ends.BadShape which given) new cut text less outcome = outcome
+outcome_as spares Works Works' Broken Looks Lacks old (ends.Refused refusal) new cut text less outcome = outcome
 
 -- nothing done while data is spared is nothing done while it is not
 pub idle_as : (spares : Bool) (MayWrite Cause : Type 0) (old new : View) (cut : Bool) (text : List ℕ) → Idle true MayWrite Cause old new cut text → Idle spares MayWrite Cause old new cut text
@@ -55,3 +56,4 @@ outcome_spared spares Works Broken Looks Lacks old (ends.Damaged page) new cut t
 outcome_spared spares Works Broken Looks Lacks old (ends.BadRow logger tid) new cut text outcome = outcome
 outcome_spared spares Works Broken Looks Lacks old ends.NotMars new cut text outcome = outcome
 outcome_spared spares Works Broken Looks Lacks old (ends.BadShape which given) new cut text outcome = outcome
+outcome_spared spares Works Broken Looks Lacks old (ends.Refused refusal) new cut text outcome = outcome

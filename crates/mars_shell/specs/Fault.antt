@@ -3,8 +3,16 @@ use Rattle.std.specs.Prelude.{ℕ, List, [], ◌∷◌, ◌++◌, codes}
 use Rattle.std.specs.Fmt.{decimal}
 use Rattle.array_shape.specs.Numbers.{number_of}
 use Rattle.texts.specs.MediaFault.{media_fault}
+use Rattle.mars_shell.specs.declared.status.Refusal.{Refusal}
+use Rattle.mars_shell.specs.declared.status.Refusal.TheVariants.{Exists, TablesFull, PagesFull}
 use Rattle.mars_shell.specs.declared.status.Status.{Status}
-use Rattle.mars_shell.specs.declared.status.Status.TheVariants.{Good, Usage, TooLong, ReadFault, WriteFault, MediaFault, NoMemory, Damaged, BadRow, NotMars, BadShape}
+use Rattle.mars_shell.specs.declared.status.Status.TheVariants.{Good, Usage, TooLong, ReadFault, WriteFault, MediaFault, NoMemory, Damaged, BadRow, NotMars, BadShape, Refused}
+
+-- why a table was not made
+abbrev pub refusal_text : Refusal → List ℕ
+refusal_text (Exists name) = codes "exists " ++ name
+refusal_text TablesFull = codes "tables full 8"
+refusal_text (PagesFull n) = codes "pages full " ++ decimal n
 
 -- the text after `mars: ` on standard error
 abbrev pub status_text : Status → List ℕ
@@ -19,6 +27,7 @@ status_text (Damaged page) = codes "damaged " ++ decimal page
 status_text (BadRow logger tid) = codes "bad row " ++ (decimal logger ++ 32 ∷ decimal tid)
 status_text NotMars = codes "not mars"
 status_text (BadShape which given) = codes "bad shape " ++ (decimal (number_of which) ++ 32 ∷ decimal given)
+status_text (Refused refusal) = refusal_text refusal
 
 -- the status of the process
 abbrev pub status_number : Status → ℕ
@@ -33,3 +42,4 @@ status_number (Damaged page) = 8
 status_number (BadRow logger tid) = 8
 status_number NotMars = 9
 status_number (BadShape which given) = 9
+status_number (Refused refusal) = 10

@@ -18,6 +18,7 @@ pub mod Made
 pub mod Commands
 pub mod Formats
 pub mod Joint
+pub mod Tables
 pub mod Asked
 pub mod Next
 pub mod Fault

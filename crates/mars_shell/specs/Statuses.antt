@@ -1,14 +1,17 @@
 -- The statuses of a run by kind, and the counts of faults that go with each.
-use Rattle.std.specs.Prelude.{ℕ, ◌≡◌, Result, Ok, Err}
+use Rattle.std.specs.Prelude.{ℕ, ◌≡◌, List, Result, Ok, Err}
 use Rattle.mars_base.specs.Causes.{Rose}
 use Rattle.eaw_device.specs.declared.fault.AttachFault.{AttachFault}
 use Rattle.eaw_device.specs.declared.fault.AttachFault.TheVariants as opening
 use Rattle.mars_core.specs.declared.fault.CoreFault.{CoreFault}
 use Rattle.mars_core.specs.declared.fault.CoreFault.TheVariants as core
+use Rattle.record_table.specs.declared.making.MakeFault.{MakeFault}
+use Rattle.record_table.specs.declared.making.MakeFault.TheVariants as make
 use Rattle.script_run.specs.declared.ended.Ended.{Ended}
 use Rattle.script_run.specs.declared.ended.Ended.TheVariants as script
+use Rattle.mars_shell.specs.declared.status.Refusal.TheVariants.{Exists, TablesFull, PagesFull}
 use Rattle.mars_shell.specs.declared.status.Status.{Status}
-use Rattle.mars_shell.specs.declared.status.Status.TheVariants.{Good, Usage, TooLong, ReadFault, WriteFault, MediaFault, NoMemory, Damaged, BadRow, NotMars, BadShape}
+use Rattle.mars_shell.specs.declared.status.Status.TheVariants.{Good, Usage, TooLong, ReadFault, WriteFault, MediaFault, NoMemory, Damaged, BadRow, NotMars, BadShape, Refused}
 
 -- the statuses of a run whose input is not taken, and which ends before the medium is touched
 abbrev pub IsEarly : Status → Type 0
@@ -16,13 +19,14 @@ IsEarly TooLong = Unit {0}
 IsEarly ReadFault = Unit {0}
 IsEarly _ = ⊥
 
--- the array on the medium, or what is there in place of one, is refused
+-- the array on the medium, what is there in place of one, or what is asked of it is refused
 abbrev pub IsRefusal : Status → Type 0
 IsRefusal Usage = Unit {0}
 IsRefusal (Damaged page) = Unit {0}
 IsRefusal (BadRow logger tid) = Unit {0}
 IsRefusal NotMars = Unit {0}
 IsRefusal (BadShape which given) = Unit {0}
+IsRefusal (Refused refusal) = Unit {0}
 IsRefusal _ = ⊥
 
 -- the status of a script that ended this way
@@ -47,6 +51,15 @@ served_status (Err (core.Damaged page)) = Damaged page
 served_status (Err core.Media) = MediaFault
 served_status (Err core.NoMemory) = NoMemory
 
+-- the status of a table of this name that was not made
+abbrev pub made_status : MakeFault → List ℕ → Status
+made_status make.Exists name = Refused (Exists name)
+made_status make.TablesFull name = Refused TablesFull
+made_status (make.PagesFull n) name = Refused (PagesFull n)
+made_status make.Media name = MediaFault
+made_status make.Dead name = MediaFault
+made_status (make.Damaged page) name = Damaged page
+
 -- The counts of faults of the source, the sink and the medium, each before and after: the one that ended the run rose, and the others are
 -- as they were, except that the sink may also fail while a fault of the medium is reported.
 abbrev pub Counts : Status → ℕ → ℕ → ℕ → ℕ → ℕ → ℕ → Type 0
@@ -54,3 +67,8 @@ Counts ReadFault source source' sink sink' media media' = Rose source source' ×
 Counts WriteFault source source' sink sink' media media' = (source' ≡ source) × Rose sink sink' × (media' ≡ media)
 Counts MediaFault source source' sink sink' media media' = (source' ≡ source) × Rose media media'
 Counts _ source source' sink sink' media media' = (source' ≡ source) × (sink' ≡ sink) × (media' ≡ media)
+
+-- something was asked of the array that it does not do
+abbrev pub IsRefused : Status → Type 0
+IsRefused (Refused refusal) = Unit {0}
+IsRefused _ = ⊥

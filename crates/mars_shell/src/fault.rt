@@ -1,9 +1,9 @@
 // The text of a status on standard error.
 ghost use Rattle.std.specs.Prelude.{◌≡◌, ◌≤◌, ◌∷◌, ◌++◌, take, length};
 ghost use Rattle.std.specs.Fmt.{decimal};
-ghost use Rattle.mars_shell.specs.Fault.{status_text};
+ghost use Rattle.mars_shell.specs.Fault.{refusal_text, status_text};
 
-use crate::status::Status;
+use crate::status::{Refusal, Status};
 use texts::{MEDIA_FAULT, Piece, ShortText};
 
 /// Writes the text of a status to the front of `buf` and returns its length in bytes, 0 for `Good`.
@@ -41,6 +41,23 @@ fn status_text(status: &Status) -> ShortText
         Status::BadShape { which, given } => {
             two_numbers(b"bad shape ", u64::from(which.number()), *given)
         }
+        Status::Refused(refusal) => refusal_text(refusal),
+    }
+}
+
+fn refusal_text(refusal: &Refusal) -> ShortText
+    ensures text { result ≡ refusal_text refusal.now }
+    ensures fits { length result ≤ 64 }
+{
+    match refusal {
+        Refusal::Exists(name) => {
+            ShortText::of(&[Piece::Words(b"exists "), Piece::Words(name.as_bytes())])
+        }
+        Refusal::TablesFull => ShortText::of(&[Piece::Words(b"tables full 8")]),
+        Refusal::PagesFull { pages } => ShortText::of(&[
+            Piece::Words(b"pages full "),
+            Piece::Number(u64::from(*pages)),
+        ]),
     }
 }
 

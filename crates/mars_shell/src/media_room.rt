@@ -13,7 +13,14 @@ pub fn room(alloc: Global, words: &[String]) -> Result<u64, NoMemory>
 {
     match read_words(alloc, words) {
         Ok(Words::Format(numbers)) => Ok(room_of(&numbers)),
-        Ok(Words::Run(_) | Words::Callers(_) | Words::Eaw | Words::Dump | Words::Drill(_)) => Ok(0),
+        Ok(
+            Words::Run(_)
+            | Words::Callers(_)
+            | Words::Eaw
+            | Words::Dump
+            | Words::Drill(_)
+            | Words::Make(_),
+        ) => Ok(0),
         Err(WordsFault::NoCommand) => Ok(0),
         Err(WordsFault::NoMemory) => Err(NoMemory),
     }

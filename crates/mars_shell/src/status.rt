@@ -1,10 +1,12 @@
 ghost use Rattle.std.specs.Prelude.{◌≡◌};
 ghost use Rattle.mars_shell.specs.Fault.{status_number};
-ghost use Rattle.mars_shell.specs.Statuses.{status_of, script_status, served_status};
+ghost use Rattle.mars_shell.specs.Statuses.{status_of, script_status, served_status, made_status};
 
 use array_shape::ShapeNumber;
 use eaw_device::AttachFault;
 use mars_core::CoreFault;
+use record_slots::Name;
+use record_table::MakeFault;
 use script_run::Ended;
 
 /// How a run ended.
@@ -29,6 +31,19 @@ pub enum Status {
     NotMars,
     /// A number in the header is out of range, or the medium has not the length that the numbers give.
     BadShape { which: ShapeNumber, given: u64 },
+    /// There is no such table, and none was made.
+    Refused(Refusal),
+}
+
+/// Why a table was not made.
+#[derive(Clone, Copy, Debug, PartialEq, Eq)]
+pub enum Refusal {
+    /// A table has this name.
+    Exists(Name),
+    /// There are eight tables.
+    TablesFull,
+    /// All `pages` pages for indexes are given.
+    PagesFull { pages: u32 },
 }
 
 impl Status {
@@ -48,6 +63,7 @@ impl Status {
             Status::BadRow { .. } => 8,
             Status::NotMars => 9,
             Status::BadShape { .. } => 9,
+            Status::Refused(_) => 10,
         }
     }
 }
@@ -89,5 +105,18 @@ pub(crate) fn served_status(served: Result<Ended, CoreFault>) -> Status
         Err(CoreFault::Damaged { page }) => Status::Damaged { page },
         Err(CoreFault::Media) => Status::MediaFault,
         Err(CoreFault::NoMemory) => Status::NoMemory,
+    }
+}
+
+// The status of a table of this name that was not made. A store that met no fault before gives no `Dead`.
+pub(crate) fn made_status(fault: MakeFault, name: &Name) -> Status
+    ensures { result ≡ made_status fault name.now }
+{
+    match fault {
+        MakeFault::Exists => Status::Refused(Refusal::Exists(*name)),
+        MakeFault::TablesFull => Status::Refused(Refusal::TablesFull),
+        MakeFault::PagesFull { pages } => Status::Refused(Refusal::PagesFull { pages }),
+        MakeFault::Media | MakeFault::Dead => Status::MediaFault,
+        MakeFault::Damaged { page } => Status::Damaged { page },
     }
 }

@@ -4,8 +4,8 @@ ghost use Rattle.mars_base.specs.Causes.{Rose};
 ghost use Rattle.texts.specs.Written.{Wrote};
 ghost use Rattle.command_words.specs.Asked.{AskForNothing};
 ghost use Rattle.command_words.specs.declared.words.FormatNumbers.{FormatNumbers};
-ghost use Rattle.command_words.specs.declared.words.Words.TheVariants.{Dump, Format};
-ghost use Rattle.mars_shell.specs.Asked.{WordsSay, IfReads, OutcomeFor, IsFit};
+ghost use Rattle.command_words.specs.declared.words.Words.TheVariants.{Format};
+ghost use Rattle.mars_shell.specs.Asked.{WordsSay, IfReads, OutcomeFor, IsComplete, IsFit, TellsLate};
 ghost use Rattle.mars_shell.specs.Formats.{FormatSays};
 ghost use Rattle.mars_shell.specs.Input.{InputSays};
 ghost use Rattle.mars_shell.specs.Statuses.{Counts};
@@ -19,6 +19,7 @@ use crate::formatting::run_format;
 use crate::lines::ByTurns;
 use crate::records::over_records;
 use crate::status::Status;
+use crate::tables::run_make;
 use caller_work::Gate;
 use command_words::{Words, WordsFault, Writing, read_words};
 use outside::{Sink, Source};
@@ -30,7 +31,7 @@ use std::thread::Threads;
 ///
 /// `run` reads the input, opens and recovers the array, reads its records, and then answers the lines. `callers` does the same, but each
 /// caller's transactions are made by a worker of its own on a thread, which calls the gate between its calls. `eaw` does not read the
-/// records. `drill`, `dump` and `format` read no input. Only `callers` may wait. In `run`, `callers` and `drill` commits may be answered before
+/// records. `drill`, `dump`, `make` and `format` read no input. Only `callers` may wait. In `run`, `callers` and `drill` commits may be answered before
 /// their data is written to its place, if the words say so.
 pub fn run<
     R: AllocGlobal + Threads + Wait + Sync,
@@ -55,17 +56,17 @@ pub fn run<
         (source.new ≡ source.old) (IsTrue S.tells → InputSays result.0 (S.left source.old) (S.left source.new))) }
     ensures formats { WordsSay (map string_bytes words.now) result.0 ((sink.new ≡ sink.old) × (result.1 ≡ media)) (λ asked. (numbers : FormatNumbers)
         → asked ≡ Format numbers → FormatSays numbers (M.view media).size result.0 (sink.new ≡ sink.old) (result.1 ≡ media)) }
-    // A dump writes nothing if the medium failed or memory ran out.
-    ensures dumps { WordsSay (map string_bytes words.now) result.0 (sink.new ≡ sink.old) (λ asked. asked ≡ Dump → (result.0 ≡ Status.MediaFault) ⊎ (result.0 ≡ Status.NoMemory) → sink.new ≡ sink.old) }
+    // A dump, and the making of a table, write nothing if the medium failed or memory ran out.
+    ensures untold { WordsSay (map string_bytes words.now) result.0 (sink.new ≡ sink.old) (λ asked. TellsLate asked → (result.0 ≡ Status.MediaFault) ⊎ (result.0 ≡ Status.NoMemory) → sink.new ≡ sink.old) }
     // What the words ask for was done, and each status has its cause. For `run` the text answers the lines of the input one by one, and for
     // `drill` it is the summary of the replies. For both the history is legal and obeys the prefix law. For `dump` the text is the records,
-    // and for `eaw` it answers the commands by the model.
+    // for `make` the number of the new table, and for `eaw` it answers the commands by the model.
     ensures ran { WordsSay (map string_bytes words.now) result.0 ((source.new ≡ source.old) × (sink.new ≡ sink.old) × (result.1 ≡ media)) (λ asked. Wrote K.tells (K.written sink.old) (K.written sink.new) (K.faults sink.old) (K.faults sink.new)
         (λ cut text. (input : List ℕ) × (IsTrue S.tells → S.left source.old ≡ input) × (IsTrue M.tells → OutcomeFor asked (M.view media) result.0 (M.view result.1) input cut text))) }
     // What can be done is done, unless memory runs out.
     ensures complete { WordsSay (map string_bytes words.now) result.0 (Unit {0}) (λ asked. IsFit asked S.tells (S.left source.old) M.tells (M.view media)
         → (Rose (S.faults source.old) (S.faults source.new) → ⊥) → (Rose (K.faults sink.old) (K.faults sink.new) → ⊥) → (Rose (M.view media).faults (M.view result.1).faults → ⊥)
-        → (result.0 ≡ Status.Good) ⊎ (result.0 ≡ Status.NoMemory)) }
+        → IsComplete asked result.0) }
 {
     match read_words(rt.alloc(), words) {
         Err(WordsFault::NoCommand) => (Status::Usage, media),
@@ -96,5 +97,6 @@ pub fn run<
             over_records(rt.alloc(), source, sink, media, numbers.writing, &work)
         }
         Ok(Words::Format(numbers)) => run_format(sink, media, &numbers),
+        Ok(Words::Make(ref name)) => run_make(rt.alloc(), source, sink, media, name),
     }
 }

@@ -1,23 +1,21 @@
 use Rattle.std.proofs.Common.{rules, ◌≡◌, ◌∙◌, ap, ap₂, true, codes}
 use Rattle.std.proofs.lemmas.Result.{IfOk-weaker}
 use Rattle.clap.specs.Words.{App, app_of, new_app, with_subcommand}
-use Rattle.command_words.specs.CommandLine.{run_shape, format_shape, drill_shape}
+use Rattle.command_words.specs.CommandLine.{no_commands, run_shape, format_shape, drill_shape, callers_shape}
 use Rattle.command_words.proofs.command_line.command_line.Goals as goal
-
-abbrev set : App → App
-set a = record a { top = record a.top { no_binary_name = true; disable_help_flag = true; disable_help_subcommand = true; subcommand_required = true } }
 
 pub returns : goal.returns
 returns c =
-    let alone : app_of c.subcommand_required.result ≡ set (new_app (codes "mars")) = search rules in
-    let run : app_of c.in_ok-subcommand.field-0 ≡ with_subcommand (set (new_app (codes "mars"))) run_shape =
-    c.in_ok-subcommand.ensures.shape c.in_ok-run_command.ensures.local ∙ ap₂ with_subcommand alone c.in_ok-run_command.ensures.shape in
-    let eaw : app_of c.in_ok-subcommand-2.field-0 ≡ with_subcommand (with_subcommand (set (new_app (codes "mars"))) run_shape) (new_app (codes "eaw")).top =
-    c.in_ok-subcommand-2.ensures.shape (search rules) ∙ ap₂ with_subcommand run (ap (λ (a : App). a.top) c.new-2.ensures.app) in
-    let dump : app_of c.in_ok-subcommand-3.field-0 ≡ with_subcommand (with_subcommand (with_subcommand (set (new_app (codes "mars"))) run_shape) (new_app (codes "eaw")).top) (new_app (codes "dump")).top =
-    c.in_ok-subcommand-3.ensures.shape (search rules) ∙ ap₂ with_subcommand eaw (ap (λ (a : App). a.top) c.new-3.ensures.app) in
-    let format : app_of c.in_ok-subcommand-4.field-0 ≡ with_subcommand (with_subcommand (with_subcommand (with_subcommand (set (new_app (codes "mars"))) run_shape) (new_app (codes "eaw")).top) (new_app (codes "dump")).top) format_shape =
+    let run : app_of c.in_ok-subcommand.field-0 ≡ with_subcommand no_commands run_shape =
+    c.in_ok-subcommand.ensures.shape c.in_ok-run_command.ensures.local ∙ ap₂ with_subcommand c.no_commands.ensures c.in_ok-run_command.ensures.shape in
+    let eaw : app_of c.in_ok-subcommand-2.field-0 ≡ with_subcommand (with_subcommand no_commands run_shape) (new_app (codes "eaw")).top =
+    c.in_ok-subcommand-2.ensures.shape (search rules) ∙ ap₂ with_subcommand run (ap (λ (a : App). a.top) c.new.ensures.app) in
+    let dump : app_of c.in_ok-subcommand-3.field-0 ≡ with_subcommand (with_subcommand (with_subcommand no_commands run_shape) (new_app (codes "eaw")).top) (new_app (codes "dump")).top =
+    c.in_ok-subcommand-3.ensures.shape (search rules) ∙ ap₂ with_subcommand eaw (ap (λ (a : App). a.top) c.new-2.ensures.app) in
+    let format : app_of c.in_ok-subcommand-4.field-0 ≡ with_subcommand (with_subcommand (with_subcommand (with_subcommand no_commands run_shape) (new_app (codes "eaw")).top) (new_app (codes "dump")).top) format_shape =
     c.in_ok-subcommand-4.ensures.shape c.in_ok-format_command.ensures.local ∙ ap₂ with_subcommand dump c.in_ok-format_command.ensures.shape in
-    let drill : app_of c.in_ok-subcommand-5.field-0 ≡ with_subcommand (with_subcommand (with_subcommand (with_subcommand (with_subcommand (set (new_app (codes "mars"))) run_shape) (new_app (codes "eaw")).top) (new_app (codes "dump")).top) format_shape) drill_shape =
+    let drill : app_of c.in_ok-subcommand-5.field-0 ≡ with_subcommand (with_subcommand (with_subcommand (with_subcommand (with_subcommand no_commands run_shape) (new_app (codes "eaw")).top) (new_app (codes "dump")).top) format_shape) drill_shape =
     c.in_ok-subcommand-5.ensures.shape c.in_ok-drill_command.ensures.local ∙ ap₂ with_subcommand format c.in_ok-drill_command.ensures.shape in
-    IfOk-weaker c.subcommand-6.result _ _ (λ command adds. adds.shape c.in_ok-callers_command.ensures.local ∙ ap₂ with_subcommand drill c.in_ok-callers_command.ensures.shape) c.subcommand-6.ensures
+    let callers : app_of c.in_ok-subcommand-6.field-0 ≡ with_subcommand (with_subcommand (with_subcommand (with_subcommand (with_subcommand (with_subcommand no_commands run_shape) (new_app (codes "eaw")).top) (new_app (codes "dump")).top) format_shape) drill_shape) callers_shape =
+    c.in_ok-subcommand-6.ensures.shape c.in_ok-callers_command.ensures.local ∙ ap₂ with_subcommand drill c.in_ok-callers_command.ensures.shape in
+    IfOk-weaker c.subcommand-7.result _ _ (λ command adds. adds.shape c.in_ok-make_command.ensures.local ∙ ap₂ with_subcommand callers c.in_ok-make_command.ensures.shape) c.subcommand-7.ensures

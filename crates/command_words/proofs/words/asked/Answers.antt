@@ -1,6 +1,6 @@
 use Rattle.std.proofs.Common.{codes, refl, sym}
 use Rattle.clap.specs.Words.{found_of, rows_of}
-use Rattle.command_words.proofs.AskedLemmas.{met_is, some_is_none, none_other, none_said, no_run, no_callers, no_drill, no_format}
+use Rattle.command_words.proofs.AskedLemmas.{met_is, some_is_none, none_other, none_said, no_run, no_callers, no_drill, no_format, no_make}
 use Rattle.command_words.proofs.words.asked.Goals as goal
 
 pub returns-in_err-writing-in-run : goal.returns-in_err-writing-in-run
@@ -22,6 +22,14 @@ pub returns-in_err-numbers-in-format : goal.returns-in_err-numbers-in-format
 returns-in_err-numbers-in-format c =
     rw c.from_residual-in_err-numbers-in-format.ensures (none_said c.args.matches.now (codes "format") c.in_ok-name.name.now (rows_of (found_of c.in_ok-name.options.now))
     c.in-format.is c.in_ok-name.ensures.name c.in_ok-name.ensures.rows (no_format (rows_of (found_of c.in_ok-name.options.now)) c.in_err-numbers-in-format.ensures))
+
+pub returns-in_err-table-in-make : goal.returns-in_err-table-in-make
+returns-in_err-table-in-make c =
+    rw c.from_residual-in_err-table-in-make.ensures (none_said c.args.matches.now (codes "make") c.in_ok-name.name.now (rows_of (found_of c.in_ok-name.options.now))
+    c.in-make.is c.in_ok-name.ensures.name c.in_ok-name.ensures.rows (no_make (rows_of (found_of c.in_ok-name.options.now)) c.in_err-table-in-make.ensures))
+
+pub returns-in_ok-table-in-make : goal.returns-in_ok-table-in-make
+returns-in_ok-table-in-make c = (c.in_ok-name.name.now, rows_of (found_of c.in_ok-name.options.now), met_is c.args.matches.now c.in_ok-name.name.now (rows_of (found_of c.in_ok-name.options.now)) c.in_ok-name.ensures.name c.in_ok-name.ensures.rows, (c.in-make.is, c.in_ok-table-in-make.ensures))
 
 pub returns-in_ok-writing-in-run : goal.returns-in_ok-writing-in-run
 returns-in_ok-writing-in-run c = (c.in_ok-name.name.now, rows_of (found_of c.in_ok-name.options.now), met_is c.args.matches.now c.in_ok-name.name.now (rows_of (found_of c.in_ok-name.options.now)) c.in_ok-name.ensures.name c.in_ok-name.ensures.rows, (c.in-run.is, record { writing = c.in_ok-writing-in-run.ensures }))
@@ -49,4 +57,4 @@ pub returns-in_default : goal.returns-in_default
 returns-in_default c =
     let options = rows_of (found_of c.in_ok-name.options.now) in
     none_said c.args.matches.now c.in_ok-name.name.now c.in_ok-name.name.now options refl c.in_ok-name.ensures.name c.in_ok-name.ensures.rows
-    (none_other c.in_ok-name.name.now c.in_default.not-run c.in_default.not-callers c.in_default.not-eaw c.in_default.not-dump c.in_default.not-drill c.in_default.not-format options)
+    (none_other c.in_ok-name.name.now c.in_default.not-run c.in_default.not-callers c.in_default.not-eaw c.in_default.not-dump c.in_default.not-drill c.in_default.not-format c.in_default.not-make options)

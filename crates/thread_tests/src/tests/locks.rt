@@ -1,0 +1,163 @@
+// What two passes are answered that lock stripes of keys. The keys 5 and 69 are of stripe 5.
+ghost use Rattle.std.specs.Prelude.{◌≡◌};
+ghost use Rattle.mars_manager.specs.Pass.{dealt};
+ghost use Rattle.mars_manager.specs.Sharing.{CanShare};
+
+use super::held_media::Hold;
+use super::sharing::fresh;
+use caller_steps::Core;
+use history::{Call, Mode, Reply};
+use mars_manager::{Lock, Mars, Pass, Passes};
+use std::alloc::Global;
+use std::test::*;
+
+// Which of the two passes asks.
+#[derive(Clone, Copy)]
+enum By {
+    Zero,
+    One,
+}
+
+// What is asked, and what has to be answered.
+#[derive(Drop)]
+enum Line {
+    Locks(u8, Mode, Lock),
+    Calls(Call, Reply),
+}
+
+const GET_5: Call = Call::Get { key: 5 };
+
+const GET_6: Call = Call::Get { key: 6 };
+
+const GET_69: Call = Call::Get { key: 69 };
+
+const BUSY_WITH_0: Reply = Reply::Busy { holder: 0 };
+
+// An exclusive lock keeps out another's locks and calls on its stripe until the transaction ends.
+const EXCLUSIVE: [(By, Line); 9] = [
+    (By::Zero, Line::Calls(Call::Begin, Reply::Fine)),
+    (By::One, Line::Calls(Call::Begin, Reply::Fine)),
+    (By::Zero, Line::Locks(5, Mode::Exclusive, Lock::Held)),
+    (
+        By::One,
+        Line::Locks(5, Mode::Exclusive, Lock::Busy { holder: 0 }),
+    ),
+    (By::One, Line::Calls(GET_69, BUSY_WITH_0)),
+    (By::One, Line::Calls(GET_6, Reply::Absent)),
+    (By::Zero, Line::Calls(Call::Commit, Reply::Committed(1))),
+    (By::One, Line::Locks(5, Mode::Exclusive, Lock::Held)),
+    (
+        By::Zero,
+        Line::Locks(5, Mode::Exclusive, Lock::NoTransaction),
+    ),
+];
+
+// Two share a lock, which neither can make exclusive before the other has ended.
+const SHARED: [(By, Line); 7] = [
+    (By::Zero, Line::Calls(Call::Begin, Reply::Fine)),
+    (By::One, Line::Calls(Call::Begin, Reply::Fine)),
+    (By::Zero, Line::Locks(5, Mode::Shared, Lock::Held)),
+    (By::One, Line::Locks(5, Mode::Shared, Lock::Held)),
+    (
+        By::Zero,
+        Line::Locks(5, Mode::Exclusive, Lock::Busy { holder: 1 }),
+    ),
+    (By::One, Line::Calls(Call::Commit, Reply::Committed(1))),
+    (By::Zero, Line::Locks(5, Mode::Exclusive, Lock::Held)),
+];
+
+// Two read records of one stripe, in which neither may write then; a scan touches each stripe.
+const READERS: [(By, Line); 9] = [
+    (By::Zero, Line::Calls(Call::Begin, Reply::Fine)),
+    (By::One, Line::Calls(Call::Begin, Reply::Fine)),
+    (By::Zero, Line::Calls(GET_5, Reply::Absent)),
+    (By::One, Line::Calls(GET_69, Reply::Absent)),
+    (By::One, Line::Calls(Call::Del { key: 69 }, BUSY_WITH_0)),
+    (By::Zero, Line::Calls(Call::Del { key: 7 }, Reply::Absent)),
+    (
+        By::One,
+        Line::Calls(Call::Scan { low: 0, high: 1 }, BUSY_WITH_0),
+    ),
+    (By::Zero, Line::Calls(Call::Abort, Reply::Fine)),
+    (By::One, Line::Calls(Call::Del { key: 69 }, Reply::Absent)),
+];
+
+fn is_answered<C: Core + Drop>(mars: &Mars<C>, pass: &mut Pass<C>, line: &Line) -> bool
+    requires { pass.old.table ≡ mars.now.table }
+    ensures table { pass.new.table ≡ pass.old.table }
+    ensures number { pass.new.known.number ≡ pass.old.known.number }
+{
+    match line {
+        Line::Locks(stripe, mode, answer) if *stripe < 64 => {
+            mars.lock(pass, *stripe, *mode) == *answer
+        }
+        Line::Locks(..) => false,
+        Line::Calls(call, reply) => match mars.call(pass, call) {
+            Ok(told) => told == *reply,
+            Err(_) => false,
+        },
+    }
+}
+
+// How many lines, from the first on, are answered as they have to be.
+fn answered_lines<C: Core + Drop>(
+    mars: &Mars<C>,
+    zero: &mut Pass<C>,
+    one: &mut Pass<C>,
+    lines: &[(By, Line)],
+) -> usize
+    requires { (zero.old.table ≡ mars.now.table) × (one.old.table ≡ mars.now.table) }
+    ensures zero { (zero.new.table ≡ zero.old.table) × (zero.new.known.number ≡ zero.old.known.number) }
+    ensures one { (one.new.table ≡ one.old.table) × (one.new.known.number ≡ one.old.known.number) }
+{
+    for (n, (by, line)) in lines.iter().enumerate() {
+        let is_right = match by {
+            By::Zero => is_answered(mars, zero, line),
+            By::One => is_answered(mars, one, line),
+        };
+        if !is_right {
+            return n;
+        }
+    }
+    lines.len()
+}
+
+fn two_of_three<C: Core + Drop>(
+    mars: Mars<C>,
+    mut passes: Passes<C>,
+    lines: &[(By, Line)],
+) -> Option<usize>
+    requires table { passes.table ≡ mars.table }
+    requires callers { mars.setup.callers ≡ 3 }
+    requires passes { passes.list ≡ dealt passes.table mars.setup 3 }
+{
+    let two = passes.take()?;
+    let mut one = passes.take()?;
+    let mut zero = passes.take()?;
+    let count = answered_lines(&mars, &mut zero, &mut one, lines);
+    passes.put_back(zero);
+    passes.put_back(one);
+    passes.put_back(two);
+    drop(mars.close(passes));
+    Some(count)
+}
+
+fn shared_by<C: Core + Drop>(alloc: Global, core: C, lines: &[(By, Line)]) -> Option<usize>
+    requires { CanShare C.tells 3 (C.view core) }
+{
+    let (mars, passes) = Mars::share(alloc, core, 3).ok()?;
+    two_of_three(mars, passes, lines)
+}
+
+fn answered(alloc: Global, lines: &[(By, Line)]) -> Option<usize> {
+    let hold = Hold::released(alloc).ok()?;
+    shared_by(alloc, fresh(alloc, hold)?, lines)
+}
+
+#[test]
+fn passes_are_kept_out_by_locks(rt: HostRuntime) -> Result<(), Fail> {
+    assert_eq!(rt; answered(rt.alloc(), &EXCLUSIVE), Some(EXCLUSIVE.len()));
+    assert_eq!(rt; answered(rt.alloc(), &SHARED), Some(SHARED.len()));
+    assert_eq!(rt; answered(rt.alloc(), &READERS), Some(READERS.len()));
+    Ok(())
+}
