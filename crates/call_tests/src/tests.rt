@@ -2,6 +2,7 @@ mod accounts;
 mod arrays;
 mod counting;
 mod feeds;
+mod frames;
 mod histories;
 mod lists;
 mod mirrors;

@@ -1,5 +1,5 @@
 -- What callers asked for, and why they were told `Busy`.
-use Rattle.std.proofs.Common.{◌≡◌, ◌≢◌, ◌⊎◌, ◌||◌, ◌&&◌, ℕ, zero, suc, ◌+◌, ◌<◌, ◌≤◌, Bool, true, false, List, [], ◌∷◌, ◌++◌, get_or, length, drop, Option, Some, None, Result, Ok, Err, append_assoc, refl, sym, ap, ◌∙◌, subst, inl, inr, ⊎_elim, arith}
+use Rattle.std.proofs.Common.{◌≡◌, ◌≢◌, ◌⊎◌, ◌||◌, ◌&&◌, ℕ, zero, suc, ◌+◌, ◌<◌, ◌≤◌, Bool, true, false, List, [], ◌∷◌, ◌++◌, get_or, length, drop, Option, Some, Result, Ok, Err, append_assoc, refl, sym, ap, ◌∙◌, subst, inl, inr, ⊎_elim, arith}
 use Rattle.std.specs.Prelude.{Contains, MatchBool, if◌then◌else◌}
 use Rattle.std.proofs.lemmas.List.{append_cancel_left}
 use Rattle.std.proofs.lemmas.Bool.{false≢true}
@@ -7,7 +7,7 @@ use Rattle.std.proofs.lemmas.List.Elements.{Contains-append_left, Contains-appen
 use mathlib.Core.Logic.{dite}
 use native.Mathlib.Decide.{dec_le}
 use Rattle.history.specs.Table.{Granted}
-use Rattle.history.specs.Locks.{touches, is_touch, clash}
+use Rattle.history.specs.Locks.{touches, clash}
 use Rattle.history.specs.declared.call.Call.{Call}
 use Rattle.history.specs.declared.call.Call.TheVariants.{Begin, Commit, Abort}
 use Rattle.history.specs.declared.call.Reply.{Reply}
@@ -18,9 +18,9 @@ use Rattle.caller_steps.specs.Fate.{is_refusal}
 use Rattle.stripe_words.specs.Words.{Refuses}
 use Rattle.mars_manager.specs.declared.view.Met.{Met}
 use Rattle.mars_manager.specs.declared.view.Known.{Known}
-use Rattle.mars_manager.specs.Pass.{PassView, finds}
-use Rattle.mars_manager.specs.Locks.{met, with_locks, IsAgain, IsBusyBy, IsRefusedFor}
-use Rattle.mars_manager.specs.Asked.{IsStepOf, IsUpTo, AsksFor, HasAsked, against, Meets, AreMet, AreCaused, HaveAsked}
+use Rattle.mars_manager.specs.Pass.{PassView}
+use Rattle.mars_manager.specs.Locks.{met, IsAgain, IsBusyBy, IsRefusedFor}
+use Rattle.mars_manager.specs.Asked.{IsStepOf, IsUpTo, AsksFor, HasAsked, against, Meets, AreMet, HaveAsked}
 use Rattle.mars_manager.proofs.Asking.{only_one, one_here, none_here, refused_caused}
 use Rattle.caller_plans.specs.declared.plan.Plan.{Plan}
 use Rattle.caller_plans.specs.declared.plan.PlanEnd.{PlanEnd}
@@ -28,8 +28,8 @@ use Rattle.caller_plans.specs.declared.plan.PlanEnd.TheVariants as end
 use Rattle.caller_plans.specs.declared.fate.Fate.{Fate}
 use Rattle.caller_work.specs.declared.tries.Tries.{Tries}
 use Rattle.caller_work.specs.declared.tries.Tries.TheVariants.{NoLimit}
-use Rattle.caller_work.specs.Tries.{end_call, is_last, end_outcome, refusal_outcome, IsOne, GivesUp, Takes, IsTry, AreHeldUp, IsMade, Works, IsWork}
-use Rattle.caller_work.specs.Asked.{IsHit, IsToldOf, IsPlanned, HasCause, HaveCauses}
+use Rattle.caller_work.specs.Tries.{end_call, is_last, refusal_outcome, IsOne, GivesUp, Takes, IsTry, AreHeldUp, IsMade, Works, IsWork}
+use Rattle.caller_work.specs.Asked.{IsHit, IsToldOf, IsPlanned, HaveCauses}
 
 -- no call, and the calls of one list after another
 pub told_none : (n : ℕ) → IsToldOf n [] []

@@ -1,5 +1,5 @@
 -- Why a caller was told `Busy`: what each caller asked for.
-use Rattle.std.specs.Prelude.{ℕ, ◌≡◌, ◌≢◌, ◌<◌, IsTrue, List, Contains}
+use Rattle.std.specs.Prelude.{ℕ, ◌≢◌, ◌<◌, IsTrue, List, Contains}
 use Rattle.history.specs.Table.{Granted}
 use Rattle.history.specs.Locks.{touches, clash}
 use Rattle.history.specs.declared.call.Call.{Call}

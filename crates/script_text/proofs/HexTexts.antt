@@ -1,5 +1,5 @@
 -- Hexadecimal texts: their length, their digits, and the bytes that they spell.
-use Rattle.std.proofs.Common.{◌≡◌, ℕ, zero, suc, ◌+◌, ◌-◌, ◌*◌, ◌/◌, ◌%◌, ◌<◌, ◌≤◌, inl, inr, List, [], ◌∷◌, ◌++◌, length, get_or, take, slice_index, Result, Ok, Err, refl, sym, ap, ◌∙◌, append_assoc, length-take, arith}
+use Rattle.std.proofs.Common.{◌≡◌, ℕ, zero, suc, ◌+◌, ◌-◌, ◌*◌, ◌/◌, ◌%◌, ◌<◌, ◌≤◌, ◌⊎◌, inl, inr, List, [], ◌∷◌, ◌++◌, length, get_or, take, slice_index, Result, Ok, Err, refl, sym, ap, ◌∙◌, append_assoc, length-take, arith}
 use Rattle.std.specs.Prelude.{All, Bool, true, false, ◌↔◌, MatchBool, MatchResult, OnOk, is_ok, is_err, if◌then◌else◌}
 use Rattle.std.proofs.lemmas.Bool.{cases_lt}
 use Rattle.std.proofs.lemmas.List.{take_more}
@@ -96,6 +96,20 @@ hex_is_long text is =
 
 pub hex_is_digits : (text : List ℕ) → IsHex text → All IsDigit text
 hex_is_digits text is = All-same IsDigit text (hex_of is.0) is.2 (digits_of_bytes is.0 is.1.2)
+
+-- a text with another byte than a digit, or with an odd number of digits, is that of no bytes
+pub not_of_bytes : (text : List ℕ) → (length text % 2 ≡ 1) ⊎ (All IsDigit text → ⊥) → (bytes : List ℕ) → IsBytes bytes → text ≡ hex_of bytes → ⊥
+not_of_bytes text (inl odd) bytes is same = let long : length text ≡ 2 * length bytes = ap length same ∙ length-hex_of bytes in omega (arith, long, odd)
+not_of_bytes text (inr not) bytes is same = not (All-same IsDigit text (hex_of bytes) same (digits_of_bytes bytes is))
+
+-- what the decoder makes of the text of bytes
+pub read_whole : (text bytes : List ℕ) (result : Result Unit FromHexError) (out : List ℕ) (room : ℕ) → room ≡ length text / 2 → IsBytes bytes → text ≡ hex_of bytes
+    → MatchResult (decode_sized text room) (λ bs. (result ≡ Ok tt) × (out ≡ bs)) (λ e. result ≡ Err e) → (result ≡ Ok tt) × (out ≡ bytes)
+read_whole text bytes result out room half is says found =
+    let long : length text ≡ 2 * length bytes = ap length says ∙ length-hex_of bytes in
+    let count : room ≡ length bytes = omega (arith, long, half) in
+    let read : decode_sized text (length bytes) ≡ Ok bytes = rw says (decode_sized-encode_lower bytes (length bytes) refl is) in
+    rw read at (rw count at found)
 
 -- what the decoder makes of such a text, in a front of the right length
 pub decoded : (text bytes buf : List ℕ) (result : Result Unit FromHexError) (out : List ℕ) → IsBlock bytes → text ≡ hex_of bytes → length text ≤ 2 * length buf

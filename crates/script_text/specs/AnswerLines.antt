@@ -1,5 +1,5 @@
 -- How the answers to raw commands are written.
-use Rattle.std.specs.Prelude.{ℕ, List, [], ◌∷◌, ◌++◌, codes}
+use Rattle.std.specs.Prelude.{ℕ, List, ◌∷◌, ◌++◌, codes}
 use Rattle.std.specs.Fmt.{decimal}
 use Rattle.hex.specs.Hex.{encode_lower as hex_of}
 use Rattle.script_text.specs.declared.answer.Answer.{Answer}

@@ -1,5 +1,6 @@
 // Bytes as hexadecimal text, two lower-case digits for each.
-ghost use Rattle.std.specs.Prelude.{◌≡◌, ◌*◌, ◌≤◌, ◌++◌, ◌↔◌, List, ℕ, length, drop, All, IsTrue, MatchBool, OnOk, OnErr};
+ghost use Rattle.std.specs.Prelude.{◌≡◌, ◌*◌, ◌%◌, ◌≤◌, ◌++◌, ◌↔◌, List, ℕ, length, drop, All, IsTrue, MatchBool, IfOk, OnOk, OnErr};
+ghost use Rattle.hex.specs.Hex.{IsBytes};
 ghost use Rattle.script_text.specs.HexText.{hex_of, IsBlock, IsHex, IsDigit};
 
 use crate::lent::BLOCK;
@@ -26,6 +27,34 @@ fn hex_into(hex: &[u8], buf: &mut [u8]) -> usize
     len
 }
 
+/// Reads a hexadecimal text of any length into `bytes`, in place of what they were. The answer is `false` if it is not the text of bytes,
+/// and then the bytes are none.
+pub fn read_hex(text: &[u8], bytes: &mut Vec<u8>) -> Result<bool, NoMemory>
+    ensures { IfOk result (λ read. MatchBool read (IsBytes bytes.new.items × (text.now ≡ hex_of bytes.new.items)) ((others : List ℕ) → IsBytes others → text.now ≡ hex_of others → ⊥)) }
+{
+    bytes.clear();
+    if text.len() % 2 == 1 {
+        return Ok(false);
+    }
+    if are_digits(text) {
+        decode(text, bytes)?;
+        return Ok(true);
+    }
+    Ok(false)
+}
+
+// Reads an even number of digits.
+fn decode(text: &[u8], bytes: &mut Vec<u8>) -> Result<(), NoMemory>
+    requires even { length text.now % 2 ≡ 0 }
+    requires digits { All IsDigit text.now }
+    ensures { OnOk result (IsBytes bytes.new.items × (text.now ≡ hex_of bytes.new.items)) }
+{
+    bytes.clear();
+    bytes.resize(text.len() / 2, 0)?;
+    hex::decode_to_slice(text, bytes).unwrap();
+    Ok(())
+}
+
 // Whether a text is the hexadecimal text of 1 to 1,024 bytes.
 pub fn is_hex(text: &[u8]) -> bool
     ensures { MatchBool result (IsHex text.now) (IsHex text.now → ⊥) }
@@ -49,7 +78,7 @@ fn is_digit(byte: u8) -> bool
     matches!(byte, b'0'..=b'9' | b'a'..=b'f')
 }
 
-// Appends the hexadecimal text of some bytes.
+/// Appends the hexadecimal text of some bytes.
 pub fn append_hex(out: &mut Vec<u8>, bytes: &[u8]) -> Result<(), NoMemory>
     ensures ok { OnOk result (out.new.items ≡ out.old.items ++ hex_of bytes.now) }
     ensures err { OnErr result (out.new.items ≡ out.old.items) }

@@ -21,7 +21,7 @@ mod word;
 pub use answer::{Answer, write_answer};
 pub use eaw_call::EawCall;
 pub use eaw_line::{EawLine, read_eaw};
-pub use hex_text::bytes_of;
+pub use hex_text::{append_hex, bytes_of, read_hex};
 pub use laws::{media_reply_line, one_line, one_raw_line};
 pub use lent::{BLOCK, Lent};
 pub use line::{Line, read_line};

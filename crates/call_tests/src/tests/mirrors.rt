@@ -1,5 +1,5 @@
 // Frames, their followers and a primary, over arrays in memory.
-ghost use Rattle.std.specs.Prelude.{◌≡◌, ◌+◌, ◌<◌, ◌≤◌, IfSome, IsTrue, false};
+ghost use Rattle.std.specs.Prelude.{◌+◌, ◌<◌, ◌≤◌, IfSome, IsTrue};
 ghost use Rattle.array_shape.specs.Places.{data_len};
 ghost use Rattle.eaw_face.specs.Causes.{IsAlive};
 ghost use Rattle.mirror.specs.Applying.{IsFree};

@@ -1,0 +1,223 @@
+-- Lines that are followed one after another.
+use Rattle.std.proofs.Common.{◌≡◌, ℕ, suc, ◌+◌, ◌⊎◌, inl, inr, Bool, false, List, [], ◌∷◌, ◌++◌, length, Result, Err, refl, sym, ◌∙◌, ap, subst, arith, append_assoc}
+use Rattle.std.specs.Prelude.{IsTrue, All}
+use Rattle.std.proofs.lemmas.List.{append-nil, length-append}
+use Rattle.std.proofs.lemmas.List.Elements.{All-nil, All-cons, All-append}
+use Rattle.array_shape.specs.declared.shape.Shape.{Shape}
+use Rattle.array_shape.specs.Logged.{applied}
+use Rattle.eaw_face.specs.StoreView.{StoreView}
+use Rattle.eaw_face.specs.Frame.{Frame, IsFrameIn, written_by}
+use Rattle.eaw_face.specs.Mirroring.{AreInSequence, followed}
+use Rattle.eaw_face.proofs.Mirroring.{sequence_append, followed_append}
+use Rattle.mirror.specs.Following.{HasFollowed, IsGap}
+use Rattle.mirror.specs.FollowerView.{FollowerView}
+use Rattle.texts.specs.Written.{IsWritten}
+use Rattle.frame_lines.specs.Lines.{IsMeant, Says, AllSay, applied_line, applied_lines}
+use Rattle.frame_lines.specs.Taken.{IsBetween, Applied, OpensTaken, FollowedLine}
+use Rattle.frame_lines.specs.Followed.{StopsAt, LeavesData, FollowedLines, OpensFirst}
+use Rattle.frame_lines.specs.declared.ended.FollowEnd.{FollowEnd}
+use Rattle.frame_lines.specs.declared.ended.FollowEnd.TheVariants.{All as AllFollowed, BadFrame, Gap, WriteFault, MediaFault, NoMemory}
+
+passed_over : (shape : Shape) (line : List ℕ) (front : List (List ℕ)) (frames : List Frame) → (IsMeant line → ⊥) → AllSay shape front frames → AllSay shape (front ++ line ∷ []) frames
+passed_over shape line [] frames not said = subst (λ (fs : List Frame). AllSay shape (line ∷ []) fs) (sym said) (not, refl)
+passed_over shape line (l ∷ ls) [] not said = (said.0, passed_over shape line ls [] not said.1)
+passed_over shape line (l ∷ ls) (f ∷ fs) not (inl said) = inl (said.0, passed_over shape line ls (f ∷ fs) not said.1)
+passed_over shape line (l ∷ ls) (f ∷ fs) not (inr said) = inr (said.0, passed_over shape line ls fs not said.1)
+
+said_too : (shape : Shape) (line : List ℕ) (f : Frame) (front : List (List ℕ)) (frames : List Frame) → Says shape f line → AllSay shape front frames → AllSay shape (front ++ line ∷ []) (frames ++ f ∷ [])
+said_too shape line f [] frames says said = subst (λ (fs : List Frame). AllSay shape (line ∷ []) (fs ++ f ∷ [])) (sym said) (inr (says, refl))
+said_too shape line f (l ∷ ls) [] says said = inl (said.0, said_too shape line f ls [] says said.1)
+said_too shape line f (l ∷ ls) (g ∷ gs) says (inl said) = inl (said.0, said_too shape line f ls (g ∷ gs) says said.1)
+said_too shape line f (l ∷ ls) (g ∷ gs) says (inr said) = inr (said.0, said_too shape line f ls gs says said.1)
+
+told_too : (count : ℕ) (frames : List Frame) (f : Frame) → applied_lines count (frames ++ f ∷ []) ≡ applied_lines count frames ++ applied_line (count + length frames + 1)
+told_too count [] f = append-nil (applied_line (count + 1)) ∙ ap applied_line (let same : count + 1 ≡ count + 0 + 1 = omega arith in same)
+told_too count (g ∷ gs) f =
+    ap (λ (t : List ℕ). applied_line (count + 1) ++ t) (told_too (count + 1) gs f ∙ ap (λ (n : ℕ). applied_lines (count + 1) gs ++ applied_line n) (let same : count + 1 + length gs + 1 ≡ count + suc (length gs) + 1 = omega arith in same))
+    ∙ sym (append_assoc (applied_line (count + 1)) (applied_lines (count + 1) gs) (applied_line (count + suc (length gs) + 1)))
+
+-- the first lines were followed, so many less one, and these are left
+pub record SoFar {S : Type 0} (tells : Bool) (view : S → StoreView) (first now : FollowerView S) (lines rest : List (List ℕ)) (n : ℕ) (text : List ℕ) : Type 0 where
+  pub frames : List Frame
+  pub front : List (List ℕ)
+  pub lines_are : lines ≡ front ++ rest
+  pub number : n ≡ length front + 1
+  pub said : AllSay (view first.store).shape front frames
+  pub good : All (IsFrameIn (view first.store).shape) frames
+  pub sequence : AreInSequence 1 frames
+  pub told : text ≡ applied_lines 0 frames
+  pub count : now.applied ≡ length frames
+  pub data_is : HasFollowed tells frames (view first.store) (view now.store)
+  pub faults : (view now.store).faults ≡ (view first.store).faults
+  pub between : IsBetween now
+
+module _ {S : Type 0} (tells : Bool) (view : S → StoreView) (first : FollowerView S) (lines : List (List ℕ)) where
+  pub begins : IsBetween first → first.applied ≡ 0 → SoFar tells view first first lines lines 1 []
+  begins between none = record {
+    frames = [];
+    front = [];
+    lines_are = refl;
+    number = refl;
+    said = refl;
+    good = All-nil (IsFrameIn (view first.store).shape);
+    sequence = tt;
+    told = refl;
+    count = none;
+    data_is = record { shape = refl; data_is = λ told. refl };
+    faults = refl;
+    between = between;
+  }
+
+  data_more : (frames more : List Frame) (mid new : StoreView) → HasFollowed tells frames (view first.store) mid → HasFollowed tells more mid new → HasFollowed tells (frames ++ more) (view first.store) new
+  data_more frames more mid new one two = record {
+    shape = two.shape ∙ one.shape;
+    data_is = λ told. two.data_is told ∙ ap (followed more) (one.data_is told) ∙ sym (followed_append frames more (view first.store).state.bytes);
+  }
+
+  -- all lines were followed
+  pub ended_all : (now : FollowerView S) (rest : List (List ℕ)) (n : ℕ) (text : List ℕ) → rest ≡ [] → SoFar tells view first now lines rest n text → FollowedLines tells (view first.store) (view now.store) lines AllFollowed false text
+  ended_all now rest n text none far = record {
+    frames = far.frames;
+    front = far.front;
+    behind = rest;
+    lines_are = far.lines_are;
+    said = far.said;
+    good = far.good;
+    sequence = far.sequence;
+    told = far.told;
+    data_is = far.data_is;
+    stops = none;
+  }
+
+  module _ (shape : Shape) (shape_is : (view first.store).shape ≡ shape) (now new : FollowerView S) (line : List ℕ) (rest : List (List ℕ)) (n : ℕ) (text : List ℕ) (far : SoFar tells view first now lines (line ∷ rest) n text) where
+    here : (f : Frame) → Says shape f line → Says (view first.store).shape f line
+    here f says = subst (λ (s : Shape). Says s f line) (sym shape_is) says
+
+    in_sequence : (f : Frame) → f.sequence ≡ now.applied + 1 → AreInSequence 1 (far.frames ++ f ∷ [])
+    in_sequence f next = sequence_append 1 far.frames (f ∷ []) far.sequence (let same : f.sequence ≡ 1 + length far.frames = omega (arith, next, far.count) in same, tt)
+
+    one_more : lines ≡ (far.front ++ line ∷ []) ++ rest
+    one_more = far.lines_are ∙ sym (append_assoc far.front (line ∷ []) rest)
+
+    pub passes : (IsMeant line → ⊥) → new ≡ now → SoFar tells view first new lines rest (n + 1) text
+    passes not same = subst (λ (f : FollowerView S). SoFar tells view first f lines rest (n + 1) text) (sym same) (record {
+      frames = far.frames;
+      front = far.front ++ line ∷ [];
+      lines_are = one_more;
+      number = let long = length-append far.front (line ∷ []) in omega (arith, far.number, long);
+      said = passed_over (view first.store).shape line far.front far.frames not far.said;
+      good = far.good;
+      sequence = far.sequence;
+      told = far.told;
+      count = far.count;
+      data_is = far.data_is;
+      faults = far.faults;
+      between = far.between;
+    })
+
+    -- what is told once one more is applied
+    told_more : (f : Frame) → applied_lines 0 (far.frames ++ f ∷ []) ≡ text ++ applied_line (now.applied + 1)
+    told_more f = told_too 0 far.frames f ∙ (λ i. sym far.told i ++ applied_line (let same : 0 + length far.frames + 1 ≡ now.applied + 1 = omega (arith, far.count) in same i))
+
+    pub applies : (f : Frame) → Says shape f line → Applied tells view f (now.applied + 1) now new → SoFar tells view first new lines rest (n + 1) (text ++ applied_line (now.applied + 1))
+    applies f says applied = record {
+      frames = far.frames ++ f ∷ [];
+      front = far.front ++ line ∷ [];
+      lines_are = one_more;
+      number = let long = length-append far.front (line ∷ []) in omega (arith, far.number, long);
+      said = said_too (view first.store).shape line f far.front far.frames (here f says) far.said;
+      good = All-append (IsFrameIn (view first.store).shape) far.frames (f ∷ []) far.good (All-cons (IsFrameIn (view first.store).shape) f [] (here f says).0 (All-nil (IsFrameIn (view first.store).shape)));
+      sequence = in_sequence f applied.next;
+      told = sym (told_more f);
+      count = let long = length-append far.frames (f ∷ []) in omega (arith, applied.applied, far.count, long);
+      data_is = data_more far.frames (f ∷ []) (view now.store) (view new.store) far.data_is applied.data_is;
+      faults = applied.faults ∙ far.faults;
+      between = applied.between;
+    }
+
+    pub goes_on : (more : List ℕ) → (((IsMeant line → ⊥) × (new ≡ now) × (more ≡ [])) ⊎ ((f : Frame) × Says shape f line × Applied tells view f (now.applied + 1) now new × (more ≡ applied_line (now.applied + 1))))
+        → SoFar tells view first new lines rest (n + 1) (text ++ more)
+    goes_on more (inl passed) = subst (λ (t : List ℕ). SoFar tells view first new lines rest (n + 1) t) (sym (append-nil text) ∙ ap (λ (t : List ℕ). text ++ t) (sym passed.2)) (passes passed.0 passed.1)
+    goes_on more (inr took) = subst (λ (t : List ℕ). SoFar tells view first new lines rest (n + 1) (text ++ t)) (sym took.3) (applies took.0 took.1 took.2)
+
+    -- the run ends at this line
+    stopped : (ended : FollowEnd) (cut : Bool) (more : List ℕ) → cut ≡ false → more ≡ [] → LeavesData tells far.frames (view first.store) (view new.store) ended → StopsAt (view first.store).shape (length far.front) (length far.frames) (line ∷ rest) ended
+        → FollowedLines tells (view first.store) (view new.store) lines ended cut (text ++ more)
+    stopped ended cut more whole none leaves stops = record {
+      frames = far.frames;
+      front = far.front;
+      behind = line ∷ rest;
+      lines_are = far.lines_are;
+      said = far.said;
+      good = far.good;
+      sequence = far.sequence;
+      told = subst (λ (b : Bool). IsWritten b (text ++ more) (applied_lines 0 far.frames)) (sym whole) (ap (λ (m : List ℕ). text ++ m) none ∙ append-nil text ∙ far.told);
+      data_is = leaves;
+      stops = stops;
+    }
+
+    still : HasFollowed tells [] (view now.store) (view new.store) → HasFollowed tells far.frames (view first.store) (view new.store)
+    still same = subst (λ (fs : List Frame). HasFollowed tells fs (view first.store) (view new.store)) (append-nil far.frames) (data_more far.frames [] (view now.store) (view new.store) far.data_is same)
+
+    pub ended_at : (T : Type 0) (ended : FollowEnd) (cut : Bool) (more : List ℕ) → (let r : Result T FollowEnd = Err ended in FollowedLine tells view shape n line now new r cut more) → FollowedLines tells (view first.store) (view new.store) lines ended cut (text ++ more)
+    ended_at T AllFollowed cut more ended = absurd ended.2.2
+    ended_at T (BadFrame m) cut more ended = stopped (BadFrame m) cut more ended.0 ended.1
+        (subst (λ (f : FollowerView S). HasFollowed tells far.frames (view first.store) (view f.store)) (sym ended.2.3) far.data_is)
+        (omega (arith, ended.2.0, far.number), line, rest, refl, ended.2.1, λ f says. ended.2.2 f (subst (λ (s : Shape). Says s f line) shape_is says))
+    ended_at T (Gap expected got) cut more ended = stopped (Gap expected got) cut more ended.0 ended.1 (still ended.2.2.2)
+        (line, rest, refl, ended.2.0, here ended.2.0 ended.2.1, ended.2.2.0, subst (λ (k : ℕ). IsGap k expected got) far.count ended.2.2.1)
+    ended_at T WriteFault cut more ended =
+        let f = ended.1 in
+        let next = applies f ended.2 ended.3 in
+        record {
+          frames = next.frames;
+          front = next.front;
+          behind = rest;
+          lines_are = next.lines_are;
+          said = next.said;
+          good = next.good;
+          sequence = next.sequence;
+          told = subst (λ (b : Bool). IsWritten b (text ++ more) (applied_lines 0 next.frames)) (sym ended.0)
+              (ended.4.0, ended.4.1, sym next.told ∙ ap (λ (t : List ℕ). text ++ t) ended.4.2 ∙ sym (append_assoc text more ended.4.0));
+          data_is = next.data_is;
+          stops = tt;
+        }
+    ended_at T MediaFault cut more ended = stopped MediaFault cut more ended.0 ended.1 tt tt
+    ended_at T NoMemory cut more ended = stopped NoMemory cut more ended.0 ended.1 tt tt
+
+    -- what a loss of power leaves of this line
+    pub opens_first : (Opens : Shape → List ℕ → List ℕ → Type 0) (image : List ℕ) → IsTrue tells → OpensTaken view Opens shape line now image → OpensFirst Opens (view first.store) lines image
+    opens_first Opens image told (inl before) = record {
+      frames = far.frames;
+      front = far.front;
+      behind = line ∷ rest;
+      lines_are = far.lines_are;
+      said = far.said;
+      sequence = far.sequence;
+      opens = subst (λ (p : Shape × List ℕ). Opens p.0 image p.1) (λ i. (far.data_is.shape i, far.data_is.data_is told i)) before;
+    }
+    opens_first Opens image told (inr next) = record {
+      frames = far.frames ++ next.0 ∷ [];
+      front = far.front ++ line ∷ [];
+      behind = rest;
+      lines_are = one_more;
+      said = said_too (view first.store).shape line next.0 far.front far.frames (here next.0 next.1) far.said;
+      sequence = in_sequence next.0 next.2;
+      opens = subst (λ (p : Shape × List ℕ). Opens p.0 image p.1)
+          (λ i. (far.data_is.shape i, (ap (λ (b : List ℕ). applied (written_by next.0) b) (far.data_is.data_is told) ∙ sym (followed_append far.frames (next.0 ∷ []) (view first.store).state.bytes)) i)) next.3;
+    }
+
+-- nothing was followed, since there was no memory for a follower
+pub none_followed : (tells : Bool) (old new : StoreView) (lines : List (List ℕ)) → FollowedLines tells old new lines NoMemory false []
+none_followed tells old new lines = record {
+  frames = [];
+  front = [];
+  behind = lines;
+  lines_are = refl;
+  said = refl;
+  good = All-nil (IsFrameIn old.shape);
+  sequence = tt;
+  told = refl;
+  data_is = tt;
+  stops = tt;
+}

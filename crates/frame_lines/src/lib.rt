@@ -1,0 +1,12 @@
+//! Lines that say frames, and a store that follows them.
+//!
+//! Begin with `follow_lines`. What a line says is in `specs/Lines.antt`, and what comes of lines in `specs/Followed.antt`.
+#![tactic(auto)]
+
+mod ended;
+mod follow;
+mod frame_line;
+mod take;
+
+pub use ended::FollowEnd;
+pub use follow::follow_lines;
