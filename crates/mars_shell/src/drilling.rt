@@ -8,13 +8,13 @@ ghost use Rattle.mars_shell.specs.Made.{SummedUp, EndsEarly};
 
 use crate::core_work::CoreWork;
 use crate::ending::write_ended;
+use crate::final_rows::final_rows;
 use crate::summary::summary_text;
 use crate::turns::make_turns;
 use caller_steps::Core as Steps;
 use command_words::DrillNumbers;
 use drill_gen::script;
 use eaw_face::EawStore;
-use history::play;
 use mars_base::NoMemory;
 use mars_core::Core;
 use outside::Sink;
@@ -87,7 +87,7 @@ fn sum_up<S: EawStore, I: KeyIndex>(
         Ok(tally) => tally,
         Err(stop) => return Err(stop),
     };
-    let Ok(rows) = play(core.history(), core.base(), alloc) else {
+    let Ok(rows) = final_rows(core.history(), core.base(), alloc) else {
         return Err(Stop::NoMemory);
     };
     match summary_text(alloc, numbers, &tally, &rows) {

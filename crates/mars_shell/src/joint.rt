@@ -11,9 +11,10 @@ ghost use Rattle.texts.specs.Written.{Appends, IsWritten, Wrote};
 ghost use Rattle.mars_shell.specs.Told.{TellsEnd};
 
 use crate::ending::write_ended;
+use crate::final_rows::final_rows;
 use caller_plans::LineFault;
 use caller_work::{Fates, WorkEnd};
-use history::{History, Rows, play};
+use history::{History, Rows};
 use history_text::{put_history, write_fates, write_faults, write_records};
 use mars_base::NoMemory;
 use outside::Sink;
@@ -61,7 +62,7 @@ fn work_text(
     requires { length fates.now ≤ 255 }
     ensures { IfOk result (λ text. text.items ≡ work_text faults.now history.now fates.now (rows_of main_name (records (table_of base.now) history.now))) }
 {
-    let rows = play(history, base, alloc)?;
+    let rows = final_rows(history, base, alloc)?;
     let mut text = Vec::new(alloc);
     write_faults(&mut text, faults)?;
     put_history(&mut text, history)?;

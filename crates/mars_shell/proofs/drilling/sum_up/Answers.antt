@@ -17,8 +17,8 @@ make_turns-requires-clause-inside g c =
     subst (λ (n : ℕ). All (λ turn. turn.0 < n) (drill numbers.seed numbers.count c.args.callers)) c.requires.callers own in
     subst (λ (turns : List (ℕ × Call)). All (λ turn. turn.0 < shape.numbers) turns) (sym (c.as_slice.ensures ∙ c.in-Ok.ensures)) here
 
-pub returns-in_default-play-clause-early : goal.returns-in_default-play-clause-early
-returns-in_default-play-clause-early g c = let all = c.in-Ok-make_turns.ensures.all in (all.0, rw (c.as_slice.ensures ∙ c.in-Ok.ensures) at all.1, clean_all all.0 all.3)
+pub returns-in_default-final_rows-clause-early : goal.returns-in_default-final_rows-clause-early
+returns-in_default-final_rows-clause-early g c = let all = c.in-Ok-make_turns.ensures.all in (all.0, rw (c.as_slice.ensures ∙ c.in-Ok.ensures) at all.1, clean_all all.0 all.3)
 
 pub returns-clause-early : goal.returns-clause-early
 returns-clause-early g c = let all = c.in-Ok-make_turns.ensures.all in (all.0, rw (c.as_slice.ensures ∙ c.in-Ok.ensures) at all.1, clean_all all.0 all.3)
