@@ -24,7 +24,7 @@ use Rattle.command_words.specs.declared.words.Writing.TheVariants.{AtOnce, Late}
 use Rattle.clap.proofs.OnLiterals.{clap_on_literals}
 use Rattle.command_words.specs.CommandLine.{command_line, run_shape, format_shape, drill_shape, callers_shape, make_shape, option_of}
 use Rattle.command_words.specs.Asked.{AsksFor, AskForNothing, IsNumber, GivesWriting}
-use Rattle.command_words.specs.declared.words.Words.TheVariants.{Run, Callers, Eaw, Dump, Drill, Format, Make}
+use Rattle.command_words.specs.declared.words.Words.TheVariants.{Run, Callers, Eaw, Dump, Drill, Format, Make, Purge}
 
 -- the word is not a flag
 record IsPlain (word : Text) : Type 0 where
@@ -110,6 +110,13 @@ eaw_asks = (eaw_taken.0, codes "eaw", [], eaw_taken.1, refl)
 dump_taken : IsTaken (codes "dump" ∷ []) (codes "dump") []
 unfolding clap_on_literals
 dump_taken = (refl, refl)
+
+purge_taken : IsTaken (codes "purge" ∷ []) (codes "purge") []
+unfolding clap_on_literals
+purge_taken = (refl, refl)
+
+pub purge_asks : AsksFor (codes "purge" ∷ []) Purge
+purge_asks = (purge_taken.0, codes "purge", [], purge_taken.1, refl)
 
 pub dump_asks : AsksFor (codes "dump" ∷ []) Dump
 dump_asks = (dump_taken.0, codes "dump", [], dump_taken.1, refl)

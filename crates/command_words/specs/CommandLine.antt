@@ -40,5 +40,5 @@ no_commands = let app = new_app (codes "mars") in record app { top = record app.
 abbrev pub command_line : App
 command_line = record {
   top = record mars_shape { disable_help_flag = true; disable_help_subcommand = true };
-  subs = run_shape ∷ new_shape (codes "eaw") ∷ new_shape (codes "dump") ∷ format_shape ∷ drill_shape ∷ callers_shape ∷ make_shape ∷ [];
+  subs = run_shape ∷ new_shape (codes "eaw") ∷ new_shape (codes "dump") ∷ format_shape ∷ drill_shape ∷ callers_shape ∷ make_shape ∷ new_shape (codes "purge") ∷ [];
 }

@@ -18,7 +18,8 @@ pub fn command_line<'a>(alloc: Global) -> Result<Command<'a>, AllocError>
         .subcommand(format_command(alloc)?)?
         .subcommand(drill_command(alloc)?)?
         .subcommand(callers_command(alloc)?)?
-        .subcommand(make_command(alloc)?)
+        .subcommand(make_command(alloc)?)?
+        .subcommand(Command::new(alloc, "purge"))
 }
 
 fn no_commands<'a>(alloc: Global) -> Command<'a>

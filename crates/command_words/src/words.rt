@@ -28,6 +28,8 @@ pub enum Words {
     Format(FormatNumbers),
     /// To make a table of this name.
     Make(Name),
+    /// Takes keys without records out of the index of the records.
+    Purge,
 }
 
 /// How callers by turns are answered.
@@ -153,6 +155,7 @@ fn asked(matches: &ArgMatches<'_>) -> Option<Words>
             let table = read_name(options)?;
             Some(Words::Make(table))
         }
+        "purge" => Some(Words::Purge),
         _ => None,
     }
 }

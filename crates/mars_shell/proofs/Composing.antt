@@ -16,7 +16,7 @@ use Rattle.row_bytes.proofs.OneShape.{one_shape}
 use Rattle.device_recovery.proofs.Goods.{good_rows}
 use Rattle.command_words.specs.declared.words.FormatNumbers.{FormatNumbers}
 use Rattle.command_words.specs.declared.words.Words.{Words}
-use Rattle.command_words.specs.declared.words.Words.TheVariants.{Run, Callers, Eaw, Dump, Drill, Format, Make}
+use Rattle.command_words.specs.declared.words.Words.TheVariants.{Run, Callers, Eaw, Dump, Drill, Format, Make, Purge}
 use Rattle.eaw_device.specs.Opens.{header_of, Opens, AllOpen, IsArray, HoldsArray}
 use Rattle.page_store.specs.Index.{Index}
 use Rattle.record_table.specs.Names.{OpensNamed}
@@ -39,6 +39,7 @@ use Rattle.mars_shell.specs.Next.{AllSound, IsOfRecords, LeavesFresh}
 use Rattle.mars_shell.specs.Outcome.{Idle, OutcomeOf}
 use Rattle.mars_shell.specs.Run.{HoldsRecords, TakesTurns, Answers, IsDamaged, Exceeds, OverRecords}
 use Rattle.mars_shell.specs.Tables.{Tries, MadeBy, MakeOutcome}
+use Rattle.mars_shell.specs.Purge.{Clears, PurgedBy}
 use Rattle.mars_shell.specs.declared.status.Status.{Status}
 use Rattle.mars_shell.specs.declared.status.Status.TheVariants.{Good, Usage, TooLong, ReadFault, WriteFault, MediaFault, NoMemory, Damaged, BadRow, NotMars, BadShape, Refused}
 use Rattle.mars_shell.proofs.Forming.{sound_is_own}
@@ -173,12 +174,28 @@ module _ (tells : Bool) (told : IsTrue tells) (old new : View) (counts_now : (t 
     made_sound name status cut text outcome =
         ⊎_elim (λ over. records_sound true 0 (MadeBy name old new cut text) status cut text (made_by_sound name cut text) over) (λ refused. tried_sound name refused.2.shape refused.2.tries) outcome
 
+    -- and so are those that were to be purged
+    cleared_sound : (at : Shape) → Clears at old new → AllSound shape form new.content
+    cleared_sound at clears image left =
+        let same : at ≡ shape = one_shape (header_of old.content.bytes) at shape clears.holds.array.header opened.header in
+        let all : AllOpen at old.content = subst (λ (s : Shape). AllOpen s old.content) (sym same) (all_open old shape form sound) in
+        ⊎_elim (λ like. (like.2, subst (λ (s : Shape). Opens s image like.2) same like.4, like_sound like.0 like.2 like.1 (subst (λ (s : Shape). Opens s like.0 like.2) same like.3)))
+        (λ o. (o.bytes, subst (λ (s : Shape). Opens s image o.bytes) same o.opened, subst (λ (i : Index). i.sound o.bytes) (ap (λ (s : Shape). index_in s old) same ∙ own_index old shape form sound) o.sound))
+        (clears.since all image (counts_now old.moment image told (clears.later all) left))
+
+    purged_by_sound : (cut : Bool) (text : List ℕ) (ended : Ended) → PurgedBy old new cut text ended → AllSound shape form new.content
+    purged_by_sound cut text script.All purged = cleared_sound purged.shape purged.clears
+    purged_by_sound cut text script.WriteFault purged = cleared_sound purged.shape purged.clears
+    purged_by_sound cut text script.MediaFault purged = cleared_sound purged.1.0 purged.1.1
+    purged_by_sound cut text script.NoMemory purged = absurd purged
+
     pub next_sound : (asked : Words) (status : Status) (input : List ℕ) (cut : Bool) (text : List ℕ) → IsOfRecords asked → OutcomeFor asked old status new input cut text → AllSound shape form new.content
     next_sound (Run given) status input cut text of outcome = records_sound false 0 (λ ended. TakesTurns false (is_late given.writing) (Answers input ended cut text) old ended new) status cut text (λ ended taken. turns_sound false (is_late given.writing) (Answers input ended cut text) ended taken) outcome
     next_sound (Callers numbers) status input cut text of outcome = records_sound false numbers.callers (λ ended. TakesTurns false (is_late numbers.writing) (JointWork numbers.callers numbers.tries input ended cut text) old ended new) status cut text (λ ended taken. turns_sound false (is_late numbers.writing) (JointWork numbers.callers numbers.tries input ended cut text) ended taken) outcome
     next_sound Dump status input cut text of outcome = records_sound true 0 (λ ended. (taken : TakesTurns true false (Dumps ended cut text) old ended new) × Spares taken.shape old new) status cut text (λ ended taken. turns_sound true false (Dumps ended cut text) ended taken.0) outcome
     next_sound (Drill numbers) status input cut text of outcome = records_sound false 0 (λ ended. TakesTurns false (is_late numbers.writing) (Drills numbers ended cut text) old ended new) status cut text (λ ended taken. turns_sound false (is_late numbers.writing) (Drills numbers ended cut text) ended taken) outcome
     next_sound (Make name) status input cut text of outcome = made_sound name status cut text outcome
+    next_sound Purge status input cut text of outcome = records_sound false 0 (PurgedBy old new cut text) status cut text (purged_by_sound cut text) outcome
     next_sound Eaw status input cut text of outcome = absurd of
     next_sound (Format numbers) status input cut text of outcome = absurd of
 

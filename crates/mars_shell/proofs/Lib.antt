@@ -21,3 +21,4 @@ pub mod Statuses
 pub mod Outcomes
 pub mod Dumping
 pub mod Tabling
+pub mod Clearing

@@ -4,7 +4,7 @@ use Rattle.pcm_media.specs.View.{View}
 use Rattle.array_shape.specs.declared.shape.Shape.{Shape}
 use Rattle.command_words.specs.Asked.{AsksFor, AskForNothing}
 use Rattle.command_words.specs.declared.words.Words.{Words}
-use Rattle.command_words.specs.declared.words.Words.TheVariants.{Run, Callers, Eaw, Dump, Drill, Format, Make}
+use Rattle.command_words.specs.declared.words.Words.TheVariants.{Run, Callers, Eaw, Dump, Drill, Format, Make, Purge}
 use Rattle.eaw_device.specs.Opens.{HoldsArray}
 use Rattle.script_run.specs.Input.{input_limit}
 use Rattle.mars_shell.specs.Commands.{Obeys}
@@ -17,6 +17,7 @@ use Rattle.mars_shell.specs.Dump.{Dumps, Spares}
 use Rattle.mars_shell.specs.Run.{HoldsRecords, TakesTurns, Answers, OverRecords}
 use Rattle.mars_shell.specs.Statuses.{IsRefused}
 use Rattle.mars_shell.specs.Tables.{MakeOutcome}
+use Rattle.mars_shell.specs.Purge.{PurgeOutcome}
 use Rattle.mars_shell.specs.declared.status.Status.{Status}
 use Rattle.mars_shell.specs.declared.status.Status.TheVariants.{Good, Usage, NoMemory}
 
@@ -39,7 +40,7 @@ IfReads (Callers numbers) Without Reads = Reads
 IfReads Eaw Without Reads = Reads
 IfReads _ Without Reads = Without
 
--- What was written and done, by what is asked for. `run`, `callers`, `drill`, `dump` and `make` read the records of an array that was opened.
+-- What was written and done, by what is asked for. `run`, `callers`, `drill`, `dump`, `make` and `purge` read the records of an array that was opened.
 -- `eaw` does not. Only `callers` need numbers.
 abbrev pub OutcomeFor : Words → View → Status → View → List ℕ → Bool → List ℕ → Type 0
 OutcomeFor (Run given) old status new input cut text = OverRecords false 0 (λ ended. TakesTurns false (is_late given.writing) (Answers input ended cut text) old ended new) old status new cut text
@@ -50,6 +51,7 @@ OutcomeFor Dump old status new input cut text = OverRecords true 0 (λ ended. (t
 OutcomeFor (Drill numbers) old status new input cut text = OverRecords false 0 (λ ended. TakesTurns false (is_late numbers.writing) (Drills numbers ended cut text) old ended new) old status new cut text
 OutcomeFor (Format numbers) old status new input cut text = FormatOutcome numbers old status new cut text
 OutcomeFor (Make name) old status new input cut text = MakeOutcome name old status new cut text
+OutcomeFor Purge old status new input cut text = PurgeOutcome old status new cut text
 
 -- an input whose bytes are known and within the limit
 abbrev pub IsShortInput : Bool → List ℕ → Type 0
@@ -67,6 +69,7 @@ IsFit Eaw source_tells input media_tells media = IsShortInput source_tells input
 IsFit Dump source_tells input media_tells media = IsTrue media_tells × ((shape : Shape) × HoldsRecords shape media)
 IsFit (Drill numbers) source_tells input media_tells media = IsTrue media_tells × ((shape : Shape) × HoldsRecords shape media)
 IsFit (Make name) source_tells input media_tells media = IsTrue media_tells × ((shape : Shape) × HoldsRecords shape media)
+IsFit Purge source_tells input media_tells media = IsTrue media_tells × ((shape : Shape) × HoldsRecords shape media)
 
 -- what can be done is done, unless memory runs out, or an array has no room for a table or has one of its name
 abbrev pub IsComplete : Words → Status → Type 0
@@ -77,4 +80,5 @@ IsComplete asked status = (status ≡ Good) ⊎ (status ≡ NoMemory)
 abbrev pub TellsLate : Words → Type 0
 TellsLate Dump = Unit {0}
 TellsLate (Make name) = Unit {0}
+TellsLate Purge = Unit {0}
 TellsLate asked = ⊥

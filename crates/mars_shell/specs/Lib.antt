@@ -19,6 +19,7 @@ pub mod Commands
 pub mod Formats
 pub mod Joint
 pub mod Tables
+pub mod Purge
 pub mod Asked
 pub mod Next
 pub mod Fault

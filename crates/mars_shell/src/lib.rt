@@ -25,6 +25,7 @@ mod lines;
 mod media_room;
 mod number_line;
 mod opening;
+mod purging;
 mod record_work;
 mod records;
 mod responder;

@@ -19,7 +19,8 @@ pub fn room(alloc: Global, words: &[String]) -> Result<u64, NoMemory>
             | Words::Eaw
             | Words::Dump
             | Words::Drill(_)
-            | Words::Make(_),
+            | Words::Make(_)
+            | Words::Purge,
         ) => Ok(0),
         Err(WordsFault::NoCommand) => Ok(0),
         Err(WordsFault::NoMemory) => Err(NoMemory),

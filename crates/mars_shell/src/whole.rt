@@ -17,6 +17,7 @@ use crate::drilling::DrawnScript;
 use crate::dump::RecordDump;
 use crate::formatting::run_format;
 use crate::lines::ByTurns;
+use crate::purging::run_purge;
 use crate::records::over_records;
 use crate::status::Status;
 use crate::tables::run_make;
@@ -31,7 +32,7 @@ use std::thread::Threads;
 ///
 /// `run` reads the input, opens and recovers the array, reads its records, and then answers the lines. `callers` does the same, but each
 /// caller's transactions are made by a worker of its own on a thread, which calls the gate between its calls. `eaw` does not read the
-/// records. `drill`, `dump`, `make` and `format` read no input. Only `callers` may wait. In `run`, `callers` and `drill` commits may be answered before
+/// records. `drill`, `dump`, `make`, `purge` and `format` read no input. Only `callers` may wait. In `run`, `callers` and `drill` commits may be answered before
 /// their data is written to its place, if the words say so.
 pub fn run<
     R: AllocGlobal + Threads + Wait + Sync,
@@ -56,11 +57,11 @@ pub fn run<
         (source.new ≡ source.old) (IsTrue S.tells → InputSays result.0 (S.left source.old) (S.left source.new))) }
     ensures formats { WordsSay (map string_bytes words.now) result.0 ((sink.new ≡ sink.old) × (result.1 ≡ media)) (λ asked. (numbers : FormatNumbers)
         → asked ≡ Format numbers → FormatSays numbers (M.view media).size result.0 (sink.new ≡ sink.old) (result.1 ≡ media)) }
-    // A dump, and the making of a table, write nothing if the medium failed or memory ran out.
+    // A dump, a purge and the making of a table write nothing if the medium failed or memory ran out.
     ensures untold { WordsSay (map string_bytes words.now) result.0 (sink.new ≡ sink.old) (λ asked. TellsLate asked → (result.0 ≡ Status.MediaFault) ⊎ (result.0 ≡ Status.NoMemory) → sink.new ≡ sink.old) }
     // What the words ask for was done, and each status has its cause. For `run` the text answers the lines of the input one by one, and for
     // `drill` it is the summary of the replies. For both the history is legal and obeys the prefix law. For `dump` the text is the records,
-    // for `make` the number of the new table, and for `eaw` it answers the commands by the model.
+    // for `make` the number of the new table, for `purge` how many keys were taken out, and for `eaw` it answers the commands by the model.
     ensures ran { WordsSay (map string_bytes words.now) result.0 ((source.new ≡ source.old) × (sink.new ≡ sink.old) × (result.1 ≡ media)) (λ asked. Wrote K.tells (K.written sink.old) (K.written sink.new) (K.faults sink.old) (K.faults sink.new)
         (λ cut text. (input : List ℕ) × (IsTrue S.tells → S.left source.old ≡ input) × (IsTrue M.tells → OutcomeFor asked (M.view media) result.0 (M.view result.1) input cut text))) }
     // What can be done is done, unless memory runs out.
@@ -98,5 +99,6 @@ pub fn run<
         }
         Ok(Words::Format(numbers)) => run_format(sink, media, &numbers),
         Ok(Words::Make(ref name)) => run_make(rt.alloc(), source, sink, media, name),
+        Ok(Words::Purge) => run_purge(rt.alloc(), source, sink, media),
     }
 }

@@ -1,7 +1,7 @@
 use Rattle.std.proofs.Common.{rules, ◌≡◌, ◌∙◌, ap, ap₂, true, codes}
 use Rattle.std.proofs.lemmas.Result.{IfOk-weaker}
 use Rattle.clap.specs.Words.{App, app_of, new_app, with_subcommand}
-use Rattle.command_words.specs.CommandLine.{no_commands, run_shape, format_shape, drill_shape, callers_shape}
+use Rattle.command_words.specs.CommandLine.{no_commands, run_shape, format_shape, drill_shape, callers_shape, make_shape}
 use Rattle.command_words.proofs.command_line.command_line.Goals as goal
 
 pub returns : goal.returns
@@ -18,4 +18,6 @@ returns c =
     c.in_ok-subcommand-5.ensures.shape c.in_ok-drill_command.ensures.local ∙ ap₂ with_subcommand format c.in_ok-drill_command.ensures.shape in
     let callers : app_of c.in_ok-subcommand-6.field-0 ≡ with_subcommand (with_subcommand (with_subcommand (with_subcommand (with_subcommand (with_subcommand no_commands run_shape) (new_app (codes "eaw")).top) (new_app (codes "dump")).top) format_shape) drill_shape) callers_shape =
     c.in_ok-subcommand-6.ensures.shape c.in_ok-callers_command.ensures.local ∙ ap₂ with_subcommand drill c.in_ok-callers_command.ensures.shape in
-    IfOk-weaker c.subcommand-7.result _ _ (λ command adds. adds.shape c.in_ok-make_command.ensures.local ∙ ap₂ with_subcommand callers c.in_ok-make_command.ensures.shape) c.subcommand-7.ensures
+    let make : app_of c.in_ok-subcommand-7.field-0 ≡ with_subcommand (with_subcommand (with_subcommand (with_subcommand (with_subcommand (with_subcommand (with_subcommand no_commands run_shape) (new_app (codes "eaw")).top) (new_app (codes "dump")).top) format_shape) drill_shape) callers_shape) make_shape =
+    c.in_ok-subcommand-7.ensures.shape c.in_ok-make_command.ensures.local ∙ ap₂ with_subcommand callers c.in_ok-make_command.ensures.shape in
+    IfOk-weaker c.subcommand-8.result _ _ (λ command adds. adds.shape (search rules) ∙ ap₂ with_subcommand make (ap (λ (a : App). a.top) c.new-3.ensures.app)) c.subcommand-8.ensures
