@@ -17,6 +17,7 @@ mod drilling;
 mod dump;
 mod ending;
 mod fault;
+mod following;
 mod formatting;
 mod forms;
 mod joint;
