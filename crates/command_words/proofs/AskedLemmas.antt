@@ -17,7 +17,7 @@ use Rattle.command_words.specs.declared.words.RunOptions.{RunOptions}
 use Rattle.command_words.specs.declared.words.Writing.{Writing}
 use Rattle.command_words.specs.declared.words.Writing.TheVariants.{AtOnce, Late}
 use Rattle.command_words.specs.declared.words.Words.{Words}
-use Rattle.command_words.specs.declared.words.Words.TheVariants.{Run, Callers, Eaw, Dump, Drill, Format, Make, Purge}
+use Rattle.command_words.specs.declared.words.Words.TheVariants.{Run, Callers, Eaw, Dump, Drill, Format, Make, Purge, Follow}
 
 pub some_is_none : {X : Type 0} {x : X} → Some x ≡ None → ⊥
 some_is_none is = cc is
@@ -73,6 +73,7 @@ name_of (Drill numbers) = codes "drill"
 name_of (Format numbers) = codes "format"
 name_of (Make table) = codes "make"
 name_of Purge = codes "purge"
+name_of Follow = codes "follow"
 
 -- whoever says it has that name
 named : (name : Text) (options : List Row) (asked : Words) → SubcommandAsks name options asked → name ≡ name_of asked
@@ -84,6 +85,7 @@ named name options (Drill numbers) says = says.0
 named name options (Format numbers) says = says.0
 named name options (Make table) says = says.0
 named name options Purge says = says
+named name options Follow says = says
 
 -- if the numbers are wrong, nothing is asked for
 pub no_run : (options : List Row) → ((given : RunOptions) → GivesRun options given → ⊥) → (asked : Words) → SubcommandAsks (codes "run") options asked → ⊥
@@ -149,19 +151,21 @@ one_asked name options (Drill numbers) (Drill other) says also = ap Drill (one_d
 one_asked name options (Format numbers) (Format other) says also = ap Format (one_format options numbers other says.1 also.1)
 one_asked name options (Make table) (Make other) says also = ap Make (one_make options table other says.1 also.1)
 one_asked name options Purge Purge says also = refl
+one_asked name options Follow Follow says also = refl
 one_asked name options asked other says also = apart (name_of asked) (name_of other) refl (sym (named name options asked says) ∙ named name options other also)
 
 -- a word that names no command asks for nothing
 pub none_other : (word : Text) → (word ≡ codes "run" → ⊥) → (word ≡ codes "callers" → ⊥) → (word ≡ codes "eaw" → ⊥) → (word ≡ codes "dump" → ⊥) → (word ≡ codes "drill" → ⊥)
-    → (word ≡ codes "format" → ⊥) → (word ≡ codes "make" → ⊥) → (word ≡ codes "purge" → ⊥) → (options : List Row) (asked : Words) → SubcommandAsks word options asked → ⊥
-none_other word run callers eaw dump drill format make purge options (Run given) says = run says.0
-none_other word run callers eaw dump drill format make purge options (Callers numbers) says = callers says.0
-none_other word run callers eaw dump drill format make purge options Eaw says = eaw says
-none_other word run callers eaw dump drill format make purge options Dump says = dump says
-none_other word run callers eaw dump drill format make purge options (Drill numbers) says = drill says.0
-none_other word run callers eaw dump drill format make purge options (Format numbers) says = format says.0
-none_other word run callers eaw dump drill format make purge options (Make table) says = make says.0
-none_other word run callers eaw dump drill format make purge options Purge says = purge says
+    → (word ≡ codes "format" → ⊥) → (word ≡ codes "make" → ⊥) → (word ≡ codes "purge" → ⊥) → (word ≡ codes "follow" → ⊥) → (options : List Row) (asked : Words) → SubcommandAsks word options asked → ⊥
+none_other word run callers eaw dump drill format make purge follow options (Run given) says = run says.0
+none_other word run callers eaw dump drill format make purge follow options (Callers numbers) says = callers says.0
+none_other word run callers eaw dump drill format make purge follow options Eaw says = eaw says
+none_other word run callers eaw dump drill format make purge follow options Dump says = dump says
+none_other word run callers eaw dump drill format make purge follow options (Drill numbers) says = drill says.0
+none_other word run callers eaw dump drill format make purge follow options (Format numbers) says = format says.0
+none_other word run callers eaw dump drill format make purge follow options (Make table) says = make says.0
+none_other word run callers eaw dump drill format make purge follow options Purge says = purge says
+none_other word run callers eaw dump drill format make purge follow options Follow says = follow says
 
 -- whether there is a value, by its text
 pub no_text : {X Y : Type 0} (f : X → Y) (found : Option X) → is_some found ≡ false → option_map f found ≡ None

@@ -24,7 +24,7 @@ use Rattle.command_words.specs.declared.words.Writing.TheVariants.{AtOnce, Late}
 use Rattle.clap.proofs.OnLiterals.{clap_on_literals}
 use Rattle.command_words.specs.CommandLine.{command_line, run_shape, format_shape, drill_shape, callers_shape, make_shape, option_of}
 use Rattle.command_words.specs.Asked.{AsksFor, AskForNothing, IsNumber, GivesWriting}
-use Rattle.command_words.specs.declared.words.Words.TheVariants.{Run, Callers, Eaw, Dump, Drill, Format, Make, Purge}
+use Rattle.command_words.specs.declared.words.Words.TheVariants.{Run, Callers, Eaw, Dump, Drill, Format, Make, Purge, Follow}
 
 -- the word is not a flag
 record IsPlain (word : Text) : Type 0 where
@@ -114,6 +114,13 @@ dump_taken = (refl, refl)
 purge_taken : IsTaken (codes "purge" ∷ []) (codes "purge") []
 unfolding clap_on_literals
 purge_taken = (refl, refl)
+
+follow_taken : IsTaken (codes "follow" ∷ []) (codes "follow") []
+unfolding clap_on_literals
+follow_taken = (refl, refl)
+
+pub follow_asks : AsksFor (codes "follow" ∷ []) Follow
+follow_asks = (follow_taken.0, codes "follow", [], follow_taken.1, refl)
 
 pub purge_asks : AsksFor (codes "purge" ∷ []) Purge
 purge_asks = (purge_taken.0, codes "purge", [], purge_taken.1, refl)

@@ -11,7 +11,7 @@ use Rattle.command_words.specs.declared.words.Writing.TheVariants.{AtOnce, Late}
 use Rattle.command_words.specs.declared.words.DrillNumbers.{DrillNumbers}
 use Rattle.command_words.specs.declared.words.CallersNumbers.{CallersNumbers}
 use Rattle.command_words.specs.declared.words.Words.{Words}
-use Rattle.command_words.specs.declared.words.Words.TheVariants.{Run, Callers, Eaw, Dump, Drill, Format, Make, Purge}
+use Rattle.command_words.specs.declared.words.Words.TheVariants.{Run, Callers, Eaw, Dump, Drill, Format, Make, Purge, Follow}
 
 -- the number from `least` to `most` that a value spells in decimal; if the value is missing, the default, if there is one
 abbrev pub IsNumber : ℕ → ℕ → Option ℕ → Option Text → ℕ → Type 0
@@ -61,6 +61,7 @@ SubcommandAsks name options (Drill numbers) = (name ≡ codes "drill") × GivesD
 SubcommandAsks name options (Format numbers) = (name ≡ codes "format") × GivesNumbers options numbers
 SubcommandAsks name options (Make table) = (name ≡ codes "make") × GivesName options table
 SubcommandAsks name options Purge = name ≡ codes "purge"
+SubcommandAsks name options Follow = name ≡ codes "follow"
 
 -- clap accepts the words, and the subcommand that it finds in them asks for this
 abbrev pub AsksFor : List Text → Words → Type 0

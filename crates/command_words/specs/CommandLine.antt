@@ -36,9 +36,9 @@ mars_shape = record (new_shape (codes "mars")) { is_leaf = false; no_binary_name
 abbrev pub no_commands : App
 no_commands = let app = new_app (codes "mars") in record app { top = record app.top { no_binary_name = true; disable_help_flag = true; disable_help_subcommand = true; subcommand_required = true } }
 
--- the subcommand is one of seven, and there is no help
+-- the subcommand is one of nine, and there is no help
 abbrev pub command_line : App
 command_line = record {
   top = record mars_shape { disable_help_flag = true; disable_help_subcommand = true };
-  subs = run_shape ∷ new_shape (codes "eaw") ∷ new_shape (codes "dump") ∷ format_shape ∷ drill_shape ∷ callers_shape ∷ make_shape ∷ new_shape (codes "purge") ∷ [];
+  subs = run_shape ∷ new_shape (codes "eaw") ∷ new_shape (codes "dump") ∷ format_shape ∷ drill_shape ∷ callers_shape ∷ make_shape ∷ new_shape (codes "purge") ∷ new_shape (codes "follow") ∷ [];
 }

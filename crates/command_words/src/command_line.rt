@@ -19,7 +19,8 @@ pub fn command_line<'a>(alloc: Global) -> Result<Command<'a>, AllocError>
         .subcommand(drill_command(alloc)?)?
         .subcommand(callers_command(alloc)?)?
         .subcommand(make_command(alloc)?)?
-        .subcommand(Command::new(alloc, "purge"))
+        .subcommand(Command::new(alloc, "purge"))?
+        .subcommand(Command::new(alloc, "follow"))
 }
 
 fn no_commands<'a>(alloc: Global) -> Command<'a>

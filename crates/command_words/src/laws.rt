@@ -24,6 +24,7 @@ pub fn usual_words()
     ensures eaw { AsksFor (codes "eaw" ∷ []) Words.Eaw }
     ensures dump { AsksFor (codes "dump" ∷ []) Words.Dump }
     ensures purge { AsksFor (codes "purge" ∷ []) Words.Purge }
+    ensures follow { AsksFor (codes "follow" ∷ []) Words.Follow }
     ensures format { (numbers : FormatNumbers) → AreSmall numbers → AsksFor (format_words numbers) (Words.Format numbers) }
     ensures joined { (numbers : FormatNumbers) → AreSmall numbers → AsksFor (joined_words numbers) (Words.Format numbers) }
     ensures drill { (numbers : DrillNumbers) → AreOfDrill numbers → AsksFor (drill_words numbers) (Words.Drill numbers) }

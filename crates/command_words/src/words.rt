@@ -30,6 +30,8 @@ pub enum Words {
     Make(Name),
     /// Takes keys without records out of the index of the records.
     Purge,
+    /// To apply frames that lines say.
+    Follow,
 }
 
 /// How callers by turns are answered.
@@ -104,7 +106,7 @@ pub enum WordsFault {
     NoMemory,
 }
 
-/// Reads the words after the image's: `run`, `eaw`, `dump`, `make` with the name of a table, `callers` with a number and the option `tries`, `drill` with a seed and a
+/// Reads the words after the image's: `run`, `eaw`, `dump`, `purge`, `follow`, `make` with the name of a table, `callers` with a number and the option `tries`, `drill` with a seed and a
 /// count, or `format` with its options in any order. `run`, `callers` and `drill` have the option `late` too. Each option is given at
 /// most once.
 pub fn read_words(alloc: Global, words: &[String]) -> Result<Words, WordsFault>
@@ -156,6 +158,7 @@ fn asked(matches: &ArgMatches<'_>) -> Option<Words>
             Some(Words::Make(table))
         }
         "purge" => Some(Words::Purge),
+        "follow" => Some(Words::Follow),
         _ => None,
     }
 }

@@ -11,6 +11,7 @@ use Rattle.eaw_face.specs.Mirroring.{followed}
 use Rattle.byteorder.specs.Endian.{little_bytes}
 use Rattle.mirror.specs.Following.{Stand, Cuts, Follows, HasFollowed, StopsBroken, StopsAtGap, LeavesFirst, IsGap}
 use Rattle.mirror.proofs.Cuts.{frame_cut}
+use Rattle.frame_lines.specs.Taken.{GoesOn}
 
 -- a frame has bytes
 some_bytes : (f : Frame) (more : List ℕ) → frame_bytes f ++ more ≡ [] → ⊥
@@ -45,15 +46,14 @@ module _ (tells : Bool) (old : Stand) (f : Frame) (good : IsFrameIn old.store.sh
   frame_is shape same bytes are = record { frame = f; good = subst (λ (s : Shape). IsFrameIn s f) (sym same) good; is = sym are }
 
   -- it was applied
-  pub fed : (new : Stand) → Follows tells old new piece → (new.rest ≡ []) × (new.applied ≡ old.applied + 1) × (f.sequence ≡ old.applied + 1) × HasFollowed tells (f ∷ []) old.store new.store × (new.store.faults ≡ old.store.faults)
+  pub fed : (new : Stand) → Follows tells old new piece → (new.rest ≡ []) × (new.applied ≡ old.applied + 1) × (f.sequence ≡ old.applied + 1) × GoesOn tells (f ∷ []) old.store new.store
   fed new follows = ⊎_elim
       (λ not. absurd (follows.ready.none new.rest [] (sym (append-nil new.rest)) (frame_is new.store.shape follows.data_is.shape new.rest not.1)))
       (λ one. (
         one.1,
         follows.count ∙ ap (λ (fs : List Frame). old.applied + length fs) one.0,
         (let alone : Cuts old piece (f ∷ []) new.rest = subst (λ (fs : List Frame). Cuts old piece fs new.rest) one.0 follows.cuts in alone.sequence.0),
-        subst (λ (fs : List Frame). HasFollowed tells fs old.store new.store) one.0 follows.data_is,
-        follows.faults,
+        record { data_is = subst (λ (fs : List Frame). HasFollowed tells fs old.store new.store) one.0 follows.data_is; faults = follows.faults; alive = follows.ready.alive },
       ))
       (cut_one follows.frames new.rest follows.cuts)
 
@@ -65,13 +65,13 @@ module _ (tells : Bool) (old : Stand) (f : Frame) (good : IsFrameIn old.store.sh
       (cut_one stops.frames (stops.broken ++ stops.later) stops.stops.cuts)
 
   -- it is not the next one
-  pub gap : (new : StoreView) (expected got : ℕ) → StopsAtGap tells old new piece expected got → (got ≡ f.sequence) × IsGap old.applied expected got × HasFollowed tells [] old.store new
+  pub gap : (new : StoreView) (expected got : ℕ) → StopsAtGap tells old new piece expected got → (got ≡ f.sequence) × IsGap old.applied expected got × GoesOn tells [] old.store new
   gap new expected got stops = ⊎_elim
       (λ not.
       let both = frame_cut stops.next f stops.later [] stops.good.is good.is (not.1 ∙ sym (append-nil (frame_bytes f))) in (
         stops.got_is ∙ ap (λ (g : Frame). g.sequence) both.0,
         subst (λ (n : ℕ). IsGap n expected got) (let same : old.applied + 0 ≡ old.applied = omega arith in same) (subst (λ (fs : List Frame). IsGap (old.applied + length fs) expected got) not.0 stops.gap),
-        subst (λ (fs : List Frame). HasFollowed tells fs old.store new) not.0 stops.stops.data_is,
+        record { data_is = subst (λ (fs : List Frame). HasFollowed tells fs old.store new) not.0 stops.stops.data_is; faults = stops.stops.faults; alive = stops.stops.alive },
       ))
       (λ one. absurd (some_bytes stops.next stops.later one.1))
       (cut_one stops.frames (frame_bytes stops.next ++ stops.later) stops.stops.cuts)

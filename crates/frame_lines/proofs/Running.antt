@@ -13,8 +13,8 @@ use Rattle.mirror.specs.Following.{HasFollowed, IsGap}
 use Rattle.mirror.specs.FollowerView.{FollowerView}
 use Rattle.texts.specs.Written.{IsWritten}
 use Rattle.frame_lines.specs.Lines.{IsMeant, Says, AllSay, applied_line, applied_lines}
-use Rattle.frame_lines.specs.Taken.{IsBetween, Applied, OpensTaken, FollowedLine}
-use Rattle.frame_lines.specs.Followed.{StopsAt, LeavesData, FollowedLines, OpensFirst}
+use Rattle.frame_lines.specs.Taken.{IsBetween, GoesOn, Applied, OpensTaken, FollowedLine}
+use Rattle.frame_lines.specs.Followed.{StopsAt, LeavesStore, FollowedLines, OpensFirst}
 use Rattle.frame_lines.specs.declared.ended.FollowEnd.{FollowEnd}
 use Rattle.frame_lines.specs.declared.ended.FollowEnd.TheVariants.{All as AllFollowed, BadFrame, Gap, WriteFault, MediaFault, NoMemory}
 
@@ -47,13 +47,12 @@ pub record SoFar {S : Type 0} (tells : Bool) (view : S → StoreView) (first now
   pub sequence : AreInSequence 1 frames
   pub told : text ≡ applied_lines 0 frames
   pub count : now.applied ≡ length frames
-  pub data_is : HasFollowed tells frames (view first.store) (view now.store)
-  pub faults : (view now.store).faults ≡ (view first.store).faults
+  pub goes_on : GoesOn tells frames (view first.store) (view now.store)
   pub between : IsBetween now
 
 module _ {S : Type 0} (tells : Bool) (view : S → StoreView) (first : FollowerView S) (lines : List (List ℕ)) where
-  pub begins : IsBetween first → first.applied ≡ 0 → SoFar tells view first first lines lines 1 []
-  begins between none = record {
+  pub begins : IsBetween first → first.applied ≡ 0 → (view first.store).is_dead ≡ false → SoFar tells view first first lines lines 1 []
+  begins between none alive = record {
     frames = [];
     front = [];
     lines_are = refl;
@@ -63,8 +62,7 @@ module _ {S : Type 0} (tells : Bool) (view : S → StoreView) (first : FollowerV
     sequence = tt;
     told = refl;
     count = none;
-    data_is = record { shape = refl; data_is = λ told. refl };
-    faults = refl;
+    goes_on = record { data_is = record { shape = refl; data_is = λ told. refl }; faults = refl; alive = alive };
     between = between;
   }
 
@@ -75,7 +73,8 @@ module _ {S : Type 0} (tells : Bool) (view : S → StoreView) (first : FollowerV
   }
 
   -- all lines were followed
-  pub ended_all : (now : FollowerView S) (rest : List (List ℕ)) (n : ℕ) (text : List ℕ) → rest ≡ [] → SoFar tells view first now lines rest n text → FollowedLines tells (view first.store) (view now.store) lines AllFollowed false text
+  pub ended_all : (now : FollowerView S) (rest : List (List ℕ)) (n : ℕ) (text : List ℕ) → rest ≡ [] → SoFar tells view first now lines rest n text
+      → FollowedLines (view first.store).shape (LeavesStore tells (view first.store) (view now.store) AllFollowed) lines AllFollowed false text
   ended_all now rest n text none far = record {
     frames = far.frames;
     front = far.front;
@@ -85,7 +84,7 @@ module _ {S : Type 0} (tells : Bool) (view : S → StoreView) (first : FollowerV
     good = far.good;
     sequence = far.sequence;
     told = far.told;
-    data_is = far.data_is;
+    leaves = far.goes_on;
     stops = none;
   }
 
@@ -110,10 +109,16 @@ module _ {S : Type 0} (tells : Bool) (view : S → StoreView) (first : FollowerV
       sequence = far.sequence;
       told = far.told;
       count = far.count;
-      data_is = far.data_is;
-      faults = far.faults;
+      goes_on = far.goes_on;
       between = far.between;
     })
+
+    more_applied : (more : List Frame) → GoesOn tells more (view now.store) (view new.store) → GoesOn tells (far.frames ++ more) (view first.store) (view new.store)
+    more_applied more on = record {
+      data_is = data_more far.frames more (view now.store) (view new.store) far.goes_on.data_is on.data_is;
+      faults = on.faults ∙ far.goes_on.faults;
+      alive = on.alive;
+    }
 
     -- what is told once one more is applied
     told_more : (f : Frame) → applied_lines 0 (far.frames ++ f ∷ []) ≡ text ++ applied_line (now.applied + 1)
@@ -130,8 +135,7 @@ module _ {S : Type 0} (tells : Bool) (view : S → StoreView) (first : FollowerV
       sequence = in_sequence f applied.next;
       told = sym (told_more f);
       count = let long = length-append far.frames (f ∷ []) in omega (arith, applied.applied, far.count, long);
-      data_is = data_more far.frames (f ∷ []) (view now.store) (view new.store) far.data_is applied.data_is;
-      faults = applied.faults ∙ far.faults;
+      goes_on = more_applied (f ∷ []) applied.goes_on;
       between = applied.between;
     }
 
@@ -141,8 +145,8 @@ module _ {S : Type 0} (tells : Bool) (view : S → StoreView) (first : FollowerV
     goes_on more (inr took) = subst (λ (t : List ℕ). SoFar tells view first new lines rest (n + 1) (text ++ t)) (sym took.3) (applies took.0 took.1 took.2)
 
     -- the run ends at this line
-    stopped : (ended : FollowEnd) (cut : Bool) (more : List ℕ) → cut ≡ false → more ≡ [] → LeavesData tells far.frames (view first.store) (view new.store) ended → StopsAt (view first.store).shape (length far.front) (length far.frames) (line ∷ rest) ended
-        → FollowedLines tells (view first.store) (view new.store) lines ended cut (text ++ more)
+    stopped : (ended : FollowEnd) (cut : Bool) (more : List ℕ) → cut ≡ false → more ≡ [] → LeavesStore tells (view first.store) (view new.store) ended far.frames → StopsAt (view first.store).shape (length far.front) (length far.frames) (line ∷ rest) ended
+        → FollowedLines (view first.store).shape (LeavesStore tells (view first.store) (view new.store) ended) lines ended cut (text ++ more)
     stopped ended cut more whole none leaves stops = record {
       frames = far.frames;
       front = far.front;
@@ -152,17 +156,18 @@ module _ {S : Type 0} (tells : Bool) (view : S → StoreView) (first : FollowerV
       good = far.good;
       sequence = far.sequence;
       told = subst (λ (b : Bool). IsWritten b (text ++ more) (applied_lines 0 far.frames)) (sym whole) (ap (λ (m : List ℕ). text ++ m) none ∙ append-nil text ∙ far.told);
-      data_is = leaves;
+      leaves = leaves;
       stops = stops;
     }
 
-    still : HasFollowed tells [] (view now.store) (view new.store) → HasFollowed tells far.frames (view first.store) (view new.store)
-    still same = subst (λ (fs : List Frame). HasFollowed tells fs (view first.store) (view new.store)) (append-nil far.frames) (data_more far.frames [] (view now.store) (view new.store) far.data_is same)
+    still : GoesOn tells [] (view now.store) (view new.store) → GoesOn tells far.frames (view first.store) (view new.store)
+    still same = subst (λ (fs : List Frame). GoesOn tells fs (view first.store) (view new.store)) (append-nil far.frames) (more_applied [] same)
 
-    pub ended_at : (T : Type 0) (ended : FollowEnd) (cut : Bool) (more : List ℕ) → (let r : Result T FollowEnd = Err ended in FollowedLine tells view shape n line now new r cut more) → FollowedLines tells (view first.store) (view new.store) lines ended cut (text ++ more)
+    pub ended_at : (T : Type 0) (ended : FollowEnd) (cut : Bool) (more : List ℕ) → (let r : Result T FollowEnd = Err ended in FollowedLine tells view shape n line now new r cut more)
+        → FollowedLines (view first.store).shape (LeavesStore tells (view first.store) (view new.store) ended) lines ended cut (text ++ more)
     ended_at T AllFollowed cut more ended = absurd ended.2.2
     ended_at T (BadFrame m) cut more ended = stopped (BadFrame m) cut more ended.0 ended.1
-        (subst (λ (f : FollowerView S). HasFollowed tells far.frames (view first.store) (view f.store)) (sym ended.2.3) far.data_is)
+        (subst (λ (f : FollowerView S). GoesOn tells far.frames (view first.store) (view f.store)) (sym ended.2.3) far.goes_on)
         (omega (arith, ended.2.0, far.number), line, rest, refl, ended.2.1, λ f says. ended.2.2 f (subst (λ (s : Shape). Says s f line) shape_is says))
     ended_at T (Gap expected got) cut more ended = stopped (Gap expected got) cut more ended.0 ended.1 (still ended.2.2.2)
         (line, rest, refl, ended.2.0, here ended.2.0 ended.2.1, ended.2.2.0, subst (λ (k : ℕ). IsGap k expected got) far.count ended.2.2.1)
@@ -179,14 +184,14 @@ module _ {S : Type 0} (tells : Bool) (view : S → StoreView) (first : FollowerV
           sequence = next.sequence;
           told = subst (λ (b : Bool). IsWritten b (text ++ more) (applied_lines 0 next.frames)) (sym ended.0)
               (ended.4.0, ended.4.1, sym next.told ∙ ap (λ (t : List ℕ). text ++ t) ended.4.2 ∙ sym (append_assoc text more ended.4.0));
-          data_is = next.data_is;
+          leaves = next.goes_on;
           stops = tt;
         }
     ended_at T MediaFault cut more ended = stopped MediaFault cut more ended.0 ended.1 tt tt
     ended_at T NoMemory cut more ended = stopped NoMemory cut more ended.0 ended.1 tt tt
 
     -- what a loss of power leaves of this line
-    pub opens_first : (Opens : Shape → List ℕ → List ℕ → Type 0) (image : List ℕ) → IsTrue tells → OpensTaken view Opens shape line now image → OpensFirst Opens (view first.store) lines image
+    pub opens_first : (Opens : Shape → List ℕ → List ℕ → Type 0) (image : List ℕ) → IsTrue tells → OpensTaken view Opens shape line now image → OpensFirst Opens (view first.store).shape (view first.store).state.bytes lines image
     opens_first Opens image told (inl before) = record {
       frames = far.frames;
       front = far.front;
@@ -194,7 +199,7 @@ module _ {S : Type 0} (tells : Bool) (view : S → StoreView) (first : FollowerV
       lines_are = far.lines_are;
       said = far.said;
       sequence = far.sequence;
-      opens = subst (λ (p : Shape × List ℕ). Opens p.0 image p.1) (λ i. (far.data_is.shape i, far.data_is.data_is told i)) before;
+      opens = subst (λ (p : Shape × List ℕ). Opens p.0 image p.1) (λ i. (far.goes_on.data_is.shape i, far.goes_on.data_is.data_is told i)) before;
     }
     opens_first Opens image told (inr next) = record {
       frames = far.frames ++ next.0 ∷ [];
@@ -204,11 +209,11 @@ module _ {S : Type 0} (tells : Bool) (view : S → StoreView) (first : FollowerV
       said = said_too (view first.store).shape line next.0 far.front far.frames (here next.0 next.1) far.said;
       sequence = in_sequence next.0 next.2;
       opens = subst (λ (p : Shape × List ℕ). Opens p.0 image p.1)
-          (λ i. (far.data_is.shape i, (ap (λ (b : List ℕ). applied (written_by next.0) b) (far.data_is.data_is told) ∙ sym (followed_append far.frames (next.0 ∷ []) (view first.store).state.bytes)) i)) next.3;
+          (λ i. (far.goes_on.data_is.shape i, (ap (λ (b : List ℕ). applied (written_by next.0) b) (far.goes_on.data_is.data_is told) ∙ sym (followed_append far.frames (next.0 ∷ []) (view first.store).state.bytes)) i)) next.3;
     }
 
 -- nothing was followed, since there was no memory for a follower
-pub none_followed : (tells : Bool) (old new : StoreView) (lines : List (List ℕ)) → FollowedLines tells old new lines NoMemory false []
+pub none_followed : (tells : Bool) (old new : StoreView) (lines : List (List ℕ)) → FollowedLines old.shape (LeavesStore tells old new NoMemory) lines NoMemory false []
 none_followed tells old new lines = record {
   frames = [];
   front = [];
@@ -218,6 +223,6 @@ none_followed tells old new lines = record {
   good = All-nil (IsFrameIn old.shape);
   sequence = tt;
   told = refl;
-  data_is = tt;
+  leaves = tt;
   stops = tt;
 }

@@ -17,21 +17,26 @@ pub record IsBetween {S : Type 0} (follower : FollowerView S) : Type 0 where
   pub alive : follower.is_dead ≡ false
   pub none : follower.rest ≡ []
 
+-- the data is that before with these frames applied, the medium has not failed, and the store is not dead
+pub record GoesOn (tells : Bool) (frames : List Frame) (old new : StoreView) : Type 0 where
+  pub data_is : HasFollowed tells frames old new
+  pub faults : new.faults ≡ old.faults
+  pub alive : new.is_dead ≡ false
+
 -- the next frame was applied, and so many are by now
 pub record Applied {S : Type 0} (tells : Bool) (view : S → StoreView) (frame : Frame) (count : ℕ) (old new : FollowerView S) : Type 0 where
   pub next : frame.sequence ≡ old.applied + 1
   pub count_is : count ≡ old.applied + 1
   pub applied : new.applied ≡ count
-  pub data_is : HasFollowed tells (frame ∷ []) (view old.store) (view new.store)
-  pub faults : (view new.store).faults ≡ (view old.store).faults
+  pub goes_on : GoesOn tells (frame ∷ []) (view old.store) (view new.store)
   pub between : IsBetween new
 
 -- A frame that came whole is applied, or it is not the next one, or the medium failed, or memory ran out.
 abbrev pub Fed : {S : Type 0} → Bool → (S → StoreView) → Frame → (old new : FollowerView S) → Result ℕ FollowEnd → Type 0
 Fed tells view frame old new (Ok count) = Applied tells view frame count old new
-Fed tells view frame old new (Err (Gap expected got)) = (got ≡ frame.sequence) × IsGap old.applied expected got × HasFollowed tells [] (view old.store) (view new.store)
+Fed tells view frame old new (Err (Gap expected got)) = (got ≡ frame.sequence) × IsGap old.applied expected got × GoesOn tells [] (view old.store) (view new.store)
 Fed tells view frame old new (Err MediaFault) = Rose (view old.store).faults (view new.store).faults
-Fed tells view frame old new (Err NoMemory) = Unit {0}
+Fed tells view frame old new (Err NoMemory) = (view new.store).faults ≡ (view old.store).faults
 Fed tells view frame old new (Err _) = ⊥
 
 -- The n-th line is passed over, or its frame is fed, or it is meant as a frame and says none.
@@ -39,7 +44,7 @@ abbrev pub Took : {S : Type 0} → Bool → (S → StoreView) → Shape → ℕ 
 Took tells view shape n line old new (Ok None) = (IsMeant line → ⊥) × (new ≡ old)
 Took tells view shape n line old new (Ok (Some count)) = (f : Frame) × Says shape f line × Applied tells view f count old new
 Took tells view shape n line old new (Err (BadFrame m)) = (m ≡ n) × IsMeant line × ((f : Frame) → Says shape f line → ⊥) × (new ≡ old)
-Took tells view shape n line old new (Err NoMemory) = Unit {0}
+Took tells view shape n line old new (Err NoMemory) = (view new.store).faults ≡ (view old.store).faults
 Took tells view shape n line old new (Err ended) = (f : Frame) × Says shape f line × (let r : Result ℕ FollowEnd = Err ended in Fed tells view f old new r)
 
 -- an image opens with the data before, or with the next frame applied

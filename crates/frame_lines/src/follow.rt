@@ -7,7 +7,7 @@ ghost use Rattle.eaw_face.specs.StoreView.{LeavesOnly};
 ghost use Rattle.mirror.specs.Applying.{IsFree};
 ghost use Rattle.frame_lines.specs.Lines.{applied_line};
 ghost use Rattle.frame_lines.specs.Taken.{IsBetween, FollowedLine, OpensTaken, ending};
-ghost use Rattle.frame_lines.specs.Followed.{FollowedLines, OpensFirst, Counts};
+ghost use Rattle.frame_lines.specs.Followed.{FollowedLines, LeavesStore, OpensFirst, Counts};
 
 use crate::ended::FollowEnd;
 use crate::take::take_line;
@@ -31,9 +31,9 @@ pub fn follow_lines<K: Sink, S: EawStore>(
     requires alive { IsAlive (S.view store) }
     requires free { IsFree (S.view store) }
     ensures ran { Wrote K.tells (K.written sink.old) (K.written sink.new) (K.faults sink.old) (K.faults sink.new)
-        (λ cut text. FollowedLines S.tells (S.view store) (S.view result.1) (lines_of input.now) result.0 cut text) }
+        (λ cut text. FollowedLines (S.view store).shape (LeavesStore S.tells (S.view store) (S.view result.1) result.0) (lines_of input.now) result.0 cut text) }
     // At each moment a loss of power leaves the data with some first of these frames applied.
-    ensures moments { IsTrue S.tells → LeavesOnly (OpensFirst S.opens (S.view store) (lines_of input.now)) (S.view store) (S.view result.1) }
+    ensures moments { IsTrue S.tells → LeavesOnly (OpensFirst S.opens (S.view store).shape (S.view store).state.bytes (lines_of input.now)) (S.view store) (S.view result.1) }
     ensures counts { Counts result.0 (K.faults sink.old) (K.faults sink.new) (S.view store).faults (S.view result.1).faults }
 {
     let shape = store.shape();
@@ -55,10 +55,11 @@ fn follow_all<K: Sink, S: EawStore>(
 ) -> FollowEnd
     requires between { IsBetween follower.old }
     requires first { follower.old.applied ≡ 0 }
+    requires alive { IsAlive (S.view follower.old.store) }
     requires shape { (S.view follower.old.store).shape ≡ shape }
     ensures ran { Wrote K.tells (K.written sink.old) (K.written sink.new) (K.faults sink.old) (K.faults sink.new)
-        (λ cut text. FollowedLines S.tells (S.view follower.old.store) (S.view follower.new.store) (lines_of input.now) result cut text) }
-    ensures moments { IsTrue S.tells → LeavesOnly (OpensFirst S.opens (S.view follower.old.store) (lines_of input.now)) (S.view follower.old.store) (S.view follower.new.store) }
+        (λ cut text. FollowedLines (S.view follower.old.store).shape (LeavesStore S.tells (S.view follower.old.store) (S.view follower.new.store) result) (lines_of input.now) result cut text) }
+    ensures moments { IsTrue S.tells → LeavesOnly (OpensFirst S.opens (S.view follower.old.store).shape (S.view follower.old.store).state.bytes (lines_of input.now)) (S.view follower.old.store) (S.view follower.new.store) }
     ensures counts { Counts result (K.faults sink.old) (K.faults sink.new) (S.view follower.old.store).faults (S.view follower.new.store).faults }
 {
     let mut bytes = Vec::new(alloc);

@@ -22,7 +22,7 @@ use Rattle.mars_shell.specs.Outcome.{OutcomeOf}
 use Rattle.mars_shell.specs.Run.{HoldsRecords, IsDamaged, Exceeds, OverRecords}
 use Rattle.mars_shell.specs.Statuses.{Counts, IsEarly}
 use Rattle.mars_shell.specs.declared.status.Status.{Status}
-use Rattle.mars_shell.specs.declared.status.Status.TheVariants.{Good, Usage, TooLong, ReadFault, WriteFault, MediaFault, NoMemory, Damaged, BadRow, NotMars, BadShape, Refused}
+use Rattle.mars_shell.specs.declared.status.Status.TheVariants.{Good, Usage, TooLong, ReadFault, WriteFault, MediaFault, NoMemory, Damaged, BadRow, NotMars, BadShape, Refused, BadFrame, Gap}
 use Rattle.row_bytes.proofs.OneShape.{one_shape}
 use Rattle.device_recovery.proofs.Goods.{rows_exclude}
 use Rattle.mars_shell.proofs.Forming.{damage_is_no_soundness}
@@ -41,6 +41,8 @@ words_say words (BadRow logger tid) Unread Holds asked other asks holds = (asked
 words_say words NotMars Unread Holds asked other asks holds = (asked, asks, holds)
 words_say words (BadShape which given) Unread Holds asked other asks holds = (asked, asks, holds)
 words_say words (Refused refusal) Unread Holds asked other asks holds = (asked, asks, holds)
+words_say words (BadFrame n) Unread Holds asked other asks holds = (asked, asks, holds)
+words_say words (Gap expected got) Unread Holds asked other asks holds = (asked, asks, holds)
 
 -- the same for callers, at each status
 pub callers_say : (words : List (List ℕ)) (status : Status) (Unread : Type 0) (Holds : Words → Type 0) (numbers : CallersNumbers) → AsksFor words (Callers numbers) → Holds (Callers numbers) → WordsSay words status Unread Holds
@@ -56,6 +58,8 @@ callers_say words (BadRow logger tid) Unread Holds numbers asks holds = (Callers
 callers_say words NotMars Unread Holds numbers asks holds = (Callers numbers, asks, holds)
 callers_say words (BadShape which given) Unread Holds numbers asks holds = (Callers numbers, asks, holds)
 callers_say words (Refused refusal) Unread Holds numbers asks holds = (Callers numbers, asks, holds)
+callers_say words (BadFrame n) Unread Holds numbers asks holds = (Callers numbers, asks, holds)
+callers_say words (Gap expected got) Unread Holds numbers asks holds = (Callers numbers, asks, holds)
 
 -- an array with as many numbers as callers does not have fewer
 pub no_excess : (media : View) (shape : Shape) (callers : ℕ) → IsArray shape media → callers ≤ shape.numbers → Exceeds callers media → ⊥
@@ -98,6 +102,8 @@ nothing_read (BadRow logger tid) late = (omega arith, refl)
 nothing_read NotMars late = (omega arith, refl)
 nothing_read (BadShape which given) late = (omega arith, refl)
 nothing_read (Refused refusal) late = (omega arith, refl)
+nothing_read (BadFrame n) late = (omega arith, refl)
+nothing_read (Gap expected got) late = (omega arith, refl)
 
 module _ (spares : Bool) (Works : Ended → Type 0) (Broken : ℕ → Type 0) (Looks Lacks : Type 0) (old new : View) (cut : Bool) (text : List ℕ) (given left : List ℕ) (s s' k k' m m' : ℕ)
     (short : length given ≤ input_limit) (shape : Shape) (array : IsArray shape old) (whole : (page : ℕ) → Broken page → ⊥) (has_all : Lacks → ⊥) (no_source : Rose s s' → ⊥) (no_sink : Rose k k' → ⊥) (no_media : Rose m m' → ⊥) where
@@ -114,6 +120,8 @@ module _ (spares : Bool) (Works : Ended → Type 0) (Broken : ℕ → Type 0) (L
   complete_of NotMars counts input outcome = absurd (outcome.cause (omega (arith, array.sized)) array.header.has_mark)
   complete_of (BadShape which bad) counts input outcome = absurd (not_bad_in (header_of old.content.bytes) old.size shape which bad array.header array.sized outcome.cause.2)
   complete_of (Refused refusal) counts input outcome = absurd outcome
+  complete_of (BadFrame n) counts input outcome = absurd outcome
+  complete_of (Gap expected got) counts input outcome = absurd outcome
 
 -- the same for work over records that are sound, for which there are numbers enough
 pub complete_records : (spares : Bool) (callers : ℕ) (Works : Ended → Type 0) (old : View) (status : Status) (new : View) (cut : Bool) (text : List ℕ) (given left : List ℕ) (s s' k k' m m' : ℕ) → length given ≤ input_limit

@@ -16,7 +16,8 @@ use Rattle.row_bytes.proofs.OneShape.{one_shape}
 use Rattle.device_recovery.proofs.Goods.{good_rows}
 use Rattle.command_words.specs.declared.words.FormatNumbers.{FormatNumbers}
 use Rattle.command_words.specs.declared.words.Words.{Words}
-use Rattle.command_words.specs.declared.words.Words.TheVariants.{Run, Callers, Eaw, Dump, Drill, Format, Make, Purge}
+use Rattle.command_words.specs.declared.words.Words.TheVariants.{Run, Callers, Eaw, Dump, Drill, Format, Make, Purge, Follow}
+use Rattle.eaw_face.specs.Mirroring.{followed}
 use Rattle.eaw_device.specs.Opens.{header_of, Opens, AllOpen, IsArray, HoldsArray}
 use Rattle.page_store.specs.Index.{Index}
 use Rattle.record_table.specs.Does.{OpensNamed}
@@ -25,12 +26,14 @@ use Rattle.history.specs.Writes.{Table}
 use Rattle.caller_steps.specs.State.{State}
 use Rattle.caller_steps.specs.Room.{Limits}
 use Rattle.caller_steps.specs.Run.{Turn}
+use Rattle.frame_lines.specs.declared.ended.FollowEnd.{FollowEnd}
 use Rattle.script_run.specs.declared.ended.Ended.{Ended}
 use Rattle.script_run.specs.declared.ended.Ended.TheVariants as script
 use Rattle.mars_shell.specs.Asked.{OutcomeFor}
 use Rattle.mars_shell.specs.Commands.{Obeys}
 use Rattle.mars_shell.specs.Drill.{Drills}
 use Rattle.mars_shell.specs.Dump.{Dumps, Spares}
+use Rattle.mars_shell.specs.Follow.{Follows, FollowOutcome}
 use Rattle.mars_shell.specs.Formats.{IsFormatted, FormatOutcome}
 use Rattle.mars_shell.specs.Forms.{index_of_form, index_in}
 use Rattle.mars_shell.specs.Joint.{JointWork}
@@ -41,7 +44,7 @@ use Rattle.mars_shell.specs.Run.{HoldsRecords, TakesTurns, Answers, IsDamaged, E
 use Rattle.mars_shell.specs.Tables.{Tries, MadeBy, MakeOutcome}
 use Rattle.mars_shell.specs.Purge.{Clears, PurgedBy}
 use Rattle.mars_shell.specs.declared.status.Status.{Status}
-use Rattle.mars_shell.specs.declared.status.Status.TheVariants.{Good, Usage, TooLong, ReadFault, WriteFault, MediaFault, NoMemory, Damaged, BadRow, NotMars, BadShape, Refused}
+use Rattle.mars_shell.specs.declared.status.Status.TheVariants.{Good, Usage, TooLong, ReadFault, WriteFault, MediaFault, NoMemory, Damaged, BadRow, NotMars, BadShape, Refused, BadFrame, Gap}
 use Rattle.mars_shell.proofs.Forming.{sound_is_own}
 
 -- ---- what is asked for
@@ -97,6 +100,8 @@ outcome_gives P spares Works Broken Looks Lacks old (BadRow logger tid) new cut 
 outcome_gives P spares Works Broken Looks Lacks old NotMars new cut text idle works outcome = idle _ _ _ outcome
 outcome_gives P spares Works Broken Looks Lacks old (BadShape which given) new cut text idle works outcome = idle _ _ _ outcome
 outcome_gives P spares Works Broken Looks Lacks old (Refused refusal) new cut text idle works outcome = absurd outcome
+outcome_gives P spares Works Broken Looks Lacks old (BadFrame n) new cut text idle works outcome = absurd outcome
+outcome_gives P spares Works Broken Looks Lacks old (Gap expected got) new cut text idle works outcome = absurd outcome
 
 module _ (tells : Bool) (told : IsTrue tells) (old new : View) (counts_now : (t : ℕ) (image : List ℕ) → IsTrue tells → t ≤ new.moment → MayLeave new.content image → new.left_since t image) (shape : Shape) where
   module _ (all : AllOpen shape old.content) where
@@ -114,6 +119,19 @@ module _ (tells : Bool) (told : IsTrue tells) (old new : View) (counts_now : (t 
         let now = obeys.now image left in
         let same : obeys.shape ≡ shape = one_shape (header_of old.content.bytes) obeys.shape shape obeys.array.header first_opens.header in
         (now.0, subst (λ (s : Shape). Opens s image now.0) same now.1)
+
+    -- and so does one that frames were applied to
+    followed_open : (input : List ℕ) (cut : Bool) (text : List ℕ) (ended : FollowEnd) → Follows old input ended new cut text → AllOpen shape new.content
+    followed_open input cut text ended follows image left =
+        let same : follows.shape ≡ shape = one_shape (header_of old.content.bytes) follows.shape shape follows.array.header first_opens.header in
+        let all_there : AllOpen follows.shape old.content = subst (λ (s : Shape). AllOpen s old.content) (sym same) all in
+        ⊎_elim (λ like. (like.2, subst (λ (s : Shape). Opens s image like.2) same like.4)) (λ first. (_, subst (λ (s : Shape). Opens s image (followed first.frames (settled_data follows.shape old.content.bytes))) same first.opens))
+        (follows.since all_there image (counts_now old.moment image told (follows.later all_there) left))
+
+    pub next_followed : (status : Status) (input : List ℕ) (cut : Bool) (text : List ℕ) → OutcomeFor Follow old status new input cut text → AllOpen shape new.content
+    next_followed status input cut text outcome = ⊎_elim
+        (λ unopened. outcome_gives (AllOpen shape new.content) true (λ ended. ⊥) (λ page. ⊥) ⊥ ⊥ old status new cut text (idle_open cut text) (λ ended none. absurd none) unopened)
+        (λ ran. followed_open input cut text ran.0 ran.2) outcome
 
     pub next_open : (status : Status) (input : List ℕ) (cut : Bool) (text : List ℕ) → OutcomeFor Eaw old status new input cut text → AllOpen shape new.content
     next_open status input cut text outcome =
@@ -197,6 +215,7 @@ module _ (tells : Bool) (told : IsTrue tells) (old new : View) (counts_now : (t 
     next_sound (Make name) status input cut text of outcome = made_sound name status cut text outcome
     next_sound Purge status input cut text of outcome = records_sound false 0 (PurgedBy old new cut text) status cut text (purged_by_sound cut text) outcome
     next_sound Eaw status input cut text of outcome = absurd of
+    next_sound Follow status input cut text of outcome = absurd of
     next_sound (Format numbers) status input cut text of outcome = absurd of
 
 -- ---- a fresh array

@@ -1,5 +1,5 @@
 -- What the kinds of a status give.
-use Rattle.std.proofs.Common.{◌≡◌, ◌≢◌, ◌⊎◌, ℕ, inl, inr, refl, ap, subst, sym, Result, Ok, Err, List, [], length, ◌≤◌}
+use Rattle.std.proofs.Common.{◌≡◌, ◌⊎◌, ℕ, inl, inr, refl, ap, subst, sym, Result, Ok, Err, List, [], length, ◌≤◌}
 use Rattle.std.specs.Result.{IfErr, IfOk}
 use Rattle.command_words.specs.declared.words.FormatNumbers.{FormatNumbers}
 use Rattle.mars_shell.specs.Formats.{FormatSays}
@@ -14,7 +14,7 @@ use Rattle.mars_shell.specs.Opening.{IsUnread, IsUnopened}
 use Rattle.mars_shell.specs.Served.{ServedCounts}
 use Rattle.mars_shell.specs.Statuses.{Counts, IsEarly, IsRefusal, script_status, served_status}
 use Rattle.mars_shell.specs.declared.status.Status.{Status}
-use Rattle.mars_shell.specs.declared.status.Status.TheVariants.{Good, Usage, TooLong, ReadFault, WriteFault, MediaFault, NoMemory, Damaged, BadRow, NotMars, BadShape, Refused}
+use Rattle.mars_shell.specs.declared.status.Status.TheVariants.{Good, Usage, TooLong, ReadFault, WriteFault, MediaFault, NoMemory, Damaged, BadRow, NotMars, BadShape, Refused, BadFrame, Gap}
 
 pub read_fault_early : (status : Status) → status ≡ ReadFault → IsEarly status
 read_fault_early status is = subst IsEarly (sym is) tt
@@ -22,21 +22,6 @@ read_fault_early status is = subst IsEarly (sym is) tt
 pub is_early : (status : Status) → (status ≡ TooLong) ⊎ (status ≡ ReadFault) → IsEarly status
 is_early status (inl is) = subst IsEarly (sym is) tt
 is_early status (inr is) = read_fault_early status is
-
--- a status of a run that was not ended by a fault or by a lack of memory is early or a refusal
-pub silent_of : (Silent : Type 0) (status : Status) → (IsEarly status ⊎ IsRefusal status → Silent) → status ≢ Good → status ≢ WriteFault → status ≢ MediaFault → status ≢ NoMemory → Silent
-silent_of Silent Good silent good write media memory = absurd (good refl)
-silent_of Silent WriteFault silent good write media memory = absurd (write refl)
-silent_of Silent MediaFault silent good write media memory = absurd (media refl)
-silent_of Silent NoMemory silent good write media memory = absurd (memory refl)
-silent_of Silent Usage silent good write media memory = silent (inr tt)
-silent_of Silent TooLong silent good write media memory = silent (inl tt)
-silent_of Silent ReadFault silent good write media memory = silent (inl tt)
-silent_of Silent (Damaged page) silent good write media memory = silent (inr tt)
-silent_of Silent (BadRow logger tid) silent good write media memory = silent (inr tt)
-silent_of Silent NotMars silent good write media memory = silent (inr tt)
-silent_of Silent (BadShape which given) silent good write media memory = silent (inr tt)
-silent_of Silent (Refused refusal) silent good write media memory = silent (inr tt)
 
 -- a command that reads nothing leaves the source's count
 pub counts_unread : (status : Status) (s k k' m m' : ℕ) → (IsEarly status → ⊥) → Counts status 0 0 k k' m m' → Counts status s s k k' m m'
@@ -52,6 +37,8 @@ counts_unread (BadRow logger tid) s k k' m m' late counts = (refl, counts.1, cou
 counts_unread NotMars s k k' m m' late counts = (refl, counts.1, counts.2)
 counts_unread (BadShape which given) s k k' m m' late counts = (refl, counts.1, counts.2)
 counts_unread (Refused refusal) s k k' m m' late counts = (refl, counts.1, counts.2)
+counts_unread (BadFrame n) s k k' m m' late counts = (refl, counts.1, counts.2)
+counts_unread (Gap expected got) s k k' m m' late counts = (refl, counts.1, counts.2)
 
 -- a format ends late
 pub format_late : (asked : FormatNumbers) (size : ℕ) (status : Status) (Untold Untouched : Type 0) → FormatSays asked size status Untold Untouched → IsEarly status → ⊥
@@ -67,6 +54,8 @@ format_late asked size (Damaged page) Untold Untouched says early = early
 format_late asked size (BadRow logger tid) Untold Untouched says early = early
 format_late asked size NotMars Untold Untouched says early = early
 format_late asked size (Refused refusal) Untold Untouched says early = early
+format_late asked size (BadFrame n) Untold Untouched says early = early
+format_late asked size (Gap expected got) Untold Untouched says early = early
 
 -- nothing is written before the array is opened
 pub counts_unwritten : (status : Status) (s s' k m m' : ℕ) → IsUnopened status → Counts status s s' 0 0 m m' → Counts status s s' k k m m'
@@ -82,6 +71,8 @@ counts_unwritten (BadRow logger tid) s s' k m m' kind counts = (counts.0, refl, 
 counts_unwritten NotMars s s' k m m' kind counts = (counts.0, refl, counts.2)
 counts_unwritten (BadShape which given) s s' k m m' kind counts = (counts.0, refl, counts.2)
 counts_unwritten (Refused refusal) s s' k m m' kind counts = absurd kind
+counts_unwritten (BadFrame n) s s' k m m' kind counts = absurd kind
+counts_unwritten (Gap expected got) s s' k m m' kind counts = absurd kind
 
 -- work over an array that was opened does not end early
 pub script_late : (ended : Ended) → IsEarly (script_status ended) → ⊥
@@ -163,6 +154,8 @@ input_read (BadRow logger tid) given left late short done = (short, done)
 input_read NotMars given left late short done = (short, done)
 input_read (BadShape which given') given left late short done = (short, done)
 input_read (Refused refusal) given left late short done = (short, done)
+input_read (BadFrame n) given left late short done = (short, done)
+input_read (Gap expected got) given left late short done = (short, done)
 
 -- an input that is not taken
 pub unread_unopened : (status : Status) → IsUnread status → IsUnopened status
@@ -178,6 +171,8 @@ unread_unopened (BadRow logger tid) kind = absurd kind
 unread_unopened NotMars kind = absurd kind
 unread_unopened (BadShape which given) kind = absurd kind
 unread_unopened (Refused refusal) kind = absurd kind
+unread_unopened (BadFrame n) kind = absurd kind
+unread_unopened (Gap expected got) kind = absurd kind
 
 -- leaves the medium's count
 pub counts_unlooked : (status : Status) (s s' m : ℕ) → IsUnread status → Counts status s s' 0 0 0 0 → Counts status s s' 0 0 m m
@@ -193,3 +188,5 @@ counts_unlooked (BadRow logger tid) s s' m kind counts = absurd kind
 counts_unlooked NotMars s s' m kind counts = absurd kind
 counts_unlooked (BadShape which given) s s' m kind counts = absurd kind
 counts_unlooked (Refused refusal) s s' m kind counts = absurd kind
+counts_unlooked (BadFrame n) s s' m kind counts = absurd kind
+counts_unlooked (Gap expected got) s s' m kind counts = absurd kind

@@ -18,6 +18,7 @@ pub mod Completing
 pub mod Waiting
 mod Endings
 pub mod Commanding
+pub mod FramesFollowed
 pub mod Statuses
 pub mod Outcomes
 pub mod Dumping

@@ -31,6 +31,8 @@ outcome_as spares Works Works' Broken Looks Lacks old (ends.BadRow logger tid) n
 outcome_as spares Works Works' Broken Looks Lacks old ends.NotMars new cut text less outcome = outcome
 outcome_as spares Works Works' Broken Looks Lacks old (ends.BadShape which given) new cut text less outcome = outcome
 outcome_as spares Works Works' Broken Looks Lacks old (ends.Refused refusal) new cut text less outcome = outcome
+outcome_as spares Works Works' Broken Looks Lacks old (ends.BadFrame n) new cut text less outcome = outcome
+outcome_as spares Works Works' Broken Looks Lacks old (ends.Gap expected got) new cut text less outcome = outcome
 
 -- nothing done while data is spared is nothing done while it is not
 pub idle_as : (spares : Bool) (MayWrite Cause : Type 0) (old new : View) (cut : Bool) (text : List ℕ) → Idle true MayWrite Cause old new cut text → Idle spares MayWrite Cause old new cut text
@@ -57,3 +59,5 @@ outcome_spared spares Works Broken Looks Lacks old (ends.BadRow logger tid) new 
 outcome_spared spares Works Broken Looks Lacks old ends.NotMars new cut text outcome = outcome
 outcome_spared spares Works Broken Looks Lacks old (ends.BadShape which given) new cut text outcome = outcome
 outcome_spared spares Works Broken Looks Lacks old (ends.Refused refusal) new cut text outcome = outcome
+outcome_spared spares Works Broken Looks Lacks old (ends.BadFrame n) new cut text outcome = outcome
+outcome_spared spares Works Broken Looks Lacks old (ends.Gap expected got) new cut text outcome = outcome

@@ -13,7 +13,7 @@ use Rattle.mars_shell.specs.Opening.{IsUnread, IsUnopened, Unopened}
 use Rattle.mars_shell.specs.Outcome.{Idle, OutcomeOf}
 use Rattle.mars_shell.specs.Statuses.{status_of}
 use Rattle.mars_shell.specs.declared.status.Status.{Status}
-use Rattle.mars_shell.specs.declared.status.Status.TheVariants.{Good, Usage, TooLong, ReadFault, WriteFault, MediaFault, NoMemory, Damaged, BadRow, NotMars, BadShape, Refused}
+use Rattle.mars_shell.specs.declared.status.Status.TheVariants.{Good, Usage, TooLong, ReadFault, WriteFault, MediaFault, NoMemory, Damaged, BadRow, NotMars, BadShape, Refused, BadFrame, Gap}
 
 module _ (tells : Bool) (told : IsTrue tells) (old : View) (only_now : (image : List ℕ) → IsTrue tells → old.left_since old.moment image → MayLeave old.content image) where
   -- what may be left at first opens as it does
@@ -41,6 +41,8 @@ module _ (tells : Bool) (told : IsTrue tells) (old : View) (only_now : (image : 
   unread_of NotMars kind = absurd kind
   unread_of (BadShape which given) kind = absurd kind
   unread_of (Refused refusal) kind = absurd kind
+  unread_of (BadFrame n) kind = absurd kind
+  unread_of (Gap expected got) kind = absurd kind
 
   -- a medium whose array was not opened
   idle_kept : (MayWrite Cause : Type 0) (new : View) → KeepsData tells old new.moment new.left_since → Touched [] old.content new.content ⊎ MayWrite → Cause → Idle true MayWrite Cause old new false []
@@ -79,3 +81,5 @@ unopened_as Works Broken Looks Lacks old (BadRow logger tid) new kind outcome = 
 unopened_as Works Broken Looks Lacks old NotMars new kind outcome = outcome
 unopened_as Works Broken Looks Lacks old (BadShape which given) new kind outcome = outcome
 unopened_as Works Broken Looks Lacks old (Refused refusal) new kind outcome = absurd kind
+unopened_as Works Broken Looks Lacks old (BadFrame n) new kind outcome = absurd kind
+unopened_as Works Broken Looks Lacks old (Gap expected got) new kind outcome = absurd kind

@@ -4,10 +4,11 @@ use Rattle.pcm_media.specs.View.{View}
 use Rattle.array_shape.specs.declared.shape.Shape.{Shape}
 use Rattle.command_words.specs.Asked.{AsksFor, AskForNothing}
 use Rattle.command_words.specs.declared.words.Words.{Words}
-use Rattle.command_words.specs.declared.words.Words.TheVariants.{Run, Callers, Eaw, Dump, Drill, Format, Make, Purge}
+use Rattle.command_words.specs.declared.words.Words.TheVariants.{Run, Callers, Eaw, Dump, Drill, Format, Make, Purge, Follow}
 use Rattle.eaw_device.specs.Opens.{HoldsArray}
 use Rattle.script_run.specs.Input.{input_limit}
 use Rattle.mars_shell.specs.Commands.{Obeys}
+use Rattle.mars_shell.specs.Follow.{FollowOutcome}
 use Rattle.mars_shell.specs.Formats.{GiveLength, FormatOutcome}
 use Rattle.mars_shell.specs.Joint.{JointWork}
 use Rattle.mars_shell.specs.Late.{is_late}
@@ -15,7 +16,7 @@ use Rattle.mars_shell.specs.Outcome.{OutcomeOf}
 use Rattle.mars_shell.specs.Drill.{Drills}
 use Rattle.mars_shell.specs.Dump.{Dumps, Spares}
 use Rattle.mars_shell.specs.Run.{HoldsRecords, TakesTurns, Answers, OverRecords}
-use Rattle.mars_shell.specs.Statuses.{IsRefused}
+use Rattle.mars_shell.specs.Statuses.{IsRefused, IsUnfollowed}
 use Rattle.mars_shell.specs.Tables.{MakeOutcome}
 use Rattle.mars_shell.specs.Purge.{PurgeOutcome}
 use Rattle.mars_shell.specs.declared.status.Status.{Status}
@@ -38,15 +39,17 @@ abbrev pub IfReads : Words → Type 0 → Type 0 → Type 0
 IfReads (Run given) Without Reads = Reads
 IfReads (Callers numbers) Without Reads = Reads
 IfReads Eaw Without Reads = Reads
+IfReads Follow Without Reads = Reads
 IfReads _ Without Reads = Without
 
 -- What was written and done, by what is asked for. `run`, `callers`, `drill`, `dump`, `make` and `purge` read the records of an array that was opened.
--- `eaw` does not. Only `callers` need numbers.
+-- `eaw` and `follow` do not. Only `callers` need numbers.
 abbrev pub OutcomeFor : Words → View → Status → View → List ℕ → Bool → List ℕ → Type 0
 OutcomeFor (Run given) old status new input cut text = OverRecords false 0 (λ ended. TakesTurns false (is_late given.writing) (Answers input ended cut text) old ended new) old status new cut text
 OutcomeFor (Callers numbers) old status new input cut text =
     OverRecords false numbers.callers (λ ended. TakesTurns false (is_late numbers.writing) (JointWork numbers.callers numbers.tries input ended cut text) old ended new) old status new cut text
 OutcomeFor Eaw old status new input cut text = OutcomeOf true (λ ended. Obeys old input ended new cut text) (λ page. ⊥) ⊥ ⊥ old status new cut text
+OutcomeFor Follow old status new input cut text = FollowOutcome old status new input cut text
 OutcomeFor Dump old status new input cut text = OverRecords true 0 (λ ended. (taken : TakesTurns true false (Dumps ended cut text) old ended new) × Spares taken.shape old new) old status new cut text
 OutcomeFor (Drill numbers) old status new input cut text = OverRecords false 0 (λ ended. TakesTurns false (is_late numbers.writing) (Drills numbers ended cut text) old ended new) old status new cut text
 OutcomeFor (Format numbers) old status new input cut text = FormatOutcome numbers old status new cut text
@@ -66,14 +69,16 @@ IsFit (Run given) source_tells input media_tells media = IsShortInput source_tel
 IsFit (Callers numbers) source_tells input media_tells media =
     IsShortInput source_tells input × IsTrue media_tells × ((shape : Shape) × HoldsRecords shape media × (numbers.callers ≤ shape.numbers))
 IsFit Eaw source_tells input media_tells media = IsShortInput source_tells input × IsTrue media_tells × HoldsArray media
+IsFit Follow source_tells input media_tells media = IsShortInput source_tells input × IsTrue media_tells × HoldsArray media
 IsFit Dump source_tells input media_tells media = IsTrue media_tells × ((shape : Shape) × HoldsRecords shape media)
 IsFit (Drill numbers) source_tells input media_tells media = IsTrue media_tells × ((shape : Shape) × HoldsRecords shape media)
 IsFit (Make name) source_tells input media_tells media = IsTrue media_tells × ((shape : Shape) × HoldsRecords shape media)
 IsFit Purge source_tells input media_tells media = IsTrue media_tells × ((shape : Shape) × HoldsRecords shape media)
 
--- what can be done is done, unless memory runs out, or an array has no room for a table or has one of its name
+-- what can be done is done, unless memory runs out, an array has no room for a table or has one of its name, or a line is not followed
 abbrev pub IsComplete : Words → Status → Type 0
 IsComplete (Make name) status = (status ≡ Good) ⊎ ((status ≡ NoMemory) ⊎ IsRefused status)
+IsComplete Follow status = (status ≡ Good) ⊎ ((status ≡ NoMemory) ⊎ IsUnfollowed status)
 IsComplete asked status = (status ≡ Good) ⊎ (status ≡ NoMemory)
 
 -- a command that tells something only at its end

@@ -6,7 +6,7 @@ use Rattle.texts.specs.MediaFault.{media_fault}
 use Rattle.mars_shell.specs.declared.status.Refusal.{Refusal}
 use Rattle.mars_shell.specs.declared.status.Refusal.TheVariants.{Exists, TablesFull, PagesFull}
 use Rattle.mars_shell.specs.declared.status.Status.{Status}
-use Rattle.mars_shell.specs.declared.status.Status.TheVariants.{Good, Usage, TooLong, ReadFault, WriteFault, MediaFault, NoMemory, Damaged, BadRow, NotMars, BadShape, Refused}
+use Rattle.mars_shell.specs.declared.status.Status.TheVariants.{Good, Usage, TooLong, ReadFault, WriteFault, MediaFault, NoMemory, Damaged, BadRow, NotMars, BadShape, Refused, BadFrame, Gap}
 
 -- why a table was not made
 abbrev pub refusal_text : Refusal → List ℕ
@@ -28,6 +28,8 @@ status_text (BadRow logger tid) = codes "bad row " ++ (decimal logger ++ 32 ∷ 
 status_text NotMars = codes "not mars"
 status_text (BadShape which given) = codes "bad shape " ++ (decimal (number_of which) ++ 32 ∷ decimal given)
 status_text (Refused refusal) = refusal_text refusal
+status_text (BadFrame n) = codes "bad frame " ++ decimal n
+status_text (Gap expected got) = codes "gap " ++ (decimal expected ++ 32 ∷ decimal got)
 
 -- the status of the process
 abbrev pub status_number : Status → ℕ
@@ -43,3 +45,5 @@ status_number (BadRow logger tid) = 8
 status_number NotMars = 9
 status_number (BadShape which given) = 9
 status_number (Refused refusal) = 10
+status_number (BadFrame n) = 11
+status_number (Gap expected got) = 12

@@ -16,6 +16,7 @@ pub mod Tally
 pub mod Drill
 pub mod Made
 pub mod Commands
+pub mod Follow
 pub mod Formats
 pub mod Joint
 pub mod Tables

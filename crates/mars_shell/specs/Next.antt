@@ -4,7 +4,7 @@ use Rattle.pcm_media.specs.Images.{Content, MayLeave}
 use Rattle.array_shape.specs.declared.shape.Shape.{Shape}
 use Rattle.command_words.specs.declared.words.FormatNumbers.{FormatNumbers}
 use Rattle.command_words.specs.declared.words.Words.{Words}
-use Rattle.command_words.specs.declared.words.Words.TheVariants.{Eaw, Format}
+use Rattle.command_words.specs.declared.words.Words.TheVariants.{Eaw, Format, Follow}
 use Rattle.eaw_device.specs.Opens.{Opens}
 use Rattle.mars_shell.specs.Formats.{HasAsked}
 use Rattle.mars_shell.specs.Forms.{index_of_form}
@@ -17,6 +17,7 @@ AllSound shape form content = (image : List ℕ) → MayLeave content image → 
 abbrev pub IsOfRecords : Words → Type 0
 IsOfRecords Eaw = ⊥
 IsOfRecords (Format numbers) = ⊥
+IsOfRecords Follow = ⊥
 IsOfRecords asked = Unit {0}
 
 -- an array of the numbers asked for, whatever a loss of power leaves, with a sound tree

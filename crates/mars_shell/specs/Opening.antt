@@ -3,7 +3,7 @@ use Rattle.std.specs.Prelude.{[], true, false}
 use Rattle.pcm_media.specs.View.{View}
 use Rattle.mars_shell.specs.Outcome.{OutcomeOf}
 use Rattle.mars_shell.specs.declared.status.Status.{Status}
-use Rattle.mars_shell.specs.declared.status.Status.TheVariants.{Good, Usage, TooLong, ReadFault, WriteFault, NoMemory, Damaged, Refused}
+use Rattle.mars_shell.specs.declared.status.Status.TheVariants.{Good, Usage, TooLong, ReadFault, WriteFault, NoMemory, Damaged, Refused, BadFrame, Gap}
 
 -- a run without an opened array may end with this status
 abbrev pub IsUnopened : Status → Type 0
@@ -12,6 +12,8 @@ IsUnopened Usage = ⊥
 IsUnopened WriteFault = ⊥
 IsUnopened (Damaged page) = ⊥
 IsUnopened (Refused refusal) = ⊥
+IsUnopened (BadFrame n) = ⊥
+IsUnopened (Gap expected got) = ⊥
 IsUnopened _ = Unit {0}
 
 -- an input that is not taken ends the run with this status

@@ -9,9 +9,11 @@ use Rattle.record_table.specs.declared.making.MakeFault.{MakeFault}
 use Rattle.record_table.specs.declared.making.MakeFault.TheVariants as make
 use Rattle.script_run.specs.declared.ended.Ended.{Ended}
 use Rattle.script_run.specs.declared.ended.Ended.TheVariants as script
+use Rattle.frame_lines.specs.declared.ended.FollowEnd.{FollowEnd}
+use Rattle.frame_lines.specs.declared.ended.FollowEnd.TheVariants as follow
 use Rattle.mars_shell.specs.declared.status.Refusal.TheVariants.{Exists, TablesFull, PagesFull}
 use Rattle.mars_shell.specs.declared.status.Status.{Status}
-use Rattle.mars_shell.specs.declared.status.Status.TheVariants.{Good, Usage, TooLong, ReadFault, WriteFault, MediaFault, NoMemory, Damaged, BadRow, NotMars, BadShape, Refused}
+use Rattle.mars_shell.specs.declared.status.Status.TheVariants.{Good, Usage, TooLong, ReadFault, WriteFault, MediaFault, NoMemory, Damaged, BadRow, NotMars, BadShape, Refused, BadFrame, Gap}
 
 -- the statuses of a run whose input is not taken, and which ends before the medium is touched
 abbrev pub IsEarly : Status → Type 0
@@ -35,6 +37,15 @@ script_status script.All = Good
 script_status script.WriteFault = WriteFault
 script_status script.MediaFault = MediaFault
 script_status script.NoMemory = NoMemory
+
+-- the status of lines that say frames
+abbrev pub follow_status : FollowEnd → Status
+follow_status follow.All = Good
+follow_status (follow.BadFrame n) = BadFrame n
+follow_status (follow.Gap expected got) = Gap expected got
+follow_status follow.WriteFault = WriteFault
+follow_status follow.MediaFault = MediaFault
+follow_status follow.NoMemory = NoMemory
 
 -- the status of an array that is not opened
 abbrev pub status_of : AttachFault → Status
@@ -72,3 +83,9 @@ Counts _ source source' sink sink' media media' = (source' ≡ source) × (sink'
 abbrev pub IsRefused : Status → Type 0
 IsRefused (Refused refusal) = Unit {0}
 IsRefused _ = ⊥
+
+-- a line that is meant as a frame was not followed
+abbrev pub IsUnfollowed : Status → Type 0
+IsUnfollowed (BadFrame n) = Unit {0}
+IsUnfollowed (Gap expected got) = Unit {0}
+IsUnfollowed _ = ⊥

@@ -42,6 +42,10 @@ fn status_text(status: &Status) -> ShortText
             two_numbers(b"bad shape ", u64::from(which.number()), *given)
         }
         Status::Refused(refusal) => refusal_text(refusal),
+        Status::BadFrame { line } => {
+            ShortText::of(&[Piece::Words(b"bad frame "), Piece::Number(*line)])
+        }
+        Status::Gap { expected, got } => two_numbers(b"gap ", *expected, *got),
     }
 }
 

@@ -18,6 +18,7 @@ mod dump;
 mod ending;
 mod fault;
 mod final_rows;
+mod following;
 mod formatting;
 mod forms;
 mod joint;

@@ -20,7 +20,8 @@ pub fn room(alloc: Global, words: &[String]) -> Result<u64, NoMemory>
             | Words::Dump
             | Words::Drill(_)
             | Words::Make(_)
-            | Words::Purge,
+            | Words::Purge
+            | Words::Follow,
         ) => Ok(0),
         Err(WordsFault::NoCommand) => Ok(0),
         Err(WordsFault::NoMemory) => Err(NoMemory),

@@ -1,9 +1,10 @@
 ghost use Rattle.std.specs.Prelude.{◌≡◌};
 ghost use Rattle.mars_shell.specs.Fault.{status_number};
-ghost use Rattle.mars_shell.specs.Statuses.{status_of, script_status, served_status, made_status};
+ghost use Rattle.mars_shell.specs.Statuses.{status_of, script_status, follow_status, served_status, made_status};
 
 use array_shape::ShapeNumber;
 use eaw_device::AttachFault;
+use frame_lines::FollowEnd;
 use mars_core::CoreFault;
 use record_slots::Name;
 use record_table::MakeFault;
@@ -33,6 +34,10 @@ pub enum Status {
     BadShape { which: ShapeNumber, given: u64 },
     /// There is no such table, and none was made.
     Refused(Refusal),
+    /// The rest of this line, counted from 1, which is meant as a frame, is not just one whole frame that the array can follow.
+    BadFrame { line: u64 },
+    /// A frame is not the next one. `expected` is 0 behind the last sequence that there is.
+    Gap { expected: u64, got: u64 },
 }
 
 /// Why a table was not made.
@@ -64,6 +69,8 @@ impl Status {
             Status::NotMars => 9,
             Status::BadShape { .. } => 9,
             Status::Refused(_) => 10,
+            Status::BadFrame { .. } => 11,
+            Status::Gap { .. } => 12,
         }
     }
 }
@@ -93,6 +100,20 @@ pub(crate) fn script_status(ended: Ended) -> Status
         Ended::WriteFault => Status::WriteFault,
         Ended::MediaFault => Status::MediaFault,
         Ended::NoMemory => Status::NoMemory,
+    }
+}
+
+// The status of lines that say frames.
+pub(crate) fn follow_status(ended: FollowEnd) -> Status
+    ensures { result ≡ follow_status ended }
+{
+    match ended {
+        FollowEnd::All => Status::Good,
+        FollowEnd::BadFrame { line } => Status::BadFrame { line },
+        FollowEnd::Gap { expected, got } => Status::Gap { expected, got },
+        FollowEnd::WriteFault => Status::WriteFault,
+        FollowEnd::MediaFault => Status::MediaFault,
+        FollowEnd::NoMemory => Status::NoMemory,
     }
 }
 

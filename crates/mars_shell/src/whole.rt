@@ -1,5 +1,5 @@
 // The whole run.
-ghost use Rattle.std.specs.Prelude.{◌≡◌, ◌≢◌, ◌⊎◌, ℕ, List, map, IsTrue, string_bytes};
+ghost use Rattle.std.specs.Prelude.{◌≡◌, ◌⊎◌, ℕ, List, map, IsTrue, string_bytes};
 ghost use Rattle.mars_base.specs.Causes.{Rose};
 ghost use Rattle.texts.specs.Written.{Wrote};
 ghost use Rattle.command_words.specs.Asked.{AskForNothing};
@@ -8,13 +8,14 @@ ghost use Rattle.command_words.specs.declared.words.Words.TheVariants.{Format};
 ghost use Rattle.mars_shell.specs.Asked.{WordsSay, IfReads, OutcomeFor, IsComplete, IsFit, TellsLate};
 ghost use Rattle.mars_shell.specs.Formats.{FormatSays};
 ghost use Rattle.mars_shell.specs.Input.{InputSays};
-ghost use Rattle.mars_shell.specs.Statuses.{Counts};
+ghost use Rattle.mars_shell.specs.Statuses.{Counts, IsEarly, IsRefusal};
 
 use crate::callers::{Crew, run_callers};
 use crate::commands::run_commands;
 use crate::core_work::OnCore;
 use crate::drilling::DrawnScript;
 use crate::dump::RecordDump;
+use crate::following::run_follow;
 use crate::formatting::run_format;
 use crate::lines::ByTurns;
 use crate::purging::run_purge;
@@ -32,7 +33,7 @@ use std::thread::Threads;
 ///
 /// `run` reads the input, opens and recovers the array, reads its records, and then answers the lines. `callers` does the same, but each
 /// caller's transactions are made by a worker of its own on a thread, which calls the gate between its calls. `eaw` does not read the
-/// records. `drill`, `dump`, `make`, `purge` and `format` read no input. Only `callers` may wait. In `run`, `callers` and `drill` commits may be answered before
+/// records, nor does `follow`, which applies frames that lines say. `drill`, `dump`, `make`, `purge` and `format` read no input. Only `callers` may wait. In `run`, `callers` and `drill` commits may be answered before
 /// their data is written to its place, if the words say so.
 pub fn run<
     R: AllocGlobal + Threads + Wait + Sync,
@@ -47,7 +48,7 @@ pub fn run<
     // is answered and no array is made, nothing is written.
     ensures usage { AskForNothing (map string_bytes words.now) → (source.new ≡ source.old) × (sink.new ≡ sink.old) × (result.1 ≡ media) }
     ensures early { (result.0 ≡ Status.TooLong) ⊎ (result.0 ≡ Status.ReadFault) → result.1 ≡ media }
-    ensures silent { result.0 ≢ Status.Good → result.0 ≢ Status.WriteFault → result.0 ≢ Status.MediaFault → result.0 ≢ Status.NoMemory → sink.new ≡ sink.old }
+    ensures silent { IsEarly result.0 ⊎ IsRefusal result.0 → sink.new ≡ sink.old }
     // A fault is reported as what it is, and none is hidden.
     ensures counts { Counts result.0 (S.faults source.old) (S.faults source.new) (K.faults sink.old) (K.faults sink.new) (M.view media).faults (M.view result.1).faults }
     ensures steady { IsTrue (S.steady source.old) → result.0 ≡ Status.ReadFault → ⊥ }
@@ -61,7 +62,8 @@ pub fn run<
     ensures untold { WordsSay (map string_bytes words.now) result.0 (sink.new ≡ sink.old) (λ asked. TellsLate asked → (result.0 ≡ Status.MediaFault) ⊎ (result.0 ≡ Status.NoMemory) → sink.new ≡ sink.old) }
     // What the words ask for was done, and each status has its cause. For `run` the text answers the lines of the input one by one, and for
     // `drill` it is the summary of the replies. For both the history is legal and obeys the prefix law. For `dump` the text is the records,
-    // for `make` the number of the new table, for `purge` how many keys were taken out, and for `eaw` it answers the commands by the model.
+    // for `make` the number of the new table, for `purge` how many keys were taken out, for `eaw` it answers the commands by the model, and for `follow` it
+    // counts the frames that are applied.
     ensures ran { WordsSay (map string_bytes words.now) result.0 ((source.new ≡ source.old) × (sink.new ≡ sink.old) × (result.1 ≡ media)) (λ asked. Wrote K.tells (K.written sink.old) (K.written sink.new) (K.faults sink.old) (K.faults sink.new)
         (λ cut text. (input : List ℕ) × (IsTrue S.tells → S.left source.old ≡ input) × (IsTrue M.tells → OutcomeFor asked (M.view media) result.0 (M.view result.1) input cut text))) }
     // What can be done is done, unless memory runs out.
@@ -87,6 +89,7 @@ pub fn run<
             run_callers(rt.alloc(), source, sink, media, &crew)
         }
         Ok(Words::Eaw) => run_commands(rt.alloc(), source, sink, media),
+        Ok(Words::Follow) => run_follow(rt.alloc(), source, sink, media),
         Ok(Words::Dump) => {
             let writing = Writing::AtOnce;
             over_records(rt.alloc(), source, sink, media, writing, &RecordDump)

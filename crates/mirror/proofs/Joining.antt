@@ -81,7 +81,7 @@ module _ (tells : Bool) (Opens : Shape → List ℕ → List ℕ → Type 0) (ol
     frames = one.frames ++ s.frames;
     broken = s.broken;
     later = s.later;
-    stops = record { cuts = cuts_more s.frames (s.broken ++ s.later) s.stops.cuts; data_is = data_more s.frames new s.stops.data_is };
+    stops = record { cuts = cuts_more s.frames (s.broken ++ s.later) s.stops.cuts; data_is = data_more s.frames new s.stops.data_is; faults = s.stops.faults ∙ one.faults; alive = s.stops.alive };
     none = subst (λ (shape : Shape). HasNoFrame shape s.broken) one.data_is.shape s.none;
     is_broken = subst (λ (shape : Shape). IsBroken shape s.broken) one.data_is.shape s.is_broken;
   }
@@ -89,14 +89,14 @@ module _ (tells : Bool) (Opens : Shape → List ℕ → List ℕ → Type 0) (ol
     frames = one.frames ++ s.frames;
     next = s.next;
     later = s.later;
-    stops = record { cuts = cuts_more s.frames (frame_bytes s.next ++ s.later) s.stops.cuts; data_is = data_more s.frames new s.stops.data_is };
+    stops = record { cuts = cuts_more s.frames (frame_bytes s.next ++ s.later) s.stops.cuts; data_is = data_more s.frames new s.stops.data_is; faults = s.stops.faults ∙ one.faults; alive = s.stops.alive };
     good = subst (λ (shape : Shape). IsFrameIn shape s.next) one.data_is.shape s.good;
     got_is = s.got_is;
     gap = subst (λ (n : ℕ). IsGap n expected got) (let more = length-append one.frames s.frames in let same : mid.applied + length s.frames ≡ old.applied + length (one.frames ++ s.frames) = omega (arith, more, one.count) in same) s.gap;
   }
   stop_more new Media s = omega (arith, s, one.faults)
   stop_more new Dead s = s
-  stop_more new NoMemory s = record { frames = one.frames ++ s.frames; left = s.left; stops = record { cuts = cuts_more s.frames s.left s.stops.cuts; data_is = data_more s.frames new s.stops.data_is } }
+  stop_more new NoMemory s = record { frames = one.frames ++ s.frames; left = s.left; stops = record { cuts = cuts_more s.frames s.left s.stops.cuts; data_is = data_more s.frames new s.stops.data_is; faults = s.stops.faults ∙ one.faults; alive = s.stops.alive } }
 
 -- what stands of a first part of a piece stands of the piece
 pub stop_longer : (tells : Bool) (old : Stand) (new : StoreView) (p q : List ℕ) (fault : FollowFault) → StopCause tells old new p fault → StopCause tells old new (p ++ q) fault
@@ -107,6 +107,8 @@ stop_longer tells old new p q BadFrame s = record {
   stops = record {
     cuts = subst (λ (l : List ℕ). Cuts old (p ++ q) s.frames l) (append_assoc s.broken s.later q) (cuts_longer old p q s.frames (s.broken ++ s.later) s.stops.cuts);
     data_is = s.stops.data_is;
+    faults = s.stops.faults;
+    alive = s.stops.alive;
   };
   none = s.none;
   is_broken = s.is_broken;
@@ -118,6 +120,8 @@ stop_longer tells old new p q (Gap expected got) s = record {
   stops = record {
     cuts = subst (λ (l : List ℕ). Cuts old (p ++ q) s.frames l) (append_assoc (frame_bytes s.next) s.later q) (cuts_longer old p q s.frames (frame_bytes s.next ++ s.later) s.stops.cuts);
     data_is = s.stops.data_is;
+    faults = s.stops.faults;
+    alive = s.stops.alive;
   };
   good = s.good;
   got_is = s.got_is;
@@ -125,7 +129,7 @@ stop_longer tells old new p q (Gap expected got) s = record {
 }
 stop_longer tells old new p q Media s = s
 stop_longer tells old new p q Dead s = s
-stop_longer tells old new p q NoMemory s = record { frames = s.frames; left = s.left ++ q; stops = record { cuts = cuts_longer old p q s.frames s.left s.stops.cuts; data_is = s.stops.data_is } }
+stop_longer tells old new p q NoMemory s = record { frames = s.frames; left = s.left ++ q; stops = record { cuts = cuts_longer old p q s.frames s.left s.stops.cuts; data_is = s.stops.data_is; faults = s.stops.faults; alive = s.stops.alive } }
 
 pub moments_longer : (Opens : Shape → List ℕ → List ℕ → Type 0) (old : Stand) (new : StoreView) (p q : List ℕ) → LeavesOnly (LeavesFirst Opens old p) old.store new → LeavesOnly (LeavesFirst Opens old (p ++ q)) old.store new
 moments_longer Opens old new p q e = weaker (λ image l. record { frames = l.frames; left = l.left ++ q; cuts = cuts_longer old p q l.frames l.left l.cuts; opens = l.opens }) e

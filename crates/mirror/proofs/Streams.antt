@@ -88,12 +88,12 @@ module _ (tells : Bool) (Opens : Shape → List ℕ → List ℕ → Type 0) (ol
   -- it cannot become one, or memory ran out
   pub byte_refused : (fault : FollowFault) → ((fault ≡ NoMemory) ⊎ ((fault ≡ BadFrame) × IsBroken old.store.shape rest)) → StopCause tells old old.store (byte ∷ []) fault
   byte_refused fault is = ⊎_elim
-      (λ no. subst (λ (f : FollowFault). StopCause tells old old.store (byte ∷ []) f) (sym no) (record { frames = []; left = rest; stops = record { cuts = no_cut; data_is = same_data } }))
+      (λ no. subst (λ (f : FollowFault). StopCause tells old old.store (byte ∷ []) f) (sym no) (record { frames = []; left = rest; stops = record { cuts = no_cut; data_is = same_data; faults = refl; alive = ready.alive } }))
       (λ bad. subst (λ (f : FollowFault). StopCause tells old old.store (byte ∷ []) f) (sym bad.0) (record {
         frames = [];
         broken = rest;
         later = [];
-        stops = record { cuts = record { good = All-nil (IsFrameIn old.store.shape); sequence = tt; joined = sym (append-nil rest) }; data_is = same_data };
+        stops = record { cuts = record { good = All-nil (IsFrameIn old.store.shape); sequence = tt; joined = sym (append-nil rest) }; data_is = same_data; faults = refl; alive = ready.alive };
         none = no_frame_more old.store.shape old.rest byte ready.none (λ f. bad.1 [] (subst (AreFrame old.store.shape) (sym (append-nil rest)) f));
         is_broken = bad.1;
       }))
@@ -108,10 +108,12 @@ module _ (tells : Bool) (Opens : Shape → List ℕ → List ℕ → Type 0) (ol
     stops = record {
       cuts = record { good = All-nil (IsFrameIn old.store.shape); sequence = tt; joined = sym f.is ∙ sym (append-nil (frame_bytes f.frame)) };
       data_is = record { shape = cause.0; data_is = λ told. cause.1 };
+      faults = cause.2;
+      alive = cause.3 ∙ ready.alive;
     };
     good = f.good;
-    got_is = sym (cause.2 (subst (AreFrame old.store.shape) (sym is) f));
-    gap = subst (λ (n : ℕ). IsGap n expected got) (let same : old.applied ≡ old.applied + 0 = omega arith in same) cause.3;
+    got_is = sym (cause.4 (subst (AreFrame old.store.shape) (sym is) f));
+    gap = subst (λ (n : ℕ). IsGap n expected got) (let same : old.applied ≡ old.applied + 0 = omega arith in same) cause.5;
   }
   frame_refused bytes is f new Media cause = cause
   frame_refused bytes is f new BadFrame cause = absurd cause

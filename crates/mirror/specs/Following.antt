@@ -75,6 +75,8 @@ pub record IsGap (applied expected got : ℕ) : Type 0 where
 pub record StopsAt (tells : Bool) (old : Stand) (new : StoreView) (piece left : List ℕ) (frames : List Frame) : Type 0 where
   pub cuts : Cuts old piece frames left
   pub data_is : HasFollowed tells frames old.store new
+  pub faults : new.faults ≡ old.store.faults
+  pub alive : new.is_dead ≡ false
 
 -- The bytes behind the frames that are applied begin with bytes that nothing makes a frame.
 pub record StopsBroken (tells : Bool) (old : Stand) (new : StoreView) (piece : List ℕ) : Type 0 where
@@ -116,7 +118,8 @@ pub record AppliesNext (tells : Bool) (count : ℕ) (bytes : List ℕ) (old new 
 
 -- why a whole frame was not applied: it is not the next one, and nothing changed, or the medium failed
 abbrev pub NotApplied : ℕ → List ℕ → StoreView → StoreView → FollowFault → Type 0
-NotApplied count bytes old new (Gap expected got) = (new.shape ≡ old.shape) × (new.state.bytes ≡ old.state.bytes) × ((f : AreFrame old.shape bytes) → f.frame.sequence ≡ got) × IsGap count expected got
+NotApplied count bytes old new (Gap expected got) =
+    (new.shape ≡ old.shape) × (new.state.bytes ≡ old.state.bytes) × (new.faults ≡ old.faults) × (new.is_dead ≡ old.is_dead) × ((f : AreFrame old.shape bytes) → f.frame.sequence ≡ got) × IsGap count expected got
 NotApplied count bytes old new Media = Rose old.faults new.faults
 NotApplied count bytes old new _ = ⊥
 

@@ -20,4 +20,6 @@ returns c =
     c.in_ok-subcommand-6.ensures.shape c.in_ok-callers_command.ensures.local ∙ ap₂ with_subcommand drill c.in_ok-callers_command.ensures.shape in
     let make : app_of c.in_ok-subcommand-7.field-0 ≡ with_subcommand (with_subcommand (with_subcommand (with_subcommand (with_subcommand (with_subcommand (with_subcommand no_commands run_shape) (new_app (codes "eaw")).top) (new_app (codes "dump")).top) format_shape) drill_shape) callers_shape) make_shape =
     c.in_ok-subcommand-7.ensures.shape c.in_ok-make_command.ensures.local ∙ ap₂ with_subcommand callers c.in_ok-make_command.ensures.shape in
-    IfOk-weaker c.subcommand-8.result _ _ (λ command adds. adds.shape (search rules) ∙ ap₂ with_subcommand make (ap (λ (a : App). a.top) c.new-3.ensures.app)) c.subcommand-8.ensures
+    let purge : app_of c.in_ok-subcommand-8.field-0 ≡ with_subcommand (with_subcommand (with_subcommand (with_subcommand (with_subcommand (with_subcommand (with_subcommand (with_subcommand no_commands run_shape) (new_app (codes "eaw")).top) (new_app (codes "dump")).top) format_shape) drill_shape) callers_shape) make_shape) (new_app (codes "purge")).top =
+    c.in_ok-subcommand-8.ensures.shape (search rules) ∙ ap₂ with_subcommand make (ap (λ (a : App). a.top) c.new-3.ensures.app) in
+    IfOk-weaker c.subcommand-9.result _ _ (λ command adds. adds.shape (search rules) ∙ ap₂ with_subcommand purge (ap (λ (a : App). a.top) c.new-4.ensures.app)) c.subcommand-9.ensures

@@ -43,6 +43,9 @@ returns-in-dump c = (c.in_ok-name.name.now, rows_of (found_of c.in_ok-name.optio
 pub returns-in-purge : goal.returns-in-purge
 returns-in-purge c = (c.in_ok-name.name.now, rows_of (found_of c.in_ok-name.options.now), met_is c.args.matches.now c.in_ok-name.name.now (rows_of (found_of c.in_ok-name.options.now)) c.in_ok-name.ensures.name c.in_ok-name.ensures.rows, c.in-purge.is)
 
+pub returns-in-follow : goal.returns-in-follow
+returns-in-follow c = (c.in_ok-name.name.now, rows_of (found_of c.in_ok-name.options.now), met_is c.args.matches.now c.in_ok-name.name.now (rows_of (found_of c.in_ok-name.options.now)) c.in_ok-name.ensures.name c.in_ok-name.ensures.rows, c.in-follow.is)
+
 pub returns-in_ok-numbers-in-callers : goal.returns-in_ok-numbers-in-callers
 returns-in_ok-numbers-in-callers c = (c.in_ok-name.name.now, rows_of (found_of c.in_ok-name.options.now), met_is c.args.matches.now c.in_ok-name.name.now (rows_of (found_of c.in_ok-name.options.now)) c.in_ok-name.ensures.name c.in_ok-name.ensures.rows, (c.in-callers.is, c.in_ok-numbers-in-callers.ensures))
 
@@ -60,4 +63,4 @@ pub returns-in_default : goal.returns-in_default
 returns-in_default c =
     let options = rows_of (found_of c.in_ok-name.options.now) in
     none_said c.args.matches.now c.in_ok-name.name.now c.in_ok-name.name.now options refl c.in_ok-name.ensures.name c.in_ok-name.ensures.rows
-    (none_other c.in_ok-name.name.now c.in_default.not-run c.in_default.not-callers c.in_default.not-eaw c.in_default.not-dump c.in_default.not-drill c.in_default.not-format c.in_default.not-make c.in_default.not-purge options)
+    (none_other c.in_ok-name.name.now c.in_default.not-run c.in_default.not-callers c.in_default.not-eaw c.in_default.not-dump c.in_default.not-drill c.in_default.not-format c.in_default.not-make c.in_default.not-purge c.in_default.not-follow options)

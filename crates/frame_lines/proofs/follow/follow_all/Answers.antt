@@ -13,10 +13,11 @@ loop-line-init g c =
     let s = g.S.EawStore in
     let first = c.args.follower.now in
     record {
-      text = ([], λ told. sym (append-nil (g.K.Sink.written c.args.sink.now)), begins s.tells s.view first (lines_of c.args.input.now) c.requires.between c.requires.first);
-      moments = λ told. stays (s.view first.store).moment (s.view first.store).left_since (OpensFirst s.opens (s.view first.store) (lines_of c.args.input.now));
+      text = ([], λ told. sym (append-nil (g.K.Sink.written c.args.sink.now)), begins s.tells s.view first (lines_of c.args.input.now) c.requires.between c.requires.first c.requires.alive);
+      moments = λ told. stays (s.view first.store).moment (s.view first.store).left_since (OpensFirst s.opens (s.view first.store).shape (s.view first.store).state.bytes (lines_of c.args.input.now));
       count = omega arith;
       sink = refl;
+      media = refl;
     }
 
 pub returns-in-Err-clause-ran : goal.returns-in-Err-clause-ran
@@ -69,5 +70,6 @@ loop-line-preserved g c =
           (weaker (λ image left. opens_first s.tells s.view first lines c.args.shape c.requires.shape c.loop-line.follower c.follow_line.new.follower c.in-Some.line.now (lines_of c.in-Some.after.now) c.loop-line.n so.0 far s.opens image told left)
           (c.in-Ok.ensures.moments told));
       count = omega (arith, fewer, c.loop-line.invariant.count);
-      sink = c.in-Ok.ensures.counts ∙ c.loop-line.invariant.sink;
+      sink = c.in-Ok.ensures.counts.0 ∙ c.loop-line.invariant.sink;
+      media = c.in-Ok.ensures.counts.1 ∙ c.loop-line.invariant.media;
     }

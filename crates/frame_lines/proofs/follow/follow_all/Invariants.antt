@@ -12,9 +12,10 @@ invariant-loop-line g l =
     let s = g.S.EawStore in
     record {
       text : (text : List ℕ) × (IsTrue k.tells → k.written l.sink ≡ k.written l.fn.sink ++ text) × SoFar s.tells s.view l.fn.follower l.follower (lines_of l.input) (lines_of l.rest) l.n text;
-      moments : IsTrue s.tells → LeavesOnly (OpensFirst s.opens (s.view l.fn.follower.store) (lines_of l.input)) (s.view l.fn.follower.store) (s.view l.follower.store);
+      moments : IsTrue s.tells → LeavesOnly (OpensFirst s.opens (s.view l.fn.follower.store).shape (s.view l.fn.follower.store).state.bytes (lines_of l.input)) (s.view l.fn.follower.store) (s.view l.follower.store);
       count : l.n + length l.rest ≤ length l.input + 1;
       sink : k.faults l.sink ≡ k.faults l.fn.sink;
+      media : (s.view l.follower.store).faults ≡ (s.view l.fn.follower.store).faults;
     }
 
 abbrev pub decreases-loop-line : goal.decreases-loop-line

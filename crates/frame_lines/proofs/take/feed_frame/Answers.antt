@@ -14,8 +14,7 @@ returns-in-Ok-clause-fed g c = λ f good is.
       next = all.2;
       count_is = c.in-Ok.ensures.count ∙ all.1;
       applied = sym c.in-Ok.ensures.count;
-      data_is = all.3;
-      faults = all.4;
+      goes_on = all.3;
       between = record { alive = c.in-Ok.ensures.alive; none = all.0 };
     }
 
@@ -24,6 +23,9 @@ returns-in-Err-Gap-clause-fed g c = λ f good is.
     let s = g.S.EawStore in
     let old = c.args.follower.now in
     gap s.tells (stand (s.view old.store) old.applied old.rest) f good c.requires.between.none c.args.bytes.now is (s.view c.feed.new.self.store) c.in-Err-Gap.expected c.in-Err-Gap.got (rw c.in-Err-Gap.field-0-is at c.in-Err-Gap.ensures.cause).1
+
+pub returns-in-Err-NoMemory-clause-fed : goal.returns-in-Err-NoMemory-clause-fed
+returns-in-Err-NoMemory-clause-fed g c = λ f good is. (rw c.in-Err-NoMemory.field-0-is at c.in-Err-NoMemory.ensures.cause).1.stops.faults
 
 pub returns-in-Err-BadFrame-clause-fed : goal.returns-in-Err-BadFrame-clause-fed
 returns-in-Err-BadFrame-clause-fed g c = λ f good is.

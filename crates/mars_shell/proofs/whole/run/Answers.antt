@@ -1,11 +1,11 @@
 use Rattle.std.proofs.Common.{◌≡◌, [], inl, ⊎_elim, refl, arith}
 use Rattle.std.specs.Prelude.{map, string_bytes, true, false, IsTrue}
 use Rattle.std.proofs.lemmas.Bool.{false≢true}
-use Rattle.command_words.specs.declared.words.Words.TheVariants.{Run, Callers, Eaw, Dump, Drill, Format, Make, Purge}
+use Rattle.command_words.specs.declared.words.Words.TheVariants.{Run, Callers, Eaw, Dump, Drill, Format, Make, Purge, Follow}
 use Rattle.mars_shell.specs.Commands.{Obeys}
 use Rattle.mars_shell.specs.Drill.{Drills}
 use Rattle.mars_shell.specs.Dump.{Dumps}
-use Rattle.mars_shell.proofs.Endings.{is_early, silent_of, counts_unread, read_fault_early, format_late}
+use Rattle.mars_shell.proofs.Endings.{is_early, counts_unread, read_fault_early, format_late}
 use Rattle.mars_shell.proofs.FormatLemmas.{no_usage}
 use Rattle.mars_shell.specs.Joint.{JointWork}
 use Rattle.mars_shell.specs.Late.{is_late}
@@ -14,6 +14,7 @@ use Rattle.mars_shell.specs.Served.{TakesTurnsFor}
 use Rattle.mars_shell.proofs.Completing.{words_say, callers_say, nothing_read, complete_of, complete_records}
 use Rattle.mars_shell.proofs.Outcomes.{turns_only, turns_spared}
 use Rattle.mars_shell.proofs.Clearing.{complete_purge}
+use Rattle.mars_shell.proofs.FramesFollowed.{complete_follow}
 use Rattle.mars_shell.proofs.Tabling.{complete_make}
 use Rattle.mars_shell.proofs.Waiting.{run_depth, callers_depth, callers_few, drill_depth}
 use Rattle.mars_shell.proofs.whole.run.Goals as goal
@@ -46,7 +47,7 @@ pub returns-in-Ok-Run-clause-early : goal.returns-in-Ok-Run-clause-early
 returns-in-Ok-Run-clause-early g c = λ either. (c.over_records.ensures.early (is_early c.over_records.result.0 either)).1
 
 pub returns-in-Ok-Run-clause-silent : goal.returns-in-Ok-Run-clause-silent
-returns-in-Ok-Run-clause-silent g c = silent_of _ c.over_records.result.0 c.over_records.ensures.silent
+returns-in-Ok-Run-clause-silent g c = c.over_records.ensures.silent
 
 pub returns-in-Ok-Run-clause-counts : goal.returns-in-Ok-Run-clause-counts
 returns-in-Ok-Run-clause-counts g c = c.over_records.ensures.counts
@@ -92,7 +93,7 @@ pub returns-in-Ok-Callers-clause-early : goal.returns-in-Ok-Callers-clause-early
 returns-in-Ok-Callers-clause-early g c = λ either. c.run_callers.ensures.early (is_early c.run_callers.result.0 either)
 
 pub returns-in-Ok-Callers-clause-silent : goal.returns-in-Ok-Callers-clause-silent
-returns-in-Ok-Callers-clause-silent g c = silent_of _ c.run_callers.result.0 c.run_callers.ensures.silent
+returns-in-Ok-Callers-clause-silent g c = c.run_callers.ensures.silent
 
 pub returns-in-Ok-Callers-clause-counts : goal.returns-in-Ok-Callers-clause-counts
 returns-in-Ok-Callers-clause-counts g c = c.run_callers.ensures.counts
@@ -134,7 +135,7 @@ pub returns-in-Ok-Dump-clause-early : goal.returns-in-Ok-Dump-clause-early
 returns-in-Ok-Dump-clause-early g c = λ either. (c.over_records-in-Ok-Dump.ensures.early (is_early c.over_records-in-Ok-Dump.result.0 either)).1
 
 pub returns-in-Ok-Dump-clause-silent : goal.returns-in-Ok-Dump-clause-silent
-returns-in-Ok-Dump-clause-silent g c = silent_of _ c.over_records-in-Ok-Dump.result.0 c.over_records-in-Ok-Dump.ensures.silent
+returns-in-Ok-Dump-clause-silent g c = c.over_records-in-Ok-Dump.ensures.silent
 
 pub returns-in-Ok-Dump-clause-counts : goal.returns-in-Ok-Dump-clause-counts
 returns-in-Ok-Dump-clause-counts g c = c.over_records-in-Ok-Dump.ensures.counts
@@ -180,7 +181,7 @@ pub returns-in-Ok-Drill-clause-early : goal.returns-in-Ok-Drill-clause-early
 returns-in-Ok-Drill-clause-early g c = λ either. (c.over_records-in-Ok-Drill.ensures.early (is_early c.over_records-in-Ok-Drill.result.0 either)).1
 
 pub returns-in-Ok-Drill-clause-silent : goal.returns-in-Ok-Drill-clause-silent
-returns-in-Ok-Drill-clause-silent g c = silent_of _ c.over_records-in-Ok-Drill.result.0 c.over_records-in-Ok-Drill.ensures.silent
+returns-in-Ok-Drill-clause-silent g c = c.over_records-in-Ok-Drill.ensures.silent
 
 pub returns-in-Ok-Drill-clause-counts : goal.returns-in-Ok-Drill-clause-counts
 returns-in-Ok-Drill-clause-counts g c = c.over_records-in-Ok-Drill.ensures.counts
@@ -250,7 +251,7 @@ pub returns-in-Ok-Eaw-clause-early : goal.returns-in-Ok-Eaw-clause-early
 returns-in-Ok-Eaw-clause-early g c = λ either. c.run_commands.ensures.early (is_early c.run_commands.result.0 either)
 
 pub returns-in-Ok-Eaw-clause-silent : goal.returns-in-Ok-Eaw-clause-silent
-returns-in-Ok-Eaw-clause-silent g c = silent_of _ c.run_commands.result.0 c.run_commands.ensures.silent
+returns-in-Ok-Eaw-clause-silent g c = c.run_commands.ensures.silent
 
 pub returns-in-Ok-Eaw-clause-counts : goal.returns-in-Ok-Eaw-clause-counts
 returns-in-Ok-Eaw-clause-counts g c = c.run_commands.ensures.counts
@@ -277,7 +278,7 @@ pub returns-in-Ok-Format-clause-early : goal.returns-in-Ok-Format-clause-early
 returns-in-Ok-Format-clause-early g c = λ either. absurd ((format_late c.in-Ok-Format.numbers _ c.run_format.result.0 _ _ c.run_format.ensures.says) (is_early c.run_format.result.0 either))
 
 pub returns-in-Ok-Format-clause-silent : goal.returns-in-Ok-Format-clause-silent
-returns-in-Ok-Format-clause-silent g c = silent_of _ c.run_format.result.0 (λ either. ⊎_elim (λ early. absurd ((format_late c.in-Ok-Format.numbers _ c.run_format.result.0 _ _ c.run_format.ensures.says) early)) c.run_format.ensures.refused either)
+returns-in-Ok-Format-clause-silent g c = λ either. ⊎_elim (λ early. absurd ((format_late c.in-Ok-Format.numbers _ c.run_format.result.0 _ _ c.run_format.ensures.says) early)) c.run_format.ensures.refused either
 
 pub returns-in-Ok-Format-clause-counts : goal.returns-in-Ok-Format-clause-counts
 returns-in-Ok-Format-clause-counts g c = counts_unread c.run_format.result.0 _ _ _ _ _ (format_late c.in-Ok-Format.numbers _ c.run_format.result.0 _ _ c.run_format.ensures.says) c.run_format.ensures.counts
@@ -313,7 +314,7 @@ pub returns-in-Ok-Make-clause-early : goal.returns-in-Ok-Make-clause-early
 returns-in-Ok-Make-clause-early g c = λ either. absurd (c.run_make.ensures.late (is_early c.run_make.result.0 either))
 
 pub returns-in-Ok-Make-clause-silent : goal.returns-in-Ok-Make-clause-silent
-returns-in-Ok-Make-clause-silent g c = silent_of _ c.run_make.result.0 (λ either. ⊎_elim (λ early. absurd (c.run_make.ensures.late early)) c.run_make.ensures.refused either)
+returns-in-Ok-Make-clause-silent g c = λ either. ⊎_elim (λ early. absurd (c.run_make.ensures.late early)) c.run_make.ensures.refused either
 
 pub returns-in-Ok-Make-clause-counts : goal.returns-in-Ok-Make-clause-counts
 returns-in-Ok-Make-clause-counts g c = c.run_make.ensures.counts
@@ -355,7 +356,7 @@ pub returns-in-Ok-Purge-clause-early : goal.returns-in-Ok-Purge-clause-early
 returns-in-Ok-Purge-clause-early g c = λ either. absurd (c.run_purge.ensures.late (is_early c.run_purge.result.0 either))
 
 pub returns-in-Ok-Purge-clause-silent : goal.returns-in-Ok-Purge-clause-silent
-returns-in-Ok-Purge-clause-silent g c = silent_of _ c.run_purge.result.0 (λ either. ⊎_elim (λ early. absurd (c.run_purge.ensures.late early)) c.run_purge.ensures.refused either)
+returns-in-Ok-Purge-clause-silent g c = λ either. ⊎_elim (λ early. absurd (c.run_purge.ensures.late early)) c.run_purge.ensures.refused either
 
 pub returns-in-Ok-Purge-clause-counts : goal.returns-in-Ok-Purge-clause-counts
 returns-in-Ok-Purge-clause-counts g c = c.run_purge.ensures.counts
@@ -386,3 +387,43 @@ returns-in-Ok-Purge-clause-complete g c =
     words_say (map string_bytes c.args.words.now) c.run_purge.result.0 (Unit {0}) _ Purge said.no_usage (rw c.in-Ok-Purge.field-0-is at c.in-Ok-Purge.ensures-1.asked)
     (λ fit no_source no_sink no_media.
     complete_purge old new said.ran.cut said.ran.text _ _ _ _ _ _ fit.1.0 fit.1.1 no_source no_sink no_media c.run_purge.result.0 said.late said.counts (said.ran.holds fit.0))
+
+pub returns-in-Ok-Follow-clause-usage : goal.returns-in-Ok-Follow-clause-usage
+returns-in-Ok-Follow-clause-usage g c = λ nothing. absurd (nothing Follow (rw c.in-Ok-Follow.field-0-is at c.in-Ok-Follow.ensures-1.asked))
+
+pub returns-in-Ok-Follow-clause-words : goal.returns-in-Ok-Follow-clause-words
+returns-in-Ok-Follow-clause-words g c = words_say (map string_bytes c.args.words.now) c.run_follow.result.0 _ _ Follow c.run_follow.ensures.no_usage (rw c.in-Ok-Follow.field-0-is at c.in-Ok-Follow.ensures-1.asked) tt
+
+pub returns-in-Ok-Follow-clause-early : goal.returns-in-Ok-Follow-clause-early
+returns-in-Ok-Follow-clause-early g c = λ either. c.run_follow.ensures.early (is_early c.run_follow.result.0 either)
+
+pub returns-in-Ok-Follow-clause-silent : goal.returns-in-Ok-Follow-clause-silent
+returns-in-Ok-Follow-clause-silent g c = c.run_follow.ensures.silent
+
+pub returns-in-Ok-Follow-clause-counts : goal.returns-in-Ok-Follow-clause-counts
+returns-in-Ok-Follow-clause-counts g c = c.run_follow.ensures.counts
+
+pub returns-in-Ok-Follow-clause-steady : goal.returns-in-Ok-Follow-clause-steady
+returns-in-Ok-Follow-clause-steady g c = c.run_follow.ensures.steady
+
+pub returns-in-Ok-Follow-clause-input : goal.returns-in-Ok-Follow-clause-input
+returns-in-Ok-Follow-clause-input g c = words_say (map string_bytes c.args.words.now) c.run_follow.result.0 _ _ Follow c.run_follow.ensures.no_usage (rw c.in-Ok-Follow.field-0-is at c.in-Ok-Follow.ensures-1.asked) c.run_follow.ensures.input
+
+pub returns-in-Ok-Follow-clause-formats : goal.returns-in-Ok-Follow-clause-formats
+returns-in-Ok-Follow-clause-formats g c = words_say (map string_bytes c.args.words.now) c.run_follow.result.0 _ _ Follow c.run_follow.ensures.no_usage (rw c.in-Ok-Follow.field-0-is at c.in-Ok-Follow.ensures-1.asked) (λ numbers is. absurd (let no : ⊥ = cc is in no))
+
+pub returns-in-Ok-Follow-clause-untold : goal.returns-in-Ok-Follow-clause-untold
+returns-in-Ok-Follow-clause-untold g c = words_say (map string_bytes c.args.words.now) c.run_follow.result.0 _ _ Follow c.run_follow.ensures.no_usage (rw c.in-Ok-Follow.field-0-is at c.in-Ok-Follow.ensures-1.asked) (λ is. absurd is)
+
+pub returns-in-Ok-Follow-clause-ran : goal.returns-in-Ok-Follow-clause-ran
+returns-in-Ok-Follow-clause-ran g c = words_say (map string_bytes c.args.words.now) c.run_follow.result.0 _ _ Follow c.run_follow.ensures.no_usage (rw c.in-Ok-Follow.field-0-is at c.in-Ok-Follow.ensures-1.asked) c.run_follow.ensures.ran
+
+pub returns-in-Ok-Follow-clause-complete : goal.returns-in-Ok-Follow-clause-complete
+returns-in-Ok-Follow-clause-complete g c =
+    let old = g.M.Media.view c.args.media in
+    let new = g.M.Media.view c.run_follow.result.1 in
+    let said = c.run_follow.ensures in
+    words_say (map string_bytes c.args.words.now) c.run_follow.result.0 (Unit {0}) _ Follow said.no_usage (rw c.in-Ok-Follow.field-0-is at c.in-Ok-Follow.ensures-1.asked)
+    (λ fit no_source no_sink no_media.
+    complete_follow old new said.ran.holds.0 said.ran.cut said.ran.text (g.S.Source.left c.args.source.now) _ _ _ _ _ _ _
+    fit.0.1 fit.2.0 fit.2.1 no_source no_sink no_media c.run_follow.result.0 said.counts (said.input fit.0.0) (said.ran.holds.2 fit.1))

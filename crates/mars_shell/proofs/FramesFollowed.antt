@@ -1,0 +1,115 @@
+-- A run of lines that say frames over an array that was opened.
+use Rattle.array_image.specs.Decided.{settled_data}
+use Rattle.std.proofs.Common.{◌≡◌, ℕ, ◌≤◌, ◌⊎◌, inl, inr, ⊎_elim, List, length, Bool, true, false, refl, sym, ap, subst, ◌∙◌, arith}
+use Rattle.std.specs.Prelude.{IsTrue}
+use Rattle.mars_base.specs.Causes.{Rose}
+use Rattle.pcm_media.specs.Images.{MayLeave}
+use Rattle.pcm_media.specs.View.{View}
+use Rattle.array_shape.specs.declared.shape.Shape.{Shape}
+use Rattle.device_recovery.specs.Recovered.{HasNoVote}
+use Rattle.eaw_face.specs.Frame.{Frame}
+use Rattle.eaw_face.specs.Mirroring.{followed}
+use Rattle.eaw_face.specs.StoreView.{StoreView, LeavesOnly}
+use Rattle.eaw_device.specs.Opens.{Opens, KeepsData, Attached, IsBehind, IsArray}
+use Rattle.frame_lines.specs.Taken.{GoesOn}
+use Rattle.frame_lines.specs.Followed.{LeavesStore, FollowedLines, OpensFirst, Counts as LineCounts}
+use Rattle.frame_lines.specs.declared.ended.FollowEnd.{FollowEnd}
+use Rattle.frame_lines.specs.declared.ended.FollowEnd.TheVariants as follow
+use Rattle.script_run.specs.Input.{input_limit}
+use Rattle.script_run.specs.Lines.{lines_of}
+use Rattle.mars_shell.specs.Follow.{LeavesFollowed, Follows, FollowOutcome}
+use Rattle.mars_shell.specs.Input.{InputSays}
+use Rattle.mars_shell.specs.Statuses.{Counts, IsEarly, IsRefusal, IsUnfollowed, follow_status}
+use Rattle.mars_shell.specs.declared.status.Status.{Status}
+use Rattle.mars_shell.specs.declared.status.Status.TheVariants.{Good, Usage, NoMemory}
+use Rattle.mars_shell.proofs.Completing.{complete_of}
+use Rattle.mars_shell.proofs.Running.{array, at_entry}
+
+module _ (tells : Bool) (told : IsTrue tells) (old : View) (only_now : (image : List ℕ) → IsTrue tells → old.left_since old.moment image → MayLeave old.content image)
+    (store : StoreView) (attached : Attached tells old store) (keeps : KeepsData tells old store.moment store.left_since)
+    (store' : StoreView) (new : View) (behind : IsBehind tells false store' new) where
+  -- the medium has the data of a store that goes on
+  stands : (frames : List Frame) → GoesOn tells frames store store' → HasNoVote store.shape new.content.bytes × (settled_data store.shape new.content.bytes ≡ followed frames (settled_data store.shape old.content.bytes))
+  stands frames on = (
+    subst (λ (s : Shape). HasNoVote s new.content.bytes) on.data_is.shape (behind.quiet told on.alive refl),
+    ap (λ (s : Shape). settled_data s new.content.bytes) (sym on.data_is.shape) ∙ behind.bytes told on.alive ∙ on.data_is.data_is told ∙ ap (λ (b : List ℕ). followed frames b) (attached.bytes told),
+  )
+
+  leaves_on : (ended : FollowEnd) (frames : List Frame) → LeavesStore tells store store' ended frames → LeavesFollowed store.shape old new ended frames
+  leaves_on follow.All frames on = stands frames on
+  leaves_on (follow.BadFrame n) frames on = stands frames on
+  leaves_on (follow.Gap expected got) frames on = stands frames on
+  leaves_on follow.WriteFault frames on = stands frames on
+  leaves_on follow.MediaFault frames on = tt
+  leaves_on follow.NoMemory frames on = tt
+
+  pub follows : (input : List ℕ) (ended : FollowEnd) (cut : Bool) (text : List ℕ) → FollowedLines store.shape (LeavesStore tells store store' ended) (lines_of input) ended cut text
+      → LeavesOnly (OpensFirst Opens store.shape store.state.bytes (lines_of input)) store store' → Follows old input ended new cut text
+  follows input ended cut text ran time = record {
+    shape = store.shape;
+    array = array tells told old only_now store attached keeps;
+    lines = record {
+      frames = ran.frames;
+      front = ran.front;
+      behind = ran.behind;
+      lines_are = ran.lines_are;
+      said = ran.said;
+      good = ran.good;
+      sequence = ran.sequence;
+      told = ran.told;
+      leaves = leaves_on ended ran.frames ran.leaves;
+      stops = ran.stops;
+    };
+    later = λ all. omega (arith, (keeps told store.shape all).later, time.later, behind.moment);
+    since = λ all image left. ⊎_elim
+        (λ was. inl (at_entry tells told old only_now store attached keeps store.shape all image was))
+        (λ opens. inr (subst (λ (b : List ℕ). OpensFirst Opens store.shape b (lines_of input) image) (attached.bytes told) opens))
+        (time.only old.moment image (keeps told store.shape all).later (behind.left old.moment image left));
+  }
+
+-- lines that were followed end a run late, and are no refusal of the array
+pub follow_late : (ended : FollowEnd) → IsEarly (follow_status ended) → ⊥
+follow_late follow.All early = early
+follow_late (follow.BadFrame n) early = early
+follow_late (follow.Gap expected got) early = early
+follow_late follow.WriteFault early = early
+follow_late follow.MediaFault early = early
+follow_late follow.NoMemory early = early
+
+pub follow_accepted : (ended : FollowEnd) → IsRefusal (follow_status ended) → ⊥
+follow_accepted follow.All refusal = refusal
+follow_accepted (follow.BadFrame n) refusal = refusal
+follow_accepted (follow.Gap expected got) refusal = refusal
+follow_accepted follow.WriteFault refusal = refusal
+follow_accepted follow.MediaFault refusal = refusal
+follow_accepted follow.NoMemory refusal = refusal
+
+-- the status says which count rose
+line_counts : (ended : FollowEnd) (s k k' m m' : ℕ) → LineCounts ended k k' m m' → Counts (follow_status ended) s s k k' m m'
+line_counts follow.All s k k' m m' counts = (refl, counts.0, counts.1)
+line_counts (follow.BadFrame n) s k k' m m' counts = (refl, counts.0, counts.1)
+line_counts (follow.Gap expected got) s k k' m m' counts = (refl, counts.0, counts.1)
+line_counts follow.WriteFault s k k' m m' counts = (refl, counts.0, counts.1)
+line_counts follow.MediaFault s k k' m m' counts = (refl, counts.1)
+line_counts follow.NoMemory s k k' m m' counts = (refl, counts.0, counts.1)
+
+pub follow_counted : (ended : FollowEnd) (status : Status) (s s' k k' m m' n n' : ℕ) → status ≡ follow_status ended → s' ≡ s → n ≡ m → m' ≡ n' → LineCounts ended k k' n n' → Counts status s s' k k' m m'
+follow_counted ended status s s' k k' m m' n n' is read before after counts = rw (is, read, ← before, after) (line_counts ended s k k' n n' counts)
+
+-- What can be followed is followed, unless memory runs out or a line is not followed.
+module _ (old new : View) (input : List ℕ) (cut : Bool) (text : List ℕ) (given left : List ℕ) (s s' k k' m m' : ℕ)
+    (short : length given ≤ input_limit) (shape : Shape) (is_array : IsArray shape old) (no_source : Rose s s' → ⊥) (no_sink : Rose k k' → ⊥) (no_media : Rose m m' → ⊥) where
+  followed_so : (ended : FollowEnd) → Counts (follow_status ended) s s' k k' m m' → (follow_status ended ≡ Good) ⊎ ((follow_status ended ≡ NoMemory) ⊎ IsUnfollowed (follow_status ended))
+  followed_so follow.All counts = inl refl
+  followed_so (follow.BadFrame n) counts = inr (inr tt)
+  followed_so (follow.Gap expected got) counts = inr (inr tt)
+  followed_so follow.WriteFault counts = absurd (no_sink counts.1)
+  followed_so follow.MediaFault counts = absurd (no_media counts.1)
+  followed_so follow.NoMemory counts = inr (inl refl)
+
+  pub complete_follow : (status : Status) → Counts status s s' k k' m m' → InputSays status given left → FollowOutcome old status new input cut text → (status ≡ Good) ⊎ ((status ≡ NoMemory) ⊎ IsUnfollowed status)
+  complete_follow status counts says outcome = ⊎_elim
+      (λ unopened. ⊎_elim (λ good. inl good) (λ none. inr (inl none))
+      (complete_of true (λ ended. ⊥) (λ page. ⊥) ⊥ ⊥ old new cut text given left s s' k k' m m' short shape is_array (λ page is. is) (λ is. is) no_source no_sink no_media status counts says unopened))
+      (λ ran. subst (λ (x : Status). (x ≡ Good) ⊎ ((x ≡ NoMemory) ⊎ IsUnfollowed x)) (sym ran.1) (followed_so ran.0 (subst (λ (x : Status). Counts x s s' k k' m m') ran.1 counts)))
+      outcome

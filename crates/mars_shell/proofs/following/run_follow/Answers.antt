@@ -1,0 +1,80 @@
+use Rattle.std.proofs.Common.{[], true, false, inl, inr, ⊎_elim, refl, sym, subst}
+use Rattle.std.proofs.lemmas.List.{append-nil}
+use Rattle.mars_shell.specs.Opening.{IsUnopened}
+use Rattle.mars_shell.specs.Statuses.{IsEarly, IsRefusal}
+use Rattle.mars_shell.proofs.Endings.{counts_unwritten, input_read}
+use Rattle.mars_shell.proofs.FramesFollowed.{follows, follow_late, follow_accepted, follow_counted}
+use Rattle.mars_shell.proofs.following.run_follow.Goals as goal
+
+pub returns-in-Err-clause-ran : goal.returns-in-Err-clause-ran
+returns-in-Err-clause-ran g c = record {
+  cut = false;
+  text = [];
+  wrote = λ _. sym (append-nil _);
+  counts = refl;
+  holds = (g.S.Source.left c.args.source.now, (λ _. refl), λ told. inl (c.in-Err.ensures.unopened told));
+}
+
+pub returns-clause-ran : goal.returns-clause-ran
+returns-clause-ran g c =
+    let media = g.M.Media in
+    let old = media.view c.args.media in
+    let new = media.view c.into_media.result in
+    let ended = c.follow_lines-ended.result.0 in
+    let said = c.follow_lines-ended.ensures in
+    let input = c.in-Ok.opened.0.items in
+    record {
+      cut = said.ran.cut;
+      text = said.ran.text;
+      wrote = said.ran.wrote;
+      counts = said.ran.counts;
+      holds = (
+        input,
+        c.in-Ok.ensures.read refl,
+        λ told. inr (
+          ended,
+          c.follow_status.ensures,
+          follows media.tells told old (g.met.M.Media.only_now c.args.media) _ c.in-Ok.ensures.attached c.in-Ok.ensures.keeps _ new c.into_media.ensures
+              input ended said.ran.cut said.ran.text (rw c.deref.ensures.value at said.ran.holds) (rw c.deref.ensures.value at (said.moments told)),
+        ),
+      );
+    }
+
+pub returns-in-Err-clause-no_usage : goal.returns-in-Err-clause-no_usage
+returns-in-Err-clause-no_usage g c = λ is. subst IsUnopened is c.in-Err.ensures.kind
+
+pub returns-in-Err-clause-early : goal.returns-in-Err-clause-early
+returns-in-Err-clause-early g c = λ early. (c.in-Err.ensures.early early).1
+
+pub returns-in-Err-clause-silent : goal.returns-in-Err-clause-silent
+returns-in-Err-clause-silent g c = λ refused. refl
+
+pub returns-in-Err-clause-counts : goal.returns-in-Err-clause-counts
+returns-in-Err-clause-counts g c = counts_unwritten c.in-Err.ended.0 _ _ _ _ _ c.in-Err.ensures.kind c.in-Err.ensures.counts
+
+pub returns-in-Err-clause-steady : goal.returns-in-Err-clause-steady
+returns-in-Err-clause-steady g c = λ steady. c.in-Err.ensures.steady steady
+
+pub returns-in-Err-clause-input : goal.returns-in-Err-clause-input
+returns-in-Err-clause-input g c = c.in-Err.ensures.input refl
+
+pub returns-clause-no_usage : goal.returns-clause-no_usage
+returns-clause-no_usage g c = λ is. follow_accepted c.follow_lines-ended.result.0 (subst IsRefusal c.follow_status.ensures (subst IsRefusal (sym is) tt))
+
+pub returns-clause-early : goal.returns-clause-early
+returns-clause-early g c = λ early. absurd (follow_late c.follow_lines-ended.result.0 (subst IsEarly c.follow_status.ensures early))
+
+pub returns-clause-silent : goal.returns-clause-silent
+returns-clause-silent g c = λ either. ⊎_elim (λ early. absurd (follow_late c.follow_lines-ended.result.0 (subst IsEarly c.follow_status.ensures early)))
+    (λ refused. absurd (follow_accepted c.follow_lines-ended.result.0 (subst IsRefusal c.follow_status.ensures refused))) either
+
+pub returns-clause-counts : goal.returns-clause-counts
+returns-clause-counts g c = follow_counted c.follow_lines-ended.result.0 c.follow_status.result _ _ _ _ _ _ _ _ c.follow_status.ensures c.in-Ok.ensures.kept c.in-Ok.ensures.attached.faults c.into_media.ensures.faults c.follow_lines-ended.ensures.counts
+
+pub returns-clause-steady : goal.returns-clause-steady
+returns-clause-steady g c = λ steady is. follow_late c.follow_lines-ended.result.0 (subst IsEarly c.follow_status.ensures (subst IsEarly (sym is) tt))
+
+pub returns-clause-input : goal.returns-clause-input
+returns-clause-input g c = λ told.
+    let read = c.in-Ok.ensures.ended refl told in
+    input_read c.follow_status.result _ _ (λ early. follow_late c.follow_lines-ended.result.0 (subst IsEarly c.follow_status.ensures early)) read.0 read.1

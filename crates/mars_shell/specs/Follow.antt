@@ -1,0 +1,37 @@
+-- What a run of lines that say frames does on a medium that tells its bytes.
+use Rattle.array_image.specs.Decided.{settled_data}
+use Rattle.std.specs.Prelude.{ℕ, ◌≡◌, ◌≤◌, ◌⊎◌, List, Bool, true}
+use Rattle.pcm_media.specs.View.{View}
+use Rattle.array_shape.specs.declared.shape.Shape.{Shape}
+use Rattle.device_recovery.specs.Recovered.{HasNoVote}
+use Rattle.eaw_face.specs.Frame.{Frame}
+use Rattle.eaw_face.specs.Mirroring.{followed}
+use Rattle.eaw_device.specs.Opens.{Opens, AllOpen, OpensLike, IsArray}
+use Rattle.frame_lines.specs.Followed.{FollowedLines, OpensFirst}
+use Rattle.frame_lines.specs.declared.ended.FollowEnd.{FollowEnd}
+use Rattle.frame_lines.specs.declared.ended.FollowEnd.TheVariants.{MediaFault, NoMemory}
+use Rattle.script_run.specs.Lines.{lines_of}
+use Rattle.mars_shell.specs.Outcome.{OutcomeOf}
+use Rattle.mars_shell.specs.Statuses.{follow_status}
+use Rattle.mars_shell.specs.declared.status.Status.{Status}
+
+-- the array settles to its data before with these frames applied, and no row is voted, unless the medium failed or memory ran out
+abbrev pub LeavesFollowed : Shape → View → View → FollowEnd → List Frame → Type 0
+LeavesFollowed shape old new MediaFault frames = Unit {0}
+LeavesFollowed shape old new NoMemory frames = Unit {0}
+LeavesFollowed shape old new _ frames = HasNoVote shape new.content.bytes × (settled_data shape new.content.bytes ≡ followed frames (settled_data shape old.content.bytes))
+
+-- The frames that the lines of the input say were applied to the data of the array. Whatever a loss of power might have left since the start
+-- opens with that data with some first of the frames applied, or with the data of an image that could be left at first, if all of those open.
+pub record Follows (old : View) (input : List ℕ) (ended : FollowEnd) (new : View) (cut : Bool) (text : List ℕ) : Type 0 where
+  pub shape : Shape
+  pub array : IsArray shape old
+  pub lines : FollowedLines shape (LeavesFollowed shape old new ended) (lines_of input) ended cut text
+  pub later : AllOpen shape old.content → old.moment ≤ new.moment
+  pub since : AllOpen shape old.content → (image : List ℕ) → new.left_since old.moment image
+      → OpensLike shape old.content image ⊎ OpensFirst Opens shape (settled_data shape old.content.bytes) (lines_of input) image
+
+-- what comes of it: the array was not opened, or its lines were followed
+abbrev pub FollowOutcome : View → Status → View → List ℕ → Bool → List ℕ → Type 0
+FollowOutcome old status new input cut text =
+    OutcomeOf true (λ ended. ⊥) (λ page. ⊥) ⊥ ⊥ old status new cut text ⊎ ((ended : FollowEnd) × (status ≡ follow_status ended) × Follows old input ended new cut text)

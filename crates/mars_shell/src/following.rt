@@ -1,0 +1,38 @@
+// A run of lines that say frames.
+ghost use Rattle.std.specs.Prelude.{◌≡◌, ◌⊎◌, ℕ, List, IsTrue};
+ghost use Rattle.texts.specs.Written.{Wrote};
+ghost use Rattle.mars_shell.specs.Follow.{FollowOutcome};
+ghost use Rattle.mars_shell.specs.Input.{InputSays};
+ghost use Rattle.mars_shell.specs.Statuses.{Counts, IsEarly, IsRefusal};
+
+use crate::opening::open;
+use crate::status::{Status, follow_status};
+use eaw_device::AtOnce;
+use frame_lines::follow_lines;
+use outside::{Sink, Source};
+use pcm_media::Media;
+use std::alloc::Global;
+
+/// Applies the frames that lines of the source say to the array that the medium holds, whatever its records are.
+pub(crate) fn run_follow<S: Source, K: Sink, M: Media>(
+    alloc: Global,
+    source: &mut S,
+    sink: &mut K,
+    media: M,
+) -> (Status, M)
+    ensures no_usage { result.0 ≡ Status.Usage → ⊥ }
+    ensures early { IsEarly result.0 → result.1 ≡ media }
+    ensures silent { IsEarly result.0 ⊎ IsRefusal result.0 → sink.new ≡ sink.old }
+    ensures counts { Counts result.0 (S.faults source.old) (S.faults source.new) (K.faults sink.old) (K.faults sink.new) (M.view media).faults (M.view result.1).faults }
+    ensures steady { IsTrue (S.steady source.old) → result.0 ≡ Status.ReadFault → ⊥ }
+    ensures input { IsTrue S.tells → InputSays result.0 (S.left source.old) (S.left source.new) }
+    ensures ran { Wrote K.tells (K.written sink.old) (K.written sink.new) (K.faults sink.old) (K.faults sink.new)
+        (λ cut text. (input : List ℕ) × (IsTrue S.tells → S.left source.old ≡ input) × (IsTrue M.tells → FollowOutcome (M.view media) result.0 (M.view result.1) input cut text)) }
+{
+    let (input, store) = match open(alloc, true, source, media, AtOnce) {
+        Ok(opened) => opened,
+        Err(ended) => return ended,
+    };
+    let (ended, store) = follow_lines(alloc, &input, sink, store);
+    (follow_status(ended), store.into_media())
+}
