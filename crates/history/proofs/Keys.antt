@@ -44,7 +44,7 @@ cases_key one other = elim (cases_Bool (is_same_key one other)) [
   | inr differ ↦ inr (λ is. both_ways (is_same_key one other) differ (same_key one other is))
 ]
 
-same_turned : (one other : Key) → is_same_key one other ≡ is_same_key other one
+pub same_turned : (one other : Key) → is_same_key one other ≡ is_same_key other one
 same_turned one other = elim (cases_key one other) [
   | inl same ↦ same_key one other same ∙ sym (same_key other one (sym same))
   | inr differ ↦ other_key one other differ ∙ sym (other_key other one (λ e. differ (sym e)))

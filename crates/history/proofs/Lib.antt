@@ -2,7 +2,7 @@ pub mod Modes
 pub mod OneMore
 pub mod Keys
 pub mod Keyed
-pub mod Tables
+pub mod Agreeing
 pub mod Pending
 pub mod Saves
 pub mod Locking
@@ -10,3 +10,4 @@ pub mod Counting
 pub mod Replaying
 pub mod Comparing
 pub mod Judging
+pub mod Adding

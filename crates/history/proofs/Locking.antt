@@ -1,7 +1,7 @@
 -- Strict locking: what a transaction replies and leaves depends only on what it touched, and it changes nothing else.
 use Rattle.std.proofs.Common.{◌≡◌, ℕ, zero, suc, ◌+◌, ◌-◌, Bool, true, false, cond, ◌&&◌, nat_eq, nat_lt, nat_le, List, [], ◌∷◌, ◌++◌, length, take, get_or, Option, Some, None, refl, sym, ap, subst, ◌∙◌, arith, lt-ltb, eq-eqb}
 use Rattle.std.proofs.lemmas.Bool.{or_left, or_right, false_from_ne_true, both_ways}
-use Rattle.history.specs.Key.{Key, main_name, of_main}
+use Rattle.history.specs.Key.{Key, of_table}
 use Rattle.history.specs.Writes.{Table, set_or_remove, rows_within}
 use Rattle.history.specs.Table.{Granted, Work, begun, found, removed, has_save, Answers, after, worked, IsRightFrom, IsRight, left_by}
 use Rattle.history.specs.declared.locks.Mode.TheVariants.{Shared, Exclusive}
@@ -11,7 +11,7 @@ use Rattle.history.specs.declared.call.Call.TheVariants.{Begin, Get, Put, Del, S
 use Rattle.history.specs.declared.call.Reply.{Reply}
 use Rattle.history.specs.declared.call.Reply.TheVariants.{Saved, Listed}
 use Rattle.history.proofs.Modes.{clash_written}
-use Rattle.history.proofs.Tables.{agree-set, off-set, agree_all}
+use Rattle.history.proofs.Agreeing.{agree-set, off-set, agree_all}
 
 -- two lists of tables are related pair by pair
 abbrev Pairwise : (Table → Table → Type 0) → List Table → List Table → Type 0
@@ -58,16 +58,16 @@ record IsAlike (keys written : Key → Bool) (start : Table) (one other : Work) 
   saves : Pairwise (IsLike keys written start) one.saves other.saves
 
 -- every key that the call touches is among the keys, and every key that it touches for writing among those written
-record Within (keys written : Key → Bool) (call : Call) : Type 0 where
-  reads : (key : Key) → touches call (key_stripe key) Shared ≡ true → keys key ≡ true
-  writes : (key : Key) → touches call (key_stripe key) Exclusive ≡ true → (keys key ≡ true) × (written key ≡ true)
+record Within (names : List (List ℕ)) (keys written : Key → Bool) (call : Call) : Type 0 where
+  reads : (key : Key) → touches names call (key_stripe names key) Shared ≡ true → keys key ≡ true
+  writes : (key : Key) → touches names call (key_stripe names key) Exclusive ≡ true → (keys key ≡ true) × (written key ≡ true)
 
 -- every key that the calls touch is so
-record AllWithin (keys written : Key → Bool) (calls : Granted) : Type 0 where
-  reads : (key : Key) → touched calls (key_stripe key) Shared ≡ true → keys key ≡ true
-  writes : (key : Key) → touched calls (key_stripe key) Exclusive ≡ true → (keys key ≡ true) × (written key ≡ true)
+record AllWithin (names : List (List ℕ)) (keys written : Key → Bool) (calls : Granted) : Type 0 where
+  reads : (key : Key) → touched names calls (key_stripe names key) Shared ≡ true → keys key ≡ true
+  writes : (key : Key) → touched names calls (key_stripe names key) Exclusive ≡ true → (keys key ≡ true) × (written key ≡ true)
 
-module _ (keys written : Key → Bool) (start : Table) where
+module _ (names : List (List ℕ)) (keys written : Key → Bool) (start : Table) where
   like-set : (one other : Table) (k : Key) (v : Option (List ℕ)) → written k ≡ true → IsLike keys written start one other → IsLike keys written start (set_or_remove one k v) (set_or_remove other k v)
   like-set one other k v within like = record { same = agree-set keys one other k v like.same; off = off-set written other start k v within like.off }
 
@@ -86,18 +86,18 @@ module _ (keys written : Key → Bool) (start : Table) where
   same_saves : (n : ℕ) (one other : Work) → IsAlike keys written start one other → has_save one.saves n ≡ has_save other.saves n
   same_saves n one other alike = ap (λ (height : ℕ). nat_lt 0 n && nat_le n height) (same_height one other alike)
 
-  own_key : (k : Key) → nat_eq (key_stripe k) (key_stripe k) ≡ true
-  own_key k = eq-eqb (key_stripe k) (key_stripe k) refl
+  own_key : (k : Key) → nat_eq (key_stripe names k) (key_stripe names k) ≡ true
+  own_key k = eq-eqb (key_stripe names k) (key_stripe names k) refl
 
-  any_key : (k : Key) → nat_lt (key_stripe k) 64 ≡ true
-  any_key k = lt-ltb (key_stripe k) 64 (omega arith)
+  any_key : (k : Key) → nat_lt (key_stripe names k) 64 ≡ true
+  any_key k = lt-ltb (key_stripe names k) 64 (omega arith)
 
-  after-alike : (call : Call) (one other : Work) → Within keys written call → IsAlike keys written start one other → IsAlike keys written start (after one call) (after other call)
+  after-alike : (call : Call) (one other : Work) → Within names keys written call → IsAlike keys written start one other → IsAlike keys written start (after one call) (after other call)
   after-alike Begin one other within alike = alike
-  after-alike (Get k) one other within alike = alike
-  after-alike (Put k v) one other within alike = record { tables = like-set one.table other.table (of_main k) (Some v) (within.writes (of_main k) (own_key (of_main k))).1 alike.tables; saves = alike.saves }
-  after-alike (Del k) one other within alike = record { tables = like-set one.table other.table (of_main k) None (within.writes (of_main k) (own_key (of_main k))).1 alike.tables; saves = alike.saves }
-  after-alike (Scan low high) one other within alike = alike
+  after-alike (Get t k) one other within alike = alike
+  after-alike (Put t k v) one other within alike = record { tables = like-set one.table other.table (of_table t k) (Some v) (within.writes (of_table t k) (own_key (of_table t k))).1 alike.tables; saves = alike.saves }
+  after-alike (Del t k) one other within alike = record { tables = like-set one.table other.table (of_table t k) None (within.writes (of_table t k) (own_key (of_table t k))).1 alike.tables; saves = alike.saves }
+  after-alike (Scan t low high) one other within alike = alike
   after-alike Save one other within alike = record { tables = alike.tables; saves = pairs-push (IsLike keys written start) one.saves other.saves one.table other.table alike.saves alike.tables }
   after-alike (Back n) one other within alike =
       subst (λ b. IsAlike keys written start (after one (Back n)) (cond b (record { table = get_or other.saves (n - 1) other.table; saves = take n other.saves }) other))
@@ -105,36 +105,36 @@ module _ (keys written : Key → Bool) (start : Table) where
   after-alike Commit one other within alike = alike
   after-alike Abort one other within alike = alike
 
-  answers-alike : (call : Call) (reply : Reply) (one other : Work) → Within keys written call → IsAlike keys written start one other → Answers one call reply → Answers other call reply
+  answers-alike : (call : Call) (reply : Reply) (one other : Work) → Within names keys written call → IsAlike keys written start one other → Answers one call reply → Answers other call reply
   answers-alike Begin reply one other within alike answers = answers
-  answers-alike (Get k) reply one other within alike answers = answers ∙ ap found (alike.tables.same (of_main k) (within.reads (of_main k) (own_key (of_main k))))
-  answers-alike (Put k v) reply one other within alike answers = answers
-  answers-alike (Del k) reply one other within alike answers = answers ∙ ap removed (alike.tables.same (of_main k) (within.writes (of_main k) (own_key (of_main k))).0)
-  answers-alike (Scan low high) reply one other within alike answers =
-      answers ∙ ap (λ (table : Table). Listed (rows_within main_name low high table)) (agree_all keys one.table other.table (λ k. within.reads k (any_key k)) alike.tables.same)
+  answers-alike (Get t k) reply one other within alike answers = answers ∙ ap found (alike.tables.same (of_table t k) (within.reads (of_table t k) (own_key (of_table t k))))
+  answers-alike (Put t k v) reply one other within alike answers = answers
+  answers-alike (Del t k) reply one other within alike answers = answers ∙ ap removed (alike.tables.same (of_table t k) (within.writes (of_table t k) (own_key (of_table t k))).0)
+  answers-alike (Scan t low high) reply one other within alike answers =
+      answers ∙ ap (λ (table : Table). Listed (rows_within t low high table)) (agree_all keys one.table other.table (λ k. within.reads k (any_key k)) alike.tables.same)
   answers-alike Save reply one other within alike answers = answers ∙ ap (λ (height : ℕ). Saved (height + 1)) (same_height one other alike)
   answers-alike (Back n) reply one other within alike answers = (sym (same_saves n one other alike) ∙ answers.0, answers.1)
   answers-alike Commit reply one other within alike answers = answers
   answers-alike Abort reply one other within alike answers = answers
 
-  head_within : (entry : Call × Reply) (calls : Granted) → AllWithin keys written (entry ∷ calls) → Within keys written entry.0
+  head_within : (entry : Call × Reply) (calls : Granted) → AllWithin names keys written (entry ∷ calls) → Within names keys written entry.0
   head_within entry calls within = record {
-    reads = λ key at. within.reads key (or_left (touches entry.0 (key_stripe key) Shared) (touched calls (key_stripe key) Shared) at);
-    writes = λ key at. within.writes key (or_left (touches entry.0 (key_stripe key) Exclusive) (touched calls (key_stripe key) Exclusive) at);
+    reads = λ key at. within.reads key (or_left (touches names entry.0 (key_stripe names key) Shared) (touched names calls (key_stripe names key) Shared) at);
+    writes = λ key at. within.writes key (or_left (touches names entry.0 (key_stripe names key) Exclusive) (touched names calls (key_stripe names key) Exclusive) at);
   }
 
-  tail_within : (entry : Call × Reply) (calls : Granted) → AllWithin keys written (entry ∷ calls) → AllWithin keys written calls
+  tail_within : (entry : Call × Reply) (calls : Granted) → AllWithin names keys written (entry ∷ calls) → AllWithin names keys written calls
   tail_within entry calls within = record {
-    reads = λ key at. within.reads key (or_right (touches entry.0 (key_stripe key) Shared) (touched calls (key_stripe key) Shared) at);
-    writes = λ key at. within.writes key (or_right (touches entry.0 (key_stripe key) Exclusive) (touched calls (key_stripe key) Exclusive) at);
+    reads = λ key at. within.reads key (or_right (touches names entry.0 (key_stripe names key) Shared) (touched names calls (key_stripe names key) Shared) at);
+    writes = λ key at. within.writes key (or_right (touches names entry.0 (key_stripe names key) Exclusive) (touched names calls (key_stripe names key) Exclusive) at);
   }
 
-  worked-alike : (calls : Granted) (one other : Work) → AllWithin keys written calls → IsAlike keys written start one other → IsAlike keys written start (worked one calls) (worked other calls)
+  worked-alike : (calls : Granted) (one other : Work) → AllWithin names keys written calls → IsAlike keys written start one other → IsAlike keys written start (worked one calls) (worked other calls)
   worked-alike [] one other within alike = alike
   worked-alike (entry ∷ calls) one other within alike =
       worked-alike calls (after one entry.0) (after other entry.0) (tail_within entry calls within) (after-alike entry.0 one other (head_within entry calls within) alike)
 
-  right-alike : (calls : Granted) (one other : Work) → AllWithin keys written calls → IsAlike keys written start one other → IsRightFrom one calls → IsRightFrom other calls
+  right-alike : (calls : Granted) (one other : Work) → AllWithin names keys written calls → IsAlike keys written start one other → IsRightFrom one calls → IsRightFrom other calls
   right-alike [] one other within alike right = tt
   right-alike (entry ∷ calls) one other within alike right = (
     answers-alike entry.0 entry.1 one other (head_within entry calls within) alike right.0,
@@ -144,40 +144,40 @@ module _ (keys written : Key → Bool) (start : Table) where
 begun-alike : (keys written : Key → Bool) (one other : Table) → Agree keys one other → IsAlike keys written other (begun one) (begun other)
 begun-alike keys written one other agree = record { tables = record { same = agree; off = λ key out. refl }; saves = tt }
 
-all_within : (calls : Granted) → AllWithin (has_touched calls) (has_written calls) calls
-all_within calls = record {
-  reads = λ key at. or_left (touched calls (key_stripe key) Shared) (touched calls (key_stripe key) Exclusive) at;
-  writes = λ key at. (or_right (touched calls (key_stripe key) Shared) (touched calls (key_stripe key) Exclusive) at, at);
+all_within : (names : List (List ℕ)) (calls : Granted) → AllWithin names (has_touched names calls) (has_written names calls) calls
+all_within names calls = record {
+  reads = λ key at. or_left (touched names calls (key_stripe names key) Shared) (touched names calls (key_stripe names key) Exclusive) at;
+  writes = λ key at. (or_right (touched names calls (key_stripe names key) Shared) (touched names calls (key_stripe names key) Exclusive) at, at);
 }
 
-module _ (calls : Granted) (one other : Table) (agree : Agree (has_touched calls) one other) where
-  start_alike : IsAlike (has_touched calls) (has_written calls) other (begun one) (begun other)
-  start_alike = begun-alike (has_touched calls) (has_written calls) one other agree
+module _ (names : List (List ℕ)) (calls : Granted) (one other : Table) (agree : Agree (has_touched names calls) one other) where
+  start_alike : IsAlike (has_touched names calls) (has_written names calls) other (begun one) (begun other)
+  start_alike = begun-alike (has_touched names calls) (has_written names calls) one other agree
 
   -- Strict locking: calls that are right on a table are right, with the same replies, on a table that agrees with it at what they touched.
   pub locked_right : IsRight one calls → IsRight other calls
-  locked_right right = right-alike (has_touched calls) (has_written calls) other calls (begun one) (begun other) (all_within calls) start_alike right
+  locked_right right = right-alike names (has_touched names calls) (has_written names calls) other calls (begun one) (begun other) (all_within names calls) start_alike right
 
   -- Then what they leave of the two tables agrees at what they touched.
-  pub locked_same : Agree (has_touched calls) (left_by one calls) (left_by other calls)
-  locked_same = (worked-alike (has_touched calls) (has_written calls) other calls (begun one) (begun other) (all_within calls) start_alike).tables.same
+  pub locked_same : Agree (has_touched names calls) (left_by one calls) (left_by other calls)
+  locked_same = (worked-alike names (has_touched names calls) (has_written names calls) other calls (begun one) (begun other) (all_within names calls) start_alike).tables.same
 
 -- A transaction changes nothing that it did not touch for writing.
-pub unwritten_kept : (calls : Granted) (table : Table) → AgreeOff (has_written calls) (left_by table calls) table
-unwritten_kept calls table =
-    (worked-alike (has_touched calls) (has_written calls) table calls (begun table) (begun table) (all_within calls)
-    (begun-alike (has_touched calls) (has_written calls) table table (λ key at. refl))).tables.off
+pub unwritten_kept : (names : List (List ℕ)) (calls : Granted) (table : Table) → AgreeOff (has_written names calls) (left_by table calls) table
+unwritten_kept names calls table =
+    (worked-alike names (has_touched names calls) (has_written names calls) table calls (begun table) (begun table) (all_within names calls)
+    (begun-alike (has_touched names calls) (has_written names calls) table table (λ key at. refl))).tables.off
 
-module _ (table : Table) (committed calls : Granted) (apart : AreApart committed calls) where
+module _ (names : List (List ℕ)) (table : Table) (committed calls : Granted) (apart : AreApart names committed calls) where
   -- a transaction changes nothing that another touched, if they clash nowhere
-  pub agrees_after : Agree (has_touched calls) table (left_by table committed)
-  agrees_after key at = sym (unwritten_kept committed table key (false_from_ne_true (has_written committed key) (λ writes.
-      both_ways (clash (touched committed (key_stripe key)) (touched calls (key_stripe key))) (apart (key_stripe key)) (clash_written (touched committed (key_stripe key)) (touched calls (key_stripe key)) writes at))))
+  pub agrees_after : Agree (has_touched names calls) table (left_by table committed)
+  agrees_after key at = sym (unwritten_kept names committed table key (false_from_ne_true (has_written names committed key) (λ writes.
+      both_ways (clash (touched names committed (key_stripe names key)) (touched names calls (key_stripe names key))) (apart (key_stripe names key)) (clash_written (touched names committed (key_stripe names key)) (touched names calls (key_stripe names key)) writes at))))
 
   -- So calls that are right stay right when such a transaction commits,
   pub right_after : IsRight table calls → IsRight (left_by table committed) calls
-  right_after right = locked_right calls table (left_by table committed) agrees_after right
+  right_after right = locked_right names calls table (left_by table committed) agrees_after right
 
   -- and they still leave the same at what they touched.
-  pub same_after : Agree (has_touched calls) (left_by table calls) (left_by (left_by table committed) calls)
-  same_after = locked_same calls table (left_by table committed) agrees_after
+  pub same_after : Agree (has_touched names calls) (left_by table calls) (left_by (left_by table committed) calls)
+  same_after = locked_same names calls table (left_by table committed) agrees_after

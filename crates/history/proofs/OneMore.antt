@@ -36,16 +36,16 @@ left_by-push table calls call reply = ap (λ (work : Work). work.table) (worked-
 pub log_of-push : (calls : Granted) (call : Call) (reply : Reply) → log_of (calls ++ (call, reply) ∷ []) ≡ log_after (log_of calls) call reply
 log_of-push calls call reply = fold-push (λ (was : Log) (entry : Call × Reply). log_after was entry.0 entry.1) (record { writes = []; saved = [] }) calls (call, reply)
 
-touched_more : (calls : Granted) (call : Call) (reply : Reply) (stripe : ℕ) (mode : Mode)
-    → touched (calls ++ (call, reply) ∷ []) stripe mode ≡ (touched calls stripe mode || touches call stripe mode)
-touched_more calls call reply stripe mode =
-    list_any-append (λ (entry : Call × Reply). touches entry.0 stripe mode) calls ((call, reply) ∷ [])
-    ∙ ap (λ (b : Bool). touched calls stripe mode || b) (or_none (touches call stripe mode))
+touched_more : (names : List (List ℕ)) (calls : Granted) (call : Call) (reply : Reply) (stripe : ℕ) (mode : Mode)
+    → touched names (calls ++ (call, reply) ∷ []) stripe mode ≡ (touched names calls stripe mode || touches names call stripe mode)
+touched_more names calls call reply stripe mode =
+    list_any-append (λ (entry : Call × Reply). touches names entry.0 stripe mode) calls ((call, reply) ∷ [])
+    ∙ ap (λ (b : Bool). touched names calls stripe mode || b) (or_none (touches names call stripe mode))
 
 -- the last call adds what it touches
-pub touched-push : (calls : Granted) (call : Call) (reply : Reply) (stripe : ℕ)
-    → touched (calls ++ (call, reply) ∷ []) stripe ≡ (λ mode. touched calls stripe mode || touches call stripe mode)
-touched-push calls call reply stripe i mode = touched_more calls call reply stripe mode i
+pub touched-push : (names : List (List ℕ)) (calls : Granted) (call : Call) (reply : Reply) (stripe : ℕ)
+    → touched names (calls ++ (call, reply) ∷ []) stripe ≡ (λ mode. touched names calls stripe mode || touches names call stripe mode)
+touched-push names calls call reply stripe i mode = touched_more names calls call reply stripe mode i
 
 -- calls stay right with one more, whose reply is right for what they leave
 pub IsRightFrom-push : (work : Work) (calls : Granted) (call : Call) (reply : Reply)

@@ -5,7 +5,7 @@ use Rattle.std.specs.List.{fold, list_any}
 use Rattle.std.specs.FinMap.{get, remove}
 use Rattle.std.proofs.lemmas.Bool.{and_parts, or_parts, true≢false, ltb-true, leb-true, not-true}
 use Rattle.std.proofs.lemmas.List.{length-map, take-map, get_or-map}
-use Rattle.history.specs.Key.{Key, of_main}
+use Rattle.history.specs.Key.{Key, of_table}
 use Rattle.history.specs.Writes.{Table, Write, write_into, all_written, is_of, replaced, with_write}
 use Rattle.history.specs.Table.{Granted, Work, begun, removed, has_save, Answers, after, worked, IsRightFrom, IsRight, left_by}
 use Rattle.history.specs.Log.{Log, save_at, floor_of, written, log_after, log_of}
@@ -13,7 +13,7 @@ use Rattle.history.specs.declared.call.Call.{Call}
 use Rattle.history.specs.declared.call.Call.TheVariants.{Begin, Get, Put, Del, Scan, Save, Back, Commit, Abort}
 use Rattle.history.specs.declared.call.Reply.{Reply}
 use Rattle.history.proofs.Keys.{cases_key, same_key, same_keys}
-use Rattle.history.proofs.Tables.{get-set_here, get-set_there, same_table, remove_absent}
+use Rattle.history.proofs.Agreeing.{get-set_here, get-set_there, same_table, remove_absent}
 
 pub all_written-append : (table : Table) (writes more : List Write) → all_written table (writes ++ more) ≡ all_written (all_written table writes) more
 all_written-append table [] more = refl
@@ -108,22 +108,22 @@ module _ (base : Table) where
         saves = ap (take n) shown.saves ∙ take-map (all_written base) n log.saved;
       }
 
-  shown-del : (log : Log) (work : Work) (key : ℕ) (reply : Reply) (found : Option (List ℕ)) → get work.table (of_main key) ≡ found → reply ≡ removed found → IsShown base log work
-      → IsShown base (log_after log (Del key) reply) (record { table = remove work.table (of_main key); saves = work.saves })
-  shown-del log work key reply None none re shown =
-      subst (λ r. IsShown base (log_after log (Del key) r) (record { table = remove work.table (of_main key); saves = work.saves })) (sym re)
-      (subst (λ t. IsShown base log (record { table = t; saves = work.saves })) (sym (remove_absent work.table (of_main key) none)) shown)
-  shown-del log work key reply (Some value) some re shown =
-      subst (λ r. IsShown base (log_after log (Del key) r) (record { table = remove work.table (of_main key); saves = work.saves })) (sym re)
-      (shown-written log work (of_main key, None) shown)
+  shown-del : (log : Log) (work : Work) (name : List ℕ) (key : ℕ) (reply : Reply) (found : Option (List ℕ)) → get work.table (of_table name key) ≡ found → reply ≡ removed found → IsShown base log work
+      → IsShown base (log_after log (Del name key) reply) (record { table = remove work.table (of_table name key); saves = work.saves })
+  shown-del log work name key reply None none re shown =
+      subst (λ r. IsShown base (log_after log (Del name key) r) (record { table = remove work.table (of_table name key); saves = work.saves })) (sym re)
+      (subst (λ t. IsShown base log (record { table = t; saves = work.saves })) (sym (remove_absent work.table (of_table name key) none)) shown)
+  shown-del log work name key reply (Some value) some re shown =
+      subst (λ r. IsShown base (log_after log (Del name key) r) (record { table = remove work.table (of_table name key); saves = work.saves })) (sym re)
+      (shown-written log work (of_table name key, None) shown)
 
   -- what is shown stays shown after a call that gets the right reply
   pub shown-after : (log : Log) (work : Work) (call : Call) (reply : Reply) → Answers work call reply → IsShown base log work → IsShown base (log_after log call reply) (after work call)
   shown-after log work Begin reply answers shown = shown
-  shown-after log work (Get key) reply answers shown = shown
-  shown-after log work (Put key value) reply answers shown = shown-written log work (of_main key, Some value) shown
-  shown-after log work (Del key) reply answers shown = shown-del log work key reply (get work.table (of_main key)) refl answers shown
-  shown-after log work (Scan low high) reply answers shown = shown
+  shown-after log work (Get name key) reply answers shown = shown
+  shown-after log work (Put name key value) reply answers shown = shown-written log work (of_table name key, Some value) shown
+  shown-after log work (Del name key) reply answers shown = shown-del log work name key reply (get work.table (of_table name key)) refl answers shown
+  shown-after log work (Scan name low high) reply answers shown = shown
   shown-after log work Save reply answers shown = shown-save log work shown
   shown-after log work (Back n) reply answers shown =
       let is : has_save log.saved n ≡ true = sym (same_saves log work n shown) ∙ answers.0 in

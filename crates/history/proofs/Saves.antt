@@ -4,7 +4,7 @@ use Rattle.std.specs.Prelude.{if◌then◌else◌}
 use Rattle.std.specs.List.{fold}
 use Rattle.std.proofs.lemmas.Bool.{and_parts, ltb-true, leb-true}
 use Rattle.std.proofs.lemmas.List.{length-take-le, take-append-le, take_all}
-use Rattle.history.specs.Key.{of_main}
+use Rattle.history.specs.Key.{of_table}
 use Rattle.history.specs.Writes.{Write, replaced, with_write}
 use Rattle.history.specs.Table.{Granted, has_save}
 use Rattle.history.specs.Log.{Log, save_at, floor_of, written, log_after, log_of}
@@ -109,11 +109,11 @@ rising-back log n is rising =
 
 rising-after : (log : Log) (call : Call) (reply : Reply) → IsRising log → IsRising (log_after log call reply)
 rising-after log Begin reply rising = rising
-rising-after log (Get key) reply rising = rising
-rising-after log (Put key value) reply rising = rising-written log (of_main key, Some value) rising
-rising-after log (Del key) Fine rising = rising-written log (of_main key, None) rising
-rising-after log (Del key) _ rising = rising
-rising-after log (Scan low high) reply rising = rising
+rising-after log (Get name key) reply rising = rising
+rising-after log (Put name key value) reply rising = rising-written log (of_table name key, Some value) rising
+rising-after log (Del name key) Fine rising = rising-written log (of_table name key, None) rising
+rising-after log (Del name key) _ rising = rising
+rising-after log (Scan name low high) reply rising = rising
 rising-after log Save reply rising = rises-push [] log.saved log.writes rising
 rising-after log (Back n) reply rising = go (has_save log.saved n) refl
   where

@@ -1,21 +1,23 @@
 -- The key of a record in an array: the name of its table, and a number.
+pub use Rattle.history.specs.declared.key.Key.{Key}
 use Rattle.std.specs.Prelude.{ℕ, Bool, nat_eq, ◌&&◌, List, codes}
 use lib.Pointwise.{pointwise}
 use Rattle.std.specs.declared.cmp.Ordering.{Ordering}
 use Rattle.std.specs.Ordering.{nat_cmp, ordering_then}
 use Rattle.std.specs.Cmp.Lexicographic.{slice_cmp}
+use Rattle.history.specs.declared.key.Key.{Key}
 
-pub record Key : Type 0 where
-  pub table : List ℕ
-  pub key : ℕ
-
--- the name of the table that all calls are of
+-- the name of the table that each array has
 abbrev pub main_name : List ℕ
 main_name = codes "main"
 
--- the key of this number of that table
+-- the key of this number of the table of this name
+abbrev pub of_table : List ℕ → ℕ → Key
+of_table table key = record { table = table; key = key }
+
+-- the same of the table `main`
 abbrev pub of_main : ℕ → Key
-of_main key = record { table = main_name; key = key }
+of_main key = of_table main_name key
 
 -- the order of keys: by the names of their tables, and within a table by number
 unfoldable pub key_cmp : Key → Key → Ordering

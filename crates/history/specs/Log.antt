@@ -1,7 +1,7 @@
 -- What a transaction has written so far, as a list that a way back truncates.
 use Rattle.std.specs.Prelude.{ℕ, ◌-◌, Bool, if◌then◌else◌, List, [], ◌∷◌, ◌++◌, length, take, drop, slice_index_or, Some, None}
 use Rattle.std.specs.List.{fold, list_any}
-use Rattle.history.specs.Key.{Key, of_main}
+use Rattle.history.specs.Key.{Key, of_table}
 use Rattle.history.specs.Writes.{Write, is_of, with_write}
 use Rattle.history.specs.Table.{Granted, has_save}
 use Rattle.history.specs.declared.call.Call.{Call}
@@ -32,8 +32,8 @@ written log write = record log { writes = with_write (floor_of log) write log.wr
 
 -- the log after a granted call; removing a record that is not there writes nothing
 abbrev pub log_after : Log → Call → Reply → Log
-log_after log (Put key value) reply = written log (of_main key, Some value)
-log_after log (Del key) Fine = written log (of_main key, None)
+log_after log (Put name key value) reply = written log (of_table name key, Some value)
+log_after log (Del name key) Fine = written log (of_table name key, None)
 log_after log Save reply = record log { saved = log.saved ++ log.writes ∷ [] }
 log_after log (Back n) reply = if has_save log.saved n then record { writes = save_at log.saved n; saved = take n log.saved } else log
 log_after log _ reply = log

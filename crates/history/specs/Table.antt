@@ -2,7 +2,7 @@
 use Rattle.std.specs.Prelude.{ℕ, ◌≡◌, ◌+◌, ◌-◌, Bool, ◌&&◌, nat_lt, nat_le, if◌then◌else◌, IsTrue, List, [], ◌∷◌, ◌++◌, length, take, slice_index_or, Option, Some, None}
 use Rattle.std.specs.List.{fold}
 use Rattle.std.specs.FinMap.{get, insert, remove}
-use Rattle.history.specs.Key.{of_main, main_name}
+use Rattle.history.specs.Key.{of_table}
 use Rattle.history.specs.Writes.{Table, rows_within}
 use Rattle.history.specs.declared.call.Call.{Call}
 use Rattle.history.specs.declared.call.Call.TheVariants.{Get, Put, Del, Scan, Save, Back}
@@ -35,20 +35,20 @@ removed (Some value) = Fine
 abbrev pub has_save : {A : Type 0} → List A → ℕ → Bool
 has_save saves n = nat_lt 0 n && nat_le n (length saves)
 
--- The reply is the table's to this call, which is of the table `main`. Begin, commit and abort are no calls of a table.
+-- The reply is the table's to this call. Begin, commit and abort are no calls of a table.
 abbrev pub Answers : Work → Call → Reply → Type 0
-Answers work (Get key) reply = reply ≡ found (get work.table (of_main key))
-Answers work (Put key value) reply = reply ≡ Fine
-Answers work (Del key) reply = reply ≡ removed (get work.table (of_main key))
-Answers work (Scan low high) reply = reply ≡ Listed (rows_within main_name low high work.table)
+Answers work (Get name key) reply = reply ≡ found (get work.table (of_table name key))
+Answers work (Put name key value) reply = reply ≡ Fine
+Answers work (Del name key) reply = reply ≡ removed (get work.table (of_table name key))
+Answers work (Scan name low high) reply = reply ≡ Listed (rows_within name low high work.table)
 Answers work Save reply = reply ≡ Saved (length work.saves + 1)
 Answers work (Back n) reply = IsTrue (has_save work.saves n) × (reply ≡ Fine)
 Answers work _ reply = ⊥
 
 -- the table after a call; a way back restores the table of that save and forgets the later saves
 abbrev pub after : Work → Call → Work
-after work (Put key value) = record { table = insert work.table (of_main key) value; saves = work.saves }
-after work (Del key) = record { table = remove work.table (of_main key); saves = work.saves }
+after work (Put name key value) = record { table = insert work.table (of_table name key) value; saves = work.saves }
+after work (Del name key) = record { table = remove work.table (of_table name key); saves = work.saves }
 after work Save = record { table = work.table; saves = work.saves ++ work.table ∷ [] }
 after work (Back n) = if has_save work.saves n then record { table = slice_index_or work.saves (n - 1) work.table; saves = take n work.saves } else work
 after work _ = work

@@ -1,15 +1,15 @@
 use crate::Rows;
-use record_slots::Value;
+use record_slots::{Name, Value};
 
 /// What a caller asks for.
 #[derive(Clone, Copy, Debug, PartialEq, Eq)]
 pub enum Call {
     Begin,
-    Get { key: u64 },
-    Put { key: u64, value: Value },
-    Del { key: u64 },
-    /// The records from one key to another, both included.
-    Scan { low: u64, high: u64 },
+    Get { table: Name, key: u64 },
+    Put { table: Name, key: u64, value: Value },
+    Del { table: Name, key: u64 },
+    /// The records of a table from one key to another, both included.
+    Scan { table: Name, low: u64, high: u64 },
     Save,
     /// Back to a save, counted from 1.
     Back { save: u32 },
@@ -31,6 +31,8 @@ pub enum Reply {
     /// The number of the transaction in the history, counted from 1.
     Committed(u64),
     NoTransaction,
+    /// There is no table of the name that the call asks for.
+    NoTable,
     /// A begin within a transaction.
     Already,
     /// The transaction has no such save.

@@ -18,6 +18,7 @@ impl Reply {
             Reply::Saved(count) => Reply::Saved(*count),
             Reply::Committed(at) => Reply::Committed(*at),
             Reply::NoTransaction => Reply::NoTransaction,
+            Reply::NoTable => Reply::NoTable,
             Reply::Already => Reply::Already,
             Reply::NoSave { save } => Reply::NoSave { save: *save },
             Reply::SavesFull => Reply::SavesFull,

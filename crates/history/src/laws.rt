@@ -10,17 +10,17 @@ ghost use Rattle.history.specs.Log.{log_of};
 /// Calls that are right on a table are right, with the same replies, on each table that agrees with it at the keys that they touched. What
 /// they leave of the two tables agrees there too, and nothing is changed but what they touched for writing.
 pub fn strict_locking()
-    ensures right { (calls : Granted) (one other : Table) → Agree (has_touched calls) one other → IsRight one calls → IsRight other calls }
-    ensures same { (calls : Granted) (one other : Table) → Agree (has_touched calls) one other → Agree (has_touched calls) (left_by one calls) (left_by other calls) }
-    ensures unwritten { (calls : Granted) (table : Table) → AgreeOff (has_written calls) (left_by table calls) table }
+    ensures right { (names : List (List ℕ)) (calls : Granted) (one other : Table) → Agree (has_touched names calls) one other → IsRight one calls → IsRight other calls }
+    ensures same { (names : List (List ℕ)) (calls : Granted) (one other : Table) → Agree (has_touched names calls) one other → Agree (has_touched names calls) (left_by one calls) (left_by other calls) }
+    ensures unwritten { (names : List (List ℕ)) (calls : Granted) (table : Table) → AgreeOff (has_written names calls) (left_by table calls) table }
 {}
 
 /// When a transaction commits, the calls of another transaction that clash with it at no stripe stay right and leave the same at what they
 /// touched. Nothing that the other read or wrote is changed.
 pub fn others_stay_right()
-    ensures right { (table : Table) (committed calls : Granted) → AreApart committed calls → IsRight table calls → IsRight (left_by table committed) calls }
-    ensures same { (table : Table) (committed calls : Granted) → AreApart committed calls → Agree (has_touched calls) (left_by table calls) (left_by (left_by table committed) calls) }
-    ensures unchanged { (table : Table) (committed calls : Granted) → AreApart committed calls → Agree (has_touched calls) table (left_by table committed) }
+    ensures right { (names : List (List ℕ)) (table : Table) (committed calls : Granted) → AreApart names committed calls → IsRight table calls → IsRight (left_by table committed) calls }
+    ensures same { (names : List (List ℕ)) (table : Table) (committed calls : Granted) → AreApart names committed calls → Agree (has_touched names calls) (left_by table calls) (left_by (left_by table committed) calls) }
+    ensures unchanged { (names : List (List ℕ)) (table : Table) (committed calls : Granted) → AreApart names committed calls → Agree (has_touched names calls) table (left_by table committed) }
 {}
 
 /// The log of right calls, written into the table on which they are right, gives the table that they leave.

@@ -7,6 +7,7 @@
 
 mod call;
 mod copying;
+mod key;
 mod laws;
 mod locks;
 mod replay;
@@ -15,8 +16,9 @@ mod transaction;
 
 pub use call::{Call, Reply};
 pub use copying::since;
+pub use key::{Key, main_table};
 pub use laws::{logs_show_what_is_seen, others_stay_right, strict_locking, what_a_write_shows};
-pub use locks::{MAIN_TABLE, Mode, stripe_of};
+pub use locks::{Mode, stripe_of};
 pub use replay::{is_legal, play};
-pub use rows::Rows;
+pub use rows::{Rows, Tables};
 pub use transaction::{Calls, CallsWithRoom, Done, History};

@@ -9,9 +9,6 @@ pub enum Mode {
     Exclusive,
 }
 
-/// The number of the table that all keys are of.
-pub const MAIN_TABLE: u8 = 0;
-
 /// The stripe of a key of a table, one of 64.
 #[inline]
 pub fn stripe_of(table: u8, key: u64) -> u64

@@ -1,43 +1,42 @@
 // Replays a history on a table in memory.
 ghost use Rattle.std.specs.Prelude.{◌≡◌, ◌↔◌, ◌+◌, length, IsTrue, IfOk, OnOk};
 ghost use Rattle.std.specs.FinMap.{get, entries, insert, remove};
-ghost use Rattle.history.specs.Key.{main_name, of_main};
+ghost use Rattle.history.specs.Key.{of_table};
 ghost use Rattle.history.specs.Writes.{rows_within};
 ghost use Rattle.history.specs.Table.{Answers, after, begun, worked, IsRight, left_by, found, removed, has_save};
 ghost use Rattle.history.specs.Legal.{records, IsLegal};
 ghost use Rattle.history.specs.declared.call.Call.TheVariants.{Save, Back};
 ghost use Rattle.history.specs.declared.call.Reply.TheVariants.{Fine, Found, Absent, Listed, Saved};
-ghost use Rattle.history.specs.Rows.{all_keyed, table_of};
-ghost use Rattle.history.specs.Replay.{table_in, work_in};
+ghost use Rattle.history.specs.Rows.{records_in, table_of};
+ghost use Rattle.history.specs.Replay.{table_in, work_in, with_rows, is_listed};
 
-use crate::{Call, Calls, Done, History, Reply, Rows};
+use crate::{Call, Calls, Done, History, Key, Reply, Rows, Tables};
 use mars_base::NoMemory;
-use record_slots::Value;
+use record_slots::{Name, Value};
 use std::alloc::Global;
 use std::collections::BTreeMap;
 
 /// A table and its copies at the saves of a transaction, the first save first.
 #[derive(Drop)]
 struct Replay {
-    table: BTreeMap<u64, Value>,
-    saves: Vec<BTreeMap<u64, Value>>,
+    table: BTreeMap<Key, Value>,
+    saves: Vec<BTreeMap<Key, Value>>,
 }
 
-/// The records after a history, by rising key. They and those of `base` are all of the table `main`; if a key stands twice in `base`, the first
-/// record counts.
-pub fn play(history: &History, base: &Rows, alloc: Global) -> Result<Rows, NoMemory>
-    ensures { IfOk result (λ rows. all_keyed main_name rows ≡ entries (records (table_of base.now) history.now)) }
+/// The records after a history, by rising key. If a key stands twice in `base`, the first record counts.
+pub fn play(history: &History, base: &Tables, alloc: Global) -> Result<Tables, NoMemory>
+    ensures { IfOk result (λ tables. records_in tables ≡ entries (records (table_of base.now) history.now)) }
 {
     let mut replay = Replay::new(base, alloc)?;
     for done in history.as_slice() {
         replay.make_all(&done.calls)?;
     }
-    replay.rows(alloc)
+    replay.tables(alloc)
 }
 
 /// Whether the history is legal on the records of `base`: each transaction has the next number, and its replies are those of a table that
 /// has been through the transactions before it.
-pub fn is_legal(history: &History, base: &Rows, alloc: Global) -> Result<bool, NoMemory>
+pub fn is_legal(history: &History, base: &Tables, alloc: Global) -> Result<bool, NoMemory>
     ensures { IfOk result (λ legal. IsTrue legal ↔ IsLegal (table_of base.now) history.now) }
 {
     let mut replay = Replay::new(base, alloc)?;
@@ -55,7 +54,7 @@ pub fn is_legal(history: &History, base: &Rows, alloc: Global) -> Result<bool, N
 }
 
 impl Replay {
-    fn new(base: &Rows, alloc: Global) -> Result<Replay, NoMemory>
+    fn new(base: &Tables, alloc: Global) -> Result<Replay, NoMemory>
         ensures { IfOk result (λ replay. work_in replay ≡ begun (table_of base.now)) }
     {
         Ok(Replay {
@@ -95,51 +94,64 @@ impl Replay {
         ensures { IfOk result (λ right. IsTrue right ↔ Answers (work_in self.now) call.now reply.now) }
     {
         match call {
-            Call::Get { key } => Ok(self.finds(*key, reply)),
+            Call::Get { table, key } => Ok(self.finds(&placed(table, *key), reply)),
             Call::Put { .. } => Ok(is_fine(reply)),
-            Call::Del { key } => Ok(self.removes(*key, reply)),
-            Call::Scan { low, high } => self.lists(*low, *high, reply, alloc),
+            Call::Del { table, key } => Ok(self.removes(&placed(table, *key), reply)),
+            Call::Scan { table, low, high } => self.lists(table, *low, *high, reply, alloc),
             Call::Save => Ok(self.saves_as(reply)),
             Call::Back { save } => Ok(self.has_save(*save) && is_fine(reply)),
             Call::Begin | Call::Commit | Call::Abort => Ok(false),
         }
     }
 
-    fn finds(&self, key: u64, reply: &Reply) -> bool
-        ensures { IsTrue result ↔ (reply.now ≡ found (get (work_in self.now).table (of_main key))) }
+    fn finds(&self, key: &Key, reply: &Reply) -> bool
+        ensures { IsTrue result ↔ (reply.now ≡ found (get (work_in self.now).table key.now)) }
     {
-        match self.table.get(&key) {
+        match self.table.get(key) {
             None => is_absent(reply),
             Some(value) => is_found(reply, value),
         }
     }
 
-    fn removes(&self, key: u64, reply: &Reply) -> bool
-        ensures { IsTrue result ↔ (reply.now ≡ removed (get (work_in self.now).table (of_main key))) }
+    fn removes(&self, key: &Key, reply: &Reply) -> bool
+        ensures { IsTrue result ↔ (reply.now ≡ removed (get (work_in self.now).table key.now)) }
     {
-        match self.table.get(&key) {
+        match self.table.get(key) {
             None => is_absent(reply),
             Some(_) => is_fine(reply),
         }
     }
 
-    fn lists(&self, low: u64, high: u64, reply: &Reply, alloc: Global) -> Result<bool, NoMemory>
-        ensures { IfOk result (λ right. IsTrue right ↔ (reply.now ≡ Listed (rows_within main_name low high (work_in self.now).table))) }
+    fn lists(
+        &self,
+        table: &Name,
+        low: u64,
+        high: u64,
+        reply: &Reply,
+        alloc: Global,
+    ) -> Result<bool, NoMemory>
+        ensures { IfOk result (λ right. IsTrue right ↔ (reply.now ≡ Listed (rows_within table.now low high (work_in self.now).table))) }
     {
         let Reply::Listed(told) = reply else {
             return Ok(false);
         };
-        let rows = self.rows_within(low, high, alloc)?;
+        let rows = self.rows_within(table, low, high, alloc)?;
         Ok(rows == *told)
     }
 
-    fn rows_within(&self, low: u64, high: u64, alloc: Global) -> Result<Rows, NoMemory>
-        ensures { IfOk result (λ rows. rows ≡ rows_within main_name low high (work_in self.now).table) }
+    fn rows_within(
+        &self,
+        table: &Name,
+        low: u64,
+        high: u64,
+        alloc: Global,
+    ) -> Result<Rows, NoMemory>
+        ensures { IfOk result (λ rows. rows ≡ rows_within table.now low high (work_in self.now).table) }
     {
         let mut rows = Rows::new(alloc);
         for (key, value) in self.table.iter() {
-            if low <= *key && *key <= high {
-                rows.push(*key, *value)?;
+            if is_listed(key, table, low, high) {
+                rows.push(key.key, *value)?;
             }
         }
         Ok(rows)
@@ -170,9 +182,9 @@ impl Replay {
         ensures { OnOk result (work_in self.new ≡ after (work_in self.old) call.now) }
     {
         match call {
-            Call::Put { key, value } => self.put(*key, *value),
-            Call::Del { key } => {
-                self.del(*key);
+            Call::Put { table, key, value } => self.put(placed(table, *key), *value),
+            Call::Del { table, key } => {
+                self.del(&placed(table, *key));
                 Ok(())
             }
             Call::Save => self.save(),
@@ -183,17 +195,17 @@ impl Replay {
         }
     }
 
-    fn put(&mut self, key: u64, value: Value) -> Result<(), NoMemory>
-        ensures { OnOk result (work_in self.new ≡ record { table = insert (work_in self.old).table (of_main key) value; saves = (work_in self.old).saves }) }
+    fn put(&mut self, key: Key, value: Value) -> Result<(), NoMemory>
+        ensures { OnOk result (work_in self.new ≡ record { table = insert (work_in self.old).table key value; saves = (work_in self.old).saves }) }
     {
         self.table.insert(key, value)?;
         Ok(())
     }
 
-    fn del(&mut self, key: u64)
-        ensures { work_in self.new ≡ record { table = remove (work_in self.old).table (of_main key); saves = (work_in self.old).saves } }
+    fn del(&mut self, key: &Key)
+        ensures { work_in self.new ≡ record { table = remove (work_in self.old).table key.now; saves = (work_in self.old).saves } }
     {
-        self.table.remove(&key);
+        self.table.remove(key);
     }
 
     fn save(&mut self) -> Result<(), NoMemory>
@@ -215,14 +227,14 @@ impl Replay {
         Ok(())
     }
 
-    fn rows(&self, alloc: Global) -> Result<Rows, NoMemory>
-        ensures { IfOk result (λ rows. all_keyed main_name rows ≡ entries (work_in self.now).table) }
+    fn tables(&self, alloc: Global) -> Result<Tables, NoMemory>
+        ensures { IfOk result (λ tables. records_in tables ≡ entries (work_in self.now).table) }
     {
-        let mut rows = Rows::new(alloc);
+        let mut tables = Tables::new(alloc);
         for (key, value) in self.table.iter() {
-            rows.push(*key, *value)?;
+            tables.add(alloc, key.table, key.key, *value)?;
         }
-        Ok(rows)
+        Ok(tables)
     }
 }
 
@@ -247,19 +259,47 @@ fn is_found(reply: &Reply, value: &Value) -> bool
     }
 }
 
-fn table_from(rows: &[(u64, Value)], alloc: Global) -> Result<BTreeMap<u64, Value>, NoMemory>
-    ensures { IfOk result (λ table. table_in table ≡ table_of rows.now) }
+fn table_from(tables: &[(Name, Rows)], alloc: Global) -> Result<BTreeMap<Key, Value>, NoMemory>
+    ensures { IfOk result (λ table. table_in table ≡ table_of tables.now) }
 {
-    // From the last row on, so that of two rows with one key the first stays.
+    // From the last table on, so that of two records with one key the first stays.
     let mut table = BTreeMap::new(alloc);
-    for i in 0..rows.len() {
-        let row = &rows[rows.len() - 1 - i];
-        table.insert(row.0, row.1)?;
+    for i in 0..tables.len() {
+        let rows = &tables[tables.len() - 1 - i];
+        put_rows(&mut table, &rows.0, rows.1.as_slice())?;
     }
     Ok(table)
 }
 
-fn copy_of(table: &BTreeMap<u64, Value>) -> Result<BTreeMap<u64, Value>, NoMemory>
+// Puts the rows of a table, from the last one on.
+fn put_rows(
+    table: &mut BTreeMap<Key, Value>,
+    name: &Name,
+    rows: &[(u64, Value)],
+) -> Result<(), NoMemory>
+    ensures { OnOk result (table_in table.new ≡ with_rows (table_in table.old) name.now rows.now) }
+{
+    for i in 0..rows.len() {
+        let row = &rows[rows.len() - 1 - i];
+        table.insert(placed(name, row.0), row.1)?;
+    }
+    Ok(())
+}
+
+fn placed(table: &Name, key: u64) -> Key
+    ensures { result ≡ of_table table.now key }
+{
+    Key { table: *table, key }
+}
+
+// The key is one of the table of this name, and within the bounds.
+fn is_listed(key: &Key, table: &Name, low: u64, high: u64) -> bool
+    ensures { result ≡ is_listed table.now low high key.now }
+{
+    table.as_bytes() == key.table.as_bytes() && (low <= key.key && key.key <= high)
+}
+
+fn copy_of(table: &BTreeMap<Key, Value>) -> Result<BTreeMap<Key, Value>, NoMemory>
     ensures { IfOk result (λ copy. copy.entries ≡ table.now.entries) }
 {
     Ok(table.clone()?)

@@ -1,8 +1,9 @@
 ghost use Rattle.std.specs.Prelude.{◌≡◌, [], ◌∷◌, ◌++◌, IfOk, OnOk, OnErr};
-ghost use Rattle.history.specs.Rows.{is_same_row, are_same_rows};
+ghost use Rattle.history.specs.Key.{of_table};
+ghost use Rattle.history.specs.Rows.{is_same_row, are_same_rows, records_in};
 
 use mars_base::NoMemory;
-use record_slots::Value;
+use record_slots::{Name, Value};
 use std::alloc::Global;
 use std::marker::Model;
 
@@ -93,4 +94,63 @@ fn are_same(one: &[(u64, Value)], other: &[(u64, Value)]) -> bool
         }
     }
     true
+}
+
+/// Records of tables: for each its name and its rows.
+#[derive(Debug, Drop)]
+pub struct Tables {
+    tables: Vec<(Name, Rows)>,
+}
+
+impl Model for Tables {
+    ghost use Rattle.std.specs.Prelude.{List};
+    ghost use Rattle.history.specs.Rows.{NamedRows};
+
+    ghost Value = { List NamedRows };
+
+    ghost view = { λ t. t.tables.items };
+}
+
+impl Tables {
+    pub fn new(alloc: Global) -> Tables
+        ensures { result ≡ [] }
+    {
+        Tables {
+            tables: Vec::new(alloc),
+        }
+    }
+
+    /// Adds a table behind the others.
+    pub fn push(&mut self, name: Name, rows: Rows) -> Result<(), NoMemory>
+        ensures ok { OnOk result (self.new ≡ self.old ++ (name, rows) ∷ []) }
+        ensures err { OnErr result (self.new ≡ self.old) }
+    {
+        self.tables.push((name, rows))?;
+        Ok(())
+    }
+
+    /// Adds a record behind the others: to the last table, if that has its name, or else to a table more.
+    pub fn add(
+        &mut self,
+        alloc: Global,
+        table: Name,
+        key: u64,
+        value: Value,
+    ) -> Result<(), NoMemory>
+        ensures { OnOk result (records_in self.new ≡ records_in self.old ++ (of_table table key, value) ∷ []) }
+    {
+        let count = self.tables.len();
+        if count > 0 && self.tables[count - 1].0.as_bytes() == table.as_bytes() {
+            return self.tables[count - 1].1.push(key, value);
+        }
+        let mut rows = Rows::new(alloc);
+        rows.push(key, value)?;
+        self.push(table, rows)
+    }
+
+    pub fn as_slice(&self) -> &[(Name, Rows)]
+        ensures { result.now ≡ self.now }
+    {
+        &self.tables
+    }
 }

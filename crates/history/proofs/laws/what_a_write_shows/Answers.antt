@@ -1,4 +1,4 @@
-use Rattle.history.proofs.Tables.{get-set_here, get-set_there}
+use Rattle.history.proofs.Agreeing.{get-set_here, get-set_there}
 use Rattle.history.proofs.laws.what_a_write_shows.Goals as goal
 
 pub returns : goal.returns

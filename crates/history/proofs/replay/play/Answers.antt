@@ -8,6 +8,6 @@ use Rattle.history.proofs.replay.play.Goals as goal
 
 pub returns : goal.returns
 returns c =
-    IfOk-weaker c.rows.result _ _
-    (λ rows is. is ∙ ap entries (c.loop-done.invariant ∙ ap (records (table_of c.args.base.now)) (take_all c.loop-done.done-index c.as_slice-done-items.result.now c.loop-done-test.false ∙ c.as_slice-done-items.ensures)))
-    c.rows.ensures
+    IfOk-weaker c.tables.result _ _
+    (λ tables is. is ∙ ap entries (c.loop-done.invariant ∙ ap (records (table_of c.args.base.now)) (take_all c.loop-done.done-index c.as_slice-done-items.result.now c.loop-done-test.false ∙ c.as_slice-done-items.ensures)))
+    c.tables.ensures

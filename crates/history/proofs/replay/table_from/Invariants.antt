@@ -4,4 +4,4 @@ use Rattle.history.specs.Replay.{table_in}
 use Rattle.history.proofs.replay.table_from.Given as goal
 
 abbrev pub invariant-loop-i : goal.invariant-loop-i
-invariant-loop-i l = table_in l.table ≡ table_of (drop (length l.rows - l.i) l.rows)
+invariant-loop-i l = table_in l.table ≡ table_of (drop (length l.tables - l.i) l.tables)

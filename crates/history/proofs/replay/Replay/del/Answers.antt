@@ -6,4 +6,4 @@ use Rattle.history.proofs.replay.Replay.del.Goals as goal
 
 pub returns : goal.returns
 returns c = ap (λ (t : Table). record { table = t; saves = map table_in c.args.self.now.saves.items })
-    (table_in-written c.args.self.now.table c.remove.new.self c.args.key None c.remove.ensures.updates)
+    (table_in-written c.args.self.now.table c.remove.new.self c.args.key.now None c.remove.ensures.updates)

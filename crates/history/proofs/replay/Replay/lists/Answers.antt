@@ -1,5 +1,4 @@
 use Rattle.std.proofs.Common.{◌≡◌, ℕ, List, [], ap, sym, ◌∙◌}
-use Rattle.history.specs.Key.{main_name}
 use Rattle.history.specs.Writes.{rows_within}
 use Rattle.history.specs.declared.call.Reply.{Reply}
 use Rattle.history.specs.declared.call.Reply.TheVariants.{Listed}
@@ -18,7 +17,7 @@ same_rows one other is = ap rows_in is
 pub returns : goal.returns
 returns c =
     let decides = rows_decide c.in_ok-rows.rows c.in-Listed.told c.eq.result c.eq.ensures in
-    let within = rows_within main_name c.args.low c.args.high (table_in c.args.self.now.table) in (
+    let within = rows_within c.args.table.now c.args.low c.args.high (table_in c.args.self.now.table) in (
       λ same. c.in-Listed.is ∙ ap Listed (sym (decides.0 same) ∙ c.in_ok-rows.ensures),
       λ is. decides.1 (c.in_ok-rows.ensures ∙ sym (same_rows c.in-Listed.told within (sym c.in-Listed.is ∙ is))),
     )
