@@ -11,7 +11,8 @@ use Rattle.std.proofs.lemmas.Bool.{false≢true, cases_lt}
 use Rattle.std.proofs.lemmas.List.{take-append-le, take_all, length-append}
 use Rattle.std.proofs.lemmas.Fmt.{decimal_is_IsNumeral}
 use Rattle.std.proofs.lemmas.List.Sums.{fold-append, sum_by-cons}
-use Rattle.history.specs.Key.{Key, key_cmp, of_main}
+use Rattle.history.specs.Key.{key_cmp, of_main}
+use Rattle.history.specs.declared.key.Key.{Key}
 use Rattle.history.proofs.Keys.{key_cmp_total}
 use Rattle.history.specs.Writes.{Table, set_or_remove}
 use Rattle.history.specs.Table.{left_by}

@@ -3,7 +3,8 @@ use Rattle.std.specs.Prelude.{ℕ, ◌≡◌, ◌+◌, ◌-◌, ◌^◌, ◌<◌
 use Rattle.std.specs.List.{sum_by}
 use Rattle.std.specs.FinMap.{get, insert, entries}
 use Rattle.std.specs.Str.Parse.{digits_value}
-use Rattle.history.specs.Key.{Key, of_main}
+use Rattle.history.specs.Key.{of_main}
+use Rattle.history.specs.declared.key.Key.{Key}
 use Rattle.history.specs.Writes.{Table}
 use Rattle.history.specs.Legal.{records}
 use Rattle.history.specs.declared.transaction.Done.{Done}

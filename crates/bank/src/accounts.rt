@@ -1,5 +1,6 @@
 // Accounts, and why a transfer is given up.
 ghost use Rattle.std.specs.Prelude.{◌≡◌, ◌<◌, decimal, IsTrue, IfOk, IfErr};
+ghost use Rattle.history.specs.Key.{main_name};
 ghost use Rattle.history.specs.declared.call.Call.TheVariants.{Get, Put};
 ghost use Rattle.history.specs.declared.call.Reply.TheVariants.{Fine, Found};
 ghost use Rattle.caller_steps.specs.Sound.{IsSound};
@@ -8,6 +9,7 @@ ghost use Rattle.transactions.specs.Went.{IsOfCore};
 ghost use Rattle.bank.specs.Moves.{IsOfRead, HasNoReason};
 
 use caller_steps::Core;
+use history::main_table;
 use transactions::{Stop, get, number_in, put, value_of};
 
 /// Why a transfer was not made, or a balance was not given.
@@ -29,9 +31,9 @@ pub(crate) fn read<C: Core>(core: &mut C, caller: u8, account: u64) -> Result<u6
     ensures stays { IsTrue C.tells → Stays caller (C.view core.old) (C.view core.new) }
     ensures cause { IfErr result (IsOfRead account) }
     ensures of_core { IsTrue C.tells → IfErr result (IsOfCore caller (C.view core.old) (C.view core.new)) }
-    ensures found { IsTrue C.tells → IfOk result (λ n. Adds caller (Get account) (Found (decimal n)) (C.view core.old) (C.view core.new)) }
+    ensures found { IsTrue C.tells → IfOk result (λ n. Adds caller (Get main_name account) (Found (decimal n)) (C.view core.old) (C.view core.new)) }
 {
-    let Some(value) = get(core, caller, account)? else {
+    let Some(value) = get(core, caller, main_table(), account)? else {
         return Err(Stop::GivenUp(Refusal::NoAccount { account }));
     };
     match number_in(&value) {
@@ -53,8 +55,8 @@ pub(crate) fn write<C: Core>(
     ensures stays { IsTrue C.tells → Stays caller (C.view core.old) (C.view core.new) }
     ensures cause { IfErr result HasNoReason }
     ensures of_core { IsTrue C.tells → IfErr result (IsOfCore caller (C.view core.old) (C.view core.new)) }
-    ensures written { IsTrue C.tells → IfOk result (λ done. Adds caller (Put account (decimal number)) Fine (C.view core.old) (C.view core.new)) }
+    ensures written { IsTrue C.tells → IfOk result (λ done. Adds caller (Put main_name account (decimal number)) Fine (C.view core.old) (C.view core.new)) }
 {
-    put(core, caller, account, value_of(number))?;
+    put(core, caller, main_table(), account, value_of(number))?;
     Ok(())
 }

@@ -54,6 +54,7 @@ prefix_of mid new least fewer image on le has =
 pub continues_none : (core : CoreView) → IsSound core.state → IsSafe core core.moment (length core.state.history) → Continues core core
 continues_none core sound safe = record {
   limits = refl;
+  names = refl;
   base = refl;
   opens = λ image table opens. opens;
   grows = grows_none core.state.history;
@@ -67,6 +68,7 @@ continues_none core sound safe = record {
 pub continues_on : (old mid new : CoreView) → Continues old mid → Continues mid new → Continues old new
 continues_on old mid new a b = record {
   limits = b.limits ∙ a.limits;
+  names = b.names ∙ a.names;
   base = b.base ∙ a.base;
   opens = λ image table opens. b.opens image table (a.opens image table opens);
   grows = grows_on old.state.history mid.state.history new.state.history a.grows b.grows;
@@ -103,6 +105,7 @@ module _ (tells : Bool) (caller : ℕ) (call : Call) (old new : CoreView) (reply
   pub continues_step : Continues old new
   continues_step = record {
     limits = steps.limits;
+    names = steps.moves.names;
     base = steps.moves.base;
     opens = steps.opens;
     grows = step_grows;

@@ -6,19 +6,20 @@ use Rattle.history.specs.declared.call.Call.{Call}
 use Rattle.history.specs.declared.call.Call.TheVariants.{Begin, Get, Put, Del, Scan, Save, Back, Commit, Abort}
 use Rattle.history.specs.declared.call.Reply.{Reply}
 use Rattle.history.specs.declared.call.Reply.TheVariants.{Busy}
+use Rattle.history.specs.Locks.{has_table}
 use Rattle.caller_steps.specs.State.{State, view_of}
 use Rattle.caller_steps.specs.Locked.{IsFree, IsBusyWith}
 use Rattle.caller_steps.specs.Room.{Limits}
-use Rattle.caller_steps.specs.Step.{Asks, StepAt, StepIf, Step}
+use Rattle.caller_steps.specs.Step.{Asks, AsksTable, StepAt, StepIf, Step}
 use Rattle.caller_steps.specs.Fate.{is_of_array}
 use Rattle.caller_steps.proofs.Fates.{lacks_of_array}
 
 -- the one-thread table has one reply to each call
 answers_one : (work : Work) (call : Call) (one other : Reply) → Answers work call one → Answers work call other → one ≡ other
-answers_one work (Get key) one other a b = a ∙ sym b
-answers_one work (Put key value) one other a b = a ∙ sym b
-answers_one work (Del key) one other a b = a ∙ sym b
-answers_one work (Scan low high) one other a b = a ∙ sym b
+answers_one work (Get name key) one other a b = a ∙ sym b
+answers_one work (Put name key value) one other a b = a ∙ sym b
+answers_one work (Del name key) one other a b = a ∙ sym b
+answers_one work (Scan name low high) one other a b = a ∙ sym b
 answers_one work Save one other a b = a ∙ sym b
 answers_one work (Back n) one other a b = a.1 ∙ sym b.1
 answers_one work _ one other a b = absurd a
@@ -59,6 +60,13 @@ module _ (limits : Limits) (old : State) (caller : ℕ) where
       → Asks limits calls old caller call one new → Asks limits calls old caller call other next → one ≡ other
   asks_one calls call one other new next ok ok' a b = ours_one call one other (ours calls call one new ok a) (ours calls call other next ok' b)
 
+  tabled_one : (calls : Granted) (call : Call) (one other : Reply) (new next : State) → is_of_array one ≡ false → is_of_array other ≡ false
+      → AsksTable limits calls old caller call one new → AsksTable limits calls old caller call other next → one ≡ other
+  tabled_one calls call one other new next ok ok' (inl (none, a)) (inl (none', b)) = a.0 ∙ sym b.0
+  tabled_one calls call one other new next ok ok' (inl (none, a)) (inr (some, b)) = absurd (both_ways (has_table old.names call) none some)
+  tabled_one calls call one other new next ok ok' (inr (some, a)) (inl (none, b)) = absurd (both_ways (has_table old.names call) none some)
+  tabled_one calls call one other new next ok ok' (inr (some, a)) (inr (some', b)) = asks_one calls call one other new next ok ok' a b
+
   one_at : (live : Option Granted) (call : Call) (one other : Reply) (new next : State) → is_of_array one ≡ false → is_of_array other ≡ false
       → StepAt limits live old caller call one new → StepAt limits live old caller call other next → one ≡ other
   one_at None Begin one other new next ok ok' a b = a.0 ∙ sym b.0
@@ -78,7 +86,7 @@ module _ (limits : Limits) (old : State) (caller : ℕ) where
   one_at (Some calls) (Back n) one other new next ok ok' (inl (none, a)) (inr (some, b)) = absurd (both_ways (has_save (view_of old caller).saves n) none some)
   one_at (Some calls) (Back n) one other new next ok ok' (inr (some, a)) (inl (none, b)) = absurd (both_ways (has_save (view_of old caller).saves n) none some)
   one_at (Some calls) (Back n) one other new next ok ok' (inr (some, a)) (inr (some', b)) = asks_one calls (Back n) one other new next ok ok' a b
-  one_at (Some calls) call one other new next ok ok' a b = asks_one calls call one other new next ok ok' a b
+  one_at (Some calls) call one other new next ok ok' a b = tabled_one calls call one other new next ok ok' a b
 
   one_if : (dead : Bool) (call : Call) (one other : Reply) (new next : State) → is_of_array one ≡ false → is_of_array other ≡ false
       → StepIf limits dead old caller call one new → StepIf limits dead old caller call other next → one ≡ other

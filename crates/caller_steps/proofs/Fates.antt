@@ -4,16 +4,17 @@ use Rattle.std.specs.Map.{update}
 use Rattle.std.specs.FinMap.{get}
 use Rattle.std.proofs.lemmas.Map.{update_here, update_apart}
 use Rattle.std.proofs.lemmas.Bool.{true≢false, cond-true, cond-false}
-use Rattle.history.specs.Key.{Key, of_main}
+use Rattle.history.specs.Key.{of_table}
+use Rattle.history.specs.declared.key.Key.{Key}
 use Rattle.history.specs.Table.{Granted, Work, found, removed, Answers}
 use Rattle.history.specs.declared.call.Call.{Call}
 use Rattle.history.specs.declared.call.Call.TheVariants.{Begin, Get, Put, Del, Scan, Save, Back, Commit, Abort}
 use Rattle.history.specs.declared.call.Reply.{Reply}
-use Rattle.history.specs.declared.call.Reply.TheVariants.{Fine, Committed, NoTransaction, Already, NoSave, SavesFull, Busy, LogFull, SlotsFull, PagesFull, Media, Dead, NoMemory}
+use Rattle.history.specs.declared.call.Reply.TheVariants.{Fine, Committed, NoTransaction, NoTable, Already, NoSave, SavesFull, Busy, LogFull, SlotsFull, PagesFull, Media, Dead, NoMemory}
 use Rattle.caller_steps.specs.State.{State, Index, calls_of, view_of, with_live, done_by}
 use Rattle.caller_steps.specs.Locked.{IsFree}
 use Rattle.caller_steps.specs.Room.{Limits, Lacks, LacksAt}
-use Rattle.caller_steps.specs.Step.{Says, Asks, StepAt, StepIf, Step, Runs}
+use Rattle.caller_steps.specs.Step.{Says, Asks, AsksTable, StepAt, StepIf, Step, Runs}
 use Rattle.caller_steps.specs.Fate.{is_refusal, is_media, is_committed, is_of_array, history_after, live_with, Moves}
 
 pub data Fate (old : State) (caller : ℕ) (call : Call) (reply : Reply) (new : State) : Type 0 where
@@ -39,8 +40,8 @@ lacks_at_of_array limits old caller key None (LogFull g h n) lacks = refl
 lacks_at_of_array limits old caller key _ _ lacks = absurd lacks
 
 pub lacks_of_array : (limits : Limits) (old : State) (caller : ℕ) (call : Call) (reply : Reply) → Lacks limits old caller call reply → is_of_array reply ≡ true
-lacks_of_array limits old caller (Put key value) reply lacks = lacks_at_of_array limits old caller (of_main key) (old.index.slot_of (of_main key)) reply lacks
-lacks_of_array limits old caller (Del key) reply lacks = lacks_at_of_array limits old caller (of_main key) (Some lacks.1) reply lacks.3
+lacks_of_array limits old caller (Put name key value) reply lacks = lacks_at_of_array limits old caller (of_table name key) (old.index.slot_of (of_table name key)) reply lacks
+lacks_of_array limits old caller (Del name key) reply lacks = lacks_at_of_array limits old caller (of_table name key) (Some lacks.1) reply lacks.3
 lacks_of_array limits old caller _ reply lacks = absurd lacks
 
 lacks_at_refusal : (limits : Limits) (old : State) (caller : ℕ) (key : Key) (slot : Option ℕ) (reply : Reply) → LacksAt limits old caller key slot reply → (is_refusal reply ≡ true) × (is_media reply ≡ false)
@@ -51,8 +52,8 @@ lacks_at_refusal limits old caller key None (LogFull g h n) lacks = (refl, refl)
 lacks_at_refusal limits old caller key _ _ lacks = absurd lacks
 
 lacks_refusal : (limits : Limits) (old : State) (caller : ℕ) (call : Call) (reply : Reply) → Lacks limits old caller call reply → (is_refusal reply ≡ true) × (is_media reply ≡ false)
-lacks_refusal limits old caller (Put key value) reply lacks = lacks_at_refusal limits old caller (of_main key) (old.index.slot_of (of_main key)) reply lacks
-lacks_refusal limits old caller (Del key) reply lacks = lacks_at_refusal limits old caller (of_main key) (Some lacks.1) reply lacks.3
+lacks_refusal limits old caller (Put name key value) reply lacks = lacks_at_refusal limits old caller (of_table name key) (old.index.slot_of (of_table name key)) reply lacks
+lacks_refusal limits old caller (Del name key) reply lacks = lacks_at_refusal limits old caller (of_table name key) (Some lacks.1) reply lacks.3
 lacks_refusal limits old caller _ reply lacks = absurd lacks
 
 module _ (limits : Limits) (old : State) (caller : ℕ) (new : State) where
@@ -66,21 +67,25 @@ module _ (limits : Limits) (old : State) (caller : ℕ) (new : State) where
   asks calls call reply is (inr (inr (free, inr (inl (lacks, index, indexes, e))))) = let both = lacks_refusal limits old caller call reply lacks in refused both.0 both.1 index e
   asks calls call reply is (inr (inr (free, inr (inr (uses, (re, index, e)))))) = failed re index e
 
+  tabled : (calls : Granted) (call : Call) (reply : Reply) → old.live caller ≡ Some calls → AsksTable limits calls old caller call reply new → Fate old caller call reply new
+  tabled calls call reply is (inl (none, s)) = says call reply NoTable refl refl s
+  tabled calls call reply is (inr (some, a)) = asks calls call reply is a
+
   fate_at : (live : Option Granted) (call : Call) (reply : Reply) → old.live caller ≡ live → StepAt limits live old caller call reply new → Fate old caller call reply new
   fate_at None Begin reply is (re, e) = began refl re e
-  fate_at None (Get key) reply is s = says (Get key) reply NoTransaction refl refl s
-  fate_at None (Put key value) reply is s = says (Put key value) reply NoTransaction refl refl s
-  fate_at None (Del key) reply is s = says (Del key) reply NoTransaction refl refl s
-  fate_at None (Scan low high) reply is s = says (Scan low high) reply NoTransaction refl refl s
+  fate_at None (Get name key) reply is s = says (Get name key) reply NoTransaction refl refl s
+  fate_at None (Put name key value) reply is s = says (Put name key value) reply NoTransaction refl refl s
+  fate_at None (Del name key) reply is s = says (Del name key) reply NoTransaction refl refl s
+  fate_at None (Scan name low high) reply is s = says (Scan name low high) reply NoTransaction refl refl s
   fate_at None Save reply is s = says Save reply NoTransaction refl refl s
   fate_at None (Back n) reply is s = says (Back n) reply NoTransaction refl refl s
   fate_at None Commit reply is s = says Commit reply NoTransaction refl refl s
   fate_at None Abort reply is s = says Abort reply NoTransaction refl refl s
   fate_at (Some calls) Begin reply is s = says Begin reply Already refl refl s
-  fate_at (Some calls) (Get key) reply is a = asks calls (Get key) reply is a
-  fate_at (Some calls) (Put key value) reply is a = asks calls (Put key value) reply is a
-  fate_at (Some calls) (Del key) reply is a = asks calls (Del key) reply is a
-  fate_at (Some calls) (Scan low high) reply is a = asks calls (Scan low high) reply is a
+  fate_at (Some calls) (Get name key) reply is a = tabled calls (Get name key) reply is a
+  fate_at (Some calls) (Put name key value) reply is a = tabled calls (Put name key value) reply is a
+  fate_at (Some calls) (Del name key) reply is a = tabled calls (Del name key) reply is a
+  fate_at (Some calls) (Scan name low high) reply is a = tabled calls (Scan name low high) reply is a
   fate_at (Some calls) Save reply is (inl (full, s)) = says Save reply SavesFull refl refl s
   fate_at (Some calls) Save reply is (inr (room, a)) = asks calls Save reply is a
   fate_at (Some calls) (Back n) reply is (inl (none, s)) = says (Back n) reply (NoSave n) refl refl s
@@ -118,10 +123,10 @@ removed_plain None reply e = record { done = ap is_refusal e; uncommitted = ap i
 removed_plain (Some v) reply e = record { done = ap is_refusal e; uncommitted = ap is_committed e; sure = ap is_media e }
 
 pub answer_plain : (work : Work) (call : Call) (reply : Reply) → Answers work call reply → IsPlain reply
-answer_plain work (Get key) reply answers = found_plain (get work.table (of_main key)) reply answers
-answer_plain work (Put key value) reply answers = record { done = ap is_refusal answers; uncommitted = ap is_committed answers; sure = ap is_media answers }
-answer_plain work (Del key) reply answers = removed_plain (get work.table (of_main key)) reply answers
-answer_plain work (Scan low high) reply answers = record { done = ap is_refusal answers; uncommitted = ap is_committed answers; sure = ap is_media answers }
+answer_plain work (Get name key) reply answers = found_plain (get work.table (of_table name key)) reply answers
+answer_plain work (Put name key value) reply answers = record { done = ap is_refusal answers; uncommitted = ap is_committed answers; sure = ap is_media answers }
+answer_plain work (Del name key) reply answers = removed_plain (get work.table (of_table name key)) reply answers
+answer_plain work (Scan name low high) reply answers = record { done = ap is_refusal answers; uncommitted = ap is_committed answers; sure = ap is_media answers }
 answer_plain work Save reply answers = record { done = ap is_refusal answers; uncommitted = ap is_committed answers; sure = ap is_media answers }
 answer_plain work (Back n) reply answers = record { done = ap is_refusal answers.1; uncommitted = ap is_committed answers.1; sure = ap is_media answers.1 }
 answer_plain work _ reply answers = absurd answers
@@ -159,6 +164,7 @@ module _ (old : State) (caller : ℕ) (call : Call) (reply : Reply) (new : State
   -- what each fate does to transactions
   pub fate_moves : Fate old caller call reply new → Moves old caller call reply new
   fate_moves (refused refusal sure index e) = record {
+    names = ap (λ (s : State). s.names) e;
     base = ap (λ (s : State). s.base) e;
     history = same_history (refusal_none reply refusal) (ap (λ (s : State). s.history) e);
     dead = alive_same sure (ap (λ (s : State). s.is_dead) e);
@@ -167,6 +173,7 @@ module _ (old : State) (caller : ℕ) (call : Call) (reply : Reply) (new : State
     refused = λ re ok. ap (λ (s : State). s.live) e;
   }
   fate_moves (failed r index e) = record {
+    names = ap (λ (s : State). s.names) e;
     base = ap (λ (s : State). s.base) e;
     history = same_history (ap is_committed r) (ap (λ (s : State). s.history) e);
     dead = dead_now (ap is_media r) (ap (λ (s : State). s.is_dead) e);
@@ -175,6 +182,7 @@ module _ (old : State) (caller : ℕ) (call : Call) (reply : Reply) (new : State
     refused = λ re ok. ap (λ (s : State). s.live) e;
   }
   fate_moves (began c r e) = record {
+    names = ap (λ (s : State). s.names) e;
     base = ap (λ (s : State). s.base) e;
     history = same_history (ap is_committed r) (ap (λ (s : State). s.history) e);
     dead = alive_same (ap is_media r) (ap (λ (s : State). s.is_dead) e);
@@ -185,6 +193,7 @@ module _ (old : State) (caller : ℕ) (call : Call) (reply : Reply) (new : State
   fate_moves (granted calls l free answers index e) =
       let plain : IsPlain reply = answer_plain (view_of old caller) call reply answers in
       record {
+        names = ap (λ (s : State). s.names) e;
         base = ap (λ (s : State). s.base) e;
         history = same_history plain.uncommitted (ap (λ (s : State). s.history) e);
         dead = alive_same plain.sure (ap (λ (s : State). s.is_dead) e);
@@ -194,6 +203,7 @@ module _ (old : State) (caller : ℕ) (call : Call) (reply : Reply) (new : State
         refused = λ re ok. absurd (true≢false (sym re ∙ plain.done));
       }
   fate_moves (committed calls c r l index e) = record {
+    names = ap (λ (s : State). s.names) e;
     base = ap (λ (s : State). s.base) e;
     history = ap (λ (s : State). s.history) e
         ∙ ap (λ (cs : Granted). old.history ++ done_by old caller cs ∷ []) (sym (ap (λ (o : Option Granted). unwrap_or o []) l))
@@ -204,6 +214,7 @@ module _ (old : State) (caller : ℕ) (call : Call) (reply : Reply) (new : State
     refused = λ re ok. absurd (true≢false (sym re ∙ ap is_refusal r));
   }
   fate_moves (doubted calls c r l index e) = record {
+    names = ap (λ (s : State). s.names) e;
     base = ap (λ (s : State). s.base) e;
     history = same_history (ap is_committed r) (ap (λ (s : State). s.history) e);
     dead = dead_now (ap is_media r) (ap (λ (s : State). s.is_dead) e);
@@ -212,6 +223,7 @@ module _ (old : State) (caller : ℕ) (call : Call) (reply : Reply) (new : State
     refused = λ re ok. absurd (true≢false (sym (ap is_media r) ∙ ok));
   }
   fate_moves (aborted c r e) = record {
+    names = ap (λ (s : State). s.names) e;
     base = ap (λ (s : State). s.base) e;
     history = same_history (ap is_committed r) (ap (λ (s : State). s.history) e);
     dead = alive_same (ap is_media r) (ap (λ (s : State). s.is_dead) e);

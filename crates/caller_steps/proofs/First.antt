@@ -1,14 +1,15 @@
 -- The locks come before the table and before all that the array refuses, except for a lack of memory.
 use Rattle.std.proofs.Common.{◌≡◌, ℕ, inl, inr, Bool, true, false, Some, ap, subst}
-use Rattle.std.proofs.lemmas.Bool.{false≢true}
+use Rattle.std.proofs.lemmas.Bool.{false≢true, both_ways}
 use Rattle.history.specs.Table.{Granted}
+use Rattle.history.specs.Locks.{has_table}
 use Rattle.history.specs.declared.call.Call.{Call}
 use Rattle.history.specs.declared.call.Call.TheVariants.{Get, Put, Del, Scan}
 use Rattle.history.specs.declared.call.Reply.{Reply}
 use Rattle.caller_steps.specs.State.{State}
 use Rattle.caller_steps.specs.Locked.{Blocks}
 use Rattle.caller_steps.specs.Room.{Limits}
-use Rattle.caller_steps.specs.Step.{Asks, StepAt, StepIf, Step}
+use Rattle.caller_steps.specs.Step.{Asks, AsksTable, StepAt, StepIf, Step}
 use Rattle.caller_steps.specs.Fate.{may_come_held}
 
 module _ (limits : Limits) (old : State) (caller : ℕ) (new : State) (holder : ℕ) where
@@ -20,17 +21,21 @@ module _ (limits : Limits) (old : State) (caller : ℕ) (new : State) (holder : 
   asks_held calls call reply blocks (inr (inl held)) = (ap may_come_held held.2.0, held.2.1)
   asks_held calls call reply blocks (inr (inr (free, rest))) = absurd (free holder blocks)
 
-  at_held : (calls : Granted) (call : Call) (reply : Reply) → Blocks old caller call holder → StepAt limits (Some calls) old caller call reply new → IsLeft reply
-  at_held calls (Get key) reply blocks s = asks_held calls (Get key) reply blocks s
-  at_held calls (Put key value) reply blocks s = asks_held calls (Put key value) reply blocks s
-  at_held calls (Del key) reply blocks s = asks_held calls (Del key) reply blocks s
-  at_held calls (Scan low high) reply blocks s = asks_held calls (Scan low high) reply blocks s
-  at_held calls _ reply blocks s = absurd (false≢true blocks.1.1)
+  tabled_held : (calls : Granted) (call : Call) (reply : Reply) → has_table old.names call ≡ true → Blocks old caller call holder → AsksTable limits calls old caller call reply new → IsLeft reply
+  tabled_held calls call reply there blocks (inl (none, s)) = absurd (both_ways (has_table old.names call) none there)
+  tabled_held calls call reply there blocks (inr (some, a)) = asks_held calls call reply blocks a
 
-  held_if : (dead : Bool) (calls : Granted) (call : Call) (reply : Reply) → old.live caller ≡ Some calls → Blocks old caller call holder → StepIf limits dead old caller call reply new → IsLeft reply
-  held_if true calls call reply is blocks s = (ap may_come_held s.0, s.1)
-  held_if false calls call reply is blocks s = at_held calls call reply blocks (subst (λ live. StepAt limits live old caller call reply new) is s)
+  at_held : (calls : Granted) (call : Call) (reply : Reply) → has_table old.names call ≡ true → Blocks old caller call holder → StepAt limits (Some calls) old caller call reply new → IsLeft reply
+  at_held calls (Get name key) reply there blocks s = tabled_held calls (Get name key) reply there blocks s
+  at_held calls (Put name key value) reply there blocks s = tabled_held calls (Put name key value) reply there blocks s
+  at_held calls (Del name key) reply there blocks s = tabled_held calls (Del name key) reply there blocks s
+  at_held calls (Scan name low high) reply there blocks s = tabled_held calls (Scan name low high) reply there blocks s
+  at_held calls _ reply there blocks s = absurd (false≢true blocks.1.1)
+
+  held_if : (dead : Bool) (calls : Granted) (call : Call) (reply : Reply) → old.live caller ≡ Some calls → has_table old.names call ≡ true → Blocks old caller call holder → StepIf limits dead old caller call reply new → IsLeft reply
+  held_if true calls call reply is there blocks s = (ap may_come_held s.0, s.1)
+  held_if false calls call reply is there blocks s = at_held calls call reply there blocks (subst (λ live. StepAt limits live old caller call reply new) is s)
 
   -- While another caller holds a stripe of a live caller's call, the reply is `Busy`, `Dead` or `NoMemory`, and nothing changes.
-  pub locks_first : (calls : Granted) (call : Call) (reply : Reply) → old.live caller ≡ Some calls → Blocks old caller call holder → Step limits old caller call reply new → IsLeft reply
-  locks_first calls call reply is blocks step = held_if old.is_dead calls call reply is blocks step
+  pub locks_first : (calls : Granted) (call : Call) (reply : Reply) → old.live caller ≡ Some calls → has_table old.names call ≡ true → Blocks old caller call holder → Step limits old caller call reply new → IsLeft reply
+  locks_first calls call reply is there blocks step = held_if old.is_dead calls call reply is there blocks step

@@ -5,7 +5,8 @@ use Rattle.std.specs.List.{AllPairs}
 use Rattle.std.specs.Map.{update}
 use Rattle.std.proofs.lemmas.List.Elements.{All-nil, All-cons}
 use Rattle.std.proofs.lemmas.List.Kept.{AllPairs-cons}
-use Rattle.history.specs.Key.{Key, is_same_key}
+use Rattle.history.specs.Key.{is_same_key}
+use Rattle.history.specs.declared.key.Key.{Key}
 use Rattle.caller_steps.specs.State.{Index}
 use Rattle.caller_steps.specs.Shown.{Gained}
 use Rattle.caller_steps.proofs.AtKeys.{at_key, at_other_key}

@@ -4,7 +4,8 @@ use Rattle.std.specs.Prelude.{IsSome}
 use Rattle.std.specs.List.{list_any}
 use Rattle.std.specs.Map.{update}
 use Rattle.std.proofs.lemmas.Bool.{false_from_ne_true, true≢false, false≢true, or_parts, or_from}
-use Rattle.history.specs.Key.{Key, is_same_key}
+use Rattle.history.specs.Key.{is_same_key}
+use Rattle.history.specs.declared.key.Key.{Key}
 use Rattle.history.specs.Writes.{Write, is_of}
 use Rattle.history.specs.Log.{log_of}
 use Rattle.caller_steps.specs.State.{State, Index, calls_of}

@@ -12,7 +12,7 @@ use Rattle.history.proofs.OneMore.{log_of-push}
 use Rattle.history.proofs.Saves.{save_is_front}
 use Rattle.caller_steps.specs.State.{State, Index, calls_of}
 use Rattle.caller_steps.specs.Room.{Limits, Indexes}
-use Rattle.caller_steps.specs.Step.{Says, Asks, StepAt, StepIf, Step, Runs}
+use Rattle.caller_steps.specs.Step.{Says, Asks, AsksTable, StepAt, StepIf, Step, Runs}
 use Rattle.caller_steps.specs.Fate.{is_refusal, is_media, live_with, Moves}
 use Rattle.caller_steps.specs.Run.{Turn, is_write, has_write}
 use Rattle.caller_steps.proofs.Fates.{step_moves}
@@ -40,10 +40,10 @@ module _ (calls : Granted) (none : HasNone calls) where
   back_none n false is = none
 
   log_none : (call : Call) (reply : Reply) → is_write call ≡ false → (log_after (log_of calls) call reply).writes ≡ []
-  log_none (Get key) reply reads = none
-  log_none (Put key value) reply reads = absurd (true≢false reads)
-  log_none (Del key) reply reads = absurd (true≢false reads)
-  log_none (Scan low high) reply reads = none
+  log_none (Get name key) reply reads = none
+  log_none (Put name key value) reply reads = absurd (true≢false reads)
+  log_none (Del name key) reply reads = absurd (true≢false reads)
+  log_none (Scan name low high) reply reads = none
   log_none Save reply reads = none
   log_none (Back n) reply reads = back_none n (has_save (log_of calls).saved n) refl
   log_none Begin reply reads = none
@@ -55,10 +55,10 @@ module _ (calls : Granted) (none : HasNone calls) where
 
   live_none : (call : Call) (reply : Reply) → is_write call ≡ false → HasNone (unwrap_or (live_with calls call reply) [])
   live_none Begin reply reads = refl
-  live_none (Get key) reply reads = more_none (Get key) reply reads
-  live_none (Put key value) reply reads = absurd (true≢false reads)
-  live_none (Del key) reply reads = absurd (true≢false reads)
-  live_none (Scan low high) reply reads = more_none (Scan low high) reply reads
+  live_none (Get name key) reply reads = more_none (Get name key) reply reads
+  live_none (Put name key value) reply reads = absurd (true≢false reads)
+  live_none (Del name key) reply reads = absurd (true≢false reads)
+  live_none (Scan name low high) reply reads = more_none (Scan name low high) reply reads
   live_none Save reply reads = more_none Save reply reads
   live_none (Back n) reply reads = more_none (Back n) reply reads
   live_none Commit reply reads = refl
@@ -75,19 +75,23 @@ module _ (limits : Limits) (old : State) (caller : ℕ) (new : State) (alive : n
   asked calls call reply same (inr (inr (free, inr (inl (lacks, index, indexes, e))))) = ap (λ (s : State). s.index) e ∙ same index indexes
   asked calls call reply same (inr (inr (free, inr (inr (uses, (re, index, e)))))) = absurd (true≢false (sym (ap (λ (s : State). s.is_dead) e) ∙ alive))
 
+  tabled : (calls : Granted) (call : Call) (reply : Reply) → ((index : Index) → Indexes limits call reply old.index index → index ≡ old.index) → AsksTable limits calls old caller call reply new → new.index ≡ old.index
+  tabled calls call reply same (inl (none, s)) = ap (λ (s : State). s.index) s.1
+  tabled calls call reply same (inr (some, a)) = asked calls call reply same a
+
   read_at : (live : Option Granted) (call : Call) (reply : Reply) → HasNone (unwrap_or live []) → is_write call ≡ false → StepAt limits live old caller call reply new → new.index ≡ old.index
-  read_at live (Put key value) reply none reads s = absurd (true≢false reads)
-  read_at live (Del key) reply none reads s = absurd (true≢false reads)
+  read_at live (Put name key value) reply none reads s = absurd (true≢false reads)
+  read_at live (Del name key) reply none reads s = absurd (true≢false reads)
   read_at None Begin reply none reads s = ap (λ (s : State). s.index) s.1
-  read_at None (Get key) reply none reads s = ap (λ (s : State). s.index) s.1
-  read_at None (Scan low high) reply none reads s = ap (λ (s : State). s.index) s.1
+  read_at None (Get name key) reply none reads s = ap (λ (s : State). s.index) s.1
+  read_at None (Scan name low high) reply none reads s = ap (λ (s : State). s.index) s.1
   read_at None Save reply none reads s = ap (λ (s : State). s.index) s.1
   read_at None (Back n) reply none reads s = ap (λ (s : State). s.index) s.1
   read_at None Commit reply none reads s = ap (λ (s : State). s.index) s.1
   read_at None Abort reply none reads s = ap (λ (s : State). s.index) s.1
   read_at (Some calls) Begin reply none reads s = ap (λ (s : State). s.index) s.1
-  read_at (Some calls) (Get key) reply none reads a = asked calls (Get key) reply (λ index same. same) a
-  read_at (Some calls) (Scan low high) reply none reads a = asked calls (Scan low high) reply (λ index same. same) a
+  read_at (Some calls) (Get name key) reply none reads a = tabled calls (Get name key) reply (λ index same. same) a
+  read_at (Some calls) (Scan name low high) reply none reads a = tabled calls (Scan name low high) reply (λ index same. same) a
   read_at (Some calls) Save reply none reads (inl (full, s)) = ap (λ (s : State). s.index) s.1
   read_at (Some calls) Save reply none reads (inr (room, a)) = asked calls Save reply (λ index same. same) a
   read_at (Some calls) (Back n) reply none reads (inl (absent, s)) = ap (λ (s : State). s.index) s.1

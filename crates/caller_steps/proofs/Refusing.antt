@@ -5,7 +5,8 @@ use Rattle.std.specs.List.{list_any}
 use Rattle.std.specs.FinMap.{get}
 use Rattle.std.proofs.lemmas.Bool.{true≢false, or_left, or_right, or_parts}
 use Rattle.std.proofs.lemmas.List.Folds.{list_any-append}
-use Rattle.history.specs.Key.{Key, of_main}
+use Rattle.history.specs.Key.{of_table}
+use Rattle.history.specs.declared.key.Key.{Key}
 use Rattle.history.proofs.Keys.{same_key}
 use Rattle.history.specs.Writes.{Write}
 use Rattle.history.specs.Table.{Granted, Work, Answers, found, removed}
@@ -13,37 +14,37 @@ use Rattle.history.specs.Locks.{touches, touched, clash}
 use Rattle.history.specs.declared.call.Call.{Call}
 use Rattle.history.specs.declared.call.Call.TheVariants.{Begin, Get, Put, Del, Scan, Save, Back, Commit, Abort}
 use Rattle.history.specs.declared.call.Reply.{Reply}
-use Rattle.history.specs.declared.call.Reply.TheVariants.{Fine, NoTransaction, Already, NoSave, SavesFull, Busy, LogFull, SlotsFull, PagesFull, Media, Dead, NoMemory}
+use Rattle.history.specs.declared.call.Reply.TheVariants.{Fine, NoTransaction, NoTable, Already, NoSave, SavesFull, Busy, LogFull, SlotsFull, PagesFull, Media, Dead, NoMemory}
 use Rattle.caller_steps.specs.State.{State, Index, view_of}
 use Rattle.caller_steps.specs.Locked.{Blocks}
 use Rattle.caller_steps.specs.Room.{Limits, LacksAt, Lacks, GainsKey, KeepsKeys, TakesPages, Inserts, IndexesAt, Indexes, Settles}
-use Rattle.caller_steps.specs.Step.{Says, Asks, StepAt, StepIf, Step, Runs}
+use Rattle.caller_steps.specs.Step.{Says, Asks, AsksTable, StepAt, StepIf, Step, Runs}
 use Rattle.caller_steps.specs.Fate.{is_media}
-use Rattle.caller_steps.specs.Run.{Turn, Goes, GoesAlong, has_fault, IsTurn}
-use Rattle.caller_steps.specs.Own.{nothing_own}
+use Rattle.caller_steps.specs.Run.{Turn, Goes, GoesAlong, turns_of, has_fault, IsTurn}
+use Rattle.caller_steps.specs.Own.{nothing_own, live_by}
 use Rattle.caller_steps.specs.Shown.{is_put, AreAsked, Gained, LacksPages, Shows}
-use Rattle.caller_steps.proofs.Running.{turns_cut, turns_dead, turns_keep, turns_of_runs}
+use Rattle.caller_steps.proofs.Running.{turns_cut, turns_names, turns_dead, turns_keep, turns_of_runs}
 use Rattle.caller_steps.proofs.Owning.{turns_live}
 use Rattle.caller_steps.proofs.Fates.{step_moves}
 
 -- an index after a call: it has no fewer pages in use and levels, and the same keys or one more, which the call puts
 pub record IndexMoves (limits : Limits) (call : Call) (old new : Index) : Type 0 where
   pub pages : old.used_pages ≤ new.used_pages
-  pub levels : old.level ≤ new.level
+  pub levels : (name : List ℕ) → old.levels name ≤ new.levels name
   pub keys : KeepsKeys old new ⊎ ((key : Key) × IsTrue (is_put key call) × (old.slot_of key ≡ None) × GainsKey limits key old new)
 
 -- the data takes writes
 settled_index : (limits : Limits) (call : Call) (writes : List Write) (old new : Index) → Settles writes old new → IndexMoves limits call old new
 settled_index limits call writes old new s = record {
   pages = (let p = ap (λ (i : Index). i.used_pages) s.keys in omega arith);
-  levels = (let l = ap (λ (i : Index). i.level) s.keys in omega arith);
+  levels = λ name. (let l = ap (λ (i : Index). i.levels name) s.keys in omega arith);
   keys = inl (record { slot_of = ap (λ (i : Index). i.slot_of) s.keys; slots = ap (λ (i : Index). i.used_slots) s.keys; due = ap (λ (i : Index). i.due) s.keys });
 }
 
 same_index : (limits : Limits) (call : Call) (old new : Index) → new ≡ old → IndexMoves limits call old new
 same_index limits call old new e = record {
   pages = (let p = ap (λ (i : Index). i.used_pages) e in omega arith);
-  levels = (let l = ap (λ (i : Index). i.level) e in omega arith);
+  levels = λ name. (let l = ap (λ (i : Index). i.levels name) e in omega arith);
   keys = inl (record { slot_of = ap (λ (i : Index). i.slot_of) e; slots = ap (λ (i : Index). i.used_slots) e; due = ap (λ (i : Index). i.due) e });
 }
 
@@ -53,21 +54,21 @@ inserts limits key (LogFull g h n) old new i = (i.0, i.1)
 inserts limits key (PagesFull n) old new i = (i.0, inl i.1)
 inserts limits key _ old new i = (i.0, inl i.1)
 
-index_at : (limits : Limits) (key : ℕ) (value : List ℕ) (slot : Option ℕ) (reply : Reply) (old new : Index) → old.slot_of (of_main key) ≡ slot → IndexesAt limits (of_main key) slot reply old new → IndexMoves limits (Put key value) old new
-index_at limits key value (Some slot) reply old new is e = same_index limits (Put key value) old new e
-index_at limits key value None reply old new is i =
-    let both = inserts limits (of_main key) reply old new i in record {
+index_at : (limits : Limits) (name : List ℕ) (key : ℕ) (value : List ℕ) (slot : Option ℕ) (reply : Reply) (old new : Index) → old.slot_of (of_table name key) ≡ slot → IndexesAt limits (of_table name key) slot reply old new → IndexMoves limits (Put name key value) old new
+index_at limits name key value (Some slot) reply old new is e = same_index limits (Put name key value) old new e
+index_at limits name key value None reply old new is i =
+    let both = inserts limits (of_table name key) reply old new i in record {
       pages = both.0.used;
       levels = both.0.levels;
-      keys = ⊎_elim (λ keeps. inl keeps) (λ gains. inr (of_main key, same_key (of_main key) (of_main key) refl, is, gains)) both.1;
+      keys = ⊎_elim (λ keeps. inl keeps) (λ gains. inr (of_table name key, same_key (of_table name key) (of_table name key) refl, is, gains)) both.1;
     }
 
 index_moves : (limits : Limits) (call : Call) (reply : Reply) (old new : Index) → Indexes limits call reply old new → IndexMoves limits call old new
-index_moves limits (Put key value) reply old new i = index_at limits key value (old.slot_of (of_main key)) reply old new refl i
+index_moves limits (Put name key value) reply old new i = index_at limits name key value (old.slot_of (of_table name key)) reply old new refl i
 index_moves limits Begin reply old new i = same_index limits Begin old new i
-index_moves limits (Get key) reply old new i = same_index limits (Get key) old new i
-index_moves limits (Del key) reply old new i = same_index limits (Del key) old new i
-index_moves limits (Scan low high) reply old new i = same_index limits (Scan low high) old new i
+index_moves limits (Get name key) reply old new i = same_index limits (Get name key) old new i
+index_moves limits (Del name key) reply old new i = same_index limits (Del name key) old new i
+index_moves limits (Scan name low high) reply old new i = same_index limits (Scan name low high) old new i
 index_moves limits Save reply old new i = same_index limits Save old new i
 index_moves limits (Back n) reply old new i = same_index limits (Back n) old new i
 index_moves limits Commit reply old new i = same_index limits Commit old new i
@@ -78,11 +79,11 @@ slots_stay : (limits : Limits) (call : Call) (old new : Index) → IndexMoves li
 slots_stay limits call old new moves full = ⊎_elim (λ keeps. keeps.slots ∙ full) (λ gains. let l = gains.3.left in absurd (omega arith)) moves.keys
 
 pages_stay : (limits : Limits) (made call : Call) (n : ℕ) (old new : Index) → IndexMoves limits call old new → LacksPages made n old → LacksPages made n new
-pages_stay limits (Put key value) call n old new moves lacks = ⊎_elim (λ few. inl (let p = moves.pages in omega arith)) (λ high. inr (let l = moves.levels in omega arith)) lacks
+pages_stay limits (Put name key value) call n old new moves lacks = ⊎_elim (λ few. inl (let p = moves.pages in omega arith)) (λ high. inr (let l = moves.levels name in omega arith)) lacks
 pages_stay limits Begin call n old new moves lacks = tt
-pages_stay limits (Get key) call n old new moves lacks = tt
-pages_stay limits (Del key) call n old new moves lacks = tt
-pages_stay limits (Scan low high) call n old new moves lacks = tt
+pages_stay limits (Get name key) call n old new moves lacks = tt
+pages_stay limits (Del name key) call n old new moves lacks = tt
+pages_stay limits (Scan name low high) call n old new moves lacks = tt
 pages_stay limits Save call n old new moves lacks = tt
 pages_stay limits (Back m) call n old new moves lacks = tt
 pages_stay limits Commit call n old new moves lacks = tt
@@ -127,30 +128,30 @@ module _ (limits : Limits) (old : State) (caller : ℕ) (new : State) where
 
   plain : (work : Work) (call : Call) (reply : Reply) → Answers work call reply → T call reply
   unfolding T
-  plain work (Get key) reply answers = plain_found (Get key) (get work.table (of_main key)) reply answers
-  plain work (Put key value) reply answers = subst (λ r. Told limits old caller new (Put key value) r) (sym answers) tt
-  plain work (Del key) reply answers = plain_removed (Del key) (get work.table (of_main key)) reply answers
-  plain work (Scan low high) reply answers = subst (λ r. Told limits old caller new (Scan low high) r) (sym answers) tt
+  plain work (Get name key) reply answers = plain_found (Get name key) (get work.table (of_table name key)) reply answers
+  plain work (Put name key value) reply answers = subst (λ r. Told limits old caller new (Put name key value) r) (sym answers) tt
+  plain work (Del name key) reply answers = plain_removed (Del name key) (get work.table (of_table name key)) reply answers
+  plain work (Scan name low high) reply answers = subst (λ r. Told limits old caller new (Scan name low high) r) (sym answers) tt
   plain work Save reply answers = subst (λ r. Told limits old caller new Save r) (sym answers) tt
   plain work (Back n) reply answers = subst (λ r. Told limits old caller new (Back n) r) (sym answers.1) tt
   plain work _ reply answers = absurd answers
 
-  put_lacks : (key : ℕ) (value : List ℕ) (slot : Option ℕ) (reply : Reply) → LacksAt limits old caller (of_main key) slot reply → IndexesAt limits (of_main key) slot reply old.index new.index → T (Put key value) reply
+  put_lacks : (name : List ℕ) (key : ℕ) (value : List ℕ) (slot : Option ℕ) (reply : Reply) → LacksAt limits old caller (of_table name key) slot reply → IndexesAt limits (of_table name key) slot reply old.index new.index → T (Put name key value) reply
   unfolding T
-  put_lacks key value (Some slot) (LogFull g h n) lacks index = tt
-  put_lacks key value None (SlotsFull n) lacks index = (lacks.1, index.1.slots ∙ lacks.0)
-  put_lacks key value None (PagesFull n) lacks index = (lacks.1, index.2)
-  put_lacks key value None (LogFull g h n) lacks index = tt
-  put_lacks key value _ _ lacks index = absurd lacks
+  put_lacks name key value (Some slot) (LogFull g h n) lacks index = tt
+  put_lacks name key value None (SlotsFull n) lacks index = (lacks.1, index.1.slots ∙ lacks.0)
+  put_lacks name key value None (PagesFull n) lacks index = (lacks.1, index.2)
+  put_lacks name key value None (LogFull g h n) lacks index = tt
+  put_lacks name key value _ _ lacks index = absurd lacks
 
-  del_lacks : (key : ℕ) (slot : ℕ) (reply : Reply) → LacksAt limits old caller (of_main key) (Some slot) reply → T (Del key) reply
+  del_lacks : (name : List ℕ) (key : ℕ) (slot : ℕ) (reply : Reply) → LacksAt limits old caller (of_table name key) (Some slot) reply → T (Del name key) reply
   unfolding T
-  del_lacks key slot (LogFull g h n) lacks = tt
-  del_lacks key slot _ lacks = absurd lacks
+  del_lacks name key slot (LogFull g h n) lacks = tt
+  del_lacks name key slot _ lacks = absurd lacks
 
   lacks_told : (call : Call) (reply : Reply) → Lacks limits old caller call reply → Indexes limits call reply old.index new.index → T call reply
-  lacks_told (Put key value) reply lacks indexes = put_lacks key value (old.index.slot_of (of_main key)) reply lacks indexes
-  lacks_told (Del key) reply lacks indexes = del_lacks key lacks.1 reply lacks.3
+  lacks_told (Put name key value) reply lacks indexes = put_lacks name key value (old.index.slot_of (of_table name key)) reply lacks indexes
+  lacks_told (Del name key) reply lacks indexes = del_lacks name key lacks.1 reply lacks.3
   lacks_told _ reply lacks indexes = absurd lacks
 
   fails : (call : Call) (reply : Reply) → reply ≡ Media → new.is_dead ≡ true → Left limits old caller new call reply
@@ -168,22 +169,27 @@ module _ (limits : Limits) (old : State) (caller : ℕ) (new : State) where
       record { told = lacks_told call reply lacks now; index = λ alive. index_moves limits call reply old.index new.index now }
   asks calls call reply (inr (inr (free, inr (inr (uses, (re, index, e)))))) = fails call reply re (ap (λ (s : State). s.is_dead) e)
 
+  tabled : (calls : Granted) (call : Call) (reply : Reply) → AsksTable limits calls old caller call reply new → Left limits old caller new call reply
+  unfolding T
+  tabled calls call reply (inl (none, s)) = says call reply NoTable tt s
+  tabled calls call reply (inr (some, a)) = asks calls call reply a
+
   left_at : (live : Option Granted) (call : Call) (reply : Reply) → StepAt limits live old caller call reply new → Left limits old caller new call reply
   unfolding T
   left_at None Begin reply (re, e) = same Begin reply (subst (λ r. Told limits old caller new Begin r) (sym re) tt) (ap (λ (s : State). s.index) e)
-  left_at None (Get key) reply s = says (Get key) reply NoTransaction tt s
-  left_at None (Put key value) reply s = says (Put key value) reply NoTransaction tt s
-  left_at None (Del key) reply s = says (Del key) reply NoTransaction tt s
-  left_at None (Scan low high) reply s = says (Scan low high) reply NoTransaction tt s
+  left_at None (Get name key) reply s = says (Get name key) reply NoTransaction tt s
+  left_at None (Put name key value) reply s = says (Put name key value) reply NoTransaction tt s
+  left_at None (Del name key) reply s = says (Del name key) reply NoTransaction tt s
+  left_at None (Scan name low high) reply s = says (Scan name low high) reply NoTransaction tt s
   left_at None Save reply s = says Save reply NoTransaction tt s
   left_at None (Back n) reply s = says (Back n) reply NoTransaction tt s
   left_at None Commit reply s = says Commit reply NoTransaction tt s
   left_at None Abort reply s = says Abort reply NoTransaction tt s
   left_at (Some calls) Begin reply s = says Begin reply Already tt s
-  left_at (Some calls) (Get key) reply a = asks calls (Get key) reply a
-  left_at (Some calls) (Put key value) reply a = asks calls (Put key value) reply a
-  left_at (Some calls) (Del key) reply a = asks calls (Del key) reply a
-  left_at (Some calls) (Scan low high) reply a = asks calls (Scan low high) reply a
+  left_at (Some calls) (Get name key) reply a = tabled calls (Get name key) reply a
+  left_at (Some calls) (Put name key value) reply a = tabled calls (Put name key value) reply a
+  left_at (Some calls) (Del name key) reply a = tabled calls (Del name key) reply a
+  left_at (Some calls) (Scan name low high) reply a = tabled calls (Scan name low high) reply a
   left_at (Some calls) Save reply (inl (full, s)) = says Save reply SavesFull tt s
   left_at (Some calls) Save reply (inr (room, a)) = asks calls Save reply a
   left_at (Some calls) (Back n) reply (inl (none, s)) = says (Back n) reply (NoSave n) tt s
@@ -263,6 +269,9 @@ module _ (limits : Limits) where
       left_there : Left limits at.old caller at.new call reply
       left_there = step_left limits at.old caller at.new call reply at.step
 
+      names_there : now.names ≡ at.old.names
+      names_there = turns_names true limits at.new now after at.since ∙ (step_moves limits at.old caller call reply at.new at.step).names
+
       dead_after : at.new.is_dead ≡ true → now.is_dead ≡ true
       dead_after e = turns_dead true limits at.new now after at.since ∙ or_left at.new.is_dead (has_fault after) e
 
@@ -270,7 +279,14 @@ module _ (limits : Limits) where
       new_alive alive = alive_first at.new now after at.since alive
 
       shows_at : (told : Reply) → reply ≡ told → Told limits at.old caller at.new call told → Shows limits before now caller call told
-      shows_at (Busy h) is t = (t.0, (t.1.0, ap (λ (o : Option Granted). clash (touches call t.1.0) (touched (unwrap_or o []) t.1.0)) (sym (turns_live true limits h first at.old before nothing_own at.until (inl refl) (none h))) ∙ t.1.1))
+      shows_at (Busy h) is t = (
+        t.0,
+        (
+          t.1.0,
+          ap (λ (names : List (List ℕ)). clash (touches names call t.1.0) (touched names (unwrap_or (live_by h (turns_of h before)) []) t.1.0)) names_there
+              ∙ ap (λ (o : Option Granted). clash (touches at.old.names call t.1.0) (touched at.old.names (unwrap_or o []) t.1.0)) (sym (turns_live true limits h first at.old before nothing_own at.until (inl refl) (none h))) ∙ t.1.1,
+        ),
+      )
       shows_at (SlotsFull n) is t = (t.0, λ alive. slots_on at.new now after at.since alive t.1)
       shows_at (PagesFull n) is t = (t.0, λ alive. pages_on call n at.new now after at.since alive t.1)
       shows_at Media is t = dead_after (faults is)

@@ -115,6 +115,11 @@ module _ (tells : Bool) (limits : Limits) where
   turns_base first now [] a = ap (λ (s : State). s.base) a
   turns_base first now (turn ∷ turns) a = turns_base a.0 now turns a.2 ∙ a.1.moves.base
 
+  -- and so do the names,
+  pub turns_names : (first now : State) (turns : List Turn) → GoesAlong tells limits first turns now → now.names ≡ first.names
+  turns_names first now [] a = ap (λ (s : State). s.names) a
+  turns_names first now (turn ∷ turns) a = turns_names a.0 now turns a.2 ∙ a.1.moves.names
+
   or_nothing : (b : Bool) → b ≡ (b || false)
   or_nothing true = refl
   or_nothing false = refl

@@ -28,30 +28,30 @@ at_update P f k calls q here apart = elim (cases_eq q k) [
   | inr other ↦ subst P (sym (update_apart f k calls q other)) (apart other)
 ]
 
-apart_turned : (one other : Granted) → AreApart one other → AreApart other one
-apart_turned one other apart stripe = clash_turned (touched other stripe) (touched one stripe) ∙ apart stripe
+apart_turned : (names : List (List ℕ)) (one other : Granted) → AreApart names one other → AreApart names other one
+apart_turned names one other apart stripe = clash_turned (touched names other stripe) (touched names one stripe) ∙ apart stripe
 
 -- one more call clashes nowhere if neither it nor the others do
-apart_more : (calls other : Granted) (call : Call) (reply : Reply) → AreApart calls other → ((stripe : ℕ) → clash (touches call stripe) (touched other stripe) ≡ false)
-    → AreApart (calls ++ (call, reply) ∷ []) other
-apart_more calls other call reply before own stripe =
-    ap (λ (t : Touch). clash t (touched other stripe)) (touched-push calls call reply stripe)
-    ∙ clash_more (touched calls stripe) (touches call stripe) (touched other stripe) (before stripe) (own stripe)
+apart_more : (names : List (List ℕ)) (calls other : Granted) (call : Call) (reply : Reply) → AreApart names calls other → ((stripe : ℕ) → clash (touches names call stripe) (touched names other stripe) ≡ false)
+    → AreApart names (calls ++ (call, reply) ∷ []) other
+apart_more names calls other call reply before own stripe =
+    ap (λ (t : Touch). clash t (touched names other stripe)) (touched-push names calls call reply stripe)
+    ∙ clash_more (touched names calls stripe) (touches names call stripe) (touched names other stripe) (before stripe) (own stripe)
 
 right-update : (table : Table) (f : ℕ → Option Granted) (caller : ℕ) (calls : Option Granted)
     → ((other : ℕ) → other ≢ caller → IsRight table (unwrap_or (f other) [])) → IsRight table (unwrap_or calls []) → (other : ℕ) → IsRight table (unwrap_or (update nat_eq f caller calls other) [])
 right-update table f caller calls others own other = at_update (λ o. IsRight table (unwrap_or o [])) f caller calls other (λ is. own) (others other)
 
-apart-update : (f : ℕ → Option Granted) (caller : ℕ) (calls : Option Granted)
-    → ((one other : ℕ) → one ≢ other → AreApart (unwrap_or (f one) []) (unwrap_or (f other) []))
-    → ((other : ℕ) → other ≢ caller → AreApart (unwrap_or calls []) (unwrap_or (f other) []))
-    → (one other : ℕ) → one ≢ other → AreApart (unwrap_or (update nat_eq f caller calls one) []) (unwrap_or (update nat_eq f caller calls other) [])
-apart-update f caller calls old own one other ne =
-    at_update (λ o. AreApart (unwrap_or o []) (unwrap_or (update nat_eq f caller calls other) [])) f caller calls one
-    (λ is. at_update (λ o. AreApart (unwrap_or calls []) (unwrap_or o [])) f caller calls other
+apart-update : (names : List (List ℕ)) (f : ℕ → Option Granted) (caller : ℕ) (calls : Option Granted)
+    → ((one other : ℕ) → one ≢ other → AreApart names (unwrap_or (f one) []) (unwrap_or (f other) []))
+    → ((other : ℕ) → other ≢ caller → AreApart names (unwrap_or calls []) (unwrap_or (f other) []))
+    → (one other : ℕ) → one ≢ other → AreApart names (unwrap_or (update nat_eq f caller calls one) []) (unwrap_or (update nat_eq f caller calls other) [])
+apart-update names f caller calls old own one other ne =
+    at_update (λ o. AreApart names (unwrap_or o []) (unwrap_or (update nat_eq f caller calls other) [])) f caller calls one
+    (λ is. at_update (λ o. AreApart names (unwrap_or calls []) (unwrap_or o [])) f caller calls other
     (λ is'. absurd (ne (is ∙ sym is'))) (λ apart. own other apart))
-    (λ apart. at_update (λ o. AreApart (unwrap_or (f one) []) (unwrap_or o [])) f caller calls other
-    (λ is'. apart_turned (unwrap_or calls []) (unwrap_or (f one) []) (own one apart)) (λ apart'. old one other ne))
+    (λ apart. at_update (λ o. AreApart names (unwrap_or (f one) []) (unwrap_or o [])) f caller calls other
+    (λ is'. apart_turned names (unwrap_or calls []) (unwrap_or (f one) []) (own one apart)) (λ apart'. old one other ne))
 
 module _ (old : State) (caller : ℕ) (sound : IsSound old) where
   -- soundness does not depend on the index, nor on whether the core is dead if nothing was in doubt
@@ -65,7 +65,7 @@ module _ (old : State) (caller : ℕ) (sound : IsSound old) where
     certain = sound.certain;
     doubtful = sound.doubtful;
     right = right-update (records_of old) old.live caller (Some []) (λ other ne. sound.right other) tt;
-    apart = apart-update old.live caller (Some []) sound.apart (λ other ne stripe. refl);
+    apart = apart-update old.names old.live caller (Some []) sound.apart (λ other ne stripe. refl);
   }
 
   -- a caller's transaction ends
@@ -75,15 +75,15 @@ module _ (old : State) (caller : ℕ) (sound : IsSound old) where
     certain = sound.certain;
     doubtful = sound.doubtful;
     right = right-update (records_of old) old.live caller None (λ other ne. sound.right other) tt;
-    apart = apart-update old.live caller None sound.apart (λ other ne stripe. refl);
+    apart = apart-update old.names old.live caller None sound.apart (λ other ne stripe. refl);
   }
 
   module _ (calls : Granted) (is : calls_of old caller ≡ calls) where
     own_right : IsRight (records_of old) calls
     own_right = subst (λ cs. IsRight (records_of old) cs) is (sound.right caller)
 
-    own_apart : (other : ℕ) → other ≢ caller → AreApart calls (calls_of old other)
-    own_apart other ne = subst (λ cs. AreApart cs (calls_of old other)) is (sound.apart caller other (λ e. ne (sym e)))
+    own_apart : (other : ℕ) → other ≢ caller → AreApart old.names calls (calls_of old other)
+    own_apart other ne = subst (λ cs. AreApart old.names cs (calls_of old other)) is (sound.apart caller other (λ e. ne (sym e)))
 
     -- a call is granted
     grows : (call : Call) (reply : Reply) (index : Index) → IsFree old caller call → Answers (view_of old caller) call reply
@@ -94,9 +94,9 @@ module _ (old : State) (caller : ℕ) (sound : IsSound old) where
       doubtful = sound.doubtful;
       right = right-update (records_of old) old.live caller (Some (calls ++ (call, reply) ∷ [])) (λ other ne. sound.right other)
           (IsRight-push (records_of old) calls call reply own_right (subst (λ cs. Answers (worked (begun (records_of old)) cs) call reply) is answers));
-      apart = apart-update old.live caller (Some (calls ++ (call, reply) ∷ [])) sound.apart (λ other ne.
-          apart_more calls (calls_of old other) call reply (own_apart other ne) (λ stripe.
-          false_from_ne_true (clash (touches call stripe) (touched (calls_of old other) stripe)) (λ clashes. free other (ne, (stripe, clashes)))));
+      apart = apart-update old.names old.live caller (Some (calls ++ (call, reply) ∷ [])) sound.apart (λ other ne.
+          apart_more old.names calls (calls_of old other) call reply (own_apart other ne) (λ stripe.
+          false_from_ne_true (clash (touches old.names call stripe) (touched old.names (calls_of old other) stripe)) (λ clashes. free other (ne, (stripe, clashes)))));
     }
 
     longer : IsLegal old.base (old.history ++ done_by old caller calls ∷ [])
@@ -111,8 +111,8 @@ module _ (old : State) (caller : ℕ) (sound : IsSound old) where
           (subst (λ h. IsLegal old.base h) (sym (append-nil (old.history ++ done_by old caller calls ∷ []))) longer);
       right = subst (λ table. (other : ℕ) → IsRight table (unwrap_or (update nat_eq old.live caller None other) [])) (sym (records-push old.base old.history (done_by old caller calls)))
           (right-update (left_by (records_of old) calls) old.live caller None
-          (λ other ne. right_after (records_of old) calls (calls_of old other) (own_apart other ne) (sound.right other)) tt);
-      apart = apart-update old.live caller None sound.apart (λ other ne stripe. refl);
+          (λ other ne. right_after old.names (records_of old) calls (calls_of old other) (own_apart other ne) (sound.right other)) tt);
+      apart = apart-update old.names old.live caller None sound.apart (λ other ne stripe. refl);
     }
 
     -- a transaction is in doubt
@@ -143,5 +143,5 @@ runs_sound limits old [] new sound e = subst IsSound (sym e) sound
 runs_sound limits old (turn ∷ turns) new sound (mid, step, runs) = runs_sound limits mid turns new (step_sound limits old turn.0 turn.1 turn.2 mid sound step) runs
 
 -- The state at the opening is sound.
-pub opened_sound : (base : Table) (index : Index) → IsSound (opened base index)
-opened_sound base index = record { legal = tt; certain = λ alive. refl; doubtful = tt; right = λ caller. tt; apart = λ one other ne stripe. refl }
+pub opened_sound : (names : List (List ℕ)) (base : Table) (index : Index) → IsSound (opened names base index)
+opened_sound names base index = record { legal = tt; certain = λ alive. refl; doubtful = tt; right = λ caller. tt; apart = λ one other ne stripe. refl }

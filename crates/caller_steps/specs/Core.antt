@@ -39,11 +39,12 @@ pub record Steps (tells : Bool) (caller : ℕ) (call : Call) (old new : CoreView
   pub time : IsTrue tells → Elapses old.moment new.moment old.left_since new.left_since (HasPrefixOf new.opens new.state (length old.state.history))
   pub now : IsTrue tells → IsSafe new new.moment (length new.state.history)
 
--- From a core to a later one: the limits and the records at the opening are the same, and the history is extended, also with the
+-- From a core to a later one: the limits, the names and the records at the opening are the same, and the history is extended, also with the
 -- transaction in doubt. Each image that a loss of power might have left meanwhile opens with a prefix of it that has all that was committed
 -- before. One that may be left now has all of it.
 pub record Continues (old new : CoreView) : Type 0 where
   pub limits : new.limits ≡ old.limits
+  pub names : new.state.names ≡ old.state.names
   pub base : new.state.base ≡ old.state.base
   pub opens : (image : List ℕ) (table : Table) → old.opens image table → new.opens image table
   pub grows : Grows old.state.history new.state.history

@@ -59,6 +59,7 @@ live_with calls call reply = Some (calls ++ (call, reply) ∷ [])
 
 -- What each step does to transactions, over any store. A fault of the medium in a commit may end the caller's transaction.
 pub record Moves (old : State) (caller : ℕ) (call : Call) (reply : Reply) (new : State) : Type 0 where
+  pub names : new.names ≡ old.names
   pub base : new.base ≡ old.base
   pub history : new.history ≡ history_after old caller reply
   pub dead : new.is_dead ≡ (old.is_dead || is_media reply)

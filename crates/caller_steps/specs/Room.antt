@@ -3,7 +3,8 @@ use Rattle.std.specs.Prelude.{ℕ, suc, ◌≡◌, ◌+◌, ◌-◌, ◌<◌, �
 use Rattle.std.specs.FinMap.{get}
 use Rattle.std.specs.Map.{update}
 use Rattle.mars_base.specs.Room.{IsFirstFull}
-use Rattle.history.specs.Key.{Key, is_same_key, of_main}
+use Rattle.history.specs.Key.{is_same_key, of_table}
+use Rattle.history.specs.declared.key.Key.{Key}
 use Rattle.history.specs.Log.{log_of, is_rewritten}
 use Rattle.history.specs.Writes.{Write}
 use Rattle.history.specs.declared.call.Call.{Call}
@@ -49,8 +50,8 @@ IsSeen old caller key = IsSome (get (view_of old caller).table key)
 
 -- if the call writes, there is an entry for it
 abbrev pub Fits : Limits → State → ℕ → Call → Type 0
-Fits limits old caller (Put key value) = HasEntry limits old caller (of_main key) (slot_for old.index (of_main key))
-Fits limits old caller (Del key) = IsSeen old caller (of_main key) → HasEntry limits old caller (of_main key) (slot_for old.index (of_main key))
+Fits limits old caller (Put name key value) = HasEntry limits old caller (of_table name key) (slot_for old.index (of_table name key))
+Fits limits old caller (Del name key) = IsSeen old caller (of_table name key) → HasEntry limits old caller (of_table name key) (slot_for old.index (of_table name key))
 Fits limits old caller _ = Unit {0}
 
 -- Logger g is the first without room for what some write needs there, which is one entry to four: it holds h of the caller's, and n more are
@@ -69,8 +70,8 @@ LacksAt limits old caller key _ _ = ⊥
 
 -- Why a write is refused with this reply. A key that its caller sees has a slot, so a removal is refused only by that slot's logger.
 abbrev pub Lacks : Limits → State → ℕ → Call → Reply → Type 0
-Lacks limits old caller (Put key value) reply = LacksAt limits old caller (of_main key) (old.index.slot_of (of_main key)) reply
-Lacks limits old caller (Del key) reply = IsSeen old caller (of_main key) × (slot : ℕ) × (old.index.slot_of (of_main key) ≡ Some slot) × LacksAt limits old caller (of_main key) (Some slot) reply
+Lacks limits old caller (Put name key value) reply = LacksAt limits old caller (of_table name key) (old.index.slot_of (of_table name key)) reply
+Lacks limits old caller (Del name key) reply = IsSeen old caller (of_table name key) × (slot : ℕ) × (old.index.slot_of (of_table name key) ≡ Some slot) × LacksAt limits old caller (of_table name key) (Some slot) reply
 Lacks limits old caller _ reply = ⊥
 
 -- the index gains the key with the slot that is due, if there is one
@@ -95,14 +96,14 @@ pub record TakesPages (limits : Limits) (old new : Index) : Type 0 where
   pub few : new.next_page ≤ old.next_page + 9
   pub most : new.next_page ≤ limits.index_pages
   pub used : old.used_pages ≤ new.used_pages
-  pub levels : old.level ≤ new.level
+  pub levels : (name : List ℕ) → old.levels name ≤ new.levels name
 
 -- What a put makes of an index that lacks the key. If the log is full after the insertion, the key stays. If pages ran out, at most one is
 -- left, or the index has as many levels as it may.
 abbrev pub Inserts : Limits → Key → Reply → Index → Index → Type 0
 Inserts limits key Fine old new = TakesPages limits old new × GainsKey limits key old new
 Inserts limits key (LogFull g h n) old new = TakesPages limits old new × (KeepsKeys old new ⊎ GainsKey limits key old new)
-Inserts limits key (PagesFull n) old new = TakesPages limits old new × KeepsKeys old new × ((n ≤ new.used_pages) ⊎ (7 ≤ new.level))
+Inserts limits key (PagesFull n) old new = TakesPages limits old new × KeepsKeys old new × ((n ≤ new.used_pages) ⊎ (7 ≤ new.levels key.table))
 Inserts limits key _ old new = TakesPages limits old new × KeepsKeys old new
 
 abbrev pub IndexesAt : Limits → Key → Option ℕ → Reply → Index → Index → Type 0
@@ -111,5 +112,5 @@ IndexesAt limits key (Some slot) reply old new = new ≡ old
 
 -- what a call makes of the index
 abbrev pub Indexes : Limits → Call → Reply → Index → Index → Type 0
-Indexes limits (Put key value) reply old new = IndexesAt limits (of_main key) (old.slot_of (of_main key)) reply old new
+Indexes limits (Put name key value) reply old new = IndexesAt limits (of_table name key) (old.slot_of (of_table name key)) reply old new
 Indexes limits _ reply old new = new ≡ old

@@ -43,8 +43,8 @@ commits_of caller history = filter (λ (done : Done). nat_eq done.caller caller)
 
 -- the call asks to write a record, or to remove one
 abbrev pub is_write : Call → Bool
-is_write (Put key value) = true
-is_write (Del key) = true
+is_write (Put name key value) = true
+is_write (Del name key) = true
 is_write _ = false
 
 -- a turn asks for that

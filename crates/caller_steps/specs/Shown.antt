@@ -2,7 +2,8 @@
 use Rattle.std.specs.Prelude.{ℕ, suc, ◌≡◌, ◌≢◌, ◌-◌, ◌≤◌, ◌⊎◌, Bool, false, IsTrue, IsFalse, List, [], ◌∷◌, Some, None, unwrap_or}
 use Rattle.std.specs.List.{list_any}
 use Rattle.std.specs.Map.{update}
-use Rattle.history.specs.Key.{Key, is_same_key, of_main}
+use Rattle.history.specs.Key.{is_same_key, of_table}
+use Rattle.history.specs.declared.key.Key.{Key}
 use Rattle.history.specs.Table.{Granted}
 use Rattle.history.specs.Locks.{Meets}
 use Rattle.history.specs.declared.call.Call.{Call}
@@ -16,7 +17,7 @@ use Rattle.caller_steps.specs.Own.{live_by}
 
 -- the call puts a value for this key
 abbrev pub is_put : Key → Call → Bool
-is_put key (Put other value) = is_same_key (of_main other) key
+is_put key (Put name other value) = is_same_key (of_table name other) key
 is_put key _ = false
 
 -- a turn asks to put a value for this key
@@ -38,14 +39,14 @@ Gained first (key ∷ keys) now = (before : Index) × Gained first keys before �
 
 -- a put finds no page for a split, or no further level
 abbrev pub LacksPages : Call → ℕ → Index → Type 0
-LacksPages (Put key value) n index = (n ≤ index.used_pages) ⊎ (7 ≤ index.level)
+LacksPages (Put name key value) n index = (n ≤ index.used_pages) ⊎ (7 ≤ index.levels name)
 LacksPages _ n index = Unit {0}
 
 -- What a refusal of a call shows, given the turns before it and any later state. The holder of a stripe is another caller, and its own turns
 -- say that the call clashes with its live transaction. Slots and pages had run out, and unless the medium has failed, they still have.
 -- After a fault the core is dead, and `Dead` comes only after a fault.
 abbrev pub Shows : Limits → List Turn → State → ℕ → Call → Reply → Type 0
-Shows limits before now caller call (Busy holder) = (holder ≢ caller) × Meets call (unwrap_or (live_by holder (turns_of holder before)) [])
+Shows limits before now caller call (Busy holder) = (holder ≢ caller) × Meets now.names call (unwrap_or (live_by holder (turns_of holder before)) [])
 Shows limits before now caller call (SlotsFull n) = (n ≡ limits.slots) × (IsFalse now.is_dead → now.index.used_slots ≡ limits.slots)
 Shows limits before now caller call (PagesFull n) = (n ≡ limits.index_pages - 1) × (IsFalse now.is_dead → LacksPages call n now.index)
 Shows limits before now caller call Media = IsTrue now.is_dead

@@ -12,4 +12,4 @@ pub record IsSound (state : State) : Type 0 where
   pub certain : state.is_dead ≡ false → state.doubt ≡ []
   pub doubtful : IsLegal state.base (state.history ++ state.doubt)
   pub right : (caller : ℕ) → IsRight (records_of state) (calls_of state caller)
-  pub apart : (one other : ℕ) → one ≢ other → AreApart (calls_of state one) (calls_of state other)
+  pub apart : (one other : ℕ) → one ≢ other → AreApart state.names (calls_of state one) (calls_of state other)

@@ -1,11 +1,12 @@
 -- How a call of a caller is answered, and what it leaves.
 use Rattle.std.specs.Prelude.{ℕ, ◌≡◌, ◌+◌, ◌<◌, ◌≤◌, ◌⊎◌, Bool, true, false, IsTrue, IsFalse, List, [], ◌∷◌, ◌++◌, length, Option, Some, None}
+use Rattle.history.specs.Locks.{has_table}
 use Rattle.history.specs.Log.{log_of}
 use Rattle.history.specs.Table.{Granted, Answers, has_save}
 use Rattle.history.specs.declared.call.Call.{Call}
 use Rattle.history.specs.declared.call.Call.TheVariants.{Begin, Save, Back, Commit, Abort}
 use Rattle.history.specs.declared.call.Reply.{Reply}
-use Rattle.history.specs.declared.call.Reply.TheVariants.{Fine, Committed, NoTransaction, Already, NoSave, SavesFull, Busy, Media, Dead, NoMemory}
+use Rattle.history.specs.declared.call.Reply.TheVariants.{Fine, Committed, NoTransaction, NoTable, Already, NoSave, SavesFull, Busy, Media, Dead, NoMemory}
 use Rattle.caller_steps.specs.State.{State, Index, view_of, with_live, done_by}
 use Rattle.caller_steps.specs.Locked.{IsFree, IsBusyWith}
 use Rattle.caller_steps.specs.Room.{Limits, Fits, Lacks, Indexes, Settles}
@@ -57,6 +58,11 @@ abbrev pub Doubts : Granted → State → ℕ → Reply → State → Type 0
 Doubts calls old caller reply new =
     (0 < length (log_of calls).writes) × (reply ≡ Media) × (index : Index) × (new ≡ record (with_live old caller None) { doubt = done_by old caller calls ∷ []; index = index; is_dead = true })
 
+-- a call on a table that is not there is refused, before memory and locks are asked for
+abbrev pub AsksTable : Limits → Granted → State → ℕ → Call → Reply → State → Type 0
+AsksTable limits calls old caller call reply new = (IsFalse (has_table old.names call) × Says NoTable old reply new)
+    ⊎ (IsTrue (has_table old.names call) × Asks limits calls old caller call reply new)
+
 -- A step with this as the caller's live transaction, if the medium has not failed before.
 abbrev pub StepAt : Limits → Option Granted → State → ℕ → Call → Reply → State → Type 0
 StepAt limits None old caller Begin reply new = (reply ≡ Fine) × (new ≡ with_live old caller (Some []))
@@ -68,7 +74,7 @@ StepAt limits (Some calls) old caller Save reply new = ((most_saves ≤ length (
     ⊎ ((length (view_of old caller).saves < most_saves) × Asks limits calls old caller Save reply new)
 StepAt limits (Some calls) old caller (Back n) reply new = (IsFalse (has_save (view_of old caller).saves n) × Says (NoSave n) old reply new)
     ⊎ (IsTrue (has_save (view_of old caller).saves n) × Asks limits calls old caller (Back n) reply new)
-StepAt limits (Some calls) old caller call reply new = Asks limits calls old caller call reply new
+StepAt limits (Some calls) old caller call reply new = AsksTable limits calls old caller call reply new
 
 -- If the medium has failed in an earlier call, the reply is `Dead`.
 abbrev pub StepIf : Limits → Bool → State → ℕ → Call → Reply → State → Type 0

@@ -1,5 +1,6 @@
 // The trait of callers by turns.
 ghost use Rattle.std.specs.Prelude.{◌≡◌, ◌<◌, ◌⊎◌, ℕ, Bool, IsTrue, IsFalse, is_some, length};
+ghost use Rattle.history.specs.Locks.{has_table};
 ghost use Rattle.history.specs.declared.call.Call.TheVariants.{Begin};
 ghost use Rattle.history.specs.declared.call.Reply.TheVariants.{Dead};
 ghost use Rattle.caller_steps.specs.Core.{CoreView, Steps};
@@ -7,6 +8,7 @@ ghost use Rattle.caller_steps.specs.Fate.{is_busy, is_refusal};
 ghost use Rattle.caller_steps.specs.Locked.{IsLocked};
 
 use history::{Call, History, Reply};
+use record_slots::Names;
 
 /// Makes one step at a time: a caller's call on a table of records, with locks on keys that are held until the transaction ends.
 pub trait Core {
@@ -22,14 +24,20 @@ pub trait Core {
         ensures dead { IsTrue (view self.old).state.is_dead → (result ≡ Dead) × (self.new ≡ self.old) };
 
     /// Answers a caller's call that clashes with no other caller's live transaction, as locks outside of the core have made sure. It makes
-    /// the step that `step` would make, without a search for a holder. A caller that is not live is granted nothing but a begin.
+    /// the step that `step` would make, without a search for a holder. A caller that is not live is granted nothing but a begin, and nobody a call on a
+    /// table that is not there.
     fn step_locked(&mut self, caller: u8, call: &Call) -> Reply
         requires inside { caller < (view self.old).limits.callers }
         requires locked { IsLocked (view self.old).state caller call.now }
         ensures steps { Steps tells caller call.now (view self.old) (view self.new) result }
         ensures dead { IsTrue (view self.old).state.is_dead → (result ≡ Dead) × (self.new ≡ self.old) }
         ensures not_busy { IsFalse (is_busy result) }
-        ensures begun { IsFalse (is_refusal result) → IsTrue (is_some ((view self.old).state.live caller)) ⊎ (call.now ≡ Begin) };
+        ensures begun { IsFalse (is_refusal result) → IsTrue (is_some ((view self.old).state.live caller)) ⊎ (call.now ≡ Begin) }
+        ensures tabled { IsFalse (is_refusal result) → IsTrue (has_table (view self.old).state.names call.now) };
+
+    /// The names of the tables, by their numbers.
+    fn names(&self) -> &Names
+        ensures { result.now ≡ (view self.now).state.names };
 
     /// How many transactions have committed since the opening.
     fn told(&self) -> u64
@@ -61,8 +69,15 @@ impl<C: Core> Core for Box<C> {
         ensures dead { IsTrue (C.view self.old.value).state.is_dead → (result ≡ Dead) × (self.new ≡ self.old) }
         ensures not_busy { IsFalse (is_busy result) }
         ensures begun { IsFalse (is_refusal result) → IsTrue (is_some ((C.view self.old.value).state.live caller)) ⊎ (call.now ≡ Begin) }
+        ensures tabled { IsFalse (is_refusal result) → IsTrue (has_table (C.view self.old.value).state.names call.now) }
     {
         self.as_mut().step_locked(caller, call)
+    }
+
+    fn names(&self) -> &Names
+        ensures { result.now ≡ (C.view self.now.value).state.names }
+    {
+        self.as_ref().names()
     }
 
     fn told(&self) -> u64

@@ -3,6 +3,7 @@ ghost use Rattle.std.specs.Prelude.{◌≡◌, ◌≢◌, ◌≤◌, List, ℕ, 
 ghost use Rattle.history.specs.Writes.{Table};
 ghost use Rattle.history.specs.Table.{Granted};
 ghost use Rattle.history.specs.Legal.{IsLegal};
+ghost use Rattle.history.specs.Locks.{has_table};
 ghost use Rattle.history.specs.declared.call.Call.{Call};
 ghost use Rattle.history.specs.declared.call.Reply.{Reply};
 ghost use Rattle.caller_steps.specs.State.{State, Index, opened};
@@ -18,7 +19,7 @@ use crate::Core;
 /// Over the calls of all callers, in any order, the history is legal, each live transaction is right on the records, and no two clash at
 /// a stripe.
 pub fn steps_keep_all_sound()
-    ensures opened { (base : Table) (index : Index) → IsSound (opened base index) }
+    ensures opened { (names : List (List ℕ)) (base : Table) (index : Index) → IsSound (opened names base index) }
     ensures step { (limits : Limits) (old new : State) (caller : ℕ) (call : Call) (reply : Reply) → IsSound old → Step limits old caller call reply new → IsSound new }
     ensures runs { (limits : Limits) (old new : State) (turns : List (ℕ × Call × Reply)) → IsSound old → Runs limits old turns new → IsSound new }
 {}
@@ -26,7 +27,7 @@ pub fn steps_keep_all_sound()
 /// Whatever callers ask, one after another, the committed transactions are a legal history of a one-thread table on the records at the
 /// opening.
 pub fn every_run_is_legal()
-    ensures { (limits : Limits) (base : Table) (index : Index) (turns : List (ℕ × Call × Reply)) (new : State) → Runs limits (opened base index) turns new → IsLegal base new.history }
+    ensures { (limits : Limits) (names : List (List ℕ)) (base : Table) (index : Index) (turns : List (ℕ × Call × Reply)) (new : State) → Runs limits (opened names base index) turns new → IsLegal base new.history }
 {}
 
 /// A step changes no live transaction but its caller's, and the history only at a commit. It is refused or done as its reply says.
@@ -34,12 +35,12 @@ pub fn what_a_step_does()
     ensures { (limits : Limits) (old new : State) (caller : ℕ) (call : Call) (reply : Reply) → Step limits old caller call reply new → Moves old caller call reply new }
 {}
 
-/// While a live caller's call clashes with another caller's live transaction, the reply is `Busy`, `Dead` or `NoMemory`, and nothing
+/// While a live caller's call on a table that is there clashes with another caller's live transaction, the reply is `Busy`, `Dead` or `NoMemory`, and nothing
 /// changes.
 pub fn locks_come_first()
-    ensures reply { (limits : Limits) (old new : State) (caller holder : ℕ) (calls : Granted) (call : Call) (reply : Reply) → old.live caller ≡ Some calls → Blocks old caller call holder
+    ensures reply { (limits : Limits) (old new : State) (caller holder : ℕ) (calls : Granted) (call : Call) (reply : Reply) → old.live caller ≡ Some calls → IsTrue (has_table old.names call) → Blocks old caller call holder
         → Step limits old caller call reply new → IsTrue (may_come_held reply) }
-    ensures unchanged { (limits : Limits) (old new : State) (caller holder : ℕ) (calls : Granted) (call : Call) (reply : Reply) → old.live caller ≡ Some calls → Blocks old caller call holder
+    ensures unchanged { (limits : Limits) (old new : State) (caller holder : ℕ) (calls : Granted) (call : Call) (reply : Reply) → old.live caller ≡ Some calls → IsTrue (has_table old.names call) → Blocks old caller call holder
         → Step limits old caller call reply new → new ≡ old }
 {}
 

@@ -1,7 +1,7 @@
 // Laws of runs, each of which follows from the definitions alone.
 ghost use Rattle.std.specs.Prelude.{◌≡◌, ◌≢◌, ◌≤◌, ◌<◌, ◌+◌, ◌⊎◌, ◌||◌, ◌++◌, ◌∷◌, [], List, Bool, ℕ, Some, None, false, true, All, IsTrue, IsFalse, length};
 ghost use Rattle.std.specs.List.{AllPairs, list_any};
-ghost use Rattle.history.specs.Key.{Key};
+ghost use Rattle.history.specs.declared.key.Key.{Key};
 ghost use Rattle.history.specs.Table.{Granted};
 ghost use Rattle.history.specs.declared.call.Call.{Call};
 ghost use Rattle.history.specs.declared.call.Reply.{Reply};
@@ -26,6 +26,7 @@ pub fn runs_join_and_cut()
 /// What a run leaves, of any core: the history only grows, the core is dead exactly if a turn reports a fault of the medium, a dead core
 /// stays as it is, and the transactions of a caller that no turn names stay the same.
 pub fn what_a_run_leaves()
+    ensures names { (tells : Bool) (limits : Limits) (first now : State) (turns : List Turn) → GoesAlong tells limits first turns now → now.names ≡ first.names }
     ensures base { (tells : Bool) (limits : Limits) (first now : State) (turns : List Turn) → GoesAlong tells limits first turns now → now.base ≡ first.base }
     ensures grows { (tells : Bool) (limits : Limits) (first now : State) (turns : List Turn) → GoesAlong tells limits first turns now → Grows first.history now.history }
     ensures dead { (tells : Bool) (limits : Limits) (first now : State) (turns : List Turn) → GoesAlong tells limits first turns now → now.is_dead ≡ (first.is_dead || has_fault turns) }

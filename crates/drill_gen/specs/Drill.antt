@@ -1,6 +1,7 @@
 -- The script of a drill: which callers make which calls, in order.
 use Rattle.std.specs.Prelude.{ℕ, zero, suc, ◌%◌, Bool, true, nat_eq, nat_le, if◌then◌else◌, List, [], ◌∷◌, ◌++◌, codes}
 use Rattle.std.specs.Fmt.{decimal}
+use Rattle.history.specs.Key.{main_name}
 use Rattle.history.specs.declared.call.Call.{Call}
 use Rattle.history.specs.declared.call.Call.TheVariants.{Begin, Put, Commit, Abort}
 use Rattle.drill_gen.specs.Draws.{drawn_on, draw}
@@ -8,7 +9,7 @@ use Rattle.drill_gen.specs.declared.transaction.Transaction.{Transaction}
 
 -- the two draws from this state: a put of a key below 256, whose value is `v` and a number
 abbrev pub put_from : ℕ → Call
-put_from x = Put (draw (drawn_on x 1) % 256) (codes "v" ++ decimal (draw (drawn_on x 2)))
+put_from x = Put main_name (draw (drawn_on x 1) % 256) (codes "v" ++ decimal (draw (drawn_on x 2)))
 
 -- the five draws from this state: two puts, and the end, which is an abort once in eight
 abbrev pub drawn_from : ℕ → Transaction

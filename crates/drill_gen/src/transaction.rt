@@ -6,7 +6,7 @@ ghost use Rattle.drill_gen.specs.Draws.{draw, drawn_on};
 ghost use Rattle.drill_gen.specs.Drill.{alone, paired, drawn_from, put_from};
 
 use crate::draws::Draws;
-use history::Call;
+use history::{Call, main_table};
 use mars_base::{Listed, NoMemory};
 use record_slots::Value;
 use texts::{Piece, ShortText};
@@ -49,7 +49,11 @@ fn draw_put(draws: &mut Draws) -> Call
 {
     let key = draws.next() % KEYS;
     let value = value_of(draws.next());
-    Call::Put { key, value }
+    Call::Put {
+        table: main_table(),
+        key,
+        value,
+    }
 }
 
 fn end_of(drawn: u64) -> Call

@@ -1,6 +1,6 @@
 -- The locks: which stripes of keys calls touch, in which mode, and which touches clash.
-use Rattle.std.specs.Prelude.{ℕ, suc, ◌≡◌, ◌+◌, ◌*◌, ◌%◌, Bool, true, false, ◌&&◌, ◌||◌, nat_eq, nat_lt, if◌then◌else◌, List, [], ◌∷◌, IsTrue, IsFalse}
-use lib.Pointwise.{pointwise}
+use Rattle.std.specs.Prelude.{ℕ, ◌≡◌, ◌+◌, ◌*◌, ◌%◌, Bool, true, false, ◌&&◌, ◌||◌, nat_eq, nat_lt, List, length, unwrap_or, is_some, IsTrue, IsFalse}
+use Rattle.record_slots.specs.Names.{number_of}
 use Rattle.std.specs.List.{list_any}
 use Rattle.std.specs.FinMap.{get}
 use Rattle.history.specs.Key.{Key, of_table}
@@ -16,14 +16,17 @@ use Rattle.history.specs.declared.locks.Mode.TheVariants.{Shared, Exclusive}
 abbrev pub stripe_of : ℕ → ℕ → ℕ
 stripe_of table key = (key % 64 + 8 * table) % 64
 
--- The number of the table of this name, where the tables have these names. A name that none of them has counts as that of one more table.
-abbrev pub number_of : List (List ℕ) → List ℕ → ℕ
-number_of [] name = 0
-number_of (other ∷ names) name = if pointwise nat_eq other name then 0 else suc (number_of names name)
+-- There is a table of the name that a call asks for, if it asks for one.
+abbrev pub has_table : List (List ℕ) → Call → Bool
+has_table names (Get name key) = is_some (number_of names name)
+has_table names (Put name key value) = is_some (number_of names name)
+has_table names (Del name key) = is_some (number_of names name)
+has_table names (Scan name low high) = is_some (number_of names name)
+has_table names call = true
 
--- the stripe of a key
+-- the stripe of a key, where the tables have these names; a name that none of them has counts as that of one table more
 abbrev pub key_stripe : List (List ℕ) → Key → ℕ
-key_stripe names key = stripe_of (number_of names key.table) key.key
+key_stripe names key = stripe_of (unwrap_or (number_of names key.table) (length names)) key.key
 
 -- in which modes a stripe is touched
 abbrev pub Touch : Type 0

@@ -1,7 +1,7 @@
 -- A ring of jobs in a table: under key 0 the place of the first job, under key 1 how many there are, and from key 2 on the places.
 use Rattle.std.specs.Prelude.{ℕ, suc, ◌≡◌, ◌+◌, ◌-◌, ◌^◌, ◌<◌, ◌≤◌, nat_lt, if◌then◌else◌, List, [], ◌∷◌, ◌++◌, length, Option, Some, None, decimal}
 use Rattle.std.specs.FinMap.{get, insert}
-use Rattle.history.specs.Key.{of_main}
+use Rattle.history.specs.Key.{main_name, of_main}
 use Rattle.history.specs.Writes.{Table}
 use Rattle.history.specs.Table.{found}
 use Rattle.history.specs.declared.call.Call.TheVariants.{Get}
@@ -69,4 +69,4 @@ pub record Reads (first count caller : ℕ) (old new : CoreView) : Type 0 where
   pub other : Option (List ℕ)
   pub is_first : IsNumber first one
   pub is_count : IsNumber count other
-  pub live : new.state.live caller ≡ Some (calls_of old.state caller ++ (Get 0, found one) ∷ (Get 1, found other) ∷ [])
+  pub live : new.state.live caller ≡ Some (calls_of old.state caller ++ (Get main_name 0, found one) ∷ (Get main_name 1, found other) ∷ [])

@@ -1,5 +1,6 @@
 // A queue of jobs.
 ghost use Rattle.std.specs.Prelude.{◌≡◌, ◌+◌, ◌<◌, ◌≤◌, ◌^◌, ◌++◌, ◌∷◌, [], List, ℕ, Some, Option, IsTrue, IfOk, IfErr, OnErr};
+ghost use Rattle.history.specs.Key.{main_name};
 ghost use Rattle.history.specs.Table.{found, left_by};
 ghost use Rattle.history.specs.declared.call.Call.TheVariants.{Get};
 ghost use Rattle.caller_steps.specs.Core.{Continues};
@@ -13,7 +14,7 @@ ghost use Rattle.job_queue.specs.Along.{Deed, pushed, IsTaking, StaysAlong};
 ghost use Rattle.job_queue.specs.declared.queue.Unmet.TheVariants.{NoQueue};
 
 use caller_steps::Core;
-use history::what_a_write_shows;
+use history::{main_table, what_a_write_shows};
 use record_slots::Value;
 use transactions::{Stop, Work, calls_join, get, number_in, put, transaction, value_of};
 
@@ -105,8 +106,8 @@ impl Work<(), Unmet> for Pushing {
             return Err(Stop::GivenUp(Unmet::Full));
         }
         let end = place(self.size, first, count);
-        put(core, caller, end + 2, self.job)?;
-        put(core, caller, 1, value_of(count + 1))?;
+        put(core, caller, main_table(), end + 2, self.job)?;
+        put(core, caller, main_table(), 1, value_of(count + 1))?;
         Ok(())
     }
 }
@@ -132,12 +133,12 @@ impl Work<Value, Unmet> for Taking {
         if count == 0 {
             return Err(Stop::GivenUp(Unmet::Empty));
         }
-        let Some(job) = get(core, caller, first + 2)? else {
+        let Some(job) = get(core, caller, main_table(), first + 2)? else {
             return Err(Stop::GivenUp(Unmet::NoQueue));
         };
         let next = place(self.size, first, 1);
-        put(core, caller, 0, value_of(next))?;
-        put(core, caller, 1, value_of(count - 1))?;
+        put(core, caller, main_table(), 0, value_of(next))?;
+        put(core, caller, main_table(), 1, value_of(count - 1))?;
         Ok(job)
     }
 }
@@ -187,9 +188,9 @@ fn read_number<C: Core>(core: &mut C, caller: u8, key: u64) -> Result<u64, Stop<
     ensures stays { IsTrue C.tells → Stays caller (C.view core.old) (C.view core.new) }
     ensures cause { IfErr result (IsGivenUp (λ unmet table. unmet ≡ NoQueue) (records_of (C.view core.old).state)) }
     ensures of_core { IsTrue C.tells → IfErr result (IsOfCore caller (C.view core.old) (C.view core.new)) }
-    ensures found { IsTrue C.tells → IfOk result (λ n. (told : Option (List ℕ)) × IsNumber n told × Adds caller (Get key) (found told) (C.view core.old) (C.view core.new)) }
+    ensures found { IsTrue C.tells → IfOk result (λ n. (told : Option (List ℕ)) × IsNumber n told × Adds caller (Get main_name key) (found told) (C.view core.old) (C.view core.new)) }
 {
-    let Some(value) = get(core, caller, key)? else {
+    let Some(value) = get(core, caller, main_table(), key)? else {
         return Ok(0);
     };
     match number_in(&value) {

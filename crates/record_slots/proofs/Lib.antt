@@ -5,3 +5,4 @@ pub mod Front
 pub mod Used
 pub mod MainAlone
 pub mod Naming
+pub mod Numbering

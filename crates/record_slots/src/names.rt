@@ -1,7 +1,7 @@
 // The names of the tables of an array, and a table more.
 ghost use Rattle.std.specs.Prelude.{◌≡◌, ◌≢◌, ◌+◌, ◌^◌, ◌<◌, ◌≤◌, [], ◌∷◌, ◌++◌, ℕ, IfSome, IfNone, Some, length, slice_get};
 ghost use Rattle.record_slots.specs.Super.{HasTables, entry_bytes, tables_in, tables_used};
-ghost use Rattle.record_slots.specs.Names.{names_in, with_last, with_entries};
+ghost use Rattle.record_slots.specs.Names.{names_in, number_of, with_last, with_entries};
 ghost use Rattle.record_slots.specs.Text.{IsName};
 
 use crate::Name;
@@ -48,6 +48,14 @@ impl Names {
         }
     }
 
+    pub fn copy(&self) -> Names
+        ensures { result ≡ self.now }
+    {
+        Names {
+            entries: self.entries,
+        }
+    }
+
     /// How many tables there are.
     pub fn count(&self) -> u8
         ensures count { result ≡ length self.now }
@@ -70,6 +78,7 @@ impl Names {
 
     /// The number of the table of this name, if there is one.
     pub fn number(&self, name: &Name) -> Option<u8>
+        ensures number { result ≡ number_of self.now name.now }
         ensures some { IfSome result (λ j. slice_get self.now j ≡ Some name.now) }
         ensures none { IfNone result ((j : ℕ) → slice_get self.now j ≢ Some name.now) }
     {

@@ -8,3 +8,4 @@ pub mod Fields
 pub mod EawCommands
 pub mod AnswerLemmas
 pub mod EawOneLine
+pub mod Naming

@@ -1,17 +1,19 @@
 -- The text of a caller's call is the text of no other, and a line says one thing.
-use Rattle.std.proofs.Common.{◌≡◌, ℕ, zero, suc, length, ◌+◌, ◌*◌, ◌++◌, ◌<◌, ◌≤◌, ◌^◌, List, [], ◌∷◌, get_or, refl, ap, ◌∙◌, sym, subst, arith}
-use Rattle.std.specs.Prelude.{codes}
+use Rattle.std.proofs.Common.{◌≡◌, ℕ, zero, suc, length, ◌+◌, ◌*◌, ◌++◌, ◌<◌, ◌≤◌, ◌^◌, List, [], ◌∷◌, get_or, inl, inr, Option, Some, None, refl, ap, ◌∙◌, sym, subst, arith}
+use Rattle.std.specs.Prelude.{codes, is_some}
 use Rattle.std.specs.Fmt.{decimal}
 use Rattle.std.proofs.lemmas.Fmt.{decimal_injective, decimal_digit, decimal_nonempty, first_decimal}
 use Rattle.std.proofs.lemmas.List.{append_cancel_left, get_or_append_left, length-append}
 use Rattle.history.specs.declared.call.Call.{Call}
 use Rattle.history.specs.declared.call.Call.TheVariants.{Begin, Get, Put, Del, Scan, Save, Back, Commit, Abort}
-use Rattle.script_text.specs.Line.{IsCallText, IsLineOf, IsPassedOver, LineSays}
+use Rattle.script_text.specs.Line.{asked_table, AreWordsOf, IsTextFor, IsCallText, IsLineOf, IsPassedOver, LineSays}
 use Rattle.script_text.specs.declared.line.Line.{Line}
 use Rattle.script_text.specs.declared.line.Line.TheVariants.{Nothing, Told, Bad}
 use Rattle.script_text.proofs.Words.{first_space}
 use Rattle.script_text.proofs.Numbers.{decimal_is_word}
 use Rattle.script_text.proofs.Fields.{same_long_fields}
+use Rattle.script_text.proofs.Naming.{no_sign, name_is_word}
+use Rattle.std.proofs.lemmas.Bool.{false≢true}
 
 -- twice the first letter of a text, and the second
 mark : List ℕ → ℕ
@@ -20,28 +22,28 @@ mark text = 2 * get_or text 0 0 + get_or text 1 0
 -- together they identify the verb
 letters : Call → ℕ
 letters Begin = 297
-letters (Get key) = 307
-letters (Put key value) = 341
-letters (Del key) = 301
-letters (Scan low high) = 329
+letters (Get name key) = 307
+letters (Put name key value) = 341
+letters (Del name key) = 301
+letters (Scan name low high) = 329
 letters Save = 327
 letters (Back save) = 293
 letters Commit = 309
 letters Abort = 292
 
-mark_of : (call : Call) (text : List ℕ) → IsCallText call text → mark text ≡ letters call
+mark_of : (call : Call) (text : List ℕ) → AreWordsOf call text → mark text ≡ letters call
 unfolding mark letters
 mark_of Begin text is = ap mark is
-mark_of (Get key) text is = ap mark is.1
-mark_of (Put key value) text is = ap mark is.2
-mark_of (Del key) text is = ap mark is.1
-mark_of (Scan low high) text is = ap mark is.2
+mark_of (Get name key) text is = ap mark is.1
+mark_of (Put name key value) text is = ap mark is.2
+mark_of (Del name key) text is = ap mark is.1
+mark_of (Scan name low high) text is = ap mark is.2
 mark_of Save text is = ap mark is
 mark_of (Back save) text is = ap mark is.1
 mark_of Commit text is = ap mark is
 mark_of Abort text is = ap mark is
 
-same_letters : (call other : Call) (text : List ℕ) → IsCallText call text → IsCallText other text → letters call ≡ letters other
+same_letters : (call other : Call) (text : List ℕ) → AreWordsOf call text → AreWordsOf other text → letters call ≡ letters other
 same_letters call other text is js = sym (mark_of call text is) ∙ mark_of other text js
 
 -- a front and a number determine the number
@@ -52,23 +54,63 @@ same_key front text k l kf lf is js = decimal_injective k l kf lf (append_cancel
 same_pair : (front text v w : List ℕ) (k l : ℕ) → k < 2 ^ 64 → l < 2 ^ 64 → text ≡ front ++ (decimal k ++ 32 ∷ v) → text ≡ front ++ (decimal l ++ 32 ∷ w) → (k ≡ l) × (v ≡ w)
 same_pair front text v w k l kf lf is js = same_long_fields _ v w k l kf lf refl (append_cancel_left front _ _ (sym is ∙ js))
 
-same_call : (call other : Call) (text : List ℕ) → IsCallText call text → IsCallText other text → call ≡ other
+names_are : (one other : List ℕ) → Some one ≡ Some other → one ≡ other
+names_are one other e = cc
+
+-- one text is the words of one call of one table
+same_words : (call other : Call) (text : List ℕ) → asked_table call ≡ asked_table other → AreWordsOf call text → AreWordsOf other text → call ≡ other
 unfolding letters
-same_call Begin Begin text is js = refl
-same_call (Get k) (Get l) text is js = ap Get (same_key (codes "get ") text k l is.0 js.0 is.1 js.1)
-same_call (Put k v) (Put l w) text is js =
+same_words Begin Begin text asks is js = refl
+same_words (Get m k) (Get n l) text asks is js = λ i. Get (names_are m n asks i) (same_key (codes "get ") text k l is.0 js.0 is.1 js.1 i)
+same_words (Put m k v) (Put n l w) text asks is js =
     let both = same_pair (codes "put ") text v w k l is.0 js.0 is.2 js.2 in
-    ap (λ (p : ℕ × List ℕ). Put p.0 p.1) (λ i. (both.0 i, both.1 i))
-same_call (Del k) (Del l) text is js = ap Del (same_key (codes "del ") text k l is.0 js.0 is.1 js.1)
-same_call (Scan k m) (Scan l n) text is js =
-    let both = same_pair (codes "scan ") text (decimal m) (decimal n) k l is.0 js.0 is.2 js.2 in
-    let high = decimal_injective m n is.1 js.1 both.1 in
-    ap (λ (p : ℕ × ℕ). Scan p.0 p.1) (λ i. (both.0 i, high i))
-same_call Save Save text is js = refl
-same_call (Back m) (Back n) text is js = ap Back (same_key (codes "back ") text m n (omega (arith, is.0)) (omega (arith, js.0)) is.1 js.1)
-same_call Commit Commit text is js = refl
-same_call Abort Abort text is js = refl
-same_call call other text is js = absurd (let h : letters call ≡ letters other = same_letters call other text is js in omega (arith, h))
+    λ i. Put (names_are m n asks i) (both.0 i) (both.1 i)
+same_words (Del m k) (Del n l) text asks is js = λ i. Del (names_are m n asks i) (same_key (codes "del ") text k l is.0 js.0 is.1 js.1 i)
+same_words (Scan m k h) (Scan n l g) text asks is js =
+    let both = same_pair (codes "scan ") text (decimal h) (decimal g) k l is.0 js.0 is.2 js.2 in
+    let high = decimal_injective h g is.1 js.1 both.1 in
+    λ i. Scan (names_are m n asks i) (both.0 i) (high i)
+same_words Save Save text asks is js = refl
+same_words (Back m) (Back n) text asks is js = ap Back (same_key (codes "back ") text m n (omega (arith, is.0)) (omega (arith, js.0)) is.1 js.1)
+same_words Commit Commit text asks is js = refl
+same_words Abort Abort text asks is js = refl
+same_words call other text asks is js = absurd (let h : letters call ≡ letters other = same_letters call other text is js in omega (arith, h))
+
+-- and tells whether they ask for a table
+same_kind : (call other : Call) (text : List ℕ) → AreWordsOf call text → AreWordsOf other text → is_some (asked_table call) ≡ is_some (asked_table other)
+unfolding letters
+same_kind Begin Begin text is js = refl
+same_kind (Get m k) (Get n l) text is js = refl
+same_kind (Put m k v) (Put n l w) text is js = refl
+same_kind (Del m k) (Del n l) text is js = refl
+same_kind (Scan m k h) (Scan n l g) text is js = refl
+same_kind Save Save text is js = refl
+same_kind (Back m) (Back n) text is js = refl
+same_kind Commit Commit text is js = refl
+same_kind Abort Abort text is js = refl
+same_kind call other text is js = absurd (let h : letters call ≡ letters other = same_letters call other text is js in omega (arith, h))
+
+unlike : {X : Type 0} (call other : Call) (name text : List ℕ) → asked_table call ≡ None → asked_table other ≡ Some name → AreWordsOf call text → AreWordsOf other text → X
+unlike call other name text none some is js = absurd (false≢true (sym (ap is_some none) ∙ same_kind call other text is js ∙ ap is_some some))
+
+same_call : (call other : Call) (text : List ℕ) → IsCallText call text → IsCallText other text → call ≡ other
+same_call call other text is js = go (asked_table call) (asked_table other) refl refl is js
+  where
+    go : (a b : Option (List ℕ)) → asked_table call ≡ a → asked_table other ≡ b → IsTextFor a (AreWordsOf call) text → IsTextFor b (AreWordsOf other) text → call ≡ other
+    go None None e f is js = same_words call other text (e ∙ sym f) is js
+    go None (Some n) e f is (proper, inl (words, at, said)) = no_sign call text (n ++ 32 ∷ words) at is
+    go None (Some n) e f is (proper, inr (main, said)) = unlike call other n text e f is said
+    go (Some m) None e f (proper, inl (words, at, said)) js = no_sign other text (m ++ 32 ∷ words) at js
+    go (Some m) None e f (proper, inr (main, said)) js = unlike other call m text f e js said
+    go (Some m) (Some n) e f (proper, inl (words, at, said)) (proper', inl (words', at', said')) =
+        let both = first_space m n words words' (name_is_word m proper) (name_is_word n proper') (tails (m ++ 32 ∷ words) (n ++ 32 ∷ words') (sym at ∙ at')) in
+        same_words call other words' (e ∙ ap Some both.0 ∙ sym f) (subst (AreWordsOf call) both.1 said) said'
+    go (Some m) (Some n) e f (proper, inl (words, at, said)) (proper', inr (main, said')) = no_sign other text (m ++ 32 ∷ words) at said'
+    go (Some m) (Some n) e f (proper, inr (main, said)) (proper', inl (words, at, said')) = no_sign call text (n ++ 32 ∷ words) at said
+    go (Some m) (Some n) e f (proper, inr (main, said)) (proper', inr (main', said')) = same_words call other text (e ∙ ap Some (main ∙ sym main') ∙ sym f) said said'
+
+    tails : (rest other : List ℕ) → ◌≡◌ {A = List ℕ} (64 ∷ rest) (64 ∷ other) → rest ≡ other
+    tails rest other e = cc
 
 pub same_line : (callers c d : ℕ) (call other : Call) (line : List ℕ) → callers ≤ 2 ^ 64 → IsLineOf (IsCallText call) callers c line → IsLineOf (IsCallText other) callers d line
     → (c ≡ d) × (call ≡ other)

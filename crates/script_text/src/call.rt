@@ -1,18 +1,42 @@
-ghost use Rattle.std.specs.Prelude.{◌<◌, ◌^◌, ◌∷◌, ◌++◌, codes};
+ghost use Rattle.std.specs.Prelude.{◌<◌, ◌^◌, ◌∷◌, ◌++◌, codes, Some, None};
 ghost use Rattle.std.specs.Fmt.{decimal};
 ghost use Rattle.record_slots.specs.Text.{IsValue};
 ghost use Rattle.texts.specs.Reads.{Reads};
 ghost use Rattle.script_text.specs.Reads.{ReadsText};
 ghost use Rattle.script_text.specs.Line.{IsCallText};
+ghost use Rattle.script_text.specs.Named.{IsAsking, IsBehindName};
 
 use crate::number::{read_u32_after, read_u64_after, split_u64};
 use crate::word::{after, is_text};
-use history::Call;
-use record_slots::Value;
+use history::{Call, main_table};
+use record_slots::{Name, Value};
 use texts::read_u64;
 
+/// A call: its words, and before them the name of the table that it asks for, unless that is `main`.
 pub fn read_call(bytes: &[u8]) -> Option<Call>
     ensures { ReadsText IsCallText bytes.now result }
+{
+    if let Some(rest) = after(bytes, b"@") {
+        return read_named(rest);
+    }
+    if let Some(call) = read_plain(bytes) {
+        return Some(call);
+    }
+    read_of(bytes, &main_table())
+}
+
+// The name of a table, a space, and the words of a call that asks for that table.
+fn read_named(bytes: &[u8]) -> Option<Call>
+    ensures { ReadsText IsBehindName bytes.now result }
+{
+    let (name, words) = split_word(bytes)?;
+    let table = Name::of(name)?;
+    read_of(words, &table)
+}
+
+// The words of a call that asks for no table.
+fn read_plain(bytes: &[u8]) -> Option<Call>
+    ensures { ReadsText (IsAsking None) bytes.now result }
 {
     if is_text(bytes, b"begin") {
         return Some(Call::Begin);
@@ -26,20 +50,26 @@ pub fn read_call(bytes: &[u8]) -> Option<Call>
     if is_text(bytes, b"abort") {
         return Some(Call::Abort);
     }
-    if let Some(key) = read_u64_after(bytes, b"get ") {
-        return Some(Call::Get { key });
-    }
-    if let Some((key, value)) = read_put(bytes) {
-        return Some(Call::Put { key, value });
-    }
-    if let Some(key) = read_u64_after(bytes, b"del ") {
-        return Some(Call::Del { key });
-    }
-    if let Some((low, high)) = read_scan(bytes) {
-        return Some(Call::Scan { low, high });
-    }
     let save = read_u32_after(bytes, b"back ")?;
     Some(Call::Back { save })
+}
+
+// The words of a call that asks for this table.
+fn read_of(bytes: &[u8], table: &Name) -> Option<Call>
+    ensures { ReadsText (IsAsking (Some table.now)) bytes.now result }
+{
+    let table = *table;
+    if let Some(key) = read_u64_after(bytes, b"get ") {
+        return Some(Call::Get { table, key });
+    }
+    if let Some((key, value)) = read_put(bytes) {
+        return Some(Call::Put { table, key, value });
+    }
+    if let Some(key) = read_u64_after(bytes, b"del ") {
+        return Some(Call::Del { table, key });
+    }
+    let (low, high) = read_scan(bytes)?;
+    Some(Call::Scan { table, low, high })
 }
 
 // A key, a space, a value.

@@ -53,6 +53,7 @@ pub fn put_reply_text<E, T: TextOut<E>>(out: &mut T, reply: &Reply) -> Result<()
         Reply::Saved(n) => put_count(out, b"saved ", u64::from(*n)),
         Reply::Committed(n) => put_count(out, b"committed ", *n),
         Reply::NoTransaction => out.put(b"no transaction"),
+        Reply::NoTable => out.put(b"no table"),
         Reply::Already => out.put(b"already"),
         Reply::NoSave { save } => put_count(out, b"no save ", u64::from(*save)),
         Reply::SavesFull => out.put(b"saves full 32"),

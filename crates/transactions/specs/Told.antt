@@ -4,11 +4,12 @@ use Rattle.history.specs.Writes.{Row}
 use Rattle.history.specs.declared.call.Reply.{Reply}
 use Rattle.history.specs.declared.call.Reply.TheVariants as reply
 use Rattle.transactions.specs.declared.refusal.Refusal.{Refusal}
-use Rattle.transactions.specs.declared.refusal.Refusal.TheVariants.{NoTransaction, Already, NoSave, SavesFull, Busy, LogFull, SlotsFull, PagesFull, Media, Dead, NoMemory, Damaged, Strange}
+use Rattle.transactions.specs.declared.refusal.Refusal.TheVariants.{NoTransaction, NoTable, Already, NoSave, SavesFull, Busy, LogFull, SlotsFull, PagesFull, Media, Dead, NoMemory, Damaged, Strange}
 
 -- the reply that a refusal tells
 abbrev pub reply_of : Refusal → Reply
 reply_of NoTransaction = reply.NoTransaction
+reply_of NoTable = reply.NoTable
 reply_of Already = reply.Already
 reply_of (NoSave n) = reply.NoSave n
 reply_of SavesFull = reply.SavesFull
@@ -25,6 +26,7 @@ reply_of (Strange other) = other
 -- the refusal that a reply is told as, one for each reply that is no answer to any call
 abbrev pub refusal_of : Reply → Refusal
 refusal_of reply.NoTransaction = NoTransaction
+refusal_of reply.NoTable = NoTable
 refusal_of reply.Already = Already
 refusal_of (reply.NoSave n) = NoSave n
 refusal_of reply.SavesFull = SavesFull

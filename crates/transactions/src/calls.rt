@@ -12,7 +12,7 @@ use crate::Refusal;
 use crate::laws::what_a_call_is;
 use caller_steps::{Core, prefix_law};
 use history::{Call, Reply, Rows};
-use record_slots::Value;
+use record_slots::{Name, Value};
 
 /// Begins a transaction of the caller, which must have none.
 pub fn begin<C: Core>(core: &mut C, caller: u8) -> Result<(), Refusal>
@@ -33,75 +33,87 @@ pub fn begin<C: Core>(core: &mut C, caller: u8) -> Result<(), Refusal>
     }
 }
 
-/// What the caller sees under a key.
-pub fn get<C: Core>(core: &mut C, caller: u8, key: u64) -> Result<Option<Value>, Refusal>
+/// What the caller sees under a key of a table.
+pub fn get<C: Core>(core: &mut C, caller: u8, table: Name, key: u64) -> Result<Option<Value>, Refusal>
     requires inside { caller < (C.view core.old).limits.callers }
     requires sound { IsTrue C.tells → IsSound (C.view core.old).state }
-    ensures steps { Steps C.tells caller (Get key) (C.view core.old) (C.view core.new) (told_get result) }
+    ensures steps { Steps C.tells caller (Get table key) (C.view core.old) (C.view core.new) (told_get result) }
     ensures stays { IsTrue C.tells → Stays caller (C.view core.old) (C.view core.new) }
-    ensures ok { IsTrue C.tells → OnOk result (Adds caller (Get key) (told_get result) (C.view core.old) (C.view core.new)) }
+    ensures ok { IsTrue C.tells → OnOk result (Adds caller (Get table key) (told_get result) (C.view core.old) (C.view core.new)) }
     ensures err { IsTrue C.tells → OnErr result (Keeps caller (C.view core.old) (C.view core.new)) }
     ensures refused { IsTrue C.tells → IfErr result (Refuses caller (C.view core.old) (C.view core.new)) }
 {
     prefix_law::<C>();
     what_a_call_is::<C>();
-    match core.step(caller, &Call::Get { key }) {
+    match core.step(caller, &Call::Get { table, key }) {
         Reply::Found(value) => Ok(Some(value)),
         Reply::Absent => Ok(None),
         reply => Err(Refusal::from(reply)),
     }
 }
 
-/// Sets a key to a value.
-pub fn put<C: Core>(core: &mut C, caller: u8, key: u64, value: Value) -> Result<(), Refusal>
+/// Sets a key of a table to a value.
+pub fn put<C: Core>(
+    core: &mut C,
+    caller: u8,
+    table: Name,
+    key: u64,
+    value: Value,
+) -> Result<(), Refusal>
     requires inside { caller < (C.view core.old).limits.callers }
     requires sound { IsTrue C.tells → IsSound (C.view core.old).state }
-    ensures steps { Steps C.tells caller (Put key value) (C.view core.old) (C.view core.new) (told_done result) }
+    ensures steps { Steps C.tells caller (Put table key value) (C.view core.old) (C.view core.new) (told_done result) }
     ensures stays { IsTrue C.tells → Stays caller (C.view core.old) (C.view core.new) }
-    ensures ok { IsTrue C.tells → OnOk result (Adds caller (Put key value) Fine (C.view core.old) (C.view core.new)) }
+    ensures ok { IsTrue C.tells → OnOk result (Adds caller (Put table key value) Fine (C.view core.old) (C.view core.new)) }
     ensures err { IsTrue C.tells → OnErr result (Keeps caller (C.view core.old) (C.view core.new)) }
     ensures refused { IsTrue C.tells → IfErr result (Refuses caller (C.view core.old) (C.view core.new)) }
 {
     prefix_law::<C>();
     what_a_call_is::<C>();
-    match core.step(caller, &Call::Put { key, value }) {
+    match core.step(caller, &Call::Put { table, key, value }) {
         Reply::Fine => Ok(()),
         reply => Err(Refusal::from(reply)),
     }
 }
 
-/// Removes the record of a key. It answers whether there was one.
-pub fn del<C: Core>(core: &mut C, caller: u8, key: u64) -> Result<bool, Refusal>
+/// Removes the record of a key of a table. It answers whether there was one.
+pub fn del<C: Core>(core: &mut C, caller: u8, table: Name, key: u64) -> Result<bool, Refusal>
     requires inside { caller < (C.view core.old).limits.callers }
     requires sound { IsTrue C.tells → IsSound (C.view core.old).state }
-    ensures steps { Steps C.tells caller (Del key) (C.view core.old) (C.view core.new) (told_del result) }
+    ensures steps { Steps C.tells caller (Del table key) (C.view core.old) (C.view core.new) (told_del result) }
     ensures stays { IsTrue C.tells → Stays caller (C.view core.old) (C.view core.new) }
-    ensures ok { IsTrue C.tells → OnOk result (Adds caller (Del key) (told_del result) (C.view core.old) (C.view core.new)) }
+    ensures ok { IsTrue C.tells → OnOk result (Adds caller (Del table key) (told_del result) (C.view core.old) (C.view core.new)) }
     ensures err { IsTrue C.tells → OnErr result (Keeps caller (C.view core.old) (C.view core.new)) }
     ensures refused { IsTrue C.tells → IfErr result (Refuses caller (C.view core.old) (C.view core.new)) }
 {
     prefix_law::<C>();
     what_a_call_is::<C>();
-    match core.step(caller, &Call::Del { key }) {
+    match core.step(caller, &Call::Del { table, key }) {
         Reply::Fine => Ok(true),
         Reply::Absent => Ok(false),
         reply => Err(Refusal::from(reply)),
     }
 }
 
-/// The records that the caller sees from one key to another, both included, by rising keys.
-pub fn scan<C: Core>(core: &mut C, caller: u8, low: u64, high: u64) -> Result<Rows, Refusal>
+/// The records of a table that the caller sees from one key to another, both included, by rising keys.
+pub fn scan<C: Core>(
+    core: &mut C,
+    caller: u8,
+    table: Name,
+    low: u64,
+    high: u64,
+) -> Result<Rows, Refusal>
     requires inside { caller < (C.view core.old).limits.callers }
     requires sound { IsTrue C.tells → IsSound (C.view core.old).state }
-    ensures steps { Steps C.tells caller (Scan low high) (C.view core.old) (C.view core.new) (told_scan result) }
+    ensures steps { Steps C.tells caller (Scan table low high) (C.view core.old) (C.view core.new) (told_scan result) }
     ensures stays { IsTrue C.tells → Stays caller (C.view core.old) (C.view core.new) }
-    ensures ok { IsTrue C.tells → IfOk result (λ rows. Adds caller (Scan low high) (Listed rows) (C.view core.old) (C.view core.new)) }
+    ensures ok { IsTrue C.tells → IfOk result (λ rows. Adds caller (Scan table low high) (Listed rows) (C.view core.old) (C.view core.new)) }
     ensures err { IsTrue C.tells → OnErr result (Keeps caller (C.view core.old) (C.view core.new)) }
     ensures refused { IsTrue C.tells → IfErr result (Refuses caller (C.view core.old) (C.view core.new)) }
 {
     prefix_law::<C>();
     what_a_call_is::<C>();
-    match core.step(caller, &Call::Scan { low, high }) {
+    match core.step(caller, &Call::Scan { table, low, high }) {
         Reply::Listed(rows) => Ok(rows),
         reply => Err(Refusal::from(reply)),
     }

@@ -7,6 +7,9 @@ pub enum Refusal {
     /// The caller has no live transaction.
     #[error("no transaction")]
     NoTransaction,
+    /// There is no table of this name.
+    #[error("no table")]
+    NoTable,
     /// The caller has a live transaction already.
     #[error("a transaction is live already")]
     Already,
@@ -54,6 +57,7 @@ impl From<Reply> for Refusal {
     fn from(reply: Reply) -> Self {
         match reply {
             Reply::NoTransaction => Refusal::NoTransaction,
+            Reply::NoTable => Refusal::NoTable,
             Reply::Already => Refusal::Already,
             Reply::NoSave { save } => Refusal::NoSave { save },
             Reply::SavesFull => Refusal::SavesFull,

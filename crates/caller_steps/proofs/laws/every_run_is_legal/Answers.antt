@@ -6,5 +6,5 @@ use Rattle.caller_steps.proofs.Fates.{runs_base}
 use Rattle.caller_steps.proofs.laws.every_run_is_legal.Goals as goal
 
 pub returns : goal.returns
-returns c limits base index turns new runs =
-    subst (λ b. IsLegal b new.history) (runs_base limits (opened base index) turns new runs) (runs_sound limits (opened base index) turns new (opened_sound base index) runs).legal
+returns c limits names base index turns new runs =
+    subst (λ b. IsLegal b new.history) (runs_base limits (opened names base index) turns new runs) (runs_sound limits (opened names base index) turns new (opened_sound names base index) runs).legal

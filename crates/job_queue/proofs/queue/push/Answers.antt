@@ -1,4 +1,5 @@
-use Rattle.history.specs.Key.{Key, of_main}
+use Rattle.history.specs.Key.{of_main}
+use Rattle.history.specs.declared.key.Key.{Key}
 use Rattle.std.proofs.Common.{ap}
 use Rattle.job_queue.proofs.Staying.{push_stays}
 use Rattle.job_queue.proofs.queue.push.Goals as goal

@@ -1,15 +1,11 @@
-use Rattle.script_text.proofs.Lines.{no_call}
+use Rattle.script_text.proofs.Naming.{named_text, plain_text, main_text}
 use Rattle.script_text.proofs.call.read_call.Goals as goal
 
-pub returns-in_err-save : goal.returns-in_err-save
-returns-in_err-save c = rw c.from_residual.ensures (no_call c.args.bytes.now (record {
-  begin = c.if-is_text.ensures;
-  save = c.if-is_text-2.ensures;
-  commit = c.if-is_text-3.ensures;
-  abort = c.if-is_text-4.ensures;
-  get = c.in_default.ensures;
-  put = c.in_default-read_put.ensures;
-  del = c.in_default-read_u64_after.ensures;
-  scan = c.in_default-read_scan.ensures;
-  back = c.in_err-save.ensures;
-}))
+pub returns-in-Some : goal.returns-in-Some
+returns-in-Some c = named_text c.args.bytes.now _ c.read_named.result c.in-Some.ensures c.read_named.ensures
+
+pub returns-in-Some-read_plain : goal.returns-in-Some-read_plain
+returns-in-Some-read_plain c = plain_text c.args.bytes.now c.in-Some-read_plain.call c.in-Some-read_plain.ensures
+
+pub returns : goal.returns
+returns c = main_text c.args.bytes.now c.main_table.result c.read_of.result c.main_table.ensures c.in_default.ensures c.in_default-read_plain.ensures c.read_of.ensures

@@ -5,6 +5,7 @@ use Rattle.std.proofs.lemmas.Bool.{cases_eq, cases_lt}
 use Rattle.record_slots.specs.Super.{tables_used}
 use Rattle.record_slots.proofs.Naming.{name_used, name_beyond}
 use Rattle.record_slots.proofs.Used.{named_used_at}
+use Rattle.record_slots.proofs.Numbering.{first_is, none_is}
 use Rattle.record_slots.proofs.names.Names.number.Goals as goal
 
 some_is : (x y : List ℕ) → Some x ≡ Some y → x ≡ y
@@ -39,3 +40,15 @@ returns-clause-none c = λ j is. elim (cases_lt j c.loop-j.j) [
   | inl lt ↦ c.loop-j.invariant j lt is
   | inr ge ↦ nothing _ (sym (name_beyond c.self.inside.entries j (omega (arith, ge, c.loop-j-test.false, c.used_count-j-end.ensures.count))) ∙ ap (λ (names : List (List ℕ)). slice_get names j) c.self.view_is ∙ is)
 ]
+
+pub returns-then-eq-clause-number : goal.returns-then-eq-clause-number
+returns-then-eq-clause-number c =
+    let es = c.self.inside.entries in
+    let lt : c.loop-j.j < length (tables_used c.self.inside.entries) = omega (arith, c.loop-j-test.true, c.used_count-j-end.ensures.count) in
+    sym (first_is _ _ c.loop-j.j (ap (λ (names : List (List ℕ)). slice_get names c.loop-j.j) (sym c.self.view_is) ∙ name_used es c.loop-j.j lt ∙ ap Some (sym c.name_at.ensures ∙ same_text _ _ c.if-eq.ensures ∙ c.as_bytes.ensures.text)) c.loop-j.invariant)
+
+pub returns-clause-number : goal.returns-clause-number
+returns-clause-number c = sym (none_is _ _ (λ j is. elim (cases_lt j c.loop-j.j) [
+  | inl lt ↦ c.loop-j.invariant j lt is
+  | inr ge ↦ nothing _ (sym (name_beyond c.self.inside.entries j (omega (arith, ge, c.loop-j-test.false, c.used_count-j-end.ensures.count))) ∙ ap (λ (names : List (List ℕ)). slice_get names j) c.self.view_is ∙ is)
+]))

@@ -1,0 +1,88 @@
+-- The name of a table before the words of a call.
+use Rattle.std.proofs.Common.{◌≡◌, ℕ, ◌<◌, ◌≤◌, ◌⊎◌, inl, inr, Bool, true, false, ◌&&◌, List, [], ◌∷◌, ◌++◌, get_or, Option, Some, None, refl, sym, ap, ◌∙◌, subst, IsTrue, arith}
+use Rattle.std.specs.Prelude.{codes, nat_le}
+use Rattle.std.specs.List.{list_all}
+use Rattle.std.proofs.lemmas.Bool.{and_parts, leb-true}
+use Rattle.record_slots.specs.Text.{IsName, is_letter}
+use Rattle.history.specs.Key.{main_name}
+use Rattle.history.specs.declared.call.Call.{Call}
+use Rattle.history.specs.declared.call.Call.TheVariants.{Begin, Get, Put, Del, Scan, Save, Back, Commit, Abort}
+use Rattle.script_text.specs.Line.{asked_table, AreWordsOf, IsTextFor, IsCallText}
+use Rattle.script_text.specs.Named.{IsAsking, IsBehindName}
+use Rattle.script_text.specs.Reads.{ReadsText, IsWord}
+use Rattle.script_text.proofs.Words.{no_space, first_space}
+
+-- the words of a call begin with a letter
+pub first_letter : (call : Call) (words : List ℕ) → AreWordsOf call words → 97 ≤ get_or words 0 0
+first_letter Begin words is = omega (arith, ap (λ (l : List ℕ). get_or l 0 0) is)
+first_letter (Get name key) words is = omega (arith, ap (λ (l : List ℕ). get_or l 0 0) is.1)
+first_letter (Put name key value) words is = omega (arith, ap (λ (l : List ℕ). get_or l 0 0) is.2)
+first_letter (Del name key) words is = omega (arith, ap (λ (l : List ℕ). get_or l 0 0) is.1)
+first_letter (Scan name low high) words is = omega (arith, ap (λ (l : List ℕ). get_or l 0 0) is.2)
+first_letter Save words is = omega (arith, ap (λ (l : List ℕ). get_or l 0 0) is)
+first_letter (Back save) words is = omega (arith, ap (λ (l : List ℕ). get_or l 0 0) is.1)
+first_letter Commit words is = omega (arith, ap (λ (l : List ℕ). get_or l 0 0) is)
+first_letter Abort words is = omega (arith, ap (λ (l : List ℕ). get_or l 0 0) is)
+
+pub no_sign : {X : Type 0} (call : Call) (words rest : List ℕ) → words ≡ 64 ∷ rest → AreWordsOf call words → X
+no_sign call words rest at is = absurd (omega (arith, first_letter call words is, ap (λ (l : List ℕ). get_or l 0 0) at))
+
+tail_is : (rest other : List ℕ) → ◌≡◌ {A = List ℕ} (64 ∷ rest) (64 ∷ other) → rest ≡ other
+tail_is rest other e = cc
+
+-- a name has no space
+letters_are_word : (text : List ℕ) → list_all is_letter text ≡ true → IsWord text
+letters_are_word [] all = tt
+letters_are_word (byte ∷ text) all =
+    let both = and_parts (is_letter byte) (list_all is_letter text) all in
+    (λ e. let low = leb-true 97 byte (and_parts (nat_le 97 byte) (nat_le byte 122) both.0).0 in omega (arith, low, e), letters_are_word text both.1)
+
+pub name_is_word : (name : List ℕ) → IsName name → IsWord name
+name_is_word name is = letters_are_word name is.letters
+
+main_is_name : IsName main_name
+main_is_name = record { some = omega arith; short = omega arith; letters = refl }
+
+-- behind the sign a name is read
+pub named_text : (bytes rest : List ℕ) (result : Option Call) → bytes ≡ 64 ∷ rest → ReadsText IsBehindName rest result → ReadsText IsCallText bytes result
+named_text bytes rest None at none call is = go (asked_table call) refl is
+  where
+    go : (asked : Option (List ℕ)) → asked_table call ≡ asked → IsTextFor asked (AreWordsOf call) bytes → ⊥
+    go None asks is = no_sign call bytes rest at is
+    go (Some name) asks (proper, inl (words, text, said)) = none call (name, words, proper, tail_is rest (name ++ 32 ∷ words) (sym at ∙ text), (asks, said))
+    go (Some name) asks (proper, inr (main, said)) = no_sign call bytes rest at said
+named_text bytes rest (Some call) at (name, words, proper, text, (asks, said)) =
+    subst (λ (o : Option (List ℕ)). IsTextFor o (AreWordsOf call) bytes) (sym asks) (proper, inl (words, at ∙ ap (λ (l : List ℕ). 64 ∷ l) text, said))
+
+-- a call that asks for no table
+pub plain_text : (bytes : List ℕ) (call : Call) → IsAsking None call bytes → IsCallText call bytes
+plain_text bytes call (asks, said) = subst (λ (o : Option (List ℕ)). IsTextFor o (AreWordsOf call) bytes) (sym asks) said
+
+-- without the sign the table is `main`
+pub main_text : (bytes table : List ℕ) (result : Option Call) → table ≡ main_name → ((rest : List ℕ) → bytes ≡ 64 ∷ rest → ⊥) → ((call : Call) → IsAsking None call bytes → ⊥)
+    → ReadsText (IsAsking (Some table)) bytes result → ReadsText IsCallText bytes result
+main_text bytes table None main unsigned plain none call is = go (asked_table call) refl is
+  where
+    go : (asked : Option (List ℕ)) → asked_table call ≡ asked → IsTextFor asked (AreWordsOf call) bytes → ⊥
+    go None asks is = plain call (asks, is)
+    go (Some name) asks (proper, inl (words, text, said)) = unsigned (name ++ 32 ∷ words) text
+    go (Some name) asks (proper, inr (is_main, said)) = none call (asks ∙ ap Some (is_main ∙ sym main), said)
+main_text bytes table (Some call) main unsigned plain (asks, said) =
+    subst (λ (o : Option (List ℕ)). IsTextFor o (AreWordsOf call) bytes) (sym (asks ∙ ap Some main)) (main_is_name, inr (refl, said))
+
+-- no word is a name with words behind it
+pub no_name : (bytes : List ℕ) → IsWord bytes → (call : Call) → IsBehindName call bytes → ⊥
+no_name bytes word call (name, words, proper, text, said) = no_space bytes name words word text
+
+-- words behind a text that is no name
+pub no_proper : (bytes name words : List ℕ) → IsWord name → bytes ≡ name ++ 32 ∷ words → (IsName name → ⊥) → (call : Call) → IsBehindName call bytes → ⊥
+no_proper bytes name words word text improper call (other, more, proper, is, said) =
+    let both = first_space name other words more word (name_is_word other proper) (sym text ∙ is) in improper (subst IsName (sym both.0) proper)
+
+-- words behind a name
+pub behind_name : (bytes name words table : List ℕ) (result : Option Call) → IsWord name → bytes ≡ name ++ 32 ∷ words → IsName name → table ≡ name
+    → ReadsText (IsAsking (Some table)) words result → ReadsText IsBehindName bytes result
+behind_name bytes name words table None word text proper same none call (other, more, proper', is, (asks, said)) =
+    let both = first_space name other words more word (name_is_word other proper') (sym text ∙ is) in
+    none call (asks ∙ ap Some (sym both.0 ∙ sym same), subst (AreWordsOf call) (sym both.1) said)
+behind_name bytes name words table (Some call) word text proper same (asks, said) = (name, words, proper, text, (asks ∙ ap Some same, said))
