@@ -1,17 +1,16 @@
 ghost use Rattle.std.specs.Prelude.{◌≡◌, length, Some, MatchBool};
 ghost use Rattle.std.specs.FinMap.{get};
 ghost use mathlib.Core.List.{IsPrefix};
-ghost use Rattle.history.specs.Key.{of_main};
 ghost use Rattle.snapshot_readers.specs.Batches.{joined, records_after};
 ghost use Rattle.left_right.specs.Sides.{view};
 ghost use Rattle.snapshot_readers.specs.Shown.{book_known, base_known};
 
 use crate::feed::Receipt;
 use crate::prefix::Prefix;
-use crate::records::Key;
 use crate::snapshot::{Known, Sees, Snapshot, Standing};
 use core::mem::replace_with;
 use crossbeam_utils::Backoff;
+use history::Key;
 use left_right::reader;
 use mars_base::Listed;
 use record_slots::Value;
@@ -37,7 +36,7 @@ fn look<R: Wait>(inner: Inner, rt: &R, least: &Prefix, key: Key) -> (Inner, Pref
     ensures tied { view result.0.place ≡ view inner.place }
     ensures book { result.1.seen.book ≡ least.now.seen.book }
     ensures on { IsPrefix least.now.seen.log result.1.seen.log }
-    ensures value { result.2 ≡ get (records_after (base_known (view inner.place)) result.1.seen.log) (of_main key) }
+    ensures value { result.2 ≡ get (records_after (base_known (view inner.place)) result.1.seen.log) key }
 {
     let mut inner = inner;
     let backoff = Backoff::new();
@@ -68,7 +67,7 @@ impl Reader {
     fn got<R: Wait>(self, rt: &R, key: Key) -> (Reader, (u64, Option<Value>))
         ensures on { IsPrefix (read self) (read result.0) }
         ensures count { result.1.0 ≡ length (joined (read result.0)) }
-        ensures value { result.1.1 ≡ get (records_after (read_base result.0) (read result.0)) (of_main key) }
+        ensures value { result.1.1 ≡ get (records_after (read_base result.0) (read result.0)) key }
         ensures same { (read_book result.0 ≡ read_book self) × (read_base result.0 ≡ read_base self) }
     {
         let Self { inner, read } = self;
@@ -83,7 +82,7 @@ impl Reader {
     pub fn get<R: Wait>(&mut self, rt: &R, key: Key) -> (u64, Option<Value>)
         ensures on { IsPrefix (read self.old) (read self.new) }
         ensures count { result.0 ≡ length (joined (read self.new)) }
-        ensures value { result.1 ≡ get (records_after (read_base self.new) (read self.new)) (of_main key) }
+        ensures value { result.1 ≡ get (records_after (read_base self.new) (read self.new)) key }
         ensures same { (read_book self.new ≡ read_book self.old) × (read_base self.new ≡ read_base self.old) }
     {
         replace_with(self, (rt, key), |reader, (rt, key)| reader.got(rt, key))
