@@ -53,10 +53,10 @@ impl Records {
         Ok(Records { rooms })
     }
 
-    pub(crate) fn get(&self, key: Key) -> Option<Value>
-        ensures { result ≡ get self.now key }
+    pub(crate) fn get(&self, key: &Key) -> Option<Value>
+        ensures { result ≡ get self.now key.now }
     {
-        match self.rooms.get(&key) {
+        match self.rooms.get(key) {
             Some(value) => *value,
             None => None,
         }

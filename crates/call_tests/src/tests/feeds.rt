@@ -78,16 +78,16 @@ fn reads<R: Wait + Abort>(
     requires book { read_book reader.old ≡ fed_book feed.old }
 {
     let (here, there) = (of(b"main")?, of(b"other")?);
-    assert_eq!(rt; reader.get(rt, here), (0, Value::of(b"a")));
-    assert_eq!(rt; reader.get(rt, there), (0, None));
+    assert_eq!(rt; reader.get(rt, &here), (0, Value::of(b"a")));
+    assert_eq!(rt; reader.get(rt, &there), (0, None));
     let dones = [put(alloc, 1, there, b"b")?, delete(alloc, 2, here)?];
     let receipt = feed.feed(rt, dones.as_slice())?;
     reader.learn(&receipt);
-    assert_eq!(rt; reader.get(rt, here), (2, None));
+    assert_eq!(rt; reader.get(rt, &here), (2, None));
     feed.learn(reader);
     let none: [Done; 0] = [];
     feed.feed(rt, none.as_slice())?;
-    assert_eq!(rt; reader.get(rt, there), (2, Value::of(b"b")));
+    assert_eq!(rt; reader.get(rt, &there), (2, Value::of(b"b")));
     assert_eq!(rt; feed.fed(), 2);
     Ok(())
 }

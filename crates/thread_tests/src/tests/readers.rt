@@ -68,7 +68,7 @@ fn wrong_reads<R: Wait>(rt: &R, mut reader: Reader) -> (u64, bool) {
     };
     let (mut last, mut wrong) = (0, 0u64);
     for _ in 0..READS {
-        let (count, value) = reader.get(rt, key);
+        let (count, value) = reader.get(rt, &key);
         let right = if count == 0 {
             None
         } else {
