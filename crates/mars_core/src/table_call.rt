@@ -8,12 +8,28 @@ use record_slots::{Name, Value};
 /// A call that is neither a begin nor the end of a transaction. It borrows the name of its table and a value.
 #[derive(Clone, Copy)]
 pub enum TableCall<'a> {
-    Get { table: &'a Name, key: u64 },
-    Put { table: &'a Name, key: u64, value: &'a Value },
-    Del { table: &'a Name, key: u64 },
-    Scan { table: &'a Name, low: u64, high: u64 },
+    Get {
+        table: &'a Name,
+        key: u64,
+    },
+    Put {
+        table: &'a Name,
+        key: u64,
+        value: &'a Value,
+    },
+    Del {
+        table: &'a Name,
+        key: u64,
+    },
+    Scan {
+        table: &'a Name,
+        low: u64,
+        high: u64,
+    },
     Save,
-    Back { save: u32 },
+    Back {
+        save: u32,
+    },
 }
 
 /// What a call asks for: of the callers, or of the records.
