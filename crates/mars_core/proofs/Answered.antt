@@ -6,6 +6,7 @@ use Rattle.array_shape.specs.declared.shape.Shape.{Shape}
 use Rattle.eaw_face.specs.Causes.{IsAlive}
 use Rattle.page_store.specs.Index as below
 use Rattle.page_store.specs.Shown.{PagesView}
+use Rattle.history.specs.Rows.{NamedRows}
 use Rattle.history.specs.Table.{Granted}
 use Rattle.history.specs.declared.call.Call.{Call}
 use Rattle.history.specs.declared.call.Reply.{Reply}
@@ -51,10 +52,10 @@ fault_plain NoMemory = refl
 save_plain : (saves : ℕ) (call : Call) (answer : Reply) → IsSaveRefusal saves call answer → is_busy answer ≡ false
 save_plain saves Save answer refused = ap is_busy refused.1
 save_plain saves (Back n) answer refused = ap is_busy refused.1
-save_plain saves (Get key) answer refused = absurd refused
-save_plain saves (Put key value) answer refused = absurd refused
-save_plain saves (Del key) answer refused = absurd refused
-save_plain saves (Scan low high) answer refused = absurd refused
+save_plain saves (Get name key) answer refused = absurd refused
+save_plain saves (Put name key value) answer refused = absurd refused
+save_plain saves (Del name key) answer refused = absurd refused
+save_plain saves (Scan name low high) answer refused = absurd refused
 save_plain saves Begin answer refused = absurd refused
 save_plain saves Commit answer refused = absurd refused
 save_plain saves Abort answer refused = absurd refused
@@ -75,7 +76,7 @@ made_plain tells Opens index saves seats t calls call p q left answer made = go 
     go (Err f) works (still, told) = ap is_busy told ∙ fault_plain f
 
 -- A state s over pages p, of which the caller's transaction has these calls, and the seats without it.
-module _ (tells : Bool) (Opens : Shape → List ℕ → List ℕ → Type 0) (index : below.Index) (p : PagesView) (s : State) (shows : ShowsPages index p s) (count : ℕ) (rows : List (ℕ × List ℕ))
+module _ (tells : Bool) (Opens : Shape → List ℕ → List ℕ → Type 0) (index : below.Index) (p : PagesView) (s : State) (shows : ShowsPages index p s) (count : ℕ) (rows : List NamedRows)
     (kept : IsKept tells Opens index p count rows s) (alive : IsAlive p.store) (tells_writes : IsShown tells index p) (t : ℕ) (call : Call) (of : IsOfTable call) (calls : Granted) (is : s.live t ≡ Some calls)
     (mid : Seats) (x : Option Granted) (out : live_in mid ≡ update nat_eq s.live t x) where
   -- the call was not made
@@ -103,8 +104,8 @@ module _ (tells : Bool) (Opens : Shape → List ℕ → List ℕ → Type 0) (in
     grows : (r : Reply) → left ≡ calls ++ (call, r) ∷ [] → new.live ≡ update nat_eq s.live t (Some (calls ++ (call, r) ∷ []))
     grows r more = put ∙ ap (λ (cs : Granted). update nat_eq s.live t (Some cs)) more
 
-    listed : (r : Reply) (rows : List (ℕ × List ℕ)) → r ≡ reply.Listed rows → Works tells (Opens p.store.shape) index t call p q (Ok r) → Does tells (Opens p.store.shape) index 0 t call p q (Ok (reply.Listed rows))
-    listed r rows same works = subst (λ (r : Reply). Does tells (Opens p.store.shape) index 0 t call p q (Ok r)) same works.does
+    listed : (r : Reply) (rows : List (ℕ × List ℕ)) → r ≡ reply.Listed rows → Works tells (Opens p.store.shape) index t call p q (Ok r) → Does tells (Opens p.store.shape) index table t call p q (Ok (reply.Listed rows))
+    listed r rows same works = subst (λ (r : Reply). Does tells (Opens p.store.shape) index table t call p q (Ok r)) same works.does
 
     pub made_keeps : IsKept tells Opens index q count' rows new
     made_keeps = go made.result made.works made.answered

@@ -13,6 +13,7 @@ use Rattle.eaw_face.specs.State.{listed}
 use Rattle.page_store.specs.Index as below
 use Rattle.page_store.specs.Shown.{PagesView}
 use Rattle.history.specs.Writes.{Table, Write, all_written}
+use Rattle.history.specs.Rows.{NamedRows}
 use Rattle.history.specs.Table.{Granted, IsRight}
 use Rattle.history.specs.Legal.{records}
 use Rattle.history.specs.Log.{Log, log_of}
@@ -101,7 +102,7 @@ with_bytes bytes keys = record { slot_of = keys.slot_of; due = keys.due; used_sl
 
 module _ (tells : Bool) (Opens : Shape → List ℕ → List ℕ → Type 0) (index : below.Index) (one : (shape : Shape) (image a b : List ℕ) → Opens shape image a → Opens shape image b → a ≡ b)
     (p q : PagesView) (old_laws : StoreLaws tells Opens p.store) (new_laws : StoreLaws tells Opens q.store) (s new : State) (shows : ShowsPages index p s) (shows_new : ShowsPages index q new)
-    (base : new.base ≡ s.base) (count count' : ℕ) (same_count : count' ≡ count) (rows : List (ℕ × List ℕ)) (kept : IsKept tells Opens index p count rows s) (alive : IsAlive p.store)
+    (base : new.base ≡ s.base) (count count' : ℕ) (same_count : count' ≡ count) (rows : List NamedRows) (kept : IsKept tells Opens index p count rows s) (alive : IsAlive p.store)
     (t : ℕ) (calls : Granted) (is : s.live t ≡ Some calls) where
   living_state : s.is_dead ≡ false
   living_state = shows.dead ∙ alive
@@ -314,7 +315,7 @@ module _ (tells : Bool) (Opens : Shape → List ℕ → List ℕ → Type 0) (in
       }) (λ failed. absurd (false≢true failed)) (λ _. (does.faults refl).1) step_abort time_abort safe_abort
 
 -- a commit for which the history has no memory
-pub unkept : (tells : Bool) (Opens : Shape → List ℕ → List ℕ → Type 0) (index : below.Index) (p : PagesView) (s new : State) (shows : ShowsPages index p s) (count : ℕ) (rows : List (ℕ × List ℕ))
+pub unkept : (tells : Bool) (Opens : Shape → List ℕ → List ℕ → Type 0) (index : below.Index) (p : PagesView) (s new : State) (shows : ShowsPages index p s) (count : ℕ) (rows : List NamedRows)
     → IsKept tells Opens index p count rows s → IsAlive p.store → (t : ℕ) (calls : Granted) → s.live t ≡ Some calls → new ≡ s → Steps tells t Commit (core_over Opens index p.store s) (core_over Opens index p.store new) NoMemory
 unkept tells Opens index p s new shows count rows kept alive t calls is same = steps_same tells Opens index p s new t Commit NoMemory same kept.safe refl refl refl (λ told.
     step_of (limits_of p.store.shape) (Some calls) s s t Commit NoMemory (shows.dead ∙ alive) is (inl (refl, refl)))

@@ -14,7 +14,7 @@ use Rattle.history.specs.Writes.{Table, Write, all_written}
 use Rattle.history.specs.Table.{Granted}
 use Rattle.history.specs.declared.transaction.Done.{Done}
 use Rattle.history.proofs.Keys.{key_cmp_total}
-use Rattle.history.proofs.Tables.{same_table}
+use Rattle.history.proofs.Agreeing.{same_table}
 use Rattle.record_table.specs.State.{TableState, seen_by}
 use Rattle.record_table.specs.Does.{OpensWith, is_failed}
 use Rattle.record_table.specs.Shown.{state_of, pairs_of, keys_of, table_in}

@@ -13,7 +13,8 @@ use Rattle.eaw_face.specs.Causes.{IsAlive}
 use Rattle.record_slots.specs.Places.{version_of}
 use Rattle.page_store.specs.Index as below
 use Rattle.page_store.specs.Shown.{PagesView}
-use Rattle.history.specs.Key.{Key, is_same_key, of_main}
+use Rattle.history.specs.Key.{is_same_key, of_main}
+use Rattle.history.specs.declared.key.Key.{Key}
 use Rattle.history.proofs.Keys.{same_key}
 use Rattle.caller_steps.proofs.AtKeys.{at_other_key}
 use Rattle.history.specs.Log.{Log, log_of}

@@ -9,6 +9,7 @@ use Rattle.array_shape.specs.declared.shape.Shape.{Shape}
 use Rattle.eaw_face.specs.Causes.{IsAlive}
 use Rattle.page_store.specs.Index as below
 use Rattle.page_store.specs.Shown.{PagesView}
+use Rattle.history.specs.Rows.{NamedRows}
 use Rattle.history.specs.Table.{Granted, has_save}
 use Rattle.history.specs.Locks.{Meets}
 use Rattle.history.specs.Log.{log_of}
@@ -96,7 +97,7 @@ no_saves : {A : Type 0} (saves : List A) (n : ℕ) → ((0 < n) × (n ≤ length
 no_saves saves n none = false_from_ne_true (has_save saves n) (λ there.
     let parts = both (nat_lt 0 n) (nat_le n (length saves)) there in none (ltb-true 0 n parts.0, leb-true n (length saves) parts.1))
 
-module _ (tells : Bool) (Opens : Shape → List ℕ → List ℕ → Type 0) (index : below.Index) (p : PagesView) (s : State) (shows : ShowsPages index p s) (count : ℕ) (rows : List (ℕ × List ℕ))
+module _ (tells : Bool) (Opens : Shape → List ℕ → List ℕ → Type 0) (index : below.Index) (p : PagesView) (s : State) (shows : ShowsPages index p s) (count : ℕ) (rows : List NamedRows)
     (kept : IsKept tells Opens index p count rows s) (alive : IsAlive p.store) (tells_writes : IsShown tells index p) (t : ℕ) (call : Call) (calls : Granted) (is : s.live t ≡ Some calls) where
   module _ (told : IsTrue tells) where
     tied : IsTied index p s
@@ -113,10 +114,10 @@ module _ (tells : Bool) (Opens : Shape → List ℕ → List ℕ → Type 0) (in
           has_saves (state_of index p) s tied.mirrors t (tied.sound.right t) n ∙ no_saves (((state_of index p).logs t).saved) n (subst (λ (k : ℕ). (0 < n) × (n ≤ k) → ⊥) (sym (counts_is index p t)) refused.0),
           (refl, refl),
         )))
-    save_step (Get key) answer refused = absurd refused
-    save_step (Put key value) answer refused = absurd refused
-    save_step (Del key) answer refused = absurd refused
-    save_step (Scan low high) answer refused = absurd refused
+    save_step (Get name key) answer refused = absurd refused
+    save_step (Put name key value) answer refused = absurd refused
+    save_step (Del name key) answer refused = absurd refused
+    save_step (Scan name low high) answer refused = absurd refused
     save_step Commit answer refused = absurd refused
     save_step Abort answer refused = absurd refused
     save_step Begin answer refused = absurd refused
@@ -130,10 +131,10 @@ module _ (tells : Bool) (Opens : Shape → List ℕ → List ℕ → Type 0) (in
       refusal : (c : Call) (r : Reply) → IsSaveRefusal (length (p.counts t)) c r → (is_refusal r ≡ true) × (is_media r ≡ false) × (is_committed r ≡ false)
       refusal Save r refused = subst (λ (x : Reply). (is_refusal x ≡ true) × (is_media x ≡ false) × (is_committed x ≡ false)) (sym refused.1) (refl, refl, refl)
       refusal (Back n) r refused = subst (λ (x : Reply). (is_refusal x ≡ true) × (is_media x ≡ false) × (is_committed x ≡ false)) (sym refused.1) (refl, refl, refl)
-      refusal (Get key) r refused = absurd refused
-      refusal (Put key value) r refused = absurd refused
-      refusal (Del key) r refused = absurd refused
-      refusal (Scan low high) r refused = absurd refused
+      refusal (Get name key) r refused = absurd refused
+      refusal (Put name key value) r refused = absurd refused
+      refusal (Del name key) r refused = absurd refused
+      refusal (Scan name low high) r refused = absurd refused
       refusal Commit r refused = absurd refused
       refusal Abort r refused = absurd refused
       refusal Begin r refused = absurd refused
@@ -155,13 +156,13 @@ module _ (tells : Bool) (Opens : Shape → List ℕ → List ℕ → Type 0) (in
         (saves_at index p s shows (tied told).mirrors (tells_writes.held told alive) t ((tied told).sound.right t) call has) (inr (inl (holder, busy, (refl, refl))))))
 
 -- the invariant holds after no change
-pub kept_same : (tells : Bool) (Opens : Shape → List ℕ → List ℕ → Type 0) (index : below.Index) (p : PagesView) (s new : State) (count count' : ℕ) (rows : List (ℕ × List ℕ))
+pub kept_same : (tells : Bool) (Opens : Shape → List ℕ → List ℕ → Type 0) (index : below.Index) (p : PagesView) (s new : State) (count count' : ℕ) (rows : List NamedRows)
     → IsKept tells Opens index p count rows s → count' ≡ count → new ≡ s → IsKept tells Opens index p count' rows new
 kept_same tells Opens index p s new count count' rows kept counts same =
     subst (λ (x : State). IsKept tells Opens index p count' rows x) (sym same) (subst (λ (n : ℕ). IsKept tells Opens index p n rows s) (sym counts) kept)
 
 module _ (tells : Bool) (Opens : Shape → List ℕ → List ℕ → Type 0) (index : below.Index) (p : PagesView) (laws : StoreLaws tells Opens p.store) (s new : State) (shows : ShowsPages index p s) (count count' : ℕ)
-    (same_count : count' ≡ count) (rows : List (ℕ × List ℕ)) (kept : IsKept tells Opens index p count rows s) (alive : IsAlive p.store) (t : ℕ) (none : s.live t ≡ None)
+    (same_count : count' ≡ count) (rows : List NamedRows) (kept : IsKept tells Opens index p count rows s) (alive : IsAlive p.store) (t : ℕ) (none : s.live t ≡ None)
     (begins : new ≡ with_live s t (Some [])) where
   live_is : new.live ≡ update nat_eq s.live t (Some [])
   live_is = ap (λ (x : State). x.live) begins
@@ -207,17 +208,17 @@ module _ (tells : Bool) (Opens : Shape → List ℕ → List ℕ → Type 0) (in
 
 -- a call of the table outside of a transaction
 absent_at : (limits : Limits) (s : State) (t : ℕ) (call : TableCall) → StepAt limits None s t (call_of call) NoTransaction s
-absent_at limits s t (table_call.Get key) = (refl, refl)
-absent_at limits s t (table_call.Put key value) = (refl, refl)
-absent_at limits s t (table_call.Del key) = (refl, refl)
-absent_at limits s t (table_call.Scan low high) = (refl, refl)
+absent_at limits s t (table_call.Get name key) = (refl, refl)
+absent_at limits s t (table_call.Put name key value) = (refl, refl)
+absent_at limits s t (table_call.Del name key) = (refl, refl)
+absent_at limits s t (table_call.Scan name low high) = (refl, refl)
 absent_at limits s t table_call.Save = (refl, refl)
 absent_at limits s t (table_call.Back n) = (refl, refl)
 
 pub is_absent_at : (limits : Limits) (s : State) (t : ℕ) (asked : TableCall) (call : Call) → call_of asked ≡ call → StepAt limits None s t call NoTransaction s
 is_absent_at limits s t asked call said = subst (λ (c : Call). StepAt limits None s t c NoTransaction s) said (absent_at limits s t asked)
 
-pub absent_steps : (tells : Bool) (Opens : Shape → List ℕ → List ℕ → Type 0) (index : below.Index) (p : PagesView) (s : State) → ShowsPages index p s → (count : ℕ) (rows : List (ℕ × List ℕ)) → IsKept tells Opens index p count rows s
+pub absent_steps : (tells : Bool) (Opens : Shape → List ℕ → List ℕ → Type 0) (index : below.Index) (p : PagesView) (s : State) → ShowsPages index p s → (count : ℕ) (rows : List NamedRows) → IsKept tells Opens index p count rows s
     → IsAlive p.store → (t : ℕ) (call : Call) → s.live t ≡ None → StepAt (limits_of p.store.shape) None s t call NoTransaction s → (new : State) → new ≡ s
     → Steps tells t call (core_over Opens index p.store s) (core_over Opens index p.store new) NoTransaction
 absent_steps tells Opens index p s shows count rows kept alive t call none at new same = steps_same tells Opens index p s new t call NoTransaction same kept.safe refl refl refl (λ told.
