@@ -379,15 +379,15 @@ module _ (tells : Bool) (Opens : List ℕ → List ℕ → Type 0) (index : belo
         → LeavesOnly (λ image. OpensWith Opens index image (state_of index old).table) old.store new.store
     later_time new time told = then (going.time told) (weaker (λ image opens. subst (λ (s : TableState). OpensWith Opens index image s.table) (going.state told) opens) (time told))
 
-    cause_of : {T : Type 0} (f : TableFault) → (let r : Result T TableFault = Err f in ClearCause tells r) → ClearCause tells (refusal f)
-    cause_of Media cause = tt
-    cause_of (Damaged page) cause = cause
-    cause_of Dead cause = absurd cause
-    cause_of (LogFull g h k) cause = absurd cause
-    cause_of (SlotsFull k) cause = absurd cause
-    cause_of (PagesFull k) cause = absurd cause
-    cause_of SavesFull cause = absurd cause
-    cause_of NoMemory cause = absurd cause
+    cause_of : (T : Type 0) (f : TableFault) → (let r : Result T TableFault = Err f in ClearCause tells r) → ClearCause tells (refusal f)
+    cause_of T Media cause = tt
+    cause_of T (Damaged page) cause = cause
+    cause_of T Dead cause = absurd cause
+    cause_of T (LogFull g h k) cause = absurd cause
+    cause_of T (SlotsFull k) cause = absurd cause
+    cause_of T (PagesFull k) cause = absurd cause
+    cause_of T SavesFull cause = absurd cause
+    cause_of T NoMemory cause = absurd cause
 
     module _ (table : ℕ) (key : Key) (new : PagesView) where
       -- a key was tried
@@ -434,7 +434,7 @@ module _ (tells : Bool) (Opens : List ℕ → List ℕ → Type 0) (index : belo
       pub try_refused : (Wanted : Key → Type 0) (fault : TableFault) → Tries tells Opens index seats table key mid new (Err fault) → Clears tells Opens index seats t Wanted old new (Err fault)
       try_refused Wanted fault tries = record {
         shape = tries.shape ∙ going.shape;
-        cause = cause_of fault tries.cause;
+        cause = cause_of Bool fault tries.cause;
         faults = λ well. let kept = tries.faults well in (kept.0 ∙ going.dead, kept.1 ∙ going.faults);
         dies = λ failed. let dies = tries.dies failed in (dies.0, subst (λ (k : ℕ). Rose k new.store.faults) going.faults dies.1);
         state = λ told well. tries.state told well ∙ going.state told;

@@ -11,12 +11,12 @@ use Rattle.page_store.specs.Index as below
 use Rattle.page_store.specs.Shown.{PagesView}
 use Rattle.history.specs.Rows.{NamedRows}
 use Rattle.history.specs.Table.{Granted, has_save}
-use Rattle.history.specs.Locks.{Meets}
+use Rattle.history.specs.Locks.{Meets, has_table}
 use Rattle.history.specs.Log.{log_of}
 use Rattle.history.specs.declared.call.Call.{Call}
 use Rattle.history.specs.declared.call.Call.TheVariants.{Begin, Get, Put, Del, Scan, Save, Back, Commit, Abort}
 use Rattle.history.specs.declared.call.Reply.{Reply}
-use Rattle.history.specs.declared.call.Reply.TheVariants.{Fine, Busy, NoMemory, SavesFull, NoSave, NoTransaction}
+use Rattle.history.specs.declared.call.Reply.TheVariants.{Fine, Busy, NoMemory, SavesFull, NoSave, NoTransaction, NoTable}
 use Rattle.record_table.specs.Shown.{state_of}
 use Rattle.caller_steps.specs.State.{State, calls_of, records_of, view_of, with_live}
 use Rattle.caller_steps.specs.Locked.{Blocks, IsFree, IsBusyWith}
@@ -27,7 +27,7 @@ use Rattle.caller_steps.specs.Core.{IsSafe, Steps}
 use Rattle.caller_steps.proofs.Sound.{step_sound}
 use Rattle.mars_core.specs.declared.table_call.TableCall.{TableCall}
 use Rattle.mars_core.specs.declared.table_call.TableCall.TheVariants as table_call
-use Rattle.mars_core.specs.TableCall.{call_of}
+use Rattle.mars_core.specs.TableCall.{call_of, number_for}
 use Rattle.mars_core.specs.Over.{limits_of}
 use Rattle.mars_core.specs.Held.{core_over}
 use Rattle.mars_core.specs.Kept.{IsTied, IsKept}
@@ -77,12 +77,12 @@ module _ (live : ℕ → Option Granted) (t : ℕ) where
   changed_twice x y mid new first second = second ∙ ap (λ (f : ℕ → Option Granted). update nat_eq f t y) first ∙ update_twice x y
 
 -- Which callers hold the keys of a call does not depend on what its own caller touched.
-module _ (s mid : State) (t : ℕ) (x : Option Granted) (live : mid.live ≡ update nat_eq s.live t x) (call : Call) where
+module _ (s mid : State) (t : ℕ) (x : Option Granted) (live : mid.live ≡ update nat_eq s.live t x) (names : mid.names ≡ s.names) (call : Call) where
   blocks_to : (holder : ℕ) → Blocks mid t call holder → Blocks s t call holder
-  blocks_to holder (ne, meets) = (ne, subst (λ (cs : Granted). Meets call cs) (calls_there s mid t x live holder ne) meets)
+  blocks_to holder (ne, meets) = (ne, subst (λ (y : List (List ℕ) × Granted). Meets y.0 call y.1) (λ i. (names i, calls_there s mid t x live holder ne i)) meets)
 
   blocks_from : (holder : ℕ) → Blocks s t call holder → Blocks mid t call holder
-  blocks_from holder (ne, meets) = (ne, subst (λ (cs : Granted). Meets call cs) (sym (calls_there s mid t x live holder ne)) meets)
+  blocks_from holder (ne, meets) = (ne, subst (λ (y : List (List ℕ) × Granted). Meets y.0 call y.1) (λ i. (sym names i, sym (calls_there s mid t x live holder ne) i)) meets)
 
   pub free_after : IsFree s t call → IsFree mid t call
   free_after free holder blocks = free holder (blocks_to holder blocks)
@@ -143,17 +143,33 @@ module _ (tells : Bool) (Opens : Shape → List ℕ → List ℕ → Type 0) (in
     has : HasSaves (length ((state_of index p).logs t).saved) call
     has = subst (λ (n : ℕ). HasSaves n call) (sym (counts_is index p t)) saves
 
+    -- since its table is not there
+    pub table_refused : number_for s.names call ≡ None → Steps tells t call (core_over Opens index p.store s) (core_over Opens index p.store new) NoTable
+    table_refused none = steps_same tells Opens index p s new t call NoTable same kept.safe refl refl refl (λ told.
+        step_of (limits_of p.store.shape) (Some calls) s s t call NoTable (shows.dead ∙ alive) is (none_at call none))
+      where
+        none_at : (c : Call) → number_for s.names c ≡ None → StepAt (limits_of p.store.shape) (Some calls) s t c NoTable s
+        none_at (Get name key) none = inl (ap is_some none, (refl, refl))
+        none_at (Put name key value) none = inl (ap is_some none, (refl, refl))
+        none_at (Del name key) none = inl (ap is_some none, (refl, refl))
+        none_at (Scan name low high) none = inl (ap is_some none, (refl, refl))
+        none_at Save none = absurd (cc)
+        none_at (Back n) none = absurd (cc)
+        none_at Commit none = absurd (cc)
+        none_at Abort none = absurd (cc)
+        none_at Begin none = absurd (cc)
+
     -- for lack of memory
-    pub memory_refused : Steps tells t call (core_over Opens index p.store s) (core_over Opens index p.store new) NoMemory
-    memory_refused = steps_same tells Opens index p s new t call NoMemory same kept.safe refl refl refl (λ told.
-        step_of (limits_of p.store.shape) (Some calls) s s t call NoMemory (shows.dead ∙ alive) is (asks_at (limits_of p.store.shape) calls s s t call NoMemory of
-        (saves_at index p s shows (tied told).mirrors (tells_writes.held told alive) t ((tied told).sound.right t) call has) (inl (refl, refl))))
+    pub memory_refused : has_table s.names call ≡ true → Steps tells t call (core_over Opens index p.store s) (core_over Opens index p.store new) NoMemory
+    memory_refused there = steps_same tells Opens index p s new t call NoMemory same kept.safe refl refl refl (λ told.
+        step_of (limits_of p.store.shape) (Some calls) s s t call NoMemory (shows.dead ∙ alive) is (asks_at (limits_of p.store.shape) calls s s t call NoMemory of there
+        (saves_at index 0 p s shows (tied told).mirrors (tells_writes.held told alive) t ((tied told).sound.right t) call has) (inl (refl, refl))))
 
     -- because another caller holds its keys
-    pub busy_refused : (holder : ℕ) → IsBusyWith s t call holder → Steps tells t call (core_over Opens index p.store s) (core_over Opens index p.store new) (Busy holder)
-    busy_refused holder busy = steps_same tells Opens index p s new t call (Busy holder) same kept.safe refl refl refl (λ told.
-        step_of (limits_of p.store.shape) (Some calls) s s t call (Busy holder) (shows.dead ∙ alive) is (asks_at (limits_of p.store.shape) calls s s t call (Busy holder) of
-        (saves_at index p s shows (tied told).mirrors (tells_writes.held told alive) t ((tied told).sound.right t) call has) (inr (inl (holder, busy, (refl, refl))))))
+    pub busy_refused : has_table s.names call ≡ true → (holder : ℕ) → IsBusyWith s t call holder → Steps tells t call (core_over Opens index p.store s) (core_over Opens index p.store new) (Busy holder)
+    busy_refused there holder busy = steps_same tells Opens index p s new t call (Busy holder) same kept.safe refl refl refl (λ told.
+        step_of (limits_of p.store.shape) (Some calls) s s t call (Busy holder) (shows.dead ∙ alive) is (asks_at (limits_of p.store.shape) calls s s t call (Busy holder) of there
+        (saves_at index 0 p s shows (tied told).mirrors (tells_writes.held told alive) t ((tied told).sound.right t) call has) (inr (inl (holder, busy, (refl, refl))))))
 
 -- the invariant holds after no change
 pub kept_same : (tells : Bool) (Opens : Shape → List ℕ → List ℕ → Type 0) (index : below.Index) (p : PagesView) (s new : State) (count count' : ℕ) (rows : List NamedRows)
@@ -177,6 +193,7 @@ module _ (tells : Bool) (Opens : Shape → List ℕ → List ℕ → Type 0) (in
         let at : calls_of s t ≡ [] = ap (λ (o : Option Granted). unwrap_or o []) none in
         record {
           index_sound = was.index_sound;
+          named = ap (λ (x : State). x.names) begins ∙ was.named;
           mirrors = mirrors_at (state_of index p) s was.mirrors (state_of index p) new t (Some []) live_is (was.mirrors.table ∙ sym (ap records_of begins))
               (was.mirrors.logs t ∙ ap (λ (cs : Granted). log_of cs) at) (λ u ne. refl);
           sound = step_sound (limits_of p.store.shape) s t Begin Fine new was.sound step;
@@ -198,6 +215,7 @@ module _ (tells : Bool) (Opens : Shape → List ℕ → List ℕ → Type 0) (in
 
   pub begun_steps : Steps tells t Begin (core_over Opens index p.store s) (core_over Opens index p.store new) Fine
   begun_steps = steps_of tells Opens index p p s new t Begin Fine refl (record {
+    names = ap (λ (x : State). x.names) begins;
     base = ap (λ (x : State). x.base) begins;
     history = ap (λ (x : State). x.history) begins;
     dead = ap (λ (x : State). x.is_dead) begins ∙ sym (or_false s.is_dead);
