@@ -1,3 +1,3 @@
 pub mod Performing
 pub mod Answering
-pub mod Passing
+pub mod WithFrames
