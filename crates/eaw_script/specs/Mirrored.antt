@@ -1,5 +1,5 @@
 -- Scripts of raw commands over a store that mirrors.
-use Rattle.std.specs.Prelude.{ℕ, ◌≡◌, ◌⊎◌, List, [], Bool, false}
+use Rattle.std.specs.Prelude.{ℕ, ◌≡◌, ◌⊎◌, List, [], Bool, true, false}
 use Rattle.array_shape.specs.declared.shape.Shape.{Shape}
 use Rattle.eaw_face.specs.State.{State}
 use Rattle.eaw_face.specs.StoreView.{StoreView}
@@ -28,3 +28,8 @@ abbrev pub RanMirrored : (Shape → List ℕ → List ℕ → Type 0) → StoreV
 RanMirrored Opens old new Same lines ended cut text =
     Ran framed_script (λ state. Shows new state.inner) (λ after. Comes Opens old (begun old.shape old.state) new after.inner) (framed_begun old.shape old.state) lines ended cut text
     ⊎ ((ended ≡ NoMemory) × (cut ≡ false) × (text ≡ []) × Same)
+
+-- with frames or without
+abbrev pub RanAs : Bool → (Shape → List ℕ → List ℕ → Type 0) → StoreView → StoreView → (Same : Type 0) → List (List ℕ) → Ended → Bool → List ℕ → Type 0
+RanAs true Opens old new Same lines ended cut text = RanMirrored Opens old new Same lines ended cut text
+RanAs false Opens old new Same lines ended cut text = Ran raw_script (Shows new) (Comes Opens old (begun old.shape old.state) new) (begun old.shape old.state) lines ended cut text

@@ -5,9 +5,10 @@ ghost use Rattle.script_run.specs.Lines.{lines_of};
 ghost use Rattle.script_run.specs.Counts.{Counts};
 ghost use Rattle.eaw_face.specs.Causes.{IsAlive};
 ghost use Rattle.mirror.specs.Applying.{IsFree};
-ghost use Rattle.eaw_script.specs.Mirrored.{RanMirrored};
+ghost use Rattle.eaw_script.specs.Mirrored.{RanMirrored, RanAs};
 
 use crate::commands::Commands;
+use crate::run::answer_commands;
 use eaw_face::EawStore;
 use frame_lines::Framed;
 use mirror::{MemoryLink, Primary};
@@ -41,4 +42,26 @@ pub fn answer_mirrored<K: Sink, S: EawStore>(
     let Framed { responder, reply: _ } = framed;
     let (store, _link) = responder.store.into_parts();
     (ended, store)
+}
+
+/// Answers the lines of a script of raw commands, with the lines of frames or without them.
+pub fn answer_script<K: Sink, S: EawStore>(
+    alloc: Global,
+    frames: bool,
+    input: &[u8],
+    sink: &mut K,
+    store: S,
+) -> (Ended, S)
+    requires alive { IsAlive (S.view store) }
+    requires free { IsFree (S.view store) }
+    ensures ran { Wrote K.tells (K.written sink.old) (K.written sink.new) (K.faults sink.old) (K.faults sink.new)
+        (λ cut text. IsTrue S.tells → RanAs frames S.opens (S.view store) (S.view result.1) (result.1 ≡ store) (lines_of input.now) result.0 cut text) }
+    ensures alive { result.0 ≡ Ended.All → (S.view result.1).is_dead ≡ false }
+    ensures counts { Counts result.0 (K.faults sink.old) (K.faults sink.new) (S.view store).faults (S.view result.1).faults }
+{
+    if frames {
+        answer_mirrored(alloc, input, sink, store)
+    } else {
+        answer_commands(alloc, input, sink, store)
+    }
 }
