@@ -16,7 +16,7 @@ use Rattle.script_run.specs.Lines.{lines_of}
 use Rattle.script_run.specs.Transcript.{Answered}
 use Rattle.script_run.specs.declared.ended.Ended.{Ended}
 use Rattle.script_run.specs.declared.ended.Ended.TheVariants.{All, NoMemory}
-use Rattle.mars_shell.specs.Outcome.{Idle}
+use Rattle.array_runs.specs.Outcome.{Idle}
 
 -- The lines of the input were answered by a script whose states have this progress, starting from the data of the array with no number live.
 -- What a loss of power may leave at the end opens with data that the script may have reached. What it might have left since the start opens
