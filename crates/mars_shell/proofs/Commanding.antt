@@ -1,22 +1,26 @@
 -- A run of raw commands over an array that was opened.
 use Rattle.array_image.specs.Decided.{settled_data}
-use Rattle.std.proofs.Common.{◌≡◌, ℕ, ◌≤◌, inl, inr, ⊎_elim, List, Bool, None, false, refl, sym, ap, subst, ◌∙◌, arith}
-use Rattle.std.specs.Prelude.{IsTrue}
+use Rattle.std.proofs.Common.{◌≡◌, ℕ, ◌≤◌, inl, inr, ⊎_elim, List, Bool, None, true, false, refl, sym, ap, subst, ◌∙◌, arith}
+use Rattle.std.specs.Prelude.{IsTrue, ⊤}
 use Rattle.pcm_media.specs.Images.{MayLeave}
 use Rattle.pcm_media.specs.View.{View}
 use Rattle.array_shape.specs.declared.shape.Shape.{Shape}
 use Rattle.device_recovery.specs.Recovered.{HasNoVote}
 use Rattle.eaw_face.specs.State.{State}
 use Rattle.eaw_face.specs.StoreView.{StoreView}
-use Rattle.eaw_device.specs.Opens.{Opens, KeepsData, Attached, IsBehind}
+use Rattle.eaw_device.specs.Opens.{Opens, KeepsData, Attached, IsBehind, HoldsArray}
+use Rattle.frame_lines.specs.Framed.{Framed}
+use Rattle.eaw_script.specs.Lines.{raw_script}
+use Rattle.eaw_script.specs.Mirrored.{RanAs, framed_script, framed_begun}
 use Rattle.eaw_script.specs.Progress.{Progress, Shows, Comes, begun}
 use Rattle.script_run.specs.Lines.{lines_of}
 use Rattle.script_run.specs.Script.{Script}
 use Rattle.script_run.specs.Transcript.{Answered, Ran}
 use Rattle.script_run.specs.declared.ended.Ended.{Ended}
 use Rattle.script_run.specs.declared.ended.Ended.TheVariants.{All}
-use Rattle.mars_shell.specs.Commands.{ObeysBy}
-use Rattle.array_runs.proofs.Opened.{array, at_entry}
+use Rattle.mars_shell.specs.Commands.{ObeysBy, ObeysAs}
+use Rattle.array_runs.specs.Outcome.{Idle}
+use Rattle.array_runs.proofs.Opened.{array, at_entry, left_alone}
 
 module _ (tells : Bool) (told : IsTrue tells) (old : View) (only_now : (image : List ℕ) → IsTrue tells → old.left_since old.moment image → MayLeave old.content image)
     (store : StoreView) (attached : Attached tells old store) (keeps : KeepsData tells old store.moment store.left_since)
@@ -47,3 +51,15 @@ module _ (tells : Bool) (told : IsTrue tells) (old : View) (only_now : (image : 
     where
       shape_is : ended ≡ All → store'.shape ≡ store.shape
       shape_is good = sym (shows ran.final (ran.stands good)).shape ∙ ran.comes.shape
+
+-- with frames or without
+module _ (tells : Bool) (told : IsTrue tells) (old : View) (only_now : (image : List ℕ) → IsTrue tells → old.left_since old.moment image → MayLeave old.content image)
+    (store : StoreView) (attached : Attached tells old store) (keeps : KeepsData tells old store.moment store.left_since)
+    (store' : StoreView) (new : View) (behind : IsBehind tells false store' new) (counts_now : (t : ℕ) (image : List ℕ) → IsTrue tells → t ≤ new.moment → MayLeave new.content image → new.left_since t image)
+    (input : List ℕ) (ended : Ended) (cut : Bool) (text : List ℕ) (Same : Type 0) (same : Same → store' ≡ store) (alive : ended ≡ All → store'.is_dead ≡ false) where
+  pub obeys_as : (frames : Bool) → RanAs frames Opens store store' Same (lines_of input) ended cut text → ObeysAs frames old input ended new cut text
+  obeys_as false ran = obeys tells told old only_now store attached keeps store' new behind counts_now input ended cut text raw_script begun (λ (p : Progress). p) (Shows store') (λ (p : Progress) (shows : Shows store' p). shows) ran alive
+  obeys_as true (inl ran) = inl (obeys tells told old only_now store attached keeps store' new behind counts_now input ended cut text framed_script framed_begun (λ (f : Framed Progress). f.inner)
+      (λ (f : Framed Progress). Shows store' f.inner) (λ (f : Framed Progress) (shows : Shows store' f.inner). shows) ran alive)
+  obeys_as true (inr none) = inr (none.0, subst (λ (c : Bool). Idle true (HoldsArray old) ⊤ old new c text) (sym none.1)
+      (subst (λ (t : List ℕ). Idle true (HoldsArray old) ⊤ old new false t) (sym none.2) (left_alone tells told old only_now store attached keeps false store' new behind ⊤ (same none.3) tt)))
