@@ -10,6 +10,8 @@ use Rattle.array_shape.specs.declared.shape.Shape.{Shape}
 use Rattle.array_shape.specs.Parts.{parts_of_write}
 use Rattle.array_shape.specs.Logged.{Part, ranges_of}
 use Rattle.eaw_face.specs.State.{State, Logs, listed}
+use Rattle.eaw_face.specs.Mirroring.{Mirrors}
+use Rattle.eaw_face.proofs.Mirroring.{none_sent}
 use Rattle.eaw_face.specs.StoreView.{StoreView, LeavesOnly}
 use Rattle.eaw_face.specs.Command.{Command}
 use Rattle.eaw_face.specs.Command as model
@@ -125,6 +127,7 @@ module _ (tells : Bool) (Opens : List ℕ → List ℕ → Type 0) (c : PageComm
     time = λ tell alive. weaker
         (λ image either. ⊎_elim (λ before. inl before) (λ after'. inr (subst (λ (st : State). Opens image st.bytes) (data_after tell alive) after')) either)
         (does.time tell alive);
+    mirrors = does.mirrors;
   }
 
   -- counts stay ordered, whatever the answer, if the command changes no marks
@@ -186,6 +189,7 @@ module _ (tells : Bool) (Opens : List ℕ → List ℕ → Type 0) (c : PageComm
     others = λ u ne. ap (λ (st : StoreView). st.ranges u) same;
     time = λ tell living. subst (λ (st : StoreView). LeavesOnly (does_store.IsEither Opens old.store.state.bytes (after c (state_of old)).store.bytes) old.store st) (sym same)
         (stays old.store.moment old.store.left_since _);
+    mirrors = subst (λ (st : StoreView). Mirrors tells old.store st) (sym same) (none_sent tells old.store old.store refl refl (λ fine. fine) (λ told mirrors fine. refl));
   }
 
 -- a refusal that changes nothing
@@ -200,6 +204,7 @@ unchanged tells Opens c old p other cause = record {
   dies = λ is. absurd (other (IfErr-at_err (λ q. p ≡ q) is refl));
   others = λ u ne. refl;
   time = λ tell living. stays old.store.moment old.store.left_since _;
+  mirrors = none_sent tells old.store old.store refl refl (λ fine. fine) (λ told mirrors fine. refl);
 }
 
 -- A command that makes one of the store if its number is live, and none otherwise.
