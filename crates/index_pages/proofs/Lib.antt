@@ -9,6 +9,7 @@ pub mod Writing
 pub mod Looking
 pub mod Sizes
 pub mod Acting
+pub mod Running
 pub mod Ranges
 pub mod Fronts
 pub mod Listed

@@ -1,6 +1,8 @@
 // Nested top actions of an index.
 ghost use Rattle.std.specs.Prelude.{◌≡◌, ◌<◌, ◌≤◌, [], ◌∷◌, None, IsErrOf, length};
 ghost use Rattle.eaw_face.specs.Causes.{IsAlive};
+ghost use Rattle.eaw_face.specs.StoreView.{log_len};
+ghost use Rattle.page_store.specs.Runs.{Runs, acting_of};
 ghost use Rattle.page_store.specs.Shown.{IsInPage, address, pages_of, top_in};
 ghost use Rattle.index_pages.specs.Acts.{Acts};
 ghost use Rattle.index_pages.specs.Parts.{AreInPages, pages_named, parts_named};
@@ -21,7 +23,7 @@ pub struct PagePart<'a> {
 const PARTS_MAX: usize = 5;
 
 /// Writes up to five parts, one after another, as one nested top action of the number: all of them or none, whatever becomes of the
-/// number. The room for them is tested first.
+/// number. The room for them is tested first. Nothing is done but these writes and the end of the action.
 pub fn act_all<S: EawStore>(
     pages: &mut Pages<S>,
     tid: u8,
@@ -33,6 +35,8 @@ pub fn act_all<S: EawStore>(
     requires inside { AreInPages (S.view pages.old.store) parts.now }
     ensures acts { Acts S.tells (S.opens (S.view pages.old.store).shape) tid (pages_named parts.now) (parts_named parts.now)
         (pages_of (S.view pages.old.store) pages.old) (pages_of (S.view pages.new.store) pages.new) result }
+    ensures runs { Runs S.tells S.view S.calls (acting_of tid (log_len (S.view pages.old.store) tid) (parts_named parts.now))
+        (S.view pages.old.store) (S.view pages.new.store) result }
     ensures dead { IsErrOf result PageFault.Dead → pages.new ≡ pages.old }
 {
     if pages.is_dead() {

@@ -38,3 +38,8 @@ done (Some command) store = after command store
 abbrev pub ranges_done : Option Command → Logs (ℕ × ℕ) → Logs (ℕ × ℕ)
 ranges_done None ranges = ranges
 ranges_done (Some command) ranges = ranges_after command ranges
+
+-- the calls of such a command, if each makes so many
+abbrev pub device_cost : (Command → ℕ) → Option Command → ℕ
+device_cost calls None = 0
+device_cost calls (Some command) = calls command

@@ -11,6 +11,7 @@ pub mod Shown
 pub mod Does
 pub mod Invariant
 pub mod Told
+pub mod Runs
 pub mod Fits
 pub mod Reads
 pub mod Pairs

@@ -1,5 +1,6 @@
 // Pages over a store of editable atomic writes.
 ghost use Rattle.std.specs.Prelude.{◌≡◌, ◌≢◌, ◌↔◌, ◌+◌, ◌^◌, ◌<◌, ◌≤◌, ℕ, [], true, List, None, Some, is_some, slice_index_or, filter, if◌then◌else◌, IsTrue, IsOk, IfOk, IfErr, OnErr, OnOk, IsErrOf, length};
+ghost use Rattle.std.specs.Option.{option_map};
 ghost use Rattle.mars_base.specs.Bytes.{put, range};
 ghost use Rattle.mars_base.specs.Costs.{Costs};
 ghost use Rattle.array_shape.specs.NumberSet.{members};
@@ -12,6 +13,7 @@ ghost use Rattle.eaw_face.specs.State.{listed, group_log, is_one_of, with_each, 
 ghost use Rattle.eaw_face.specs.StoreView.{log_len};
 ghost use Rattle.eaw_face.specs.Mirroring.{GivesUp};
 ghost use Rattle.page_store.specs.Command.{write_as, save, back, top_begin, top_end, end, end_group, atomic_write, read_as, read};
+ghost use Rattle.page_store.specs.Device.{device, device_cost};
 ghost use Rattle.page_store.specs.Does.{Becomes, Does};
 ghost use Rattle.page_store.specs.Edit.{edit_pos, meet};
 ghost use Rattle.page_store.specs.Fits.{FitAll, LacksRoom, is_page_on};
@@ -183,6 +185,8 @@ impl<S: EawStore> Pages<S> {
             (pages_of (S.view self.old.store) self.old) (pages_of (S.view self.new.store) self.new) result }
         ensures seen { IsTrue S.tells → OnOk result (view_of tid (state_of (pages_of (S.view self.new.store) self.new))
             ≡ put (view_of tid (state_of (pages_of (S.view self.old.store) self.old))) (address page at) bytes.now) }
+        ensures costs { Costs S.tells (device_cost (S.calls self.old.store) (device (write_as tid (address page at) bytes.now) (outline_of (pages_of (S.view self.old.store) self.old))))
+            (S.view self.old.store).moment (S.view self.new.store).moment result }
         ensures refused { IfErr result (λ fault. fault ≢ PageFault.Media → self.new ≡ self.old) }
     {
         let addr = address(page, at);
@@ -225,6 +229,8 @@ impl<S: EawStore> Pages<S> {
         requires closed { IsAlive (S.view self.old.store) → top_in self.old.marks tid ≡ None }
         ensures does { Does S.tells (S.opens (S.view self.old.store).shape) (back tid n)
             (pages_of (S.view self.old.store) self.old) (pages_of (S.view self.new.store) self.new) result }
+        ensures costs { Costs S.tells (device_cost (S.calls self.old.store) (device (back tid n) (outline_of (pages_of (S.view self.old.store) self.old))))
+            (S.view self.old.store).moment (S.view self.new.store).moment result }
         ensures refused { OnErr result (self.new ≡ self.old) }
         ensures idle { (S.view self.new.store).moment ≡ (S.view self.old.store).moment }
         ensures due { IsErrOf result PageFault.Media → ⊥ }
@@ -262,6 +268,8 @@ impl<S: EawStore> Pages<S> {
         ensures refused { IfErr result (λ fault. fault ≢ PageFault.Media → self.new ≡ self.old) }
         ensures due { IsErrOf result PageFault.Media → mark < log_len (S.view self.old.store) tid }
         ensures idle { log_len (S.view self.old.store) tid ≡ mark → (S.view self.new.store).moment ≡ (S.view self.old.store).moment }
+        ensures costs { Costs S.tells (device_cost (S.calls self.old.store) (device (top_end tid mark) (outline_of (pages_of (S.view self.old.store) self.old))))
+            (S.view self.old.store).moment (S.view self.new.store).moment result }
     {
         if self.store.is_dead() {
             return Err(PageFault::Dead);
@@ -277,6 +285,8 @@ impl<S: EawStore> Pages<S> {
         requires closed { IsAlive (S.view self.old.store) → top_in self.old.marks tid ≡ None }
         ensures does { Does S.tells (S.opens (S.view self.old.store).shape) (end tid commits)
             (pages_of (S.view self.old.store) self.old) (pages_of (S.view self.new.store) self.new) result }
+        ensures costs { Costs S.tells (device_cost (S.calls self.old.store) (device (end tid commits) (outline_of (pages_of (S.view self.old.store) self.old))))
+            (S.view self.old.store).moment (S.view self.new.store).moment result }
         ensures refused { IfErr result (λ fault. fault ≢ PageFault.Media → self.new ≡ self.old) }
         // An abort uses no medium, nor does a commit of nothing.
         ensures due { IsErrOf result PageFault.Media → IsTrue commits × (0 < log_len (S.view self.old.store) tid) }
@@ -296,6 +306,8 @@ impl<S: EawStore> Pages<S> {
         requires closed { IsAlive (S.view self.old.store) → (t : ℕ) → t < (S.view self.old.store).shape.numbers → is_one_of (members tids) t ≡ true → top_in self.old.marks t ≡ None }
         ensures does { Does S.tells (S.opens (S.view self.old.store).shape) (end_group (members tids))
             (pages_of (S.view self.old.store) self.old) (pages_of (S.view self.new.store) self.new) result }
+        ensures costs { Costs S.tells (device_cost (S.calls self.old.store) (device (end_group (members tids)) (outline_of (pages_of (S.view self.old.store) self.old))))
+            (S.view self.old.store).moment (S.view self.new.store).moment result }
         ensures refused { IfErr result (λ fault. fault ≢ PageFault.Media → self.new ≡ self.old) }
         // A commit of nothing uses no medium.
         ensures due { IsErrOf result PageFault.Media → 0 < length (group_log (S.view self.old.store).ranges (members tids)) }
@@ -318,6 +330,8 @@ impl<S: EawStore> Pages<S> {
         requires free { (S.view self.old.store).ranges tid ≡ None }
         ensures does { Does S.tells (S.opens (S.view self.old.store).shape) (atomic_write tid addr bytes.now)
             (pages_of (S.view self.old.store) self.old) (pages_of (S.view self.new.store) self.new) result }
+        ensures costs { Costs S.tells (device_cost (S.calls self.old.store) (device (atomic_write tid addr bytes.now) (outline_of (pages_of (S.view self.old.store) self.old))))
+            (S.view self.old.store).moment (S.view self.new.store).moment result }
         ensures refused { IfErr result (λ fault. fault ≢ PageFault.Media → self.new ≡ self.old) }
     {
         told(self.store.atomic_write(tid, addr, bytes))
@@ -491,6 +505,8 @@ fn drop_from<S: EawStore>(store: &mut S, tid: u8, offset: u32) -> Result<(), Pag
     ensures does { DoesWhereLive ((S.view store.old).ranges tid) (store.new ≡ store.old) S.tells (S.opens (S.view store.old).shape) (partial_abort tid offset)
         (S.view store.old) (S.view store.new) result }
     ensures refused { IfErr result (λ fault. fault ≢ PageFault.Media → store.new ≡ store.old) }
+    ensures costs { Costs S.tells (device_cost (S.calls store.old) (option_map (λ ranges. partial_abort tid offset) ((S.view store.old).ranges tid)))
+        (S.view store.old).moment (S.view store.new).moment result }
     ensures idle { (S.view store.new).moment ≡ (S.view store.old).moment }
     ensures done { IsOk result }
 {
@@ -510,6 +526,8 @@ fn commit_from<S: EawStore>(store: &mut S, tid: u8, offset: u32) -> Result<(), P
     ensures refused { IfErr result (λ fault. fault ≢ PageFault.Media → store.new ≡ store.old) }
     ensures due { IsErrOf result PageFault.Media → offset < log_len (S.view store.old) tid }
     ensures idle { log_len (S.view store.old) tid ≡ offset → (S.view store.new).moment ≡ (S.view store.old).moment }
+    ensures costs { Costs S.tells (device_cost (S.calls store.old) (option_map (λ ranges. nested_top tid offset) ((S.view store.old).ranges tid)))
+        (S.view store.old).moment (S.view store.new).moment result }
 {
     if !store.is_live(tid) {
         return Ok(());
@@ -524,6 +542,8 @@ fn end_number<S: EawStore>(store: &mut S, tid: u8, commits: bool) -> Result<(), 
     ensures does { DoesWhereLive ((S.view store.old).ranges tid) (store.new ≡ store.old) S.tells (S.opens (S.view store.old).shape) (if commits then commit tid else abort tid)
         (S.view store.old) (S.view store.new) result }
     ensures refused { IfErr result (λ fault. fault ≢ PageFault.Media → store.new ≡ store.old) }
+    ensures costs { Costs S.tells (device_cost (S.calls store.old) (option_map (λ ranges. if commits then commit tid else abort tid) ((S.view store.old).ranges tid)))
+        (S.view store.old).moment (S.view store.new).moment result }
     ensures due { IsErrOf result PageFault.Media → IsTrue commits × (0 < log_len (S.view store.old) tid) }
     ensures idle { log_len (S.view store.old) tid ≡ 0 → (S.view store.new).moment ≡ (S.view store.old).moment }
 {

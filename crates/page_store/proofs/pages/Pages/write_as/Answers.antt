@@ -13,6 +13,9 @@ use Rattle.page_store.specs.Shown.{PagesView, address, counts_in, top_in, outlin
 use Rattle.page_store.proofs.Shown.{IsTold}
 use Rattle.page_store.proofs.Lifting.{lifted, ordered_now}
 use Rattle.page_store.proofs.Writing.{in_page_placed, makes_edit, makes_write, edit_there_is, edits_from, seen_of}
+use Rattle.mars_base.specs.Costs.{Costs}
+use Rattle.page_store.specs.Device.{device, device_cost, write_of}
+use Rattle.page_store.proofs.Costing.{costs_told}
 use Rattle.page_store.proofs.pages.Pages.write_as.Given as given
 use Rattle.page_store.proofs.pages.Pages.write_as.Goals as goal
 
@@ -178,3 +181,36 @@ invariant_of-self-in-None g c =
           (makes_write g.S.EawStore.tells old t addr bytes placed c.self.invariant.ordered told (edits ∙ c.in-None.is)) c.log_write.result does
           (λ f is ne. ap view (IfErr-at_err (λ e. (e ≡ Media → ⊥) → c.log_write.new.self ≡ c.self.inside.store) is c.log_write.ensures.refused ne)) refl refl refl refl;
     }
+
+pub returns-in-Some-clause-costs : goal.returns-in-Some-clause-costs
+returns-in-Some-clause-costs g c =
+    let view = g.S.EawStore.view in
+    let store = view c.self.inside.store in
+    let marks = c.self.inside.marks.items in
+    let t = c.args.tid in
+    let bytes = c.args.bytes.now in
+    let addr = address c.args.page c.args.at in
+    let old : PagesView = record { store = store; counts = counts_in marks; top = top_in marks } in
+    let there : c.args.tid < length marks = omega (arith, c.self.invariant.many, rw (← c.self.view_is) at c.requires.tid) in
+    let edits = edits_from store marks t c.from.result c.from.ensures there c.index.result.now c.index.ensures c.floor-floor.result c.floor-floor.ensures c.address-addr.result addr (length bytes) c.address-addr.ensures c.edited_part.result c.edited_part.ensures in
+    let calls = g.S.EawStore.calls c.self.inside.store in
+    let is : device_cost calls (device (write_as t addr bytes) (outline_of old)) ≡ calls (log_edit t c.in-Some.pos 0 bytes) = ap (λ (o : Option ℕ). calls (write_of t addr bytes o)) (edits ∙ c.in-Some.is) in
+    rw (← c.self.view_is) (subst (λ (n : ℕ). Costs g.S.EawStore.tells n store.moment (view c.log_edit.new.self).moment c.told.result) (sym is)
+    (costs_told g.S.EawStore.tells (calls (log_edit t c.in-Some.pos 0 bytes)) store.moment (view c.log_edit.new.self).moment c.log_edit.result c.told.result c.told.ensures c.log_edit.ensures.costs))
+
+pub returns-in-None-clause-costs : goal.returns-in-None-clause-costs
+returns-in-None-clause-costs g c =
+    let view = g.S.EawStore.view in
+    let store = view c.self.inside.store in
+    let marks = c.self.inside.marks.items in
+    let t = c.args.tid in
+    let bytes = c.args.bytes.now in
+    let addr = address c.args.page c.args.at in
+    let old : PagesView = record { store = store; counts = counts_in marks; top = top_in marks } in
+    let there : c.args.tid < length marks = omega (arith, c.self.invariant.many, rw (← c.self.view_is) at c.requires.tid) in
+    let edits = edits_from store marks t c.from.result c.from.ensures there c.index.result.now c.index.ensures c.floor-floor.result c.floor-floor.ensures c.address-addr.result addr (length bytes) c.address-addr.ensures c.edited_part.result c.edited_part.ensures in
+    let calls = g.S.EawStore.calls c.self.inside.store in
+    let is : device_cost calls (device (write_as t addr bytes) (outline_of old)) ≡ calls (log_write t addr bytes) = ap (λ (o : Option ℕ). calls (write_of t addr bytes o)) (edits ∙ c.in-None.is) in
+    rw (← c.self.view_is) (subst (λ (n : ℕ). Costs g.S.EawStore.tells n store.moment (view c.log_write.new.self).moment c.told-in-None.result) (sym is)
+    (costs_told g.S.EawStore.tells (calls (log_write t addr bytes)) store.moment (view c.log_write.new.self).moment c.log_write.result c.told-in-None.result c.told-in-None.ensures
+    (subst (λ (a : ℕ). Costs g.S.EawStore.tells (calls (log_write t a bytes)) store.moment (view c.log_write.new.self).moment c.log_write.result) c.address-addr.ensures c.log_write.ensures.costs)))
