@@ -15,9 +15,10 @@ use Rattle.page_store.specs.Shown.{PagesView, counts_in, top_in, outline_of}
 use Rattle.page_store.specs.declared.fault.PageFault.{PageFault}
 use Rattle.page_store.proofs.Shown.{IsTold}
 use Rattle.page_store.proofs.Ordered.{ordered_after}
-use Rattle.page_store.proofs.Lifting.{live_does}
+use Rattle.page_store.proofs.Lifting.{live_does, unchanged}
 use Rattle.page_store.proofs.Marking.{was, counts_become, counts_stay, top_become, top_stay}
 use Rattle.page_store.proofs.pages.Pages.end.Given as given
+use Rattle.page_store.specs.declared.fault.PageFault.TheVariants.{Dead}
 use Rattle.page_store.proofs.pages.Pages.end.Goals as goal
 
 abbrev ended : Bool → ℕ → Command
@@ -87,3 +88,8 @@ returns-clause-due g c = λ is. cc
 
 pub returns-clause-refused : goal.returns-clause-refused
 returns-clause-refused g c = tt
+
+pub returns-then-is_dead-clause-does : goal.returns-then-is_dead-clause-does
+returns-then-is_dead-clause-does g c =
+    let s = g.S.EawStore in
+    rw (← c.self.view_is) (unchanged s.tells (s.opens (s.view c.self.inside.store).shape) (end c.args.tid c.args.commits) _ Dead (λ is. cc) (sym c.is_dead.ensures ∙ c.if-is_dead.true))

@@ -18,6 +18,8 @@ use Rattle.page_store.proofs.Ordered.{ordered_after}
 use Rattle.page_store.proofs.Grouping.{live_in, answer_known, group_does, media_of}
 use Rattle.page_store.proofs.Marking.{written_over, top_past}
 use Rattle.page_store.proofs.pages.Pages.end_group.Given.{Over}
+use Rattle.page_store.specs.declared.fault.PageFault.TheVariants.{Dead}
+use Rattle.page_store.proofs.Lifting.{unchanged}
 use Rattle.page_store.proofs.pages.Pages.end_group.Goals as goal
 
 pub told-requires : goal.told-requires
@@ -124,3 +126,8 @@ returns-clause-idle g c =
     let whole : group_log (view inner).ranges (members c.live_among-live.result) ≡ group_log (view inner).ranges (members c.args.tids) =
     ap (group_log (view inner).ranges) c.live_among-live.ensures ∙ group_live (view inner).ranges (members c.args.tids) in
     rw (← c.self.view_is) (λ none. c.commit_group.ensures.idle (ap length whole ∙ none))
+
+pub returns-then-is_dead-clause-does : goal.returns-then-is_dead-clause-does
+returns-then-is_dead-clause-does g c =
+    let s = g.S.EawStore in
+    rw (← c.self.view_is) (unchanged s.tells (s.opens (s.view c.self.inside.store).shape) (end_group (members c.args.tids)) _ Dead (λ is. cc) (sym c.is_dead.ensures ∙ c.if-is_dead.true))
