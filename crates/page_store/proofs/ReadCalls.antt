@@ -1,13 +1,13 @@
 -- Reads of a store one after another, and as reads of pages.
-use Rattle.std.proofs.Common.{◌≡◌, ℕ, Bool, true, false, inl, inr, ⊎_elim, List, Result, Ok, Err, refl, sym, ◌∙◌, ap, subst, arith}
-use Rattle.std.specs.Prelude.{Option, Some, None, IsTrue, IsOk, OnOk, OnErr, IsErrOf}
+use Rattle.std.proofs.Common.{◌≡◌, ℕ, Bool, true, false, inl, ⊎_elim, List, Result, Ok, Err, refl, sym, ◌∙◌, ap, subst, arith}
+use Rattle.std.specs.Prelude.{Some, IsOk, OnOk, OnErr, IsErrOf}
 use Rattle.std.proofs.lemmas.Bool.{false≢true}
 use Rattle.std.proofs.lemmas.Result.{IfErr-at_err}
 use Rattle.mars_base.specs.Causes.{Rose}
 use Rattle.mars_base.proofs.Going.{weaker, then}
 use Rattle.eaw_face.specs.State.{State, Logs}
 use Rattle.eaw_face.proofs.Mirroring.{none_sent, sent_then}
-use Rattle.eaw_face.specs.StoreView.{StoreView, LeavesOnly}
+use Rattle.eaw_face.specs.StoreView.{StoreView}
 use Rattle.eaw_face.specs.Command.{Command}
 use Rattle.eaw_face.specs.Command as model
 use Rattle.eaw_face.specs.Causes as causes
@@ -22,7 +22,7 @@ use Rattle.page_store.specs.Reads.{Reads, IsRead, ReadCause}
 use Rattle.page_store.specs.Shown.{PagesView, outline_of, state_of}
 use Rattle.page_store.specs.Told.{IsKnown, told_as, TellsAs}
 use Rattle.page_store.specs.declared.fault.PageFault.{PageFault}
-use Rattle.page_store.specs.declared.fault.PageFault.TheVariants.{LogFull, SavesFull, Media, Dead, Damaged}
+use Rattle.page_store.specs.declared.fault.PageFault.TheVariants.{Media}
 
 abbrev NotMedia : PageFault → Type 0
 NotMedia Media = ⊥

@@ -1,5 +1,5 @@
 -- What reads do to a store, and what they cost.
-use Rattle.std.specs.Prelude.{◌≡◌, ◌≤◌, ◌+◌, min, max, nat_lt, if◌then◌else◌, Bool, true, false, IsTrue, List, [], ◌∷◌, ℕ, Result, Ok, Err, OnOk, IsErrOf}
+use Rattle.std.specs.Prelude.{◌≡◌, ◌+◌, min, max, nat_lt, if◌then◌else◌, Bool, true, false, IsTrue, List, [], ◌∷◌, ℕ, Result, Ok, Err, OnOk, IsErrOf}
 use Rattle.mars_base.specs.Causes.{Rose}
 use Rattle.eaw_face.specs.Command.{Command, log_read, read}
 use Rattle.eaw_face.specs.Mirroring.{Mirrors}

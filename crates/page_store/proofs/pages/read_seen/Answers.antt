@@ -1,11 +1,11 @@
-use Rattle.std.proofs.Common.{◌≡◌, ℕ, suc, ◌+◌, ◌<◌, ◌≤◌, List, Ok, Err, Result, length, take, refl, sym, ◌∙◌, ap, subst, add-one, arith}
-use Rattle.std.specs.Prelude.{Option, IsTrue}
+use Rattle.std.proofs.Common.{◌≡◌, ℕ, ◌+◌, ◌<◌, List, Ok, Err, Result, length, take, refl, sym, ◌∙◌, ap, subst, add-one, arith}
+use Rattle.std.specs.Prelude.{Option}
 use Rattle.std.proofs.Math.Seq.{take-length}
 use Rattle.mars_base.specs.Bytes.{put, range}
 use Rattle.array_shape.specs.declared.shape.Shape.{Shape}
 use Rattle.array_shape.specs.Places.{data_len}
-use Rattle.array_shape.specs.Logged.{Part, applied, ranges_of}
-use Rattle.eaw_face.specs.State.{State, listed, part_at}
+use Rattle.array_shape.specs.Logged.{Part, applied}
+use Rattle.eaw_face.specs.State.{listed, part_at}
 use Rattle.eaw_face.specs.StoreView.{ArePlaced}
 use Rattle.eaw_face.specs.declared.fault.EawFault.{EawFault}
 use Rattle.page_store.specs.Reads.{Reads}
@@ -13,10 +13,8 @@ use Rattle.page_store.proofs.Outline.{listed-ranges}
 use Rattle.page_store.proofs.Shown.{placed_parts}
 use Rattle.page_store.proofs.Laying.{more_applied, long_applied, length-ranges}
 use Rattle.page_store.proofs.ReadCalls.{reads_on}
-use Rattle.eaw_face.specs.Command.{Command, read}
 use Rattle.eaw_face.specs.State.{range_at}
-use Rattle.mars_base.specs.Costs.{Costs}
-use Rattle.page_store.specs.Reads.{lay_cost, laid_cost}
+use Rattle.page_store.specs.Reads.{lay_cost}
 use Rattle.page_store.proofs.Costing.{laid_more, laid_most, laid_all, lay_same}
 use Rattle.page_store.proofs.pages.read_seen.Goals as goal
 

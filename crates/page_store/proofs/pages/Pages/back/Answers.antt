@@ -1,10 +1,8 @@
-use Rattle.std.proofs.Common.{◌≡◌, ℕ, ◌-◌, ◌<◌, List, Some, None, false, Ok, Result, length, get_or, set, take, refl, sym, ◌∙◌, ap, subst, arith}
+use Rattle.std.proofs.Common.{◌≡◌, ℕ, ◌-◌, ◌<◌, List, None, false, Ok, Result, length, get_or, set, take, sym, ◌∙◌, ap, subst, arith}
 use Rattle.std.specs.Prelude.{IsTrue}
 use Rattle.std.proofs.lemmas.Bool.{false≢true}
 use Rattle.std.proofs.lemmas.List.{length-set}
-use Rattle.eaw_face.specs.StoreView.{StoreView}
 use Rattle.eaw_face.specs.Command.{partial_abort}
-use Rattle.page_store.specs.State.{with_one}
 use Rattle.page_store.specs.Command.{back}
 use Rattle.page_store.specs.Outline.{count_at}
 use Rattle.page_store.specs.Device.{if_live}
@@ -16,7 +14,7 @@ use Rattle.page_store.specs.declared.fault.PageFault.{PageFault}
 use Rattle.page_store.proofs.Shown.{IsTold}
 use Rattle.page_store.proofs.Ordered.{ordered_after}
 use Rattle.page_store.proofs.Lifting.{live_does, unchanged}
-use Rattle.page_store.proofs.Marking.{was, counts_become, counts_stay, top_become, top_stay}
+use Rattle.page_store.proofs.Marking.{was, counts_become, top_stay}
 use Rattle.page_store.proofs.pages.Pages.back.Given as given
 use Rattle.page_store.specs.declared.fault.PageFault.TheVariants.{Dead}
 use Rattle.page_store.proofs.pages.Pages.back.Goals as goal

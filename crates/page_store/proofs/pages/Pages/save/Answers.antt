@@ -6,13 +6,13 @@ use Rattle.eaw_face.specs.StoreView.{StoreView}
 use Rattle.page_store.specs.State.{with_one}
 use Rattle.page_store.specs.Command.{save}
 use Rattle.page_store.specs.Marked.{Marked}
-use Rattle.page_store.specs.Outline.{Outline, outline_after}
+use Rattle.page_store.specs.Outline.{outline_after}
 use Rattle.page_store.specs.Kept.{IsOrdered}
 use Rattle.page_store.specs.Invariant.{outline_in}
-use Rattle.page_store.specs.Shown.{PagesView, pages_of, counts_in, top_in, outline_of}
+use Rattle.page_store.specs.Shown.{PagesView, counts_in, top_in}
 use Rattle.page_store.proofs.Shown.{IsTold}
 use Rattle.page_store.proofs.Ordered.{ordered_after}
-use Rattle.page_store.proofs.Lifting.{still, still_becomes, unchanged}
+use Rattle.page_store.proofs.Lifting.{still, unchanged}
 use Rattle.page_store.proofs.Marking.{was, counts_become, top_stay, counts_now}
 use Rattle.page_store.specs.declared.fault.PageFault.TheVariants.{Dead, SavesFull}
 use Rattle.page_store.specs.declared.fault.PageFault.{PageFault}
@@ -98,9 +98,9 @@ returns-then-is_full-clause-does g c =
     let same : set marks c.from.result m ≡ marks = ap (λ (x : Marked). set marks c.from.result x) c.index_mut-marks.ensures.value ∙ set-get_or marks c.from.result m in
     let old : PagesView = record { store = view; counts = counts_in marks; top = top_in marks } in
     rw (← c.self.view_is) (subst
-        (λ (ms : List Marked).
-            let r : Result ℕ PageFault = Err SavesFull in
-            let now : PagesView = record { store = view; counts = counts_in ms; top = top_in ms } in
-            Does s.tells (s.opens view.shape) (save c.args.tid) old now r)
-        (sym same)
-        (unchanged s.tells (s.opens view.shape) (save c.args.tid) old SavesFull (λ is. cc) (alive, full)))
+    (λ (ms : List Marked).
+    let r : Result ℕ PageFault = Err SavesFull in
+    let now : PagesView = record { store = view; counts = counts_in ms; top = top_in ms } in
+    Does s.tells (s.opens view.shape) (save c.args.tid) old now r)
+    (sym same)
+    (unchanged s.tells (s.opens view.shape) (save c.args.tid) old SavesFull (λ is. cc) (alive, full)))

@@ -1,21 +1,17 @@
-use Rattle.std.proofs.Common.{◌≡◌, ℕ, ◌-◌, ◌<◌, List, Some, None, false, Ok, Result, length, get_or, set, take, refl, sym, ◌∙◌, ap, subst, arith}
+use Rattle.std.proofs.Common.{◌≡◌, ◌<◌, Some, None, false, Ok, Result, length, set, refl, sym, ◌∙◌, ap, subst, arith}
 use Rattle.std.specs.Prelude.{IsTrue}
 use Rattle.std.proofs.lemmas.List.{length-set}
-use Rattle.eaw_face.specs.StoreView.{StoreView}
 use Rattle.eaw_face.specs.Command.{nested_top}
-use Rattle.page_store.specs.State.{with_one}
 use Rattle.page_store.specs.Command.{top_end}
-use Rattle.page_store.specs.Outline.{count_at}
-use Rattle.page_store.specs.Device.{if_live}
 use Rattle.page_store.specs.Kept.{IsOrdered}
 use Rattle.page_store.specs.Does.{Does}
 use Rattle.page_store.specs.Invariant.{outline_in}
-use Rattle.page_store.specs.Shown.{PagesView, counts_in, top_in, outline_of}
+use Rattle.page_store.specs.Shown.{PagesView, counts_in, top_in}
 use Rattle.page_store.specs.declared.fault.PageFault.{PageFault}
 use Rattle.page_store.proofs.Shown.{IsTold}
 use Rattle.page_store.proofs.Ordered.{ordered_after}
 use Rattle.page_store.proofs.Lifting.{live_does, unchanged}
-use Rattle.page_store.proofs.Marking.{was, counts_become, counts_stay, top_become, top_stay}
+use Rattle.page_store.proofs.Marking.{was, counts_stay, top_become}
 use Rattle.page_store.proofs.pages.Pages.top_end.Given as given
 use Rattle.page_store.specs.declared.fault.PageFault.TheVariants.{Dead}
 use Rattle.page_store.proofs.pages.Pages.top_end.Goals as goal
