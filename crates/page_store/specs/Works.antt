@@ -101,8 +101,9 @@ IsMet page (onward r ∷ ss) = (page ≡ r.0) ⊎ IsMet page ss
 IsMet page (aside p at len ∷ ss) = (page ≡ p) ⊎ IsMet page ss
 IsMet page (acts action commands ∷ ss) = IsAmong page action.pages ⊎ IsMet page ss
 
--- how many pages of the way there may be, reads aside, and actions
+-- how often the super page may be read, how many pages of the way there may be, reads aside, and actions
 pub record Limits : Type 0 where
+  pub fronts : ℕ
   pub way : ℕ
   pub asides : ℕ
   pub actions : ℕ
@@ -127,31 +128,35 @@ blamed_index (Err (index.Damaged bad)) = Some bad
 blamed_index _ = None
 
 -- Steps of an insertion or a removal as number t, of which these actions are due, and which was done or not. They make all its calls. Over any
--- store the super page is read at most once, each page of the way is the one that was to be read next, and there are no more steps of a kind
--- than may be. A page that is answered as damaged is one of the array that was met. Over a store that tells its data the actions made are the first
--- of those due, and all of them if it was done; a read aside is made at most for each page that these take, and for the slot or one page beside.
-pub record Works {S : Type 0} (tells done : Bool) (view : S → StoreView) (calls : S → store.Command → ℕ) (t : ℕ) (goes : List Reading → Option ℕ) (limits : Limits) (due : List Action) (bad : Option ℕ) (old new : StoreView) : Type 0 where
+-- store each page of the way is the one that was to be read next, and there are no more steps of a kind than may be. A page that is answered as
+-- damaged is one of the array that was met, by a step or before. Over a store that tells its data the actions made are the first of those due, and
+-- all of them if it was done; a read aside is made at most for each page that these take, and for the slot or one page beside.
+pub record WorksFrom {S : Type 0} (known : List ℕ) (tells done : Bool) (view : S → StoreView) (calls : S → store.Command → ℕ) (t : ℕ) (goes : List Reading → Option ℕ) (limits : Limits) (due : List Action) (bad : Option ℕ) (old new : StoreView) : Type 0 where
   pub steps : List Step
   pub spends : Spends tells done view calls steps old new
-  pub fronts : fronts_of steps ≤ 1
+  pub fronts : fronts_of steps ≤ limits.fronts
   pub way : IsWay goes (way_of steps)
   pub few : length (way_of steps) ≤ limits.way
   pub asides : asides_of steps ≤ limits.asides
   pub actions : length (actions_of steps) ≤ limits.actions
   pub acted : AreActs t steps
-  pub blames : IfSome bad (λ page. (page < page_count old.shape) × IsMet page steps)
+  pub blames : IfSome bad (λ page. (page < page_count old.shape) × (IsAmong page known ⊎ IsMet page steps))
   pub left : List Action
   pub just : IsTrue tells → actions_of steps ++ left ≡ due
   pub all : IsTrue tells → IsTrue done → left ≡ []
   pub taken : IsTrue tells → asides_of steps ≤ takes_of due + 1
 
+-- the whole of it, before which no page was met
+abbrev pub Works : {S : Type 0} → Bool → Bool → (S → StoreView) → (S → store.Command → ℕ) → ℕ → (List Reading → Option ℕ) → Limits → List Action → Option ℕ → (old new : StoreView) → Type 0
+Works = WorksFrom []
+
 -- At most so many steps of an insertion without a place, or with one, which reads no page of the way; and of a removal.
 abbrev pub insertion_limits : {A : Type 0} → Bool → Course A → Shape → Limits
-insertion_limits true course shape = record { way = 0; asides = 1; actions = 1 }
-insertion_limits false course shape = record { way = course.most shape; asides = course.most shape + 2; actions = course.most shape + 1 }
+insertion_limits true course shape = record { fronts = 1; way = 0; asides = 1; actions = 1 }
+insertion_limits false course shape = record { fronts = 1; way = course.most shape; asides = course.most shape + 2; actions = course.most shape + 1 }
 
 abbrev pub removal_limits : {A : Type 0} → Course A → Shape → Limits
-removal_limits course shape = record { way = course.most shape; asides = 1; actions = 1 }
+removal_limits course shape = record { fronts = 1; way = course.most shape; asides = 1; actions = 1 }
 
 -- the action of a removal, with a part in each of these pages
 abbrev pub removal_actions : Option (List ℕ) → List Action
