@@ -193,20 +193,20 @@ module _ {S : Type 0} (tells : Bool) (view : S → StoreView) (calls : S → sto
         }
 
   -- what was done before is put before the rest
-  module _ (done : Bool) (t : ℕ) (goes then_goes : List Reading → Option ℕ) (limits then_limits : Limits) (due then_due : List Action) (bad : Option ℕ) (known then_known : List ℕ) (old mid new : StoreView) (first : List Step)
+  module _ (sure : Type 0) (done : Bool) (t : ℕ) (goes then_goes : List Reading → Option ℕ) (limits then_limits : Limits) (due then_due : List Action) (bad : Option ℕ) (known then_known : List ℕ) (old mid new : StoreView) (first : List Step)
       (shape : mid.shape ≡ old.shape) (spends : Spends tells true view calls first old mid) (acted : AreActs t first)
       (fronts : fronts_of first + then_limits.fronts ≤ limits.fronts) (few : length (way_of first) + then_limits.way ≤ limits.way)
       (asides : asides_of first + then_limits.asides ≤ limits.asides) (actions : length (actions_of first) + then_limits.actions ≤ limits.actions)
-      (way : (rs : List Reading) → IsWay then_goes rs → IsWay goes (rs ++ way_of first)) (just : IsTrue tells → actions_of first ++ then_due ≡ due)
+      (way : sure → (rs : List Reading) → IsWay then_goes rs → IsWay goes (rs ++ way_of first)) (just : IsTrue tells → actions_of first ++ then_due ≡ due)
       (taken : IsTrue tells → asides_of first ≤ takes_of (actions_of first)) (met : (page : ℕ) → IsAmong page then_known → IsAmong page known ⊎ IsMet page first) where
-    pub works_behind : WorksFrom then_known tells done view calls t then_goes then_limits then_due bad mid new → WorksFrom known tells done view calls t goes limits due bad old new
+    pub works_behind : WorksFrom then_known sure tells done view calls t then_goes then_limits then_due bad mid new → WorksFrom known sure tells done view calls t goes limits due bad old new
     works_behind works =
         let ss = works.steps in
         record {
           steps = ss ++ first;
           spends = spends_then done first ss old mid new spends works.spends;
           fronts = omega (arith, fronts_two ss first, works.fronts, fronts);
-          way = subst (λ (rs : List Reading). IsWay goes rs) (sym (way_two ss first)) (way (way_of ss) works.way);
+          way = λ is. subst (λ (rs : List Reading). IsWay goes rs) (sym (way_two ss first)) (way is (way_of ss) (works.way is));
           few = omega (arith, ap (λ (rs : List Reading). length rs) (way_two ss first), length-append (way_of ss) (way_of first), works.few, few);
           asides = omega (arith, asides_two ss first, works.asides, asides);
           actions = omega (arith, ap (λ (xs : List Action). length xs) (actions_two ss first), length-append (actions_of first) (actions_of ss), works.actions, actions);
@@ -229,10 +229,10 @@ module _ {S : Type 0} (tells : Bool) (view : S → StoreView) (calls : S → sto
         )
 
   -- these steps, and no other
-  module _ (done : Bool) (t : ℕ) (goes : List Reading → Option ℕ) (limits : Limits) (due left : List Action) (bad : Option ℕ) (known : List ℕ) (old new : StoreView) (steps : List Step) where
+  module _ (sure : Type 0) (done : Bool) (t : ℕ) (goes : List Reading → Option ℕ) (limits : Limits) (due left : List Action) (bad : Option ℕ) (known : List ℕ) (old new : StoreView) (steps : List Step) where
     pub works_of : Spends tells done view calls steps old new → AreActs t steps → fronts_of steps ≤ limits.fronts → length (way_of steps) ≤ limits.way → asides_of steps ≤ limits.asides → length (actions_of steps) ≤ limits.actions
-        → IsWay goes (way_of steps) → IfSome bad (λ page. (page < page_count old.shape) × (IsAmong page known ⊎ IsMet page steps)) → (IsTrue tells → actions_of steps ++ left ≡ due) → (IsTrue tells → IsTrue done → left ≡ [])
-        → (IsTrue tells → asides_of steps ≤ takes_of due + 1) → WorksFrom known tells done view calls t goes limits due bad old new
+        → (sure → IsWay goes (way_of steps)) → IfSome bad (λ page. (page < page_count old.shape) × (IsAmong page known ⊎ IsMet page steps)) → (IsTrue tells → actions_of steps ++ left ≡ due) → (IsTrue tells → IsTrue done → left ≡ [])
+        → (IsTrue tells → asides_of steps ≤ takes_of due + 1) → WorksFrom known sure tells done view calls t goes limits due bad old new
     works_of spends acted fronts few asides actions way blames just all taken = record {
       steps = steps;
       spends = spends;
