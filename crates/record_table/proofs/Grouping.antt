@@ -35,6 +35,7 @@ use Rattle.record_table.proofs.Holding.{as_many_writes}
 use Rattle.record_table.proofs.Sharing.{Laws}
 use Rattle.record_table.proofs.SlotParts.{IsWritten, applied_parts, parts_carry}
 use Rattle.record_table.proofs.States.{logs_same}
+use Rattle.eaw_face.proofs.Mirroring.{none_sent}
 
 parts_append : (index : Index) (d : List ℕ) (ps qs : List Part) → AreSlotParts index d ps → AreSlotParts index d qs → AreSlotParts index d (ps ++ qs)
 parts_append index d [] qs one other = other
@@ -130,6 +131,7 @@ module _ (tells : Bool) (Opens : List ℕ → List ℕ → Type 0) (index : Inde
       let now = λ (told : IsTrue tells). does.done.state told in (
         record {
           shape = does.shape;
+          mirrors = does.mirrors;
           cause = alive;
           faults = λ _. (does.done.alive ∙ sym alive, does.kept);
           dies = λ failed. absurd (false≢true failed);
@@ -158,6 +160,7 @@ module _ (tells : Bool) (Opens : List ℕ → List ℕ → Type 0) (index : Inde
       let alive = does.cause.0 in (
         record {
           shape = does.shape;
+          mirrors = does.mirrors;
           cause = alive;
           faults = λ well. absurd (false≢true (sym well));
           dies = λ _. (does.dies refl, does.cause.2);
@@ -176,6 +179,7 @@ module _ (tells : Bool) (Opens : List ℕ → List ℕ → Type 0) (index : Inde
   group_ends (Err fault.Dead) does same = let e = same fault.Dead refl (λ x. cc) in (
     subst (λ (v : PagesView). CommitsGroup tells Opens index ts old v (let r : Result (Unit {0}) TableFault = Err Dead in r)) (sym e) (record {
       shape = refl;
+      mirrors = none_sent tells old.store old.store refl refl (λ fine. fine) (λ told mirrors fine. refl);
       cause = does.cause;
       faults = λ _. (refl, refl);
       dies = λ failed. absurd (false≢true failed);

@@ -20,6 +20,7 @@ use Rattle.record_table.specs.Shown.{state_of, keys_of}
 use Rattle.record_table.specs.State.{Keys}
 use Rattle.record_table.specs.declared.making.MakeFault.{MakeFault}
 use Rattle.record_table.specs.declared.making.MakeFault.TheVariants.{Exists, TablesFull, PagesFull, Media, Dead, Damaged}
+use Rattle.eaw_face.specs.Mirroring.{Mirrors}
 
 -- a refusal of pages, which is not for want of room for a number's writes or saves
 abbrev pub as_make : PageFault → MakeFault
@@ -98,3 +99,4 @@ pub record Makes (tells : Bool) (Opens : List ℕ → List ℕ → Type 0) (inde
   pub time : IsTrue tells → IsAlive old.store
       → LeavesOnly (λ image. OpensNamed Opens index image (names_of old.store.state.bytes) (state_of index old).table
       ⊎ OpensNamed Opens index image (names_of old.store.state.bytes ++ name ∷ []) (state_of index old).table) old.store new.store
+  pub mirrors : Mirrors tells old.store new.store

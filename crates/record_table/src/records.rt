@@ -1,10 +1,11 @@
 // Records over pages, under an index.
-ghost use Rattle.std.specs.Prelude.{◌≡◌, ◌<◌, ◌≤◌, ℕ, [], Some, None, IfOk, IfErr, IfSome, IfNone, OnOk, OnErr, IsErrOf, IsTrue, if◌then◌else◌, filter, length, slice_get};
+ghost use Rattle.std.specs.Prelude.{◌≡◌, ◌<◌, ◌≤◌, ℕ, [], Some, None, IfOk, IfErr, IfSome, IfNone, OnOk, OnErr, IsErrOf, IsTrue, if◌then◌else◌, filter, length, slice_get, slice_index_or};
 ghost use Rattle.std.specs.FinMap.{entries};
 ghost use Rattle.std.specs.Option.{unwrap_or};
 ghost use Rattle.array_shape.specs.NumberSet.{members};
 ghost use Rattle.eaw_face.specs.Causes.{IsAlive};
 ghost use Rattle.eaw_face.specs.State.{listed};
+ghost use Rattle.eaw_face.specs.Mirroring.{GivesUp};
 ghost use Rattle.page_store.specs.Looks.{Looks};
 ghost use Rattle.page_store.specs.Shown.{counts_in, top_in, pages_of};
 ghost use Rattle.history.specs.Key.{main_name, of_main};
@@ -185,6 +186,28 @@ impl<S: EawStore, K: KeyIndex> Records<S, K> {
         self.pages.is_dead()
     }
 
+    /// The oldest frame that the store below has sent and not yet given up. It is empty if there is none.
+    pub fn first_frame(&self) -> &[u8]
+        ensures { IsTrue (S.view self.now.store).sending.told → result.now ≡ slice_index_or (S.view self.now.store).sending.frames 0 [] }
+    {
+        self.pages.first_frame()
+    }
+
+    /// Gives that frame up. If there is none, it does nothing.
+    pub fn drop_frame(&mut self)
+        ensures gives_up { GivesUp (S.view self.old.store) (S.view self.new.store) }
+        ensures marks { self.new.marks ≡ self.old.marks }
+    {
+        self.pages.drop_frame();
+    }
+
+    /// Whether the sending of frames has ended.
+    pub fn link_down(&self) -> bool
+        ensures { result ≡ (S.view self.now.store).sending.is_down }
+    {
+        self.pages.link_down()
+    }
+
     /// How many saves the number has, at most 32.
     pub fn saves(&self, tid: u8) -> u32
         requires { tid < (S.view self.now.store).shape.numbers }
@@ -223,7 +246,7 @@ impl<S: EawStore, K: KeyIndex> Records<S, K> {
         };
         match K::find(&mut self.pages, MAIN_ROOT, MAIN, key) {
             Ok(Some(slot)) => told(write_as(&mut self.pages, tid, slot, &present)),
-            Ok(None) => match K::insert(&mut self.pages, tid, MAIN_ROOT, MAIN, key) {
+            Ok(None) => match K::insert(&mut self.pages, tid, MAIN_ROOT, MAIN, key, None) {
                 Ok(slot) => told(write_as(&mut self.pages, tid, slot, &present)),
                 Err(fault) => Err(TableFault::from(fault)),
             },
