@@ -13,8 +13,9 @@ use Rattle.page_store.specs.Fits.{FitAll, IsFirstLacking}
 use Rattle.page_store.specs.Index.{Action, IsTable, Grows, Rests, slots_of, index_pages_of}
 use Rattle.page_store.specs.Inserts.{ActionFits, LackPages, LackRoom, MayBecome, Inserts}
 use Rattle.page_store.specs.Looks.{Looks, is_failed}
-use Rattle.page_store.specs.Pairs.{Pair, found}
+use Rattle.page_store.specs.Pairs.{Pair, Rise, found}
 use Rattle.page_store.specs.Shown.{PagesView}
+use Rattle.page_store.specs.Works.{takes_of}
 use Rattle.page_store.specs.declared.fault.PageFault.{PageFault}
 use Rattle.page_store.specs.declared.index_fault.IndexFault.{IndexFault}
 use Rattle.page_store.specs.declared.index_fault.IndexFault.TheVariants as index
@@ -22,6 +23,7 @@ use Rattle.index_pages.specs.Acts.{Acts}
 use Rattle.index_pages.specs.Adding.{TakesPage}
 use Rattle.index_pages.specs.Faults.{as_index}
 use Rattle.index_pages.specs.Fetched.{TestCause, IsFront}
+use Rattle.index_pages.specs.Keys.{key_end}
 use Rattle.index_pages.specs.Page.{page_pairs, count_of, level_of}
 use Rattle.index_pages.proofs.Causing.{look_cause, still_same}
 use Rattle.index_pages.proofs.Going.{Going, going_looks, going_act, alive_now, inserts_refused, inserts_look_err, inserts_act_err}
@@ -37,12 +39,15 @@ use Rattle.btree_pages.specs.Trees.{table_sound, trees_count}
 use Rattle.btree_pages.specs.Writes.{IsRead, growing_pages, growing_parts}
 use Rattle.btree_pages.specs.declared.node.Node.{Node}
 use Rattle.index_pages.proofs.Claims.{entries_long, slots_few}
+use Rattle.btree_pages.proofs.Actions.{half_same}
+use Rattle.btree_pages.proofs.Children.{rises_of}
 use Rattle.btree_pages.proofs.Descending.{down_first, down_node}
+use Rattle.btree_laws.specs.Descent.{child_for}
 use Rattle.btree_pages.proofs.GrowData.{growing_grows, grown_level, grown_half, grown_pairs, grown_says, grown_used, grown_left, grown_dues, grown_slots}
 use Rattle.index_pages.proofs.Left.{DecidesAll, all_left, room_lacks, fits_same, lacks_same}
 use Rattle.index_pages.proofs.Lifting.{joins_same, inserts_then}
 use Rattle.index_pages.proofs.Joining.{named_kept, joins_within}
-use Rattle.btree_pages.proofs.Walking.{root_first, grow_due, growing_takes, growing_stops, growing_lacks, grown_decides}
+use Rattle.btree_pages.proofs.Walking.{root_first, root_split, grow_due, growing_takes, growing_stops, growing_lacks, grown_decides}
 
 module _ (tells : Bool) (E : Shape → List ℕ → List ℕ → Type 0) (t : ℕ) (root : Root) (key : ℕ) (v0 v1 : PagesView) (sound : IsTrue tells → IsAlive v0.store → AreSoundTrees v0.store.state.bytes)
     (named : IsTrue tells → IsAlive v0.store → IsTable v0.store.state.bytes root.table root.page) (fits : key < 2 ^ 64) (looks : Looks tells (E v0.store.shape) false v0 v1) where
@@ -127,6 +132,10 @@ module _ (tells : Bool) (E : Shape → List ℕ → List ℕ → Type 0) (t : �
     takes : (b : List ℕ) → (IsTrue tells → b ≡ v0.store.state.bytes) → IsTrue tells → (growing b root.page).takes ≡ 2
     takes b same told = subst (λ (x : List ℕ). (growing x root.page).takes ≡ 2) (sym (same told)) (growing_takes v0.store t (index_pages_of v0.store.shape) root.page key v0.store.state.bytes (many told) (omega (arith, less, level_is told)))
 
+    -- two pages are taken for it
+    pub takes_two : IsTrue tells → 2 ≤ takes_of (tree_actions v0.store.state.bytes root.page key)
+    takes_two told = omega (arith, ap (λ (l : List Action). takes_of l) (root_split root.page key v0.store.state.bytes (many told)), takes v0.store.state.bytes (λ t'. refl) told)
+
     -- fewer than two pages are left
     pub root_full : (2 ≤ front.free_pages + (half - front.next_page) → ⊥) → (let r : Result ℕ IndexFault = Err (index.PagesFull (half - 1)) in Inserts tells (E v0.store.shape) tree t root.page root.table key v0 v0 r)
     root_full out = (let gone : 2 ≤ front.free_pages + (half - front.next_page) → ⊥ = out in refused
@@ -183,6 +192,16 @@ module _ (tells : Bool) (E : Shape → List ℕ → List ℕ → Type 0) (t : �
 
       enough : IsTrue tells → (growing v2.store.state.bytes root.page).takes ≤ index_pages_of v0.store.shape - used_pages v2.store.state.bytes
       enough told = omega (arith, takes v2.store.state.bytes same2 told, enough2 told)
+
+      grow_is : IsTrue tells → growing v2.store.state.bytes root.page ≡ (let a : Action = record { pages = growing_pages left right root.page; takes = 2 } in a)
+      grow_is told = λ i. record { pages = sym (grow_pages told) i; takes = takes v2.store.state.bytes same2 told i }
+
+      -- the split of the root comes first, and then what is left below it
+      pub root_due : IsTrue tells → tree_actions v0.store.state.bytes root.page key ≡ (let a : Action = record { pages = growing_pages left right root.page; takes = 2 } in a)
+          ∷ actions_below (level_of v2.store.state.bytes root.page) v2.store.state.bytes root.page (half_for (page_pairs v2.store.state.bytes root.page) (page_due v2.store.state.bytes 0) (page_due v2.store.state.bytes 1) key) 2 key
+      root_due told =
+          ap (λ (b : List ℕ). tree_actions b root.page key) (sym (same2 told)) ∙ root_split root.page key v2.store.state.bytes (many2 told)
+          ∙ ap (λ (a : Action). a ∷ actions_below (level_of v2.store.state.bytes root.page) v2.store.state.bytes root.page (half_for (page_pairs v2.store.state.bytes root.page) (page_due v2.store.state.bytes 0) (page_due v2.store.state.bytes 1) key) 2 key) (grow_is told)
 
       grow_start : (v3 : PagesView) (r : Result (Unit {0}) PageFault) → Acts tells (E v2.store.shape) t (growing_pages left right root.page) (growing_parts after left right root.page level pairs) v2 v3 r → Acts tells (E v0.store.shape) t (growing_pages left right root.page) (growing_parts after left right root.page level pairs) v2 v3 r
       grow_start v3 r acts = subst (λ (sh : Shape). Acts tells (E sh) t (growing_pages left right root.page) (growing_parts after left right root.page level pairs) v2 v3 r) looks.shape acts
@@ -264,6 +283,20 @@ module _ (tells : Bool) (E : Shape → List ℕ → List ℕ → Type 0) (t : �
               subst (λ (b : List ℕ). DecidesAll v0.store t (index_pages_of v0.store.shape - used_pages v0.store.state.bytes) (tree_actions v0.store.state.bytes root.page key) (index_pages_of v0.store.shape - used_pages b) (actions_below level b page2 page2 0 key)) (sym (bytes3 told))
               (subst (λ (b : List ℕ). DecidesAll v0.store t (index_pages_of v0.store.shape - used_pages b) (tree_actions b root.page key) (index_pages_of v0.store.shape - used_pages (applied (growing_parts after left right root.page level pairs) v2.store.state.bytes)) (actions_below level (applied (growing_parts after left right root.page level pairs) v2.store.state.bytes) page2 page2 0 key)) (same2 told)
               (grown_decides v0.store t (index_pages_of v0.store.shape) root.page key v2.store.state.bytes (many2 told) (applied (growing_parts after left right root.page level pairs) v2.store.state.bytes) page2 level (level2_is told) less (half_due told) (grow_fits told) (grown_used v0.store.shape v2.store.state.bytes half (long2 told) half_is all few root front mid after left right key level pairs fits (entries_long v2.store.state.bytes front (omega (arith, long2 told, all, two)) (says2 told)) read (sound2 told) (named2 told) (says2 told) (one told) (other told) (level2_is told) (are2 told) full less (enough2 told)) (grown_rest told)))
+
+          -- the half that has the key has the root's child for it
+          pub root_leads : IsTrue tells → child_for pairs2 key ≡ child_for pairs key
+          root_leads told =
+              let tree' = table_sound v0.store.state.bytes root (sound told) (named told) in
+              let rises = rises_of root (level_of v0.store.state.bytes root.page) v0.store.state.bytes root.page 0 key_end tree'.2 in
+              ap (λ (ps : List Pair). child_for ps key) pairs2_are ∙ half_same key rises.0 rises.1 pairs full (subst (λ (ps : List Pair). Rise rises.0 rises.1 ps) (sym (are told)) rises.2)
+
+          pub root_rest : (level2 : ℕ) → level2 ≡ level → IsTrue tells → tree_actions v0.store.state.bytes root.page key ≡ (let a : Action = record { pages = growing_pages left right root.page; takes = 2 } in a) ∷ actions_below level2 v3.store.state.bytes page2 page2 0 key
+          root_rest level2 same told =
+              root_due told
+              ∙ ap (λ (n : ℕ). (let a : Action = record { pages = growing_pages left right root.page; takes = 2 } in a) ∷ actions_below n v2.store.state.bytes root.page (half_for (page_pairs v2.store.state.bytes root.page) (page_due v2.store.state.bytes 0) (page_due v2.store.state.bytes 1) key) 2 key) (level2_is told)
+              ∙ ap (λ (x : ℕ). (let a : Action = record { pages = growing_pages left right root.page; takes = 2 } in a) ∷ actions_below level v2.store.state.bytes root.page x 2 key) (sym (half_due told))
+              ∙ ap (λ (l : List Action). (let a : Action = record { pages = growing_pages left right root.page; takes = 2 } in a) ∷ l) (sym (grown_rest told) ∙ ap (λ (b : List ℕ). actions_below level b page2 page2 0 key) (sym (bytes3 told)) ∙ ap (λ (n : ℕ). actions_below n v3.store.state.bytes page2 page2 0 key) (sym same))
 
           -- what is left of the insertion decides
           pub grown_then : (level2 : ℕ) → level2 ≡ level → (v4 : PagesView) (r : Result ℕ IndexFault) → Inserts tells (E v3.store.shape) (tree_below page2 level2 (after.next_page + level2)) t root.page root.table key v3 v4 r → Inserts tells (E v0.store.shape) tree t root.page root.table key v0 v4 r

@@ -346,3 +346,152 @@ returns-clause-inserts g c =
 pub returns-clause-dead : goal.returns-clause-dead
 returns-clause-dead g c =
     λ told. absurd (c.insert_below.ensures.dead told)
+
+pub returns-then-top-eq-LEVEL_MAX-clause-works : goal.returns-then-top-eq-LEVEL_MAX-clause-works
+returns-then-top-eq-LEVEL_MAX-clause-works g c =
+    let T = g.S.EawStore.tells in
+    let V = g.S.EawStore.view in
+    let E = g.S.EawStore.opens in
+    let t = c.args.tid in
+    let root = c.args.root in
+    let key = c.args.key in
+    let v0 = pages_of (V c.args.pages.now.store) c.args.pages.now in
+    let n = c.index_page_count-count.ensures in
+    let front = c.args.front in
+    let top = c.args.top in
+    let small : c.args.key < 2 ^ 64 = omega arith in
+    let long = λ (told : IsTrue g.S.EawStore.tells). g.met.S.EawStore.long c.args.pages.now.store told in
+    let read = subst (λ (p : ℕ). IsRead (g.S.EawStore.view c.args.pages.now.store).shape p c.args.top.level c.args.top.pairs.items) c.requires.page c.requires.read in
+    works_none T V g.S.EawStore.calls t key root.page top.level top.pairs.items (tree_actions v0.store.state.bytes root.page key) c.args.pages.now.store (index.PagesFull (c.index_page_count-count.result - 1)) refl
+
+pub returns-then-not-are_pages_left-clause-works : goal.returns-then-not-are_pages_left-clause-works
+returns-then-not-are_pages_left-clause-works g c =
+    let T = g.S.EawStore.tells in
+    let V = g.S.EawStore.view in
+    let E = g.S.EawStore.opens in
+    let t = c.args.tid in
+    let root = c.args.root in
+    let key = c.args.key in
+    let v0 = pages_of (V c.args.pages.now.store) c.args.pages.now in
+    let n = c.index_page_count-count.ensures in
+    let front = c.args.front in
+    let top = c.args.top in
+    let small : c.args.key < 2 ^ 64 = omega arith in
+    let long = λ (told : IsTrue g.S.EawStore.tells). g.met.S.EawStore.long c.args.pages.now.store told in
+    let read = subst (λ (p : ℕ). IsRead (g.S.EawStore.view c.args.pages.now.store).shape p c.args.top.level c.args.top.pairs.items) c.requires.page c.requires.read in
+    works_none T V g.S.EawStore.calls t key root.page top.level top.pairs.items (tree_actions v0.store.state.bytes root.page key) c.args.pages.now.store (index.PagesFull (c.index_page_count-count.result - 1)) refl
+
+pub returns-in-Err-clause-works : goal.returns-in-Err-clause-works
+returns-in-Err-clause-works g c =
+    let T = g.S.EawStore.tells in
+    let V = g.S.EawStore.view in
+    let E = g.S.EawStore.opens in
+    let t = c.args.tid in
+    let root = c.args.root in
+    let key = c.args.key in
+    let v0 = pages_of (V c.args.pages.now.store) c.args.pages.now in
+    let n = c.index_page_count-count.ensures in
+    let front = c.args.front in
+    let top = c.args.top in
+    let small : c.args.key < 2 ^ 64 = omega arith in
+    let long = λ (told : IsTrue g.S.EawStore.tells). g.met.S.EawStore.long c.args.pages.now.store told in
+    let read = subst (λ (p : ℕ). IsRead (g.S.EawStore.view c.args.pages.now.store).shape p c.args.top.level c.args.top.pairs.items) c.requires.page c.requires.read in
+    let v1 = pages_of (V c.take_page.new.pages.store) c.take_page.new.pages in
+    subst (λ (f : IndexFault). (let r : Result ℕ IndexFault = Err f in WorksFrom (0 ∷ root.page ∷ []) (IsTrue T) T (is_done r) V g.S.EawStore.calls t (below key top.level top.pairs.items) (limits_above top.level) (tree_actions v0.store.state.bytes root.page key) (blamed_index r) v0.store v1.store)) (sym c.index_fault.ensures)
+    (works_first_err T V g.S.EawStore.calls t key root.page top.level top.pairs.items (tree_actions v0.store.state.bytes root.page key) c.args.pages.now.store Claim c.take_page.new.pages.store c.in-Err.fault c.in-Err.ensures.peeks)
+
+pub returns-in-Err-take_page-clause-works : goal.returns-in-Err-take_page-clause-works
+returns-in-Err-take_page-clause-works g c =
+    let T = g.S.EawStore.tells in
+    let V = g.S.EawStore.view in
+    let E = g.S.EawStore.opens in
+    let t = c.args.tid in
+    let root = c.args.root in
+    let key = c.args.key in
+    let v0 = pages_of (V c.args.pages.now.store) c.args.pages.now in
+    let n = c.index_page_count-count.ensures in
+    let front = c.args.front in
+    let top = c.args.top in
+    let small : c.args.key < 2 ^ 64 = omega arith in
+    let long = λ (told : IsTrue g.S.EawStore.tells). g.met.S.EawStore.long c.args.pages.now.store told in
+    let read = subst (λ (p : ℕ). IsRead (g.S.EawStore.view c.args.pages.now.store).shape p c.args.top.level c.args.top.pairs.items) c.requires.page c.requires.read in
+    let v1 = pages_of (V c.take_page.new.pages.store) c.take_page.new.pages in
+    let left = c.in-Ok.left in
+    let v2 = pages_of (V c.take_page-2.new.pages.store) c.take_page-2.new.pages in
+    subst (λ (f : IndexFault). (let r : Result ℕ IndexFault = Err f in WorksFrom (0 ∷ root.page ∷ []) (IsTrue T) T (is_done r) V g.S.EawStore.calls t (below key top.level top.pairs.items) (limits_above top.level) (tree_actions v0.store.state.bytes root.page key) (blamed_index r) v0.store v2.store)) (sym c.index_fault-in-Err-take_page.ensures)
+    (works_second_err T V g.S.EawStore.calls t key root.page top.level top.pairs.items (tree_actions v0.store.state.bytes root.page key) c.args.pages.now.store Claim c.take_page.new.pages.store left c.in-Ok.ensures.peeks c.in-Ok.ensures.looks.shape (takes_two T E t root key v0 c.index_page_count-count.result n.count n.all n.most n.some small c.requires.sound c.requires.named c.requires.absent long c.requires.alive front c.requires.front c.requires.slot c.requires.says top.level top.pairs.items read c.requires.level c.requires.pairs c.requires.full c.if-top-eq-LEVEL_MAX.false) c.take_page-2.new.pages.store c.in-Err-take_page.fault c.in-Err-take_page.ensures.peeks)
+
+pub returns-in-Err-grow_root-clause-works : goal.returns-in-Err-grow_root-clause-works
+returns-in-Err-grow_root-clause-works g c =
+    let T = g.S.EawStore.tells in
+    let V = g.S.EawStore.view in
+    let E = g.S.EawStore.opens in
+    let t = c.args.tid in
+    let root = c.args.root in
+    let key = c.args.key in
+    let v0 = pages_of (V c.args.pages.now.store) c.args.pages.now in
+    let n = c.index_page_count-count.ensures in
+    let front = c.args.front in
+    let top = c.args.top in
+    let small : c.args.key < 2 ^ 64 = omega arith in
+    let long = λ (told : IsTrue g.S.EawStore.tells). g.met.S.EawStore.long c.args.pages.now.store told in
+    let read = subst (λ (p : ℕ). IsRead (g.S.EawStore.view c.args.pages.now.store).shape p c.args.top.level c.args.top.pairs.items) c.requires.page c.requires.read in
+    let v1 = pages_of (V c.take_page.new.pages.store) c.take_page.new.pages in
+    let left = c.in-Ok.left in
+    let v2 = pages_of (V c.take_page-2.new.pages.store) c.take_page-2.new.pages in
+    let right = c.in-Ok-take_page.right in
+    let looks = looks_next T E false v0 v1 v2 c.in-Ok.ensures.looks c.in-Ok-take_page.ensures.looks in
+    let one = λ (told : IsTrue g.S.EawStore.tells). subst (λ (st : State). TakesPage st.bytes c.args.front c.in-Ok.left.number c.in-Ok.left.front) (sym ((c.in-Ok.ensures.looks.still refl).state told) ∙ sym ((c.in-Ok-take_page.ensures.looks.still refl).state told)) (c.in-Ok.ensures.takes told) in
+    let other = λ (told : IsTrue g.S.EawStore.tells). subst (λ (st : State). TakesPage st.bytes c.in-Ok.left.front c.in-Ok-take_page.right.number c.in-Ok-take_page.right.front) (sym ((c.in-Ok-take_page.ensures.looks.still refl).state told)) (c.in-Ok-take_page.ensures.takes told) in
+    let v3 = pages_of (V c.grow_root.new.pages.store) c.grow_root.new.pages in
+    let acts = λ (r : Result (Unit {0}) PageFault) (a : Acts g.S.EawStore.tells (g.S.EawStore.opens (g.S.EawStore.view c.take_page-2.new.pages.store).shape) c.args.tid (growing_pages c.in-Ok.left.number c.in-Ok-take_page.right.number c.args.top.page) (growing_parts c.in-Ok-take_page.right.front c.in-Ok.left.number c.in-Ok-take_page.right.number c.args.top.page c.args.top.level c.args.top.pairs.items)
+    (pages_of (g.S.EawStore.view c.take_page-2.new.pages.store) c.take_page-2.new.pages) (pages_of (g.S.EawStore.view c.grow_root.new.pages.store) c.grow_root.new.pages) r).
+    subst (λ (p : ℕ). Acts g.S.EawStore.tells (g.S.EawStore.opens (g.S.EawStore.view c.take_page-2.new.pages.store).shape) c.args.tid (growing_pages c.in-Ok.left.number c.in-Ok-take_page.right.number p) (growing_parts c.in-Ok-take_page.right.front c.in-Ok.left.number c.in-Ok-take_page.right.number p c.args.top.level c.args.top.pairs.items)
+    (pages_of (g.S.EawStore.view c.take_page-2.new.pages.store) c.take_page-2.new.pages) (pages_of (g.S.EawStore.view c.grow_root.new.pages.store) c.grow_root.new.pages) r) c.requires.page a in
+    let runs = λ (r : Result (Unit {0}) PageFault) (a : Runs T V g.S.EawStore.calls (acting_of c.args.tid (log_len (V c.take_page-2.new.pages.store) c.args.tid) (growing_parts c.in-Ok-take_page.right.front c.in-Ok.left.number c.in-Ok-take_page.right.number c.args.top.page c.args.top.level c.args.top.pairs.items)) (V c.take_page-2.new.pages.store) (V c.grow_root.new.pages.store) r).
+    subst (λ (p : ℕ). Runs T V g.S.EawStore.calls (acting_of c.args.tid (log_len (V c.take_page-2.new.pages.store) c.args.tid) (growing_parts c.in-Ok-take_page.right.front c.in-Ok.left.number c.in-Ok-take_page.right.number p c.args.top.level c.args.top.pairs.items)) (V c.take_page-2.new.pages.store) (V c.grow_root.new.pages.store) r) c.requires.page a in
+    subst (λ (f : IndexFault). (let r : Result ℕ IndexFault = Err f in WorksFrom (0 ∷ root.page ∷ []) (IsTrue T) T (is_done r) V g.S.EawStore.calls t (below key top.level top.pairs.items) (limits_above top.level) (tree_actions v0.store.state.bytes root.page key) (blamed_index r) v0.store v3.store)) (sym c.index_fault-in-Err-grow_root.ensures)
+    (works_grow_err T V g.S.EawStore.calls t key root.page top.level top.pairs.items (tree_actions v0.store.state.bytes root.page key) c.args.pages.now.store Claim c.take_page.new.pages.store left c.in-Ok.ensures.peeks c.in-Ok.ensures.looks.shape (takes_two T E t root key v0 c.index_page_count-count.result n.count n.all n.most n.some small c.requires.sound c.requires.named c.requires.absent long c.requires.alive front c.requires.front c.requires.slot c.requires.says top.level top.pairs.items read c.requires.level c.requires.pairs c.requires.full c.if-top-eq-LEVEL_MAX.false) c.grow_root.new.pages.store c.take_page-2.new.pages right c.in-Ok-take_page.ensures.peeks (record { pages = growing_pages left.number right.number root.page; takes = 2 })
+    (acting_of t (log_len v2.store t) (growing_parts right.front left.number right.number root.page top.level top.pairs.items))
+    (log_len v2.store t, growing_parts right.front left.number right.number root.page top.level top.pairs.items, refl, growing_in right.front left.number right.number root.page top.level top.pairs.items) refl c.in-Err-grow_root.fault (runs (Err c.in-Err-grow_root.fault) c.in-Err-grow_root.ensures.runs)
+    (act_blames v2.store t (growing_pages left.number right.number top.page) c.in-Err-grow_root.fault c.in-Err-grow_root.ensures.acts.cause)
+    (actions_below (level_of v2.store.state.bytes root.page) v2.store.state.bytes root.page (half_for (page_pairs v2.store.state.bytes root.page) (page_due v2.store.state.bytes 0) (page_due v2.store.state.bytes 1) key) 2 key)
+    (root_due T E t root key v0 c.index_page_count-count.result n.count n.all n.most n.some small c.requires.sound c.requires.named c.requires.absent long c.requires.alive front c.requires.front c.requires.slot c.requires.says top.level top.pairs.items read c.requires.level c.requires.pairs c.requires.full c.if-top-eq-LEVEL_MAX.false (c.if-not-are_pages_left.ensures.0 refl) v2 looks left.number right.number left.front right.front one other))
+
+pub returns-clause-works : goal.returns-clause-works
+returns-clause-works g c =
+    let T = g.S.EawStore.tells in
+    let V = g.S.EawStore.view in
+    let E = g.S.EawStore.opens in
+    let t = c.args.tid in
+    let root = c.args.root in
+    let key = c.args.key in
+    let v0 = pages_of (V c.args.pages.now.store) c.args.pages.now in
+    let n = c.index_page_count-count.ensures in
+    let front = c.args.front in
+    let top = c.args.top in
+    let small : c.args.key < 2 ^ 64 = omega arith in
+    let long = λ (told : IsTrue g.S.EawStore.tells). g.met.S.EawStore.long c.args.pages.now.store told in
+    let read = subst (λ (p : ℕ). IsRead (g.S.EawStore.view c.args.pages.now.store).shape p c.args.top.level c.args.top.pairs.items) c.requires.page c.requires.read in
+    let v1 = pages_of (V c.take_page.new.pages.store) c.take_page.new.pages in
+    let left = c.in-Ok.left in
+    let v2 = pages_of (V c.take_page-2.new.pages.store) c.take_page-2.new.pages in
+    let right = c.in-Ok-take_page.right in
+    let looks = looks_next T E false v0 v1 v2 c.in-Ok.ensures.looks c.in-Ok-take_page.ensures.looks in
+    let one = λ (told : IsTrue g.S.EawStore.tells). subst (λ (st : State). TakesPage st.bytes c.args.front c.in-Ok.left.number c.in-Ok.left.front) (sym ((c.in-Ok.ensures.looks.still refl).state told) ∙ sym ((c.in-Ok-take_page.ensures.looks.still refl).state told)) (c.in-Ok.ensures.takes told) in
+    let other = λ (told : IsTrue g.S.EawStore.tells). subst (λ (st : State). TakesPage st.bytes c.in-Ok.left.front c.in-Ok-take_page.right.number c.in-Ok-take_page.right.front) (sym ((c.in-Ok-take_page.ensures.looks.still refl).state told)) (c.in-Ok-take_page.ensures.takes told) in
+    let v3 = pages_of (V c.grow_root.new.pages.store) c.grow_root.new.pages in
+    let acts = λ (r : Result (Unit {0}) PageFault) (a : Acts g.S.EawStore.tells (g.S.EawStore.opens (g.S.EawStore.view c.take_page-2.new.pages.store).shape) c.args.tid (growing_pages c.in-Ok.left.number c.in-Ok-take_page.right.number c.args.top.page) (growing_parts c.in-Ok-take_page.right.front c.in-Ok.left.number c.in-Ok-take_page.right.number c.args.top.page c.args.top.level c.args.top.pairs.items)
+    (pages_of (g.S.EawStore.view c.take_page-2.new.pages.store) c.take_page-2.new.pages) (pages_of (g.S.EawStore.view c.grow_root.new.pages.store) c.grow_root.new.pages) r).
+    subst (λ (p : ℕ). Acts g.S.EawStore.tells (g.S.EawStore.opens (g.S.EawStore.view c.take_page-2.new.pages.store).shape) c.args.tid (growing_pages c.in-Ok.left.number c.in-Ok-take_page.right.number p) (growing_parts c.in-Ok-take_page.right.front c.in-Ok.left.number c.in-Ok-take_page.right.number p c.args.top.level c.args.top.pairs.items)
+    (pages_of (g.S.EawStore.view c.take_page-2.new.pages.store) c.take_page-2.new.pages) (pages_of (g.S.EawStore.view c.grow_root.new.pages.store) c.grow_root.new.pages) r) c.requires.page a in
+    let half = c.half_of-half in
+    let v4 = pages_of (V c.insert_below.new.pages.store) c.insert_below.new.pages in
+    let runs = λ (r : Result (Unit {0}) PageFault) (a : Runs T V g.S.EawStore.calls (acting_of c.args.tid (log_len (V c.take_page-2.new.pages.store) c.args.tid) (growing_parts c.in-Ok-take_page.right.front c.in-Ok.left.number c.in-Ok-take_page.right.number c.args.top.page c.args.top.level c.args.top.pairs.items)) (V c.take_page-2.new.pages.store) (V c.grow_root.new.pages.store) r).
+    subst (λ (p : ℕ). Runs T V g.S.EawStore.calls (acting_of c.args.tid (log_len (V c.take_page-2.new.pages.store) c.args.tid) (growing_parts c.in-Ok-take_page.right.front c.in-Ok.left.number c.in-Ok-take_page.right.number p c.args.top.level c.args.top.pairs.items)) (V c.take_page-2.new.pages.store) (V c.grow_root.new.pages.store) r) c.requires.page a in
+    works_grown T V g.S.EawStore.calls t key root.page top.level top.pairs.items (tree_actions v0.store.state.bytes root.page key) c.args.pages.now.store Claim c.take_page.new.pages.store left c.in-Ok.ensures.peeks c.in-Ok.ensures.looks.shape (takes_two T E t root key v0 c.index_page_count-count.result n.count n.all n.most n.some small c.requires.sound c.requires.named c.requires.absent long c.requires.alive front c.requires.front c.requires.slot c.requires.says top.level top.pairs.items read c.requires.level c.requires.pairs c.requires.full c.if-top-eq-LEVEL_MAX.false) c.grow_root.new.pages.store c.take_page-2.new.pages right c.in-Ok-take_page.ensures.peeks (record { pages = growing_pages left.number right.number root.page; takes = 2 })
+    (acting_of t (log_len v2.store t) (growing_parts right.front left.number right.number root.page top.level top.pairs.items))
+    (log_len v2.store t, growing_parts right.front left.number right.number root.page top.level top.pairs.items, refl, growing_in right.front left.number right.number root.page top.level top.pairs.items) refl (runs (Ok tt) c.in-Ok-grow_root.ensures.runs) (c.in-Ok-grow_root.ensures.acts.shape ∙ looks.shape) half.result.page half.result.level half.result.pairs.items
+    (actions_below half.result.level v3.store.state.bytes half.result.page half.result.page 0 key) half.ensures.level
+    (root_leads T E t root key v0 c.index_page_count-count.result n.count n.all n.most n.some small c.requires.sound c.requires.named c.requires.absent long c.requires.alive front c.requires.front c.requires.slot c.requires.says top.level top.pairs.items read c.requires.level c.requires.pairs c.requires.full c.if-top-eq-LEVEL_MAX.false (c.if-not-are_pages_left.ensures.0 refl) v2 looks left.number right.number left.front right.front one other v3 (acts (Ok tt) c.in-Ok-grow_root.ensures.acts) half.result.page half.result.pairs.items half.ensures.page half.ensures.pairs) (root_half_among left.number right.number root.page key half.result.page top.pairs.items half.ensures.page)
+    (root_rest T E t root key v0 c.index_page_count-count.result n.count n.all n.most n.some small c.requires.sound c.requires.named c.requires.absent long c.requires.alive front c.requires.front c.requires.slot c.requires.says top.level top.pairs.items read c.requires.level c.requires.pairs c.requires.full c.if-top-eq-LEVEL_MAX.false (c.if-not-are_pages_left.ensures.0 refl) v2 looks left.number right.number left.front right.front one other v3 (acts (Ok tt) c.in-Ok-grow_root.ensures.acts) half.result.page half.result.pairs.items half.ensures.page half.ensures.pairs half.result.level half.ensures.level) c.insert_below.new.pages.store c.insert_below.result c.insert_below.ensures.works
