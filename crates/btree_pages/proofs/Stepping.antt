@@ -1,5 +1,5 @@
 -- The steps of an insertion from a page on its way to the leaf.
-use Rattle.std.proofs.Common.{◌≡◌, ◌≢◌, ℕ, suc, ◌+◌, ◌<◌, ◌≤◌, ◌⊎◌, inl, inr, Bool, true, false, nat_eq, List, [], ◌∷◌, ◌++◌, append_assoc, length, Option, Some, None, Result, Ok, Err, refl, sym, ◌∙◌, ap, subst, arith}
+use Rattle.std.proofs.Common.{◌≡◌, ◌≢◌, ℕ, zero, suc, ◌+◌, ◌<◌, ◌≤◌, ◌⊎◌, inl, inr, Bool, true, false, nat_eq, List, [], ◌∷◌, ◌++◌, append_assoc, length, Option, Some, None, Result, Ok, Err, refl, sym, ◌∙◌, ap, subst, arith}
 use Rattle.std.specs.Prelude.{IsTrue, IfSome, IfOk, if◌then◌else◌}
 use Rattle.std.proofs.lemmas.Bool.{false≢true}
 use Rattle.std.proofs.lemmas.Bool.Decides.{eqb_tells}
@@ -27,7 +27,7 @@ use Rattle.index_pages.specs.Peeks.{Peeks}
 use Rattle.index_pages.proofs.Working.{spends_none, spends_ill, spends_then, spends_onward, spends_act, asides_plain, onwards, asides_two, actions_two, acts_two, fronts_two, way_two, takes_two, met_later, met_first, works_of, blamed_same}
 use Rattle.btree_laws.specs.Descent.{child_for}
 use Rattle.btree_pages.specs.Downward.{below, is_leaf}
-use Rattle.btree_pages.specs.Steps.{ReadsNamed, SaysPage, IsOnly, limits_below}
+use Rattle.btree_pages.specs.Steps.{ReadsNamed, SaysPage, IsOnly, known_from, limits_below}
 use Rattle.btree_pages.specs.declared.node.Node.{Node}
 
 -- the page that comes next behind one that said this
@@ -44,6 +44,19 @@ leads_first key level0 pairs0 inner = elim (eqb_tells level0 0) [
   | inr e ↦ let b : nat_eq level0 0 ≡ false = e.0 in rw b refl
 ]
 
+pub zero_known : (level page : ℕ) → IsAmong 0 (known_from level page)
+zero_known zero page = inl refl
+zero_known (suc level) page = inl refl
+
+pub page_known : (level page : ℕ) → level ≢ 0 → IsAmong page (known_from level page)
+page_known zero page inner = absurd (inner refl)
+page_known (suc level) page inner = inr (inl refl)
+
+-- which are at most these two
+pub known_two : (level page p : ℕ) → IsAmong p (known_from level page) → (p ≡ 0) ⊎ (p ≡ page)
+known_two zero page p known = elim known [ inl super ↦ inl super | inr none ↦ absurd none ]
+known_two (suc level) page p known = elim known [ inl super ↦ inl super | inr later ↦ elim later [ inl here ↦ inr here | inr none ↦ absurd none ] ]
+
 module _ {S : Type 0} (tells : Bool) (view : S → StoreView) (calls : S → store.Command → ℕ) (t key page0 level0 : ℕ) (pairs0 : List Pair) (due : List Action) (old : S) where
   -- These steps led to a page; what is left of the actions is told, and so many more reads aside and actions may be made than were.
   pub record Stepped (spare : ℕ) (now : S) (page level : ℕ) (pairs : List Pair) (left : List Action) : Type 0 where
@@ -58,7 +71,7 @@ module _ {S : Type 0} (tells : Bool) (view : S → StoreView) (calls : S → sto
     pub asides : asides_of steps + spare ≤ length (way_of steps)
     pub actions : length (actions_of steps) + spare ≤ length (way_of steps)
     pub acted : AreActs t steps
-    pub met : IsAmong page (0 ∷ page0 ∷ []) ⊎ IsMet page steps
+    pub met : level ≢ 0 → IsAmong page (known_from level0 page0) ⊎ IsMet page steps
     pub just : IsTrue tells → actions_of steps ++ left ≡ due
     pub taken : IsTrue tells → asides_of steps ≤ takes_of (actions_of steps)
 
@@ -76,7 +89,7 @@ module _ {S : Type 0} (tells : Bool) (view : S → StoreView) (calls : S → sto
     asides = omega arith;
     actions = omega arith;
     acted = tt;
-    met = inl (inr (inl refl));
+    met = λ inner. inl (page_known level0 page0 inner);
     just = λ told. refl;
     taken = λ told. omega arith;
   }
@@ -102,7 +115,7 @@ module _ {S : Type 0} (tells : Bool) (view : S → StoreView) (calls : S → sto
           asides = omega (arith, s.asides);
           actions = omega (arith, s.actions);
           acted = s.acted;
-          met = inr (inl page_is);
+          met = λ deeper. inr (inl page_is);
           just = s.just;
           taken = s.taken;
         }
@@ -110,11 +123,11 @@ module _ {S : Type 0} (tells : Bool) (view : S → StoreView) (calls : S → sto
   -- the steps that are left end the insertion
   module _ (spare : ℕ) (now next : S) (page level : ℕ) (pairs : List Pair) (left : List Action) (s : Stepped spare now page level pairs left) where
     works_end : (done : Bool) (bad : Option ℕ) (more : List Step) → Spends tells done view calls more (view now) (view next) → fronts_of more ≡ 0 → (IsTrue tells → IsWay (below key level0 pairs0) (way_of more ++ way_of s.steps)) → length (way_of more) ≤ level
-        → asides_of more ≤ 1 + spare → length (actions_of more) ≤ 1 + spare → AreActs t more → IfSome bad (λ p. (p < page_count (view old).shape) × ((p ≡ 0) ⊎ (p ≡ page) ⊎ IsMet p more))
+        → asides_of more ≤ 1 + spare → length (actions_of more) ≤ 1 + spare → AreActs t more → IfSome bad (λ p. (p < page_count (view old).shape) × ((p ≡ 0) ⊎ ((level ≢ 0) × (p ≡ page)) ⊎ IsMet p more))
         → (rest : List Action) → (IsTrue tells → actions_of more ++ rest ≡ left) → (IsTrue tells → IsTrue done → rest ≡ []) → (IsTrue tells → asides_of more ≤ takes_of left + 1)
-        → WorksFrom (0 ∷ page0 ∷ []) (IsTrue tells) tells done view calls t (below key level0 pairs0) (limits_below level0) due bad (view old) (view next)
+        → WorksFrom (known_from level0 page0) (IsTrue tells) tells done view calls t (below key level0 pairs0) (limits_below level0) due bad (view old) (view next)
     works_end done bad more spends fronts way few asides actions acted blames rest just all taken =
-        works_of tells view calls (IsTrue tells) done t (below key level0 pairs0) (limits_below level0) due rest bad (0 ∷ page0 ∷ []) (view old) (view next) (more ++ s.steps)
+        works_of tells view calls (IsTrue tells) done t (below key level0 pairs0) (limits_below level0) due rest bad (known_from level0 page0) (view old) (view next) (more ++ s.steps)
         (spends_then tells view calls done s.steps more (view old) (view now) (view next) s.spends spends)
         (acts_two t more s.steps acted s.acted)
         (omega (arith, fronts_two more s.steps, fronts, s.fronts))
@@ -127,16 +140,16 @@ module _ {S : Type 0} (tells : Bool) (view : S → StoreView) (calls : S → sto
         all
         (λ told. omega (arith, asides_two more s.steps, taken told, s.taken told, takes_two (actions_of s.steps) left, ap (λ (xs : List Action). takes_of xs) (s.just told)))
       where
-        blames_of : (bad : Option ℕ) → IfSome bad (λ p. (p < page_count (view old).shape) × ((p ≡ 0) ⊎ (p ≡ page) ⊎ IsMet p more)) → IfSome bad (λ p. (p < page_count (view old).shape) × (IsAmong p (0 ∷ page0 ∷ []) ⊎ IsMet p (more ++ s.steps)))
+        blames_of : (bad : Option ℕ) → IfSome bad (λ p. (p < page_count (view old).shape) × ((p ≡ 0) ⊎ ((level ≢ 0) × (p ≡ page)) ⊎ IsMet p more)) → IfSome bad (λ p. (p < page_count (view old).shape) × (IsAmong p (known_from level0 page0) ⊎ IsMet p (more ++ s.steps)))
         blames_of None blames = tt
         blames_of (Some p) blames = (
           blames.0,
           elim blames.1 [
-            | inl front ↦ inl (inl front)
+            | inl super ↦ inl (subst (λ (q : ℕ). IsAmong q (known_from level0 page0)) (sym super) (zero_known level0 page0))
             | inr later ↦ elim later [
-                | inl here ↦ elim s.met [
-                    | inl known ↦ inl (subst (λ (q : ℕ). IsAmong q (0 ∷ page0 ∷ [])) (sym here) known)
-                    | inr met ↦ inr (met_first p more s.steps (subst (λ (q : ℕ). IsMet q s.steps) (sym here) met))
+                | inl here ↦ elim (s.met here.0) [
+                    | inl known ↦ inl (subst (λ (q : ℕ). IsAmong q (known_from level0 page0)) (sym here.1) known)
+                    | inr met ↦ inr (met_first p more s.steps (subst (λ (q : ℕ). IsMet q s.steps) (sym here.1) met))
                   ]
                 | inr met ↦ inr (met_later p more s.steps met)
               ]
@@ -145,27 +158,27 @@ module _ {S : Type 0} (tells : Bool) (view : S → StoreView) (calls : S → sto
 
     -- it ends here, without another step
     pub works_stop : (fault : IndexFault) → (let r : Result ℕ IndexFault = Err fault in blamed_index r ≡ None) → (view next).moment ≡ (view now).moment
-        → (let r : Result ℕ IndexFault = Err fault in WorksFrom (0 ∷ page0 ∷ []) (IsTrue tells) tells (is_done r) view calls t (below key level0 pairs0) (limits_below level0) due (blamed_index r) (view old) (view next))
+        → (let r : Result ℕ IndexFault = Err fault in WorksFrom (known_from level0 page0) (IsTrue tells) tells (is_done r) view calls t (below key level0 pairs0) (limits_below level0) due (blamed_index r) (view old) (view next))
     works_stop fault none same =
         let r : Result ℕ IndexFault = Err fault in
         works_end false (blamed_index r) [] (spends_none tells view calls false (view now) (view next) same) refl s.way (omega arith) (omega arith) (omega arith) tt
-        (subst (λ (bad : Option ℕ). IfSome bad (λ p. (p < page_count (view old).shape) × ((p ≡ 0) ⊎ (p ≡ page) ⊎ IsMet p []))) (sym none) tt) left (λ told. refl) (λ told is. absurd (false≢true is)) (λ told. omega arith)
+        (subst (λ (bad : Option ℕ). IfSome bad (λ p. (p < page_count (view old).shape) × ((p ≡ 0) ⊎ ((level ≢ 0) × (p ≡ page)) ⊎ IsMet p []))) (sym none) tt) left (λ told. refl) (λ told is. absurd (false≢true is)) (λ told. omega arith)
 
     -- a slot or a page could not be taken
     pub works_peek_err : (T : Type 0) (fault : PageFault) → (let r : Result T PageFault = Err fault in Peeks tells view calls (view now) (view next) r)
-        → (let r : Result ℕ IndexFault = Err (as_index fault) in WorksFrom (0 ∷ page0 ∷ []) (IsTrue tells) tells (is_done r) view calls t (below key level0 pairs0) (limits_below level0) due (blamed_index r) (view old) (view next))
+        → (let r : Result ℕ IndexFault = Err (as_index fault) in WorksFrom (known_from level0 page0) (IsTrue tells) tells (is_done r) view calls t (below key level0 pairs0) (limits_below level0) due (blamed_index r) (view old) (view next))
     works_peek_err T fault peeks =
         let r : Result ℕ IndexFault = Err (as_index fault) in
         let q : Result T PageFault = Err fault in
         let plain = asides_plain t peeks.steps peeks.only in
         works_end false (blamed_index r) peeks.steps peeks.spends plain.0 (λ told. subst (λ (rs : List Reading). IsWay (below key level0 pairs0) (rs ++ way_of s.steps)) (sym plain.1) (s.way told))
         (omega (arith, ap (λ (rs : List Reading). length rs) plain.1)) (omega (arith, plain.4, peeks.few)) (omega (arith, ap (λ (xs : List Action). length xs) plain.2)) plain.3
-        (subst (λ (bad : Option ℕ). IfSome bad (λ p. (p < page_count (view old).shape) × ((p ≡ 0) ⊎ (p ≡ page) ⊎ IsMet p peeks.steps))) (sym (blamed_same ℕ T fault)) (blames_of (blamed q) peeks.blames))
+        (subst (λ (bad : Option ℕ). IfSome bad (λ p. (p < page_count (view old).shape) × ((p ≡ 0) ⊎ ((level ≢ 0) × (p ≡ page)) ⊎ IsMet p peeks.steps))) (sym (blamed_same ℕ T fault)) (blames_of (blamed q) peeks.blames))
         left (λ told. ap (λ (xs : List Action). xs ++ left) plain.2) (λ told is. absurd (false≢true is)) (λ told. omega (arith, plain.4, peeks.few))
       where
-        blames_of : (bad : Option ℕ) → IfSome bad (λ p. (p < page_count (view now).shape) × ((p ≡ 0) ⊎ IsMet p peeks.steps)) → IfSome bad (λ p. (p < page_count (view old).shape) × ((p ≡ 0) ⊎ (p ≡ page) ⊎ IsMet p peeks.steps))
+        blames_of : (bad : Option ℕ) → IfSome bad (λ p. (p < page_count (view now).shape) × ((p ≡ 0) ⊎ IsMet p peeks.steps)) → IfSome bad (λ p. (p < page_count (view old).shape) × ((p ≡ 0) ⊎ ((level ≢ 0) × (p ≡ page)) ⊎ IsMet p peeks.steps))
         blames_of None blames = tt
-        blames_of (Some p) blames = (subst (λ (sh : Shape). p < page_count sh) s.shape blames.0, elim blames.1 [ inl front ↦ inl front | inr met ↦ inr (inr met) ])
+        blames_of (Some p) blames = (subst (λ (sh : Shape). p < page_count sh) s.shape blames.0, elim blames.1 [ inl super ↦ inl super | inr met ↦ inr (inr met) ])
 
     -- the action that is due is made, or refused
     module _ (T : Type 0) (mid : S) (at : Shown S) (at_is : at.store ≡ mid) (claim : T) (peeks : (let r : Result T PageFault = Ok claim in Peeks tells view calls (view now) (view mid) r)) (action : Action) (commands : List PageCommand) (by : ActsBy t action commands)
@@ -174,7 +187,7 @@ module _ {S : Type 0} (tells : Bool) (view : S → StoreView) (calls : S → sto
       act_steps = acts action commands ∷ peeks.steps
 
       pub works_act : (result : Result ℕ IndexFault) (done : Result (Unit {0}) PageFault) → (is_done result ≡ is_done done) → blamed_index result ≡ None → (IsTrue tells → IsTrue (is_done done) → last ≡ []) → Runs tells view calls commands (view mid) (view next) done
-          → WorksFrom (0 ∷ page0 ∷ []) (IsTrue tells) tells (is_done result) view calls t (below key level0 pairs0) (limits_below level0) due (blamed_index result) (view old) (view next)
+          → WorksFrom (known_from level0 page0) (IsTrue tells) tells (is_done result) view calls t (below key level0 pairs0) (limits_below level0) due (blamed_index result) (view old) (view next)
       unfolding act_steps
       works_act result done same none over runs =
           let plain = asides_plain t peeks.steps peeks.only in
@@ -184,13 +197,13 @@ module _ {S : Type 0} (tells : Bool) (view : S → StoreView) (calls : S → sto
           (spends_then tells view calls (is_done done) peeks.steps (acts action commands ∷ []) (view now) (view mid) (view next) peeks.spends (spends_act tells view calls at action commands (view mid) (view next) done runs)))
           plain.0 (λ told. subst (λ (rs : List Reading). IsWay (below key level0 pairs0) (rs ++ way_of s.steps)) (sym plain.1) (s.way told))
           (omega (arith, ap (λ (rs : List Reading). length rs) plain.1)) (omega (arith, plain.4, peeks.few)) (omega (arith, ap (λ (xs : List Action). length xs) both)) (by, plain.3)
-          (subst (λ (bad : Option ℕ). IfSome bad (λ p. (p < page_count (view old).shape) × ((p ≡ 0) ⊎ (p ≡ page) ⊎ IsMet p act_steps))) (sym none) tt)
+          (subst (λ (bad : Option ℕ). IfSome bad (λ p. (p < page_count (view old).shape) × ((p ≡ 0) ⊎ ((level ≢ 0) × (p ≡ page)) ⊎ IsMet p act_steps))) (sym none) tt)
           last (λ told. ap (λ (xs : List Action). xs ++ last) both ∙ sym (is told)) (λ told yes. over told (subst (λ (b : Bool). IsTrue b) same yes)) (λ told. omega (arith, plain.4, peeks.few))
 
   -- a child could not be read, or is damaged
   module _ (now next : S) (page level : ℕ) (pairs : List Pair) (left : List Action) (s : Stepped 0 now page level pairs left) where
     pub works_read_err : (fault : PageFault) → (let r : Result Node PageFault = Err fault in ReadsNamed tells (calls now) (calls next) page (child_for pairs key) (view now) (view next) r) → level ≢ 0
-        → (let r : Result ℕ IndexFault = Err (as_index fault) in WorksFrom (0 ∷ page0 ∷ []) (IsTrue tells) tells (is_done r) view calls t (below key level0 pairs0) (limits_below level0) due (blamed_index r) (view old) (view next))
+        → (let r : Result ℕ IndexFault = Err (as_index fault) in WorksFrom (known_from level0 page0) (IsTrue tells) tells (is_done r) view calls t (below key level0 pairs0) (limits_below level0) due (blamed_index r) (view old) (view next))
     works_read_err fault reads inner = (let q : Result Node PageFault = Err fault in err_of reads.read reads.reads reads.only (blamed q) (blamed_same ℕ Node fault) reads.blames)
       where
         none_on : (read : List Reading) → IsOnly (child_for pairs key) read → fronts_of (onwards read) ≡ 0 × asides_of (onwards read) ≡ 0 × actions_of (onwards read) ≡ [] × AreActs t (onwards read) × (length (way_of (onwards read)) ≤ level)
@@ -203,17 +216,17 @@ module _ {S : Type 0} (tells : Bool) (view : S → StoreView) (calls : S → sto
         way_on (r ∷ []) only told = (s.leads told inner ∙ ap (λ (p : ℕ). Some p) (sym only), s.way told)
         way_on (r ∷ q ∷ rs) only told = absurd only
 
-        there_on : (read : List Reading) (bad : Option ℕ) → AreThere (page_count (view now).shape) read → IfSome bad (λ p. (p ≡ page) ⊎ IsLast read p) → IfSome bad (λ p. (p < page_count (view old).shape) × ((p ≡ 0) ⊎ (p ≡ page) ⊎ IsMet p (onwards read)))
+        there_on : (read : List Reading) (bad : Option ℕ) → AreThere (page_count (view now).shape) read → IfSome bad (λ p. (p ≡ page) ⊎ IsLast read p) → IfSome bad (λ p. (p < page_count (view old).shape) × ((p ≡ 0) ⊎ ((level ≢ 0) × (p ≡ page)) ⊎ IsMet p (onwards read)))
         there_on read None there blames = tt
-        there_on [] (Some p) there blames = elim blames [ inl here ↦ (subst (λ (q : ℕ). q < page_count (view old).shape) (sym here) s.there, inr (inl here)) | inr last ↦ absurd last ]
+        there_on [] (Some p) there blames = elim blames [ inl here ↦ (subst (λ (q : ℕ). q < page_count (view old).shape) (sym here) s.there, inr (inl (inner, here))) | inr last ↦ absurd last ]
         there_on (r ∷ rs) (Some p) there blames = elim blames [
-          | inl here ↦ (subst (λ (q : ℕ). q < page_count (view old).shape) (sym here) s.there, inr (inl here))
+          | inl here ↦ (subst (λ (q : ℕ). q < page_count (view old).shape) (sym here) s.there, inr (inl (inner, here)))
           | inr last ↦ (subst (λ (sh : Shape). p < page_count sh) s.shape (subst (λ (q : ℕ). q < page_count (view now).shape) last there.0), inr (inr (inl (sym last))))
         ]
 
         err_of : (read : List Reading) → (let r : Result Node PageFault = Err fault in HasRead tells (is_failed r) (calls now) (calls next) (view now) (view next) read) → IsOnly (child_for pairs key) read
             → (bad : Option ℕ) → (let r : Result ℕ IndexFault = Err (as_index fault) in blamed_index r ≡ bad) → IfSome bad (λ p. (p ≡ page) ⊎ IsLast read p)
-            → (let r : Result ℕ IndexFault = Err (as_index fault) in WorksFrom (0 ∷ page0 ∷ []) (IsTrue tells) tells (is_done r) view calls t (below key level0 pairs0) (limits_below level0) due (blamed_index r) (view old) (view next))
+            → (let r : Result ℕ IndexFault = Err (as_index fault) in WorksFrom (known_from level0 page0) (IsTrue tells) tells (is_done r) view calls t (below key level0 pairs0) (limits_below level0) due (blamed_index r) (view old) (view next))
         err_of read has only bad same blames =
             let q : Result Node PageFault = Err fault in
             let r : Result ℕ IndexFault = Err (as_index fault) in
@@ -222,7 +235,7 @@ module _ {S : Type 0} (tells : Bool) (view : S → StoreView) (calls : S → sto
             works_end 0 now next page level pairs left s false (blamed_index r) (onwards read)
             (record { costs = spends.costs; each = spends.each; most = spends.most; exact = λ told is. absurd (false≢true is) })
             n.0 (way_on read only) n.4 (omega (arith, n.1)) (omega (arith, ap (λ (xs : List Action). length xs) n.2)) n.3
-            (subst (λ (b : Option ℕ). IfSome b (λ p. (p < page_count (view old).shape) × ((p ≡ 0) ⊎ (p ≡ page) ⊎ IsMet p (onwards read)))) (sym same) (there_on read bad has.there blames))
+            (subst (λ (b : Option ℕ). IfSome b (λ p. (p < page_count (view old).shape) × ((p ≡ 0) ⊎ ((level ≢ 0) × (p ≡ page)) ⊎ IsMet p (onwards read)))) (sym same) (there_on read bad has.there blames))
             left (λ told. ap (λ (xs : List Action). xs ++ left) n.2) (λ told is. absurd (false≢true is)) (λ told. omega (arith, n.1))
 
   -- a full child was split, and the half that has the key comes next
@@ -253,7 +266,7 @@ module _ {S : Type 0} (tells : Bool) (view : S → StoreView) (calls : S → sto
           asides = omega (arith, asides_two (acts action commands ∷ peeks.steps) s.steps, plain.4, peeks.few, s.asides, many);
           actions = omega (arith, ap (λ (xs : List Action). length xs) all, length-append (actions_of s.steps) (action ∷ []), s.actions, many);
           acted = acts_two t (acts action commands ∷ peeks.steps) s.steps (by, plain.3) s.acted;
-          met = inr (inl among);
+          met = λ inner. inr (inl among);
           just = λ told. ap (λ (xs : List Action). xs ++ left2) all ∙ append_assoc (actions_of s.steps) (action ∷ []) left2 ∙ ap (λ (xs : List Action). actions_of s.steps ++ xs) (sym (is told)) ∙ s.just told;
           taken = λ told. omega (arith, asides_two (acts action commands ∷ peeks.steps) s.steps, plain.4, peeks.few, s.taken told, ap (λ (xs : List Action). takes_of xs) all, takes_two (actions_of s.steps) (action ∷ []), takes);
         }

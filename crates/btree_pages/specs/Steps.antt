@@ -1,5 +1,5 @@
 -- What the parts of an insertion or a removal in a tree read.
-use Rattle.std.specs.Prelude.{ℕ, ◌≡◌, ◌+◌, ◌⊎◌, Bool, List, [], ◌∷◌, IfOk, IfSome, Result}
+use Rattle.std.specs.Prelude.{ℕ, zero, suc, ◌≡◌, ◌+◌, ◌⊎◌, Bool, List, [], ◌∷◌, IfOk, IfSome, Result}
 use Rattle.eaw_face.specs.Command.{Command}
 use Rattle.eaw_face.specs.StoreView.{StoreView}
 use Rattle.page_store.specs.Course.{Reading}
@@ -41,3 +41,8 @@ limits_below level = record { fronts = 0; way = level; asides = level + 1; actio
 -- the same if the page is a root that is split first
 abbrev pub limits_above : ℕ → Limits
 limits_above level = record { fronts = 0; way = level; asides = level + 3; actions = level + 2 }
+
+-- the pages that it may answer as damaged without meeting them again: the super page, and that page, unless it is a leaf
+abbrev pub known_from : ℕ → ℕ → List ℕ
+known_from zero page = 0 ∷ []
+known_from (suc level) page = 0 ∷ page ∷ []

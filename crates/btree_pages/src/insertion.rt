@@ -15,7 +15,7 @@ ghost use Rattle.btree_laws.specs.Tree.{pairs_of_tree};
 ghost use Rattle.btree_pages.specs.Downward.{below, down, tree_finding};
 ghost use Rattle.btree_pages.specs.Index.{tree, tree_below, tree_actions, actions_below, AreSoundTrees, IsOpenLeaf};
 ghost use Rattle.btree_pages.specs.OnWay.{IsReached};
-ghost use Rattle.btree_pages.specs.Steps.{limits_above, limits_below};
+ghost use Rattle.btree_pages.specs.Steps.{known_from, limits_above, limits_below};
 ghost use Rattle.btree_pages.specs.Writes.{IsRead};
 
 use crate::checking::FORM;
@@ -199,7 +199,7 @@ fn insert_below<S: EawStore>(
     requires reached { IsTrue S.tells → IsReached root (S.view pages.old.store).state.bytes key node.page node.level node.pairs.items }
     ensures inserts { Inserts S.tells (S.opens (S.view pages.old.store).shape) (tree_below node.page node.level (front.next_page + node.level)) tid root.page root.table key
         (pages_of (S.view pages.old.store) pages.old) (pages_of (S.view pages.new.store) pages.new) result }
-    ensures works { WorksFrom (0 ∷ node.page ∷ []) (IsTrue S.tells) S.tells (is_done result) S.view S.calls tid (below key node.level node.pairs.items) (limits_below node.level)
+    ensures works { WorksFrom (known_from node.level node.page) (IsTrue S.tells) S.tells (is_done result) S.view S.calls tid (below key node.level node.pairs.items) (limits_below node.level)
         (actions_below node.level (S.view pages.old.store).state.bytes node.page node.page 0 key) (blamed_index result) (S.view pages.old.store) (S.view pages.new.store) }
     ensures dead { IsErrOf result IndexFault.Dead → ⊥ }
 {

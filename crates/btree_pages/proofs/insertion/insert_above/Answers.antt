@@ -1,27 +1,37 @@
-use Rattle.std.proofs.Common.{◌+◌, ◌-◌, ◌^◌, ◌<◌, ◌≤◌, ℕ, Option, None, Result, Ok, Err, false, IsTrue, refl, sym, ◌∙◌, ap, subst, arith}
+use Rattle.std.proofs.Common.{[], ◌∷◌, ◌+◌, ◌-◌, ◌^◌, ◌<◌, ◌≤◌, ℕ, Option, None, Result, Ok, Err, false, IsTrue, refl, sym, ◌∙◌, ap, subst, arith}
 use Rattle.std.proofs.lemmas.Bool.{false≢true}
 use Rattle.array_shape.specs.declared.shape.Shape.{Shape}
 use Rattle.eaw_face.specs.State.{State}
 use Rattle.record_slots.specs.Places.{free_page_of}
+use Rattle.eaw_face.specs.StoreView.{log_len}
+use Rattle.record_slots.specs.Places.{page_due}
 use Rattle.page_store.specs.Index.{slots_of, index_pages_of}
 use Rattle.page_store.specs.Inserts.{Inserts}
+use Rattle.page_store.specs.Runs.{Runs, acting_of}
 use Rattle.page_store.specs.Shown.{pages_of}
+use Rattle.page_store.specs.Works.{WorksFrom, is_done, blamed_index}
 use Rattle.page_store.specs.declared.fault.PageFault.{PageFault}
 use Rattle.page_store.specs.declared.index_fault.IndexFault.{IndexFault}
+use Rattle.page_store.specs.declared.index_fault.IndexFault.TheVariants as index
 use Rattle.index_pages.specs.Acts.{Acts}
 use Rattle.index_pages.specs.Adding.{TakesPage}
 use Rattle.index_pages.specs.Fetched.{IsFront}
+use Rattle.index_pages.specs.Page.{level_of, page_pairs}
 use Rattle.index_pages.specs.Slots.{list_check}
 use Rattle.index_pages.specs.declared.taking.Claim.{Claim}
 use Rattle.index_pages.proofs.Looking.{looks_none, looks_next}
-use Rattle.btree_pages.specs.Index.{tree}
+use Rattle.btree_pages.specs.Downward.{below}
+use Rattle.btree_pages.specs.Index.{tree, tree_actions, actions_below, half_for}
+use Rattle.btree_pages.specs.Steps.{limits_above}
+use Rattle.btree_pages.proofs.Acted.{growing_in, root_half_among, act_blames}
+use Rattle.btree_pages.proofs.Beginning.{works_none, works_first_err, works_second_err, works_grow_err, works_grown}
 use Rattle.btree_pages.specs.Writes.{IsRead, growing_pages, growing_parts}
 use Rattle.index_pages.proofs.Claims.{free_pages_pass, next_pass}
 use Rattle.btree_pages.specs.Trees.{whole_of}
 use Rattle.btree_pages.proofs.Below.{half_read}
 use Rattle.index_pages.proofs.Faulting.{look_of_index, act_of_index, dead_fault, dead_act, not_full, two_some}
 use Rattle.btree_pages.proofs.Rooted.{below_most, half_some, half_room, read_half, take_err}
-use Rattle.btree_pages.proofs.Whole.{root_high, root_full, grow_err, going3, living3, sound3, named3, absent3, says3, reached3, grown_then}
+use Rattle.btree_pages.proofs.Whole.{root_high, root_full, grow_err, going3, living3, sound3, named3, absent3, says3, reached3, grown_then, takes_two, root_due, root_leads, root_rest}
 use Rattle.btree_pages.proofs.insertion.insert_above.Goals as goal
 
 pub returns-then-top-eq-LEVEL_MAX-clause-inserts : goal.returns-then-top-eq-LEVEL_MAX-clause-inserts

@@ -22,7 +22,7 @@ use Rattle.index_pages.proofs.Looking.{looks_next}
 use Rattle.btree_pages.specs.declared.node.Node.{Node}
 use Rattle.btree_pages.specs.Downward.{below}
 use Rattle.btree_pages.specs.Index.{tree_below, actions_below, half_for}
-use Rattle.btree_pages.specs.Steps.{limits_below}
+use Rattle.btree_pages.specs.Steps.{known_from, limits_below}
 use Rattle.btree_pages.specs.Writes.{IsRead, cutting_pages, cutting_parts}
 use Rattle.btree_pages.proofs.Stepping.{stepped_first, stepped_child, stepped_room, stepped_cut, works_stop, works_peek_err, works_act, works_read_err}
 use Rattle.btree_pages.proofs.Acted.{adding_in, cutting_in, half_among, act_blames}
@@ -249,7 +249,7 @@ returns-in-Err g c =
     record {
       inserts = subst (λ (f : IndexFault). (let r : Result ℕ IndexFault = Err f in Inserts T (E v0.store.shape) (tree_below node.page node.level (c.args.front.next_page + node.level)) t root.page root.table key v0 v2 r)) (sym c.index_fault.ensures)
           (look_err T E t root key v0 node.page node.level (c.args.front.next_page + node.level) c.index_page_count-count.result n.count n.all n.most n.some small c.requires.table c.requires.sound c.requires.named c.requires.absent long c.requires.alive limit v1 c.loop-node.front at.page at.level at.pairs.items c.loop-node.invariant.stands Node v2 c.in-Err.fault (c.in-Err.ensures.looks, c.in-Err.ensures.cause));
-      works = subst (λ (f : IndexFault). (let r : Result ℕ IndexFault = Err f in WorksFrom (0 ∷ node.page ∷ []) (IsTrue T) T (is_done r) V g.S.EawStore.calls t (below key node.level node.pairs.items) (limits_below node.level) (actions_below node.level v0.store.state.bytes node.page node.page 0 key) (blamed_index r) v0.store v2.store)) (sym c.index_fault.ensures)
+      works = subst (λ (f : IndexFault). (let r : Result ℕ IndexFault = Err f in WorksFrom (known_from node.level node.page) (IsTrue T) T (is_done r) V g.S.EawStore.calls t (below key node.level node.pairs.items) (limits_below node.level) (actions_below node.level v0.store.state.bytes node.page node.page 0 key) (blamed_index r) v0.store v2.store)) (sym c.index_fault.ensures)
           (works_read_err T V g.S.EawStore.calls t key node.page node.level node.pairs.items (actions_below node.level v0.store.state.bytes node.page node.page 0 key) c.args.pages.now.store c.loop-node.pages.store c.fetch_child.new.pages.store at.page at.level at.pairs.items (actions_below at.level v1.store.state.bytes at.page at.page 0 key) c.loop-node.invariant.stepped c.in-Err.fault c.in-Err.ensures.reads (not_zero _ c.loop-node-test.true));
       dead = λ told. c.in-Err.ensures.dead (ap Err (dead_fault c.in-Err.fault c.index_fault.result (look_of_index Node T v1.store c.in-Err.fault c.in-Err.ensures.cause) c.index_fault.ensures told));
     }
@@ -520,7 +520,7 @@ returns-in-Err-take_page-clause-works g c =
     let s1 = stepped_child T V g.S.EawStore.calls t key node.page node.level node.pairs.items (actions_below node.level v0.store.state.bytes node.page node.page 0 key) c.args.pages.now.store c.loop-node.pages.store c.fetch_child.new.pages.store
     at.page at.level at.pairs.items (actions_below at.level v1.store.state.bytes at.page at.page 0 key) c.loop-node.invariant.stepped child c.in-Ok.ensures.reads c.in-Ok.ensures.looks.shape (not_zero _ c.loop-node-test.true) c.in-Ok.ensures.child c.in-Ok.ensures.level in
     let v3 = pages_of (V c.take_page.new.pages.store) c.take_page.new.pages in
-    subst (λ (f : IndexFault). (let r : Result ℕ IndexFault = Err f in WorksFrom (0 ∷ node.page ∷ []) (IsTrue T) T (is_done r) V g.S.EawStore.calls t (below key node.level node.pairs.items) (limits_below node.level) (actions_below node.level v0.store.state.bytes node.page node.page 0 key) (blamed_index r) v0.store v3.store)) (sym c.index_fault-in-Err-take_page.ensures)
+    subst (λ (f : IndexFault). (let r : Result ℕ IndexFault = Err f in WorksFrom (known_from node.level node.page) (IsTrue T) T (is_done r) V g.S.EawStore.calls t (below key node.level node.pairs.items) (limits_below node.level) (actions_below node.level v0.store.state.bytes node.page node.page 0 key) (blamed_index r) v0.store v3.store)) (sym c.index_fault-in-Err-take_page.ensures)
     (works_peek_err T V g.S.EawStore.calls t key node.page node.level node.pairs.items (actions_below node.level v0.store.state.bytes node.page node.page 0 key) c.args.pages.now.store 1 c.fetch_child.new.pages.store c.take_page.new.pages.store child.page child.level child.pairs.items (actions_below at.level v1.store.state.bytes at.page at.page 0 key) s1 Claim c.in-Err-take_page.fault c.in-Err-take_page.ensures.peeks)
 
 pub returns-in-Err-cut_page-clause-works : goal.returns-in-Err-cut_page-clause-works
@@ -555,7 +555,7 @@ returns-in-Err-cut_page-clause-works g c =
     let fault = c.in-Err-cut_page.fault in
     let r : Result (Unit {0}) PageFault = Err c.in-Err-cut_page.fault in
     let q : Result ℕ IndexFault = Err (as_index c.in-Err-cut_page.fault) in
-    subst (λ (f : IndexFault). (let r : Result ℕ IndexFault = Err f in WorksFrom (0 ∷ node.page ∷ []) (IsTrue T) T (is_done r) V g.S.EawStore.calls t (below key node.level node.pairs.items) (limits_below node.level) (actions_below node.level v0.store.state.bytes node.page node.page 0 key) (blamed_index r) v0.store v4.store)) (sym c.index_fault-in-Err-cut_page.ensures)
+    subst (λ (f : IndexFault). (let r : Result ℕ IndexFault = Err f in WorksFrom (known_from node.level node.page) (IsTrue T) T (is_done r) V g.S.EawStore.calls t (below key node.level node.pairs.items) (limits_below node.level) (actions_below node.level v0.store.state.bytes node.page node.page 0 key) (blamed_index r) v0.store v4.store)) (sym c.index_fault-in-Err-cut_page.ensures)
     (works_act T V g.S.EawStore.calls t key node.page node.level node.pairs.items (actions_below node.level v0.store.state.bytes node.page node.page 0 key) c.args.pages.now.store 1 c.fetch_child.new.pages.store c.cut_page.new.pages.store child.page child.level child.pairs.items (actions_below at.level v1.store.state.bytes at.page at.page 0 key) s1 Claim c.take_page.new.pages.store c.take_page.new.pages refl taken c.in-Ok-take_page.ensures.peeks
     (record { pages = cutting_pages child.page taken.number at.page; takes = 1 }) (acting_of t (log_len v3.store t) (cutting_parts taken.front child.page child.level child.pairs.items taken.number at.page at.pairs.items))
     (log_len v3.store t, cutting_parts taken.front child.page child.level child.pairs.items taken.number at.page at.pairs.items, refl, cutting_in taken.front child.page child.level child.pairs.items taken.number at.page at.pairs.items)
@@ -579,7 +579,7 @@ returns-in-Err-take_slot-clause-works g c =
     let v1 = pages_of (V c.loop-node.pages.store) c.loop-node.pages in
     let at = c.loop-node.node in
     let v2 = pages_of (V c.take_slot.new.pages.store) c.take_slot.new.pages in
-    subst (λ (f : IndexFault). (let r : Result ℕ IndexFault = Err f in WorksFrom (0 ∷ node.page ∷ []) (IsTrue T) T (is_done r) V g.S.EawStore.calls t (below key node.level node.pairs.items) (limits_below node.level) (actions_below node.level v0.store.state.bytes node.page node.page 0 key) (blamed_index r) v0.store v2.store)) (sym c.index_fault-in-Err-take_slot.ensures)
+    subst (λ (f : IndexFault). (let r : Result ℕ IndexFault = Err f in WorksFrom (known_from node.level node.page) (IsTrue T) T (is_done r) V g.S.EawStore.calls t (below key node.level node.pairs.items) (limits_below node.level) (actions_below node.level v0.store.state.bytes node.page node.page 0 key) (blamed_index r) v0.store v2.store)) (sym c.index_fault-in-Err-take_slot.ensures)
     (works_peek_err T V g.S.EawStore.calls t key node.page node.level node.pairs.items (actions_below node.level v0.store.state.bytes node.page node.page 0 key) c.args.pages.now.store 0 c.loop-node.pages.store c.take_slot.new.pages.store at.page at.level at.pairs.items (actions_below at.level v1.store.state.bytes at.page at.page 0 key) c.loop-node.invariant.stepped Claim c.in-Err-take_slot.fault c.in-Err-take_slot.ensures.peeks)
 
 pub returns-in-Ok-add_pair-clause-works : goal.returns-in-Ok-add_pair-clause-works
@@ -640,7 +640,7 @@ returns-in-Err-add_pair-clause-works g c =
     let half_is : c.index_page_count-count.result ≡ index_pages_of (V c.take_slot.new.pages.store).shape = n.count ∙ ap index_pages_of (sym (c.in-Ok-take_slot.ensures.looks.shape ∙ c.loop-node.invariant.stands.going.shape)) in
     let r : Result (Unit {0}) PageFault = Err c.in-Err-add_pair.fault in
     let q : Result ℕ IndexFault = Err (as_index c.in-Err-add_pair.fault) in
-    subst (λ (f : IndexFault). (let r : Result ℕ IndexFault = Err f in WorksFrom (0 ∷ node.page ∷ []) (IsTrue T) T (is_done r) V g.S.EawStore.calls t (below key node.level node.pairs.items) (limits_below node.level) (actions_below node.level v0.store.state.bytes node.page node.page 0 key) (blamed_index r) v0.store v3.store)) (sym c.index_fault-in-Err-add_pair.ensures)
+    subst (λ (f : IndexFault). (let r : Result ℕ IndexFault = Err f in WorksFrom (known_from node.level node.page) (IsTrue T) T (is_done r) V g.S.EawStore.calls t (below key node.level node.pairs.items) (limits_below node.level) (actions_below node.level v0.store.state.bytes node.page node.page 0 key) (blamed_index r) v0.store v3.store)) (sym c.index_fault-in-Err-add_pair.ensures)
     (works_act T V g.S.EawStore.calls t key node.page node.level node.pairs.items (actions_below node.level v0.store.state.bytes node.page node.page 0 key) c.args.pages.now.store 0 c.loop-node.pages.store c.add_pair.new.pages.store at.page at.level at.pairs.items (actions_below at.level v1.store.state.bytes at.page at.page 0 key) c.loop-node.invariant.stepped Claim c.take_slot.new.pages.store c.take_slot.new.pages refl slot c.in-Ok-take_slot.ensures.peeks
     (record { pages = adding_pages half slot.number at.page; takes = 0 }) (acting_of t (log_len v2.store t) (adding_parts half slot.front slot.number at.page 0 at.pairs.items root.table key))
     (log_len v2.store t, adding_parts half slot.front slot.number at.page 0 at.pairs.items root.table key, refl, adding_in half slot.front slot.number at.page 0 at.pairs.items root.table key)
