@@ -17,7 +17,7 @@ use Rattle.page_store.specs.Index.{Action}
 use Rattle.page_store.specs.Pairs.{Pair}
 use Rattle.page_store.specs.Runs.{Runs}
 use Rattle.page_store.specs.Shown.{Shown}
-use Rattle.page_store.specs.Works.{Step, front, onward, aside, acts, Spends, fronts_of, way_of, asides_of, actions_of, AreActs, ActsBy, IsAmong, IsMet, takes_of, Limits, is_done, blamed, blamed_index, WorksFrom}
+use Rattle.page_store.specs.Works.{Step, front, onward, aside, acts, Spends, fronts_of, way_of, asides_of, actions_of, AreActs, ActsBy, IsAmong, IsMet, takes_of, Limits, is_done, blamed, blamed_index, insertion_limits, WorksFrom}
 use Rattle.page_store.specs.declared.fault.PageFault.{PageFault}
 use Rattle.page_store.specs.declared.index_fault.IndexFault.{IndexFault}
 use Rattle.index_pages.specs.Faults.{as_index}
@@ -26,7 +26,7 @@ use Rattle.index_pages.specs.Page.{level_said, pairs_said}
 use Rattle.index_pages.specs.Peeks.{Peeks, AreAsides}
 use Rattle.index_pages.proofs.Working.{spends_none, spends_ill, spends_front, spends_onward, spends_then, spends_act, onwards, asides_plain, met_later, met_first, works_of, works_behind, blamed_same}
 use Rattle.btree_laws.specs.Descent.{child_for}
-use Rattle.btree_pages.specs.Downward.{below, down}
+use Rattle.btree_pages.specs.Downward.{below, down, tree_finding}
 use Rattle.btree_pages.specs.Steps.{known_from, limits_above, limits_below}
 use Rattle.btree_pages.proofs.Stepping.{known_two}
 
@@ -146,6 +146,16 @@ none_on key pairs (r ∷ []) way = absurd (let e : none_of ≡ Some r.0 = way.0 
     none_of : Option ℕ
     none_of = None
 none_on key pairs (r ∷ q ∷ rs) way = absurd (let e : (q ∷ rs) ≡ [] = none_on key pairs (q ∷ rs) way.1 in cc)
+
+pub once_of : (placed : Bool) (root key : ℕ) (shape : Shape) → 1 ≤ (insertion_limits placed (tree_finding root key) shape).fronts
+once_of true root key shape = omega arith
+once_of false root key shape = omega arith
+
+pub pair_known : (p root : ℕ) → IsAmong p (0 ∷ root ∷ []) → (p ≡ 0) ⊎ (p ≡ root)
+pair_known p root known = elim known [ inl super ↦ inl super | inr later ↦ elim later [ inl here ↦ inr here | inr none ↦ absurd none ] ]
+
+pub root_known : {p page root : ℕ} → (p ≡ 0) ⊎ (p ≡ page) → page ≡ root → (p ≡ 0) ⊎ (p ≡ root)
+root_known known is = elim known [ inl super ↦ inl super | inr here ↦ inr (here ∙ is) ]
 
 -- the whole of it, from the super page on
 module _ {S : Type 0} (tells : Bool) (view : S → StoreView) (calls : S → store.Command → ℕ) (t key root : ℕ) (due : List Action) (old : S) (limits : Limits) (once : 1 ≤ limits.fronts) where

@@ -1,5 +1,5 @@
 -- An insertion from the root on.
-use Rattle.std.proofs.Common.{◌≡◌, ◌≢◌, ℕ, suc, ◌+◌, ◌-◌, ◌^◌, ◌<◌, ◌≤◌, ◌⊎◌, Bool, false, inl, inr, List, [], ◌∷◌, length, None, Result, Ok, Err, refl, sym, ◌∙◌, ap, subst, arith}
+use Rattle.std.proofs.Common.{◌≡◌, ◌≢◌, ℕ, zero, suc, ◌+◌, ◌-◌, ◌^◌, ◌<◌, ◌≤◌, ◌⊎◌, Bool, false, inl, inr, List, [], ◌∷◌, length, None, Result, Ok, Err, refl, sym, ◌∙◌, ap, subst, arith}
 use Rattle.std.specs.Prelude.{IsTrue}
 use Rattle.array_shape.specs.declared.shape.Shape.{Shape}
 use Rattle.array_shape.specs.Places.{data_len, page_count}
@@ -25,6 +25,7 @@ use Rattle.index_pages.specs.Faults.{as_index}
 use Rattle.index_pages.specs.Fetched.{TestCause, IsFront}
 use Rattle.index_pages.specs.Keys.{key_end}
 use Rattle.index_pages.specs.Page.{page_pairs, count_of, level_of}
+use Rattle.index_pages.specs.Ways.{above}
 use Rattle.index_pages.proofs.Causing.{look_cause, still_same}
 use Rattle.index_pages.proofs.Going.{Going, going_looks, going_act, alive_now, inserts_refused, inserts_look_err, inserts_act_err}
 use Rattle.index_pages.proofs.Looking.{looks_none}
@@ -32,7 +33,7 @@ use Rattle.index_pages.proofs.PageFacts.{length-page_pairs}
 use Rattle.index_pages.proofs.Sizes.{index_pages_are}
 use Rattle.btree_laws.specs.Tree.{pairs_of_tree}
 use Rattle.btree_laws.specs.declared.root.Root.{Root}
-use Rattle.btree_pages.specs.Index.{tree, tree_below, growing, half_for, half_pairs, tree_actions, actions_below, AreSoundTrees}
+use Rattle.btree_pages.specs.Index.{tree, tree_below, growing, half_for, half_pairs, tree_actions, actions_below, AreSoundTrees, IsOpenLeaf}
 use Rattle.btree_pages.specs.Node.{IsNode}
 use Rattle.btree_pages.specs.OnWay.{IsReached}
 use Rattle.btree_pages.specs.Trees.{table_sound, trees_count}
@@ -48,6 +49,11 @@ use Rattle.index_pages.proofs.Left.{DecidesAll, all_left, room_lacks, fits_same,
 use Rattle.index_pages.proofs.Lifting.{joins_same, inserts_then}
 use Rattle.index_pages.proofs.Joining.{named_kept, joins_within}
 use Rattle.btree_pages.proofs.Walking.{root_first, root_split, grow_due, growing_takes, growing_stops, growing_lacks, grown_decides}
+
+-- as many levels above the leaves
+above_all : (d : ℕ) → d ≡ above d 0
+above_all zero = refl
+above_all (suc d) = ap suc (above_all d)
 
 module _ (tells : Bool) (E : Shape → List ℕ → List ℕ → Type 0) (t : ℕ) (root : Root) (key : ℕ) (v0 v1 : PagesView) (sound : IsTrue tells → IsAlive v0.store → AreSoundTrees v0.store.state.bytes)
     (named : IsTrue tells → IsAlive v0.store → IsTable v0.store.state.bytes root.table root.page) (fits : key < 2 ^ 64) (looks : Looks tells (E v0.store.shape) false v0 v1) where
@@ -96,6 +102,39 @@ module _ (tells : Bool) (E : Shape → List ℕ → List ℕ → Type 0) (t : �
             ∙ ap (λ (p : ℕ). actions_below level v0.store.state.bytes p p 0 key) (sym page_is) in
             subst (λ (b : List ℕ). DecidesAll v0.store t (index_pages_of v0.store.shape - used_pages v0.store.state.bytes) (tree_actions v0.store.state.bytes root.page key) (index_pages_of v0.store.shape - used_pages b) (actions_below level b page page 0 key)) (sym (same1 told))
             (subst (λ (l : List Action). DecidesAll v0.store t (index_pages_of v0.store.shape - used_pages v0.store.state.bytes) (tree_actions v0.store.state.bytes root.page key) (index_pages_of v0.store.shape - used_pages v0.store.state.bytes) l) is (all_left v0.store t (index_pages_of v0.store.shape - used_pages v0.store.state.bytes) (tree_actions v0.store.state.bytes root.page key)))
+
+    -- from a place on that was found before
+    pub place_then : (front : Super) (page level : ℕ) (pairs : List Pair) → level ≡ 0 → (IsTrue tells → SaysSuper (page_bytes v0.store.state.bytes 0) front) → (IsTrue tells → IsOpenLeaf v0.store.state.bytes root.page key page pairs)
+        → (v2 : PagesView) (r : Result ℕ IndexFault) → Inserts tells (E v1.store.shape) (tree_below page level (front.next_page + level)) t root.page root.table key v1 v2 r → Inserts tells (E v0.store.shape) tree t root.page root.table key v0 v2 r
+    place_then front page level pairs bottom says opens v2 r rest =
+        inserts_then tells E t root.page root.table key v0 v1 v2 tree (tree_below page level (front.next_page + level)) going1 alive
+        (λ told. joins_within tree (front.next_page + level) (λ bytes root key. actions_below level bytes page page 0 key) root.page root.table key v0.store.state.bytes v1.store.state.bytes (omega (arith, (says told).next_page, bottom)) (ap (λ (b : List ℕ). next_slot b) (same1 told)) (going1.made told alive).0 (going1.made told alive).1)
+        decides r rest
+      where
+        decides : IsTrue tells → DecidesAll v0.store t (index_pages_of v0.store.shape - used_pages v0.store.state.bytes) (tree_actions v0.store.state.bytes root.page key) (index_pages_of v0.store.shape - used_pages v1.store.state.bytes) (actions_below level v1.store.state.bytes page page 0 key)
+        decides told =
+            let is : tree_actions v0.store.state.bytes root.page key ≡ actions_below level v0.store.state.bytes page page 0 key = (opens told).alone ∙ ap (λ (n : ℕ). actions_below n v0.store.state.bytes page page 0 key) (sym bottom) in
+            subst (λ (b : List ℕ). DecidesAll v0.store t (index_pages_of v0.store.shape - used_pages v0.store.state.bytes) (tree_actions v0.store.state.bytes root.page key) (index_pages_of v0.store.shape - used_pages b) (actions_below level b page page 0 key)) (sym (same1 told))
+            (subst (λ (l : List Action). DecidesAll v0.store t (index_pages_of v0.store.shape - used_pages v0.store.state.bytes) (tree_actions v0.store.state.bytes root.page key) (index_pages_of v0.store.shape - used_pages v0.store.state.bytes) l) is (all_left v0.store t (index_pages_of v0.store.shape - used_pages v0.store.state.bytes) (tree_actions v0.store.state.bytes root.page key)))
+
+    -- which is on the key's way
+    pub place_reached : (page level : ℕ) (pairs : List Pair) → level ≡ 0 → (IsTrue tells → IsOpenLeaf v0.store.state.bytes root.page key page pairs) → IsTrue tells → IsReached root v1.store.state.bytes key page level pairs
+    place_reached page level pairs bottom opens told =
+        let o = opens told in
+        subst (λ (b : List ℕ). IsReached root b key page level pairs) (sym (same1 told))
+        (level_of v0.store.state.bytes root.page, record { page_is = o.page_is; level_is = above_all (level_of v0.store.state.bytes root.page) ∙ ap (λ (n : ℕ). above (level_of v0.store.state.bytes root.page) n) (sym bottom); pairs_are = o.pairs_are })
+
+    -- adding the pair is all that is due
+    pub place_due : (page : ℕ) (pairs : List Pair) → (IsTrue tells → IsOpenLeaf v0.store.state.bytes root.page key page pairs) → IsTrue tells → actions_below 0 v1.store.state.bytes page page 0 key ≡ tree_actions v0.store.state.bytes root.page key
+    place_due page pairs opens told = ap (λ (b : List ℕ). actions_below 0 b page page 0 key) (same1 told) ∙ sym (opens told).alone
+
+    -- what is due from a root with room on
+    pub room_due : (page level : ℕ) (pairs : List Pair) → page ≡ root.page → (IsTrue tells → level ≡ level_of v0.store.state.bytes root.page) → (IsTrue tells → pairs ≡ page_pairs v0.store.state.bytes root.page) → length pairs < 30
+        → IsTrue tells → actions_below level v1.store.state.bytes page page 0 key ≡ tree_actions v0.store.state.bytes root.page key
+    room_due page level pairs page_is level_is are room told =
+        let count : count_of v0.store.state.bytes root.page < 30 = omega (arith, room, length-page_pairs v0.store.state.bytes root.page, ap (λ (ps : List Pair). length ps) (are told)) in
+        ap (λ (b : List ℕ). actions_below level b page page 0 key) (same1 told) ∙ ap (λ (p : ℕ). actions_below level v0.store.state.bytes p p 0 key) page_is
+        ∙ ap (λ (n : ℕ). actions_below n v0.store.state.bytes root.page root.page 0 key) (level_is told) ∙ root_first root.page key v0.store.state.bytes count
 
 module _ (tells : Bool) (E : Shape → List ℕ → List ℕ → Type 0) (t : ℕ) (root : Root) (key : ℕ) (v0 : PagesView) (half : ℕ) (half_is : half ≡ index_pages_of v0.store.shape) (all : half + half ≡ page_count v0.store.shape)
     (few : half ≤ 16384) (two : 2 ≤ half) (fits : key < 2 ^ 64) (sound : IsTrue tells → AreSoundTrees v0.store.state.bytes) (named : IsTrue tells → IsTable v0.store.state.bytes root.table root.page)
