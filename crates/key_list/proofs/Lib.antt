@@ -1,5 +1,6 @@
 pub mod Ends
 pub mod Walking
+pub mod Staying
 pub mod Chains
 pub mod ChainActions
 pub mod Resting

@@ -1,5 +1,5 @@
 -- The page of a key as an insertion finds it, and the parts that it writes.
-use Rattle.std.specs.Prelude.{ℕ, ◌≡◌, ◌<◌, ◌≤◌, List, [], ◌∷◌, length, take, drop}
+use Rattle.std.specs.Prelude.{ℕ, Bool, true, false, ◌≡◌, ◌<◌, ◌≤◌, List, [], ◌∷◌, length, take, drop}
 use Rattle.array_shape.specs.declared.shape.Shape.{Shape}
 use Rattle.array_shape.specs.Logged.{Part}
 use Rattle.record_slots.specs.Places.{page_bytes}
@@ -7,20 +7,40 @@ use Rattle.record_slots.specs.Super.{SaysSuper, part_bytes}
 use Rattle.record_slots.specs.declared.super_page.Super.{Super}
 use Rattle.page_store.specs.Index.{index_pages_of}
 use Rattle.page_store.specs.Pairs.{Pair}
+use Rattle.page_store.specs.declared.leaf_page.Sought.{Sought}
+use Rattle.page_store.specs.declared.leaf_page.Sought.TheVariants.{Slot, Place, Split}
 use Rattle.page_store.specs.Shown.{address}
 use Rattle.index_pages.specs.Fetched.{IsFront}
-use Rattle.index_pages.specs.Page.{link_of, page_pairs}
+use Rattle.index_pages.specs.Page.{count_said, pairs_said, link_of, page_pairs}
 use Rattle.key_list.specs.Chain.{page_of_key}
 use Rattle.index_pages.specs.Written.{AreSmall, written_page}
+use Rattle.key_list.specs.declared.look.KeyPage.{KeyPage}
 
 -- what is known of it over any store
 pub record IsLocated (shape : Shape) (front : Super) (page link : ℕ) (pairs : List Pair) : Type 0 where
   pub front_is : IsFront shape front
   pub some : 1 ≤ page
   pub inside : page < index_pages_of shape
-  pub link_inside : link < index_pages_of shape
   pub most : length pairs ≤ 30
   pub small : AreSmall pairs
+
+-- so of its page alone
+pub record IsLeafIn (shape : Shape) (page : ℕ) (pairs : List Pair) : Type 0 where
+  pub some : 1 ≤ page
+  pub inside : page < index_pages_of shape
+  pub most : length pairs ≤ 30
+  pub small : AreSmall pairs
+
+-- the place is this page, if it has room
+abbrev pub IsRoomIn : KeyPage → List ℕ → Sought → Type 0
+IsRoomIn at said (Slot slot) = ⊥
+IsRoomIn at said (Place leaf) = (leaf.page ≡ at.page) × (leaf.link ≡ at.head.link) × (leaf.pairs.items ≡ pairs_said said) × (length leaf.pairs.items < 30) × AreSmall leaf.pairs.items
+IsRoomIn at said Split = 30 ≤ count_said said
+
+-- how many pages of the way may be read: none, if the page is known
+abbrev pub most_read : Bool → Shape → ℕ
+most_read true shape = 0
+most_read false shape = index_pages_of shape
 
 -- it is what the data says
 pub record Locates (bytes : List ℕ) (root key : ℕ) (front : Super) (page link : ℕ) (pairs : List Pair) : Type 0 where

@@ -5,9 +5,11 @@ ghost use Rattle.key_list.specs.Resting.{sound_table, sound_chain_given, sound_c
 ghost use Rattle.key_list.specs.Extending.{sound_chains_extend};
 ghost use Rattle.key_list.specs.Index.{chain};
 
-use crate::{checking, insertion, look, removal};
+use crate::{checking, insertion, look, place, removal};
 use eaw_face::EawStore;
-use page_store::{CheckFault, IndexFault, KeyIndex, NextPairs, PageFault, Pages, TableRows};
+use page_store::{
+    CheckFault, IndexFault, KeyIndex, LeafPage, NextPairs, PageFault, Pages, Sought, TableRows,
+};
 use std::alloc::Global;
 
 /// Indexes that are chains of pages in the order of their keys, one for each table: it begins in the table's root and follows the links. A
@@ -40,6 +42,15 @@ impl KeyIndex for KeyList {
         look::find(pages, root, table, key)
     }
 
+    fn find_place<S: EawStore>(
+        pages: &mut Pages<S>,
+        root: u32,
+        table: u8,
+        key: u64,
+    ) -> Result<Sought, PageFault> {
+        place::find_place(pages, root, table, key)
+    }
+
     fn next_pairs<S: EawStore>(
         pages: &mut Pages<S>,
         root: u32,
@@ -55,8 +66,9 @@ impl KeyIndex for KeyList {
         root: u32,
         table: u8,
         key: u64,
+        place: Option<LeafPage>,
     ) -> Result<u32, IndexFault> {
-        insertion::insert(pages, tid, root, table, key)
+        insertion::insert(pages, tid, root, table, key, place)
     }
 
     fn remove<S: EawStore>(

@@ -1,20 +1,21 @@
 // Insertions into the chain of a table.
-ghost use Rattle.std.specs.Prelude.{◌≡◌, ◌<◌, ◌≤◌, ◌↔◌, None, IsErrOf, IsTrue, length};
+ghost use Rattle.std.specs.Prelude.{◌≡◌, ◌<◌, ◌≤◌, ◌↔◌, None, IfSome, IsErrOf, IsTrue, length};
 ghost use Rattle.array_shape.specs.Places.{page_count};
 ghost use Rattle.eaw_face.specs.Causes.{IsAlive};
 ghost use Rattle.page_store.specs.Index.{IsTable, slots_of};
 ghost use Rattle.page_store.specs.Inserts.{Inserts};
 ghost use Rattle.page_store.specs.Pairs.{found};
+ghost use Rattle.page_store.specs.Placed.{IsPlaceIn};
 ghost use Rattle.page_store.specs.Shown.{pages_of, top_in};
 ghost use Rattle.key_list.specs.Chain.{IsSoundChain, pairs_of_chain};
-ghost use Rattle.key_list.specs.Index.{chain, chain_within};
+ghost use Rattle.key_list.specs.Index.{chain, chain_within, IsPlaceOf};
 ghost use Rattle.key_list.specs.Located.{IsLocated, Locates};
 
 use crate::place::{Located, locate};
 use crate::write::{add_pair, cut_page, half_of};
 use eaw_face::EawStore;
 use index_pages::{PAIRS_MAX, SLOTS_IN_PAGE, index_fault, index_page_count, take_page, take_slot};
-use page_store::{IndexFault, Pages};
+use page_store::{IndexFault, LeafPage, Pages};
 use record_slots::Super;
 
 // Inserts a key that is not there. A full page is cut first.
@@ -24,6 +25,7 @@ pub fn insert<S: EawStore>(
     root: u32,
     table: u8,
     key: u64,
+    place: Option<LeafPage>,
 ) -> Result<u32, IndexFault>
     requires tid { tid < (S.view pages.old.store).shape.numbers }
     requires table { table < 8 }
@@ -32,11 +34,14 @@ pub fn insert<S: EawStore>(
     requires sound { IsTrue S.tells → IsAlive (S.view pages.old.store) → IsSoundChain (S.view pages.old.store).state.bytes }
     requires named { IsTrue S.tells → IsAlive (S.view pages.old.store) → IsTable (S.view pages.old.store).state.bytes table root }
     requires absent { IsTrue S.tells → IsAlive (S.view pages.old.store) → found (pairs_of_chain (S.view pages.old.store).state.bytes root) key ≡ None }
+    requires place { IfSome place (λ leaf. IsPlaceIn (S.view pages.old.store).shape leaf.page leaf.pairs.items) }
+    requires fits { IsTrue S.tells → IsAlive (S.view pages.old.store)
+        → IfSome place (λ leaf. IsPlaceOf (S.view pages.old.store).state.bytes root key leaf.page leaf.link leaf.pairs.items) }
     ensures inserts { Inserts S.tells (S.opens (S.view pages.old.store).shape) chain tid root table key
         (pages_of (S.view pages.old.store) pages.old) (pages_of (S.view pages.new.store) pages.new) result }
     ensures dead { IsErrOf result IndexFault.Dead → pages.new ≡ pages.old }
 {
-    let at = match locate(pages, root, table, key) {
+    let at = match locate(pages, root, table, key, place) {
         Ok(at) => at,
         Err(fault) => return Err(index_fault(fault)),
     };

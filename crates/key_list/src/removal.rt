@@ -38,7 +38,7 @@ pub fn remove<S: EawStore>(
         (pages_of (S.view pages.old.store) pages.old) (pages_of (S.view pages.new.store) pages.new) result }
     ensures dead { IsErrOf result PageFault.Dead → pages.new ≡ pages.old }
 {
-    let at = match locate(pages, root, table, key) {
+    let at = match locate(pages, root, table, key, None) {
         Ok(at) => at,
         Err(fault) => return Err(fault),
     };
