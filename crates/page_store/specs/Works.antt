@@ -128,14 +128,14 @@ blamed_index (Err (index.Damaged bad)) = Some bad
 blamed_index _ = None
 
 -- Steps of an insertion or a removal as number t, of which these actions are due, and which was done or not. They make all its calls. Over any
--- store each page of the way is the one that was to be read next, and there are no more steps of a kind than may be. A page that is answered as
--- damaged is one of the array that was met, by a step or before. Over a store that tells its data the actions made are the first of those due, and
+-- store there are no more steps of a kind than may be, and each page of the way is the one that was to be read next, if `sure` holds. A page that is
+-- answered as damaged is one of the array that was met, by a step or before. Over a store that tells its data the actions made are the first of those due, and
 -- all of them if it was done; a read aside is made at most for each page that these take, and for the slot or one page beside.
-pub record WorksFrom {S : Type 0} (known : List ℕ) (tells done : Bool) (view : S → StoreView) (calls : S → store.Command → ℕ) (t : ℕ) (goes : List Reading → Option ℕ) (limits : Limits) (due : List Action) (bad : Option ℕ) (old new : StoreView) : Type 0 where
+pub record WorksFrom {S : Type 0} (known : List ℕ) (sure : Type 0) (tells done : Bool) (view : S → StoreView) (calls : S → store.Command → ℕ) (t : ℕ) (goes : List Reading → Option ℕ) (limits : Limits) (due : List Action) (bad : Option ℕ) (old new : StoreView) : Type 0 where
   pub steps : List Step
   pub spends : Spends tells done view calls steps old new
   pub fronts : fronts_of steps ≤ limits.fronts
-  pub way : IsWay goes (way_of steps)
+  pub way : sure → IsWay goes (way_of steps)
   pub few : length (way_of steps) ≤ limits.way
   pub asides : asides_of steps ≤ limits.asides
   pub actions : length (actions_of steps) ≤ limits.actions
@@ -147,7 +147,7 @@ pub record WorksFrom {S : Type 0} (known : List ℕ) (tells done : Bool) (view :
   pub taken : IsTrue tells → asides_of steps ≤ takes_of due + 1
 
 -- the whole of it, before which no page was met
-abbrev pub Works : {S : Type 0} → Bool → Bool → (S → StoreView) → (S → store.Command → ℕ) → ℕ → (List Reading → Option ℕ) → Limits → List Action → Option ℕ → (old new : StoreView) → Type 0
+abbrev pub Works : {S : Type 0} → Type 0 → Bool → Bool → (S → StoreView) → (S → store.Command → ℕ) → ℕ → (List Reading → Option ℕ) → Limits → List Action → Option ℕ → (old new : StoreView) → Type 0
 Works = WorksFrom []
 
 -- At most so many steps of an insertion without a place, or with one, which reads no page of the way; and of a removal.

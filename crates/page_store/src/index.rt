@@ -145,7 +145,7 @@ pub trait KeyIndex {
             → IfSome place (λ leaf. index.fits (S.view pages.old.store).state.bytes root key leaf.page leaf.link leaf.pairs.items) }
         ensures inserts { Inserts S.tells (S.opens (S.view pages.old.store).shape) index tid root table key
             (pages_of (S.view pages.old.store) pages.old) (pages_of (S.view pages.new.store) pages.new) result }
-        ensures works { Works S.tells (is_done result) S.view S.calls tid (index.finding root key).goes
+        ensures works { Works (IsTrue S.tells) S.tells (is_done result) S.view S.calls tid (index.finding root key).goes
             (insertion_limits (is_some place) (index.finding root key) (S.view pages.old.store).shape) (index.actions (S.view pages.old.store).state.bytes root key)
             (blamed_index result) (S.view pages.old.store) (S.view pages.new.store) }
         ensures dead { IsErrOf result IndexFault.Dead → pages.new ≡ pages.old };
@@ -171,7 +171,7 @@ pub trait KeyIndex {
         requires absent { IsTrue S.tells → IsAlive (S.view pages.old.store) → HasAbsent index root table key (S.view pages.old.store).state.bytes }
         ensures removes { Removes S.tells (S.opens (S.view pages.old.store).shape) index tid root key
             (pages_of (S.view pages.old.store) pages.old) (pages_of (S.view pages.new.store) pages.new) result }
-        ensures works { Works S.tells (is_done result) S.view S.calls tid (index.finding root key).goes
+        ensures works { Works (Unit {0}) S.tells (is_done result) S.view S.calls tid (index.finding root key).goes
             (removal_limits (index.finding root key) (S.view pages.old.store).shape) (removal_actions (index.removal (S.view pages.old.store).state.bytes root key))
             (blamed result) (S.view pages.old.store) (S.view pages.new.store) }
         ensures dead { IsErrOf result PageFault.Dead → pages.new ≡ pages.old };
