@@ -1,5 +1,5 @@
 -- On the way to the page that a key is in or goes into.
-use Rattle.std.proofs.Common.{◌≡◌, ◌≢◌, ℕ, suc, ◌+◌, ◌<◌, ◌≤◌, Bool, true, false, nat_eq, nat_le, List, [], ◌∷◌, length, Option, Some, None, Result, Ok, Err, refl, sym, ◌∙◌, ap, arith}
+use Rattle.std.proofs.Common.{◌≡◌, ◌≢◌, ℕ, suc, ◌+◌, ◌<◌, ◌≤◌, Bool, true, false, nat_eq, nat_le, inl, inr, List, [], ◌∷◌, length, Option, Some, None, Result, Ok, Err, refl, sym, ◌∙◌, ap, arith}
 use Rattle.std.specs.Prelude.{is_some, ◌||◌}
 use Rattle.std.proofs.lemmas.Bool.Decides.{nat_tests}
 use Rattle.eaw_face.specs.Command.{Command}
@@ -56,7 +56,7 @@ answer_stays key page said before ends = (rw ends refl)
 
 module _ (tells : Bool) (calls calls_mid : Command → ℕ) (root key steps page : ℕ) (said : List ℕ) (old mid : StoreView) (on : OnAlong tells calls calls_mid root key steps page said old mid) where
   -- the way goes on to the link
-  pub along_on : (link : ℕ) → ends_at key said ≡ false → link ≡ link_said said → OnCourse tells calls calls_mid (along root key) steps link page old mid
+  abbrev pub along_on : (link : ℕ) → ends_at key said ≡ false → link ≡ link_said said → OnCourse tells calls calls_mid (along root key) steps link page old mid
   along_on link goes is = record {
     read = (page, said) ∷ on.before;
     reads = on.reads;
@@ -73,7 +73,7 @@ module _ (tells : Bool) (calls calls_mid : Command → ℕ) (root key steps page
     reads = on.reads;
     way = on.way;
     few = omega (arith, on.count, few);
-    ends = (answer_stays key page said on.before ends, λ some. sym same);
+    ends = record { answer = answer_stays key page said on.before ends; last = λ some. sym same; met = inl same };
     blames = tt;
   }
 
@@ -93,12 +93,12 @@ module _ (tells : Bool) (calls calls_mid : Command → ℕ) (root key steps page
     }
 
     -- its pairs begin above the key, which stays in the page before
-    pub along_past : (most : ℕ) (at : KeyPage) → 1 ≤ length (pairs_said ahead) → key < first_key (pairs_said ahead) → steps < most → (let r : Result KeyPage PageFault = Ok at in Walks tells calls calls_now (along root key) most (Stays key said) old new r)
-    along_past most at some lt few =
+    pub along_past : (most : ℕ) (at : KeyPage) → at.page ≡ page → 1 ≤ length (pairs_said ahead) → key < first_key (pairs_said ahead) → steps < most → (let r : Result KeyPage PageFault = Ok at in Walks tells calls calls_now (along root key) most (Stays key said) old new r)
+    along_past most at same some lt few =
         let p = next_above (pairs_said ahead) key some lt in
         let none = ends_none key said goes in
         let answer : answered (λ pairs. led_to key (next pairs key)) key ((link, ahead) ∷ (page, said) ∷ on.before) ≡ Some (led_to key (next (pairs_said said) key)) =
         answer_stays key link ahead ((page, said) ∷ on.before) (ends_there key ahead p.0 p.1)
         ∙ ap (λ (o : Option Pair). Some (led_to key o)) p.1 ∙ ap Some (led_past key p.0 (λ e. omega (arith, e, p.2))) ∙ sym (ap (λ (o : Option Pair). Some (led_to key o)) none) in
         on_end tells calls calls_mid calls_now (along root key) steps link page old mid new still shape (along_on link goes is) most (Stays key said) ahead at few reads
-        (answer, λ there. absurd (there none))
+        (record { answer = answer; last = λ there. absurd (there none); met = inr (inl same) })

@@ -304,13 +304,16 @@ first_from_some page (suc n) some = refl
 pub first_said : (page : List ℕ) → count_said page ≢ 0 → first_key (pairs_said page) ≡ (pair_said page 0).0
 first_said page some = ap (λ (ps : List Pair). first_key ps) (from_first page) ∙ first_from_some page (count_said page) some
 
--- a page that counts pairs has some
-some_from : (page : List ℕ) (n : ℕ) → n ≢ 0 → 1 ≤ length (pairs_from page 0 n)
-some_from page zero some = absurd (some refl)
-some_from page (suc n) some = omega arith
+length-from : (page : List ℕ) (i n : ℕ) → length (pairs_from page i n) ≡ n
+length-from page i zero = refl
+length-from page i (suc n) = ap suc (length-from page (suc i) n)
 
+pub length-said : (page : List ℕ) → length (pairs_said page) ≡ count_said page
+length-said page = ap (λ (ps : List Pair). length ps) (from_first page) ∙ length-from page 0 (count_said page)
+
+-- a page that counts pairs has some
 pub some_said : (page : List ℕ) → count_said page ≢ 0 → 1 ≤ length (pairs_said page)
-some_said page some = subst (λ (ps : List Pair). 1 ≤ length ps) (sym (from_first page)) (some_from page (count_said page) some)
+some_said page some = omega (arith, length-said page, some)
 
 -- the page of a key is one of the chain
 page_on_chain : (n : ℕ) (bytes : List ℕ) (table page low key : ℕ) → IsChain table n bytes page low → (l : ℕ) × IsChainPage table bytes (chain_page_for n bytes page key) l

@@ -288,7 +288,6 @@ module _ (tells : Bool) (E : Shape → List ℕ → List ℕ → Type 0) (t root
                     front_is = after_is;
                     some = omega (arith, at, loc.some);
                     inside = omega (arith, at, loc.inside);
-                    link_inside = omega (arith, to, taken_in.1);
                     most = omega (arith, many);
                     small = subst (λ (ps : List Pair). AreSmall ps) (sym of) (small_take 15 pairs loc.small).0;
                   },
@@ -304,7 +303,6 @@ module _ (tells : Bool) (E : Shape → List ℕ → List ℕ → Type 0) (t root
                     front_is = after_is;
                     some = omega (arith, at, taken_in.0);
                     inside = omega (arith, at, taken_in.1);
-                    link_inside = omega (arith, to, loc.link_inside);
                     most = omega (arith, many);
                     small = subst (λ (ps : List Pair). AreSmall ps) (sym of) (small_take 15 pairs loc.small).1;
                   },

@@ -1,5 +1,5 @@
 -- How look-ups go along a chain.
-use Rattle.std.specs.Prelude.{ℕ, ◌≡◌, ◌≢◌, ◌||◌, Bool, true, is_some, nat_eq, if◌then◌else◌, List, [], ◌∷◌, Option, Some, None, IfSome}
+use Rattle.std.specs.Prelude.{ℕ, ◌≡◌, ◌≢◌, ◌||◌, ◌⊎◌, Bool, true, is_some, nat_eq, if◌then◌else◌, List, [], ◌∷◌, Option, Some, None, IfSome}
 use Rattle.page_store.specs.Course.{Reading, Course}
 use Rattle.page_store.specs.Follows.{IsLast}
 use Rattle.page_store.specs.Index.{index_pages_of}
@@ -43,9 +43,14 @@ Ended from said (r ∷ rs) = (r.1 ≡ said) × (ends_at from said ≡ true)
 abbrev pub Arrives : ℕ → List ℕ → Option Reached → List Reading → Type 0
 Arrives from said at read = Ended from said read × IfSome at (λ at. IsLast read at.page)
 
--- The page that the key is in or goes into was found, and said this: what its pairs say is the answer, and if one of them is from the key on, it was
+-- the page was read
+abbrev pub WasRead : ℕ → List Reading → Type 0
+WasRead page [] = ⊥
+WasRead page (r ∷ rs) = (page ≡ r.0) ⊎ WasRead page rs
+
+-- The page that the key is in or goes into was read, and said this: what its pairs say is the answer, and if one of them is from the key on, it was
 -- read last.
-abbrev pub Stays : ℕ → List ℕ → KeyPage → List Reading → Type 0
-Stays key said at read =
-    (answered (λ pairs. led_to key (next pairs key)) key read ≡ Some (led_to key (next (pairs_said said) key)))
-    × (next (pairs_said said) key ≢ None → IsLast read at.page)
+pub record Stays (key : ℕ) (said : List ℕ) (at : KeyPage) (read : List Reading) : Type 0 where
+  pub answer : answered (λ pairs. led_to key (next pairs key)) key read ≡ Some (led_to key (next (pairs_said said) key))
+  pub last : next (pairs_said said) key ≢ None → IsLast read at.page
+  pub met : WasRead at.page read

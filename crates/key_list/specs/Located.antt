@@ -1,5 +1,5 @@
 -- The page of a key as an insertion finds it, and the parts that it writes.
-use Rattle.std.specs.Prelude.{ℕ, Bool, true, false, ◌≡◌, ◌<◌, ◌≤◌, List, [], ◌∷◌, length, take, drop}
+use Rattle.std.specs.Prelude.{ℕ, ◌≡◌, ◌<◌, ◌≤◌, List, [], ◌∷◌, length, take, drop}
 use Rattle.array_shape.specs.declared.shape.Shape.{Shape}
 use Rattle.array_shape.specs.Logged.{Part}
 use Rattle.record_slots.specs.Places.{page_bytes}
@@ -24,23 +24,11 @@ pub record IsLocated (shape : Shape) (front : Super) (page link : ℕ) (pairs : 
   pub most : length pairs ≤ 30
   pub small : AreSmall pairs
 
--- so of its page alone
-pub record IsLeafIn (shape : Shape) (page : ℕ) (pairs : List Pair) : Type 0 where
-  pub some : 1 ≤ page
-  pub inside : page < index_pages_of shape
-  pub most : length pairs ≤ 30
-  pub small : AreSmall pairs
-
 -- the place is this page, if it has room
 abbrev pub IsRoomIn : KeyPage → List ℕ → Sought → Type 0
 IsRoomIn at said (Slot slot) = ⊥
 IsRoomIn at said (Place leaf) = (leaf.page ≡ at.page) × (leaf.link ≡ at.head.link) × (leaf.pairs.items ≡ pairs_said said) × (length leaf.pairs.items < 30) × AreSmall leaf.pairs.items
 IsRoomIn at said Split = 30 ≤ count_said said
-
--- how many pages of the way may be read: none, if the page is known
-abbrev pub most_read : Bool → Shape → ℕ
-most_read true shape = 0
-most_read false shape = index_pages_of shape
 
 -- it is what the data says
 pub record Locates (bytes : List ℕ) (root key : ℕ) (front : Super) (page link : ℕ) (pairs : List Pair) : Type 0 where

@@ -1,19 +1,21 @@
 // The page that a key is in or goes into, for insertions and removals, and for a look-up that an insertion follows.
-ghost use Rattle.std.specs.Prelude.{◌≡◌, ◌<◌, ◌≤◌, IfOk, IfSome, IfNone, IsErrOf, IsTrue, is_some};
+ghost use Rattle.std.specs.Prelude.{◌≡◌, ◌<◌, ◌≤◌, IfOk, IfSome, IsErrOf, IsTrue, is_some, length};
 ghost use Rattle.array_shape.specs.Places.{page_count};
 ghost use Rattle.eaw_face.specs.Causes.{IsAlive};
-ghost use Rattle.page_store.specs.Follows.{Follows, Walks};
+ghost use Rattle.page_store.specs.Follows.{Follows};
 ghost use Rattle.page_store.specs.Index.{IsTable, index_pages_of};
 ghost use Rattle.page_store.specs.Looks.{Looks, LookCause, is_failed};
 ghost use Rattle.page_store.specs.Pairs.{AreSmall, found, next};
 ghost use Rattle.page_store.specs.Placed.{IsPlaceIn, IsSoughtFor, IsSoughtIn, slot_sought};
 ghost use Rattle.page_store.specs.Shown.{pages_of};
+ghost use Rattle.page_store.specs.Works.{IsMet};
 ghost use Rattle.index_pages.specs.Page.{pairs_said};
-ghost use Rattle.key_list.specs.Along.{along, led_to, chain_finding};
+ghost use Rattle.key_list.specs.Along.{led_to, chain_finding};
 ghost use Rattle.key_list.specs.Chain.{IsSoundChain, pairs_of_chain};
+ghost use Rattle.key_list.specs.Finds.{Finds, most_read};
 ghost use Rattle.key_list.specs.Index.{chain, IsPlaceOf};
 ghost use Rattle.key_list.specs.Linked.{SaysLeaf};
-ghost use Rattle.key_list.specs.Located.{IsLocated, Locates, IsLeafIn, IsRoomIn, most_read};
+ghost use Rattle.key_list.specs.Located.{IsLocated, Locates, IsRoomIn};
 
 use crate::look::{KeyPage, page_for};
 use eaw_face::EawStore;
@@ -108,8 +110,8 @@ fn leaf_of(at: &KeyPage, bytes: &[u8; PAGE_LEN]) -> LeafPage
     }
 }
 
-// Reads the super page, and finds the page of a key unless it is known.
-pub fn locate<S: EawStore>(
+// Finds the page of a key for an insertion, unless it is known already.
+pub fn locate_for<S: EawStore>(
     pages: &mut Pages<S>,
     root: u32,
     table: u8,
@@ -126,6 +128,61 @@ pub fn locate<S: EawStore>(
     ensures looks { Looks S.tells (S.opens (S.view pages.old.store).shape) (is_failed result)
         (pages_of (S.view pages.old.store) pages.old) (pages_of (S.view pages.new.store) pages.new) }
     ensures cause { LookCause S.tells (S.view pages.old.store) result }
+    ensures finds { Finds S.tells S.view S.calls root key (most_read (is_some place) (S.view pages.old.store).shape) (λ at steps. IsMet 0 steps)
+        (S.view pages.old.store) (S.view pages.new.store) result }
+    ensures located { IfOk result (λ at. IsLocated (S.view pages.old.store).shape at.front at.page at.link at.pairs.items) }
+    ensures said { IsTrue S.tells → IfOk result (λ at. Locates (S.view pages.old.store).state.bytes root key at.front at.page at.link at.pairs.items) }
+    ensures room { IsTrue (is_some place) → IfOk result (λ at. length at.pairs.items < 30) }
+    ensures dead { IsErrOf result PageFault.Dead → pages.new ≡ pages.old }
+{
+    match place {
+        Some(leaf) => locate_known(pages, root, table, key, leaf),
+        None => locate(pages, root, table, key),
+    }
+}
+
+// Reads the super page, for a page that was found before.
+fn locate_known<S: EawStore>(
+    pages: &mut Pages<S>,
+    root: u32,
+    table: u8,
+    key: u64,
+    leaf: LeafPage,
+) -> Result<Located, PageFault>
+    requires sound { IsTrue S.tells → IsAlive (S.view pages.old.store) → IsSoundChain (S.view pages.old.store).state.bytes }
+    requires place { IsPlaceIn (S.view pages.old.store).shape leaf.page leaf.pairs.items }
+    requires fits { IsTrue S.tells → IsAlive (S.view pages.old.store) → IsPlaceOf (S.view pages.old.store).state.bytes root key leaf.page leaf.link leaf.pairs.items }
+    ensures looks { Looks S.tells (S.opens (S.view pages.old.store).shape) (is_failed result)
+        (pages_of (S.view pages.old.store) pages.old) (pages_of (S.view pages.new.store) pages.new) }
+    ensures cause { LookCause S.tells (S.view pages.old.store) result }
+    ensures finds { Finds S.tells S.view S.calls root key 0 (λ at steps. IsMet 0 steps) (S.view pages.old.store) (S.view pages.new.store) result }
+    ensures located { IfOk result (λ at. IsLocated (S.view pages.old.store).shape at.front at.page at.link at.pairs.items) }
+    ensures said { IsTrue S.tells → IfOk result (λ at. Locates (S.view pages.old.store).state.bytes root key at.front at.page at.link at.pairs.items) }
+    ensures room { IfOk result (λ at. length at.pairs.items < 30) }
+    ensures dead { IsErrOf result PageFault.Dead → pages.new ≡ pages.old }
+{
+    match fetch_super(pages, FORM) {
+        Ok(front) => Ok(with_front(front, leaf)),
+        Err(fault) => Err(fault),
+    }
+}
+
+// Reads the super page, and finds the page of a key.
+pub fn locate<S: EawStore>(
+    pages: &mut Pages<S>,
+    root: u32,
+    table: u8,
+    key: u64,
+) -> Result<Located, PageFault>
+    requires table { table < 8 }
+    requires root { root < page_count (S.view pages.old.store).shape }
+    requires sound { IsTrue S.tells → IsAlive (S.view pages.old.store) → IsSoundChain (S.view pages.old.store).state.bytes }
+    requires named { IsTrue S.tells → IsAlive (S.view pages.old.store) → IsTable (S.view pages.old.store).state.bytes table root }
+    ensures looks { Looks S.tells (S.opens (S.view pages.old.store).shape) (is_failed result)
+        (pages_of (S.view pages.old.store) pages.old) (pages_of (S.view pages.new.store) pages.new) }
+    ensures cause { LookCause S.tells (S.view pages.old.store) result }
+    ensures finds { Finds S.tells S.view S.calls root key (index_pages_of (S.view pages.old.store).shape) (λ at steps. IsMet 0 steps × IsMet at.page steps)
+        (S.view pages.old.store) (S.view pages.new.store) result }
     ensures located { IfOk result (λ at. IsLocated (S.view pages.old.store).shape at.front at.page at.link at.pairs.items) }
     ensures said { IsTrue S.tells → IfOk result (λ at. Locates (S.view pages.old.store).state.bytes root key at.front at.page at.link at.pairs.items) }
     ensures dead { IsErrOf result PageFault.Dead → pages.new ≡ pages.old }
@@ -134,48 +191,23 @@ pub fn locate<S: EawStore>(
         Ok(front) => front,
         Err(fault) => return Err(fault),
     };
-    let leaf = match leaf_for(pages, root, table, key, place) {
-        Ok(leaf) => leaf,
-        Err(fault) => return Err(fault),
-    };
-    Ok(Located {
+    let mut bytes = [0; PAGE_LEN];
+    match page_for(pages, root, table, key, &mut bytes) {
+        Ok(at) => Ok(with_front(front, leaf_of(&at, &bytes))),
+        Err(fault) => Err(fault),
+    }
+}
+
+fn with_front(front: Super, leaf: LeafPage) -> Located
+    ensures front { result.front ≡ front }
+    ensures page { result.page ≡ leaf.page }
+    ensures link { result.link ≡ leaf.link }
+    ensures pairs { result.pairs.items ≡ leaf.pairs.items }
+{
+    Located {
         front,
         page: leaf.page,
         link: leaf.link,
         pairs: leaf.pairs,
-    })
-}
-
-// The page that was found before, or else it is found now.
-fn leaf_for<S: EawStore>(
-    pages: &mut Pages<S>,
-    root: u32,
-    table: u8,
-    key: u64,
-    place: Option<LeafPage>,
-) -> Result<LeafPage, PageFault>
-    requires table { table < 8 }
-    requires root { root < page_count (S.view pages.old.store).shape }
-    requires alive { IsAlive (S.view pages.old.store) }
-    requires sound { IsTrue S.tells → IsSoundChain (S.view pages.old.store).state.bytes }
-    requires named { IsTrue S.tells → IsTable (S.view pages.old.store).state.bytes table root }
-    requires place { IfSome place (λ leaf. IsPlaceIn (S.view pages.old.store).shape leaf.page leaf.pairs.items) }
-    requires fits { IsTrue S.tells → IfSome place (λ leaf. IsPlaceOf (S.view pages.old.store).state.bytes root key leaf.page leaf.link leaf.pairs.items) }
-    ensures looks { Looks S.tells (S.opens (S.view pages.old.store).shape) (is_failed result)
-        (pages_of (S.view pages.old.store) pages.old) (pages_of (S.view pages.new.store) pages.new) }
-    ensures cause { LookCause S.tells (S.view pages.old.store) result }
-    ensures walks { Walks S.tells (S.calls pages.old.store) (S.calls pages.new.store) (along root key) (most_read (is_some place) (S.view pages.old.store).shape) (λ leaf read. Unit {0})
-        (S.view pages.old.store) (S.view pages.new.store) result }
-    ensures leaf { IfOk result (λ leaf. IsLeafIn (S.view pages.old.store).shape leaf.page leaf.pairs.items) }
-    ensures said { IsTrue S.tells → IfOk result (λ leaf. IsPlaceOf (S.view pages.old.store).state.bytes root key leaf.page leaf.link leaf.pairs.items) }
-    ensures dead { IsErrOf result PageFault.Dead → ⊥ }
-{
-    if let Some(leaf) = place {
-        return Ok(leaf);
-    }
-    let mut bytes = [0; PAGE_LEN];
-    match page_for(pages, root, table, key, &mut bytes) {
-        Ok(at) => Ok(leaf_of(&at, &bytes)),
-        Err(fault) => Err(fault),
     }
 }

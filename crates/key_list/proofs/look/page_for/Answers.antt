@@ -187,7 +187,7 @@ returns-then-is_past-clause-walks g c =
     let past = c.if-is_past.ensures.0 refl in
     along_past g.S.EawStore.tells (g.S.EawStore.calls c.args.pages.now.store) (g.S.EawStore.calls c.loop-step.pages.store) c.args.root c.args.key c.loop-step._step c.loop-step.page c.loop-step.bytes view mid inv.on
     (g.S.EawStore.calls c.read_page-in-loop-step.new.pages.store) (g.S.EawStore.view c.read_page-in-loop-step.new.pages.store) still inv.looks.shape c.loop-step.head.link goes inv.says.link c.read_page-in-loop-step.new.bytes c.in-Ok-read_page.ensures.reads
-    (index_pages_of view.shape) (record { page = c.loop-step.page; head = c.loop-step.head }) (some_said c.read_page-in-loop-step.new.bytes past.0) past.1 (omega (arith, c.loop-step-test.true, c.index_page_count-count.ensures.count))
+    (index_pages_of view.shape) (record { page = c.loop-step.page; head = c.loop-step.head }) refl (some_said c.read_page-in-loop-step.new.bytes past.0) past.1 (omega (arith, c.loop-step-test.true, c.index_page_count-count.ensures.count))
 
 pub returns-then-is_past-clause-page : goal.returns-then-is_past-clause-page
 returns-then-is_past-clause-page g c = λ told.
