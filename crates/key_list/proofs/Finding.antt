@@ -47,6 +47,22 @@ pub read_met : (page : ℕ) (rs : List Reading) → WasRead page rs → IsMet pa
 read_met page [] was = absurd was
 read_met page (r ∷ rs) was = elim was [ inl is ↦ inl is | inr more ↦ inr (read_met page rs more) ]
 
+-- a fault blames the same page, whatever the call would have answered
+pub blamed_as : (T U : Type 0) (fault : PageFault) → (let r : Result T PageFault = Err fault in let s : Result U PageFault = Err fault in blamed r ≡ blamed s)
+blamed_as T U faults.Media = refl
+blamed_as T U faults.Dead = refl
+blamed_as T U (faults.LogFull g h n) = refl
+blamed_as T U faults.SavesFull = refl
+blamed_as T U (faults.Damaged bad) = refl
+
+-- no other page than the super page
+pub front_only : (page : ℕ) (ss : List Step) → IsMet 0 ss → IsAmong page (0 ∷ []) → IsMet page ss
+front_only page ss met among = elim among [ inl is ↦ subst (λ (x : ℕ). IsMet x ss) (sym is) met | inr none ↦ absurd none ]
+
+-- or than that and one more
+pub both_only : (page other : ℕ) (ss : List Step) → IsMet 0 ss → IsMet other ss → IsAmong page (0 ∷ other ∷ []) → IsMet page ss
+both_only page other ss met also among = elim among [ inl is ↦ subst (λ (x : ℕ). IsMet x ss) (sym is) met | inr one ↦ elim one [ inl is ↦ subst (λ (x : ℕ). IsMet x ss) (sym is) also | inr none ↦ absurd none ] ]
+
 last_met : (page : ℕ) (rs : List Reading) → IsLast rs page → IsMet page (onwards rs ++ front ∷ [])
 last_met page [] is = absurd is
 last_met page (r ∷ rs) is = inl (sym is)
