@@ -222,7 +222,7 @@ returns-clause-works g c =
     let one = limits_one known c.args.root c.args.key v0.store.shape in
     let due = chain_actions v0.store.state.bytes c.args.root c.args.key in
     let full : length c.in-Ok.at.pairs.items ≡ 30 = full_with c.in-Ok.at.pairs.items c.len.result c.len.ensures.value c.if-len-lt-PAIRS_MAX.false c.in-Ok.ensures.located.most in
-    let unknown : known ≡ false = elim (cases_Bool known) [ inl is ↦ absurd (let room = c.in-Ok.ensures.room is in omega (arith, room, full)) | inr no ↦ no ] in
+    let unknown : known ≡ false = elim (cases_Bool known) [ inl is ↦ absurd (let room = c.in-Ok.ensures.room is in omega (arith, room, full)) | inr other ↦ other ] in
     let some : 1 ≤ index_pages_of v0.store.shape = omega (arith, c.in-Ok.ensures.located.inside) in
     let two = limits_two known c.args.root c.args.key v0.store.shape unknown some in
     finds_then g.S.EawStore.tells V g.S.EawStore.calls c.args.root c.args.key most Located (λ (at : Located) (steps : List Step). IsMet 0 steps) (IsTrue g.S.EawStore.tells) c.args.tid limits due (blamed_index c.insert_cut.result) v0.store v1.store one.0 one.1 (V c.insert_cut.new.pages.store) (is_done c.insert_cut.result) limits_cut (chain_actions v1.store.state.bytes c.args.root c.args.key) (0 ∷ []) c.in-Ok.ensures.looks.shape c.in-Ok.at c.in-Ok.ensures.finds

@@ -36,6 +36,6 @@ returns g c =
         (address (c.whole_page.ensures.page i) (c.whole_page.ensures.at i), lower i) ∷ (address (c.whole_page-2.ensures.page i) (c.whole_page-2.ensures.at i), upper i) ∷ (address (c.front_part.ensures.page i) (c.front_part.ensures.at i), part i) ∷ [],
       )) c.act_all.ensures.acts;
       runs = subst (λ (ps : List Part). Runs g.S.EawStore.tells V g.S.EawStore.calls (acting_of c.args.tid (log_len v0.store c.args.tid) ps) v0.store v1.store c.act_all.result) (λ i.
-        (address (c.whole_page.ensures.page i) (c.whole_page.ensures.at i), lower i) ∷ (address (c.whole_page-2.ensures.page i) (c.whole_page-2.ensures.at i), upper i) ∷ (address (c.front_part.ensures.page i) (c.front_part.ensures.at i), part i) ∷ []) c.act_all.ensures.runs;
+          (address (c.whole_page.ensures.page i) (c.whole_page.ensures.at i), lower i) ∷ (address (c.whole_page-2.ensures.page i) (c.whole_page-2.ensures.at i), upper i) ∷ (address (c.front_part.ensures.page i) (c.front_part.ensures.at i), part i) ∷ []) c.act_all.ensures.runs;
       dead = c.act_all.ensures.dead;
     }
