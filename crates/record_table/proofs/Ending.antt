@@ -1,6 +1,6 @@
 -- Calls on records that are one call of pages: saves, ways back and ends.
 use Rattle.std.proofs.Common.{◌≡◌, ◌≢◌, ℕ, ◌-◌, ◌+◌, ◌<◌, ◌≤◌, ◌⊎◌, Bool, true, false, inl, inr, IsTrue, List, [], ◌∷◌, ◌++◌, length, take, Result, Ok, Err, ◌&&◌, nat_le, refl, sym, ◌∙◌, ap, subst, arith, lt-ltb, le-leb}
-use Rattle.std.specs.Prelude.{Some, None, map, IfOk, IfErr, OnOk, OnErr}
+use Rattle.std.specs.Prelude.{None, map, IfOk, IfErr, OnOk, OnErr}
 use Rattle.std.proofs.lemmas.Bool.{false≢true}
 use Rattle.std.proofs.lemmas.List.{length-append, length-take-le, length-map}
 use Rattle.mars_base.proofs.Going.{stays, weaker}

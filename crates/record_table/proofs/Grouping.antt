@@ -1,6 +1,6 @@
 -- A commit of several numbers, as one call of pages.
 use Rattle.std.proofs.Common.{◌≡◌, ◌≢◌, ℕ, ◌⊎◌, Bool, true, false, cond, inl, inr, IsTrue, List, [], ◌∷◌, ◌++◌, length, map, Result, Ok, Err, refl, sym, ◌∙◌, ap, subst, arith}
-use Rattle.std.specs.Prelude.{None, OnOk, IfOk, flat_map}
+use Rattle.std.specs.Prelude.{None, flat_map}
 use Rattle.std.specs.Option.{option_map}
 use Rattle.std.proofs.lemmas.Bool.{false≢true}
 use Rattle.std.proofs.lemmas.List.{length-append}
@@ -25,7 +25,7 @@ use Rattle.page_store.specs.declared.fault.PageFault.TheVariants as fault
 use Rattle.record_table.specs.Does.{OpensWith}
 use Rattle.record_table.specs.Faults.{told_as}
 use Rattle.record_table.specs.Groups.{group_writes, after_group, CommitsGroup}
-use Rattle.record_table.specs.Invariant.{AreSlotParts, Rests, Holds}
+use Rattle.record_table.specs.Invariant.{AreSlotParts, Holds}
 use Rattle.record_table.specs.Shown.{table_of, write_of, writes_of, state_of, shown_by, keys_of}
 use Rattle.record_table.specs.State.{TableState}
 use Rattle.record_table.specs.declared.fault.TableFault.{TableFault}

@@ -1,16 +1,15 @@
 -- The making of a table: an upgrade, a look at the super page, a nested top action, and the end of its number.
-use Rattle.std.proofs.Common.{◌≡◌, ◌≢◌, ℕ, suc, ◌+◌, ◌-◌, ◌*◌, ◌<◌, ◌≤◌, ◌⊎◌, Bool, true, false, cond, inl, inr, IsTrue, List, [], ◌∷◌, ◌++◌, length, map, Option, Some, None, Result, Ok, Err, refl, sym, ◌∙◌, ap, subst, arith}
-use Rattle.std.specs.Prelude.{IsFalse, filter, OnOk, OnErr, slice_get}
+use Rattle.std.proofs.Common.{◌≡◌, ◌≢◌, ℕ, ◌+◌, ◌-◌, ◌*◌, ◌<◌, ◌≤◌, ◌⊎◌, Bool, true, false, cond, inl, inr, IsTrue, List, [], ◌∷◌, ◌++◌, length, Option, Some, None, Result, Ok, Err, refl, sym, ◌∙◌, ap, subst, arith}
+use Rattle.std.specs.Prelude.{IsFalse, filter, slice_get}
 use Rattle.std.specs.Option.{option_map}
 use Rattle.std.proofs.lemmas.Bool.{false≢true}
 use Rattle.std.proofs.lemmas.List.{map-append}
 use Rattle.mars_base.specs.Causes.{Rose}
-use Rattle.mars_base.proofs.Going.{stays, then, weaker}
-use Rattle.array_shape.specs.declared.shape.Shape.{Shape}
+use Rattle.mars_base.proofs.Going.{then, weaker}
 use Rattle.array_shape.specs.Logged.{Part, applied}
 use Rattle.array_shape.specs.Places.{data_len}
 use Rattle.eaw_face.specs.State.{State, listed, count_on}
-use Rattle.eaw_face.specs.StoreView.{StoreView, LeavesOnly}
+use Rattle.eaw_face.specs.StoreView.{LeavesOnly}
 use Rattle.eaw_face.specs.Causes.{IsAlive}
 use Rattle.history.specs.declared.call.Call.TheVariants.{Abort}
 use Rattle.history.specs.declared.call.Reply.TheVariants.{Fine}
@@ -30,14 +29,12 @@ use Rattle.page_store.specs.Looks.{LookCause}
 use Rattle.page_store.specs.Looks as look
 use Rattle.page_store.specs.Outline.{Outline}
 use Rattle.page_store.specs.Shown.{PagesView}
-use Rattle.page_store.specs.Shown as pages
-use Rattle.page_store.specs.State.{PagesState}
 use Rattle.page_store.specs.declared.fault.PageFault.{PageFault}
 use Rattle.page_store.specs.declared.fault.PageFault.TheVariants as fault
 use Rattle.page_store.proofs.Numbers.{with_here, with_there}
 use Rattle.record_table.specs.Calls as calls
 use Rattle.record_table.specs.Faults.{told_as}
-use Rattle.record_table.specs.Invariant.{AreSlotParts, Holds, Rests}
+use Rattle.record_table.specs.Invariant.{AreSlotParts, Holds}
 use Rattle.record_table.specs.Making.{as_make, IsFit, IsOfMake, names_said, PlaceCause, MakeCause, Makes, is_make_failed, with_page}
 use Rattle.record_table.specs.Names.{names_of, IsNew}
 use Rattle.record_table.specs.Does.{OpensNamed}
@@ -46,7 +43,6 @@ use Rattle.record_table.specs.Sought.{LooksAs}
 use Rattle.record_table.specs.State.{TableState, Keys}
 use Rattle.record_table.specs.Upgrading.{Upgrades}
 use Rattle.record_table.specs.declared.fault.TableFault.{TableFault}
-use Rattle.record_table.specs.declared.fault.TableFault.TheVariants as refusal
 use Rattle.record_table.specs.declared.making.MakeFault.{MakeFault}
 use Rattle.record_table.specs.declared.making.MakeFault.TheVariants as unmade
 use Rattle.record_table.proofs.Ending.{ends, abort_is}

@@ -1,7 +1,7 @@
 -- Calls below that leave records, writes and saves as they were: looks and insertions, one after another, and one that fails.
-use Rattle.std.proofs.Common.{◌≡◌, ◌≢◌, ◌^◌, ℕ, ◌+◌, ◌*◌, ◌/◌, ◌<◌, ◌⊎◌, Bool, true, false, cond, inl, inr, IsTrue, List, [], ◌∷◌, Result, Ok, Err, refl, sym, ◌∙◌, ap, subst, arith}
-use Rattle.std.specs.Prelude.{nat_eq, nat_lt, map, Option, Some, None, IsFalse}
-use Rattle.std.proofs.lemmas.Bool.{cases_eq, false≢true, cases_Bool, eq-eqb, ne_eqb}
+use Rattle.std.proofs.Common.{◌≡◌, ◌≢◌, ◌^◌, ℕ, ◌+◌, ◌*◌, ◌/◌, ◌<◌, ◌⊎◌, Bool, true, false, cond, inl, inr, IsTrue, List, [], ◌∷◌, Result, Ok, Err, refl, sym, ◌∙◌, ap, subst}
+use Rattle.std.specs.Prelude.{map, Option, Some, None, IsFalse}
+use Rattle.std.proofs.lemmas.Bool.{cases_eq, false≢true}
 use Rattle.mars_base.specs.Causes.{Rose}
 use Rattle.mars_base.proofs.Going.{stays, then, weaker}
 use Rattle.array_shape.specs.Logged.{Part}
@@ -9,7 +9,7 @@ use Rattle.eaw_face.specs.State.{State, listed}
 use Rattle.eaw_face.specs.StoreView.{LeavesOnly}
 use Rattle.eaw_face.specs.Causes.{IsAlive}
 use Rattle.record_slots.specs.Slots.{slot_said, slot_bytes}
-use Rattle.record_slots.specs.Places.{slot_of, next_slot, slot_due, tables_of}
+use Rattle.record_slots.specs.Places.{slot_of, slot_due, tables_of}
 use Rattle.record_slots.specs.declared.slot.Slot.TheVariants.{Absent}
 use Rattle.page_store.specs.Index.{Index, IsTable, Grows, Gains}
 use Rattle.page_store.specs.Index as face
@@ -24,7 +24,7 @@ use Rattle.record_table.specs.Invariant.{AreSlotParts, IsTied, Rests}
 use Rattle.record_table.specs.Shown.{KeyPair, found_key, table_in, table_of, write_of, writes_of, state_of, asked_tables, pairs_of}
 use Rattle.record_table.specs.Sought.{LooksAs}
 use Rattle.record_table.specs.State.{TableState}
-use Rattle.history.specs.Key.{Key, is_same_key, of_main}
+use Rattle.history.specs.Key.{Key, of_main}
 use Rattle.history.proofs.Keys.{cases_key, same_key, other_key}
 use Rattle.history.proofs.Tables.{same_table}
 use Rattle.record_table.proofs.Tables.{record_at, get-table_in}

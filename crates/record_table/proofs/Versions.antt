@@ -1,10 +1,9 @@
 -- An upgrade of the super page, by a look at it and a write of it.
-use Rattle.std.proofs.Common.{◌≡◌, ◌≢◌, ℕ, zero, suc, ◌+◌, ◌-◌, ◌<◌, ◌≤◌, Bool, true, false, cond, inl, inr, IsTrue, List, [], ◌∷◌, length, take, drop, Result, Ok, Err, refl, sym, ◌∙◌, ap, subst, arith}
-use Rattle.std.specs.Prelude.{nat_eq, Option, Some, None, IsFalse, OnOk}
+use Rattle.std.proofs.Common.{◌≡◌, ◌≢◌, ℕ, zero, suc, ◌≤◌, Bool, true, false, cond, inl, inr, IsTrue, List, [], ◌∷◌, length, take, drop, Result, Ok, Err, refl, sym, ◌∙◌, ap, subst, arith}
+use Rattle.std.specs.Prelude.{nat_eq, Some, IsFalse, OnOk}
 use Rattle.std.proofs.lemmas.Bool.{false≢true}
 use Rattle.std.proofs.lemmas.List.{drop_all}
 use Rattle.mars_base.specs.Bytes.{put}
-use Rattle.mars_base.specs.Causes.{Rose}
 use Rattle.mars_base.proofs.Going.{stays, weaker, then}
 use Rattle.array_shape.specs.declared.shape.Shape.{Shape}
 use Rattle.array_shape.specs.Places.{logger_of}
@@ -35,7 +34,6 @@ use Rattle.record_table.specs.Names.{names_of}
 use Rattle.record_table.specs.Shown.{table_of, state_of, shown_by, keys_of}
 use Rattle.record_table.proofs.States.{logs_same}
 use Rattle.record_table.specs.Sought.{LooksAs}
-use Rattle.record_table.specs.State.{TableState}
 use Rattle.record_table.specs.Upgrading.{upgraded, OpensUpgraded, Upgrades, UpgradeCause}
 use Rattle.record_table.specs.declared.fault.TableFault.{TableFault}
 use Rattle.record_table.specs.declared.fault.TableFault.TheVariants as refusal

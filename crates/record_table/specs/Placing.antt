@@ -2,7 +2,7 @@
 use Rattle.std.specs.Prelude.{Option, Some, None}
 use Rattle.page_store.specs.declared.leaf_page.LeafPage.{LeafPage}
 use Rattle.page_store.specs.declared.leaf_page.Sought.{Sought}
-use Rattle.page_store.specs.declared.leaf_page.Sought.TheVariants.{Slot, Place, Split}
+use Rattle.page_store.specs.declared.leaf_page.Sought.TheVariants.{Place}
 
 -- the place where the key goes, if it is known
 abbrev pub place_sought : Sought → Option LeafPage

@@ -1,5 +1,5 @@
 -- What an upgrade of the super page to version 2 does.
-use Rattle.std.specs.Prelude.{ℕ, ◌≡◌, ◌≢◌, ◌⊎◌, nat_eq, if◌then◌else◌, Bool, true, false, IsTrue, IsFalse, List, Result, Ok, Err, OnOk}
+use Rattle.std.specs.Prelude.{ℕ, ◌≡◌, ◌≢◌, ◌⊎◌, nat_eq, if◌then◌else◌, Bool, true, IsTrue, IsFalse, List, Result, Ok, Err, OnOk}
 use Rattle.mars_base.specs.Bytes.{put}
 use Rattle.mars_base.specs.Causes.{Rose}
 use Rattle.eaw_face.specs.StoreView.{LeavesOnly}

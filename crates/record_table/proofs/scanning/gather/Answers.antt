@@ -4,7 +4,7 @@ use Rattle.record_table.specs.Does as answers
 use Rattle.record_table.specs.declared.fault.TableFault.{TableFault}
 use Rattle.record_table.proofs.Looking.{failed_told}
 use Rattle.std.proofs.lemmas.Bool.{eqb-true, eqb-false}
-use Rattle.std.proofs.Common.{false, ◌≡◌, ◌+◌, suc, ℕ, List, ◌++◌, length, refl, sym, ◌∙◌, ap, subst, arith}
+use Rattle.std.proofs.Common.{false, ℕ, List, ◌++◌, refl, sym, ◌∙◌, ap, subst, arith}
 use Rattle.std.proofs.lemmas.List.{append-nil}
 use Rattle.eaw_face.specs.State.{State}
 use Rattle.page_store.specs.Index.{slots_of}
@@ -12,7 +12,7 @@ use Rattle.page_store.specs.Pairs.{Pair, AreInside, InTurn, AreNext}
 use Rattle.page_store.specs.Shown.{pages_of}
 use Rattle.history.specs.Writes.{rows_within}
 use Rattle.index_pages.proofs.Turns.{next_first, next_empty}
-use Rattle.record_table.specs.Scanned.{rows_seen, rows_left}
+use Rattle.record_table.specs.Scanned.{rows_seen}
 use Rattle.record_table.specs.Sought.{LooksAs}
 use Rattle.record_table.specs.State.{TableState, seen_by}
 use Rattle.history.specs.Key.{main_name}

@@ -3,10 +3,9 @@ use Rattle.record_table.specs.Sought.{LooksAs}
 use Rattle.record_table.specs.Does as answers
 use Rattle.record_table.specs.declared.fault.TableFault.{TableFault}
 use Rattle.record_table.proofs.Looking.{failed_told}
-use Rattle.std.proofs.Common.{◌≡◌, ◌<◌, ◌≤◌, ◌+◌, false, ℕ, suc, List, ◌++◌, length, get_or, drop, refl, sym, ◌∙◌, ap, subst, arith}
+use Rattle.std.proofs.Common.{◌≡◌, ◌+◌, false, ℕ, suc, ◌++◌, get_or, drop, refl, sym, ◌∙◌, ap, subst, arith}
 use Rattle.std.specs.Prelude.{Some}
 use Rattle.std.proofs.lemmas.List.{append-nil}
-use Rattle.eaw_face.specs.Causes.{IsAlive}
 use Rattle.eaw_face.specs.State.{State}
 use Rattle.history.specs.Writes.{rows_within}
 use Rattle.page_store.specs.Index.{slots_of}

@@ -1,4 +1,4 @@
-use Rattle.std.proofs.Common.{false, refl, sym, ◌∙◌, ap, arith}
+use Rattle.std.proofs.Common.{false, refl, sym, ◌∙◌, ap}
 use Rattle.page_store.specs.Records.{value_of}
 use Rattle.page_store.specs.Shown.{pages_of}
 use Rattle.record_table.proofs.Looking.{looks_as, looks_next}

@@ -1,6 +1,5 @@
 use Rattle.std.proofs.Common.{◌≡◌, true, refl, ◌∙◌}
 use Rattle.record_table.proofs.Doing.{does_dead}
-use Rattle.record_table.proofs.Ending.{does_of}
 use Rattle.std.proofs.Common.{◌≤◌, length, sym, subst}
 use Rattle.page_store.specs.Command as page
 use Rattle.page_store.specs.Shown.{Shown, pages_of, counts_in}

@@ -15,7 +15,6 @@ use Rattle.record_table.proofs.Doing.{look_refused}
 use Rattle.record_table.proofs.Ending.{does_of, err_same}
 use Rattle.record_table.proofs.Looking.{looks_as}
 use Rattle.record_table.proofs.Putting.{told_is_answered, put_known, put_new, put_refused}
-use Rattle.record_table.proofs.Main.{root_there}
 use Rattle.record_table.proofs.Sharing.{Laws, found_in}
 use Rattle.record_table.proofs.KeptNames.{kept}
 use Rattle.record_table.proofs.records.Records.put.Goals as goal
