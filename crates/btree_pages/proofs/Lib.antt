@@ -34,3 +34,6 @@ pub mod Keeping
 pub mod Righting
 pub mod Arriving
 pub mod Standing
+pub mod Stepping
+pub mod Acted
+pub mod Beginning
