@@ -37,3 +37,4 @@ pub mod Standing
 pub mod Stepping
 pub mod Acted
 pub mod Beginning
+pub mod Crowds

@@ -51,7 +51,7 @@ use Rattle.index_pages.proofs.Joining.{named_kept, joins_within}
 use Rattle.btree_pages.proofs.Walking.{root_first, root_split, grow_due, growing_takes, growing_stops, growing_lacks, grown_decides}
 
 -- as many levels above the leaves
-above_all : (d : ℕ) → d ≡ above d 0
+pub above_all : (d : ℕ) → d ≡ above d 0
 above_all zero = refl
 above_all (suc d) = ap suc (above_all d)
 

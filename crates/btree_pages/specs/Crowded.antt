@@ -1,11 +1,11 @@
 -- Full pages on the way of a key.
-use Rattle.std.specs.Prelude.{ℕ, zero, suc, nat_eq, ◌||◌, Bool, true, false, List}
+use Rattle.std.specs.Prelude.{ℕ, zero, suc, nat_le, ◌||◌, Bool, true, false, List}
 use Rattle.index_pages.specs.Page.{level_of, count_of, page_pairs}
 use Rattle.btree_laws.specs.Descent.{child_for}
 
--- a page has 30 pairs
+-- a page has as many pairs as it may
 abbrev pub is_full : List ℕ → ℕ → Bool
-is_full bytes page = nat_eq (count_of bytes page) 30
+is_full bytes page = nat_le 30 (count_of bytes page)
 
 -- so has one of those below this page on the way, which is this many levels above the leaves
 abbrev pub is_full_below : ℕ → List ℕ → ℕ → ℕ → Bool

@@ -1,5 +1,5 @@
 // Look-ups from the root down.
-ghost use Rattle.std.specs.Prelude.{◌≡◌, ◌<◌, ◌≤◌, false, [], IfOk, IfErr, IfSome, OnOk, IsErrOf, IsTrue, length};
+ghost use Rattle.std.specs.Prelude.{◌≡◌, ◌<◌, ◌≤◌, ◌||◌, nat_le, false, [], IfOk, IfErr, IfSome, OnOk, IsErrOf, IsTrue, length};
 ghost use Rattle.array_shape.specs.Places.{page_count};
 ghost use Rattle.eaw_face.specs.Causes.{IsAlive};
 ghost use Rattle.record_slots.specs.Places.{page_bytes};
@@ -101,7 +101,7 @@ fn descend<S: EawStore>(
             Ok(head) => head,
             Err(fault) => return Err(fault),
         };
-        full = full || usize::from(head.count) == PAIRS_MAX;
+        full = or_full(full, head.count);
         if head.level == 0 {
             return Ok(Leaf {
                 page,
@@ -119,6 +119,13 @@ fn descend<S: EawStore>(
         bound = behind.or(bound);
     }
     Err(PageFault::Damaged { page: last })
+}
+
+// Whether a page was full before, or one with so many pairs is.
+fn or_full(full: bool, count: u16) -> bool
+    ensures { result ≡ (full || nat_le 30 count) }
+{
+    full || usize::from(count) >= PAIRS_MAX
 }
 
 // The slot of a key.
