@@ -2,7 +2,7 @@
 use Rattle.std.proofs.Common.{◌≡◌, ◌≢◌, ℕ, ◌+◌, ◌*◌, ◌%◌, ◌<◌, ◌≤◌, ◌⊎◌, inl, inr, Bool, true, false, nat_eq, List, [], ◌∷◌, ◌++◌, length, Option, Some, None, Result, Ok, Err, refl, sym, ◌∙◌, ap, subst, arith}
 use Rattle.std.specs.Prelude.{IsTrue, IfSome, if◌then◌else◌, not}
 use Rattle.std.proofs.lemmas.Bool.{false≢true}
-use Rattle.std.proofs.lemmas.List.{append-nil}
+use Rattle.std.proofs.lemmas.List.{append-nil, length-append}
 use Rattle.array_shape.specs.declared.shape.Shape.{Shape}
 use Rattle.array_shape.specs.Places.{page_count}
 use Rattle.eaw_face.specs.Command as store
@@ -58,6 +58,21 @@ blamed_as T U faults.Dead = refl
 blamed_as T U (faults.LogFull g h n) = refl
 blamed_as T U faults.SavesFull = refl
 blamed_as T U (faults.Damaged bad) = refl
+
+-- no other page than one that is known, or was met
+pub one_met : (page page0 : ℕ) (ss : List Step) → (page ≡ page0) ⊎ IsMet page ss → (p : ℕ) → IsAmong p (page ∷ []) → (p ≡ page0) ⊎ IsMet p ss
+one_met page page0 ss met p among = elim among [ inl is ↦ subst (λ (x : ℕ). (x ≡ page0) ⊎ IsMet x ss) (sym is) met | inr none ↦ absurd none ]
+
+pub root_two : (p page root : ℕ) → page ≡ root → IsAmong p (0 ∷ page ∷ []) → (p ≡ 0) ⊎ (p ≡ root)
+root_two p page root is among = elim among [ inl super ↦ inl super | inr later ↦ elim later [ inl here ↦ inr (here ∙ is) | inr none ↦ absurd none ] ]
+
+-- no page comes behind a leaf, whatever its pairs
+pub goes_leaf : (key : ℕ) (pairs : List Pair) → below key 0 [] ≡ below key 0 pairs
+goes_leaf key pairs = λ i read. same read i
+  where
+    same : (read : List Reading) → below key 0 [] read ≡ below key 0 pairs read
+    same [] = refl
+    same (r ∷ rs) = refl
 
 -- reads of pages of a way, behind one of the super page or not
 abbrev pub reads_of : Bool → List Reading → List Step
@@ -184,3 +199,187 @@ module _ {S : Type 0} (tells : Bool) (view : S → StoreView) (calls : S → sto
       here faults.Dead failed is rs only has blames = let p = plain false rs only has in aside_ends None p.0 p.1 p.2 tt
       here (faults.LogFull g h n) failed is rs only has blames = let p = plain false rs only has in aside_ends None p.0 p.1 p.2 tt
       here faults.SavesFull failed is rs only has blames = let p = plain false rs only has in aside_ends None p.0 p.1 p.2 tt
+
+-- on the way down
+module _ {S : Type 0} (tells : Bool) (view : S → StoreView) (calls : S → store.Command → ℕ) (key page0 level0 : ℕ) (pairs0 : List Pair) (old : S) where
+  pub came_first : page0 < page_count (view old).shape → CameDown tells view calls key page0 level0 pairs0 (view old) (view old) page0 level0 pairs0
+  came_first there = record {
+    read = [];
+    shape = refl;
+    spends = spends_none tells view calls true (view old) (view old) refl;
+    way = tt;
+    leads = λ inner. leads_first key level0 pairs0 inner;
+    count = omega arith;
+    there = there;
+    met = inl refl;
+  }
+
+  module _ (now next : S) (page level : ℕ) (pairs : List Pair) (c : CameDown tells view calls key page0 level0 pairs0 (view old) (view now) page level pairs) (inner : level ≢ 0) where
+    -- the child of the page was read
+    module _ (child : Node) (reads : (let r : Result Node PageFault = Ok child in ReadsNamed tells (calls now) (calls next) page (child_for pairs key) (view now) (view next) r)) where
+      pub child_spends : Spends tells true view calls (onwards ((child_for pairs key, reads.says.0) ∷ c.read)) (view old) (view next)
+      child_spends = spends_then tells view calls true (onwards c.read) (onward (child_for pairs key, reads.says.0) ∷ []) (view old) (view now) (view next) c.spends
+          (subst (λ (rs : List Reading). Spends tells true view calls (onwards rs) (view now) (view next)) reads.says.1 (spends_onward tells view calls now false (calls next) (view now) (view next) reads.read reads.reads))
+
+      pub child_there : child_for pairs key < page_count (view old).shape
+      child_there = subst (λ (sh : Shape). child_for pairs key < page_count sh) c.shape (subst (λ (rs : List Reading). AreThere (page_count (view now).shape) rs) reads.says.1 reads.reads.there).0
+
+      abbrev pub came_child : (view next).shape ≡ (view now).shape → child.page ≡ child_for pairs key → child.level + 1 ≡ level
+          → CameDown tells view calls key page0 level0 pairs0 (view old) (view next) child.page child.level child.pairs.items
+      came_child shape page_is level_is = record {
+        read = (child_for pairs key, reads.says.0) ∷ c.read;
+        shape = shape ∙ c.shape;
+        spends = child_spends;
+        way = (c.leads inner, c.way);
+        leads = λ deeper. leads_on key level0 pairs0 (child_for pairs key) reads.says.0 child.level c.read reads.says.2.level deeper ∙ ap (λ (ps : List Pair). Some (child_for ps key)) (sym reads.says.2.pairs);
+        count = omega (arith, c.count, level_is);
+        there = subst (λ (p : ℕ). p < page_count (view old).shape) (sym page_is) child_there;
+        met = inr (inl page_is);
+      }
+
+    -- it could not be read, or is damaged
+    pub came_fails : (fault : PageFault) → (let r : Result Node PageFault = Err fault in ReadsNamed tells (calls now) (calls next) page (child_for pairs key) (view now) (view next) r)
+        → FailsDown tells view calls key page0 level0 pairs0 (view old) (view next) fault
+    came_fails fault reads = here fault reads.read reads.only reads.reads reads.blames
+      where
+        few : (rs : List Reading) → IsOnly (child_for pairs key) rs → length rs ≤ 1
+        few [] only = omega arith
+        few (r ∷ []) only = omega arith
+        few (r ∷ q ∷ rs) only = absurd only
+
+        way : (rs : List Reading) → IsOnly (child_for pairs key) rs → IsWay (below key level0 pairs0) (rs ++ c.read)
+        way [] only = c.way
+        way (r ∷ []) only = (c.leads inner ∙ ap Some (sym only), c.way)
+        way (r ∷ q ∷ rs) only = absurd only
+
+        joined : (rs : List Reading) → IsOnly (child_for pairs key) rs → onwards rs ++ onwards c.read ≡ onwards (rs ++ c.read)
+        joined [] only = refl
+        joined (r ∷ []) only = refl
+        joined (r ∷ q ∷ rs) only = absurd only
+
+        ill : (failed : Bool) (rs : List Reading) → Spends tells (not failed) view calls (onwards rs) (view now) (view next) → Spends tells false view calls (onwards rs) (view now) (view next)
+        ill true rs spends = spends
+        ill false rs spends = spends_ill tells view calls false (onwards rs) (view now) (view next) spends
+
+        spent : (failed : Bool) (rs : List Reading) → IsOnly (child_for pairs key) rs → HasRead tells failed (calls now) (calls next) (view now) (view next) rs → Spends tells false view calls (onwards (rs ++ c.read)) (view old) (view next)
+        spent failed rs only has =
+            subst (λ (ss : List Step). Spends tells false view calls ss (view old) (view next)) (joined rs only)
+            (spends_then tells view calls false (onwards c.read) (onwards rs) (view old) (view now) (view next) c.spends (ill failed rs (spends_onward tells view calls now failed (calls next) (view now) (view next) rs has)))
+
+        last : (rs : List Reading) (p : ℕ) → IsOnly (child_for pairs key) rs → AreThere (page_count (view now).shape) rs → IsLast rs p → (p < page_count (view old).shape) × IsMet p (onwards (rs ++ c.read))
+        last [] p only there is = absurd is
+        last (r ∷ []) p only there is = (subst (λ (q : ℕ). q < page_count (view old).shape) is (subst (λ (sh : Shape). r.0 < page_count sh) c.shape there.0), inl (sym is))
+        last (r ∷ q ∷ rs) p only there is = absurd only
+
+        above : (rs : List Reading) → IsOnly (child_for pairs key) rs → (page ≡ page0) ⊎ IsMet page (onwards (rs ++ c.read))
+        above [] only = c.met
+        above (r ∷ []) only = elim c.met [ inl e ↦ inl e | inr met ↦ inr (inr met) ]
+        above (r ∷ q ∷ rs) only = absurd only
+
+        made : (fault : PageFault) (failed : Bool) (rs : List Reading) → IsOnly (child_for pairs key) rs → HasRead tells failed (calls now) (calls next) (view now) (view next) rs
+            → (let r : Result (Unit {0}) PageFault = Err fault in IfSome (blamed r) (λ p. (p < page_count (view old).shape) × ((p ≡ page0) ⊎ IsMet p (onwards (rs ++ c.read))))) → FailsDown tells view calls key page0 level0 pairs0 (view old) (view next) fault
+        made fault failed rs only has blames = record {
+          read = rs ++ c.read;
+          spends = spent failed rs only has;
+          way = way rs only;
+          few = omega (arith, few rs only, c.count, some_level, length-append rs c.read);
+          blames = blames;
+        }
+          where
+            some_level : 1 ≤ level
+            some_level = (let other : level ≡ 0 → ⊥ = inner in omega arith)
+
+        here : (fault : PageFault) (rs : List Reading) → IsOnly (child_for pairs key) rs → (let r : Result Node PageFault = Err fault in HasRead tells (is_failed r) (calls now) (calls next) (view now) (view next) rs)
+            → (let r : Result Node PageFault = Err fault in IfSome (blamed r) (λ bad. (bad ≡ page) ⊎ IsLast rs bad)) → FailsDown tells view calls key page0 level0 pairs0 (view old) (view next) fault
+        here faults.Media rs only has blames = made faults.Media true rs only has tt
+        here faults.Dead rs only has blames = made faults.Dead false rs only has tt
+        here (faults.LogFull g h n) rs only has blames = made (faults.LogFull g h n) false rs only has tt
+        here faults.SavesFull rs only has blames = made faults.SavesFull false rs only has tt
+        here (faults.Damaged bad) rs only has blames = made (faults.Damaged bad) false rs only has (elim blames [
+          | inl e ↦ (subst (λ (p : ℕ). p < page_count (view old).shape) (sym e) c.there, subst (λ (p : ℕ). (p ≡ page0) ⊎ IsMet p (onwards (rs ++ c.read))) (sym e) (above rs only))
+          | inr is ↦ let l = last rs bad only has.there is in (l.0, inr l.1)
+        ])
+
+  module _ (t : ℕ) (due : List Action) (bad : Option ℕ) where
+    -- the removal ends where the way did
+    pub down_fails : (new : StoreView) (fault : PageFault) → (let r : Result (Unit {0}) PageFault = Err fault in bad ≡ blamed r) → FailsDown tells view calls key page0 level0 pairs0 (view old) new fault
+        → WorksFrom (0 ∷ page0 ∷ []) (Unit {0}) tells false view calls t (below key level0 pairs0) (limits_down level0) due bad (view old) new
+    down_fails new fault is fails =
+        ends_reads tells view calls t due bad false false fails.read (below key level0 pairs0) (limits_down level0) (0 ∷ page0 ∷ []) (view old) new fails.spends (omega arith) fails.few fails.way
+        (subst (λ (o : Option ℕ). IfSome o (λ p. (p < page_count (view old).shape) × (IsAmong p (0 ∷ page0 ∷ []) ⊎ IsMet p (onwards fails.read)))) (sym is) (known_or (let r : Result (Unit {0}) PageFault = Err fault in blamed r) fails.blames)) (λ told yes. absurd (false≢true yes))
+      where
+        known_or : (o : Option ℕ) → IfSome o (λ p. (p < page_count (view old).shape) × ((p ≡ page0) ⊎ IsMet p (onwards fails.read))) → IfSome o (λ p. (p < page_count (view old).shape) × (IsAmong p (0 ∷ page0 ∷ []) ⊎ IsMet p (onwards fails.read)))
+        known_or None blames = tt
+        known_or (Some p) blames = (blames.0, elim blames.1 [ inl e ↦ inl (inr (inl e)) | inr met ↦ inr met ])
+
+    -- or goes on from the leaf
+    pub down_then : (done : Bool) (mid new : StoreView) (page level : ℕ) (pairs : List Pair) → (c : CameDown tells view calls key page0 level0 pairs0 (view old) mid page level pairs) → (then_due : List Action) → (IsTrue tells → then_due ≡ due)
+        → (then_known : List ℕ) → ((p : ℕ) → IsAmong p then_known → (p ≡ page0) ⊎ IsMet p (onwards c.read)) → WorksFrom then_known (Unit {0}) tells done view calls t (below key 0 []) (limits_down 0) then_due bad mid new
+        → WorksFrom (0 ∷ page0 ∷ []) (Unit {0}) tells done view calls t (below key level0 pairs0) (limits_down level0) due bad (view old) new
+    down_then done mid new page level pairs c then_due same then_known met works =
+        then_reads tells view calls t due bad false done c.read (below key level0 pairs0) (below key 0 []) (limits_down level0) (limits_down 0) then_due (0 ∷ page0 ∷ []) then_known (view old) mid new c.shape c.spends (omega arith) (omega (arith, c.count)) (omega arith) (omega arith)
+        (λ more on. subst (λ (xs : List Reading). IsWay (below key level0 pairs0) (xs ++ c.read)) (sym (none_on key [] more on)) c.way) same
+        (λ p among. elim (met p among) [ inl e ↦ inl (inr (inl e)) | inr is ↦ inr is ]) works
+
+-- the whole of it, from the super page on
+module _ {S : Type 0} (tells : Bool) (view : S → StoreView) (calls : S → store.Command → ℕ) (t key root : ℕ) (due : List Action) (bad : Option ℕ) (limits : Limits) (once : 1 ≤ limits.fronts) (old : S) where
+  -- the super page could not be read, or is damaged
+  pub super_fails : (T : Type 0) (Good : Type 0) (calls_now : store.Command → ℕ) (new : StoreView) (said there : List ℕ) (fault : PageFault) → 0 < page_count (view old).shape → (let r : Result T PageFault = Err fault in bad ≡ blamed r)
+      → (let r : Result T PageFault = Err fault in TestCause tells Good 0 (view old) r) → (let r : Result T PageFault = Err fault in HasRead tells (is_failed r) (calls old) calls_now (view old) new (one_reading 0 said there r))
+      → WorksFrom [] (Unit {0}) tells false view calls t (down root key) limits due bad (view old) new
+  super_fails T Good calls_now new said there faults.Media some is cause reads =
+      ends_reads tells view calls t due bad true false [] (down root key) limits [] (view old) new (spends_front tells view calls old true calls_now (view old) new there reads) (omega (arith, once)) (omega arith) tt
+      (subst (λ (o : Option ℕ). IfSome o (λ p. (p < page_count (view old).shape) × (IsAmong p [] ⊎ IsMet p (front ∷ [])))) (sym is) tt) (λ told yes. absurd (false≢true yes))
+  super_fails T Good calls_now new said there faults.Dead some is cause reads =
+      ends_reads tells view calls t due bad false false [] (down root key) limits [] (view old) new (spends_none tells view calls false (view old) new (omega (arith, reads.exact refl))) (omega arith) (omega arith) tt
+      (subst (λ (o : Option ℕ). IfSome o (λ p. (p < page_count (view old).shape) × (IsAmong p [] ⊎ IsMet p []))) (sym is) tt) (λ told yes. absurd (false≢true yes))
+  super_fails T Good calls_now new said there (faults.Damaged n) some is cause reads =
+      ends_reads tells view calls t due bad true false [] (down root key) limits [] (view old) new (spends_ill tells view calls false (front ∷ []) (view old) new (spends_front tells view calls old false calls_now (view old) new said reads)) (omega (arith, once)) (omega arith) tt
+      (subst (λ (o : Option ℕ). IfSome o (λ p. (p < page_count (view old).shape) × (IsAmong p [] ⊎ IsMet p (front ∷ [])))) (sym is) (subst (λ (p : ℕ). p < page_count (view old).shape) (sym cause.1) some, inr (inl cause.1))) (λ told yes. absurd (false≢true yes))
+  super_fails T Good calls_now new said there (faults.LogFull g h n) some is cause reads = absurd cause
+  super_fails T Good calls_now new said there faults.SavesFull some is cause reads = absurd cause
+
+  module _ (one : S) (front_said : List ℕ) (shape : (view one).shape ≡ (view old).shape) (reads : HasRead tells false (calls old) (calls one) (view old) (view one) ((0, front_said) ∷ [])) where
+    has_front : Spends tells true view calls (front ∷ []) (view old) (view one)
+    has_front = spends_front tells view calls old false (calls one) (view old) (view one) front_said reads
+
+    -- it names a root that is none
+    pub front_ends : bad ≡ Some 0 → 0 < page_count (view old).shape → WorksFrom [] (Unit {0}) tells false view calls t (down root key) limits due bad (view old) (view one)
+    front_ends is some =
+        ends_reads tells view calls t due bad true false [] (down root key) limits [] (view old) (view one) (spends_ill tells view calls false (front ∷ []) (view old) (view one) has_front) (omega (arith, once)) (omega arith) tt
+        (subst (λ (o : Option ℕ). IfSome o (λ p. (p < page_count (view old).shape) × (IsAmong p [] ⊎ IsMet p (front ∷ [])))) (sym is) (some, inr (inl refl))) (λ told yes. absurd (false≢true yes))
+
+    -- the root could not be read, or is damaged
+    pub root_fails : (Good : Type 0) (calls_now : store.Command → ℕ) (new : StoreView) (said there : List ℕ) (fault : PageFault) → root < page_count (view old).shape → 1 ≤ limits.way → (let r : Result Node PageFault = Err fault in bad ≡ blamed r)
+        → (let r : Result Node PageFault = Err fault in TestCause tells Good root (view one) r) → (let r : Result Node PageFault = Err fault in HasRead tells (is_failed r) (calls one) calls_now (view one) new (one_reading root said there r))
+        → WorksFrom [] (Unit {0}) tells false view calls t (down root key) limits due bad (view old) new
+    root_fails Good calls_now new said there faults.Media some many is cause reads2 =
+        ends_reads tells view calls t due bad true false ((root, there) ∷ []) (down root key) limits [] (view old) new
+        (spends_then tells view calls false (front ∷ []) (onward (root, there) ∷ []) (view old) (view one) new has_front (spends_onward tells view calls one true calls_now (view one) new ((root, there) ∷ []) reads2)) (omega (arith, once)) (omega (arith, many)) (refl, tt)
+        (subst (λ (o : Option ℕ). IfSome o (λ p. (p < page_count (view old).shape) × (IsAmong p [] ⊎ IsMet p (onward (root, there) ∷ front ∷ [])))) (sym is) tt) (λ told yes. absurd (false≢true yes))
+    root_fails Good calls_now new said there faults.Dead some many is cause reads2 =
+        ends_reads tells view calls t due bad true false [] (down root key) limits [] (view old) new
+        (spends_then tells view calls false (front ∷ []) [] (view old) (view one) new has_front (spends_none tells view calls false (view one) new (omega (arith, reads2.exact refl)))) (omega (arith, once)) (omega arith) tt
+        (subst (λ (o : Option ℕ). IfSome o (λ p. (p < page_count (view old).shape) × (IsAmong p [] ⊎ IsMet p (front ∷ [])))) (sym is) tt) (λ told yes. absurd (false≢true yes))
+    root_fails Good calls_now new said there (faults.Damaged n) some many is cause reads2 =
+        ends_reads tells view calls t due bad true false ((root, said) ∷ []) (down root key) limits [] (view old) new
+        (spends_then tells view calls false (front ∷ []) (onward (root, said) ∷ []) (view old) (view one) new has_front
+        (spends_ill tells view calls false (onward (root, said) ∷ []) (view one) new (spends_onward tells view calls one false calls_now (view one) new ((root, said) ∷ []) reads2))) (omega (arith, once)) (omega (arith, many)) (refl, tt)
+        (subst (λ (o : Option ℕ). IfSome o (λ p. (p < page_count (view old).shape) × (IsAmong p [] ⊎ IsMet p (onward (root, said) ∷ front ∷ [])))) (sym is) (subst (λ (p : ℕ). p < page_count (view old).shape) (sym cause.1) some, inr (inl cause.1))) (λ told yes. absurd (false≢true yes))
+    root_fails Good calls_now new said there (faults.LogFull g h n) some many is cause reads2 = absurd cause
+    root_fails Good calls_now new said there faults.SavesFull some many is cause reads2 = absurd cause
+
+    -- both were read, and the removal goes on
+    pub root_then : (mid : S) (new : StoreView) (said : List ℕ) → (view mid).shape ≡ (view one).shape → HasRead tells false (calls one) (calls mid) (view one) (view mid) ((root, said) ∷ []) → (level : ℕ) (pairs : List Pair) → level ≡ level_said said → pairs ≡ pairs_said said
+        → (done : Bool) (then_goes : List Reading → Option ℕ) → then_goes ≡ below key level pairs → 1 + level ≤ limits.way → 1 ≤ limits.asides → 1 ≤ limits.actions → (then_due : List Action) → (IsTrue tells → then_due ≡ due) → (then_known : List ℕ)
+        → ((p : ℕ) → IsAmong p then_known → (p ≡ 0) ⊎ (p ≡ root)) → WorksFrom then_known (Unit {0}) tells done view calls t then_goes (limits_down level) then_due bad (view mid) new
+        → WorksFrom [] (Unit {0}) tells done view calls t (down root key) limits due bad (view old) new
+    root_then mid new said shape2 reads2 level pairs level_is pairs_are done then_goes goes_are way asides actions then_due same then_known two works =
+        then_reads tells view calls t due bad true done ((root, said) ∷ []) (down root key) (below key level pairs) limits (limits_down level) then_due [] then_known (view old) (view mid) new (shape2 ∙ shape)
+        (spends_then tells view calls true (front ∷ []) (onward (root, said) ∷ []) (view old) (view one) (view mid) has_front (spends_onward tells view calls one false (calls mid) (view one) (view mid) ((root, said) ∷ []) reads2))
+        (omega (arith, once)) (omega (arith, way)) asides actions (λ more on. way_onto (down root key) (below key level pairs) ((root, said) ∷ []) starts (λ q qs. refl) (refl, tt) more on) same
+        (λ p among. elim (two p among) [ inl super ↦ inr (inr (inl super)) | inr here ↦ inr (inl here) ])
+        (subst (λ (f : List Reading → Option ℕ). WorksFrom then_known (Unit {0}) tells done view calls t f (limits_down level) then_due bad (view mid) new) goes_are works)
+      where
+        starts : below key level pairs [] ≡ down root key ((root, said) ∷ [])
+        starts = ap (λ (n : ℕ). if nat_eq n 0 then None else Some (child_for pairs key)) level_is ∙ ap (λ (ps : List Pair). if nat_eq (level_said said) 0 then None else Some (child_for ps key)) pairs_are
