@@ -1,4 +1,4 @@
-use Rattle.std.proofs.Common.{◌<◌, ◌≤◌, ◌^◌, ℕ, length, Option, ◌∙◌, ap, arith, ◌≡◌, ◌≢◌, Bool, true, false, List, [], ◌∷◌, None, Some, Result, Err, IsTrue, inl, inr, refl}
+use Rattle.std.proofs.Common.{◌<◌, ◌≤◌, ◌^◌, ℕ, length, Option, ◌∙◌, ap, arith, ◌≡◌, ◌≢◌, Bool, true, false, List, [], ◌∷◌, None, Some, Result, Err, IsTrue, inl, inr, refl, subst, sym}
 use Rattle.page_store.specs.Shown.{pages_of}
 use Rattle.index_pages.proofs.Removals.{removes_then, removes_none, removes_damaged, removes_look_err}
 use Rattle.btree_pages.specs.Index.{tree, tree_removal}
@@ -11,6 +11,7 @@ use Rattle.index_pages.proofs.Working.{onwards}
 use Rattle.btree_pages.proofs.Looked.{bytes_same}
 use Rattle.btree_pages.proofs.Removing.{blamed_as, came_child, came_fails, down_fails, down_then, ends_none, one_met}
 use Rattle.btree_pages.specs.declared.node.Node.{Node}
+use Rattle.array_shape.specs.declared.shape.Shape.{Shape}
 use Rattle.btree_pages.proofs.removal.remove_below.Goals as goal
 
 pub returns-in_default-clause-removes : goal.returns-in_default-clause-removes
@@ -274,7 +275,7 @@ returns-in_default-clause-works g c =
     let looks = both_looks T E root key fits v0 v1 v2 c.in-Ok.ensures.looks c.in-Ok-fetch_child.ensures.looks c.requires.sound c.requires.named parent.page parent.level parent.pairs.items c.in-Ok.ensures.level c.in-Ok.ensures.reached leaf.page leaf.level leaf.pairs.items c.in-Ok-fetch_child.ensures.child c.in-Ok-fetch_child.ensures.level c.in-Ok-fetch_child.ensures.pairs in
     let same = λ (told : IsTrue g.S.EawStore.tells). ap (λ (b : List ℕ). removal_actions (tree_removal b c.args.root.page c.args.key)) (bytes_same g.S.EawStore.tells (g.S.EawStore.opens v0.store.shape) v0 v2 looks told) in
     let due2 = removal_actions (tree_removal v2.store.state.bytes root.page key) in
-    down_then g.S.EawStore.tells V g.S.EawStore.calls key top.page top.level top.pairs.items old c.args.tid due (Some leaf.page) (false) v2.store (v2.store) leaf.page leaf.level leaf.pairs.items here due (λ told. refl) (leaf.page ∷ []) (λ p among. one_met leaf.page top.page (onwards here.read) here.met p among) (ends_none g.S.EawStore.tells V g.S.EawStore.calls c.args.tid due (Some leaf.page) false key (leaf.page ∷ []) v2.store (omega (arith, c.in-Ok-fetch_child.ensures.read.inside), inl refl) (λ told yes. absurd (false≢true yes)))
+    down_then g.S.EawStore.tells V g.S.EawStore.calls key top.page top.level top.pairs.items old c.args.tid due (Some leaf.page) (false) v2.store (v2.store) leaf.page leaf.level leaf.pairs.items here due (λ told. refl) (leaf.page ∷ []) (λ p among. one_met leaf.page top.page (onwards here.read) here.met p among) (ends_none g.S.EawStore.tells V g.S.EawStore.calls c.args.tid due (Some leaf.page) false key (leaf.page ∷ []) v2.store (subst (λ (sh : Shape). c.in-Ok-fetch_child.leaf.page < page_count sh) (sym c.in-Ok-fetch_child.ensures.looks.shape) (omega (arith, c.in-Ok-fetch_child.ensures.read.inside)), inl refl) (λ told yes. absurd (false≢true yes)))
 
 pub returns-then-len-gt1-clause-works : goal.returns-then-len-gt1-clause-works
 returns-then-len-gt1-clause-works g c =
