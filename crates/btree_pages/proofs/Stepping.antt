@@ -147,12 +147,12 @@ module _ {S : Type 0} (tells : Bool) (view : S → StoreView) (calls : S → sto
           elim blames.1 [
             | inl super ↦ inl (subst (λ (q : ℕ). IsAmong q (known_from level0 page0)) (sym super) (zero_known level0 page0))
             | inr later ↦ elim later [
-                | inl here ↦ elim (s.met here.0) [
-                    | inl known ↦ inl (subst (λ (q : ℕ). IsAmong q (known_from level0 page0)) (sym here.1) known)
-                    | inr met ↦ inr (met_first p more s.steps (subst (λ (q : ℕ). IsMet q s.steps) (sym here.1) met))
-                  ]
-                | inr met ↦ inr (met_later p more s.steps met)
+              | inl here ↦ elim (s.met here.0) [
+                | inl known ↦ inl (subst (λ (q : ℕ). IsAmong q (known_from level0 page0)) (sym here.1) known)
+                | inr met ↦ inr (met_first p more s.steps (subst (λ (q : ℕ). IsMet q s.steps) (sym here.1) met))
               ]
+              | inr met ↦ inr (met_later p more s.steps met)
+            ]
           ],
         )
 

@@ -236,7 +236,10 @@ fn reach<S: EawStore>(pages: &mut Pages<S>, root: Root, from: u64) -> Result<Rea
         Err(fault) => return Err(fault),
     };
     let Leaf {
-        page, count, bound, ..
+        page,
+        count,
+        bound,
+        ..
     } = leaf;
     let Some(some) = rest_of(&bytes, count, from, slots) else {
         return Err(PageFault::Damaged { page });

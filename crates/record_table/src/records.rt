@@ -27,6 +27,7 @@ ghost use Rattle.record_table.specs.Names.{IsNew, names_of};
 use crate::fault::{AttachRecords, TableFault, unattached};
 use crate::making::{MakeFault, make};
 use crate::names::read_names;
+use crate::placing::{place_of, slot_of};
 use crate::removing::{next_absent, remove};
 use crate::scanning::gather;
 use crate::slots::{seek, value_at, write_as};
@@ -209,7 +210,7 @@ impl<S: EawStore, K: KeyIndex> Records<S, K> {
     }
 
     /// Gives the key this value, at once in the number's own view, and in the table once it commits. A key that the index lacks is inserted
-    /// first, and stays there whatever becomes of the number.
+    /// first, at the place where the look-up ended, and stays there whatever becomes of the number.
     pub fn put(&mut self, tid: u8, key: u64, value: Value) -> Result<(), TableFault>
         requires { tid < (S.view self.old.store).shape.numbers }
         ensures does { Does S.tells (S.opens (S.view self.old.store).shape) K.index 0 tid (Put key value)
@@ -221,12 +222,16 @@ impl<S: EawStore, K: KeyIndex> Records<S, K> {
             key,
             value,
         };
-        match K::find(&mut self.pages, MAIN_ROOT, MAIN, key) {
-            Ok(Some(slot)) => told(write_as(&mut self.pages, tid, slot, &present)),
-            Ok(None) => match K::insert(&mut self.pages, tid, MAIN_ROOT, MAIN, key) {
-                Ok(slot) => told(write_as(&mut self.pages, tid, slot, &present)),
-                Err(fault) => Err(TableFault::from(fault)),
-            },
+        let sought = match K::find_place(&mut self.pages, MAIN_ROOT, MAIN, key) {
+            Ok(sought) => sought,
+            Err(fault) => return Err(TableFault::from(fault)),
+        };
+        if let Some(slot) = slot_of(&sought) {
+            return told(write_as(&mut self.pages, tid, slot, &present));
+        }
+        let place = place_of(sought);
+        match K::insert(&mut self.pages, tid, MAIN_ROOT, MAIN, key, place) {
+            Ok(slot) => told(write_as(&mut self.pages, tid, slot, &present)),
             Err(fault) => Err(TableFault::from(fault)),
         }
     }
