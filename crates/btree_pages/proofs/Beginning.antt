@@ -139,7 +139,7 @@ module _ {S : Type 0} (tells : Bool) (view : S → StoreView) (calls : S → sto
           starts told = ap (λ (n : ℕ). if nat_eq n 0 then None else Some (child_for pairs2 key)) level_is ∙ ap (λ (c : ℕ). if nat_eq level 0 then None else Some c) (same told)
 
 -- no page comes behind a leaf
-none_on : (key : ℕ) (pairs : List Pair) (rs : List Reading) → IsWay (below key 0 pairs) rs → rs ≡ []
+pub none_on : (key : ℕ) (pairs : List Pair) (rs : List Reading) → IsWay (below key 0 pairs) rs → rs ≡ []
 none_on key pairs [] way = refl
 none_on key pairs (r ∷ []) way = absurd (let e : none_of ≡ Some r.0 = way.0 in cc)
   where

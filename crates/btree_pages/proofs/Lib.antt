@@ -38,3 +38,4 @@ pub mod Stepping
 pub mod Acted
 pub mod Beginning
 pub mod Crowds
+pub mod Removing

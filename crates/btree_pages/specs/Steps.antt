@@ -1,13 +1,17 @@
 -- What the parts of an insertion or a removal in a tree read.
-use Rattle.std.specs.Prelude.{ℕ, zero, suc, ◌≡◌, ◌+◌, ◌⊎◌, Bool, List, [], ◌∷◌, IfOk, IfSome, Result}
+use Rattle.std.specs.Prelude.{ℕ, zero, suc, ◌≡◌, ◌≢◌, ◌+◌, ◌<◌, ◌≤◌, ◌⊎◌, Bool, true, false, List, [], ◌∷◌, length, map, Some, IfOk, IfSome, Result, Err}
+use Rattle.array_shape.specs.Places.{page_count}
 use Rattle.eaw_face.specs.Command.{Command}
 use Rattle.eaw_face.specs.StoreView.{StoreView}
-use Rattle.page_store.specs.Course.{Reading}
+use Rattle.page_store.specs.Course.{Reading, IsWay}
 use Rattle.page_store.specs.Follows.{HasRead, IsLast, one_reading}
 use Rattle.page_store.specs.Looks.{is_failed}
-use Rattle.page_store.specs.Works.{Limits, blamed}
+use Rattle.page_store.specs.Pairs.{Pair}
+use Rattle.page_store.specs.Works.{Limits, Spends, IsMet, onward, blamed}
 use Rattle.page_store.specs.declared.fault.PageFault.{PageFault}
 use Rattle.index_pages.specs.Page.{level_said, pairs_said}
+use Rattle.btree_laws.specs.Descent.{child_for}
+use Rattle.btree_pages.specs.Downward.{below}
 use Rattle.btree_pages.specs.declared.node.Node.{Node}
 
 -- a page said this of its level and its pairs
@@ -46,3 +50,26 @@ limits_above level = record { fronts = 0; way = level; asides = level + 3; actio
 abbrev pub known_from : ℕ → ℕ → List ℕ
 known_from zero page = 0 ∷ []
 known_from (suc level) page = 0 ∷ page ∷ []
+
+-- how much a removal may do from a page of this level on: one page of the way for each level, one page aside, and its action
+abbrev pub limits_down : ℕ → Limits
+limits_down level = record { fronts = 0; way = level; asides = 1; actions = 1 }
+
+-- Pages of the way of a key were read behind a page that had been read, each as it was to be, as far as this one, of this level and with these pairs.
+pub record CameDown {S : Type 0} (tells : Bool) (view : S → StoreView) (calls : S → Command → ℕ) (key page0 level0 : ℕ) (pairs0 : List Pair) (old now : StoreView) (page level : ℕ) (pairs : List Pair) : Type 0 where
+  pub read : List Reading
+  pub shape : now.shape ≡ old.shape
+  pub spends : Spends tells true view calls (map (λ r. onward r) read) old now
+  pub way : IsWay (below key level0 pairs0) read
+  pub leads : level ≢ 0 → below key level0 pairs0 read ≡ Some (child_for pairs key)
+  pub count : length read + level ≡ level0
+  pub there : page < page_count old.shape
+  pub met : (page ≡ page0) ⊎ IsMet page (map (λ r. onward r) read)
+
+-- So many were read, and then there was a fault. A page that is answered as damaged was read.
+pub record FailsDown {S : Type 0} (tells : Bool) (view : S → StoreView) (calls : S → Command → ℕ) (key page0 level0 : ℕ) (pairs0 : List Pair) (old now : StoreView) (fault : PageFault) : Type 0 where
+  pub read : List Reading
+  pub spends : Spends tells false view calls (map (λ r. onward r) read) old now
+  pub way : IsWay (below key level0 pairs0) read
+  pub few : length read ≤ level0
+  pub blames : (let r : Result (Unit {0}) PageFault = Err fault in IfSome (blamed r) (λ p. (p < page_count old.shape) × ((p ≡ page0) ⊎ IsMet p (map (λ r. onward r) read))))
