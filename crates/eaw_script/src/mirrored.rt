@@ -39,7 +39,10 @@ pub fn answer_mirrored<K: Sink, S: EawStore>(
     };
     let mut framed = Framed::new(alloc, Commands { store: primary });
     let ended = answer_lines(alloc, input, sink, &mut framed);
-    let Framed { responder, reply: _ } = framed;
+    let Framed {
+        responder,
+        reply: _,
+    } = framed;
     let (store, _link) = responder.store.into_parts();
     (ended, store)
 }

@@ -72,5 +72,8 @@ module _ (tells : Bool) (told : IsTrue tells) (old : View) (only_now : (image : 
   obeys_as false ran = obeys tells told old only_now store attached keeps store' new behind counts_now input ended cut text raw_script begun (λ (p : Progress). p) (Shows store') (λ (p : Progress) (shows : Shows store' p). shows) ran alive
   obeys_as true (inl ran) = inl (obeys tells told old only_now store attached keeps store' new behind counts_now input ended cut text framed_script framed_begun (λ (f : Framed Progress). f.inner)
       (λ (f : Framed Progress). Shows store' f.inner) (λ (f : Framed Progress) (shows : Shows store' f.inner). shows) ran alive)
-  obeys_as true (inr none) = inr (none.0, subst (λ (c : Bool). Idle true (HoldsArray old) ⊤ old new c text) (sym none.1)
-      (subst (λ (t : List ℕ). Idle true (HoldsArray old) ⊤ old new false t) (sym none.2) (unbegun none.3)))
+  obeys_as true (inr none) = inr (
+    none.0,
+    subst (λ (c : Bool). Idle true (HoldsArray old) ⊤ old new c text) (sym none.1)
+        (subst (λ (t : List ℕ). Idle true (HoldsArray old) ⊤ old new false t) (sym none.2) (unbegun none.3)),
+  )

@@ -14,8 +14,13 @@ returns-in-Err-clause-ran g c = record {
   text = [];
   wrote = λ told. sym (append-nil (g.K.Sink.written c.args.sink.now));
   counts = refl;
-  holds = λ tell. inr (refl, refl, refl, subst (λ b. LeavesOnly (λ image. ⊥) (g.S.EawStore.view c.args.store) (g.S.EawStore.view b)) (sym c.in-Err.ensures.returned.0)
-      (stays (g.S.EawStore.view c.args.store).moment (g.S.EawStore.view c.args.store).left_since (λ image. ⊥)));
+  holds = λ tell. inr (
+    refl,
+    refl,
+    refl,
+    subst (λ b. LeavesOnly (λ image. ⊥) (g.S.EawStore.view c.args.store) (g.S.EawStore.view b)) (sym c.in-Err.ensures.returned.0)
+        (stays (g.S.EawStore.view c.args.store).moment (g.S.EawStore.view c.args.store).left_since (λ image. ⊥)),
+  );
 }
 
 pub returns-clause-ran : goal.returns-clause-ran
@@ -39,5 +44,5 @@ returns-clause-ran g c =
           let over_primary = ran.holds tell (framed_begun (s.view old.store).shape (s.view old.store).state) (stands_first (s.view old.store) sent none) in
           let below = ran_below s.opens (s.view old.store) (s.view new.store) sent sent' lines ended ran.cut ran.text over_primary in
           subst (λ b. RanMirrored s.opens (s.view b) (s.view c.into_parts-store.result.0) lines ended ran.cut ran.text) first
-              (subst (λ b. RanMirrored s.opens (s.view old.store) (s.view b) lines ended ran.cut ran.text) (sym c.into_parts-store.ensures.store) (inl below));
+          (subst (λ b. RanMirrored s.opens (s.view old.store) (s.view b) lines ended ran.cut ran.text) (sym c.into_parts-store.ensures.store) (inl below));
     }
