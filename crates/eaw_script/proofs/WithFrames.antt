@@ -17,7 +17,7 @@ stands_first store sending none = (record { shape = refl; state = refl; certain 
 
 pub ran_below : (Opens : Shape → List ℕ → List ℕ → Type 0) (old new : StoreView) (sent sent' : Sending) (lines : List (List ℕ)) (ended : Ended) (cut : Bool) (text : List ℕ)
     → Ran framed_script (λ (state : Framed Progress). Shows (over new sent') state.inner × HasSent (over new sent') state)
-        (λ (after : Framed Progress). Comes Opens (over old sent) (begun old.shape old.state) (over new sent') after.inner) (framed_begun old.shape old.state) lines ended cut text
+    (λ (after : Framed Progress). Comes Opens (over old sent) (begun old.shape old.state) (over new sent') after.inner) (framed_begun old.shape old.state) lines ended cut text
     → Ran framed_script (λ (state : Framed Progress). Shows new state.inner) (λ (after : Framed Progress). Comes Opens old (begun old.shape old.state) new after.inner) (framed_begun old.shape old.state) lines ended cut text
 ran_below Opens old new sent sent' lines ended cut text ran = record {
   answers = ran.answers;

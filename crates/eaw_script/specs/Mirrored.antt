@@ -2,7 +2,7 @@
 use Rattle.std.specs.Prelude.{ℕ, ◌≡◌, ◌⊎◌, List, [], Bool, true, false}
 use Rattle.array_shape.specs.declared.shape.Shape.{Shape}
 use Rattle.eaw_face.specs.State.{State}
-use Rattle.eaw_face.specs.StoreView.{StoreView}
+use Rattle.eaw_face.specs.StoreView.{StoreView, LeavesOnly}
 use Rattle.script_run.specs.Script.{Script}
 use Rattle.script_run.specs.Transcript.{Ran}
 use Rattle.script_run.specs.declared.ended.Ended.{Ended}
@@ -23,13 +23,13 @@ framed_script = framed HasData raw_script
 abbrev pub framed_begun : Shape → State → Framed Progress
 framed_begun shape state = record { inner = begun shape state; shape = shape; opened = state.bytes; frames = [] }
 
--- The lines were answered with their frames, or there was no memory to begin, and then nothing was written and Same holds.
-abbrev pub RanMirrored : (Shape → List ℕ → List ℕ → Type 0) → StoreView → StoreView → (Same : Type 0) → List (List ℕ) → Ended → Bool → List ℕ → Type 0
-RanMirrored Opens old new Same lines ended cut text =
+-- The lines were answered with their frames, or there was no memory to begin, and then nothing was written and nothing new may be left.
+abbrev pub RanMirrored : (Shape → List ℕ → List ℕ → Type 0) → StoreView → StoreView → List (List ℕ) → Ended → Bool → List ℕ → Type 0
+RanMirrored Opens old new lines ended cut text =
     Ran framed_script (λ state. Shows new state.inner) (λ after. Comes Opens old (begun old.shape old.state) new after.inner) (framed_begun old.shape old.state) lines ended cut text
-    ⊎ ((ended ≡ NoMemory) × (cut ≡ false) × (text ≡ []) × Same)
+    ⊎ ((ended ≡ NoMemory) × (cut ≡ false) × (text ≡ []) × LeavesOnly (λ image. ⊥) old new)
 
 -- with frames or without
-abbrev pub RanAs : Bool → (Shape → List ℕ → List ℕ → Type 0) → StoreView → StoreView → (Same : Type 0) → List (List ℕ) → Ended → Bool → List ℕ → Type 0
-RanAs true Opens old new Same lines ended cut text = RanMirrored Opens old new Same lines ended cut text
-RanAs false Opens old new Same lines ended cut text = Ran raw_script (Shows new) (Comes Opens old (begun old.shape old.state) new) (begun old.shape old.state) lines ended cut text
+abbrev pub RanAs : Bool → (Shape → List ℕ → List ℕ → Type 0) → StoreView → StoreView → List (List ℕ) → Ended → Bool → List ℕ → Type 0
+RanAs true Opens old new lines ended cut text = RanMirrored Opens old new lines ended cut text
+RanAs false Opens old new lines ended cut text = Ran raw_script (Shows new) (Comes Opens old (begun old.shape old.state) new) (begun old.shape old.state) lines ended cut text

@@ -28,7 +28,7 @@ pub fn answer_mirrored<K: Sink, S: EawStore>(
     requires free { IsFree (S.view store) }
     // The frames are in sequence from 1, and at each whole answer those so far, applied in order to the data at first, give the committed data.
     ensures ran { Wrote K.tells (K.written sink.old) (K.written sink.new) (K.faults sink.old) (K.faults sink.new)
-        (λ cut text. IsTrue S.tells → RanMirrored S.opens (S.view store) (S.view result.1) (result.1 ≡ store) (lines_of input.now) result.0 cut text) }
+        (λ cut text. IsTrue S.tells → RanMirrored S.opens (S.view store) (S.view result.1) (lines_of input.now) result.0 cut text) }
     ensures alive { result.0 ≡ Ended.All → (S.view result.1).is_dead ≡ false }
     // A count rose only if the script ended for that reason.
     ensures counts { Counts result.0 (K.faults sink.old) (K.faults sink.new) (S.view store).faults (S.view result.1).faults }
@@ -39,7 +39,10 @@ pub fn answer_mirrored<K: Sink, S: EawStore>(
     };
     let mut framed = Framed::new(alloc, Commands { store: primary });
     let ended = answer_lines(alloc, input, sink, &mut framed);
-    let Framed { responder, reply: _ } = framed;
+    let Framed {
+        responder,
+        reply: _,
+    } = framed;
     let (store, _link) = responder.store.into_parts();
     (ended, store)
 }
@@ -55,7 +58,7 @@ pub fn answer_script<K: Sink, S: EawStore>(
     requires alive { IsAlive (S.view store) }
     requires free { IsFree (S.view store) }
     ensures ran { Wrote K.tells (K.written sink.old) (K.written sink.new) (K.faults sink.old) (K.faults sink.new)
-        (λ cut text. IsTrue S.tells → RanAs frames S.opens (S.view store) (S.view result.1) (result.1 ≡ store) (lines_of input.now) result.0 cut text) }
+        (λ cut text. IsTrue S.tells → RanAs frames S.opens (S.view store) (S.view result.1) (lines_of input.now) result.0 cut text) }
     ensures alive { result.0 ≡ Ended.All → (S.view result.1).is_dead ≡ false }
     ensures counts { Counts result.0 (K.faults sink.old) (K.faults sink.new) (S.view store).faults (S.view result.1).faults }
 {

@@ -1,6 +1,6 @@
 -- What a run of raw commands does on a medium that tells its bytes.
 use Rattle.array_image.specs.Decided.{settled_data}
-use Rattle.std.specs.Prelude.{ℕ, ◌≡◌, ◌⊎◌, List, [], ◌++◌, Bool, true, false, None, Contains, ⊤}
+use Rattle.std.specs.Prelude.{ℕ, ◌≡◌, ◌⊎◌, List, ◌++◌, Bool, true, false, None, Contains, ⊤}
 use Rattle.std.specs.List.{concat}
 use Rattle.pcm_media.specs.Images.{MayLeave}
 use Rattle.pcm_media.specs.View.{View}

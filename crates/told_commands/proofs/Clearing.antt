@@ -18,13 +18,13 @@ use Rattle.record_table.specs.Shown.{table_of}
 use Rattle.record_table.specs.Upgrading.{upgraded, OpensUpgraded}
 use Rattle.history.specs.Legal.{records}
 use Rattle.history.specs.Writes.{Table}
-use Rattle.history.specs.declared.call.Reply.{Reply}
-use Rattle.history.specs.declared.call.Reply.TheVariants as reply
 use Rattle.history.specs.declared.transaction.Done.{Done}
 use Rattle.caller_steps.specs.Core.{CoreView}
 use Rattle.caller_steps.specs.Prefix.{HasPrefixOf}
 use Rattle.caller_steps.specs.Purging.{Purged, PurgeStep, PurgeCause, Purges, is_media_refusal}
 use Rattle.caller_steps.specs.State.{State}
+use Rattle.caller_steps.specs.declared.purge_fault.PurgeFault.{PurgeFault}
+use Rattle.caller_steps.specs.declared.purge_fault.PurgeFault.TheVariants as stop
 use Rattle.mars_core.specs.Over.{IsOver, Begins}
 use Rattle.mars_core.specs.Purging.{Keeps}
 use Rattle.mars_core.specs.declared.fault.CoreFault.{CoreFault}
@@ -34,7 +34,7 @@ use Rattle.script_run.specs.declared.ended.Ended.{Ended}
 use Rattle.script_run.specs.declared.ended.Ended.TheVariants as script
 use Rattle.array_runs.specs.Forms.{index_of_form, index_at, SaysForm}
 use Rattle.array_runs.specs.Records.{HoldsRecords, IsDamaged, Exceeds, OverRecords, HasAll, begun_on}
-use Rattle.told_commands.specs.Purge.{ClearsTo, ClearsStore, ClearedCounts, cleared, HasRecords, Clears, PurgesRecords, PurgedBy, PurgeOutcome, purged_line, purged_end, LeavesPurged}
+use Rattle.told_commands.specs.Purge.{ClearsTo, ClearsStore, ClearedCounts, IsStop, StopCause, cleared, HasRecords, Clears, PurgesRecords, PurgedBy, PurgeOutcome, purged_line, purged_end, LeavesPurged}
 use Rattle.told_commands.specs.Told.{Tells, FaultCounts, Ran}
 use Rattle.array_runs.specs.Statuses.{Counts, IsEarly, served_status}
 use Rattle.array_runs.specs.declared.status.Status.{Status}
@@ -45,49 +45,31 @@ use Rattle.array_runs.proofs.Opened.{holds, at_entry}
 use Rattle.array_runs.proofs.Shapes.{same_limits}
 use Rattle.array_runs.proofs.Statuses.{outcome_as}
 
--- a store that tells its data refuses a purge for a fault of the medium alone
-only_media : (Keeps : List ℕ → ℕ → Type 0) (old new : State) (r : Result ℕ Reply) → old.is_dead ≡ false → old.live 0 ≡ None → PurgeStep Keeps old 0 r new → IfErr (cleared r) (λ fault. fault ≡ core.Media)
-only_media Keeps old new (Ok n) alive none step = tt
-only_media Keeps old new (Err reply.Fine) alive none step = absurd step
-only_media Keeps old new (Err (reply.Found a)) alive none step = absurd step
-only_media Keeps old new (Err reply.Absent) alive none step = absurd step
-only_media Keeps old new (Err (reply.Listed a)) alive none step = absurd step
-only_media Keeps old new (Err (reply.Saved a)) alive none step = absurd step
-only_media Keeps old new (Err (reply.Committed a)) alive none step = absurd step
-only_media Keeps old new (Err reply.NoTransaction) alive none step = absurd step
-only_media Keeps old new (Err reply.Already) alive none step = absurd (false≢true (subst IsSome none step.1))
-only_media Keeps old new (Err (reply.NoSave a)) alive none step = absurd step
-only_media Keeps old new (Err reply.SavesFull) alive none step = absurd step
-only_media Keeps old new (Err (reply.Busy a)) alive none step = absurd step
-only_media Keeps old new (Err (reply.LogFull a b c)) alive none step = absurd step
-only_media Keeps old new (Err (reply.SlotsFull a)) alive none step = absurd step
-only_media Keeps old new (Err (reply.PagesFull a)) alive none step = absurd step
-only_media Keeps old new (Err reply.Media) alive none step = refl
-only_media Keeps old new (Err reply.Dead) alive none step = absurd (false≢true (sym alive ∙ step.0))
-only_media Keeps old new (Err reply.NoMemory) alive none step = absurd step
-only_media Keeps old new (Err (reply.Damaged a)) alive none step = absurd step
+-- of a core that nobody else calls nothing but its medium or a damaged page stops a purge
+pub stops : (old : State) (r : Result ℕ PurgeFault) → old.is_dead ≡ false → old.live 0 ≡ None → PurgeCause old 0 r → IfErr r IsStop
+stops old (Ok n) alive none cause = tt
+stops old (Err stop.Media) alive none cause = tt
+stops old (Err (stop.Damaged page)) alive none cause = tt
+stops old (Err stop.Dead) alive none cause = absurd (false≢true (sym alive ∙ cause))
+stops old (Err stop.Already) alive none cause = absurd (false≢true (subst IsSome none cause.1))
+
+-- a store that tells its data has no damaged page
+stop_cause : (tells : Bool) (Keeps : List ℕ → ℕ → Type 0) (old new : State) (r : Result ℕ PurgeFault) → old.is_dead ≡ false → old.live 0 ≡ None → PurgeCause old 0 r → (IsTrue tells → PurgeStep Keeps old 0 r new)
+    → IfErr (cleared r) (StopCause tells)
+stop_cause tells Keeps old new (Ok n) alive none cause step = tt
+stop_cause tells Keeps old new (Err stop.Media) alive none cause step = tt
+stop_cause tells Keeps old new (Err (stop.Damaged page)) alive none cause step = step
+stop_cause tells Keeps old new (Err stop.Dead) alive none cause step = absurd (false≢true (sym alive ∙ cause))
+stop_cause tells Keeps old new (Err stop.Already) alive none cause step = absurd (false≢true (subst IsSome none cause.1))
 
 -- the count of the medium's faults
-counted : (old : State) (r : Result ℕ Reply) (m m' : ℕ) → old.is_dead ≡ false → (IsTrue (is_media_refusal r) → Rose m m') → (IsFalse (is_media_refusal r) → m' ≡ m) → PurgeCause old 0 r → ClearedCounts (cleared r) m m'
-counted old (Ok n) m m' alive failed kept cause = kept refl
-counted old (Err reply.Fine) m m' alive failed kept cause = kept refl
-counted old (Err (reply.Found a)) m m' alive failed kept cause = kept refl
-counted old (Err reply.Absent) m m' alive failed kept cause = kept refl
-counted old (Err (reply.Listed a)) m m' alive failed kept cause = kept refl
-counted old (Err (reply.Saved a)) m m' alive failed kept cause = kept refl
-counted old (Err (reply.Committed a)) m m' alive failed kept cause = kept refl
-counted old (Err reply.NoTransaction) m m' alive failed kept cause = kept refl
-counted old (Err reply.Already) m m' alive failed kept cause = kept refl
-counted old (Err (reply.NoSave a)) m m' alive failed kept cause = kept refl
-counted old (Err reply.SavesFull) m m' alive failed kept cause = kept refl
-counted old (Err (reply.Busy a)) m m' alive failed kept cause = kept refl
-counted old (Err (reply.LogFull a b c)) m m' alive failed kept cause = kept refl
-counted old (Err (reply.SlotsFull a)) m m' alive failed kept cause = kept refl
-counted old (Err (reply.PagesFull a)) m m' alive failed kept cause = kept refl
-counted old (Err reply.Media) m m' alive failed kept cause = failed refl
-counted old (Err reply.Dead) m m' alive failed kept cause = absurd (false≢true (sym alive ∙ cause))
-counted old (Err reply.NoMemory) m m' alive failed kept cause = kept refl
-counted old (Err (reply.Damaged a)) m m' alive failed kept cause = kept refl
+counted : (old : State) (r : Result ℕ PurgeFault) (m m' : ℕ) → old.is_dead ≡ false → old.live 0 ≡ None → (IsTrue (is_media_refusal r) → Rose m m') → (IsFalse (is_media_refusal r) → m' ≡ m) → PurgeCause old 0 r
+    → ClearedCounts (cleared r) m m'
+counted old (Ok n) m m' alive none failed kept cause = kept refl
+counted old (Err stop.Media) m m' alive none failed kept cause = failed refl
+counted old (Err (stop.Damaged page)) m m' alive none failed kept cause = kept refl
+counted old (Err stop.Dead) m m' alive none failed kept cause = absurd (false≢true (sym alive ∙ cause))
+counted old (Err stop.Already) m m' alive none failed kept cause = absurd (false≢true (subst IsSome none cause.1))
 
 none_taken : (n : ℕ) → (let none : List Done = [] in take n none ≡ none)
 none_taken zero = refl
@@ -95,7 +77,7 @@ none_taken (suc n) = refl
 
 -- a core that has just begun was purged
 module _ (tells : Bool) (Opens : Shape → List ℕ → List ℕ → Type 0) (index : Index) (old mid new : StoreView) (core later : CoreView) (begins : Begins tells (Opens old.shape) index old mid core)
-    (over : IsOver tells (Opens new.shape) index new later) (r : Result ℕ Reply) (purges : Purges tells (Keeps index) 0 core later r) where
+    (over : IsOver tells (Opens new.shape) index new later) (r : Result ℕ PurgeFault) (purges : Purges tells (Keeps index) 0 core later r) where
   shape : new.shape ≡ old.shape
   shape = same_limits new.shape mid.shape (sym over.limits ∙ purges.limits ∙ begins.over.limits) ∙ begins.shape
 
@@ -135,18 +117,18 @@ module _ (tells : Bool) (Opens : Shape → List ℕ → List ℕ → Type 0) (in
   counts : ClearedCounts (cleared r) old.faults new.faults
   counts =
       let before = begins.over.faults ∙ begins.faults in
-      counted core.state r old.faults new.faults living (λ failed. subst (λ (x : ℕ × ℕ). Rose x.0 x.1) (λ i. (before i, over.faults i)) (purges.failed failed))
+      counted core.state r old.faults new.faults living (begins.fresh.1 0) (λ failed. subst (λ (x : ℕ × ℕ). Rose x.0 x.1) (λ i. (before i, over.faults i)) (purges.failed failed))
       (λ kept. sym over.faults ∙ purges.kept kept ∙ before) purges.cause
 
   module _ (told : IsTrue tells) (lives : new.is_dead ≡ false) where
     all : HasAll index new.state.bytes later.state
     all = record { sound = over.sound told lives; table = over.table told lives; keys = over.keys told }
 
-  alive_after : (r : Result ℕ Reply) → new.is_dead ≡ is_media_refusal r → IfOk (cleared r) (λ n. new.is_dead ≡ false)
+  alive_after : (r : Result ℕ PurgeFault) → new.is_dead ≡ is_media_refusal r → IfOk (cleared r) (λ n. new.is_dead ≡ false)
   alive_after (Ok n) dead = dead
   alive_after (Err given) dead = tt
 
-  to_data : (told : IsTrue tells) (r : Result ℕ Reply) → new.is_dead ≡ is_media_refusal r → PurgeStep (Keeps index) (begun_on false index old.state.bytes) 0 r later.state → IfOk (cleared r) (λ n. ClearsTo index old.state.bytes n new.state.bytes)
+  to_data : (told : IsTrue tells) (r : Result ℕ PurgeFault) → new.is_dead ≡ is_media_refusal r → PurgeStep (Keeps index) (begun_on false index old.state.bytes) 0 r later.state → IfOk (cleared r) (λ n. ClearsTo index old.state.bytes n new.state.bytes)
   to_data told (Ok n) dead step = record { final = later.state; purged = step.2; left = all told dead }
   to_data told (Err given) dead step = tt
 
@@ -157,7 +139,7 @@ module _ (tells : Bool) (Opens : Shape → List ℕ → List ℕ → Type 0) (in
   clears_store = record {
     shape = shape;
     sound = begins.sound;
-    cause = λ told. only_media (Keeps index) core.state later.state r living (begins.fresh.1 0) (purges.step told);
+    cause = stop_cause tells (Keeps index) core.state later.state r living (begins.fresh.1 0) purges.cause purges.step;
     counts = counts;
     alive = alive_after r dead;
     cleared = λ told. to_data told r dead (subst (λ (s : State). PurgeStep (Keeps index) s 0 r later.state) (begins.state told) (purges.step told));
@@ -246,8 +228,8 @@ module _ (tells : Bool) (told : IsTrue tells) (old : View) (only_now : (image : 
   -- they were not
   stopped_outcome : (f : CoreFault) → ClearsStore tells (Opens store.shape) (index_at store.state.bytes) store later (Err f) → (let r : Result Ended CoreFault = Err f in PurgeOutcome old (served_status r) new false [])
   stopped_outcome core.Media clears = inr (refl, (store.shape, clear (Err core.Media) clears))
-  stopped_outcome core.NoMemory clears = absurd (let is = clears.cause told in cc is)
-  stopped_outcome (core.Damaged page) clears = absurd (let is = clears.cause told in cc is)
+  stopped_outcome core.NoMemory clears = absurd clears.cause
+  stopped_outcome (core.Damaged page) clears = absurd (clears.cause told)
 
   -- what is told of it
   pub told_outcome : (purged : Result ℕ CoreFault) → ClearsStore tells (Opens store.shape) (index_at store.state.bytes) store later purged

@@ -13,10 +13,10 @@ use Rattle.eaw_device.specs.Opens.{Opens, AllOpen, OpensLike}
 use Rattle.page_store.specs.Index.{Index}
 use Rattle.record_table.specs.Does.{OpensWith}
 use Rattle.record_table.specs.Shown.{table_of}
-use Rattle.history.specs.declared.call.Reply.{Reply}
-use Rattle.history.specs.declared.call.Reply.TheVariants as reply
 use Rattle.caller_steps.specs.Purging.{Purged}
 use Rattle.caller_steps.specs.State.{State}
+use Rattle.caller_steps.specs.declared.purge_fault.PurgeFault.{PurgeFault}
+use Rattle.caller_steps.specs.declared.purge_fault.PurgeFault.TheVariants as stop
 use Rattle.mars_core.specs.Purging.{Keeps}
 use Rattle.mars_core.specs.declared.fault.CoreFault.{CoreFault}
 use Rattle.mars_core.specs.declared.fault.CoreFault.TheVariants as core
@@ -39,29 +39,38 @@ pub record ClearsTo (index : Index) (old : List ℕ) (n : ℕ) (new : List ℕ) 
   pub purged : Purged (Keeps index) (begun_on false index old) n final
   pub left : HasAll index new final
 
--- what stopped a purge, by its reply
-abbrev pub purge_fault : Reply → CoreFault
-purge_fault reply.Media = core.Media
-purge_fault reply.Dead = core.Media
-purge_fault reply.NoMemory = core.NoMemory
-purge_fault (reply.Damaged page) = core.Damaged page
-purge_fault _ = core.Damaged 0
+-- what may stop a purge of a core that nobody else calls, and how that is told
+abbrev pub IsStop : PurgeFault → Type 0
+IsStop stop.Media = Unit {0}
+IsStop (stop.Damaged page) = Unit {0}
+IsStop stop.Dead = ⊥
+IsStop stop.Already = ⊥
 
-abbrev pub cleared : Result ℕ Reply → Result ℕ CoreFault
+abbrev pub purge_fault : PurgeFault → CoreFault
+purge_fault (stop.Damaged page) = core.Damaged page
+purge_fault _ = core.Media
+
+abbrev pub cleared : Result ℕ PurgeFault → Result ℕ CoreFault
 cleared (Ok n) = Ok n
-cleared (Err given) = Err (purge_fault given)
+cleared (Err fault) = Err (purge_fault fault)
+
+-- why it is stopped: for want of memory never, and by a damaged page only over a store that does not tell its data
+abbrev pub StopCause : Bool → CoreFault → Type 0
+StopCause tells core.Media = Unit {0}
+StopCause tells (core.Damaged page) = ¬ IsTrue tells
+StopCause tells core.NoMemory = ⊥
 
 -- the count of the medium's faults, by what came of a purge on a store that was not dead
 abbrev pub ClearedCounts : Result ℕ CoreFault → ℕ → ℕ → Type 0
 ClearedCounts (Err core.Media) media media' = Rose media media'
 ClearedCounts _ media media' = media' ≡ media
 
--- A purge of the records of a store, which are sound. Over a store that tells its data only a fault of the medium stops it. Whatever a loss of
+-- A purge of the records of a store, which are sound. What stops it is a fault of the medium, or a damaged page. Whatever a loss of
 -- power might have left meanwhile, or may leave now, opens with the records that there were.
 pub record ClearsStore (tells : Bool) (Opens : List ℕ → List ℕ → Type 0) (index : Index) (old new : StoreView) (result : Result ℕ CoreFault) : Type 0 where
   pub shape : new.shape ≡ old.shape
   pub sound : IsTrue tells → index.sound old.state.bytes
-  pub cause : IsTrue tells → IfErr result (λ fault. fault ≡ core.Media)
+  pub cause : IfErr result (StopCause tells)
   pub counts : ClearedCounts result old.faults new.faults
   pub alive : IfOk result (λ n. IsAlive new)
   pub cleared : IsTrue tells → IfOk result (λ n. ClearsTo index old.state.bytes n new.state.bytes)

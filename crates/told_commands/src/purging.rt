@@ -1,11 +1,11 @@
 // Takes keys without records out of the index of an array's records, and tells how many.
-ghost use Rattle.std.specs.Prelude.{◌≡◌};
-ghost use Rattle.told_commands.specs.Purge.{cleared, purge_fault, purged_line};
+ghost use Rattle.std.specs.Prelude.{◌≡◌, IfErr};
+ghost use Rattle.told_commands.specs.Purge.{IsStop, cleared, purge_fault, purged_line};
 
 use crate::told_work::{Told, ToldWork};
 use array_runs::{Status, served_status};
+use caller_steps::PurgeFault;
 use eaw_face::EawStore;
-use history::Reply;
 use mars_core::{Core, CoreFault};
 use page_store::{KeyIndex, SaveRoom};
 use pcm_media::Media;
@@ -51,25 +51,25 @@ impl ToldWork for Purge {
 }
 
 // How many keys were taken out, or what stopped the purge.
-fn cleared(purged: Result<u32, Reply>) -> Result<u32, CoreFault>
+fn cleared(purged: Result<u32, PurgeFault>) -> Result<u32, CoreFault>
+    requires { IfErr purged IsStop }
     ensures { result ≡ cleared purged }
 {
     match purged {
         Ok(count) => Ok(count),
-        Err(reply) => Err(purge_fault(&reply)),
+        Err(fault) => Err(purge_fault(fault)),
     }
 }
 
-// Of a core that nobody else calls a purge is stopped by the medium alone, if the store tells its data. Other replies come of data that says
-// something else when it is read again.
-fn purge_fault(reply: &Reply) -> CoreFault
-    ensures { result ≡ purge_fault reply.now }
+// What stopped a purge of a core that nobody else calls: the medium, or a page that says something else when it is read again.
+fn purge_fault(fault: PurgeFault) -> CoreFault
+    requires { IsStop fault }
+    ensures { result ≡ purge_fault fault }
 {
-    match reply {
-        Reply::Media | Reply::Dead => CoreFault::Media,
-        Reply::NoMemory => CoreFault::NoMemory,
-        Reply::Damaged { page } => CoreFault::Damaged { page: *page },
-        _ => CoreFault::Damaged { page: 0 },
+    match fault {
+        PurgeFault::Media => CoreFault::Media,
+        PurgeFault::Damaged { page } => CoreFault::Damaged { page },
+        PurgeFault::Dead | PurgeFault::Already => unreachable!(),
     }
 }
 

@@ -1,5 +1,7 @@
 use Rattle.std.proofs.Common.{◌≡◌, false, true, [], inl, inr, refl, sym, ap, subst, ◌∙◌}
 use Rattle.std.proofs.lemmas.List.{append-nil}
+use Rattle.mars_base.proofs.Going.{stays}
+use Rattle.eaw_face.specs.StoreView.{LeavesOnly}
 use Rattle.script_run.specs.Lines.{lines_of}
 use Rattle.mirror.specs.Mirroring.{sending_in}
 use Rattle.eaw_script.specs.Mirrored.{RanMirrored, framed_begun}
@@ -12,7 +14,13 @@ returns-in-Err-clause-ran g c = record {
   text = [];
   wrote = λ told. sym (append-nil (g.K.Sink.written c.args.sink.now));
   counts = refl;
-  holds = λ tell. inr (refl, refl, refl, c.in-Err.ensures.returned.0);
+  holds = λ tell. inr (
+    refl,
+    refl,
+    refl,
+    subst (λ b. LeavesOnly (λ image. ⊥) (g.S.EawStore.view c.args.store) (g.S.EawStore.view b)) (sym c.in-Err.ensures.returned.0)
+        (stays (g.S.EawStore.view c.args.store).moment (g.S.EawStore.view c.args.store).left_since (λ image. ⊥)),
+  );
 }
 
 pub returns-clause-ran : goal.returns-clause-ran
@@ -35,6 +43,6 @@ returns-clause-ran g c =
           let sent' = sending_in true (λ l. l.frames) (λ l. l.faults) new in
           let over_primary = ran.holds tell (framed_begun (s.view old.store).shape (s.view old.store).state) (stands_first (s.view old.store) sent none) in
           let below = ran_below s.opens (s.view old.store) (s.view new.store) sent sent' lines ended ran.cut ran.text over_primary in
-          subst (λ b. RanMirrored s.opens (s.view b) (s.view c.into_parts-store.result.0) (c.into_parts-store.result.0 ≡ c.args.store) lines ended ran.cut ran.text) first
-              (subst (λ b. RanMirrored s.opens (s.view old.store) (s.view b) (c.into_parts-store.result.0 ≡ c.args.store) lines ended ran.cut ran.text) (sym c.into_parts-store.ensures.store) (inl below));
+          subst (λ b. RanMirrored s.opens (s.view b) (s.view c.into_parts-store.result.0) lines ended ran.cut ran.text) first
+          (subst (λ b. RanMirrored s.opens (s.view old.store) (s.view b) lines ended ran.cut ran.text) (sym c.into_parts-store.ensures.store) (inl below));
     }

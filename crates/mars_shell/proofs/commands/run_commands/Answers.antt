@@ -1,4 +1,4 @@
-use Rattle.std.proofs.Common.{[], true, false, ⊎_elim, refl, sym, ap, subst}
+use Rattle.std.proofs.Common.{[], true, false, ⊎_elim, refl, sym, subst}
 use Rattle.std.proofs.lemmas.List.{append-nil}
 use Rattle.command_words.specs.declared.words.Words.TheVariants.{Eaw}
 use Rattle.mars_shell.specs.Asked.{OutcomeFor}
@@ -45,7 +45,7 @@ returns-clause-ran g c =
             subst (λ (s : Status). OutcomeFor (Eaw c.args.options) old s new input said.ran.cut said.ran.text) (sym c.script_status.ensures)
             (outcome_of true (λ end. ObeysAs c.args.options.frames old input end new said.ran.cut said.ran.text) (λ page. ⊥) ⊥ ⊥ old new said.ran.cut said.ran.text ended
             (obeys_as media.tells told old (g.met.M.Media.only_now c.args.media) _ c.in-Ok.ensures.attached c.in-Ok.ensures.keeps _ new c.into_media.ensures (g.met.M.Media.counts_now c.into_media.result)
-            input ended said.ran.cut said.ran.text _ (λ same. ap _ same) said.alive c.args.options.frames (rw c.deref.ensures.value at (said.ran.holds told)))),
+            input ended said.ran.cut said.ran.text said.alive c.args.options.frames (rw c.deref.ensures.value at (said.ran.holds told)))),
       );
     }
 

@@ -3,7 +3,7 @@ use Rattle.mars_core.specs.Held.{core_of}
 use Rattle.mars_core.specs.Over.{IsOver}
 use Rattle.mars_core.specs.declared.fault.CoreFault.{CoreFault}
 use Rattle.told_commands.specs.Purge.{ClearsStore}
-use Rattle.told_commands.proofs.Clearing.{clears_store}
+use Rattle.told_commands.proofs.Clearing.{stops, clears_store}
 use Rattle.told_commands.proofs.purging.PurgeToldWork.work_on.Goals as goal
 
 pub returns-in-Ok-purged-clause-leaves : goal.returns-in-Ok-purged-clause-leaves
@@ -39,3 +39,10 @@ returns-in-Err-purged-clause-leaves g c =
           (clears_store s.tells s.opens index old (s.view first.records.store) (s.view core.records.store) (core_of s.opens index (s.view first.records.store) first) (core_of s.opens index (s.view core.records.store) core)
           c.in-Ok.ensures.begins over c.purge.result c.purge.ensures.purges),
     )
+
+pub cleared-purged-requires : goal.cleared-purged-requires
+cleared-purged-requires g c =
+    let s = g.S.EawStore in
+    let first = c.in-Ok.core in
+    let begins = c.in-Ok.ensures.begins in
+    stops (core_of s.opens g.I.KeyIndex.index (s.view first.records.store) first).state c.purge.result (begins.over.dead ∙ begins.alive) (begins.fresh.1 0) c.purge.ensures.purges.cause
