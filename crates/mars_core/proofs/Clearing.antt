@@ -12,6 +12,8 @@ use Rattle.array_shape.specs.declared.shape.Shape.{Shape}
 use Rattle.eaw_face.specs.State.{State, listed, count_on}
 use Rattle.eaw_face.specs.StoreView.{LeavesOnly}
 use Rattle.eaw_face.specs.Causes.{IsAlive}
+use Rattle.eaw_face.specs.Mirroring.{Mirrors}
+use Rattle.eaw_face.proofs.Mirroring.{none_sent, sent_then}
 use Rattle.record_slots.specs.Places.{version_of, used_slots}
 use Rattle.history.proofs.Modes.{clash_none}
 use Rattle.history.specs.Key.{is_same_key, of_table}
@@ -195,6 +197,7 @@ module _ (tells : Bool) (Opens : List ℕ → List ℕ → Type 0) (index : belo
   pub busy_tries : (holder : ℕ) → IsBusyWith (bare seats) t (Del key.table key.key) holder → Tries tells Opens index seats table key old old (Ok false)
   busy_tries holder busy = record {
     shape = refl;
+    mirrors = none_sent tells old.store old.store refl refl (λ fine. fine) (λ told mirrors fine. refl);
     cause = tt;
     faults = λ _. (refl, refl);
     dies = λ failed. absurd (false≢true failed);
@@ -247,6 +250,7 @@ module _ (tells : Bool) (Opens : List ℕ → List ℕ → Type 0) (index : belo
       pub removed_tries : (new : PagesView) (r : Result Bool TableFault) → Removes tells Opens index table t key.key old new r → Tries tells Opens index seats table key old new r
       removed_tries new r removes = record {
         shape = removes.shape;
+        mirrors = removes.mirrors;
         cause = cause_so new r removes;
         faults = removes.faults;
         dies = removes.dies;
@@ -271,6 +275,7 @@ pub record Going (tells : Bool) (Opens : List ℕ → List ℕ → Type 0) (inde
   pub state : IsTrue tells → state_of index now ≡ state_of index old
   pub cleared : IsTrue tells → Cleared index seats Passed n old.store.state.bytes now.store.state.bytes
   pub time : IsTrue tells → LeavesOnly (λ image. OpensWith Opens index image (state_of index old).table) old.store now.store
+  pub mirrors : Mirrors tells old.store now.store
 
 -- a further refusal
 abbrev refusal : TableFault → Result ℕ TableFault
@@ -280,6 +285,7 @@ module _ (tells : Bool) (Opens : List ℕ → List ℕ → Type 0) (index : belo
   pub going_first : (Passed : Key → Type 0) → ((key : Key) → Passed key → ⊥) → (IsTrue tells → IsReady index seats t old) → Going tells Opens index seats t Passed 0 old old
   going_first Passed none ready = record {
     shape = refl;
+    mirrors = none_sent tells old.store old.store refl refl (λ fine. fine) (λ told mirrors fine. refl);
     dead = refl;
     faults = refl;
     ranges = λ u. refl;
@@ -311,6 +317,7 @@ module _ (tells : Bool) (Opens : List ℕ → List ℕ → Type 0) (index : belo
         let bytes = λ (told : IsTrue tells). ap (λ (s : State). s.bytes) (still.state told) in
         record {
           shape = looks.shape ∙ going.shape;
+          mirrors = sent_then tells old.store mid.store new.store going.mirrors looks.mirrors;
           dead = still.dead ∙ going.dead;
           faults = still.faults ∙ going.faults;
           ranges = λ u. ap (λ (f : ℕ → Option (List (ℕ × ℕ))). listed (f u)) looks.ranges ∙ going.ranges u;
@@ -331,6 +338,7 @@ module _ (tells : Bool) (Opens : List ℕ → List ℕ → Type 0) (index : belo
         → Clears tells Opens index seats t Wanted old new (Err fault)
     look_refused Wanted new Media both = record {
       shape = both.0.shape ∙ going.shape;
+      mirrors = sent_then tells old.store mid.store new.store going.mirrors both.0.mirrors;
       cause = tt;
       faults = λ well. absurd (false≢true (sym well));
       dies = λ _. let dies = both.0.dies refl in (dies.0, subst (λ (k : ℕ). Rose k new.store.faults) going.faults dies.1);
@@ -343,6 +351,7 @@ module _ (tells : Bool) (Opens : List ℕ → List ℕ → Type 0) (index : belo
     }
     look_refused Wanted new (Damaged page) both = (let now = going_look new both.0 in record {
       shape = now.shape;
+      mirrors = now.mirrors;
       cause = both.1.1;
       faults = λ _. (now.dead, now.faults);
       dies = λ failed. absurd (false≢true failed);
@@ -364,6 +373,7 @@ module _ (tells : Bool) (Opens : List ℕ → List ℕ → Type 0) (index : belo
     pub all_tried : (Wanted : Key → Type 0) → (IsTrue tells → (key : Key) → Wanted key → IsAbsent index mid.store.state.bytes key → Passed key) → Clears tells Opens index seats t Wanted old mid (Ok n)
     all_tried Wanted passed = record {
       shape = going.shape;
+      mirrors = going.mirrors;
       cause = tt;
       faults = λ _. (going.dead, going.faults);
       dies = λ failed. absurd (false≢true failed);
@@ -407,6 +417,7 @@ module _ (tells : Bool) (Opens : List ℕ → List ℕ → Type 0) (index : belo
             let well = tries.faults refl in
             record {
               shape = tries.shape ∙ going.shape;
+              mirrors = sent_then tells old.store mid.store new.store going.mirrors tries.mirrors;
               dead = well.0 ∙ going.dead;
               faults = well.1 ∙ going.faults;
               ranges = λ u. tries.ranges refl u ∙ going.ranges u;
@@ -434,6 +445,7 @@ module _ (tells : Bool) (Opens : List ℕ → List ℕ → Type 0) (index : belo
       pub try_refused : (Wanted : Key → Type 0) (fault : TableFault) → Tries tells Opens index seats table key mid new (Err fault) → Clears tells Opens index seats t Wanted old new (Err fault)
       try_refused Wanted fault tries = record {
         shape = tries.shape ∙ going.shape;
+        mirrors = sent_then tells old.store mid.store new.store going.mirrors tries.mirrors;
         cause = cause_of Bool fault tries.cause;
         faults = λ well. let kept = tries.faults well in (kept.0 ∙ going.dead, kept.1 ∙ going.faults);
         dies = λ failed. let dies = tries.dies failed in (dies.0, subst (λ (k : ℕ). Rose k new.store.faults) going.faults dies.1);
@@ -454,6 +466,7 @@ module _ (tells : Bool) (Opens : List ℕ → List ℕ → Type 0) (index : belo
         pub going_more : Going tells Opens index seats t (λ one. Passed one ⊎ More one) (n + m) old new
         going_more = record {
           shape = clears.shape ∙ going.shape;
+          mirrors = sent_then tells old.store mid.store new.store going.mirrors clears.mirrors;
           dead = (clears.faults refl).0 ∙ going.dead;
           faults = (clears.faults refl).1 ∙ going.faults;
           ranges = λ u. clears.ranges refl u ∙ going.ranges u;
@@ -472,6 +485,7 @@ module _ (tells : Bool) (Opens : List ℕ → List ℕ → Type 0) (index : belo
       pub more_refused : (Wanted : Key → Type 0) (fault : TableFault) → Clears tells Opens index seats t More mid new (Err fault) → Clears tells Opens index seats t Wanted old new (Err fault)
       more_refused Wanted fault clears = record {
         shape = clears.shape ∙ going.shape;
+        mirrors = sent_then tells old.store mid.store new.store going.mirrors clears.mirrors;
         cause = clears.cause;
         faults = λ well. let kept = clears.faults well in (kept.0 ∙ going.dead, kept.1 ∙ going.faults);
         dies = λ failed. let dies = clears.dies failed in (dies.0, subst (λ (k : ℕ). Rose k new.store.faults) going.faults dies.1);
@@ -488,6 +502,7 @@ pub going_to : (tells : Bool) (Opens : List ℕ → List ℕ → Type 0) (index 
     → (IsTrue tells → (key : Key) → Other key → IsAbsent index now.store.state.bytes key → Passed key) → Going tells Opens index seats t Passed n old now → Going tells Opens index seats t Other n' old now
 going_to tells Opens index seats t n n' Passed Other old now count passed going = record {
   shape = going.shape;
+  mirrors = going.mirrors;
   dead = going.dead;
   faults = going.faults;
   ranges = going.ranges;

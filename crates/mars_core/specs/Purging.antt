@@ -22,6 +22,7 @@ use Rattle.caller_steps.specs.declared.purge_fault.PurgeFault.{PurgeFault}
 use Rattle.caller_steps.specs.declared.purge_fault.PurgeFault.TheVariants as stop
 use Rattle.mars_core.specs.Over.{index_of}
 use Rattle.mars_core.specs.Seats.{Seats, calls_at}
+use Rattle.eaw_face.specs.Mirroring.{Mirrors}
 
 -- the index of the key's table keeps its pair, as the last of its page
 abbrev pub Keeps : Index → List ℕ → Key → Type 0
@@ -104,6 +105,7 @@ pub record Tries (tells : Bool) (Opens : List ℕ → List ℕ → Type 0) (inde
   pub sound : IsTrue tells → IsAlive new.store → index.sound new.store.state.bytes
   pub tried : IsTrue tells → IfOk result (Tried index seats table key old.store.state.bytes new.store.state.bytes)
   pub time : IsTrue tells → LeavesOnly (λ image. OpensWith Opens index image (state_of index old).table) old.store new.store
+  pub mirrors : Mirrors tells old.store new.store
 
 -- Each key that was to be passed and has no record was tried once, but those that a live transaction touches. Records, writes and saves are as they
 -- were, and all that a purge rests on is so still.
@@ -118,3 +120,4 @@ pub record Clears (tells : Bool) (Opens : List ℕ → List ℕ → Type 0) (ind
   pub ready : IsTrue tells → IfOk result (λ n. IsReady index seats t new)
   pub cleared : IsTrue tells → IfOk result (λ n. Cleared index seats Passed n old.store.state.bytes new.store.state.bytes)
   pub time : IsTrue tells → LeavesOnly (λ image. OpensWith Opens index image (state_of index old).table) old.store new.store
+  pub mirrors : Mirrors tells old.store new.store
