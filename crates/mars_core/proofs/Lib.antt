@@ -16,6 +16,7 @@ pub mod Attaching
 pub mod Unwritten
 pub mod Clearing
 pub mod Passing
+pub mod Naming
 pub mod Purged
 pub mod Tabled
 pub mod GivingUp

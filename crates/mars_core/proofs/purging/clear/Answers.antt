@@ -29,7 +29,7 @@ loop-table-preserved g c =
     going_to T E I c.args.seats.now c.args.caller (c.loop-table.taken + c.in-Ok.more) c.saturating_add-taken.result _ (IsOfFirst names (c.loop-table.table + 1)) p q
     (λ told. sum_is c.loop-table.taken c.in-Ok.more c.saturating_add-taken.result c.saturating_add-taken.ensures
     (counted_more T E I c.args.seats.now c.args.caller p c.requires.alive (IsOfFirst names c.loop-table.table) c.loop-table.taken m c.loop-table.invariant q (IsOfTable c.in-Some.name) c.in-Ok.more clears told (c.requires.ready told)))
-    (λ told key of is. first_more names c.loop-table.table c.in-Some.name (sym c.name.ensures ∙ c.in-Some.is) key of) on
+    (λ told key of is. first_more names c.loop-table.table c.in-Some.name (ap (λ (ns : List (List ℕ)). slice_get ns c.loop-table.table) (sym c.names-in-loop-table.ensures) ∙ (sym c.name.ensures ∙ c.in-Some.is)) key of) on
 
 pub returns-in-Err : goal.returns-in-Err
 returns-in-Err g c =
@@ -53,5 +53,5 @@ returns g c =
     let m = pages_of (V c.loop-table.records.store) c.loop-table.records in
     record {
       clears = all_tried g.S.EawStore.tells (g.S.EawStore.opens (V c.args.records.now.store).shape) g.K.KeyIndex.index c.args.seats.now c.args.caller p c.requires.alive (IsOfFirst names c.loop-table.table) c.loop-table.taken m c.loop-table.invariant
-          (IsOfFirst names (length names)) (λ told key of is. (of.0, omega (arith, of.1, c.loop-table-test.false, c.count-table-end.ensures.count), of.2, of.3));
+          (IsOfFirst names (length names)) (λ told key of is. (of.0, omega (arith, of.1, c.loop-table-test.false, c.count-table-end.ensures.count, ap length c.names.ensures), of.2, of.3));
     }

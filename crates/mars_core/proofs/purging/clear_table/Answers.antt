@@ -36,7 +36,7 @@ returns-in-Ok-None g c =
     let going = going_look T E I c.args.seats.now c.args.caller p c.requires.alive (IsBelow c.args.name.now c.loop-key.from) c.loop-key.taken m c.loop-key.invariant q looks in
     let next = λ (told : IsTrue g.S.EawStore.tells). next_still T E I m q c.args.name.now c.loop-key.from (None) looks told (named_next c.args.seats.now.names c.args.table c.args.name.now I (V c.loop-key.records.store).state.bytes c.loop-key.from (None) (c.loop-key.invariant.ready told).named c.requires.named (rw c.in-Ok-None.field-0-is at (c.in-Ok-None.ensures.next told))) in
     record {
-      clears = all_tried T E I c.args.seats.now c.args.caller p c.requires.alive (IsBelow c.args.name.now c.loop-key.from) c.loop-key.taken q going (IsOfTable c.args.name.now) (λ told. all_below I (V q.store).state.bytes c.args.name.now c.loop-key.from (next told));
+      clears = all_tried T E I c.args.seats.now c.args.caller p c.requires.alive (IsBelow c.args.name.now c.loop-key.from) c.loop-key.taken q going (IsOfTable c.args.name.now) (λ told. all_below I q.store.state.bytes c.args.name.now c.loop-key.from (next told));
     }
 
 pub next_absent-requires-clause-there : goal.next_absent-requires-clause-there
@@ -91,7 +91,7 @@ loop-key-preserved g c =
     let on = going_on T E I c.args.seats.now c.args.caller p c.requires.alive (IsBelow c.args.name.now c.loop-key.from) c.loop-key.taken q going c.args.table key r (λ told. (next told).1) c.in-Ok.was tries in
     let count = λ (told : IsTrue g.S.EawStore.tells). count_is c.in-Ok.was c.loop-key.taken c.from.result c.saturating_add-taken.result c.from.ensures c.saturating_add-taken.ensures (counted T E I c.args.seats.now c.args.caller p c.requires.alive (IsBelow c.args.name.now c.loop-key.from) c.loop-key.taken q going c.args.table key r (λ told. (next told).1) c.in-Ok.was tries told (c.requires.ready told)) in
     let passed = λ (told : IsTrue g.S.EawStore.tells) (to : ℕ) (le : to ≤ suc c.in-Ok-Some.key) (one : Key) (below : IsBelow c.args.name.now to one) (is : IsAbsent g.K.KeyIndex.index (g.S.EawStore.view c.try_key.new.records.store).state.bytes one).
-    below_next I (V q.store).state.bytes c.args.name.now c.loop-key.from c.in-Ok-Some.key (next told).2 one (below.0, omega (arith, le, below.1)) (was_absent T E I c.args.seats.now c.args.caller p c.requires.alive (IsBelow c.args.name.now c.loop-key.from) c.loop-key.taken q going c.args.table key r (λ told. (next told).1) c.in-Ok.was tries told one is) in
+    below_next I q.store.state.bytes c.args.name.now c.loop-key.from c.in-Ok-Some.key (next told).2 one (below.0, omega (arith, le, below.1)) (was_absent T E I c.args.seats.now c.args.caller p c.requires.alive (IsBelow c.args.name.now c.loop-key.from) c.loop-key.taken q going c.args.table key r (λ told. (next told).1) c.in-Ok.was tries told one is) in
     going_to T E I c.args.seats.now c.args.caller (c.loop-key.taken + one_if c.in-Ok.was) c.saturating_add-taken.result _ (IsBelow c.args.name.now (c.in-Ok-Some.key + 1)) p r count (λ told. passed told (c.in-Ok-Some.key + 1) (omega arith)) on
 
 pub returns-then-key : goal.returns-then-key
@@ -112,7 +112,7 @@ returns-then-key g c =
     let on = going_on T E I c.args.seats.now c.args.caller p c.requires.alive (IsBelow c.args.name.now c.loop-key.from) c.loop-key.taken q going c.args.table key r (λ told. (next told).1) c.in-Ok.was tries in
     let count = λ (told : IsTrue g.S.EawStore.tells). count_is c.in-Ok.was c.loop-key.taken c.from.result c.saturating_add-taken.result c.from.ensures c.saturating_add-taken.ensures (counted T E I c.args.seats.now c.args.caller p c.requires.alive (IsBelow c.args.name.now c.loop-key.from) c.loop-key.taken q going c.args.table key r (λ told. (next told).1) c.in-Ok.was tries told (c.requires.ready told)) in
     let passed = λ (told : IsTrue g.S.EawStore.tells) (to : ℕ) (le : to ≤ suc c.in-Ok-Some.key) (one : Key) (below : IsBelow c.args.name.now to one) (is : IsAbsent g.K.KeyIndex.index (g.S.EawStore.view c.try_key.new.records.store).state.bytes one).
-    below_next I (V q.store).state.bytes c.args.name.now c.loop-key.from c.in-Ok-Some.key (next told).2 one (below.0, omega (arith, le, below.1)) (was_absent T E I c.args.seats.now c.args.caller p c.requires.alive (IsBelow c.args.name.now c.loop-key.from) c.loop-key.taken q going c.args.table key r (λ told. (next told).1) c.in-Ok.was tries told one is) in
+    below_next I q.store.state.bytes c.args.name.now c.loop-key.from c.in-Ok-Some.key (next told).2 one (below.0, omega (arith, le, below.1)) (was_absent T E I c.args.seats.now c.args.caller p c.requires.alive (IsBelow c.args.name.now c.loop-key.from) c.loop-key.taken q going c.args.table key r (λ told. (next told).1) c.in-Ok.was tries told one is) in
     record {
       clears = all_tried T E I c.args.seats.now c.args.caller p c.requires.alive (IsBelow c.args.name.now (2 ^ 64)) c.saturating_add-taken.result r
           (going_to T E I c.args.seats.now c.args.caller (c.loop-key.taken + one_if c.in-Ok.was) c.saturating_add-taken.result _ (IsBelow c.args.name.now (2 ^ 64)) p r count (λ told. passed told (2 ^ 64) (omega (arith, c.if-key.true))) on)

@@ -20,6 +20,8 @@ use Rattle.record_table.specs.Faults.{reply_to}
 use Rattle.record_table.specs.Does.{Does}
 use Rattle.record_table.specs.declared.fault.TableFault.{TableFault}
 use Rattle.caller_steps.specs.Core.{Steps}
+use Rattle.history.specs.Locks.{touched}
+use Rattle.mars_core.specs.Masks.{AreMasksOf}
 use Rattle.mars_core.specs.Held.{Held, core_of, state_at}
 use Rattle.mars_core.specs.Seats.{Seats, live_in, calls_in}
 use Rattle.mars_core.proofs.Prefixes.{StoreLaws}
@@ -106,8 +108,12 @@ take-requires g c = subst (λ (n : ℕ). c.args.caller < n) (sym c.self.invarian
 pub commit-requires : goal.commit-requires
 commit-requires g c = subst (λ (h : Held g.row.S.Denot). c.args.caller < (g.S.EawStore.view h.records.store).shape.numbers) (sym c.self.view_is) c.requires.inside
 
-pub put-requires : goal.put-requires
-put-requires g c = subst (λ (n : ℕ). c.args.caller < n) (sym c.take.ensures.out.count) (subst (λ (n : ℕ). c.args.caller < n) (sym c.self.invariant.seats) (subst (λ (h : Held g.row.S.Denot). c.args.caller < (g.S.EawStore.view h.records.store).shape.numbers) (sym c.self.view_is) c.requires.inside))
+pub put-requires-clause-inside : goal.put-requires-clause-inside
+put-requires-clause-inside g c = subst (λ (n : ℕ). c.args.caller < n) (sym c.take.ensures.out.count) (subst (λ (n : ℕ). c.args.caller < n) (sym c.self.invariant.seats) (subst (λ (h : Held g.row.S.Denot). c.args.caller < (g.S.EawStore.view h.records.store).shape.numbers) (sym c.self.view_is) c.requires.inside))
+
+pub put-requires-clause-masked : goal.put-requires-clause-masked
+put-requires-clause-masked g c = subst (λ (x : List (List ℕ) × Granted). AreMasksOf (touched x.0 x.1) c.in-Some.live.masks)
+    (λ j. (sym c.take.ensures.out.names j, sym (ap (λ (d : Done). d.calls) c.in-Err.ensures.given_back) j)) c.in-Some.ensures.masked
 
 -- without a live transaction nothing is taken out
 nothing : (old mid : Seats) (t : ℕ) (o : Option Granted) → o ≡ live_in old t → o ≡ None → live_in mid ≡ update nat_eq (live_in old) t None → live_in mid ≡ live_in old
