@@ -13,6 +13,7 @@ pub mod Doing
 pub mod Ending
 pub mod Grouping
 pub mod Putting
+pub mod Rooted
 pub mod RowsOf
 pub mod Gathering
 pub mod Opened
