@@ -5,10 +5,10 @@ use Rattle.std.specs.Option.{option_map}
 use Rattle.mars_base.specs.Bytes.{range, put}
 use Rattle.mars_base.proofs.Puts.{length-put}
 use Rattle.pcm_media.proofs.Ranges.{range-put}
-use Rattle.array_shape.specs.Logged.{Part, applied}
+use Rattle.array_shape.specs.Logged.{applied}
 use Rattle.record_slots.specs.Fresh.{fresh_page, fresh_root}
 use Rattle.record_slots.specs.IndexHead.{index_head_said}
-use Rattle.record_slots.specs.Names.{names_in, with_last, with_entries}
+use Rattle.record_slots.specs.Names.{with_last, with_entries}
 use Rattle.record_slots.specs.Super.{SaysSuper, HasTables, super_bytes, tables_in, tables_used, tables_said}
 use Rattle.record_slots.specs.Places.{page_bytes, slot_of, next_slot, next_page, tables_of, root_of, version_of, first_slot_page, free_slot, free_page, free_slots, free_pages}
 use Rattle.record_slots.specs.declared.super_page.Super.{Super}

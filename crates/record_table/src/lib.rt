@@ -9,6 +9,7 @@ mod form;
 mod laws;
 mod making;
 mod names;
+mod placing;
 mod records;
 mod removing;
 mod scanning;

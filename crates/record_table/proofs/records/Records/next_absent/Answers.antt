@@ -1,3 +1,4 @@
+use Rattle.index_pages.proofs.Looking.{looks_none}
 use Rattle.std.proofs.Common.{sym}
 use Rattle.record_table.specs.Names.{name_at}
 use Rattle.record_table.proofs.Sharing.{called_below}
@@ -28,3 +29,9 @@ next_absent-requires-clause-named g c =
 
 pub next_absent-requires-clause-root : goal.next_absent-requires-clause-root
 next_absent-requires-clause-root g c = inside_as g.S.EawStore.tells (pages_of (g.S.EawStore.view c.self.inside.pages.store) c.self.inside.pages) c.self.inside.roots.at c.args.table c.requires.table c.self.invariant.1.1 c.of_table-root.result c.of_table-root.ensures
+
+pub returns-then-is_dead-clause-looks : goal.returns-then-is_dead-clause-looks
+returns-then-is_dead-clause-looks g c =
+    let V = g.S.EawStore.view in
+    let now = c.args.self.now in
+    looks_none g.S.EawStore.tells (g.S.EawStore.opens (V now.store).shape) (pages_of (V now.store) now)

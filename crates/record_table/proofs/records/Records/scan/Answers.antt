@@ -1,3 +1,7 @@
+use Rattle.std.proofs.Common.{true, refl, subst}
+use Rattle.page_store.specs.Shown.{Shown}
+use Rattle.record_table.proofs.Doing.{does_dead}
+use Rattle.record_table.proofs.Looking.{looks_none}
 use Rattle.std.proofs.Common.{◌≡◌, sym, ◌∙◌, ap}
 use Rattle.record_table.specs.Names.{name_at}
 use Rattle.record_table.proofs.Sharing.{called_below}
@@ -50,3 +54,17 @@ gather-requires-clause-named g c =
 
 pub gather-requires-clause-root : goal.gather-requires-clause-root
 gather-requires-clause-root g c = inside_as g.S.EawStore.tells (pages_of (g.S.EawStore.view c.self.inside.pages.store) c.self.inside.pages) c.self.inside.roots.at c.args.table c.requires.table c.self.invariant.1.1 c.of_table-root.result c.of_table-root.ensures
+
+pub returns-then-is_dead-clause-does : goal.returns-then-is_dead-clause-does
+returns-then-is_dead-clause-does g c = λ name its.
+    let V = g.S.EawStore.view in
+    let now = c.args.self.now in
+    let v = pages_of (V now.store) now in
+    does_dead g.S.EawStore.tells (g.S.EawStore.opens (V now.store).shape) g.K.KeyIndex.index c.args.table c.args.tid (Scan name c.args.low c.args.high) v v refl
+    (subst (λ (p : Shown g.row.S.Denot). (V p.store).is_dead ≡ true) c.self.view_is (sym c.is_dead.ensures.dead ∙ c.if-is_dead.true))
+
+pub returns-then-is_dead-clause-looks : goal.returns-then-is_dead-clause-looks
+returns-then-is_dead-clause-looks g c =
+    let V = g.S.EawStore.view in
+    let now = c.args.self.now in
+    looks_none g.S.EawStore.tells (g.S.EawStore.opens (V now.store).shape) c.args.tid (pages_of (V now.store) now)
