@@ -13,7 +13,7 @@ use Rattle.caller_steps.specs.Run.{Turn, AreOf, turns_of, has_fault}
 use Rattle.caller_steps.proofs.Running.{turns_dead}
 use Rattle.caller_steps.proofs.Telling.{told_by_some, some_line}
 use Rattle.mars_manager.specs.declared.setup.Setup.{Setup}
-use Rattle.mars_manager.specs.Pass.{PassView, Fits, AreSo, known_of, times, newcomer}
+use Rattle.mars_manager.specs.Pass.{PassView, names_in, Fits, AreSo, known_of, times, newcomer}
 use Rattle.mars_manager.specs.Sharing.{MarsView, Since, AreGathered}
 use Rattle.mars_manager.proofs.Calls.{told_all}
 use Rattle.caller_plans.specs.declared.plan.Plan.{Plan}
@@ -24,7 +24,7 @@ use Rattle.caller_work.specs.declared.end.WorkEnd.{WorkEnd}
 use Rattle.caller_work.specs.Standing.{stop_for}
 use Rattle.caller_work.specs.Tries.{IsWorkOf}
 use Rattle.caller_work.specs.Crew.{IsDone}
-use Rattle.caller_work.specs.Asked.{HaveCauses}
+use Rattle.caller_work.specs.Asked.{IsToldOf, HaveCauses}
 use Rattle.mars_manager.specs.Asked.{HaveAsked}
 use Rattle.caller_work.proofs.Asking.{causes_of}
 use Rattle.caller_work.specs.Worked.{of_caller, end_of, worst, is_fault, Worked}
@@ -67,7 +67,7 @@ module _ {C : Type 0} where
   fits_at tells show setup turns state (q ∷ passes) (suc i) p so within = fits_at tells show setup turns state passes i p so.1 (omega arith)
 
   module _ (tells : Bool) (show : C → CoreView) (mars : MarsView C) (last : C) (tries : ℕ) (plans : List (List Plan)) (told : List (List Fate)) (stopped : List (Option Reply)) (passes : List (PassView C)) (end : WorkEnd)
-      (few : mars.setup.callers ≡ length plans) (each : length told ≡ length plans) (each_stopped : length stopped ≡ length plans) (both : length passes ≡ length plans)
+      (few : mars.setup.callers ≡ length plans) (named : mars.setup.names ≡ (show mars.setup.first).state.names) (each : length told ≡ length plans) (each_stopped : length stopped ≡ length plans) (both : length passes ≡ length plans)
       (done : (k : ℕ) (p : PassView C) → k < length plans → IsDone end k (Times tries) (of_caller plans k) (of_caller told k) (get_or stopped k None) (get_or passes k p))
       (end_is : end ≡ worst (map (option_map stop_for) stopped))
       (since : Since tells (show mars.setup.first) (show last))
@@ -95,10 +95,11 @@ module _ {C : Type 0} where
         (d.works.0, sym (told_all tells show mars.setup turns now (get_or passes k somebody).known fits ∙ ap (λ (n : ℕ). turns_of n turns) d.number) ∙ d.works.1, d.works.2)
 
     -- and each `Busy` that it was told has its cause
-    causes : (k : ℕ) (within : k < length plans) → HaveCauses (length plans) (of_caller plans) k (works k within).0
+    causes : (k : ℕ) (within : k < length plans) → HaveCauses (length plans) first.names (of_caller plans) k (works k within).0
     unfolding works
-    causes k within = causes_of (length plans) (of_caller plans) (Times tries) passes somebody (λ i l. (done i somebody l).works.0) (of_caller told) (λ i. get_or stopped i None)
-        (subst (λ n. HaveAsked n passes) few asked) (omega arith) (λ i l. (done i somebody l).number) (λ i l. (done i somebody l).asked) (λ i l. (done i somebody l).works.2) k within
+    causes k within = causes_of (length plans) first.names (of_caller plans) (Times tries) passes somebody (λ i l. (done i somebody l).works.0) (of_caller told) (λ i. get_or stopped i None)
+        (subst (λ n. HaveAsked n passes) few asked) (omega arith) (λ i l. (done i somebody l).number) (λ i l. subst (λ (names : List (List ℕ)). IsToldOf names i (done i somebody l).works.0 (get_or passes i somebody).known.met)
+        (ap names_in (fits_at tells show mars.setup turns now passes i somebody gathered.each (omega arith)).setup_is ∙ named) (done i somebody l).asked) (λ i l. (done i somebody l).works.2) k within
 
     media_work : (k : ℕ) → k < length plans → has_media (turns_of k turns) ≡ is_fault (end_of (option_map stop_for (get_or stopped k None)))
     media_work k within =

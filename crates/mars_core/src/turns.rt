@@ -1,12 +1,11 @@
 // Callers by turns over records.
 ghost use Rattle.std.specs.Prelude.{◌≡◌, ◌<◌, ◌≤◌, ◌⊎◌, [], ℕ, None, Ok, IfOk, IfErr, IsTrue, IsFalse, is_some, length, slice_index_or};
 ghost use Rattle.std.specs.FinMap.{entries};
-ghost use Rattle.history.specs.Key.{main_name};
-ghost use Rattle.history.specs.Rows.{all_keyed};
+ghost use Rattle.history.specs.Rows.{records_in};
 ghost use Rattle.eaw_face.specs.Causes.{IsAlive};
 ghost use Rattle.eaw_face.specs.Mirroring.{Mirrors, GivesUp};
 ghost use Rattle.page_store.specs.Shown.{pages_of};
-ghost use Rattle.history.specs.Locks.{touched};
+ghost use Rattle.history.specs.Locks.{touched, has_table};
 ghost use Rattle.history.specs.declared.call.Call.TheVariants.{Begin, Commit, Abort};
 ghost use Rattle.history.specs.declared.locks.Mode.TheVariants.{Shared, Exclusive};
 ghost use Rattle.history.specs.declared.call.Reply.TheVariants.{Dead};
@@ -16,6 +15,7 @@ ghost use Rattle.caller_steps.specs.Purging.{Purges};
 ghost use Rattle.caller_steps.specs.Locked.{IsLocked};
 ghost use Rattle.caller_steps.specs.State.{calls_of};
 ghost use Rattle.record_slots.specs.Places.{version_of};
+ghost use Rattle.record_table.specs.Names.{KeepsNames};
 ghost use Rattle.record_table.specs.Shown.{state_of};
 ghost use Rattle.record_table.specs.Upgrading.{Upgrades};
 ghost use Rattle.mars_core.specs.Attached.{CoreCause, GivesBack, is_media_fault};
@@ -38,19 +38,20 @@ use crate::seats::Seats;
 use crate::table_call::{Asked, TableCall};
 use caller_steps::{Core as Steps, PurgeFault};
 use eaw_face::EawStore;
-use history::{Call, Done, History, Reply, Rows};
+use history::{Call, Done, History, Reply, Tables};
 use page_store::{KeyIndex, Pages, SaveRoom};
+use record_slots::Names;
 use record_table::Records;
 use std::alloc::Global;
 use std::marker::Model;
 
-/// Callers that take turns on records over a store, under an index. Each call locks the stripe of its key (of 64), and a scan all
+/// Callers that take turns on records over a store, under an index. Each call locks the stripe of its key in its table (of 64), and a scan all
 /// stripes, until the transaction ends: a get and a scan beside other readers, a put and a removal alone.
 #[derive(Drop)]
 pub struct Core<S: EawStore, K: KeyIndex> {
     alloc: Global,
     records: Records<S, K>,
-    base: Rows,
+    base: Tables,
     seats: Seats,
     history: History,
     /// The transactions whose commit met a fault of the medium. They may be durable or not.
@@ -67,7 +68,7 @@ impl<S: EawStore, K: KeyIndex> Model for Core<S, K> {
 
     ghost view = { λ c. record { records = c.records; base = c.base; seats = c.seats; history = c.history; doubt = c.doubt } };
 
-    ghost invariant = { λ c. IsKept S.tells S.opens K.index (pages_of (S.view c.records.store) c.records) (length c.seats) c.base
+    ghost invariant = { λ c. IsKept S.tells S.opens K.index (pages_of (S.view c.records.store) c.records) (length c.seats.live) c.base
         (state_over K.index (S.view c.records.store) (record { records = c.records; base = c.base; seats = c.seats; history = c.history; doubt = c.doubt })) };
 }
 
@@ -89,10 +90,10 @@ impl<S: EawStore, K: KeyIndex> Core<S, K> {
         begin_over(alloc, records, base)
     }
 
-    /// The records at the opening, in the order of their keys.
-    pub fn base(&self) -> &Rows
+    /// The records at the opening, in the order of their keys: of each table its rows.
+    pub fn base(&self) -> &Tables
         ensures base { result.now ≡ self.now.base }
-        ensures entries { IsTrue S.tells → all_keyed main_name result.now ≡ entries (core_of S.opens K.index (S.view self.now.records.store) self.now).state.base }
+        ensures entries { IsTrue S.tells → records_in result.now ≡ entries (core_of S.opens K.index (S.view self.now.records.store) self.now).state.base }
     {
         &self.base
     }
@@ -116,7 +117,7 @@ impl<S: EawStore, K: KeyIndex> Core<S, K> {
     /// A bit for each stripe that the caller's live transaction touched for reading.
     pub fn touched_read(&self, caller: u8) -> u64
         requires { caller < (S.view self.now.records.store).shape.numbers }
-        ensures { IsMaskOf Shared (touched (calls_of (core_of S.opens K.index (S.view self.now.records.store) self.now).state caller)) result }
+        ensures { IsMaskOf Shared (touched self.now.seats.names (calls_of (core_of S.opens K.index (S.view self.now.records.store) self.now).state caller)) result }
     {
         self.seats.touched(caller).reads
     }
@@ -124,7 +125,7 @@ impl<S: EawStore, K: KeyIndex> Core<S, K> {
     /// A bit for each stripe that the caller's live transaction touched for writing.
     pub fn touched_write(&self, caller: u8) -> u64
         requires { caller < (S.view self.now.records.store).shape.numbers }
-        ensures { IsMaskOf Exclusive (touched (calls_of (core_of S.opens K.index (S.view self.now.records.store) self.now).state caller)) result }
+        ensures { IsMaskOf Exclusive (touched self.now.seats.names (calls_of (core_of S.opens K.index (S.view self.now.records.store) self.now).state caller)) result }
     {
         self.seats.touched(caller).writes
     }
@@ -167,8 +168,8 @@ impl<S: EawStore, K: KeyIndex> Core<S, K> {
         records.into_pages().into_store()
     }
 
-    /// Takes keys without records out of the index, so that their slots are given again: each key of `main` whose stripe no live transaction
-    /// touches is tried once, by rising key. Returns how many were taken out. A key stays whose pair its page keeps as the last one. What
+    /// Takes keys without records out of the index, so that their slots are given again: each key whose stripe no live transaction touches
+    /// is tried once, by rising table and key. Returns how many were taken out. A key stays whose pair its page keeps as the last one. What
     /// callers see stays as it is. It is refused with `Dead`, then with `Already` if the caller has a live transaction. A fault of the medium
     /// stops it, and so does a damaged page, which only a core that does not tell its records meets.
     #[tactic(auto, using(crate::proofs::GivingUp::sends_none))]
@@ -220,6 +221,7 @@ impl<S: EawStore, K: KeyIndex> Core<S, K> {
         ensures sends { Mirrors S.tells (S.view self.old.records.store) (S.view self.new.records.store) }
         ensures not_busy { locks ≡ Held → IsFalse (is_busy result) }
         ensures begun { IsFalse (is_refusal result) → IsTrue (is_some ((core_of S.opens K.index (S.view self.old.records.store) self.old).state.live caller)) }
+        ensures tabled { IsFalse (is_refusal result) → IsTrue (has_table self.old.seats.names call.now) }
     {
         let Some(live) = self.seats.take(caller) else {
             return Reply::NoTransaction;
@@ -252,16 +254,13 @@ impl<S: EawStore, K: KeyIndex> Core<S, K> {
         let Some(live) = self.seats.take(caller) else {
             return Reply::NoTransaction;
         };
-        let masks = live.touched();
+        let Live { calls, masks } = live;
         // The history takes the transaction first, so that nothing is committed that there is no memory to keep.
-        match self.history.push(Done {
-            caller,
-            calls: live.into_calls(),
-            at,
-        }) {
+        match self.history.push(Done { caller, calls, at }) {
             Ok(()) => {}
             Err(failed) => {
-                self.seats.put(caller, Live::of(failed.value.calls, masks));
+                let calls = failed.value.calls;
+                self.seats.put(caller, Live { calls, masks });
                 return Reply::NoMemory;
             }
         }
@@ -306,6 +305,7 @@ impl<S: EawStore, K: KeyIndex> Core<S, K> {
         ensures dead { IsTrue (S.view self.old.records.store).is_dead → (result ≡ Dead) × (self.new ≡ self.old) }
         ensures not_busy { locks ≡ Held → IsFalse (is_busy result) }
         ensures begun { IsFalse (is_refusal result) → IsTrue (is_some ((core_of S.opens K.index (S.view self.old.records.store) self.old).state.live caller)) ⊎ (call.now ≡ Begin) }
+        ensures tabled { IsFalse (is_refusal result) → IsTrue (has_table self.old.seats.names call.now) }
     {
         if self.records.is_dead() {
             return Reply::Dead;
@@ -337,6 +337,10 @@ impl<S: EawStore, K: KeyIndex> Steps for Core<S, K> {
         self.make(caller, call, Locks::Held)
     }
 
+    fn names(&self) -> &Names {
+        self.seats.names()
+    }
+
     fn told(&self) -> u64 {
         self.history.len() as u64
     }
@@ -350,12 +354,12 @@ impl<S: EawStore, K: KeyIndex> Steps for Core<S, K> {
 fn begin_over<S: EawStore, K: KeyIndex>(
     alloc: Global,
     records: Records<S, K>,
-    base: Rows,
+    base: Tables,
 ) -> Result<Core<S, K>, (CoreFault, S)>
     requires alive { IsAlive (S.view records.store) }
     requires free { (t : ℕ) → (S.view records.store).ranges t ≡ None }
     requires sound { IsTrue S.tells → K.index.sound (S.view records.store).state.bytes }
-    requires base { IsTrue S.tells → all_keyed main_name base ≡ entries (state_of K.index (pages_of (S.view records.store) records)).table }
+    requires base { IsTrue S.tells → records_in base ≡ entries (state_of K.index (pages_of (S.view records.store) records)).table }
     requires idle { IsTrue S.tells → (t : ℕ) → ((state_of K.index (pages_of (S.view records.store) records)).logs t).writes ≡ [] }
     requires unsaved { IsTrue S.tells → (t : ℕ) → ((state_of K.index (pages_of (S.view records.store) records)).logs t).saved ≡ [] }
     ensures begins { IfOk result (λ core. Begins S.tells (S.opens (S.view records.store).shape) K.index (S.view records.store) (S.view core.records.store)
@@ -363,7 +367,7 @@ fn begin_over<S: EawStore, K: KeyIndex>(
     ensures cause { IfErr result (λ failed. CoreCause S.tells K.index (S.view records.store) failed.0) }
     ensures gives_back { IfErr result (λ failed. GivesBack S.tells (S.opens (S.view records.store).shape) (is_media_fault failed.0) (S.view records.store) (S.view failed.1)) }
 {
-    let seats = match Seats::new(alloc, records.shape().numbers) {
+    let seats = match Seats::new(alloc, records.names(), records.shape().numbers) {
         Ok(seats) => seats,
         Err(_) => return Err((CoreFault::NoMemory, records.into_pages().into_store())),
     };
