@@ -104,7 +104,7 @@ module _ (tells : Bool) (old new : PagesView) (name : List ℕ) (number root : �
     ]);
     are = λ told living j r lt is.
         let there = ap (λ (ts : List TableEntry). option_map (λ entry. entry.root) (slice_get ts j)) (sym (tables told)) ∙ is in
-        let many : length (tables_of old.store.state.bytes) ≡ number = sym (length-map (λ (t : TableEntry). t.name) (tables_of old.store.state.bytes)) ∙ sym (its told).0 in
+        let many : length (tables_of old.store.state.bytes) ≡ number = sym (length-map (tables_of old.store.state.bytes) (λ (t : TableEntry). t.name)) ∙ sym (its told).0 in
         elim (cases_eq j number) [
           | inl same ↦
               ap (λ (k : ℕ). get_or (slice_set roots number root) k 0) same ∙ set_here ∙ next told
