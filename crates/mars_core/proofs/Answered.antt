@@ -62,6 +62,24 @@ save_plain saves Begin answer refused = absurd refused
 save_plain saves Commit answer refused = absurd refused
 save_plain saves Abort answer refused = absurd refused
 
+save_refuses : (saves : ℕ) (call : Call) (answer : Reply) → IsSaveRefusal saves call answer → is_refusal answer ≡ true
+save_refuses saves Save answer refused = ap is_refusal refused.1
+save_refuses saves (Back n) answer refused = ap is_refusal refused.1
+save_refuses saves (Get name key) answer refused = absurd refused
+save_refuses saves (Put name key value) answer refused = absurd refused
+save_refuses saves (Del name key) answer refused = absurd refused
+save_refuses saves (Scan name low high) answer refused = absurd refused
+save_refuses saves Begin answer refused = absurd refused
+save_refuses saves Commit answer refused = absurd refused
+save_refuses saves Abort answer refused = absurd refused
+
+-- a call that was not made was refused
+pub unmade_refuses : (saves : ℕ) (seats : Seats) (t : ℕ) (call : Call) (answer : Reply) → Unmade saves seats t call answer → is_refusal answer ≡ true
+unmade_refuses saves seats t call answer (inl refused) = save_refuses saves call answer refused
+unmade_refuses saves seats t call answer (inr (there, inl (none, told))) = ap is_refusal told
+unmade_refuses saves seats t call answer (inr (there, inr (table, asked, inl none))) = ap is_refusal none
+unmade_refuses saves seats t call answer (inr (there, inr (table, asked, inr (holder, held, busy)))) = ap is_refusal held
+
 -- a call that clashes with nobody's is not told so
 pub unmade_plain : (saves : ℕ) (seats : Seats) (t : ℕ) (call : Call) (answer : Reply) → (has_table seats.names call ≡ true → IsFree (bare seats) t call) → Unmade saves seats t call answer → is_busy answer ≡ false
 unmade_plain saves seats t call answer free (inl refused) = save_plain saves call answer refused

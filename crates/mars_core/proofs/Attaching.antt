@@ -16,6 +16,7 @@ use Rattle.record_table.specs.declared.fault.AttachRecords.{AttachRecords}
 use Rattle.record_table.specs.declared.fault.AttachRecords.TheVariants.{Damaged, Media, Dead, NoMemory}
 use Rattle.record_table.specs.Sought.{LooksAs}
 use Rattle.record_table.specs.Upgrading.{upgraded, OpensUpgraded, Upgrades, UpgradeCause}
+use Rattle.record_table.specs.Names.{names_of}
 use Rattle.record_table.specs.Shown.{table_of, keys_of}
 use Rattle.caller_steps.specs.State.{opened}
 use Rattle.caller_steps.specs.Core.{CoreView}
@@ -133,7 +134,7 @@ looked_begins tells Opens index p q new core alive looks begins =
       alive = begins.alive;
       faults = begins.faults ∙ still.faults;
       shape = begins.shape ∙ looks.shape;
-      state = λ told. subst (λ (d : List ℕ). core.state ≡ opened (table_of index d) (index_of index (upgraded d))) (bytes told) (begins.state told);
+      state = λ told. subst (λ (d : List ℕ). core.state ≡ opened (names_of d) (table_of index d) (index_of index (upgraded d))) (bytes told) (begins.state told);
       fresh = begins.fresh;
       sound = λ told. subst (λ (d : List ℕ). index.sound d) (bytes told) (begins.sound told);
       bytes = λ told. begins.bytes told ∙ ap upgraded (bytes told);

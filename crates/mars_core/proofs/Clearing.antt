@@ -466,6 +466,7 @@ module _ (tells : Bool) (Opens : List ℕ → List ℕ → Type 0) (index : belo
         pub going_more : Going tells Opens index seats t (λ one. Passed one ⊎ More one) (n + m) old new
         going_more = record {
           shape = clears.shape ∙ going.shape;
+          mirrors = sent_then tells old.store mid.store new.store going.mirrors clears.mirrors;
           dead = (clears.faults refl).0 ∙ going.dead;
           faults = (clears.faults refl).1 ∙ going.faults;
           ranges = λ u. clears.ranges refl u ∙ going.ranges u;
@@ -484,6 +485,7 @@ module _ (tells : Bool) (Opens : List ℕ → List ℕ → Type 0) (index : belo
       pub more_refused : (Wanted : Key → Type 0) (fault : TableFault) → Clears tells Opens index seats t More mid new (Err fault) → Clears tells Opens index seats t Wanted old new (Err fault)
       more_refused Wanted fault clears = record {
         shape = clears.shape ∙ going.shape;
+        mirrors = sent_then tells old.store mid.store new.store going.mirrors clears.mirrors;
         cause = clears.cause;
         faults = λ well. let kept = clears.faults well in (kept.0 ∙ going.dead, kept.1 ∙ going.faults);
         dies = λ failed. let dies = clears.dies failed in (dies.0, subst (λ (k : ℕ). Rose k new.store.faults) going.faults dies.1);

@@ -6,6 +6,8 @@ use Rattle.eaw_face.specs.State.{listed}
 use Rattle.eaw_face.specs.StoreView.{StoreView}
 use Rattle.eaw_face.specs.Mirroring.{Mirrors, GivesUp}
 use Rattle.eaw_face.proofs.Mirroring.{none_sent}
+use Rattle.history.specs.Rows.{NamedRows}
+use Rattle.record_table.specs.Names.{names_of}
 use Rattle.history.specs.Table.{Granted}
 use Rattle.history.specs.Writes.{Table}
 use Rattle.history.specs.declared.transaction.Done.{Done}
@@ -22,14 +24,14 @@ use Rattle.mars_core.specs.Held.{state_at}
 use Rattle.mars_core.specs.Kept.{HasHeld, IsKept}
 
 module _ (tells : Bool) (Opens : Shape → List ℕ → List ℕ → Type 0) (index : Index) (p q : PagesView) (gives : GivesUp p.store q.store) (counts : q.counts ≡ p.counts)
-    (base : Table) (history : List Done) (live : ℕ → Option Granted) (doubt : List Done) where
+    (names : List (List ℕ)) (base : Table) (history : List Done) (live : ℕ → Option Granted) (doubt : List Done) where
   -- the same state
-  state_same : state_at index q.store base history live doubt ≡ state_at index p.store base history live doubt
-  state_same = λ i. record { base = base; history = history; live = live; doubt = doubt; is_dead = gives.is_dead i; index = index_of index (gives.state i).bytes }
+  state_same : state_at index q.store names base history live doubt ≡ state_at index p.store names base history live doubt
+  state_same = λ i. record { names = names; base = base; history = history; live = live; doubt = doubt; is_dead = gives.is_dead i; index = index_of index (gives.state i).bytes }
 
-  pub kept_on : (n : ℕ) (rows : List (ℕ × List ℕ)) → IsKept tells Opens index p n rows (state_at index p.store base history live doubt) → IsKept tells Opens index q n rows (state_at index q.store base history live doubt)
+  pub kept_on : (n : ℕ) (rows : List NamedRows) → IsKept tells Opens index p n rows (state_at index p.store names base history live doubt) → IsKept tells Opens index q n rows (state_at index q.store names base history live doubt)
   kept_on n rows kept =
-      let s = state_at index p.store base history live doubt in
+      let s = state_at index p.store names base history live doubt in
       let same = shown_same index p q gives.state counts in
       subst (λ (x : State). IsKept tells Opens index q n rows x) (sym state_same) (record {
         seats = kept.seats ∙ sym (ap (λ (h : Shape). h.numbers) gives.shape);
@@ -39,6 +41,7 @@ module _ (tells : Bool) (Opens : Shape → List ℕ → List ℕ → Type 0) (in
             let tied = kept.tied told (sym gives.is_dead ∙ alive) in
             record {
               index_sound = subst (λ (d : store.State). index.sound d.bytes) (sym gives.state) tied.index_sound;
+              named = tied.named ∙ ap (λ (d : store.State). names_of d.bytes) (sym gives.state);
               mirrors = record {
                 table = ap (λ (x : TableState). x.table) same ∙ tied.mirrors.table;
                 logs = λ caller. ap (λ (x : TableState). x.logs caller) same ∙ tied.mirrors.logs caller;
