@@ -68,6 +68,6 @@ returns-in-Err-clause-looks g c =
     let E = g.S.EawStore.opens in
     let v0 = pages_of (V c.args.pages.store) c.args.pages in
     let v1 = pages_of (V c.check.new.pages.store) c.check.new.pages in
-    let v2 = pages_of (V c.read_names.new.pages.store) c.read_names.new.pages in
+    let v2 = pages_of (V c.read_tables.new.pages.store) c.read_tables.new.pages in
     let A = λ (b : Bool). Looks T (E (V c.args.pages.store).shape) b v0 v2 in
     subst (λ (f : AttachRecords). A (is_refused_by_media f)) (sym c.unattached.ensures) (subst A (sym (failed_attach c.in-Err.fault)) (looks_next T E _ v0 v1 v2 c.in-Ok.ensures.looks c.in-Err.ensures.looks))
