@@ -75,11 +75,11 @@ lost_then first mid now keys [] lost same = subst (λ (ix : Index). Lost first k
 lost_then first mid now keys (key ∷ more) lost (before, then_lost, loses) = (before, lost_then first mid before keys more lost then_lost, loses)
 
 -- a table has one name
-one_name : (x y : List ℕ) → Some x ≡ Some y → x ≡ y
+pub one_name : (x y : List ℕ) → Some x ≡ Some y → x ≡ y
 one_name x y e = cc
 
 -- the key of a table by its name
-called_key : (bytes : List ℕ) (table : ℕ) (key : Key) → IsCalled bytes table key.table → key_in bytes table key.key ≡ key
+pub called_key : (bytes : List ℕ) (table : ℕ) (key : Key) → IsCalled bytes table key.table → key_in bytes table key.key ≡ key
 called_key bytes table key called = λ i. record { table = unwrap_or (called i) []; key = key.key }
 
 -- as callers see it
@@ -411,6 +411,13 @@ module _ (tells : Bool) (Opens : List ℕ → List ℕ → Type 0) (index : belo
 
         table_still : IsTrue tells → table_of index new.store.state.bytes ≡ table_of index mid.store.state.bytes
         table_still told = ap (λ (s : TableState). s.table) (tries.state told refl)
+
+        -- a key that is absent then was so before
+        pub was_absent : IsTrue tells → (one : Key) → IsAbsent index new.store.state.bytes one → IsAbsent index mid.store.state.bytes one
+        was_absent told one is = (
+          lost_still (index_of index mid.store.state.bytes) (index_of index new.store.state.bytes) (one_more told).keys (one_more told).lost one is.0,
+          ap (λ (t : Table). get t one) (sym (table_still told)) ∙ is.1,
+        )
 
         pub going_on : Going tells Opens index seats t (λ one. Passed one ⊎ (one ≡ key)) (n + one_if was) old new
         going_on =

@@ -15,6 +15,7 @@ pub mod Opening
 pub mod Attaching
 pub mod Unwritten
 pub mod Clearing
+pub mod Passing
 pub mod Purged
 pub mod Tabled
 pub mod GivingUp

@@ -38,9 +38,10 @@ use crate::seats::Seats;
 use crate::table_call::{Asked, TableCall};
 use caller_steps::{Core as Steps, PurgeFault};
 use eaw_face::EawStore;
-use history::{Call, Done, History, Reply, Tables};
+use history::{Call, Done, History, Reply, Rows, Tables};
+use mars_base::NoMemory;
 use page_store::{KeyIndex, Pages, SaveRoom};
-use record_slots::Names;
+use record_slots::{Name, Names};
 use record_table::Records;
 use std::alloc::Global;
 use std::marker::Model;
@@ -83,11 +84,11 @@ impl<S: EawStore, K: KeyIndex> Core<S, K> {
         ensures cause { IfErr result (λ failed. CoreCause S.tells K.index (S.view store) failed.0) }
         ensures gives_back { IfErr result (λ failed. GivesBack S.tells (S.opens (S.view store).shape) (is_media_fault failed.0) (S.view store) (S.view failed.1)) }
     {
-        let (records, base) = match Records::attach(alloc, Pages::attach_in(room, store)) {
+        let (records, tables) = match Records::attach(alloc, Pages::attach_in(room, store)) {
             Ok(attached) => attached,
             Err((fault, pages)) => return Err((CoreFault::from(fault), pages.into_store())),
         };
-        begin_over(alloc, records, base)
+        begin_over(alloc, records, tables)
     }
 
     /// The records at the opening, in the order of their keys: of each table its rows.
@@ -354,12 +355,12 @@ impl<S: EawStore, K: KeyIndex> Steps for Core<S, K> {
 fn begin_over<S: EawStore, K: KeyIndex>(
     alloc: Global,
     records: Records<S, K>,
-    base: Tables,
+    tables: Vec<(Name, Rows)>,
 ) -> Result<Core<S, K>, (CoreFault, S)>
     requires alive { IsAlive (S.view records.store) }
     requires free { (t : ℕ) → (S.view records.store).ranges t ≡ None }
     requires sound { IsTrue S.tells → K.index.sound (S.view records.store).state.bytes }
-    requires base { IsTrue S.tells → records_in base ≡ entries (state_of K.index (pages_of (S.view records.store) records)).table }
+    requires base { IsTrue S.tells → records_in tables.items ≡ entries (state_of K.index (pages_of (S.view records.store) records)).table }
     requires idle { IsTrue S.tells → (t : ℕ) → ((state_of K.index (pages_of (S.view records.store) records)).logs t).writes ≡ [] }
     requires unsaved { IsTrue S.tells → (t : ℕ) → ((state_of K.index (pages_of (S.view records.store) records)).logs t).saved ≡ [] }
     ensures begins { IfOk result (λ core. Begins S.tells (S.opens (S.view records.store).shape) K.index (S.view records.store) (S.view core.records.store)
@@ -367,6 +368,10 @@ fn begin_over<S: EawStore, K: KeyIndex>(
     ensures cause { IfErr result (λ failed. CoreCause S.tells K.index (S.view records.store) failed.0) }
     ensures gives_back { IfErr result (λ failed. GivesBack S.tells (S.opens (S.view records.store).shape) (is_media_fault failed.0) (S.view records.store) (S.view failed.1)) }
 {
+    let base = match gathered(alloc, tables) {
+        Ok(base) => base,
+        Err(_) => return Err((CoreFault::NoMemory, records.into_pages().into_store())),
+    };
     let seats = match Seats::new(alloc, records.names(), records.shape().numbers) {
         Ok(seats) => seats,
         Err(_) => return Err((CoreFault::NoMemory, records.into_pages().into_store())),
@@ -383,6 +388,17 @@ fn begin_over<S: EawStore, K: KeyIndex>(
         history: History::new(alloc),
         doubt: Doubt::none(),
     })
+}
+
+// Tables with their names, as they stand.
+fn gathered(alloc: Global, tables: Vec<(Name, Rows)>) -> Result<Tables, NoMemory>
+    ensures { IfOk result (λ all. all ≡ tables.items) }
+{
+    let mut all = Tables::new(alloc);
+    for (name, rows) in tables {
+        all.push(name, rows)?;
+    }
+    Ok(all)
 }
 
 // Records whose data was brought to version 2.

@@ -93,8 +93,8 @@ invariant_of-self-2 g c =
       | inl unmade ↦ subst (λ (r : Shown g.row.S.Denot). IsKept g.S.EawStore.tells g.S.EawStore.opens g.K.KeyIndex.index (pages_of (g.S.EawStore.view r.store) r) (length c.put.new.self.live) c.self.inside.base
           (state_at g.K.KeyIndex.index (g.S.EawStore.view r.store) c.put.new.self.names (table_of c.self.inside.base) c.self.inside.history (live_in c.put.new.self) c.self.inside.doubt)) (sym unmade.0)
           (kept_same T E I p s _ (length i.seats.live) (length c.put.new.self.live) i.base c.self.invariant count
-          (let back = changed_back (live_in i.seats) t None (Some c.answer-live.result.0.calls) (live_in c.take.new.self) (live_in c.put.new.self) c.take.ensures.out.live c.put.ensures.live (is ∙ ap (λ (cs : Granted). Some cs) (sym unmade.1))) in
-          λ j. state_at g.K.KeyIndex.index (g.S.EawStore.view c.self.inside.records.store) ((c.put.ensures.names ∙ c.take.ensures.out.names) j) (table_of c.self.inside.base) c.self.inside.history (back j) c.self.inside.doubt)
+          (let back = changed_back (live_in i.seats) t None (Some c.answer-live.result.0.calls) (live_in c.take.new.self) (live_in c.put.new.self) c.take.ensures.out.live c.put.ensures.live (is ∙ ap (λ (cs : Granted). Some cs) (sym unmade.1)) in
+          λ j. state_at g.K.KeyIndex.index (g.S.EawStore.view c.self.inside.records.store) ((c.put.ensures.names ∙ c.take.ensures.out.names) j) (table_of c.self.inside.base) c.self.inside.history (back j) c.self.inside.doubt))
       | inr made ↦ made_keeps T E I p s (record { indexed = refl; dead = refl }) (length i.seats.live) i.base c.self.invariant alive
           (subst (λ (h : Held g.row.S.Denot). IsShown g.S.EawStore.tells g.K.KeyIndex.index (pages_of (g.S.EawStore.view h.records.store) h.records)) (sym c.self.view_is) c.requires.shown)
           t c.args.call.now (is_of_table c.args.asked c.args.call.now c.requires.said) c.in-Some.live.calls is c.take.new.self None c.take.ensures.out.live c.take.ensures.out.names g.met.S.EawStore.one_data (index_laws g) q (laws_at g i.records.store) (laws_at g c.answer-live.new.records.store)
