@@ -49,7 +49,7 @@ fn root_of<S: EawStore>(pages: &Pages<S>, front: &Super, table: u8) -> u32
 }
 
 // The names of the tables, and the roots of their indexes.
-pub fn read_tables<S: EawStore>(pages: &mut Pages<S>) -> Result<(Names, Roots), PageFault>
+pub fn names_and_roots<S: EawStore>(pages: &mut Pages<S>) -> Result<(Names, Roots), PageFault>
     requires { IsTrue S.tells → IsAlive (S.view pages.old.store) → HasCounts (S.view pages.old.store).state.bytes }
     ensures looks { Looks S.tells (S.opens (S.view pages.old.store).shape) (is_failed result)
         (pages_of (S.view pages.old.store) pages.old) (pages_of (S.view pages.new.store) pages.new) }

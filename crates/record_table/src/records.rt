@@ -1,6 +1,6 @@
 // Records over pages, under an index.
 ghost use Rattle.std.specs.Prelude.{List, ◌≡◌, ◌<◌, ◌≤◌, ℕ, [], Some, None, IfOk, IfErr, IfSome, IfNone, OnOk, OnErr, IsErrOf, IsTrue, if◌then◌else◌, filter, length, slice_get, slice_index_or};
-ghost use Rattle.std.specs.Option.{unwrap_or};
+ghost use Rattle.std.specs.FinMap.{entries};
 ghost use Rattle.array_shape.specs.NumberSet.{members};
 ghost use Rattle.eaw_face.specs.Causes.{IsAlive};
 ghost use Rattle.eaw_face.specs.State.{listed};
@@ -8,8 +8,7 @@ ghost use Rattle.eaw_face.specs.Mirroring.{GivesUp};
 ghost use Rattle.page_store.specs.Index.{IsTable};
 ghost use Rattle.page_store.specs.Looks.{Looks};
 ghost use Rattle.page_store.specs.Shown.{counts_in, top_in, pages_of};
-ghost use Rattle.history.specs.Key.{main_name};
-ghost use Rattle.history.specs.Writes.{rows_of};
+ghost use Rattle.history.specs.Rows.{records_in};
 ghost use Rattle.history.specs.Table.{found};
 ghost use Rattle.history.specs.declared.call.Call.TheVariants.{Get, Put, Del, Scan, Save, Back, Commit, Abort};
 ghost use Rattle.history.specs.declared.call.Reply.TheVariants.{Fine, Absent, Listed, Saved, Committed};
@@ -25,10 +24,11 @@ ghost use Rattle.record_table.specs.Upgrading.{Upgrades};
 ghost use Rattle.record_table.specs.Making.{Makes};
 ghost use Rattle.record_table.specs.Names.{IsNew, IsCalled, names_of, name_at, key_in};
 
-use crate::fault::{AttachRecords, TableFault, unattached};
+use crate::fault::{AttachRecords, TableFault};
 use crate::making::{MakeFault, make};
-use crate::names::{Roots, read_tables};
+use crate::names::Roots;
 use crate::placing::{place_of, slot_of};
+use crate::reading::{Whole, read_whole};
 use crate::removing::{next_absent, remove};
 use crate::scanning::gather;
 use crate::slots::{seek, value_at, write_as};
@@ -37,7 +37,7 @@ use crate::upgrading::upgrade;
 use array_shape::{NumberSet, Shape};
 use eaw_face::EawStore;
 use history::Rows;
-use page_store::{CheckFault, KeyIndex, Pages, TableRows};
+use page_store::{KeyIndex, Pages};
 use record_slots::{Name, Names, Slot, Value};
 use std::alloc::Global;
 use std::marker::{Model, PhantomData};
@@ -69,44 +69,39 @@ impl<S: EawStore, K: KeyIndex> Model for Records<S, K> {
 }
 
 impl<S: EawStore, K: KeyIndex> Records<S, K> {
-    /// Records over pages, once the whole index has been tested, and the rows of the table `main`, which that test met on its way. An error
-    /// returns the pages.
+    /// Records over pages, once the whole index has been tested, and the records of all tables, which that test met on its way: each table's
+    /// name with its rows, in the order of the names. An error returns the pages.
     pub fn attach(
         alloc: Global,
         pages: Pages<S>,
-    ) -> Result<(Records<S, K>, Rows), (AttachRecords, Pages<S>)>
+    ) -> Result<(Records<S, K>, Vec<(Name, Rows)>), (AttachRecords, Pages<S>)>
         requires idle { IsAlive (S.view pages.store) → (t : ℕ) → listed ((S.view pages.store).ranges t) ≡ [] }
         requires closed { IsAlive (S.view pages.store) → (t : ℕ) → top_in pages.marks t ≡ None }
         ensures attached { IfOk result (λ attached. Attached S.tells (S.opens (S.view pages.store).shape) K.index
             (pages_of (S.view pages.store) pages) (pages_of (S.view attached.0.store) attached.0)) }
-        ensures rows { IsTrue S.tells → IfOk result (λ attached. attached.1 ≡ rows_of main_name (table_of K.index (S.view pages.store).state.bytes)) }
+        ensures rows { IsTrue S.tells → IfOk result (λ attached. records_in attached.1.items ≡ entries (table_of K.index (S.view pages.store).state.bytes)) }
         ensures cause { IfErr result (λ failed. AttachCause S.tells K.index (S.view pages.store) failed.0) }
         ensures looks { IfErr result (λ failed. Looks S.tells (S.opens (S.view pages.store).shape) (is_refused_by_media failed.0)
             (pages_of (S.view pages.store) pages) (pages_of (S.view failed.1.store) failed.1)) }
         ensures dead { IfErr result (λ failed. failed.0 ≡ AttachRecords.Dead → failed.1 ≡ pages) }
     {
         let mut pages = pages;
-        let mut tables = TableRows::new(alloc);
-        match K::check(alloc, &mut pages, &mut tables) {
-            Ok(()) => {}
-            Err(CheckFault::Damaged { page }) => {
-                return Err((AttachRecords::Damaged { page }, pages));
-            }
-            Err(CheckFault::Media) => return Err((AttachRecords::Media, pages)),
-            Err(CheckFault::Dead) => return Err((AttachRecords::Dead, pages)),
-            Err(CheckFault::NoMemory) => return Err((AttachRecords::NoMemory, pages)),
-        }
-        match read_tables(&mut pages) {
-            Ok((names, roots)) => {
+        match read_whole::<S, K>(alloc, &mut pages) {
+            Ok(whole) => {
+                let Whole {
+                    names,
+                    roots,
+                    tables,
+                } = whole;
                 let records = Records {
                     pages,
                     names,
                     roots,
                     index: PhantomData,
                 };
-                Ok((records, first_rows(alloc, tables)))
+                Ok((records, tables))
             }
-            Err(fault) => Err((unattached(fault), pages)),
+            Err(fault) => Err((fault, pages)),
         }
     }
 
@@ -226,12 +221,7 @@ impl<S: EawStore, K: KeyIndex> Records<S, K> {
     }
 
     /// The value of a key, as the number sees it. It reads the pages of the index that lead to the key's slot, each once, and that slot.
-    pub fn get(
-        &mut self,
-        tid: u8,
-        table: u8,
-        key: u64,
-    ) -> Result<Option<Value>, TableFault>
+    pub fn get(&mut self, tid: u8, table: u8, key: u64) -> Result<Option<Value>, TableFault>
         requires tid { tid < (S.view self.old.store).shape.numbers }
         requires table { table < 8 }
         requires there { IsTrue S.tells → IsAlive (S.view self.old.store) → table < length (names_of (S.view self.old.store).state.bytes) }
@@ -250,13 +240,7 @@ impl<S: EawStore, K: KeyIndex> Records<S, K> {
 
     /// Gives the key this value, at once in the number's own view, and in the table once it commits. A key that the index lacks is inserted
     /// first, at the place where the look-up ended, and stays there whatever becomes of the number.
-    pub fn put(
-        &mut self,
-        tid: u8,
-        table: u8,
-        key: u64,
-        value: Value,
-    ) -> Result<(), TableFault>
+    pub fn put(&mut self, tid: u8, table: u8, key: u64, value: Value) -> Result<(), TableFault>
         requires tid { tid < (S.view self.old.store).shape.numbers }
         requires table { table < 8 }
         requires there { IsTrue S.tells → IsAlive (S.view self.old.store) → table < length (names_of (S.view self.old.store).state.bytes) }
@@ -266,11 +250,7 @@ impl<S: EawStore, K: KeyIndex> Records<S, K> {
         ensures dead { IsErrOf result TableFault.Dead → self.new ≡ self.old }
     {
         let root = self.roots.of_table(table);
-        let present = Slot::Present {
-            table,
-            key,
-            value,
-        };
+        let present = Slot::Present { table, key, value };
         let sought = match K::find_place(&mut self.pages, root, table, key) {
             Ok(sought) => sought,
             Err(fault) => return Err(TableFault::from(fault)),
@@ -449,15 +429,5 @@ impl<S: EawStore, K: KeyIndex> Records<S, K> {
         ensures due { IsErrOf result TableFault.Media → ⊥ }
     {
         told(self.pages.end(tid, false))
-    }
-}
-
-// The rows of the table `main`.
-fn first_rows(alloc: Global, tables: TableRows) -> Rows
-    ensures { result ≡ unwrap_or (slice_get tables 0) [] }
-{
-    match tables.into_first() {
-        Some(rows) => rows,
-        None => Rows::new(alloc),
     }
 }

@@ -63,10 +63,18 @@ returns-clause-gets g c =
     let new = c.seek.new.pages in
     let there = subst (λ (p : Shown g.row.S.Denot). IsTrue g.S.EawStore.tells → IsAlive (V p.store) → IsTable (V p.store).state.bytes c.args.table c.of_table-root.result) c.self.view_is roots in
     elim c.match-seek.branch [
-      | in-Ok w ↦ rw w.result-is (root, subst (λ (p : Shown g.row.S.Denot). Gets (g.K.KeyIndex.index.finding c.of_table-root.result c.args.key) c.args.tid (g.S.EawStore.calls p.store) (V p.store) (V new.store) (Ok w.value_at.result)) c.self.view_is
-          (record { sought = Ok w.in-Ok.found; seeks = w.in-Ok.ensures.seeks; told = ap Ok w.value_at.ensures }), there)
-      | in-Err w ↦ rw (w.result-is, w.from.ensures) (root, subst (λ (p : Shown g.row.S.Denot). Gets (g.K.KeyIndex.index.finding c.of_table-root.result c.args.key) c.args.tid (g.S.EawStore.calls p.store) (V p.store) (V new.store) (Err (as_table w.in-Err.fault))) c.self.view_is
-          (record { sought = Err w.in-Err.fault; seeks = w.in-Err.ensures.seeks; told = refl }), there)
+      | in-Ok w ↦ rw w.result-is (
+        root,
+        subst (λ (p : Shown g.row.S.Denot). Gets (g.K.KeyIndex.index.finding c.of_table-root.result c.args.key) c.args.tid (g.S.EawStore.calls p.store) (V p.store) (V new.store) (Ok w.value_at.result)) c.self.view_is
+            (record { sought = Ok w.in-Ok.found; seeks = w.in-Ok.ensures.seeks; told = ap Ok w.value_at.ensures }),
+        there,
+      )
+      | in-Err w ↦ rw (w.result-is, w.from.ensures) (
+        root,
+        subst (λ (p : Shown g.row.S.Denot). Gets (g.K.KeyIndex.index.finding c.of_table-root.result c.args.key) c.args.tid (g.S.EawStore.calls p.store) (V p.store) (V new.store) (Err (as_table w.in-Err.fault))) c.self.view_is
+            (record { sought = Err w.in-Err.fault; seeks = w.in-Err.ensures.seeks; told = refl }),
+        there,
+      )
     ]
 
 pub seek-requires-clause-named : goal.seek-requires-clause-named

@@ -6,7 +6,7 @@ use Rattle.std.specs.Option.{option_map}
 use Rattle.record_slots.specs.Names.{names_in}
 use Rattle.record_slots.specs.Super.{tables_in, tables_said}
 use Rattle.record_table.proofs.Rooted.{root_inside}
-use Rattle.record_table.proofs.names.read_tables.Goals as goal
+use Rattle.record_table.proofs.names.names_and_roots.Goals as goal
 
 pub returns-clause-names : goal.returns-clause-names
 unfolding tables_said
