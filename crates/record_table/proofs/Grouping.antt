@@ -32,7 +32,7 @@ use Rattle.record_table.specs.declared.fault.TableFault.{TableFault}
 use Rattle.record_table.specs.declared.fault.TableFault.TheVariants.{Dead}
 use Rattle.record_table.proofs.Ending.{no_parts}
 use Rattle.record_table.proofs.Holding.{as_many_writes}
-use Rattle.record_table.proofs.Sharing.{Laws}
+use Rattle.record_table.proofs.Sharing.{Laws, called_same}
 use Rattle.record_table.proofs.SlotParts.{IsWritten, applied_parts, parts_carry}
 use Rattle.record_table.proofs.States.{logs_same}
 use Rattle.eaw_face.proofs.Mirroring.{none_sent}
@@ -63,7 +63,7 @@ module _ (index : Index) (laws : Laws index) (s : PagesState) (ts : List ℕ) (s
     where
       go : (b : Bool) → AreSlotParts index (applied (group_log s.store.logs ts) s.store.bytes) (listed (cond b None (s.store.logs u)))
       go true = tt
-      go false = parts_carry index laws s.store.bytes (applied (group_log s.store.logs ts) s.store.bytes) sound group_written.sound group_written.pairs group_written.size (log_of s u) (parts u)
+      go false = parts_carry index laws s.store.bytes (applied (group_log s.store.logs ts) s.store.bytes) (called_same s.store.bytes (applied (group_log s.store.logs ts) s.store.bytes) group_written.tables) group_written.pairs group_written.size (log_of s u) (parts u)
 
   group_logs : (λ (u : ℕ). let log : Log = record { writes = writes_of s.store.bytes (listed (with_each s.store.logs ts None u)); saved = map (writes_of s.store.bytes) (with_each s.saved ts [] u) } in log)
       ≡ with_each (λ (u : ℕ). let log : Log = record { writes = writes_of s.store.bytes (log_of s u); saved = map (writes_of s.store.bytes) (s.saved u) } in log) ts (record { writes = []; saved = [] })

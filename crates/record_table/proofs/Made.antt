@@ -1,6 +1,6 @@
 -- The making of a table: an upgrade, a look at the super page, a nested top action, and the end of its number.
-use Rattle.std.proofs.Common.{◌≡◌, ◌≢◌, ℕ, ◌+◌, ◌-◌, ◌*◌, ◌<◌, ◌≤◌, ◌⊎◌, Bool, true, false, cond, inl, inr, IsTrue, List, [], ◌∷◌, ◌++◌, length, Option, Some, None, Result, Ok, Err, refl, sym, ◌∙◌, ap, subst, arith}
-use Rattle.std.specs.Prelude.{IsFalse, filter, slice_get}
+use Rattle.std.proofs.Common.{◌≡◌, ◌≢◌, ℕ, suc, ◌+◌, ◌-◌, ◌*◌, ◌<◌, ◌≤◌, ◌⊎◌, Bool, true, false, cond, inl, inr, IsTrue, List, [], ◌∷◌, ◌++◌, length, map, Option, Some, None, Result, Ok, Err, refl, sym, ◌∙◌, ap, subst, arith, zero}
+use Rattle.std.specs.Prelude.{IsFalse, filter, OnOk, OnErr, slice_get}
 use Rattle.std.specs.Option.{option_map}
 use Rattle.std.proofs.lemmas.Bool.{false≢true}
 use Rattle.std.proofs.lemmas.List.{map-append}
@@ -36,7 +36,7 @@ use Rattle.record_table.specs.Calls as calls
 use Rattle.record_table.specs.Faults.{told_as}
 use Rattle.record_table.specs.Invariant.{AreSlotParts, Holds}
 use Rattle.record_table.specs.Making.{as_make, IsFit, IsOfMake, names_said, PlaceCause, MakeCause, Makes, is_make_failed, with_page}
-use Rattle.record_table.specs.Names.{names_of, IsNew}
+use Rattle.record_table.specs.Names.{names_of, IsCalled, IsNew}
 use Rattle.record_table.specs.Does.{OpensNamed}
 use Rattle.record_table.specs.Shown.{state_of, keys_of, table_of}
 use Rattle.record_table.specs.Sought.{LooksAs}
@@ -52,6 +52,12 @@ use Rattle.record_table.proofs.Sharing.{Laws}
 use Rattle.record_table.proofs.SlotParts.{parts_carry, log_carried}
 use Rattle.eaw_face.specs.Mirroring.{Mirrors}
 use Rattle.eaw_face.proofs.Mirroring.{none_sent, sent_then}
+
+-- with a table more, each has the name that it had
+first_name : (tables : List TableEntry) (last : TableEntry) (table : ℕ) (name : List ℕ) → slice_get (names_in tables) table ≡ Some name → slice_get (names_in (tables ++ last ∷ [])) table ≡ Some name
+first_name [] last table name called = absurd (cc)
+first_name (entry ∷ entries) last zero name called = called
+first_name (entry ∷ entries) last (suc table) name called = first_name entries last table name called
 
 -- a super page as it is read, that of version 2
 module _ (d : List ℕ) (front : Super) (says : SaysSuper (page_bytes d 0) front) where
@@ -365,20 +371,23 @@ module _ (tells : Bool) (Opens : List ℕ → List ℕ → Type 0) (index : Inde
         far_alive : IsAlive far.store
         far_alive = (acts.kept refl).dead ∙ now_alive
 
+        stays_called : IsTrue tells → (table : ℕ) (name : List ℕ) → IsCalled now.store.state.bytes table name → IsCalled (applied parts now.store.state.bytes) table name
+        stays_called told table other called = ap (λ (ts : List TableEntry). slice_get (names_in ts) table) (facts told).tables ∙ first_name (tables_of now.store.state.bytes) (record { name = name; root = next_page now.store.state.bytes }) table other called
+
         pub far_holds : Holds tells index far
         far_holds living = record {
           closed = λ u. ap (λ (f : ℕ → Option ℕ). f u) (acts.kept refl).tops ∙ (ready.holds now_alive).closed u;
           tied = λ told. record {
             sound = subst index.sound (sym (far_is told)) (facts told).sound;
             parts = λ u. subst (λ (b : List ℕ). AreSlotParts index b (listed (far.store.state.logs u))) (sym (far_is told)) (subst (AreSlotParts index (applied parts now.store.state.bytes)) (sym ((acts.kept refl).logs told u))
-                (parts_carry index laws now.store.state.bytes (applied parts now.store.state.bytes) ((ready.holds now_alive).tied told).sound (facts told).sound (facts told).pairs (facts told).size (listed (now.store.state.logs u)) (((ready.holds now_alive).tied told).parts u)));
+                (parts_carry index laws now.store.state.bytes (applied parts now.store.state.bytes) (stays_called told) (facts told).pairs (facts told).size (listed (now.store.state.logs u)) (((ready.holds now_alive).tied told).parts u)));
           };
         }
 
         far_state : IsTrue tells → state_of index far ≡ state_of index now
         far_state told i = record {
           table = (ap (table_of index) (far_is told) ∙ (facts told).records) i;
-          logs = λ u. log_carried index laws now.store.state.bytes (applied parts now.store.state.bytes) far.store.state.bytes (far_is told) ((ready.holds now_alive).tied told).sound (facts told).sound
+          logs = λ u. log_carried index laws now.store.state.bytes (applied parts now.store.state.bytes) far.store.state.bytes (far_is told) (stays_called told)
               _ _ ((acts.kept refl).logs told u) (((ready.holds now_alive).tied told).parts u) _ _ (λ j. acts.saves j u) i;
         }
 

@@ -38,7 +38,7 @@ use Rattle.record_table.specs.Upgrading.{upgraded, OpensUpgraded, Upgrades, Upgr
 use Rattle.record_table.specs.declared.fault.TableFault.{TableFault}
 use Rattle.record_table.specs.declared.fault.TableFault.TheVariants as refusal
 use Rattle.record_table.proofs.Moving.{Moved, Failed, moved_by_look, failed_by_look, moved_then, failed_then, rests_moved}
-use Rattle.record_table.proofs.Sharing.{Laws}
+use Rattle.record_table.proofs.Sharing.{Laws, called_same}
 use Rattle.record_table.proofs.SlotParts.{parts_carry}
 use Rattle.record_table.proofs.Upgraded.{Upgraded, front_of, two_upgraded, older_upgraded, is_upgraded}
 use Rattle.eaw_face.proofs.Mirroring.{none_sent}
@@ -283,7 +283,7 @@ module _ (tells : Bool) (Opens : List ℕ → List ℕ → Type 0) (index : Inde
           tied = λ told. record {
             sound = subst (λ (s : PagesState). index.sound s.store.bytes) (sym (now told)) (facts told).sound;
             parts = λ u. subst (λ (s : PagesState). AreSlotParts index s.store.bytes (log_of s u)) (sym (now told))
-                (parts_carry index laws mid.store.state.bytes (put mid.store.state.bytes 0 bytes) (rests.tied told).sound (facts told).sound (facts told).pairs (facts told).size (listed (mid.store.state.logs u)) ((rests.tied told).parts u));
+                (parts_carry index laws mid.store.state.bytes (put mid.store.state.bytes 0 bytes) (called_same mid.store.state.bytes (put mid.store.state.bytes 0 bytes) (facts told).tables) (facts told).pairs (facts told).size (listed (mid.store.state.logs u)) ((rests.tied told).parts u));
           };
           time = time_of (Ok tt) does;
         }

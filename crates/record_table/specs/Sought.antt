@@ -4,7 +4,7 @@ use Rattle.std.specs.FinMap.{get}
 use Rattle.mars_base.specs.Causes.{Rose}
 use Rattle.eaw_face.specs.StoreView.{LeavesOnly}
 use Rattle.eaw_face.specs.Causes.{IsAlive}
-use Rattle.history.specs.Key.{Key}
+use Rattle.history.specs.declared.key.Key.{Key}
 use Rattle.page_store.specs.Index.{Index}
 use Rattle.page_store.specs.Looks.{IsStill}
 use Rattle.page_store.specs.Shown.{PagesView}
