@@ -105,4 +105,3 @@ returns-in-Err-scan g c = record {
   works = works_of g.S.EawStore.tells (g.S.EawStore.opens (g.S.EawStore.view c.args.records.now.store).shape) g.K.KeyIndex.index c.args.table c.args.tid (call.Scan c.in-Scan.table.now c.in-Scan.low c.in-Scan.high) (call_of c.args.asked) (pages_of (g.S.EawStore.view c.args.records.now.store) c.args.records.now) (pages_of (g.S.EawStore.view c.scan.new.self.store) c.scan.new.self) (Err c.in-Err-scan.fault) (ap call_of c.in-Scan.is) refl tt
       (c.in-Err-scan.ensures.does c.in-Scan.table.now (λ told alive. number_at (names_of (g.S.EawStore.view c.args.records.now.store).state.bytes) c.in-Scan.table.now c.args.table (subst (λ (k : Call). number_for (names_of (g.S.EawStore.view c.args.records.now.store).state.bytes) k ≡ Some c.args.table) (ap call_of c.in-Scan.is) (c.requires.asked told alive))));
 }
-

@@ -3,8 +3,7 @@ use Rattle.std.specs.FinMap.{entries}
 use Rattle.eaw_face.specs.State.{listed}
 use Rattle.eaw_face.specs.Causes.{IsAlive}
 use Rattle.page_store.specs.Shown.{Shown, pages_of}
-use Rattle.history.specs.Key.{main_name}
-use Rattle.history.specs.Rows.{all_keyed}
+use Rattle.history.specs.Rows.{records_in}
 use Rattle.record_table.specs.Shown.{table_of}
 use Rattle.mars_core.specs.Attached.{is_media_fault, CoreCause, LeftAsItWas}
 use Rattle.mars_core.specs.declared.fault.CoreFault.{CoreFault}
@@ -32,7 +31,7 @@ returns-clause-sound g c = λ told. subst (λ (st : g.row.S.Denot). g.K.KeyIndex
 
 pub returns-clause-rows : goal.returns-clause-rows
 returns-clause-rows g c = λ told.
-    subst (λ (st : g.row.S.Denot). all_keyed main_name c.in-Ok.attached.1 ≡ entries (table_of g.K.KeyIndex.index (g.S.EawStore.view st).state.bytes)) c.attach_in.ensures.store (c.in-Ok.ensures.rows told)
+    subst (λ (st : g.row.S.Denot). records_in c.in-Ok.attached.1.items ≡ entries (table_of g.K.KeyIndex.index (g.S.EawStore.view st).state.bytes)) c.attach_in.ensures.store (c.in-Ok.ensures.rows told)
 
 pub returns-clause-cause : goal.returns-clause-cause
 returns-clause-cause g c = tt
