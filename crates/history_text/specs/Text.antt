@@ -44,9 +44,12 @@ record_head name = if pointwise nat_eq name main_name then codes "rec " else cod
 abbrev pub record_line : Key × List ℕ → List ℕ
 record_line entry = record_head entry.0.table ++ (decimal entry.0.key ++ 32 ∷ (entry.1 ++ 10 ∷ []))
 
--- those of the rows of the table of this name
+-- that of a row of the table of this name, and those of a table's rows
+abbrev pub row_line : List ℕ → Row → List ℕ
+row_line name row = record_line (keyed name row)
+
 abbrev pub table_lines : List ℕ × List Row → List ℕ
-table_lines table = flat_map (λ row. record_line (keyed table.0 row)) table.1
+table_lines table = flat_map (row_line table.0) table.1
 
 -- a line of a word and a number
 abbrev pub number_line : List ℕ → ℕ → List ℕ

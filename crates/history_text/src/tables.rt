@@ -1,8 +1,7 @@
 // Records of tables.
 ghost use Rattle.std.specs.Prelude.{◌≡◌, ◌++◌, IfOk, OnOk, length};
 ghost use Rattle.std.specs.List.{flat_map, sum_by};
-ghost use Rattle.history.specs.Rows.{keyed};
-ghost use Rattle.history_text.specs.Text.{record_head, record_line, table_lines};
+ghost use Rattle.history_text.specs.Text.{record_head, row_line, table_lines};
 
 use history::Rows;
 use mars_base::NoMemory;
@@ -46,7 +45,7 @@ fn write_table(text: &mut Vec<u8>, name: &Name, rows: &Rows) -> Result<(), NoMem
 }
 
 fn write_row(text: &mut Vec<u8>, name: &Name, key: u64, value: &Value) -> Result<(), NoMemory>
-    ensures { OnOk result (text.new.items ≡ text.old.items ++ record_line (keyed name.now (key, value.now))) }
+    ensures { OnOk result (text.new.items ≡ text.old.items ++ row_line name.now (key, value.now)) }
 {
     write_head(text, name)?;
     append_pieces(
