@@ -4,6 +4,7 @@ use Rattle.std.specs.Prelude.{IsTrue, if◌then◌else◌, map, codes}
 use Rattle.std.specs.FinMap.{entries}
 use Rattle.std.specs.List.{flat_map, sum_by}
 use Rattle.std.proofs.lemmas.List.Concat.{flat_map-append}
+use Rattle.std.proofs.lemmas.List.Sums.{sum_by-append}
 use Rattle.mars_base.specs.Causes.{Rose}
 use Rattle.mars_base.proofs.Going as going
 use Rattle.pcm_media.specs.Images.{MayLeave}
@@ -51,7 +52,11 @@ as_many name (row ∷ rows) = ap suc (as_many name rows)
 
 all_counted : (tables : List NamedRows) → sum_by (λ (table : NamedRows). length table.1) tables ≡ length (records_in tables)
 all_counted [] = refl
-all_counted (table ∷ tables) = (λ i. sym (as_many table.0 table.1) i + all_counted tables i) ∙ sym (length-append (all_keyed table.0 table.1) (records_in tables))
+all_counted (table ∷ tables) =
+    sum_by-append (λ (t : NamedRows). length t.1) (table ∷ []) tables ∙ (λ i. one i + all_counted tables i) ∙ sym (length-append (all_keyed table.0 table.1) (records_in tables))
+  where
+    one : 0 + length table.1 ≡ length (all_keyed table.0 table.1)
+    one = omega (arith, as_many table.0 table.1)
 
 -- the text of tables that have just these records
 pub tables_told : (tables : List NamedRows) (table : Table) → records_in tables ≡ entries table → tables_text tables ≡ dump_lines table

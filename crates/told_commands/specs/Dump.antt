@@ -1,5 +1,5 @@
 -- What a dump of the records does and writes, on a medium that tells its bytes.
-use Rattle.std.specs.Prelude.{ℕ, ◌≡◌, Bool, IsTrue, if◌then◌else◌, List, ◌++◌, length, codes, Result, Ok}
+use Rattle.std.specs.Prelude.{ℕ, ◌≡◌, Bool, true, false, IsTrue, if◌then◌else◌, List, ◌++◌, length, codes, Result, Ok}
 use Rattle.std.specs.FinMap.{entries}
 use Rattle.std.specs.List.{flat_map, sum_by}
 use Rattle.pcm_media.specs.Images.{MayLeave}
