@@ -1,7 +1,11 @@
 -- The text of callers' work: the lines that were passed over, the history, what became of the other transactions, and the records.
-use Rattle.std.specs.Prelude.{ℕ, suc, List, [], ◌∷◌, ◌++◌, codes}
+use Rattle.std.specs.Prelude.{ℕ, suc, nat_eq, if◌then◌else◌, List, [], ◌∷◌, ◌++◌, codes}
+use lib.Pointwise.{pointwise}
 use Rattle.std.specs.List.{flat_map}
 use Rattle.std.specs.Fmt.{decimal}
+use Rattle.history.specs.Key.{Key, main_name}
+use Rattle.history.specs.Rows.{keyed}
+use Rattle.history.specs.Writes.{Row}
 use Rattle.history.specs.declared.transaction.Done.{Done}
 use Rattle.script_text.specs.Replies.{reply_text, reply_line, told_line, bad_line}
 use Rattle.caller_plans.specs.declared.fate.Fate.{Fate}
@@ -31,6 +35,25 @@ numbered line n (x ∷ xs) = line n x ++ numbered line (suc n) xs
 -- the line of a record
 abbrev pub rec_line : ℕ × List ℕ → List ℕ
 rec_line r = codes "rec " ++ (decimal r.0 ++ 32 ∷ (r.1 ++ 10 ∷ []))
+
+-- what stands before the key of a record: the name of its table, unless that is `main`
+abbrev pub record_head : List ℕ → List ℕ
+record_head name = if pointwise nat_eq name main_name then codes "rec " else codes "rec @" ++ (name ++ 32 ∷ [])
+
+-- the line of a record of any table
+abbrev pub record_line : Key × List ℕ → List ℕ
+record_line entry = record_head entry.0.table ++ (decimal entry.0.key ++ 32 ∷ (entry.1 ++ 10 ∷ []))
+
+-- that of a row of the table of this name, and those of a table's rows
+abbrev pub row_line : List ℕ → Row → List ℕ
+row_line name row = record_line (keyed name row)
+
+abbrev pub table_lines : List ℕ × List Row → List ℕ
+table_lines table = flat_map (row_line table.0) table.1
+
+-- a line of a word and a number
+abbrev pub number_line : List ℕ → ℕ → List ℕ
+number_line word n = word ++ 32 ∷ (decimal n ++ 10 ∷ [])
 
 -- the text of work that came to its end: the callers are numbered from 0, and the plans of each from 1
 abbrev pub work_text : List LineFault → List Done → List (List Fate) → List (ℕ × List ℕ) → List ℕ

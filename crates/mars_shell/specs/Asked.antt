@@ -14,7 +14,7 @@ use Rattle.mars_shell.specs.Joint.{JointWork}
 use Rattle.mars_shell.specs.Late.{is_late}
 use Rattle.array_runs.specs.Outcome.{OutcomeOf}
 use Rattle.mars_shell.specs.Drill.{Drills}
-use Rattle.mars_shell.specs.Dump.{Dumps, Spares}
+use Rattle.told_commands.specs.Dump.{DumpOutcome}
 use Rattle.array_runs.specs.Records.{HoldsRecords, OverRecords}
 use Rattle.mars_shell.specs.Run.{TakesTurns, Answers}
 use Rattle.array_runs.specs.Statuses.{IsRefused, IsUnfollowed}
@@ -51,7 +51,7 @@ OutcomeFor (Callers numbers) old status new input cut text =
     OverRecords false numbers.callers (λ ended. TakesTurns false (is_late numbers.writing) (JointWork numbers.callers numbers.tries input ended cut text) old ended new) old status new cut text
 OutcomeFor (Eaw given) old status new input cut text = OutcomeOf true (λ ended. ObeysAs given.frames old input ended new cut text) (λ page. ⊥) ⊥ ⊥ old status new cut text
 OutcomeFor Follow old status new input cut text = FollowOutcome old status new input cut text
-OutcomeFor Dump old status new input cut text = OverRecords true 0 (λ ended. (taken : TakesTurns true false (Dumps ended cut text) old ended new) × Spares taken.shape old new) old status new cut text
+OutcomeFor Dump old status new input cut text = DumpOutcome old status new cut text
 OutcomeFor (Drill numbers) old status new input cut text = OverRecords false 0 (λ ended. TakesTurns false (is_late numbers.writing) (Drills numbers ended cut text) old ended new) old status new cut text
 OutcomeFor (Format numbers) old status new input cut text = FormatOutcome numbers old status new cut text
 OutcomeFor (Make name) old status new input cut text = MakeOutcome name old status new cut text

@@ -1,5 +1,6 @@
+// Lines of a word and a number.
 ghost use Rattle.std.specs.Prelude.{◌≡◌, ◌++◌, OnOk};
-ghost use Rattle.mars_shell.specs.Dump.{number_line};
+ghost use Rattle.history_text.specs.Text.{number_line};
 
 use mars_base::NoMemory;
 use texts::{Piece, append_pieces};
