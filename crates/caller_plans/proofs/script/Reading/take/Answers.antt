@@ -6,4 +6,4 @@ pub returns-in-Nothing : goal.returns-in-Nothing
 returns-in-Nothing c = rw c.in-Nothing.is (takes_nothing c.args.number c.args.self.now)
 
 pub returns-in_ok-push-in-Bad : goal.returns-in_ok-push-in-Bad
-returns-in_ok-push-in-Bad c = rw c.in-Bad.is (takes_bad c.args.number c.args.self.now _ c.in_ok-push-in-Bad.ensures.ok refl)
+returns-in_ok-push-in-Bad c = rw c.in-Bad.is (takes_bad c.args.number c.args.self.now _ c.in_ok-push-in-Bad.ensures.ok refl refl)
