@@ -1,0 +1,5 @@
+pub mod Answers
+pub mod Reading
+pub mod News
+pub mod Readership
+pub mod Beside
