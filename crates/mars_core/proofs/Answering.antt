@@ -1,5 +1,5 @@
 -- A call of a transaction that the records made: granted, refused, or failed.
-use Rattle.std.proofs.Common.{◌≡◌, ◌⊎◌, ℕ, inl, inr, Bool, true, false, ◌||◌, nat_eq, List, [], ◌∷◌, ◌++◌, length, IsTrue, Option, Some, unwrap_or, Result, Ok, Err, refl, sym, ap, subst, ◌∙◌, arith}
+use Rattle.std.proofs.Common.{◌≡◌, ◌≢◌, ◌⊎◌, ℕ, inl, inr, Bool, true, false, ◌||◌, nat_eq, List, [], ◌∷◌, ◌++◌, length, IsTrue, Option, Some, unwrap_or, Result, Ok, Err, refl, sym, ap, subst, ◌∙◌, arith}
 use Rattle.std.specs.Prelude.{None, IsFalse, IsErrOf, IfOk, OnErr}
 use Rattle.std.specs.FinMap.{get}
 use Rattle.std.specs.Map.{update}
@@ -46,6 +46,7 @@ use Rattle.mars_core.proofs.Indexing.{IsWithin, InsertsNone, is_within, indexes_
 use Rattle.mars_core.proofs.Mirroring.{IsOfTable, scan_after, mirrors_granted, same_table, answers}
 use Rattle.mars_core.proofs.Rooming.{fits_is, log_lacks, slot_lacks, page_lacks, named_is}
 use Rattle.mars_core.proofs.Entering.{index_room, room_granted}
+use Rattle.mars_core.proofs.Idle.{no_calls, idle_after, idle_still}
 use Rattle.mars_core.proofs.Prefixes.{StoreLaws, sound_after, safe_dead, safe_alive}
 use Rattle.mars_core.proofs.Stepping.{ShowsPages, or_false, or_true, media_none, moves_refused, moves_granted, step_of, asks_at, steps_of, time_same, counts_is, saves_at, returns_at, enters_at}
 
@@ -132,6 +133,7 @@ pub record Did (tells : Bool) (Opens : List ℕ → List ℕ → Type 0) (index 
   pub refused : IsTrue tells → IsFalse (is_failed result) → OnErr result (state_of index new ≡ state_of index old)
   pub quiet : IsTrue tells → IsFalse (is_failed result) → IsQuiet index old t call → new.store.state.bytes ≡ old.store.state.bytes
   pub indexed : IsTrue tells → IsAlive old.store → IsFalse (is_failed result) → Indexed 0 call (keys_of index old.store.state.bytes) (keys_of index new.store.state.bytes) result
+  pub others : (u : ℕ) → u ≢ t → new.store.ranges u ≡ old.store.ranges u
   pub time : IsTrue tells → IsAlive old.store
       → LeavesOnly (λ image. OpensWith Opens index image (state_of index old).table ⊎ OpensWith Opens index image (table_after t call (state_of index old))) old.store new.store
 
@@ -147,6 +149,7 @@ did tells Opens index t call old new result does = record {
   refused = does.refused;
   quiet = does.quiet;
   indexed = does.indexed;
+  others = λ u ne. (does.others u ne).0;
   time = does.time;
 }
 
@@ -185,6 +188,7 @@ did_unkept tells Opens index t call old new rows alive does = record {
   indexed = λ told living _. let is = scan told in
       subst (λ (c : Call). (let r : Result Reply TableFault = Err NoMemory in Indexed 0 c (keys_of index old.store.state.bytes) (keys_of index new.store.state.bytes) r)) (sym is.2)
       (subst (λ (c : Call). (let r : Result Reply TableFault = Ok (reply.Listed rows) in Indexed 0 c (keys_of index old.store.state.bytes) (keys_of index new.store.state.bytes) r)) is.2 (does.indexed told living refl));
+  others = λ u ne. (does.others u ne).0;
   time = does.time;
 }
   where
@@ -283,6 +287,7 @@ module _ (tells : Bool) (Opens : Shape → List ℕ → List ℕ → Type 0) (in
     granted_keeps = record {
       seats = same_count ∙ kept.seats ∙ sym (ap (λ (h : Shape). h.numbers) works.shape);
       in_order = kept.in_order;
+      idle = λ _. idle_after p.store.ranges q.store.ranges s.live new.live t works.others (kept.idle alive) (Some (calls ++ (call, answer) ∷ [])) live (λ e. absurd (no_calls (calls ++ (call, answer) ∷ []) e));
       tied = λ told _. tied_new told;
       safe = safe_new;
     }
@@ -368,6 +373,7 @@ module _ (tells : Bool) (Opens : Shape → List ℕ → List ℕ → Type 0) (in
       well_keeps = record {
         seats = same_count ∙ kept.seats ∙ sym (ap (λ (h : Shape). h.numbers) works.shape);
         in_order = kept.in_order;
+        idle = λ _. idle_still p.store.ranges q.store.ranges s.live new.live t works.others (kept.idle alive) calls is live;
         tied = λ told _. tied_still told;
         safe = safe_still;
       }
@@ -394,6 +400,7 @@ module _ (tells : Bool) (Opens : Shape → List ℕ → List ℕ → Type 0) (in
     media_keeps = record {
       seats = same_count ∙ kept.seats ∙ sym (ap (λ (h : Shape). h.numbers) works.shape);
       in_order = kept.in_order;
+      idle = λ living. absurd (false≢true (sym living ∙ (works.dies refl).0));
       tied = λ told living. absurd (false≢true (sym living ∙ (works.dies refl).0));
       safe = safe_failed;
     }

@@ -32,7 +32,7 @@ use Rattle.record_table.proofs.Moving.{shown_same}
 use Rattle.record_table.proofs.Putting.{filter_short}
 use Rattle.record_table.specs.Does.{OpensWith, is_failed}
 use Rattle.record_table.specs.Removing.{IsAbsent, IsUnwritten, HasNoAbsent, IsNextAbsent, SearchCause, Loses, Removes}
-use Rattle.record_table.specs.Shown.{table_of, state_of, held_on}
+use Rattle.record_table.specs.Shown.{table_of, state_of}
 use Rattle.record_table.specs.State.{TableState}
 use Rattle.record_table.specs.declared.fault.TableFault.{TableFault}
 use Rattle.record_table.specs.declared.fault.TableFault.TheVariants.{SlotsFull, PagesFull, SavesFull, LogFull, Media, Dead, Damaged, NoMemory}
@@ -40,7 +40,7 @@ use Rattle.caller_steps.specs.Locked.{IsFree, IsBusyWith}
 use Rattle.caller_steps.specs.Purging.{LosesKey, Lost}
 use Rattle.caller_steps.specs.State.{Index}
 use Rattle.mars_core.specs.Over.{index_of}
-use Rattle.mars_core.specs.Purging.{Keeps, IsTouchedIn, AreFreeIn, Cleared, IsReady, ClearCause, Tried, Tries, Clears}
+use Rattle.mars_core.specs.Purging.{Keeps, IsTouchedIn, AreFreeIn, Cleared, IsReady, IsStop, ClearCause, Tried, Tries, Clears}
 use Rattle.mars_core.specs.Seats.{Seats, calls_at, bare}
 use Rattle.mars_core.proofs.Unwritten.{unwritten}
 
@@ -149,7 +149,8 @@ few_slots shape =
     let most : shape.loggers * shape.pages ≤ 8 * 4096 = mul-le shape.loggers shape.pages 8 4096 shape.in_range.most_loggers shape.in_range.most_pages in
     omega (arith, most)
 
-module _ (tells : Bool) (Opens : List ℕ → List ℕ → Type 0) (index : below.Index) (seats : Seats) (t key : ℕ) (small : key < 2 ^ 64) (old : PagesView) (alive : IsAlive old.store) (ready : IsTrue tells → IsReady index seats t old) where
+module _ (tells : Bool) (Opens : List ℕ → List ℕ → Type 0) (index : below.Index) (seats : Seats) (t key : ℕ) (small : key < 2 ^ 64) (old : PagesView) (alive : IsAlive old.store) (unheld : listed (old.store.ranges t) ≡ [])
+    (ready : IsTrue tells → IsReady index seats t old) where
   -- another caller's live transaction touches it
   pub busy_tries : (holder : ℕ) → IsBusyWith (bare seats) t (Del key) holder → Tries tells Opens index seats key old old (Ok false)
   busy_tries holder busy = record {
@@ -179,14 +180,17 @@ module _ (tells : Bool) (Opens : List ℕ → List ℕ → Type 0) (index : belo
         ap (λ (l : Log). list_any (is_of (of_main key)) l.writes) ((ready told).logs u) ∙ unwritten (of_main key) (calls_at seats u) (λ meets. untouched (u, meets))
 
     module _ (entries : 8 ≤ old.store.shape.entries) where
-      no_room : IsTrue tells → (g h n : ℕ) → IsLogFull old.store t g h n → ⊥
-      no_room told g h n full = (let short = filter_short (is_page_on old.store.shape.loggers g) full.0 in omega (arith, entries, short, full.1, full.2.full, full.2.held_is, full.2.needed_is, (ready told).none g))
+      no_room : (g h n : ℕ) → IsLogFull old.store t g h n → ⊥
+      no_room g h n full =
+          let short = filter_short (is_page_on old.store.shape.loggers g) full.0 in
+          let nothing : count_on old.store.shape g (listed (old.store.ranges t)) ≡ 0 = ap (count_on old.store.shape g) unheld in
+          omega (arith, entries, short, full.1, full.2.full, full.2.held_is, full.2.needed_is, nothing)
 
       cause_so : (new : PagesView) (r : Result Bool TableFault) → Removes tells Opens index 0 t key old new r → ClearCause tells r
       cause_so new (Ok was) removes = tt
       cause_so new (Err Media) removes = tt
       cause_so new (Err Dead) removes = absurd (false≢true (sym alive ∙ removes.cause))
-      cause_so new (Err (LogFull g h n)) removes = λ told. no_room told g h n removes.cause.1
+      cause_so new (Err (LogFull g h n)) removes = absurd (no_room g h n removes.cause.1)
       cause_so new (Err (Damaged page)) removes = removes.cause.1
       cause_so new (Err (SlotsFull n)) removes = absurd removes.cause
       cause_so new (Err (PagesFull n)) removes = absurd removes.cause
@@ -218,6 +222,7 @@ pub record Going (tells : Bool) (Opens : List ℕ → List ℕ → Type 0) (inde
   pub shape : now.store.shape ≡ old.store.shape
   pub dead : now.store.is_dead ≡ old.store.is_dead
   pub faults : now.store.faults ≡ old.store.faults
+  pub ranges : (u : ℕ) → listed (now.store.ranges u) ≡ listed (old.store.ranges u)
   pub ready : IsTrue tells → IsReady index seats t now
   pub state : IsTrue tells → state_of index now ≡ state_of index old
   pub cleared : IsTrue tells → Cleared index seats to n old.store.state.bytes now.store.state.bytes
@@ -229,6 +234,7 @@ module _ (tells : Bool) (Opens : List ℕ → List ℕ → Type 0) (index : belo
     shape = refl;
     dead = refl;
     faults = refl;
+    ranges = λ u. refl;
     ready = ready;
     state = λ told. refl;
     cleared = λ told. cleared_none index seats old.store.state.bytes;
@@ -259,12 +265,12 @@ module _ (tells : Bool) (Opens : List ℕ → List ℕ → Type 0) (index : belo
           shape = looks.shape ∙ going.shape;
           dead = still.dead ∙ going.dead;
           faults = still.faults ∙ going.faults;
+          ranges = λ u. ap (λ (f : ℕ → Option (List (ℕ × ℕ))). listed (f u)) looks.ranges ∙ going.ranges u;
           ready = λ told. let was = going.ready told in record {
             sound = subst (λ (d : List ℕ). index.sound d) (sym (bytes told)) was.sound;
             version = ap version_of (bytes told) ∙ was.version;
             logs = λ u. ap (λ (s : TableState). s.logs u) (shown_same index mid new (still.state told) looks.saves) ∙ was.logs u;
             slots = subst (λ (x : List ℕ × Shape). used_slots x.0 ≤ slots_of x.1) (λ i. (sym (bytes told) i, sym looks.shape i)) was.slots;
-            none = λ g. (λ i. count_on (looks.shape i) g (listed (looks.ranges i t))) ∙ was.none g;
           };
           state = λ told. shown_same index mid new (still.state told) looks.saves ∙ going.state told;
           cleared = λ told. subst (λ (d : List ℕ). Cleared index seats to n old.store.state.bytes d) (sym (bytes told)) (going.cleared told);
@@ -280,6 +286,7 @@ module _ (tells : Bool) (Opens : List ℕ → List ℕ → Type 0) (index : belo
       faults = λ well. absurd (false≢true (sym well));
       dies = λ _. let dies = both.0.dies refl in (dies.0, subst (λ (k : ℕ). Rose k new.store.faults) going.faults dies.1);
       state = λ told well. absurd (false≢true (sym well));
+      ranges = λ well. absurd (false≢true (sym well));
       sound = λ told live. absurd (false≢true (sym live ∙ (both.0.dies refl).0));
       cleared = λ told. tt;
       time = look_time new true both.0;
@@ -290,6 +297,7 @@ module _ (tells : Bool) (Opens : List ℕ → List ℕ → Type 0) (index : belo
       faults = λ _. (now.dead, now.faults);
       dies = λ failed. absurd (false≢true failed);
       state = λ told _. now.state told;
+      ranges = λ _. now.ranges;
       sound = λ told _. (now.ready told).sound;
       cleared = λ told. tt;
       time = now.time;
@@ -309,6 +317,7 @@ module _ (tells : Bool) (Opens : List ℕ → List ℕ → Type 0) (index : belo
       faults = λ _. (going.dead, going.faults);
       dies = λ failed. absurd (false≢true failed);
       state = λ told _. going.state told;
+      ranges = λ _. going.ranges;
       sound = λ told _. (going.ready told).sound;
       cleared = λ told. cleared_all index seats old.store.state.bytes mid.store.state.bytes to n (going.cleared told) (none told);
       time = going.time;
@@ -331,12 +340,12 @@ module _ (tells : Bool) (Opens : List ℕ → List ℕ → Type 0) (index : belo
               shape = tries.shape ∙ going.shape;
               dead = well.0 ∙ going.dead;
               faults = well.1 ∙ going.faults;
+              ranges = λ u. tries.ranges refl u ∙ going.ranges u;
               ready = λ told. let r = going.ready told in record {
                 sound = tries.sound told (well.0 ∙ living);
                 version = tries.version told refl ∙ r.version;
                 logs = λ u. ap (λ (s : TableState). s.logs u) (tries.state told refl) ∙ r.logs u;
                 slots = omega (arith, r.slots, fewer_slots was (tries.tried told), ap slots_of tries.shape);
-                none = λ g. (λ i. count_on (tries.shape i) g (tries.ranges refl t i)) ∙ r.none g;
               };
               state = λ told. tries.state told refl ∙ going.state told;
               cleared = λ told. cleared_more index seats old.store.state.bytes mid.store.state.bytes to n (going.cleared told) new.store.state.bytes key small (same_table told)
@@ -360,6 +369,7 @@ module _ (tells : Bool) (Opens : List ℕ → List ℕ → Type 0) (index : belo
         faults = λ well. let kept = tries.faults well in (kept.0 ∙ going.dead, kept.1 ∙ going.faults);
         dies = λ failed. let dies = tries.dies failed in (dies.0, subst (λ (k : ℕ). Rose k new.store.faults) going.faults dies.1);
         state = λ told well. tries.state told well ∙ going.state told;
+        ranges = λ well u. tries.ranges well u ∙ going.ranges u;
         sound = tries.sound;
         cleared = λ told. tt;
         time = tries_time (Err fault) tries;
@@ -367,13 +377,13 @@ module _ (tells : Bool) (Opens : List ℕ → List ℕ → Type 0) (index : belo
         where
           cause_of : (f : TableFault) → (let r : Result Bool TableFault = Err f in ClearCause tells r) → (let r : Result ℕ TableFault = Err f in ClearCause tells r)
           cause_of Media cause = tt
-          cause_of Dead cause = absurd cause
-          cause_of (LogFull g h k) cause = cause
           cause_of (Damaged page) cause = cause
-          cause_of (SlotsFull k) cause = cause
-          cause_of (PagesFull k) cause = cause
-          cause_of SavesFull cause = cause
-          cause_of NoMemory cause = cause
+          cause_of Dead cause = absurd cause
+          cause_of (LogFull g h k) cause = absurd cause
+          cause_of (SlotsFull k) cause = absurd cause
+          cause_of (PagesFull k) cause = absurd cause
+          cause_of SavesFull cause = absurd cause
+          cause_of NoMemory cause = absurd cause
 
 -- the same purge, told by other numbers that are equal
 pub going_to : (tells : Bool) (Opens : List ℕ → List ℕ → Type 0) (index : below.Index) (seats : Seats) (t to n to' n' : ℕ) (old now : PagesView) → to' ≡ to → (IsTrue tells → n' ≡ n) → Going tells Opens index seats t to n old now
@@ -382,11 +392,23 @@ going_to tells Opens index seats t to n to' n' old now at count going = record {
   shape = going.shape;
   dead = going.dead;
   faults = going.faults;
+  ranges = going.ranges;
   ready = going.ready;
   state = going.state;
   cleared = λ told. subst (λ (x : ℕ × ℕ). Cleared index seats x.0 x.1 old.store.state.bytes now.store.state.bytes) (λ i. (sym at i, sym (count told) i)) (going.cleared told);
   time = going.time;
 }
+
+-- no other refusal stops it
+pub stop_of : (tells : Bool) (f : TableFault) → (let r : Result ℕ TableFault = Err f in ClearCause tells r) → IsStop f
+stop_of tells Media cause = tt
+stop_of tells (Damaged page) cause = tt
+stop_of tells Dead cause = cause
+stop_of tells (LogFull g h k) cause = cause
+stop_of tells (SlotsFull k) cause = cause
+stop_of tells (PagesFull k) cause = cause
+stop_of tells SavesFull cause = cause
+stop_of tells NoMemory cause = cause
 
 -- a look leaves the next key
 pub next_still : (tells : Bool) (Opens : List ℕ → List ℕ → Type 0) (index : below.Index) (mid new : PagesView) (from : ℕ) (found : Option ℕ) → Looks tells Opens false mid new → IsTrue tells

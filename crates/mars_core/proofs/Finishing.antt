@@ -9,6 +9,7 @@ use Rattle.mars_base.proofs.Going.{weaker}
 use Rattle.array_shape.specs.declared.shape.Shape.{Shape}
 use Rattle.eaw_face.specs.StoreView.{LeavesOnly}
 use Rattle.eaw_face.specs.Causes.{IsAlive}
+use Rattle.eaw_face.specs.State.{listed}
 use Rattle.page_store.specs.Index as below
 use Rattle.page_store.specs.Shown.{PagesView}
 use Rattle.history.specs.Writes.{Table, Write, all_written}
@@ -41,6 +42,7 @@ use Rattle.mars_core.specs.Held.{core_over}
 use Rattle.mars_core.specs.Kept.{Mirrors, HasHeld, IsTied, IsKept}
 use Rattle.mars_core.proofs.Mirroring.{with_one_here, mirrors_at, apart}
 use Rattle.mars_core.proofs.Entering.{room_empty}
+use Rattle.mars_core.proofs.Idle.{idle_after}
 use Rattle.mars_core.proofs.Prefixes.{StoreLaws, prefix_all, prefix_more, sound_after, safe_dead, safe_alive}
 use Rattle.mars_core.proofs.Stepping.{ShowsPages, or_false, or_true, step_of, steps_of, steps_same, time_same}
 
@@ -189,8 +191,14 @@ module _ (tells : Bool) (Opens : Shape → List ℕ → List ℕ → Type 0) (in
       no_doubt : new.history ++ new.doubt ≡ s.history ++ done ∷ []
       no_doubt = ap (λ (ds : List Done). new.history ++ ds) (doubt ∙ (kept.tied told alive).sound.certain living_state) ∙ append-nil new.history ∙ history
 
-    pub committed_keeps : IsKept tells Opens index q count' rows new
-    committed_keeps = record { seats = same_count ∙ kept.seats ∙ sym (ap (λ (h : Shape). h.numbers) does.shape); in_order = kept.in_order; tied = λ told _. tied_new told; safe = safe_new }
+    pub committed_keeps : q.store.ranges t ≡ None → IsKept tells Opens index q count' rows new
+    committed_keeps free = record {
+      seats = same_count ∙ kept.seats ∙ sym (ap (λ (h : Shape). h.numbers) does.shape);
+      in_order = kept.in_order;
+      idle = λ _. idle_after p.store.ranges q.store.ranges s.live new.live t (λ u ne. (does.others u ne).0) (kept.idle alive) None live (λ _. ap (λ (o : Option (List (ℕ × ℕ))). listed o) free);
+      tied = λ told _. tied_new told;
+      safe = safe_new;
+    }
 
     pub committed_steps : (n : ℕ) → n ≡ length s.history + 1 → Steps tells t Commit (core_over Opens index p.store s) (core_over Opens index q.store new) (Committed n)
     committed_steps n n_is = subst (λ (k : ℕ). Steps tells t Commit (core_over Opens index p.store s) (core_over Opens index q.store new) (Committed k)) (sym n_is)
@@ -235,6 +243,7 @@ module _ (tells : Bool) (Opens : Shape → List ℕ → List ℕ → Type 0) (in
     doubted_keeps = record {
       seats = same_count ∙ kept.seats ∙ sym (ap (λ (h : Shape). h.numbers) does.shape);
       in_order = kept.in_order;
+      idle = λ living. absurd (false≢true (sym living ∙ (does.dies refl).0));
       tied = λ told living. absurd (false≢true (sym living ∙ (does.dies refl).0));
       safe = safe_doubt;
     }
@@ -285,8 +294,14 @@ module _ (tells : Bool) (Opens : Shape → List ℕ → List ℕ → Type 0) (in
         time_abort = let was = kept.tied told alive in
             time_same tells Opens index p q s new (state_of index p).table (state_of index p).table does.shape was.mirrors.table was.mirrors.table base history (does.time told alive)
 
-      pub aborted_keeps : IsKept tells Opens index q count' rows new
-      aborted_keeps = record { seats = same_count ∙ kept.seats ∙ sym (ap (λ (h : Shape). h.numbers) does.shape); in_order = kept.in_order; tied = λ told _. tied_abort told; safe = safe_abort }
+      pub aborted_keeps : q.store.ranges t ≡ None → IsKept tells Opens index q count' rows new
+      aborted_keeps free = record {
+        seats = same_count ∙ kept.seats ∙ sym (ap (λ (h : Shape). h.numbers) does.shape);
+        in_order = kept.in_order;
+        idle = λ _. idle_after p.store.ranges q.store.ranges s.live new.live t (λ u ne. (does.others u ne).0) (kept.idle alive) None live (λ _. ap (λ (o : Option (List (ℕ × ℕ))). listed o) free);
+        tied = λ told _. tied_abort told;
+        safe = safe_abort;
+      }
 
       pub aborted_steps : Steps tells t Abort (core_over Opens index p.store s) (core_over Opens index q.store new) Fine
       aborted_steps = steps_of tells Opens index p q s new t Abort Fine does.shape (record {

@@ -1,4 +1,5 @@
 pub mod Touching
+pub mod Idle
 pub mod Seating
 pub mod Mirroring
 pub mod Indexing

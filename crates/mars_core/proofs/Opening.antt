@@ -1,9 +1,9 @@
 -- How a core begins: with the records of the store's data.
 use Rattle.std.proofs.Common.{◌≡◌, ◌≤◌, ◌<◌, ◌-◌, ◌^◌, ℕ, suc, inl, inr, Bool, false, cond, ◌&&◌, List, [], ◌∷◌, length, filter, IsTrue, Option, Some, None, unwrap_or, Result, Ok, Err, refl, sym, ap, subst, ◌∙◌, arith, eq-eqb, ne_eqb, le-leb}
 use Rattle.std.specs.FinMap.{get, entries, from_entries, get-entries, get-from_entries}
-use Rattle.std.proofs.lemmas.Bool.{cases_lt}
+use Rattle.std.proofs.lemmas.Bool.{cases_eq, cases_lt}
 use Rattle.array_shape.specs.declared.shape.Shape.{Shape}
-use Rattle.eaw_face.specs.State.{State as StoreState}
+use Rattle.eaw_face.specs.State.{State as StoreState, listed}
 use Rattle.eaw_face.specs.StoreView.{LeavesOnly}
 use Rattle.eaw_face.specs.Causes.{IsAlive}
 use Rattle.page_store.specs.Index as below
@@ -47,9 +47,15 @@ no_log new idle t = ap (λ (o : Option Granted). unwrap_or o []) (idle t)
 module _ (tells : Bool) (Opens : Shape → List ℕ → List ℕ → Type 0) (index : below.Index) (p r : PagesView) (new_laws : StoreLaws tells Opens r.store) (alive : IsAlive p.store) (sound : IsTrue tells → index.sound p.store.state.bytes)
     (idle : IsTrue tells → (t : ℕ) → ((state_of index p).logs t).writes ≡ []) (unsaved : IsTrue tells → (t : ℕ) → ((state_of index p).logs t).saved ≡ []) (upgrades : Upgrades tells (Opens p.store.shape) index p r (Ok tt))
     (rows : List (ℕ × List ℕ)) (are : IsTrue tells → all_keyed main_name rows ≡ entries (shown.table_of index p.store.state.bytes))
-    (seats : Seats) (count : length seats ≡ p.store.shape.numbers) (none : (t : ℕ) → live_in seats t ≡ None) (history : List Done) (empty : history ≡ []) (doubt : List Done) (sure : doubt ≡ []) where
+    (free : (t : ℕ) → p.store.ranges t ≡ None) (seats : Seats) (count : length seats ≡ p.store.shape.numbers) (none : (t : ℕ) → live_in seats t ≡ None) (history : List Done) (empty : history ≡ []) (doubt : List Done) (sure : doubt ≡ []) where
   lives : IsAlive r.store
   lives = (upgrades.faults refl).0 ∙ alive
+
+  still_free : (t : ℕ) → r.store.ranges t ≡ None
+  still_free t = elim (cases_eq t 0) [
+    | inl e ↦ subst (λ (u : ℕ). r.store.ranges u ≡ None) (sym e) (upgrades.ranges refl ∙ free 0)
+    | inr ne ↦ upgrades.others t ne ∙ free t
+  ]
 
   module _ (told : IsTrue tells) where
     state_new : state_of index r ≡ state_of index p
@@ -80,6 +86,7 @@ module _ (tells : Bool) (Opens : Shape → List ℕ → List ℕ → Type 0) (in
   opened_keeps = record {
     seats = count ∙ sym (ap (λ (h : Shape). h.numbers) upgrades.shape);
     in_order = λ told. base_rows (shown.table_of index p.store.state.bytes) rows (are told);
+    idle = λ _ t none. ap (λ (o : Option (List (ℕ × ℕ))). listed o) (still_free t);
     tied = λ told _. tied_new told;
     safe = λ told. safe_alive tells Opens index r new_laws (state_at index r.store (table_of rows) history (live_in seats) doubt) told lives (tied_new told);
   }

@@ -1,10 +1,10 @@
 -- A core after a purge.
-use Rattle.std.proofs.Common.{◌≡◌, ℕ, ◌≤◌, inl, Bool, true, false, cond, ◌||◌, IsTrue, List, [], ◌∷◌, length, filter, Result, Ok, Err, refl, sym, ◌∙◌, ap, subst, arith}
+use Rattle.std.proofs.Common.{◌≡◌, ℕ, ◌≤◌, inl, inr, Bool, true, false, cond, ◌||◌, IsTrue, List, [], ◌∷◌, length, filter, Result, Ok, Err, refl, sym, ◌∙◌, ap, subst, arith}
 use Rattle.std.specs.Prelude.{Option, Some, None, is_some, IsSome, IsFalse, unwrap_or}
 use Rattle.std.specs.FinMap.{get}
 use Rattle.std.specs.List.{list_any}
 use Rattle.std.specs.Map.{update}
-use Rattle.std.proofs.lemmas.Bool.{false≢true, true≢false, or_parts}
+use Rattle.std.proofs.lemmas.Bool.{cases_Bool, false≢true, true≢false, or_parts}
 use Rattle.mars_base.specs.Causes.{Rose}
 use Rattle.mars_base.proofs.Going.{stays, weaker}
 use Rattle.array_shape.specs.declared.shape.Shape.{Shape}
@@ -19,11 +19,8 @@ use Rattle.caller_steps.proofs.AtKeys.{at_other_key}
 use Rattle.history.specs.Log.{Log, log_of}
 use Rattle.history.specs.Table.{Granted}
 use Rattle.history.specs.Writes.{Table, Write, is_of}
-use Rattle.history.specs.declared.call.Reply.{Reply}
-use Rattle.history.specs.declared.call.Reply.TheVariants as reply
 use Rattle.history.specs.declared.transaction.Done.{Done}
 use Rattle.record_table.specs.Does.{OpensWith, is_failed}
-use Rattle.record_table.specs.Faults.{reply_to}
 use Rattle.record_table.specs.Shown.{table_of, state_of, pairs_of, keys_of}
 use Rattle.record_table.specs.Shown as shown
 use Rattle.record_table.specs.State.{TableState}
@@ -34,10 +31,11 @@ use Rattle.caller_steps.specs.Prefix.{HasPrefixOf}
 use Rattle.caller_steps.specs.Purging.{IsTouched, AreFree, Lost, Purged, PurgeStep, PurgeCause, Purges, is_media_refusal}
 use Rattle.caller_steps.specs.Room.{Limits, is_slot_on, is_write_on, held_on}
 use Rattle.caller_steps.specs.State.{State, Index, calls_of, records_of}
+use Rattle.caller_steps.specs.declared.purge_fault.PurgeFault.{PurgeFault}
 use Rattle.mars_core.specs.Held.{core_over, state_at}
 use Rattle.mars_core.specs.Kept.{HasHeld, IsTied, IsKept}
 use Rattle.mars_core.specs.Over.{limits_of, index_of}
-use Rattle.mars_core.specs.Purging.{Keeps, AreFreeIn, Cleared, IsReady, Clears}
+use Rattle.mars_core.specs.Purging.{Keeps, AreFreeIn, Cleared, IsReady, stopped, ClearCause, Clears}
 use Rattle.mars_core.specs.Seats.{Seats, live_in, calls_at}
 use Rattle.mars_core.specs.Works.{IsShown}
 use Rattle.mars_core.proofs.Answering.{IndexLaws}
@@ -46,10 +44,10 @@ use Rattle.mars_core.proofs.Prefixes.{StoreLaws, safe_dead, safe_alive}
 use Rattle.mars_core.proofs.Stepping.{time_same}
 use Rattle.mars_core.proofs.Unwritten.{unwritten}
 
--- a refusal as a reply
-abbrev pub outcome : Result ℕ TableFault → Result ℕ Reply
+-- what came of it, as it is told
+abbrev pub outcome : Result ℕ TableFault → Result ℕ PurgeFault
 outcome (Ok n) = Ok n
-outcome (Err fault) = Err (reply_to fault)
+outcome (Err fault) = Err (stopped fault)
 
 module _ (limits : Limits) (g : ℕ) where
   -- If a key that no write names is lost, the writes on a logger stay the same,
@@ -80,8 +78,8 @@ module _ (tells : Bool) (Opens : Shape → List ℕ → List ℕ → Type 0) (in
   idle = ap (λ (o : Option Granted). unwrap_or o []) none
 
   -- what the purge rests on
-  pub ready : IsShown tells index p → (IsTrue tells → version_of p.store.state.bytes ≡ 2) → IsTrue tells → IsReady index seats t p
-  ready shows version told =
+  pub ready : (IsTrue tells → version_of p.store.state.bytes ≡ 2) → IsTrue tells → IsReady index seats t p
+  ready version told =
       let tied = kept.tied told alive in
       let counts = index_laws.counts p.store.state.bytes tied.index_sound in
       record {
@@ -89,8 +87,6 @@ module _ (tells : Bool) (Opens : Shape → List ℕ → List ℕ → Type 0) (in
         version = version told;
         logs = tied.mirrors.logs;
         slots = (is_within p.store.shape p.store.state.bytes (keys_of index p.store.state.bytes) (old_laws.long told) counts refl refl).slots;
-        none = λ g. shows.held told alive t g
-            ∙ ap (λ (l : Log). length (filter (shown.is_write_on p.store.shape (pairs_of index p.store.state.bytes) g) l.writes)) (tied.mirrors.logs t ∙ ap log_of idle);
       }
 
   module _ (q : PagesView) (new_laws : StoreLaws tells Opens q.store) where
@@ -119,12 +115,12 @@ module _ (tells : Bool) (Opens : Shape → List ℕ → List ℕ → Type 0) (in
       tied_of (Ok n) clears living = tied_new n clears living
       tied_of (Err Media) clears living = absurd (false≢true (sym living ∙ (clears.dies refl).0))
       tied_of (Err Dead) clears living = absurd clears.cause
-      tied_of (Err (SlotsFull n)) clears living = absurd (clears.cause told)
-      tied_of (Err (PagesFull n)) clears living = absurd (clears.cause told)
-      tied_of (Err SavesFull) clears living = absurd (clears.cause told)
-      tied_of (Err (LogFull g h n)) clears living = absurd (clears.cause told)
+      tied_of (Err (SlotsFull n)) clears living = absurd clears.cause
+      tied_of (Err (PagesFull n)) clears living = absurd clears.cause
+      tied_of (Err SavesFull) clears living = absurd clears.cause
+      tied_of (Err (LogFull g h n)) clears living = absurd clears.cause
       tied_of (Err (Damaged page)) clears living = absurd (clears.cause told)
-      tied_of (Err NoMemory) clears living = absurd (clears.cause told)
+      tied_of (Err NoMemory) clears living = absurd clears.cause
 
     module _ (r : Result ℕ TableFault) (clears : Clears tells (Opens p.store.shape) index seats p q r) where
       time_now : IsTrue tells → LeavesOnly (HasPrefixOf (OpensWith (Opens q.store.shape) index) (state_at index q.store base history (live_in seats) doubt) (length history)) p.store q.store
@@ -135,10 +131,17 @@ module _ (tells : Bool) (Opens : Shape → List ℕ → List ℕ → Type 0) (in
       safe_now false living told = safe_alive tells Opens index q new_laws (state_at index q.store base history (live_in seats) doubt) told living (tied_of told r clears living)
       safe_now true dead told = safe_dead tells Opens index one p q old_laws new_laws told clears.shape alive (was told).index_sound s new (was told).mirrors.table refl refl (time_now told)
 
+      not_failed : IsAlive q.store → IsFalse (is_failed r)
+      not_failed living = elim (cases_Bool (is_failed r)) [
+        | inl failed ↦ absurd (false≢true (sym living ∙ (clears.dies failed).0))
+        | inr well ↦ well
+      ]
+
       pub purged_keeps : IsKept tells Opens index q count rows (state_at index q.store base history (live_in seats) doubt)
       purged_keeps = record {
         seats = kept.seats ∙ ap (λ (x : Shape). x.numbers) (sym clears.shape);
         in_order = kept.in_order;
+        idle = λ living u none. clears.ranges (not_failed living) u ∙ kept.idle alive u none;
         tied = λ told living. tied_of told r clears living;
         safe = safe_now q.store.is_dead refl;
       }
@@ -166,34 +169,34 @@ module _ (tells : Bool) (Opens : Shape → List ℕ → List ℕ → Type 0) (in
         )
     step_of (Err Media) clears told = (alive, none, index_of index q.store.state.bytes, λ i. record (state_at index q.store base history (live_in seats) doubt) { is_dead = (clears.dies refl).0 i })
     step_of (Err Dead) clears told = absurd clears.cause
-    step_of (Err (SlotsFull n)) clears told = absurd (clears.cause told)
-    step_of (Err (PagesFull n)) clears told = absurd (clears.cause told)
-    step_of (Err SavesFull) clears told = absurd (clears.cause told)
-    step_of (Err (LogFull g h n)) clears told = absurd (clears.cause told)
+    step_of (Err (SlotsFull n)) clears told = absurd clears.cause
+    step_of (Err (PagesFull n)) clears told = absurd clears.cause
+    step_of (Err SavesFull) clears told = absurd clears.cause
+    step_of (Err (LogFull g h n)) clears told = absurd clears.cause
     step_of (Err (Damaged page)) clears told = absurd (clears.cause told)
-    step_of (Err NoMemory) clears told = absurd (clears.cause told)
+    step_of (Err NoMemory) clears told = absurd clears.cause
 
     cause_of : (r : Result ℕ TableFault) → Clears tells (Opens p.store.shape) index seats p q r → PurgeCause (state_at index p.store base history (live_in seats) doubt) t (outcome r)
     cause_of (Ok n) clears = (alive, none)
     cause_of (Err Dead) clears = absurd clears.cause
     cause_of (Err Media) clears = (alive, none)
-    cause_of (Err (SlotsFull n)) clears = (alive, none)
-    cause_of (Err (PagesFull n)) clears = (alive, none)
-    cause_of (Err SavesFull) clears = (alive, none)
-    cause_of (Err (LogFull g h n)) clears = (alive, none)
+    cause_of (Err (SlotsFull n)) clears = absurd clears.cause
+    cause_of (Err (PagesFull n)) clears = absurd clears.cause
+    cause_of (Err SavesFull) clears = absurd clears.cause
+    cause_of (Err (LogFull g h n)) clears = absurd clears.cause
     cause_of (Err (Damaged page)) clears = (alive, none)
-    cause_of (Err NoMemory) clears = (alive, none)
+    cause_of (Err NoMemory) clears = absurd clears.cause
 
-    failed_is : (r : Result ℕ TableFault) → is_media_refusal (outcome r) ≡ is_failed r
-    failed_is (Ok n) = refl
-    failed_is (Err Media) = refl
-    failed_is (Err Dead) = refl
-    failed_is (Err (SlotsFull n)) = refl
-    failed_is (Err (PagesFull n)) = refl
-    failed_is (Err SavesFull) = refl
-    failed_is (Err (LogFull g h n)) = refl
-    failed_is (Err (Damaged page)) = refl
-    failed_is (Err NoMemory) = refl
+    failed_is : (r : Result ℕ TableFault) → ClearCause tells r → is_media_refusal (outcome r) ≡ is_failed r
+    failed_is (Ok n) cause = refl
+    failed_is (Err Media) cause = refl
+    failed_is (Err Dead) cause = absurd cause
+    failed_is (Err (SlotsFull n)) cause = absurd cause
+    failed_is (Err (PagesFull n)) cause = absurd cause
+    failed_is (Err SavesFull) cause = absurd cause
+    failed_is (Err (LogFull g h n)) cause = absurd cause
+    failed_is (Err (Damaged page)) cause = refl
+    failed_is (Err NoMemory) cause = absurd cause
 
     dead_is : (b old now : Bool) → old ≡ false → (b ≡ false → now ≡ old) → (b ≡ true → now ≡ true) → now ≡ (old || b)
     dead_is true old now is well ill = ill refl ∙ sym (ap (λ (x : Bool). x || true) is)
@@ -209,17 +212,17 @@ module _ (tells : Bool) (Opens : Shape → List ℕ → List ℕ → Type 0) (in
         history = refl;
         live = refl;
         doubt = refl;
-        dead = dead_is (is_media_refusal (outcome r)) p.store.is_dead q.store.is_dead alive (λ well. (clears.faults (sym (failed_is r) ∙ well)).0) (λ ill. (clears.dies (sym (failed_is r) ∙ ill)).0);
+        dead = dead_is (is_media_refusal (outcome r)) p.store.is_dead q.store.is_dead alive (λ well. (clears.faults (sym (failed_is r clears.cause) ∙ well)).0) (λ ill. (clears.dies (sym (failed_is r clears.cause) ∙ ill)).0);
         cause = cause_of r clears;
-        failed = λ ill. (clears.dies (sym (failed_is r) ∙ ill)).1;
-        kept = λ well. (clears.faults (sym (failed_is r) ∙ well)).1;
+        failed = λ ill. (clears.dies (sym (failed_is r clears.cause) ∙ ill)).1;
+        kept = λ well. (clears.faults (sym (failed_is r clears.cause) ∙ well)).1;
         step = step_of r clears;
         time = time_now r clears;
         now = (purged_keeps r clears).safe;
       }
 
 -- A purge that is refused before it looks at a key.
-pub refused_steps : (tells : Bool) (Opens : Shape → List ℕ → List ℕ → Type 0) (index : below.Index) (p : PagesView) (s : State) (t : ℕ) (answer : Result ℕ Reply)
+pub refused_steps : (tells : Bool) (Opens : Shape → List ℕ → List ℕ → Type 0) (index : below.Index) (p : PagesView) (s : State) (t : ℕ) (answer : Result ℕ PurgeFault)
     → (IsTrue tells → IsSafe (core_over Opens index p.store s) p.store.moment (length s.history)) → is_media_refusal answer ≡ false → PurgeCause s t answer → PurgeStep (Keeps index) s t answer s
     → Purges tells (Keeps index) t (core_over Opens index p.store s) (core_over Opens index p.store s) answer
 refused_steps tells Opens index p s t answer safe well cause step = record {

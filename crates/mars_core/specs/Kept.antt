@@ -1,8 +1,9 @@
 -- The invariant of a core.
-use Rattle.std.specs.Prelude.{ℕ, ◌≡◌, ◌≤◌, Bool, IsTrue, List, length}
+use Rattle.std.specs.Prelude.{ℕ, ◌≡◌, ◌≤◌, Bool, IsTrue, List, [], length, None}
 use Rattle.std.specs.FinMap.{entries}
 use Rattle.array_shape.specs.declared.shape.Shape.{Shape}
 use Rattle.eaw_face.specs.Causes.{IsAlive}
+use Rattle.eaw_face.specs.State.{listed}
 use Rattle.page_store.specs.Index.{Index}
 use Rattle.page_store.specs.Shown.{PagesView}
 use Rattle.history.specs.Key.{main_name}
@@ -33,10 +34,11 @@ pub record IsTied (index : Index) (pages : PagesView) (state : State) : Type 0 w
   pub sound : IsSound state
   pub room : HasHeld (limits_of pages.store.shape) state
 
--- There is a seat for each number. The rows at the opening are those of a table. What the records show is tied to the state. Whatever may
--- be left now opens with the whole history.
+-- There is a seat for each number. The rows at the opening are those of a table. A caller without a live transaction has nothing logged, over
+-- any store. What the records show is tied to the state. Whatever may be left now opens with the whole history.
 pub record IsKept (tells : Bool) (Opens : Shape → List ℕ → List ℕ → Type 0) (index : Index) (pages : PagesView) (count : ℕ) (rows : List (ℕ × List ℕ)) (state : State) : Type 0 where
   pub seats : count ≡ pages.store.shape.numbers
   pub in_order : IsTrue tells → entries (table_of rows) ≡ all_keyed main_name rows
+  pub idle : IsAlive pages.store → (t : ℕ) → state.live t ≡ None → listed (pages.store.ranges t) ≡ []
   pub tied : IsTrue tells → IsAlive pages.store → IsTied index pages state
   pub safe : IsTrue tells → IsSafe (core_over Opens index pages.store state) pages.store.moment (length state.history)

@@ -13,10 +13,12 @@ use Rattle.page_store.specs.Shown.{PagesView}
 use Rattle.record_slots.specs.Places.{version_of, used_slots}
 use Rattle.record_table.specs.Does.{OpensWith, is_failed}
 use Rattle.record_table.specs.Removing.{IsAbsent, IsKept, Loses}
-use Rattle.record_table.specs.Shown.{state_of, held_on}
+use Rattle.record_table.specs.Shown.{state_of}
 use Rattle.record_table.specs.declared.fault.TableFault.{TableFault}
-use Rattle.record_table.specs.declared.fault.TableFault.TheVariants.{Media, Dead}
+use Rattle.record_table.specs.declared.fault.TableFault.TheVariants.{Media, Damaged}
 use Rattle.caller_steps.specs.Purging.{Lost}
+use Rattle.caller_steps.specs.declared.purge_fault.PurgeFault.{PurgeFault}
+use Rattle.caller_steps.specs.declared.purge_fault.PurgeFault.TheVariants as stop
 use Rattle.mars_core.specs.Over.{index_of}
 use Rattle.mars_core.specs.Seats.{Seats, calls_at}
 
@@ -41,21 +43,30 @@ pub record Cleared (index : Index) (seats : Seats) (to n : ℕ) (old new : List 
   pub lost : Lost (index_of index old) keys (index_of index new)
   pub left : (key : ℕ) → key < to → IsAbsent index new (of_main key) → IsTouchedIn seats key ⊎ Keeps index new key
 
--- What a purge rests on: the data is a sound index, the super page is of version 2, the records have the logs of the callers' calls, no more slots are in use than
--- there are, and no logger holds anything of the caller.
+-- What a purge rests on: the data is a sound index, the super page is of version 2, the records have the logs of the callers' calls, and no
+-- more slots are in use than there are.
 pub record IsReady (index : Index) (seats : Seats) (t : ℕ) (p : PagesView) : Type 0 where
   pub sound : index.sound p.store.state.bytes
   pub version : version_of p.store.state.bytes ≡ 2
   pub logs : (caller : ℕ) → (state_of index p).logs caller ≡ log_of (calls_at seats caller)
   pub slots : used_slots p.store.state.bytes ≤ slots_of p.store.shape
-  pub none : (g : ℕ) → held_on p t g ≡ 0
 
--- why it is refused: for a fault of the medium, if the store tells its data
+-- what may stop it: a fault of the medium, or a page that breaks the layout; and how that is told
+abbrev pub IsStop : TableFault → Type 0
+IsStop Media = Unit {0}
+IsStop (Damaged page) = Unit {0}
+IsStop fault = ⊥
+
+abbrev pub stopped : TableFault → PurgeFault
+stopped (Damaged page) = stop.Damaged page
+stopped fault = stop.Media
+
+-- why it is stopped: no page is damaged if the store tells its data
 abbrev pub ClearCause : {T : Type 0} → Bool → Result T TableFault → Type 0
 ClearCause tells (Ok n) = Unit {0}
 ClearCause tells (Err Media) = Unit {0}
-ClearCause tells (Err Dead) = ⊥
-ClearCause tells (Err fault) = ¬ IsTrue tells
+ClearCause tells (Err (Damaged page)) = ¬ IsTrue tells
+ClearCause tells (Err fault) = ⊥
 
 -- what comes of one key: it is lost, and no live transaction touched it; or the data is as it was, and one did, or the index keeps it
 abbrev pub Tried : Index → Seats → ℕ → List ℕ → List ℕ → Bool → Type 0
@@ -83,6 +94,7 @@ pub record Clears (tells : Bool) (Opens : List ℕ → List ℕ → Type 0) (ind
   pub faults : IsFalse (is_failed result) → (new.store.is_dead ≡ old.store.is_dead) × (new.store.faults ≡ old.store.faults)
   pub dies : IsTrue (is_failed result) → (new.store.is_dead ≡ true) × Rose old.store.faults new.store.faults
   pub state : IsTrue tells → IsFalse (is_failed result) → state_of index new ≡ state_of index old
+  pub ranges : IsFalse (is_failed result) → (u : ℕ) → listed (new.store.ranges u) ≡ listed (old.store.ranges u)
   pub sound : IsTrue tells → IsAlive new.store → index.sound new.store.state.bytes
   pub cleared : IsTrue tells → IfOk result (λ n. Cleared index seats (2 ^ 64) n old.store.state.bytes new.store.state.bytes)
   pub time : IsTrue tells → LeavesOnly (λ image. OpensWith Opens index image (state_of index old).table) old.store new.store

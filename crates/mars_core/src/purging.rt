@@ -1,13 +1,15 @@
 // Takes keys without records out of the index, but those that live transactions touch.
 ghost use Rattle.std.specs.Prelude.{◌≡◌, ◌<◌, ◌≤◌, [], IsTrue, length};
 ghost use Rattle.eaw_face.specs.Causes.{IsAlive};
+ghost use Rattle.eaw_face.specs.State.{listed};
 ghost use Rattle.history.specs.Key.{of_main};
 ghost use Rattle.page_store.specs.Shown.{pages_of};
 ghost use Rattle.record_table.specs.Removing.{IsAbsent};
-ghost use Rattle.mars_core.specs.Purging.{IsReady, Tries, Clears};
+ghost use Rattle.mars_core.specs.Purging.{IsReady, Tries, Clears, IsStop, stopped};
 ghost use Rattle.mars_core.specs.Seats.{calls_at};
 
 use crate::seats::Seats;
+use caller_steps::PurgeFault;
 use eaw_face::EawStore;
 use history::Call;
 use page_store::KeyIndex;
@@ -27,6 +29,7 @@ fn try_key<S: EawStore, K: KeyIndex>(
     requires few { length seats.now ≤ 64 }
     requires alive { IsAlive (S.view records.old.store) }
     requires idle { calls_at seats.now caller ≡ [] }
+    requires unheld { listed ((S.view records.old.store).ranges caller) ≡ [] }
     requires ready { IsTrue S.tells → IsReady K.index seats.now caller (pages_of (S.view records.old.store) records.old) }
     requires absent { IsTrue S.tells → IsAbsent K.index (S.view records.old.store).state.bytes (of_main key) }
     ensures tries { Tries S.tells (S.opens (S.view records.old.store).shape) K.index seats.now key
@@ -49,6 +52,7 @@ pub fn clear<S: EawStore, K: KeyIndex>(
     requires few { length seats.now ≤ 64 }
     requires alive { IsAlive (S.view records.old.store) }
     requires idle { calls_at seats.now caller ≡ [] }
+    requires unheld { listed ((S.view records.old.store).ranges caller) ≡ [] }
     requires ready { IsTrue S.tells → IsReady K.index seats.now caller (pages_of (S.view records.old.store) records.old) }
     ensures clears { Clears S.tells (S.opens (S.view records.old.store).shape) K.index seats.now
         (pages_of (S.view records.old.store) records.old) (pages_of (S.view records.new.store) records.new) result }
@@ -69,5 +73,22 @@ pub fn clear<S: EawStore, K: KeyIndex>(
             return Ok(taken);
         }
         from = key + 1;
+    }
+}
+
+// What stopped a purge on its way.
+pub fn stopped(fault: TableFault) -> PurgeFault
+    requires { IsStop fault }
+    ensures { result ≡ stopped fault }
+{
+    match fault {
+        TableFault::Media => PurgeFault::Media,
+        TableFault::Damaged { page } => PurgeFault::Damaged { page },
+        TableFault::Dead
+        | TableFault::NoMemory
+        | TableFault::SavesFull
+        | TableFault::SlotsFull { .. }
+        | TableFault::PagesFull { .. }
+        | TableFault::LogFull { .. } => unreachable!(),
     }
 }

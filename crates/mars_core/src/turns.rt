@@ -32,10 +32,10 @@ use crate::doubt::Doubt;
 use crate::fault::CoreFault;
 use crate::live::Live;
 use crate::locks::Locks;
-use crate::purging::clear;
+use crate::purging::{clear, stopped};
 use crate::seats::Seats;
 use crate::table_call::{Asked, TableCall};
-use caller_steps::Core as Steps;
+use caller_steps::{Core as Steps, PurgeFault};
 use eaw_face::EawStore;
 use history::{Call, Done, History, Reply, Rows};
 use page_store::{KeyIndex, Pages, SaveRoom};
@@ -146,22 +146,23 @@ impl<S: EawStore, K: KeyIndex> Core<S, K> {
 
     /// Takes keys without records out of the index, so that their slots are given again: each key of `main` whose stripe no live transaction
     /// touches is tried once, by rising key. Returns how many were taken out. A key stays whose pair its page keeps as the last one. What
-    /// callers see stays as it is. It is refused with `Dead`, then with `Already` if the caller has a live transaction, and with `Media`.
-    pub fn purge(&mut self, caller: u8) -> Result<u32, Reply>
+    /// callers see stays as it is. It is refused with `Dead`, then with `Already` if the caller has a live transaction. A fault of the medium
+    /// stops it, and so does a damaged page, which only a core that does not tell its records meets.
+    pub fn purge(&mut self, caller: u8) -> Result<u32, PurgeFault>
         requires inside { caller < (S.view self.old.records.store).shape.numbers }
         requires lists { IsTrue S.tells → IsAlive (S.view self.old.records.store) → version_of (S.view self.old.records.store).state.bytes ≡ 2 }
         ensures purges { Purges S.tells (Keeps K.index) caller (core_of S.opens K.index (S.view self.old.records.store) self.old)
             (core_of S.opens K.index (S.view self.new.records.store) self.new) result }
     {
         if self.records.is_dead() {
-            return Err(Reply::Dead);
+            return Err(PurgeFault::Dead);
         }
         if self.seats.is_live(caller) {
-            return Err(Reply::Already);
+            return Err(PurgeFault::Already);
         }
         match clear(&mut self.records, &self.seats, caller) {
             Ok(taken) => Ok(taken),
-            Err(fault) => Err(Reply::from(fault)),
+            Err(fault) => Err(stopped(fault)),
         }
     }
 
@@ -314,7 +315,7 @@ fn begin_over<S: EawStore, K: KeyIndex>(
     base: Rows,
 ) -> Result<Core<S, K>, (CoreFault, S)>
     requires alive { IsAlive (S.view records.store) }
-    requires free { (S.view records.store).ranges 0 ≡ None }
+    requires free { (t : ℕ) → (S.view records.store).ranges t ≡ None }
     requires sound { IsTrue S.tells → K.index.sound (S.view records.store).state.bytes }
     requires base { IsTrue S.tells → all_keyed main_name base ≡ entries (state_of K.index (pages_of (S.view records.store) records)).table }
     requires idle { IsTrue S.tells → (t : ℕ) → ((state_of K.index (pages_of (S.view records.store) records)).logs t).writes ≡ [] }

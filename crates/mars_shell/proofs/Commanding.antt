@@ -15,7 +15,7 @@ use Rattle.script_run.specs.Transcript.{Answered, Ran}
 use Rattle.script_run.specs.declared.ended.Ended.{Ended}
 use Rattle.script_run.specs.declared.ended.Ended.TheVariants.{All}
 use Rattle.mars_shell.specs.Commands.{Obeys}
-use Rattle.mars_shell.proofs.Running.{array, at_entry}
+use Rattle.array_runs.proofs.Opened.{array, at_entry}
 
 module _ (tells : Bool) (told : IsTrue tells) (old : View) (only_now : (image : List ℕ) → IsTrue tells → old.left_since old.moment image → MayLeave old.content image)
     (store : StoreView) (attached : Attached tells old store) (keeps : KeepsData tells old store.moment store.left_since)

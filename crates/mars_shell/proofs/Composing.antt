@@ -33,19 +33,20 @@ use Rattle.mars_shell.specs.Asked.{OutcomeFor}
 use Rattle.mars_shell.specs.Commands.{Obeys}
 use Rattle.mars_shell.specs.Drill.{Drills}
 use Rattle.mars_shell.specs.Dump.{Dumps, Spares}
-use Rattle.mars_shell.specs.Follow.{Follows, FollowOutcome}
+use Rattle.mars_shell.specs.Follow.{Follows}
 use Rattle.mars_shell.specs.Formats.{IsFormatted, FormatOutcome}
-use Rattle.mars_shell.specs.Forms.{index_of_form, index_in}
+use Rattle.array_runs.specs.Forms.{index_of_form, index_in}
 use Rattle.mars_shell.specs.Joint.{JointWork}
 use Rattle.mars_shell.specs.Late.{is_late}
 use Rattle.mars_shell.specs.Next.{AllSound, IsOfRecords, LeavesFresh}
-use Rattle.mars_shell.specs.Outcome.{Idle, OutcomeOf}
-use Rattle.mars_shell.specs.Run.{HoldsRecords, TakesTurns, Answers, IsDamaged, Exceeds, OverRecords}
-use Rattle.mars_shell.specs.Tables.{Tries, MadeBy, MakeOutcome}
-use Rattle.mars_shell.specs.Purge.{Clears, PurgedBy}
-use Rattle.mars_shell.specs.declared.status.Status.{Status}
-use Rattle.mars_shell.specs.declared.status.Status.TheVariants.{Good, Usage, TooLong, ReadFault, WriteFault, MediaFault, NoMemory, Damaged, BadRow, NotMars, BadShape, Refused, BadFrame, Gap}
-use Rattle.mars_shell.proofs.Forming.{sound_is_own}
+use Rattle.array_runs.specs.Outcome.{Idle, OutcomeOf}
+use Rattle.array_runs.specs.Records.{HoldsRecords, IsDamaged, Exceeds, OverRecords}
+use Rattle.mars_shell.specs.Run.{TakesTurns, Answers}
+use Rattle.told_commands.specs.Tables.{Tries, MadeBy, MakeOutcome}
+use Rattle.told_commands.specs.Purge.{Clears, PurgedBy}
+use Rattle.array_runs.specs.declared.status.Status.{Status}
+use Rattle.array_runs.specs.declared.status.Status.TheVariants.{Good, Usage, TooLong, ReadFault, WriteFault, MediaFault, NoMemory, Damaged, BadRow, NotMars, BadShape, Refused, BadFrame, Gap}
+use Rattle.array_runs.proofs.Forming.{sound_is_own}
 
 -- ---- what is asked for
 

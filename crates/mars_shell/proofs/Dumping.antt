@@ -1,6 +1,6 @@
 -- A dump over the records of a store, which is left as it was.
 use Rattle.std.proofs.Common.{◌≡◌, ℕ, List, [], Bool, true, false, refl, sym, ap, subst, ◌∙◌, arith}
-use Rattle.std.specs.Prelude.{IsTrue, MatchBool, if◌then◌else◌, Result, Ok, Err}
+use Rattle.std.specs.Prelude.{IsTrue, MatchBool, if◌then◌else◌, Result, Err}
 use Rattle.history.specs.Key.{main_name}
 use Rattle.history.specs.Writes.{rows_of}
 use Rattle.mars_base.specs.Causes.{Rose}
@@ -19,7 +19,7 @@ use Rattle.script_run.specs.Counts.{Counts}
 use Rattle.script_run.specs.declared.ended.Ended.{Ended}
 use Rattle.script_run.specs.declared.ended.Ended.TheVariants.{All, WriteFault}
 use Rattle.mars_shell.specs.Dump.{Dumps, dump_lines}
-use Rattle.mars_shell.specs.Run.{begun_on}
+use Rattle.array_runs.specs.Records.{begun_on}
 use Rattle.mars_shell.specs.Served.{opens_of, Served, ServedCounts}
 
 module _ (tells : Bool) (told : IsTrue tells) (Opens : Shape → List ℕ → List ℕ → Type 0) (index : Index) (old new : StoreView) (alive : IsAlive old) (sound : index.sound old.state.bytes) (left : LeftAsItWas tells (Opens old.shape) false old new)

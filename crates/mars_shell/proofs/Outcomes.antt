@@ -11,13 +11,15 @@ use Rattle.caller_steps.specs.Run.{Turn}
 use Rattle.mars_core.specs.declared.fault.CoreFault.{CoreFault}
 use Rattle.script_run.specs.declared.ended.Ended.{Ended}
 use Rattle.mars_shell.specs.Dump.{Spares}
-use Rattle.mars_shell.specs.Forms.{index_at}
-use Rattle.mars_shell.specs.Run.{TakesTurns, IsDamaged, Exceeds, OverRecords}
+use Rattle.array_runs.specs.Forms.{index_at}
+use Rattle.mars_shell.specs.Run.{TakesTurns}
+use Rattle.array_runs.specs.Records.{IsDamaged, Exceeds, OverRecords}
 use Rattle.mars_shell.specs.Served.{Serves, TakesTurnsFor}
-use Rattle.mars_shell.specs.Statuses.{served_status}
-use Rattle.mars_shell.specs.declared.status.Status.{Status}
-use Rattle.mars_shell.proofs.Running.{untaken_outcome, turns_taken}
-use Rattle.mars_shell.proofs.Statuses.{outcome_of, outcome_as, outcome_spared}
+use Rattle.array_runs.specs.Statuses.{served_status}
+use Rattle.array_runs.specs.declared.status.Status.{Status}
+use Rattle.array_runs.proofs.Opened.{untaken_outcome}
+use Rattle.mars_shell.proofs.Running.{turns_taken}
+use Rattle.array_runs.proofs.Statuses.{outcome_of, outcome_as, outcome_spared}
 
 module _ (tells : Bool) (told : IsTrue tells) (old : View) (only_now : (image : List ℕ) → IsTrue tells → old.left_since old.moment image → MayLeave old.content image)
     (store : StoreView) (attached : Attached tells old store) (keeps : KeepsData tells old store.moment store.left_since)

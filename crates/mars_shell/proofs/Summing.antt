@@ -6,7 +6,7 @@ use Rattle.std.proofs.lemmas.List.{append_assoc, append-nil, length-map}
 use Rattle.history.specs.Key.{main_name}
 use Rattle.history.specs.Writes.{rows_of}
 use Rattle.history.specs.declared.call.Call.{Call}
-use Rattle.caller_steps.specs.State.{State, records_of}
+use Rattle.caller_steps.specs.State.{records_of}
 use Rattle.caller_steps.specs.Core.{CoreView}
 use Rattle.caller_steps.specs.Run.{Turn, has_fault}
 use Rattle.mars_manager.specs.Sharing.{CanShare}

@@ -12,15 +12,16 @@ use Rattle.mars_shell.specs.Follow.{FollowOutcome}
 use Rattle.mars_shell.specs.Formats.{GiveLength, FormatOutcome}
 use Rattle.mars_shell.specs.Joint.{JointWork}
 use Rattle.mars_shell.specs.Late.{is_late}
-use Rattle.mars_shell.specs.Outcome.{OutcomeOf}
+use Rattle.array_runs.specs.Outcome.{OutcomeOf}
 use Rattle.mars_shell.specs.Drill.{Drills}
 use Rattle.mars_shell.specs.Dump.{Dumps, Spares}
-use Rattle.mars_shell.specs.Run.{HoldsRecords, TakesTurns, Answers, OverRecords}
-use Rattle.mars_shell.specs.Statuses.{IsRefused, IsUnfollowed}
-use Rattle.mars_shell.specs.Tables.{MakeOutcome}
-use Rattle.mars_shell.specs.Purge.{PurgeOutcome}
-use Rattle.mars_shell.specs.declared.status.Status.{Status}
-use Rattle.mars_shell.specs.declared.status.Status.TheVariants.{Good, Usage, NoMemory}
+use Rattle.array_runs.specs.Records.{HoldsRecords, OverRecords}
+use Rattle.mars_shell.specs.Run.{TakesTurns, Answers}
+use Rattle.array_runs.specs.Statuses.{IsRefused, IsUnfollowed}
+use Rattle.told_commands.specs.Tables.{MakeOutcome}
+use Rattle.told_commands.specs.Purge.{PurgeOutcome}
+use Rattle.array_runs.specs.declared.status.Status.{Status}
+use Rattle.array_runs.specs.declared.status.Status.TheVariants.{Good, Usage, NoMemory}
 
 -- the words ask for callers, for whom an array may have too few numbers
 abbrev pub IsOfCallers : Words → Type 0

@@ -7,7 +7,7 @@ use Rattle.command_words.specs.declared.words.Words.{Words}
 use Rattle.command_words.specs.declared.words.Words.TheVariants.{Eaw, Format, Follow}
 use Rattle.eaw_device.specs.Opens.{Opens}
 use Rattle.mars_shell.specs.Formats.{HasAsked}
-use Rattle.mars_shell.specs.Forms.{index_of_form}
+use Rattle.array_runs.specs.Forms.{index_of_form}
 
 -- each image that a loss of power may leave opens with data that is a sound index of this form
 abbrev pub AllSound : Shape → ℕ → Content → Type 0

@@ -1,16 +1,13 @@
 -- What is done over a store whose records are read first.
-use Rattle.std.specs.Prelude.{ℕ, ◌≡◌, ◌≢◌, ◌⊎◌, List, [], ◌++◌, length, Bool, true, false, IsTrue, IsFalse, Result, Ok, Err}
+use Rattle.std.specs.Prelude.{ℕ, ◌≡◌, ◌≢◌, List, ◌++◌, length, Bool, IsTrue, IsFalse, Result, Ok, Err}
 use Rattle.mars_base.specs.Causes.{Rose}
 use Rattle.pcm_media.specs.View.{View}
 use Rattle.array_shape.specs.declared.shape.Shape.{Shape}
 use Rattle.eaw_face.specs.Causes.{IsAlive}
 use Rattle.eaw_face.specs.StoreView.{StoreView, LeavesOnly}
-use Rattle.record_slots.specs.Places.{page_bytes}
-use Rattle.record_slots.specs.Super.{form_said}
 use Rattle.page_store.specs.Index.{Index}
 use Rattle.record_table.specs.Does.{OpensWith}
 use Rattle.record_table.specs.Shown.{table_of}
-use Rattle.record_table.specs.Upgrading.{upgraded}
 use Rattle.history.specs.Legal.{IsLegal}
 use Rattle.caller_steps.specs.State.{State}
 use Rattle.caller_steps.specs.Room.{Limits}
@@ -18,46 +15,19 @@ use Rattle.caller_steps.specs.Run.{Turn, has_write}
 use Rattle.caller_steps.specs.Step.{Runs}
 use Rattle.caller_steps.specs.Prefix.{HasPrefixOf}
 use Rattle.mars_core.specs.Over.{limits_of}
-use Rattle.mars_core.specs.Attached.{CoreCause}
 use Rattle.mars_core.specs.declared.fault.CoreFault.{CoreFault}
-use Rattle.mars_core.specs.declared.fault.CoreFault.TheVariants.{Damaged, Media}
+use Rattle.mars_core.specs.declared.fault.CoreFault.TheVariants.{Media}
 use Rattle.script_run.specs.Counts.{Counts}
 use Rattle.script_run.specs.declared.ended.Ended.{Ended}
 use Rattle.script_run.specs.declared.ended.Ended.TheVariants.{MediaFault}
+use Rattle.array_runs.specs.Untaken.{Untaken}
 use Rattle.mars_shell.specs.Dump.{Spares}
-use Rattle.mars_shell.specs.Run.{worked_on, begun_on, HasAll, TakesTurns}
-
--- The super page of the store's data names this form. Nothing was written, and whatever a loss of power might have left meanwhile opens
--- with that data.
-pub record SaysForm (tells : Bool) (Opens : List ℕ → List ℕ → Type 0) (form : ℕ) (old new : StoreView) : Type 0 where
-  pub is : IsTrue tells → form_said (page_bytes old.state.bytes 0) ≡ form
-  pub shape : new.shape ≡ old.shape
-  pub ranges : (t : ℕ) → new.ranges t ≡ old.ranges t
-  pub alive : IsAlive new
-  pub faults : new.faults ≡ old.faults
-  pub state : IsTrue tells → new.state ≡ old.state
-  pub time : IsTrue tells → LeavesOnly (λ image. Opens image old.state.bytes) old new
+use Rattle.array_runs.specs.Records.{worked_on, begun_on, HasAll}
+use Rattle.mars_shell.specs.Run.{TakesTurns}
 
 -- how images of an array of this shape open with records, under an index
 abbrev pub opens_of : (Shape → List ℕ → List ℕ → Type 0) → Shape → Index → State → ℕ → List ℕ → Type 0
 opens_of Opens shape index final least image = HasPrefixOf (OpensWith (Opens shape) index) final least image
-
--- an image opens with this data, or, unless it is spared, with the same in version 2
-abbrev pub OpensAs : Bool → (List ℕ → List ℕ → Type 0) → List ℕ → List ℕ → Type 0
-OpensAs spares Opens bytes image = Opens image bytes ⊎ (IsFalse spares × Opens image (upgraded bytes))
-
--- no data is brought to version 2 if it is spared, or if a page of it is damaged
-abbrev pub spares_at : Bool → CoreFault → Bool
-spares_at spares (Damaged page) = true
-spares_at spares fault = spares
-
--- Nothing was done over the records. Whatever a loss of power might have left meanwhile opens with the store's data, or with the same in
--- version 2 if it may have been brought to that.
-pub record Untaken (spares : Bool) (Opens : Shape → List ℕ → List ℕ → Type 0) (index : Index) (old : StoreView) (fault : CoreFault) (cut : Bool) (text : List ℕ) (new : StoreView) : Type 0 where
-  pub whole : cut ≡ false
-  pub silent : text ≡ []
-  pub cause : CoreCause true index old fault
-  pub time : LeavesOnly (λ image. OpensAs (spares_at spares fault) (Opens old.shape) old.state.bytes image) old new
 
 -- The store is alive, and whatever a loss of power might have left meanwhile or may leave now opens with the data that it had.
 pub record Spared (Opens : Shape → List ℕ → List ℕ → Type 0) (old new : StoreView) : Type 0 where

@@ -2,9 +2,9 @@
 ghost use Rattle.std.specs.Prelude.{◌≡◌, IfOk};
 ghost use Rattle.mars_shell.specs.Dump.{dump_lines};
 
-use crate::ending::write_ended;
 use crate::number_line::append_number;
 use crate::record_work::RecordWork;
+use array_runs::write_ended;
 use eaw_face::EawStore;
 use history::Rows;
 use history_text::write_records;

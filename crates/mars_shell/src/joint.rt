@@ -10,8 +10,8 @@ ghost use Rattle.texts.specs.MediaFault.{media_line};
 ghost use Rattle.texts.specs.Written.{Appends, IsWritten, Wrote};
 ghost use Rattle.mars_shell.specs.Told.{TellsEnd};
 
-use crate::ending::write_ended;
 use crate::final_rows::final_rows;
+use array_runs::write_ended;
 use caller_plans::LineFault;
 use caller_work::{Fates, WorkEnd};
 use history::{History, Rows};

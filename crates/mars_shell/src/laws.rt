@@ -18,8 +18,8 @@ ghost use Rattle.mars_shell.specs.Asked.{OutcomeFor};
 ghost use Rattle.mars_shell.specs.Formats.{FormatOutcome};
 ghost use Rattle.mars_shell.specs.Joint.{JointWork};
 ghost use Rattle.mars_shell.specs.Next.{AllSound, IsOfRecords, LeavesFresh};
-ghost use Rattle.mars_shell.specs.Run.{HoldsRecords};
-ghost use Rattle.mars_shell.specs.declared.status.Status.{Status};
+ghost use Rattle.array_runs.specs.Records.{HoldsRecords};
+ghost use Rattle.array_runs.specs.declared.status.Status.{Status};
 
 use btree_pages::BTreePages;
 use key_list::KeyList;

@@ -2,17 +2,15 @@
 ghost use Rattle.std.specs.Prelude.{◌≡◌, ◌⊎◌, ℕ, List, None, IsTrue, IsFalse, IfOk, IfErr};
 ghost use Rattle.eaw_face.specs.Causes.{IsAlive};
 ghost use Rattle.texts.specs.Written.{Wrote};
-ghost use Rattle.mars_shell.specs.Forms.{index_at};
-ghost use Rattle.mars_shell.specs.Input.{InputSays};
+ghost use Rattle.array_runs.specs.Forms.{index_at};
+ghost use Rattle.array_runs.specs.Input.{InputSays};
 ghost use Rattle.mars_shell.specs.Late.{is_late, HasDepth};
-ghost use Rattle.mars_shell.specs.Run.{OverRecords};
+ghost use Rattle.array_runs.specs.Records.{OverRecords};
 ghost use Rattle.mars_shell.specs.Served.{Serves, ServedCounts, TakesTurnsFor};
-ghost use Rattle.mars_shell.specs.Statuses.{Counts, IsEarly, IsRefusal};
+ghost use Rattle.array_runs.specs.Statuses.{Counts, IsEarly, IsRefusal};
 
-use crate::forms::find_form;
-use crate::opening::open_for;
 use crate::record_work::RecordWork;
-use crate::status::{Status, served_status};
+use array_runs::{Status, find_form, open_for, served_status};
 use btree_pages::BTreePages;
 use command_words::Writing;
 use eaw_device::{AtOnce, Late, WriteBack};

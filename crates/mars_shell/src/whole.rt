@@ -7,8 +7,8 @@ ghost use Rattle.command_words.specs.declared.words.FormatNumbers.{FormatNumbers
 ghost use Rattle.command_words.specs.declared.words.Words.TheVariants.{Format};
 ghost use Rattle.mars_shell.specs.Asked.{WordsSay, IfReads, OutcomeFor, IsComplete, IsFit, TellsLate};
 ghost use Rattle.mars_shell.specs.Formats.{FormatSays};
-ghost use Rattle.mars_shell.specs.Input.{InputSays};
-ghost use Rattle.mars_shell.specs.Statuses.{Counts, IsEarly, IsRefusal};
+ghost use Rattle.array_runs.specs.Input.{InputSays};
+ghost use Rattle.array_runs.specs.Statuses.{Counts, IsEarly, IsRefusal};
 
 use crate::callers::{Crew, run_callers};
 use crate::commands::run_commands;
@@ -18,16 +18,15 @@ use crate::dump::RecordDump;
 use crate::following::run_follow;
 use crate::formatting::run_format;
 use crate::lines::ByTurns;
-use crate::purging::run_purge;
 use crate::records::over_records;
-use crate::status::Status;
-use crate::tables::run_make;
+use array_runs::Status;
 use caller_work::Gate;
 use command_words::{Words, WordsFault, Writing, read_words};
 use outside::{Sink, Source};
 use pcm_media::Media;
 use std::sync::Wait;
 use std::thread::Threads;
+use told_commands::{NewTable, Purge, run_told};
 
 /// Does all that the program does with the words after the image's, and returns the medium.
 ///
@@ -101,7 +100,9 @@ pub fn run<
             over_records(rt.alloc(), source, sink, media, numbers.writing, &work)
         }
         Ok(Words::Format(numbers)) => run_format(sink, media, &numbers),
-        Ok(Words::Make(ref name)) => run_make(rt.alloc(), source, sink, media, name),
-        Ok(Words::Purge) => run_purge(rt.alloc(), source, sink, media),
+        Ok(Words::Make(ref name)) => {
+            run_told(rt.alloc(), source, sink, media, &NewTable { name: *name })
+        }
+        Ok(Words::Purge) => run_told(rt.alloc(), source, sink, media, &Purge),
     }
 }

@@ -1,6 +1,6 @@
 -- Calls on records that are one call of pages: saves, ways back and ends.
 use Rattle.std.proofs.Common.{◌≡◌, ◌≢◌, ℕ, ◌-◌, ◌+◌, ◌<◌, ◌≤◌, ◌⊎◌, Bool, true, false, inl, inr, IsTrue, List, [], ◌∷◌, ◌++◌, length, take, Result, Ok, Err, ◌&&◌, nat_le, refl, sym, ◌∙◌, ap, subst, arith, lt-ltb, le-leb}
-use Rattle.std.specs.Prelude.{Some, map, IfOk, IfErr, OnErr}
+use Rattle.std.specs.Prelude.{Some, None, map, IfOk, IfErr, OnOk, OnErr}
 use Rattle.std.proofs.lemmas.Bool.{false≢true}
 use Rattle.std.proofs.lemmas.List.{length-append, length-take-le, length-map}
 use Rattle.mars_base.proofs.Going.{stays, weaker}
@@ -161,6 +161,13 @@ module _ (tells : Bool) (Opens : List ℕ → List ℕ → Type 0) (index : Inde
       )
   ends (Err (fault.LogFull g h n)) does same right = absurd ((call does.cause.0).no_log g h n does.cause.1)
   ends (Err (fault.Damaged bad)) does same right = absurd does.cause
+
+-- a number that has ended is free
+pub freed : (tells : Bool) (Opens : List ℕ → List ℕ → Type 0) (t : ℕ) (commits : Bool) (old new : PagesView) (r : Result (Unit {0}) PageFault) (s : Result (Unit {0}) TableFault)
+    → page_does.Does tells Opens (page.end t commits) old new r → s ≡ told_as r → OnOk s (new.store.ranges t ≡ None)
+freed tells Opens t commits old new (Ok answer) s does is =
+    subst (λ (x : Result (Unit {0}) TableFault). OnOk x (new.store.ranges t ≡ None)) (sym is) (ap (λ (o : Outline). o.ranges t) does.done.outline ∙ with_here old.store.ranges t None)
+freed tells Opens t commits old new (Err fault) s does is = subst (λ (x : Result (Unit {0}) TableFault). OnOk x (new.store.ranges t ≡ None)) (sym is) tt
 
 -- what holds of every answer
 pub always : {T E P : Type 0} (r : Result T E) → P → IfOk r (λ answer. P)

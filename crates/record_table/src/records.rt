@@ -1,5 +1,5 @@
 // Records over pages, under an index.
-ghost use Rattle.std.specs.Prelude.{◌≡◌, ◌<◌, ◌≤◌, ℕ, [], Some, None, IfOk, IfErr, IfSome, IfNone, OnErr, IsErrOf, IsTrue, if◌then◌else◌, filter, length, slice_get};
+ghost use Rattle.std.specs.Prelude.{◌≡◌, ◌<◌, ◌≤◌, ℕ, [], Some, None, IfOk, IfErr, IfSome, IfNone, OnOk, OnErr, IsErrOf, IsTrue, if◌then◌else◌, filter, length, slice_get};
 ghost use Rattle.std.specs.FinMap.{entries};
 ghost use Rattle.std.specs.Option.{unwrap_or};
 ghost use Rattle.array_shape.specs.NumberSet.{members};
@@ -305,7 +305,7 @@ impl<S: EawStore, K: KeyIndex> Records<S, K> {
         told(self.pages.back(tid, n))
     }
 
-    /// Makes what the number has written part of the table, all at once, and forgets its saves.
+    /// Makes what the number has written part of the table, all at once, and forgets its saves. The number is then free.
     pub fn commit(&mut self, tid: u8) -> Result<(), TableFault>
         requires { tid < (S.view self.old.store).shape.numbers }
         // Whatever number its caller tells it with.
@@ -314,6 +314,7 @@ impl<S: EawStore, K: KeyIndex> Records<S, K> {
         // A commit of nothing uses no medium.
         ensures due { IsTrue S.tells → IsAlive (S.view self.old.store) → IsErrOf result TableFault.Media
             → 0 < length ((state_of K.index (pages_of (S.view self.old.store) self.old)).logs tid).writes }
+        ensures free { OnOk result ((S.view self.new.store).ranges tid ≡ None) }
         ensures dead { IsErrOf result TableFault.Dead → self.new ≡ self.old }
     {
         told(self.pages.end(tid, true))
@@ -365,11 +366,12 @@ impl<S: EawStore, K: KeyIndex> Records<S, K> {
         told(remove::<S, K>(&mut self.pages, tid, table, MAIN_ROOT, key))
     }
 
-    /// Discards what the number has written, and its saves.
+    /// Discards what the number has written, and its saves. The number is then free.
     pub fn abort(&mut self, tid: u8) -> Result<(), TableFault>
         requires { tid < (S.view self.old.store).shape.numbers }
         ensures does { Does S.tells (S.opens (S.view self.old.store).shape) K.index 0 tid Abort
             (pages_of (S.view self.old.store) self.old) (pages_of (S.view self.new.store) self.new) (replied (λ done. Fine) result) }
+        ensures free { OnOk result ((S.view self.new.store).ranges tid ≡ None) }
         ensures dead { IsErrOf result TableFault.Dead → self.new ≡ self.old }
         ensures due { IsErrOf result TableFault.Media → ⊥ }
     {

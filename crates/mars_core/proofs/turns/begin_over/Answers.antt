@@ -19,14 +19,14 @@ invariant_of-result g c =
     let V = g.S.EawStore.view in
     let after = c.in-Ok-upgraded.records in
     opened_keeps g.S.EawStore.tells g.S.EawStore.opens g.K.KeyIndex.index (pages_of (V c.args.records.store) c.args.records) (pages_of (V after.store) after) (laws_at g after.store) c.requires.alive c.requires.sound c.requires.idle c.requires.unsaved
-    c.in-Ok-upgraded.ensures.upgrades c.args.base c.requires.base c.in-Ok.seats (c.in-Ok.ensures.0 ∙ ap (λ (h : Shape). h.numbers) c.shape.ensures) c.in-Ok.ensures.1 c.new-2.result c.new-2.ensures c.none.result c.none.ensures
+    c.in-Ok-upgraded.ensures.upgrades c.args.base c.requires.base c.requires.free c.in-Ok.seats (c.in-Ok.ensures.0 ∙ ap (λ (h : Shape). h.numbers) c.shape.ensures) c.in-Ok.ensures.1 c.new-2.result c.new-2.ensures c.none.result c.none.ensures
 
 pub returns-clause-begins : goal.returns-clause-begins
 returns-clause-begins g c =
     let V = g.S.EawStore.view in
     let after = c.in-Ok-upgraded.records in
     opened_begins g.S.EawStore.tells g.S.EawStore.opens g.K.KeyIndex.index (pages_of (V c.args.records.store) c.args.records) (pages_of (V after.store) after) (laws_at g after.store) c.requires.alive c.requires.sound c.requires.idle c.requires.unsaved
-    c.in-Ok-upgraded.ensures.upgrades c.args.base c.requires.base c.in-Ok.seats (c.in-Ok.ensures.0 ∙ ap (λ (h : Shape). h.numbers) c.shape.ensures) c.in-Ok.ensures.1 c.new-2.result c.new-2.ensures c.none.result c.none.ensures
+    c.in-Ok-upgraded.ensures.upgrades c.args.base c.requires.base c.requires.free c.in-Ok.seats (c.in-Ok.ensures.0 ∙ ap (λ (h : Shape). h.numbers) c.shape.ensures) c.in-Ok.ensures.1 c.new-2.result c.new-2.ensures c.none.result c.none.ensures
 
 pub returns-in-Err-clause-begins : goal.returns-in-Err-clause-begins
 returns-in-Err-clause-begins g c = tt

@@ -1,10 +1,12 @@
 use Rattle.std.proofs.Common.{[], false, ⊎_elim, refl, sym, subst}
 use Rattle.std.proofs.lemmas.List.{append-nil}
 use Rattle.mars_shell.specs.Joint.{JointWork}
-use Rattle.mars_shell.specs.Run.{TakesTurns, OverRecords}
-use Rattle.mars_shell.specs.Statuses.{IsEarly, IsRefusal, served_status}
-use Rattle.mars_shell.specs.declared.status.Status.{Status}
-use Rattle.mars_shell.proofs.Endings.{served_late, served_refused, served, input_read}
+use Rattle.mars_shell.specs.Run.{TakesTurns}
+use Rattle.array_runs.specs.Records.{OverRecords}
+use Rattle.array_runs.specs.Statuses.{IsEarly, IsRefusal, served_status}
+use Rattle.array_runs.specs.declared.status.Status.{Status}
+use Rattle.array_runs.proofs.Endings.{served_late, served_refused, input_read}
+use Rattle.mars_shell.proofs.Endings.{served}
 use Rattle.mars_shell.proofs.Outcomes.{records_outcome, turns_none, turns_only}
 use Rattle.mars_shell.proofs.callers.run_callers_on.Goals as goal
 

@@ -4,7 +4,8 @@ use Rattle.mars_core.specs.Held.{core_of}
 use Rattle.mars_core.specs.Over.{IsOver}
 use Rattle.mars_shell.specs.Joint.{JointWork}
 use Rattle.mars_shell.specs.Served.{Served}
-use Rattle.mars_shell.proofs.Serving.{untaken, untold, can_share, served}
+use Rattle.array_runs.proofs.Untaken.{untaken}
+use Rattle.mars_shell.proofs.Serving.{untold, can_share, served}
 use Rattle.mars_shell.proofs.callers.work_under.Goals as goal
 
 pub work_jointly-worked-requires-clause-ready : goal.work_jointly-worked-requires-clause-ready

@@ -3,13 +3,13 @@ use Rattle.std.proofs.lemmas.List.{append-nil}
 use Rattle.command_words.specs.declared.words.Words.TheVariants.{Eaw}
 use Rattle.mars_shell.specs.Asked.{OutcomeFor}
 use Rattle.mars_shell.specs.Commands.{Obeys}
-use Rattle.mars_shell.specs.declared.status.Status.{Status}
+use Rattle.array_runs.specs.declared.status.Status.{Status}
 use Rattle.mars_shell.proofs.Commanding.{obeys}
-use Rattle.mars_shell.proofs.Statuses.{outcome_of}
-use Rattle.mars_shell.proofs.Unopened.{unopened_as}
-use Rattle.mars_shell.specs.Opening.{IsUnopened}
-use Rattle.mars_shell.specs.Statuses.{IsEarly, IsRefusal}
-use Rattle.mars_shell.proofs.Endings.{counts_unwritten, script_late, script_accepted, scripted, input_read}
+use Rattle.array_runs.proofs.Statuses.{outcome_of}
+use Rattle.array_runs.proofs.Unopened.{unopened_as}
+use Rattle.array_runs.specs.Opening.{IsUnopened}
+use Rattle.array_runs.specs.Statuses.{IsEarly, IsRefusal}
+use Rattle.array_runs.proofs.Endings.{counts_unwritten, script_late, script_accepted, scripted, input_read}
 use Rattle.mars_shell.proofs.commands.run_commands.Goals as goal
 
 pub returns-in-Err-clause-ran : goal.returns-in-Err-clause-ran

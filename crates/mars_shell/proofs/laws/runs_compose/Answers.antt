@@ -2,7 +2,7 @@ use Rattle.std.proofs.Common.{ℕ, zero, suc, ◌^◌, ◌<◌, List, length}
 use Rattle.key_list.specs.Index.{chain}
 use Rattle.btree_pages.specs.Index.{tree}
 use Rattle.record_table.specs.Upgrading.{upgraded}
-use Rattle.mars_shell.specs.Forms.{index_of_form}
+use Rattle.array_runs.specs.Forms.{index_of_form}
 use Rattle.mars_shell.proofs.Composing.{premises, next_sound, next_open, next_followed, fresh_sound}
 use Rattle.mars_shell.proofs.laws.runs_compose.Goals as goal
 

@@ -1,10 +1,11 @@
 use Rattle.std.proofs.Common.{[], false, inl, inr, ⊎_elim, refl, sym, subst, ◌∙◌, arith}
 use Rattle.std.proofs.lemmas.List.{append-nil}
-use Rattle.mars_shell.specs.Run.{OverRecords}
+use Rattle.array_runs.specs.Records.{OverRecords}
 use Rattle.mars_shell.specs.Served.{TakesTurnsFor}
-use Rattle.mars_shell.specs.Statuses.{IsEarly, IsRefusal}
-use Rattle.mars_shell.specs.declared.status.Status.{Status}
-use Rattle.mars_shell.proofs.Endings.{served_late, served_refused, served_usage, served_untold, served, input_read}
+use Rattle.array_runs.specs.Statuses.{IsEarly, IsRefusal}
+use Rattle.array_runs.specs.declared.status.Status.{Status}
+use Rattle.array_runs.proofs.Endings.{served_late, served_refused, served_usage, served_untold, input_read}
+use Rattle.mars_shell.proofs.Endings.{served}
 use Rattle.mars_shell.proofs.Outcomes.{records_outcome, turns_none}
 use Rattle.mars_shell.proofs.records.over_records_on.Goals as goal
 

@@ -3,10 +3,9 @@ use Rattle.std.proofs.lemmas.List.{append-nil}
 use Rattle.mars_core.specs.Attached.{is_media_fault}
 use Rattle.record_table.specs.Form.{form_number}
 use Rattle.record_table.specs.declared.form.Form.{Form}
-use Rattle.mars_shell.specs.Forms.{index_at}
-use Rattle.mars_shell.specs.Served.{SaysForm}
+use Rattle.array_runs.specs.Forms.{index_at, SaysForm}
 use Rattle.mars_shell.proofs.Forming.{serves_on}
-use Rattle.mars_shell.proofs.Serving.{unread}
+use Rattle.array_runs.proofs.Untaken.{unread}
 use Rattle.mars_shell.proofs.records.serve.Goals as goal
 
 pub returns-in-Ok-Chain-clause-served : goal.returns-in-Ok-Chain-clause-served

@@ -1,22 +1,24 @@
 use Rattle.std.proofs.Common.{◌≡◌, [], inl, ⊎_elim, refl, arith}
-use Rattle.std.specs.Prelude.{map, string_bytes, true, false, IsTrue}
+use Rattle.std.specs.Prelude.{map, string_bytes, true, false}
 use Rattle.std.proofs.lemmas.Bool.{false≢true}
 use Rattle.command_words.specs.declared.words.Words.TheVariants.{Run, Callers, Eaw, Dump, Drill, Format, Make, Purge, Follow}
 use Rattle.mars_shell.specs.Commands.{Obeys}
 use Rattle.mars_shell.specs.Drill.{Drills}
 use Rattle.mars_shell.specs.Dump.{Dumps}
-use Rattle.mars_shell.proofs.Endings.{is_early, counts_unread, read_fault_early, format_late}
+use Rattle.array_runs.proofs.Endings.{is_early, counts_unread, read_fault_early}
+use Rattle.mars_shell.proofs.Endings.{format_late}
 use Rattle.mars_shell.proofs.FormatLemmas.{no_usage}
 use Rattle.mars_shell.specs.Joint.{JointWork}
 use Rattle.mars_shell.specs.Late.{is_late}
 use Rattle.mars_shell.specs.Run.{TakesTurns, Answers}
 use Rattle.mars_shell.specs.Served.{TakesTurnsFor}
-use Rattle.mars_shell.proofs.Completing.{words_say, callers_say, nothing_read, complete_of, complete_records}
+use Rattle.mars_shell.proofs.Saying.{words_say, callers_say}
+use Rattle.array_runs.proofs.Completing.{nothing_read, complete_of, complete_records}
 use Rattle.mars_shell.proofs.Outcomes.{turns_only, turns_spared}
-use Rattle.mars_shell.proofs.Clearing.{complete_purge}
+use Rattle.told_commands.proofs.Clearing.{complete_purge}
 use Rattle.mars_shell.proofs.FramesFollowed.{complete_follow}
-use Rattle.mars_shell.proofs.Tabling.{complete_make}
-use Rattle.mars_shell.proofs.Waiting.{run_depth, callers_depth, callers_few, drill_depth}
+use Rattle.told_commands.proofs.Tabling.{complete_make}
+use Rattle.mars_shell.proofs.Waiting.{run_depth, callers_depth, callers_few}
 use Rattle.mars_shell.proofs.whole.run.Goals as goal
 
 pub returns-in-Err-NoCommand-clause-words : goal.returns-in-Err-NoCommand-clause-words
@@ -305,88 +307,88 @@ pub run_callers-requires-clause-depth : goal.run_callers-requires-clause-depth
 run_callers-requires-clause-depth g c = λ κs lives. callers_depth (map string_bytes c.args.words.now) c.in-Ok-Callers.numbers (rw c.in-Ok-Callers.field-0-is at c.in-Ok-Callers.ensures-1.asked)
 
 pub returns-in-Ok-Make-clause-words : goal.returns-in-Ok-Make-clause-words
-returns-in-Ok-Make-clause-words g c = words_say (map string_bytes c.args.words.now) c.run_make.result.0 _ _ (Make c.in-Ok-Make.name) c.run_make.ensures.no_usage (rw c.in-Ok-Make.field-0-is at c.in-Ok-Make.ensures-1.asked) tt
+returns-in-Ok-Make-clause-words g c = words_say (map string_bytes c.args.words.now) c.run_told.result.0 _ _ (Make c.in-Ok-Make.name) c.run_told.ensures.no_usage (rw c.in-Ok-Make.field-0-is at c.in-Ok-Make.ensures-1.asked) tt
 
 pub returns-in-Ok-Make-clause-usage : goal.returns-in-Ok-Make-clause-usage
 returns-in-Ok-Make-clause-usage g c = λ nothing. absurd (nothing (Make c.in-Ok-Make.name) (rw c.in-Ok-Make.field-0-is at c.in-Ok-Make.ensures-1.asked))
 
 pub returns-in-Ok-Make-clause-early : goal.returns-in-Ok-Make-clause-early
-returns-in-Ok-Make-clause-early g c = λ either. absurd (c.run_make.ensures.late (is_early c.run_make.result.0 either))
+returns-in-Ok-Make-clause-early g c = λ either. absurd (c.run_told.ensures.late (is_early c.run_told.result.0 either))
 
 pub returns-in-Ok-Make-clause-silent : goal.returns-in-Ok-Make-clause-silent
-returns-in-Ok-Make-clause-silent g c = λ either. ⊎_elim (λ early. absurd (c.run_make.ensures.late early)) c.run_make.ensures.refused either
+returns-in-Ok-Make-clause-silent g c = λ either. ⊎_elim (λ early. absurd (c.run_told.ensures.late early)) c.run_told.ensures.refused either
 
 pub returns-in-Ok-Make-clause-counts : goal.returns-in-Ok-Make-clause-counts
-returns-in-Ok-Make-clause-counts g c = c.run_make.ensures.counts
+returns-in-Ok-Make-clause-counts g c = c.run_told.ensures.counts
 
 pub returns-in-Ok-Make-clause-steady : goal.returns-in-Ok-Make-clause-steady
-returns-in-Ok-Make-clause-steady g c = λ steady is. c.run_make.ensures.late (read_fault_early c.run_make.result.0 is)
+returns-in-Ok-Make-clause-steady g c = λ steady is. c.run_told.ensures.late (read_fault_early c.run_told.result.0 is)
 
 pub returns-in-Ok-Make-clause-input : goal.returns-in-Ok-Make-clause-input
-returns-in-Ok-Make-clause-input g c = words_say (map string_bytes c.args.words.now) c.run_make.result.0 _ _ (Make c.in-Ok-Make.name) c.run_make.ensures.no_usage (rw c.in-Ok-Make.field-0-is at c.in-Ok-Make.ensures-1.asked) c.run_make.ensures.unread
+returns-in-Ok-Make-clause-input g c = words_say (map string_bytes c.args.words.now) c.run_told.result.0 _ _ (Make c.in-Ok-Make.name) c.run_told.ensures.no_usage (rw c.in-Ok-Make.field-0-is at c.in-Ok-Make.ensures-1.asked) c.run_told.ensures.unread
 
 pub returns-in-Ok-Make-clause-formats : goal.returns-in-Ok-Make-clause-formats
-returns-in-Ok-Make-clause-formats g c = words_say (map string_bytes c.args.words.now) c.run_make.result.0 _ _ (Make c.in-Ok-Make.name) c.run_make.ensures.no_usage (rw c.in-Ok-Make.field-0-is at c.in-Ok-Make.ensures-1.asked) (λ numbers is. absurd (let no : ⊥ = cc is in no))
+returns-in-Ok-Make-clause-formats g c = words_say (map string_bytes c.args.words.now) c.run_told.result.0 _ _ (Make c.in-Ok-Make.name) c.run_told.ensures.no_usage (rw c.in-Ok-Make.field-0-is at c.in-Ok-Make.ensures-1.asked) (λ numbers is. absurd (let no : ⊥ = cc is in no))
 
 pub returns-in-Ok-Make-clause-untold : goal.returns-in-Ok-Make-clause-untold
-returns-in-Ok-Make-clause-untold g c = words_say (map string_bytes c.args.words.now) c.run_make.result.0 _ _ (Make c.in-Ok-Make.name) c.run_make.ensures.no_usage (rw c.in-Ok-Make.field-0-is at c.in-Ok-Make.ensures-1.asked) (λ late. c.run_make.ensures.untold)
+returns-in-Ok-Make-clause-untold g c = words_say (map string_bytes c.args.words.now) c.run_told.result.0 _ _ (Make c.in-Ok-Make.name) c.run_told.ensures.no_usage (rw c.in-Ok-Make.field-0-is at c.in-Ok-Make.ensures-1.asked) (λ late. c.run_told.ensures.untold)
 
 pub returns-in-Ok-Make-clause-ran : goal.returns-in-Ok-Make-clause-ran
 returns-in-Ok-Make-clause-ran g c =
-    let ran = c.run_make.ensures.ran in
-    words_say (map string_bytes c.args.words.now) c.run_make.result.0 _ _ (Make c.in-Ok-Make.name) c.run_make.ensures.no_usage (rw c.in-Ok-Make.field-0-is at c.in-Ok-Make.ensures-1.asked)
+    let ran = c.run_told.ensures.ran in
+    words_say (map string_bytes c.args.words.now) c.run_told.result.0 _ _ (Make c.in-Ok-Make.name) c.run_told.ensures.no_usage (rw c.in-Ok-Make.field-0-is at c.in-Ok-Make.ensures-1.asked)
     (record { cut = ran.cut; text = ran.text; wrote = ran.wrote; counts = ran.counts; holds = (g.S.Source.left c.args.source.now, (λ _. refl), ran.holds) })
 
 pub returns-in-Ok-Make-clause-complete : goal.returns-in-Ok-Make-clause-complete
 returns-in-Ok-Make-clause-complete g c =
     let old = g.M.Media.view c.args.media in
-    let new = g.M.Media.view c.run_make.result.1 in
-    let said = c.run_make.ensures in
-    words_say (map string_bytes c.args.words.now) c.run_make.result.0 (Unit {0}) _ (Make c.in-Ok-Make.name) said.no_usage (rw c.in-Ok-Make.field-0-is at c.in-Ok-Make.ensures-1.asked)
+    let new = g.M.Media.view c.run_told.result.1 in
+    let said = c.run_told.ensures in
+    words_say (map string_bytes c.args.words.now) c.run_told.result.0 (Unit {0}) _ (Make c.in-Ok-Make.name) said.no_usage (rw c.in-Ok-Make.field-0-is at c.in-Ok-Make.ensures-1.asked)
     (λ fit no_source no_sink no_media.
-    complete_make c.in-Ok-Make.name old new said.ran.cut said.ran.text _ _ _ _ _ _ fit.1.0 fit.1.1 no_source no_sink no_media c.run_make.result.0 said.late said.counts (said.ran.holds fit.0))
+    complete_make c.in-Ok-Make.name old new said.ran.cut said.ran.text _ _ _ _ _ _ fit.1.0 fit.1.1 no_source no_sink no_media c.run_told.result.0 said.late said.counts (said.ran.holds fit.0))
 
 pub returns-in-Ok-Purge-clause-words : goal.returns-in-Ok-Purge-clause-words
-returns-in-Ok-Purge-clause-words g c = words_say (map string_bytes c.args.words.now) c.run_purge.result.0 _ _ Purge c.run_purge.ensures.no_usage (rw c.in-Ok-Purge.field-0-is at c.in-Ok-Purge.ensures-1.asked) tt
+returns-in-Ok-Purge-clause-words g c = words_say (map string_bytes c.args.words.now) c.run_told-in-Ok-Purge.result.0 _ _ Purge c.run_told-in-Ok-Purge.ensures.no_usage (rw c.in-Ok-Purge.field-0-is at c.in-Ok-Purge.ensures-1.asked) tt
 
 pub returns-in-Ok-Purge-clause-usage : goal.returns-in-Ok-Purge-clause-usage
 returns-in-Ok-Purge-clause-usage g c = λ nothing. absurd (nothing Purge (rw c.in-Ok-Purge.field-0-is at c.in-Ok-Purge.ensures-1.asked))
 
 pub returns-in-Ok-Purge-clause-early : goal.returns-in-Ok-Purge-clause-early
-returns-in-Ok-Purge-clause-early g c = λ either. absurd (c.run_purge.ensures.late (is_early c.run_purge.result.0 either))
+returns-in-Ok-Purge-clause-early g c = λ either. absurd (c.run_told-in-Ok-Purge.ensures.late (is_early c.run_told-in-Ok-Purge.result.0 either))
 
 pub returns-in-Ok-Purge-clause-silent : goal.returns-in-Ok-Purge-clause-silent
-returns-in-Ok-Purge-clause-silent g c = λ either. ⊎_elim (λ early. absurd (c.run_purge.ensures.late early)) c.run_purge.ensures.refused either
+returns-in-Ok-Purge-clause-silent g c = λ either. ⊎_elim (λ early. absurd (c.run_told-in-Ok-Purge.ensures.late early)) c.run_told-in-Ok-Purge.ensures.refused either
 
 pub returns-in-Ok-Purge-clause-counts : goal.returns-in-Ok-Purge-clause-counts
-returns-in-Ok-Purge-clause-counts g c = c.run_purge.ensures.counts
+returns-in-Ok-Purge-clause-counts g c = c.run_told-in-Ok-Purge.ensures.counts
 
 pub returns-in-Ok-Purge-clause-steady : goal.returns-in-Ok-Purge-clause-steady
-returns-in-Ok-Purge-clause-steady g c = λ steady is. c.run_purge.ensures.late (read_fault_early c.run_purge.result.0 is)
+returns-in-Ok-Purge-clause-steady g c = λ steady is. c.run_told-in-Ok-Purge.ensures.late (read_fault_early c.run_told-in-Ok-Purge.result.0 is)
 
 pub returns-in-Ok-Purge-clause-input : goal.returns-in-Ok-Purge-clause-input
-returns-in-Ok-Purge-clause-input g c = words_say (map string_bytes c.args.words.now) c.run_purge.result.0 _ _ Purge c.run_purge.ensures.no_usage (rw c.in-Ok-Purge.field-0-is at c.in-Ok-Purge.ensures-1.asked) c.run_purge.ensures.unread
+returns-in-Ok-Purge-clause-input g c = words_say (map string_bytes c.args.words.now) c.run_told-in-Ok-Purge.result.0 _ _ Purge c.run_told-in-Ok-Purge.ensures.no_usage (rw c.in-Ok-Purge.field-0-is at c.in-Ok-Purge.ensures-1.asked) c.run_told-in-Ok-Purge.ensures.unread
 
 pub returns-in-Ok-Purge-clause-formats : goal.returns-in-Ok-Purge-clause-formats
-returns-in-Ok-Purge-clause-formats g c = words_say (map string_bytes c.args.words.now) c.run_purge.result.0 _ _ Purge c.run_purge.ensures.no_usage (rw c.in-Ok-Purge.field-0-is at c.in-Ok-Purge.ensures-1.asked) (λ numbers is. absurd (let no : ⊥ = cc is in no))
+returns-in-Ok-Purge-clause-formats g c = words_say (map string_bytes c.args.words.now) c.run_told-in-Ok-Purge.result.0 _ _ Purge c.run_told-in-Ok-Purge.ensures.no_usage (rw c.in-Ok-Purge.field-0-is at c.in-Ok-Purge.ensures-1.asked) (λ numbers is. absurd (let no : ⊥ = cc is in no))
 
 pub returns-in-Ok-Purge-clause-untold : goal.returns-in-Ok-Purge-clause-untold
-returns-in-Ok-Purge-clause-untold g c = words_say (map string_bytes c.args.words.now) c.run_purge.result.0 _ _ Purge c.run_purge.ensures.no_usage (rw c.in-Ok-Purge.field-0-is at c.in-Ok-Purge.ensures-1.asked) (λ late. c.run_purge.ensures.untold)
+returns-in-Ok-Purge-clause-untold g c = words_say (map string_bytes c.args.words.now) c.run_told-in-Ok-Purge.result.0 _ _ Purge c.run_told-in-Ok-Purge.ensures.no_usage (rw c.in-Ok-Purge.field-0-is at c.in-Ok-Purge.ensures-1.asked) (λ late. c.run_told-in-Ok-Purge.ensures.untold)
 
 pub returns-in-Ok-Purge-clause-ran : goal.returns-in-Ok-Purge-clause-ran
 returns-in-Ok-Purge-clause-ran g c =
-    let ran = c.run_purge.ensures.ran in
-    words_say (map string_bytes c.args.words.now) c.run_purge.result.0 _ _ Purge c.run_purge.ensures.no_usage (rw c.in-Ok-Purge.field-0-is at c.in-Ok-Purge.ensures-1.asked)
+    let ran = c.run_told-in-Ok-Purge.ensures.ran in
+    words_say (map string_bytes c.args.words.now) c.run_told-in-Ok-Purge.result.0 _ _ Purge c.run_told-in-Ok-Purge.ensures.no_usage (rw c.in-Ok-Purge.field-0-is at c.in-Ok-Purge.ensures-1.asked)
     (record { cut = ran.cut; text = ran.text; wrote = ran.wrote; counts = ran.counts; holds = (g.S.Source.left c.args.source.now, (λ _. refl), ran.holds) })
 
 pub returns-in-Ok-Purge-clause-complete : goal.returns-in-Ok-Purge-clause-complete
 returns-in-Ok-Purge-clause-complete g c =
     let old = g.M.Media.view c.args.media in
-    let new = g.M.Media.view c.run_purge.result.1 in
-    let said = c.run_purge.ensures in
-    words_say (map string_bytes c.args.words.now) c.run_purge.result.0 (Unit {0}) _ Purge said.no_usage (rw c.in-Ok-Purge.field-0-is at c.in-Ok-Purge.ensures-1.asked)
+    let new = g.M.Media.view c.run_told-in-Ok-Purge.result.1 in
+    let said = c.run_told-in-Ok-Purge.ensures in
+    words_say (map string_bytes c.args.words.now) c.run_told-in-Ok-Purge.result.0 (Unit {0}) _ Purge said.no_usage (rw c.in-Ok-Purge.field-0-is at c.in-Ok-Purge.ensures-1.asked)
     (λ fit no_source no_sink no_media.
-    complete_purge old new said.ran.cut said.ran.text _ _ _ _ _ _ fit.1.0 fit.1.1 no_source no_sink no_media c.run_purge.result.0 said.late said.counts (said.ran.holds fit.0))
+    complete_purge old new said.ran.cut said.ran.text _ _ _ _ _ _ fit.1.0 fit.1.1 no_source no_sink no_media c.run_told-in-Ok-Purge.result.0 said.late said.counts (said.ran.holds fit.0))
 
 pub returns-in-Ok-Follow-clause-usage : goal.returns-in-Ok-Follow-clause-usage
 returns-in-Ok-Follow-clause-usage g c = λ nothing. absurd (nothing Follow (rw c.in-Ok-Follow.field-0-is at c.in-Ok-Follow.ensures-1.asked))

@@ -30,7 +30,7 @@ begin_over-requires g c =
     let still = c.in-Ok.ensures.attached.looks.still refl in
     record {
       alive = still.dead ∙ c.in-Ok.ensures.attached.alive;
-      free = ap (λ (f : ℕ → Option (List (ℕ × ℕ))). f 0) c.in-Ok.ensures.attached.looks.ranges ∙ subst (λ (s : g.row.S.Denot). (g.S.EawStore.view s).ranges 0 ≡ None) (sym c.attach_in.ensures.store) (c.requires.idle 0);
+      free = λ t. ap (λ (f : ℕ → Option (List (ℕ × ℕ))). f t) c.in-Ok.ensures.attached.looks.ranges ∙ subst (λ (s : g.row.S.Denot). (g.S.EawStore.view s).ranges t ≡ None) (sym c.attach_in.ensures.store) (c.requires.idle t);
       sound = λ told. subst (λ (s : State). g.K.KeyIndex.index.sound s.bytes) (sym (still.state told)) (c.in-Ok.ensures.attached.sound told);
       base = λ told. c.in-Ok.ensures.rows told ∙ ap (λ (s : State). entries (table_of g.K.KeyIndex.index s.bytes)) (sym (still.state told));
       idle = c.in-Ok.ensures.attached.idle;

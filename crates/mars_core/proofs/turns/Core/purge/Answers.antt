@@ -2,13 +2,14 @@ use Rattle.std.proofs.Common.{◌≡◌, ◌∙◌, ℕ, false, IsTrue, Option, 
 use Rattle.eaw_face.specs.Causes.{IsAlive}
 use Rattle.page_store.specs.Shown.{Shown, pages_of}
 use Rattle.history.specs.Rows.{table_of}
-use Rattle.history.specs.declared.call.Reply.{Reply}
 use Rattle.record_table.specs.declared.fault.TableFault.{TableFault}
 use Rattle.caller_steps.specs.Purging.{Purges}
+use Rattle.caller_steps.specs.declared.purge_fault.PurgeFault.{PurgeFault}
 use Rattle.mars_core.specs.Held.{Held, core_of}
 use Rattle.mars_core.specs.Purging.{Keeps}
 use Rattle.mars_core.specs.Seats.{live_in}
 use Rattle.mars_core.proofs.Answering.{IndexLaws}
+use Rattle.mars_core.proofs.Clearing.{stop_of}
 use Rattle.mars_core.proofs.Prefixes.{StoreLaws}
 use Rattle.mars_core.proofs.Purged.{outcome, purged_keeps, purged_steps}
 use Rattle.mars_core.proofs.Staying.{none_of}
@@ -38,7 +39,7 @@ invariant_of-self g c =
 answer_is : (g : Over) (c : goal.Joined-clear g) → c.match-clear.result ≡ outcome c.clear.result
 answer_is g c = elim c.match-clear.branch [
   | in-Ok w ↦ w.result-is ∙ sym (ap outcome w.in-Ok.is)
-  | in-Err w ↦ w.result-is ∙ ap (λ (r : Reply). let x : Result ℕ Reply = Err r in x) w.from.ensures ∙ sym (ap outcome w.in-Err.is)
+  | in-Err w ↦ w.result-is ∙ ap (λ (f : PurgeFault). let x : Result ℕ PurgeFault = Err f in x) w.stopped.ensures ∙ sym (ap outcome w.in-Err.is)
 ]
 
 pub returns : goal.returns
@@ -53,3 +54,6 @@ returns g c =
           (sym c.is_dead.ensures.dead ∙ c.if-is_dead.false) c.args.caller (none_of (live_in i.seats c.args.caller) (sym c.is_live.ensures ∙ c.if-is_live.false)) (pages_of (V c.clear.new.records.store) c.clear.new.records) (laws_at g c.clear.new.records.store)
           c.clear.result c.clear.ensures.clears));
     }
+
+pub stopped-requires : goal.stopped-requires
+stopped-requires g c = stop_of g.S.EawStore.tells c.in-Err.fault c.in-Err.ensures.clears.cause

@@ -1,10 +1,10 @@
-use Rattle.std.proofs.Common.{◌≡◌, [], true, false, refl, sym, ◌∙◌}
+use Rattle.std.proofs.Common.{[], true, false, refl, sym, ◌∙◌}
 use Rattle.std.proofs.lemmas.List.{append-nil}
 use Rattle.mars_core.specs.Attached.{is_media_fault}
 use Rattle.record_table.specs.Shown.{table_of}
 use Rattle.mars_shell.proofs.MainRows.{rows_told}
 use Rattle.mars_shell.proofs.Dumping.{dumped, dump_counts, unread_counts}
-use Rattle.mars_shell.proofs.Serving.{unread}
+use Rattle.array_runs.proofs.Untaken.{unread}
 use Rattle.mars_shell.proofs.dump.RecordDumpRecordWork.work_over.Goals as goal
 
 pub returns-in-Ok-dump_lines-clause-served : goal.returns-in-Ok-dump_lines-clause-served
