@@ -1,13 +1,26 @@
 -- The answers of a reader, one after another.
-use Rattle.std.proofs.Common.{◌≡◌, ℕ, zero, suc, ◌+◌, ◌<◌, ◌≤◌, List, [], ◌∷◌, ◌++◌, length, take, refl, sym, ap, ◌∙◌, subst, arith, length-append}
+use Rattle.std.proofs.Common.{◌≡◌, ℕ, zero, suc, ◌+◌, ◌<◌, ◌≤◌, List, [], ◌∷◌, ◌++◌, length, take, drop, get_or, refl, sym, ap, ◌∙◌, subst, arith, length-append}
 use Rattle.std.specs.FinMap.{get}
 use mathlib.Core.List.{IsPrefix}
 use Rattle.history.specs.Key.{of_main}
 use Rattle.history.specs.Legal.{records}
 use Rattle.history.specs.Writes.{Table}
 use Rattle.history.specs.declared.transaction.Done.{Done}
-use Rattle.reader_work.specs.Answers.{IsValueIn, AreAnswers}
+use Rattle.std.specs.Prelude.{All, Result, Ok, Err, IfOk}
+use Rattle.std.specs.Global.{Vec}
+use Rattle.std.proofs.lemmas.List.{take_more}
+use Rattle.std.proofs.lemmas.List.Elements.{All-head, All-tail}
+use Rattle.mars_base.specs.declared.NoMemory.{NoMemory}
+use Rattle.logbook.specs.Pages.{Book}
+use Rattle.snapshot_readers.specs.Batches.{Batch, joined}
+use Rattle.snapshot_readers.specs.Feeds.{read, read_base}
+use Rattle.snapshot_readers.proofs.Joining.{joined_prefix}
+use Rattle.snapshot_readers.proofs.Prefixes.{prefix_trans}
+use Rattle.reader_work.specs.Answers.{IsValueIn, AreAnswers, AllAnswer}
+use Rattle.reader_work.specs.Reading.{HasRead}
+use Rattle.reader_work.specs.Readership.{keys_of, answers_of, IsReady}
 use Rattle.reader_work.specs.declared.answer.Answer.{Answer}
+use Rattle.reader_work.specs.declared.reading.ReadWorker.{ReadWorker}
 
 take_in : {A : Type 0} (n : ℕ) (xs more : List A) → n ≤ length xs → take n (xs ++ more) ≡ take n xs
 take_in zero xs more within = refl
@@ -50,3 +63,37 @@ next_answer base was now keys answers answer are front at value =
       value = value ∙ ap (λ (l : List Done). get (records base l) (of_main answer.key)) (sym (take_whole now) ∙ ap (λ (n : ℕ). take n now) (sym at));
     })
 
+-- the same for the n-th of its keys
+pub next_of : (base : Table) (was now : List Done) (keys : List ℕ) (n : ℕ) (answers : List Answer) (answer : Answer) → n < length keys → answer.key ≡ get_or keys n 0 → AreAnswers base was 0 (take n keys) answers → IsPrefix was now
+    → answer.at ≡ length now → answer.value ≡ get (records base now) (of_main answer.key) → AreAnswers base now 0 (take (n + 1) keys) (answers ++ answer ∷ [])
+next_of base was now keys n answers answer within is are front at value =
+    subst (λ (ks : List ℕ). AreAnswers base now 0 ks (answers ++ answer ∷ [])) (ap (λ (k : ℕ). take n keys ++ k ∷ []) is ∙ sym (take_more keys n 0 within)) (next_answer base was now (take n keys) answers answer are front at value)
+
+-- what all readers were answered, in what was seen: all that each has read is a front of what was fed, and that of what was seen
+each_answers : (base : Table) (book : Book) (shown : List Batch) (seen : List Done) (before after : List ReadWorker) → IsPrefix (joined shown) seen → length after ≡ length before
+    → ((i : ℕ) (w : ReadWorker) → i < length before → HasRead (get_or before i w) (get_or after i w)) → All (λ (worker : ReadWorker). IsPrefix (read worker.reader) shown) after → All (IsReady book base) before
+    → AllAnswer base seen (keys_of before) (answers_of after)
+each_answers base book shown seen [] [] front same has learnt ready = tt
+each_answers base book shown seen [] (now ∷ after) front same has learnt ready = absurd (omega arith)
+each_answers base book shown seen (was ∷ before) [] front same has learnt ready = absurd (omega arith)
+each_answers base book shown seen (was ∷ before) (now ∷ after) front same has learnt ready =
+    let one = has 0 was (omega arith) in
+    let is : read_base was.reader ≡ base = (All-head (IsReady book base) was before ready).fresh.2 in
+    let far = prefix_trans (joined (read now.reader)) (joined shown) seen (joined_prefix (read now.reader) shown (All-head (λ (worker : ReadWorker). IsPrefix (read worker.reader) shown) now after learnt)) front in (
+      all_longer base (joined (read now.reader)) seen 0 was.keys now.answers.items far (subst (λ (t : Table). AreAnswers t (joined (read now.reader)) 0 was.keys now.answers.items) is one.answers),
+      each_answers base book shown seen before after front (omega arith) (λ i w within. has (suc i) w (omega (arith, within)))
+          (All-tail (λ (worker : ReadWorker). IsPrefix (read worker.reader) shown) now after learnt) (All-tail (IsReady book base) was before ready),
+    )
+
+pub all_answer : (r : Result (Vec (List Answer)) NoMemory) (book : Book) (shown : List Batch) (seen : List Done) (before after : List ReadWorker) → joined shown ++ drop (length (joined shown)) seen ≡ seen → length after ≡ length before
+    → ((i : ℕ) (w : ReadWorker) → i < length before → HasRead (get_or before i w) (get_or after i w)) → IfOk r (λ told. All (λ (worker : ReadWorker). IsPrefix (read worker.reader) shown) after) → IfOk r (λ told. told.items ≡ answers_of after)
+    → IfOk r (λ told. (base : Table) → All (IsReady book base) before → AllAnswer base seen (keys_of before) told.items)
+all_answer (Ok told) book shown seen before after behind same has learnt is = λ base ready. subst (AllAnswer base seen (keys_of before)) (sym is) (each_answers base book shown seen before after (drop (length (joined shown)) seen, behind) same has learnt ready)
+all_answer (Err none) book shown seen before after behind same has learnt is = tt
+
+-- where all is told, it is so in a longer history too
+pub answer_longer : (base : Table) (seen longer : List Done) (asks : List (List ℕ)) (told : List (List Answer)) → IsPrefix seen longer → AllAnswer base seen asks told → AllAnswer base longer asks told
+answer_longer base seen longer [] [] front all = tt
+answer_longer base seen longer [] (one ∷ told) front all = absurd all
+answer_longer base seen longer (keys ∷ asks) [] front all = absurd all
+answer_longer base seen longer (keys ∷ asks) (one ∷ told) front all = (all_longer base seen longer 0 keys one front all.0, answer_longer base seen longer asks told front all.1)

@@ -1,7 +1,10 @@
 -- What a feed has published of what its pass has seen.
 use Rattle.std.proofs.Common.{◌≡◌, ℕ, zero, suc, List, [], ◌∷◌, ◌++◌, length, drop, refl, sym, ap, ◌∙◌, subst, inl, inr}
 use Rattle.std.proofs.lemmas.List.{append-nil}
-use Rattle.std.specs.Prelude.{◌⊎◌}
+use Rattle.std.specs.Prelude.{◌⊎◌, Result, Ok, Err, IfOk, OnErr}
+use Rattle.mars_base.specs.declared.NoMemory.{NoMemory}
+use Rattle.snapshot_readers.specs.Feeds.{told}
+use Rattle.snapshot_readers.specs.declared.feed.Receipt.{Receipt}
 use Rattle.caller_steps.specs.Prefix.{Grows}
 use Rattle.history.specs.declared.transaction.Done.{Done}
 use Rattle.snapshot_readers.specs.Batches.{Batch, joined, with_batch}
@@ -36,3 +39,9 @@ pub some_fed : (was now : List Batch) (seen news : List Done) → joined was ++ 
     → joined now ++ drop (length (joined now)) seen ≡ seen
 some_fed was now seen news behind is (inl same) = subst (λ (l : List Batch). joined l ++ drop (length (joined l)) seen ≡ seen) (sym same) behind
 some_fed was now seen news behind is (inr fed) = whole now seen (all_fed was now seen news behind is fed)
+
+-- so what was fed stays a front, whatever a feed of the next transactions answers
+pub fed_after : (r : Result Receipt NoMemory) (was now : List Batch) (seen news : List Done) (P Q : Receipt → Type 0) (R : Type 0) → joined was ++ drop (length (joined was)) seen ≡ seen → news ≡ drop (length (joined was)) seen
+    → IfOk r (λ receipt. (told receipt ≡ with_batch was news) × P receipt × (now ≡ told receipt) × Q receipt) → OnErr r (R × ((now ≡ was) ⊎ (now ≡ with_batch was news))) → joined now ++ drop (length (joined now)) seen ≡ seen
+fed_after (Ok receipt) was now seen news P Q R behind is ok err = whole now seen (all_fed was now seen news behind is (ok.2 ∙ ok.0))
+fed_after (Err none) was now seen news P Q R behind is ok err = some_fed was now seen news behind is err.1

@@ -2,4 +2,3 @@ pub mod Answers
 pub mod Reading
 pub mod News
 pub mod Readership
-pub mod Beside

@@ -2,6 +2,8 @@
 use Rattle.std.specs.Prelude.{ℕ, zero, suc, ◌≡◌, ◌+◌, ◌<◌, List, [], All, map, length, Option, None, Some}
 use Rattle.logbook.specs.Pages.{Book}
 use Rattle.history.specs.Writes.{Table}
+use Rattle.caller_plans.specs.declared.plan.Plan.{Plan}
+use Rattle.caller_work.specs.declared.crew.Job.{Job}
 use Rattle.snapshot_readers.specs.Feeds.{fed, fed_book, IsFresh}
 use Rattle.reader_work.specs.Reading.{CanRead}
 use Rattle.reader_work.specs.declared.answer.Answer.{Answer}
@@ -15,6 +17,10 @@ keys_of workers = map (λ (worker : ReadWorker). worker.keys) workers
 -- what each reader was answered
 abbrev pub answers_of : List ReadWorker → List (List Answer)
 answers_of workers = map (λ (worker : ReadWorker). worker.answers.items) workers
+
+-- what each caller plans
+abbrev pub plans_of : List Job → List (List Plan)
+plans_of jobs = map (λ (job : Job). job.plans) jobs
 
 -- a reader that has seen nothing of this list and these records, and can ask
 pub record IsReady (book : Book) (base : Table) (worker : ReadWorker) : Type 0 where

@@ -16,5 +16,5 @@ mod reading;
 mod readership;
 
 pub use answer::{Answer, Answers};
-
+pub use beside::work_with;
 pub use readership::{Readership, open_readership};

@@ -1,4 +1,4 @@
-use Rattle.std.proofs.Common.{◌≡◌, ◌×◌, ◌+◌, ◌++◌, All, length}
+use Rattle.std.proofs.Common.{◌≡◌, ◌+◌, ◌++◌, All, length}
 use Rattle.std.specs.Vec.{vec_capacity}
 use Rattle.logbook.specs.Pages.{Book}
 use Rattle.history.specs.Writes.{Table}
