@@ -1,5 +1,5 @@
 -- What usual words ask for.
-use Rattle.std.proofs.Common.{◌≡◌, ◌<◌, ◌≤◌, ◌^◌, ℕ, zero, suc, false, List, [], ◌∷◌, Option, Some, None, codes, refl, sym, ap, subst, ◌∙◌, arith, drop, get_or, nat_lt, nat_le, if◌then◌else◌}
+use Rattle.std.proofs.Common.{◌≡◌, ◌<◌, ◌≤◌, ◌^◌, ℕ, zero, suc, true, false, List, [], ◌∷◌, Option, Some, None, codes, refl, sym, ap, subst, ◌∙◌, arith, drop, get_or, nat_lt, nat_le, if◌then◌else◌}
 use Rattle.std.specs.Prelude.{fold, slice_get, unwrap_or}
 use Rattle.std.specs.Str.{bytes_eq}
 use Rattle.std.specs.Fmt.{decimal}
@@ -22,8 +22,8 @@ use Rattle.command_words.specs.declared.words.FormatNumbers.{FormatNumbers}
 use Rattle.command_words.specs.declared.words.Writing.{Writing}
 use Rattle.command_words.specs.declared.words.Writing.TheVariants.{AtOnce, Late}
 use Rattle.clap.proofs.OnLiterals.{clap_on_literals}
-use Rattle.command_words.specs.CommandLine.{command_line, run_shape, format_shape, drill_shape, callers_shape, make_shape, option_of}
-use Rattle.command_words.specs.Asked.{AsksFor, AskForNothing, IsNumber, GivesWriting}
+use Rattle.command_words.specs.CommandLine.{command_line, run_shape, eaw_shape, format_shape, drill_shape, callers_shape, make_shape, option_of}
+use Rattle.command_words.specs.Asked.{AsksFor, AskForNothing, IsNumber, GivesWriting, is_given}
 use Rattle.command_words.specs.declared.words.Words.TheVariants.{Run, Callers, Eaw, Dump, Drill, Format, Make, Purge, Follow}
 
 -- the word is not a flag
@@ -100,12 +100,34 @@ run_taken = (refl, refl)
 pub run_asks : AsksFor (codes "run" ∷ []) (Run (record { writing = AtOnce }))
 run_asks = (run_taken.0, codes "run", [], run_taken.1, (refl, record { writing = refl }))
 
-eaw_taken : IsTaken (codes "eaw" ∷ []) (codes "eaw") []
+-- `eaw` as it is built, and the options of its words
+abbrev eaw_built : Shape
+eaw_built = unwrap_or (slice_get (built command_line).subs 1) eaw_shape
+
+abbrev eaw_options : List Text → List Row
+eaw_options words = finished eaw_built.rules (walk eaw_built.rules [] nothing_held words).held
+
+eaw_taken : IsTaken (codes "eaw" ∷ []) (codes "eaw") (eaw_options [])
 unfolding clap_on_literals
 eaw_taken = (refl, refl)
 
-pub eaw_asks : AsksFor (codes "eaw" ∷ []) Eaw
-eaw_asks = (eaw_taken.0, codes "eaw", [], eaw_taken.1, refl)
+eaw_plain : false ≡ is_given (first_of (codes "frames") (eaw_options []))
+unfolding clap_on_literals
+eaw_plain = refl
+
+pub eaw_asks : AsksFor (codes "eaw" ∷ []) (Eaw (record { frames = false }))
+eaw_asks = (eaw_taken.0, codes "eaw", eaw_options [], eaw_taken.1, (refl, record { frames = eaw_plain }))
+
+frames_taken : IsTaken (codes "eaw" ∷ codes "--frames" ∷ []) (codes "eaw") (eaw_options (codes "--frames" ∷ []))
+unfolding clap_on_literals
+frames_taken = (refl, refl)
+
+eaw_framed : true ≡ is_given (first_of (codes "frames") (eaw_options (codes "--frames" ∷ [])))
+unfolding clap_on_literals
+eaw_framed = refl
+
+pub frames_asks : AsksFor (codes "eaw" ∷ codes "--frames" ∷ []) (Eaw (record { frames = true }))
+frames_asks = (frames_taken.0, codes "eaw", eaw_options (codes "--frames" ∷ []), frames_taken.1, (refl, record { frames = eaw_framed }))
 
 dump_taken : IsTaken (codes "dump" ∷ []) (codes "dump") []
 unfolding clap_on_literals

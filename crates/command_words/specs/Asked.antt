@@ -1,11 +1,13 @@
 -- What words ask for.
-use Rattle.std.specs.Prelude.{ℕ, ◌≡◌, ◌≤◌, ◌<◌, List, [], Option, Some, None, codes}
+use Rattle.std.specs.Prelude.{ℕ, ◌≡◌, ◌≤◌, ◌<◌, List, [], Option, Some, None, Bool, false, codes}
 use Rattle.std.specs.Fmt.{decimal}
+use Rattle.std.specs.Str.{bytes_eq}
 use Rattle.clap.specs.Words.{Text, Row, fault_of, subcommand_of, first_of}
 use Rattle.record_slots.specs.Text.{IsName}
 use Rattle.command_words.specs.CommandLine.{command_line}
 use Rattle.command_words.specs.declared.words.FormatNumbers.{FormatNumbers}
 use Rattle.command_words.specs.declared.words.RunOptions.{RunOptions}
+use Rattle.command_words.specs.declared.words.EawOptions.{EawOptions}
 use Rattle.command_words.specs.declared.words.Writing.{Writing}
 use Rattle.command_words.specs.declared.words.Writing.TheVariants.{AtOnce, Late}
 use Rattle.command_words.specs.declared.words.DrillNumbers.{DrillNumbers}
@@ -26,6 +28,15 @@ GivesWriting first (Late depth) = IsNumber 1 64 None first depth
 -- what the option of `run` gives
 pub record GivesRun (options : List Row) (given : RunOptions) : Type 0 where
   pub writing : GivesWriting (first_of (codes "late") options) given.writing
+
+-- whether an option without a value is given: that it is, is the value that is told of it
+abbrev pub is_given : Option Text → Bool
+is_given None = false
+is_given (Some value) = bytes_eq value (codes "true")
+
+-- what the option of `eaw` gives
+pub record GivesEaw (options : List Row) (given : EawOptions) : Type 0 where
+  pub frames : given.frames ≡ is_given (first_of (codes "frames") options)
 
 -- the numbers that the options of `format` give, and those of the default array for the options that are missing
 pub record GivesNumbers (options : List Row) (given : FormatNumbers) : Type 0 where
@@ -57,7 +68,7 @@ pub record GivesName (values : List Row) (table : List ℕ) : Type 0 where
 abbrev pub SubcommandAsks : Text → List Row → Words → Type 0
 SubcommandAsks name options (Run given) = (name ≡ codes "run") × GivesRun options given
 SubcommandAsks name options (Callers numbers) = (name ≡ codes "callers") × GivesCallers options numbers
-SubcommandAsks name options Eaw = name ≡ codes "eaw"
+SubcommandAsks name options (Eaw given) = (name ≡ codes "eaw") × GivesEaw options given
 SubcommandAsks name options Dump = name ≡ codes "dump"
 SubcommandAsks name options (Drill numbers) = (name ≡ codes "drill") × GivesDrill options numbers
 SubcommandAsks name options (Format numbers) = (name ≡ codes "format") × GivesNumbers options numbers

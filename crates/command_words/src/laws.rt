@@ -1,5 +1,5 @@
 // Laws of the words.
-ghost use Rattle.std.specs.Prelude.{ℕ, ◌≡◌, ◌≤◌, List, [], ◌∷◌, codes};
+ghost use Rattle.std.specs.Prelude.{ℕ, true, false, ◌≡◌, ◌≤◌, List, [], ◌∷◌, codes};
 ghost use Rattle.clap.specs.Words.{Text};
 ghost use Rattle.record_slots.specs.Text.{IsName};
 ghost use Rattle.command_words.specs.declared.words.Words.{Words};
@@ -22,7 +22,8 @@ pub fn usual_words()
     ensures callers { (numbers : CallersNumbers) → AreOfCallers numbers → numbers.tries ≡ 100 → AsksFor (callers_words numbers) (Words.Callers numbers) }
     ensures tries { (numbers : CallersNumbers) → AreOfCallers numbers → AsksFor (tries_words numbers) (Words.Callers numbers) }
     ensures readers { (numbers : CallersNumbers) → AreOfReaders numbers → AsksFor (readers_words numbers) (Words.Callers numbers) }
-    ensures eaw { AsksFor (codes "eaw" ∷ []) Words.Eaw }
+    ensures eaw { AsksFor (codes "eaw" ∷ []) (Words.Eaw (record { frames = false })) }
+    ensures frames { AsksFor (codes "eaw" ∷ codes "--frames" ∷ []) (Words.Eaw (record { frames = true })) }
     ensures dump { AsksFor (codes "dump" ∷ []) Words.Dump }
     ensures purge { AsksFor (codes "purge" ∷ []) Words.Purge }
     ensures follow { AsksFor (codes "follow" ∷ []) Words.Follow }

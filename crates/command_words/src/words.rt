@@ -1,6 +1,6 @@
 ghost use Rattle.std.specs.Prelude.{◌≡◌, ◌<◌, ◌≤◌, ◌↔◌, IsTrue, ℕ, List, Some, map, codes, string_bytes, MatchOption, IfOk, IfErr};
 ghost use Rattle.clap.specs.Words.{Text, Row, found_of, rows_of, first_of, subcommand_rows_of};
-ghost use Rattle.command_words.specs.Asked.{AsksFor, AskForNothing, SubcommandAsks, GivesRun, GivesNumbers, GivesDrill, GivesCallers, GivesWriting, GivesName, IsNumber};
+ghost use Rattle.command_words.specs.Asked.{AsksFor, AskForNothing, SubcommandAsks, GivesRun, GivesNumbers, GivesDrill, GivesCallers, GivesWriting, GivesName, IsNumber, is_given};
 
 use crate::command_line::command_line;
 use crate::number::read_within;
@@ -19,7 +19,7 @@ pub enum Words {
     /// To make callers' transactions on threads, and to write what came of them.
     Callers(CallersNumbers),
     /// To answer raw commands.
-    Eaw,
+    Eaw(EawOptions),
     /// To write the records.
     Dump,
     /// To run a drawn script, and to write a summary.
@@ -38,6 +38,13 @@ pub enum Words {
 #[derive(Clone, Copy, Debug, PartialEq, Eq)]
 pub struct RunOptions {
     pub writing: Writing,
+}
+
+/// How raw commands are answered.
+#[derive(Clone, Copy, Debug, PartialEq, Eq)]
+pub struct EawOptions {
+    /// Whether the frames that they send are written too.
+    pub frames: bool,
 }
 
 /// When the data of a commit is written to its place.
@@ -113,8 +120,8 @@ pub enum WordsFault {
 }
 
 /// Reads the words after the image's: `run`, `eaw`, `dump`, `purge`, `follow`, `make` with the name of a table, `callers` with a number and the options `tries` and `readers`, `drill` with a seed and a
-/// count, or `format` with its options in any order. `run`, `callers` and `drill` have the option `late` too. Each option is given at
-/// most once.
+/// count, or `format` with its options in any order. `run`, `callers` and `drill` have the option `late` too, and `eaw` has `frames`. Each
+/// option is given at most once.
 pub fn read_words(alloc: Global, words: &[String]) -> Result<Words, WordsFault>
     ensures asked { IfOk result (AsksFor (map string_bytes words.now)) }
     ensures refused { IfErr result (λ fault. fault ≡ WordsFault.NoCommand → AskForNothing (map string_bytes words.now)) }
@@ -149,7 +156,10 @@ fn asked(matches: &ArgMatches<'_>) -> Option<Words>
             let numbers = read_callers(options)?;
             Some(Words::Callers(numbers))
         }
-        "eaw" => Some(Words::Eaw),
+        "eaw" => {
+            let frames = read_flag(options, "frames");
+            Some(Words::Eaw(EawOptions { frames }))
+        }
         "dump" => Some(Words::Dump),
         "drill" => {
             let numbers = read_drill(options)?;
@@ -248,6 +258,16 @@ fn read_writing(options: &ArgMatches<'_>) -> Option<Writing>
     }
     let depth = number_of(options, "late", 1, DEPTH_MOST, None)?;
     Some(Writing::Late(depth as u8))
+}
+
+// Whether an option without a value is given.
+fn read_flag(options: &ArgMatches<'_>, name: &str) -> bool
+    ensures { result ≡ is_given (first_of name.now (rows_of (found_of options.now))) }
+{
+    match options.get_str(name) {
+        Some(value) => value == "true",
+        None => false,
+    }
 }
 
 // The number of an option of `format`, or the default if it is not given.

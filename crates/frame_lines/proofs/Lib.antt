@@ -1,3 +1,4 @@
 pub mod Feeding
 pub mod Bytes
 pub mod Running
+pub mod Framing

@@ -6,7 +6,11 @@
 mod ended;
 mod follow;
 mod frame_line;
+mod framed;
+mod mirrored;
 mod take;
 
 pub use ended::FollowEnd;
 pub use follow::follow_lines;
+pub use framed::Framed;
+pub use mirrored::Mirrored;

@@ -15,7 +15,6 @@ use Rattle.caller_steps.specs.Room.{Limits}
 use Rattle.caller_steps.specs.Run.{Turn}
 use Rattle.caller_steps.specs.Step.{Runs}
 use Rattle.mars_core.specs.Over.{limits_of}
-use Rattle.mars_core.specs.declared.fault.CoreFault.TheVariants as core
 use Rattle.script_run.specs.declared.ended.Ended.{Ended}
 use Rattle.mars_shell.specs.Dump.{Spares}
 use Rattle.array_runs.specs.Forms.{index_at, index_in}

@@ -7,7 +7,7 @@ use Rattle.command_words.specs.declared.words.Words.{Words}
 use Rattle.command_words.specs.declared.words.Words.TheVariants.{Run, Callers, Eaw, Dump, Drill, Format, Make, Purge, Follow}
 use Rattle.eaw_device.specs.Opens.{HoldsArray}
 use Rattle.script_run.specs.Input.{input_limit}
-use Rattle.mars_shell.specs.Commands.{Obeys}
+use Rattle.mars_shell.specs.Commands.{ObeysAs}
 use Rattle.mars_shell.specs.Follow.{FollowOutcome}
 use Rattle.mars_shell.specs.Formats.{GiveLength, FormatOutcome}
 use Rattle.mars_shell.specs.Joint.{JointWork}
@@ -39,7 +39,7 @@ WordsSay words _ Unread Holds = (asked : Words) × AsksFor words asked × Holds 
 abbrev pub IfReads : Words → Type 0 → Type 0 → Type 0
 IfReads (Run given) Without Reads = Reads
 IfReads (Callers numbers) Without Reads = Reads
-IfReads Eaw Without Reads = Reads
+IfReads (Eaw given) Without Reads = Reads
 IfReads Follow Without Reads = Reads
 IfReads _ Without Reads = Without
 
@@ -49,7 +49,7 @@ abbrev pub OutcomeFor : Words → View → Status → View → List ℕ → Bool
 OutcomeFor (Run given) old status new input cut text = OverRecords false 0 (λ ended. TakesTurns false (is_late given.writing) (Answers input ended cut text) old ended new) old status new cut text
 OutcomeFor (Callers numbers) old status new input cut text =
     OverRecords false numbers.callers (λ ended. TakesTurns false (is_late numbers.writing) (JointWork numbers.callers numbers.tries input ended cut text) old ended new) old status new cut text
-OutcomeFor Eaw old status new input cut text = OutcomeOf true (λ ended. Obeys old input ended new cut text) (λ page. ⊥) ⊥ ⊥ old status new cut text
+OutcomeFor (Eaw given) old status new input cut text = OutcomeOf true (λ ended. ObeysAs given.frames old input ended new cut text) (λ page. ⊥) ⊥ ⊥ old status new cut text
 OutcomeFor Follow old status new input cut text = FollowOutcome old status new input cut text
 OutcomeFor Dump old status new input cut text = OverRecords true 0 (λ ended. (taken : TakesTurns true false (Dumps ended cut text) old ended new) × Spares taken.shape old new) old status new cut text
 OutcomeFor (Drill numbers) old status new input cut text = OverRecords false 0 (λ ended. TakesTurns false (is_late numbers.writing) (Drills numbers ended cut text) old ended new) old status new cut text
@@ -69,7 +69,7 @@ IsFit (Format numbers) source_tells input media_tells media = GiveLength numbers
 IsFit (Run given) source_tells input media_tells media = IsShortInput source_tells input × IsTrue media_tells × ((shape : Shape) × HoldsRecords shape media)
 IsFit (Callers numbers) source_tells input media_tells media =
     IsShortInput source_tells input × IsTrue media_tells × ((shape : Shape) × HoldsRecords shape media × (numbers.callers ≤ shape.numbers))
-IsFit Eaw source_tells input media_tells media = IsShortInput source_tells input × IsTrue media_tells × HoldsArray media
+IsFit (Eaw given) source_tells input media_tells media = IsShortInput source_tells input × IsTrue media_tells × HoldsArray media
 IsFit Follow source_tells input media_tells media = IsShortInput source_tells input × IsTrue media_tells × HoldsArray media
 IsFit Dump source_tells input media_tells media = IsTrue media_tells × ((shape : Shape) × HoldsRecords shape media)
 IsFit (Drill numbers) source_tells input media_tells media = IsTrue media_tells × ((shape : Shape) × HoldsRecords shape media)

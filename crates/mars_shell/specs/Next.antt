@@ -15,7 +15,7 @@ AllSound shape form content = (image : List ℕ) → MayLeave content image → 
 
 -- the words ask for a command that reads the records, or works on them
 abbrev pub IsOfRecords : Words → Type 0
-IsOfRecords Eaw = ⊥
+IsOfRecords (Eaw given) = ⊥
 IsOfRecords (Format numbers) = ⊥
 IsOfRecords Follow = ⊥
 IsOfRecords asked = Unit {0}

@@ -6,9 +6,9 @@ use Rattle.array_shape.specs.declared.shape.Shape.{Shape}
 use Rattle.array_image.specs.Decided.{settled_data}
 use Rattle.device_recovery.specs.Recovered.{HasNoVote}
 use Rattle.record_table.specs.Shown.{table_of}
-use Rattle.history.specs.Legal.{IsLegal, records}
+use Rattle.history.specs.Legal.{IsLegal}
 use Rattle.history.specs.declared.call.Reply.TheVariants.{Committed}
-use Rattle.caller_steps.specs.State.{State, opened}
+use Rattle.caller_steps.specs.State.{State}
 use Rattle.caller_steps.specs.Room.{Limits}
 use Rattle.caller_steps.specs.Run.{Turn, has_write}
 use Rattle.caller_steps.specs.Step.{Runs}

@@ -12,6 +12,7 @@ ghost use Rattle.script_run.specs.declared.ended.Ended.{Ended};
 ghost use Rattle.array_shape.specs.declared.shape.Shape.{Shape};
 ghost use Rattle.command_words.specs.declared.words.FormatNumbers.{FormatNumbers};
 ghost use Rattle.command_words.specs.declared.words.Words.{Words};
+ghost use Rattle.command_words.specs.declared.words.EawOptions.{EawOptions};
 ghost use Rattle.command_words.specs.declared.words.Words.TheVariants.{Eaw, Follow};
 ghost use Rattle.eaw_device.specs.Opens.{AllOpen};
 ghost use Rattle.mars_shell.specs.Asked.{OutcomeFor};
@@ -43,8 +44,8 @@ pub fn runs_compose<M: Media>()
     ensures premises { (media : M) (shape : Shape) (form : ℕ) → IsTrue M.tells → AllSound shape form (M.view media).content → AllOpen shape (M.view media).content × HoldsRecords shape (M.view media) }
     ensures run { (old new : M) (shape : Shape) (form : ℕ) (asked : Words) (status : Status) (input text : List ℕ) (cut : Bool) → IsTrue M.tells → IsOfRecords asked
         → AllSound shape form (M.view old).content → OutcomeFor asked (M.view old) status (M.view new) input cut text → AllSound shape form (M.view new).content }
-    ensures raw { (old new : M) (shape : Shape) (status : Status) (input text : List ℕ) (cut : Bool) → IsTrue M.tells
-        → AllOpen shape (M.view old).content → OutcomeFor Eaw (M.view old) status (M.view new) input cut text → AllOpen shape (M.view new).content }
+    ensures raw { (old new : M) (shape : Shape) (given : EawOptions) (status : Status) (input text : List ℕ) (cut : Bool) → IsTrue M.tells
+        → AllOpen shape (M.view old).content → OutcomeFor (Eaw given) (M.view old) status (M.view new) input cut text → AllOpen shape (M.view new).content }
     ensures follow { (old new : M) (shape : Shape) (status : Status) (input text : List ℕ) (cut : Bool) → IsTrue M.tells
         → AllOpen shape (M.view old).content → OutcomeFor Follow (M.view old) status (M.view new) input cut text → AllOpen shape (M.view new).content }
     ensures fresh { (old new : M) (numbers : FormatNumbers) (status : Status) (text : List ℕ) (cut : Bool) → (status ≡ Status.Good) ⊎ (status ≡ Status.WriteFault)

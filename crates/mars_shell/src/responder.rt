@@ -38,6 +38,10 @@ impl<C: Core> Responder for LineCore<C> {
 
     ghost faults = { λ lines. (C.view lines.core).faults };
 
+    ghost holds = { λ progress bytes. Unit {0} };
+
+    ghost sends = { λ old new. Unit {0} };
+
     ghost comes_none = { λ lines progress told ready stands. record {
       more = [];
       turns_are = sym (append-nil progress.turns);

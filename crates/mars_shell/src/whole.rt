@@ -61,8 +61,8 @@ pub fn run<
     ensures untold { WordsSay (map string_bytes words.now) result.0 (sink.new ≡ sink.old) (λ asked. TellsLate asked → (result.0 ≡ Status.MediaFault) ⊎ (result.0 ≡ Status.NoMemory) → sink.new ≡ sink.old) }
     // What the words ask for was done, and each status has its cause. For `run` the text answers the lines of the input one by one, and for
     // `drill` it is the summary of the replies. For both the history is legal and obeys the prefix law. For `dump` the text is the records,
-    // for `make` the number of the new table, for `purge` how many keys were taken out, for `eaw` it answers the commands by the model, and for `follow` it
-    // counts the frames that are applied.
+    // for `make` the number of the new table, for `purge` how many keys were taken out, for `eaw` it answers the commands by the model, with the
+    // frames that they send if that is asked for, and for `follow` it counts the frames that are applied.
     ensures ran { WordsSay (map string_bytes words.now) result.0 ((source.new ≡ source.old) × (sink.new ≡ sink.old) × (result.1 ≡ media)) (λ asked. Wrote K.tells (K.written sink.old) (K.written sink.new) (K.faults sink.old) (K.faults sink.new)
         (λ cut text. (input : List ℕ) × (IsTrue S.tells → S.left source.old ≡ input) × (IsTrue M.tells → OutcomeFor asked (M.view media) result.0 (M.view result.1) input cut text))) }
     // What can be done is done, unless memory runs out.
@@ -87,7 +87,7 @@ pub fn run<
             let crew = Crew { rt, numbers, gate };
             run_callers(rt.alloc(), source, sink, media, &crew)
         }
-        Ok(Words::Eaw) => run_commands(rt.alloc(), source, sink, media),
+        Ok(Words::Eaw(options)) => run_commands(rt.alloc(), source, sink, media, options),
         Ok(Words::Follow) => run_follow(rt.alloc(), source, sink, media),
         Ok(Words::Dump) => {
             let writing = Writing::AtOnce;

@@ -2,7 +2,7 @@ use Rattle.std.proofs.Common.{◌≡◌, [], inl, ⊎_elim, refl, arith}
 use Rattle.std.specs.Prelude.{map, string_bytes, true, false}
 use Rattle.std.proofs.lemmas.Bool.{false≢true}
 use Rattle.command_words.specs.declared.words.Words.TheVariants.{Run, Callers, Eaw, Dump, Drill, Format, Make, Purge, Follow}
-use Rattle.mars_shell.specs.Commands.{Obeys}
+use Rattle.mars_shell.specs.Commands.{ObeysAs}
 use Rattle.mars_shell.specs.Drill.{Drills}
 use Rattle.mars_shell.specs.Dump.{Dumps}
 use Rattle.array_runs.proofs.Endings.{is_early, counts_unread, read_fault_early}
@@ -227,10 +227,10 @@ returns-in-Ok-Eaw-clause-complete g c =
     let new = g.M.Media.view c.run_commands.result.1 in
     let given = g.S.Source.left c.args.source.now in
     let said = c.run_commands.ensures in
-    words_say (map string_bytes c.args.words.now) c.run_commands.result.0 (Unit {0}) _ Eaw said.no_usage (rw c.in-Ok-Eaw.field-0-is at c.in-Ok-Eaw.ensures-1.asked)
+    words_say (map string_bytes c.args.words.now) c.run_commands.result.0 (Unit {0}) _ (Eaw c.in-Ok-Eaw.options) said.no_usage (rw c.in-Ok-Eaw.field-0-is at c.in-Ok-Eaw.ensures-1.asked)
     (λ fit no_source no_sink no_media.
     let input = said.ran.holds.0 in
-    complete_of true (λ ended. Obeys old input ended new said.ran.cut said.ran.text) (λ page. ⊥) ⊥ ⊥ old new said.ran.cut said.ran.text given _ _ _ _ _ _ _
+    complete_of true (λ ended. ObeysAs c.in-Ok-Eaw.options.frames old input ended new said.ran.cut said.ran.text) (λ page. ⊥) ⊥ ⊥ old new said.ran.cut said.ran.text given _ _ _ _ _ _ _
     fit.0.1 fit.2.0 fit.2.1 (λ page is. is) (λ is. is) no_source no_sink no_media c.run_commands.result.0 said.counts (said.input fit.0.0) (said.ran.holds.2 fit.1))
 
 pub returns-in-Ok-Format-clause-ran : goal.returns-in-Ok-Format-clause-ran
@@ -241,13 +241,13 @@ returns-in-Ok-Format-clause-ran g c =
     (record { cut = ran.cut; text = ran.text; wrote = ran.wrote; counts = ran.counts; holds = (g.S.Source.left c.args.source.now, (λ _. refl), ran.holds) })
 
 pub returns-in-Ok-Eaw-clause-usage : goal.returns-in-Ok-Eaw-clause-usage
-returns-in-Ok-Eaw-clause-usage g c = λ nothing. absurd (nothing Eaw (rw c.in-Ok-Eaw.field-0-is at c.in-Ok-Eaw.ensures-1.asked))
+returns-in-Ok-Eaw-clause-usage g c = λ nothing. absurd (nothing (Eaw c.in-Ok-Eaw.options) (rw c.in-Ok-Eaw.field-0-is at c.in-Ok-Eaw.ensures-1.asked))
 
 pub returns-in-Ok-Format-clause-usage : goal.returns-in-Ok-Format-clause-usage
 returns-in-Ok-Format-clause-usage g c = λ nothing. absurd (nothing (Format c.in-Ok-Format.numbers) (rw c.in-Ok-Format.field-0-is at c.in-Ok-Format.ensures-1.asked))
 
 pub returns-in-Ok-Eaw-clause-words : goal.returns-in-Ok-Eaw-clause-words
-returns-in-Ok-Eaw-clause-words g c = words_say (map string_bytes c.args.words.now) c.run_commands.result.0 _ _ Eaw c.run_commands.ensures.no_usage (rw c.in-Ok-Eaw.field-0-is at c.in-Ok-Eaw.ensures-1.asked) tt
+returns-in-Ok-Eaw-clause-words g c = words_say (map string_bytes c.args.words.now) c.run_commands.result.0 _ _ (Eaw c.in-Ok-Eaw.options) c.run_commands.ensures.no_usage (rw c.in-Ok-Eaw.field-0-is at c.in-Ok-Eaw.ensures-1.asked) tt
 
 pub returns-in-Ok-Eaw-clause-early : goal.returns-in-Ok-Eaw-clause-early
 returns-in-Ok-Eaw-clause-early g c = λ either. c.run_commands.ensures.early (is_early c.run_commands.result.0 either)
@@ -262,16 +262,16 @@ pub returns-in-Ok-Eaw-clause-steady : goal.returns-in-Ok-Eaw-clause-steady
 returns-in-Ok-Eaw-clause-steady g c = c.run_commands.ensures.steady
 
 pub returns-in-Ok-Eaw-clause-input : goal.returns-in-Ok-Eaw-clause-input
-returns-in-Ok-Eaw-clause-input g c = words_say (map string_bytes c.args.words.now) c.run_commands.result.0 _ _ Eaw c.run_commands.ensures.no_usage (rw c.in-Ok-Eaw.field-0-is at c.in-Ok-Eaw.ensures-1.asked) c.run_commands.ensures.input
+returns-in-Ok-Eaw-clause-input g c = words_say (map string_bytes c.args.words.now) c.run_commands.result.0 _ _ (Eaw c.in-Ok-Eaw.options) c.run_commands.ensures.no_usage (rw c.in-Ok-Eaw.field-0-is at c.in-Ok-Eaw.ensures-1.asked) c.run_commands.ensures.input
 
 pub returns-in-Ok-Eaw-clause-formats : goal.returns-in-Ok-Eaw-clause-formats
-returns-in-Ok-Eaw-clause-formats g c = words_say (map string_bytes c.args.words.now) c.run_commands.result.0 _ _ Eaw c.run_commands.ensures.no_usage (rw c.in-Ok-Eaw.field-0-is at c.in-Ok-Eaw.ensures-1.asked) (λ numbers is. absurd (let no : ⊥ = cc is in no))
+returns-in-Ok-Eaw-clause-formats g c = words_say (map string_bytes c.args.words.now) c.run_commands.result.0 _ _ (Eaw c.in-Ok-Eaw.options) c.run_commands.ensures.no_usage (rw c.in-Ok-Eaw.field-0-is at c.in-Ok-Eaw.ensures-1.asked) (λ numbers is. absurd (let no : ⊥ = cc is in no))
 
 pub returns-in-Ok-Eaw-clause-untold : goal.returns-in-Ok-Eaw-clause-untold
-returns-in-Ok-Eaw-clause-untold g c = words_say (map string_bytes c.args.words.now) c.run_commands.result.0 _ _ Eaw c.run_commands.ensures.no_usage (rw c.in-Ok-Eaw.field-0-is at c.in-Ok-Eaw.ensures-1.asked) (λ is. absurd is)
+returns-in-Ok-Eaw-clause-untold g c = words_say (map string_bytes c.args.words.now) c.run_commands.result.0 _ _ (Eaw c.in-Ok-Eaw.options) c.run_commands.ensures.no_usage (rw c.in-Ok-Eaw.field-0-is at c.in-Ok-Eaw.ensures-1.asked) (λ is. absurd is)
 
 pub returns-in-Ok-Eaw-clause-ran : goal.returns-in-Ok-Eaw-clause-ran
-returns-in-Ok-Eaw-clause-ran g c = words_say (map string_bytes c.args.words.now) c.run_commands.result.0 _ _ Eaw c.run_commands.ensures.no_usage (rw c.in-Ok-Eaw.field-0-is at c.in-Ok-Eaw.ensures-1.asked) c.run_commands.ensures.ran
+returns-in-Ok-Eaw-clause-ran g c = words_say (map string_bytes c.args.words.now) c.run_commands.result.0 _ _ (Eaw c.in-Ok-Eaw.options) c.run_commands.ensures.no_usage (rw c.in-Ok-Eaw.field-0-is at c.in-Ok-Eaw.ensures-1.asked) c.run_commands.ensures.ran
 
 pub returns-in-Ok-Format-clause-words : goal.returns-in-Ok-Format-clause-words
 returns-in-Ok-Format-clause-words g c = words_say (map string_bytes c.args.words.now) c.run_format.result.0 _ _ (Format c.in-Ok-Format.numbers) (no_usage c.in-Ok-Format.numbers _ c.run_format.result.0 _ _ c.run_format.ensures.says) (rw c.in-Ok-Format.field-0-is at c.in-Ok-Format.ensures-1.asked) tt
