@@ -1,12 +1,14 @@
-//! The text of callers' work: the lines that were passed over, the history, what became of the other transactions, and the records. What it
-//! is stands in `specs/Text.antt` (`work_text`).
+//! The text of callers' work: the lines that were passed over, the history, what became of the other transactions, the records, and
+//! what readers were answered. What it is stands in `specs/Text.antt` (`work_text`).
 #![tactic(auto)]
 
+mod answers;
 mod fates;
 mod faults;
 mod records;
 mod transactions;
 
+pub use answers::write_answers;
 pub use fates::write_fates;
 pub use faults::write_faults;
 pub use records::{write_record, write_records};

@@ -26,14 +26,14 @@ use Rattle.reader_work.specs.News.{IsBehind, IsOnlooker}
 -- turns of one caller more, which has made none, are turns of the others
 pub without : (n : ℕ) (turns : List Turn) → AreOf (n + 1) turns → turns_of n turns ≡ [] → AreOf n turns
 without n [] of none = tt
-without n (turn ∷ turns) of none = tested (nat_eq turn.0 n) refl none
+without n (turn ∷ turns) of none = tested (nat_eq turn.0 n) refl none (without n turns of.1)
   where
-    abbrev others : List Turn
+    others : List Turn
     others = filter (λ (t : Turn). nat_eq t.0 n) turns
 
-    tested : (b : Bool) → nat_eq turn.0 n ≡ b → map {B = Call × Reply} (λ (t : Turn). (t.1, t.2)) (if b then turn ∷ others else others) ≡ [] → AreOf n (turn ∷ turns)
-    tested true is empty = absurd (cc empty)
-    tested false is empty = (omega (arith, of.0, eqb-false turn.0 n is), without n turns of.1 empty)
+    tested : (b : Bool) → nat_eq turn.0 n ≡ b → map {B = Call × Reply} (λ (t : Turn). (t.1, t.2)) (if b then turn ∷ others else others) ≡ [] → (turns_of n turns ≡ [] → AreOf n turns) → AreOf n (turn ∷ turns)
+    tested true is empty rest = absurd (cc empty)
+    tested false is empty rest = (omega (arith, of.0, eqb-false turn.0 n is), rest empty)
 
 module _ {C : Type 0} where
   -- before its first look the pass knows nothing, and nothing was fed

@@ -17,4 +17,4 @@ mod readership;
 
 pub use answer::{Answer, Answers};
 pub use beside::work_with;
-pub use readership::{Readership, open_readership};
+pub use readership::{Readership, open_readership, passes_for};

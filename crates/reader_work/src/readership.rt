@@ -4,7 +4,7 @@ ghost use Rattle.logbook.specs.Pages.{Book};
 ghost use Rattle.history.specs.Writes.{Table};
 ghost use Rattle.history.specs.Rows.{table_of};
 ghost use Rattle.snapshot_readers.specs.Feeds.{IsFresh};
-ghost use Rattle.reader_work.specs.Readership.{keys_of, asks_with, IsReady, IsOpenWith};
+ghost use Rattle.reader_work.specs.Readership.{keys_of, asks_with, passes_for, IsReady, IsOpenWith};
 
 use crate::reading::ReadWorker;
 use caller_plans::Keys;
@@ -69,4 +69,12 @@ pub fn open_readership<R: Wait>(
             Err(NoMemory)
         }
     }
+}
+
+/// How many passes so many callers and readers need.
+pub fn passes_for(callers: u8, readers: u8) -> u8
+    requires { callers ≤ 32 }
+    ensures { result ≡ passes_for callers readers }
+{
+    if readers == 0 { callers } else { callers + 1 }
 }

@@ -29,7 +29,7 @@ hire-workers-requires-clause-passes g c =
     its.0
 
 pub all_work-workers-requires-clause-news : goal.all_work-workers-requires-clause-news
-all_work-workers-requires-clause-news g c =
+all_work-workers-requires-clause-news g c κs within =
     let mars = c.args.shared.0 in
     let jobs = c.args.rooms.jobs.items in
     let some = subst (λ (o : Option (PassView g.row.C.Denot)). IfSome o (λ (p : PassView g.row.C.Denot). (c.args.shared.1.list ≡ c.take.new.self.list ++ p ∷ []) × (p.table ≡ c.args.shared.1.table))) c.unwrap-pass.ensures c.take.ensures.some in
@@ -37,7 +37,7 @@ all_work-workers-requires-clause-news g c =
     first_news c.args.readership.feed mars.setup (length jobs) c.unwrap-pass.result.known c.requires.open.none (ap (λ (p : PassView g.row.C.Denot). p.known) its.1)
 
 pub all_work-workers-requires-clause-ready : goal.all_work-workers-requires-clause-ready
-all_work-workers-requires-clause-ready g c =
+all_work-workers-requires-clause-ready g c κs within =
     let mars = c.args.shared.0 in
     let jobs = c.args.rooms.jobs.items in
     let plans = plans_of jobs in
