@@ -12,6 +12,8 @@ use Rattle.array_shape.specs.declared.shape.Shape.{Shape}
 use Rattle.eaw_face.specs.State.{State, listed, count_on}
 use Rattle.eaw_face.specs.StoreView.{LeavesOnly}
 use Rattle.eaw_face.specs.Causes.{IsAlive}
+use Rattle.eaw_face.specs.Mirroring.{Mirrors}
+use Rattle.eaw_face.proofs.Mirroring.{none_sent, sent_then}
 use Rattle.record_slots.specs.Places.{version_of, used_slots}
 use Rattle.history.proofs.Modes.{clash_none}
 use Rattle.history.specs.Key.{Key, is_same_key, of_main}
@@ -155,6 +157,7 @@ module _ (tells : Bool) (Opens : List ℕ → List ℕ → Type 0) (index : belo
   pub busy_tries : (holder : ℕ) → IsBusyWith (bare seats) t (Del key) holder → Tries tells Opens index seats key old old (Ok false)
   busy_tries holder busy = record {
     shape = refl;
+    mirrors = none_sent tells old.store old.store refl refl (λ fine. fine) (λ told mirrors fine. refl);
     cause = tt;
     faults = λ _. (refl, refl);
     dies = λ failed. absurd (false≢true failed);
@@ -205,6 +208,7 @@ module _ (tells : Bool) (Opens : List ℕ → List ℕ → Type 0) (index : belo
       pub removed_tries : (new : PagesView) (r : Result Bool TableFault) → Removes tells Opens index 0 t key old new r → Tries tells Opens index seats key old new r
       removed_tries new r removes = record {
         shape = removes.shape;
+        mirrors = removes.mirrors;
         cause = cause_so new r removes;
         faults = removes.faults;
         dies = removes.dies;
@@ -227,11 +231,13 @@ pub record Going (tells : Bool) (Opens : List ℕ → List ℕ → Type 0) (inde
   pub state : IsTrue tells → state_of index now ≡ state_of index old
   pub cleared : IsTrue tells → Cleared index seats to n old.store.state.bytes now.store.state.bytes
   pub time : IsTrue tells → LeavesOnly (λ image. OpensWith Opens index image (state_of index old).table) old.store now.store
+  pub mirrors : Mirrors tells old.store now.store
 
 module _ (tells : Bool) (Opens : List ℕ → List ℕ → Type 0) (index : below.Index) (seats : Seats) (t : ℕ) (old : PagesView) (alive : IsAlive old.store) where
   pub going_first : (IsTrue tells → IsReady index seats t old) → Going tells Opens index seats t 0 0 old old
   going_first ready = record {
     shape = refl;
+    mirrors = none_sent tells old.store old.store refl refl (λ fine. fine) (λ told mirrors fine. refl);
     dead = refl;
     faults = refl;
     ranges = λ u. refl;
@@ -263,6 +269,7 @@ module _ (tells : Bool) (Opens : List ℕ → List ℕ → Type 0) (index : belo
         let bytes = λ (told : IsTrue tells). ap (λ (s : State). s.bytes) (still.state told) in
         record {
           shape = looks.shape ∙ going.shape;
+          mirrors = sent_then tells old.store mid.store new.store going.mirrors looks.mirrors;
           dead = still.dead ∙ going.dead;
           faults = still.faults ∙ going.faults;
           ranges = λ u. ap (λ (f : ℕ → Option (List (ℕ × ℕ))). listed (f u)) looks.ranges ∙ going.ranges u;
@@ -282,6 +289,7 @@ module _ (tells : Bool) (Opens : List ℕ → List ℕ → Type 0) (index : belo
         → Clears tells Opens index seats old new (Err fault)
     look_refused new Media both = record {
       shape = both.0.shape ∙ going.shape;
+      mirrors = sent_then tells old.store mid.store new.store going.mirrors both.0.mirrors;
       cause = tt;
       faults = λ well. absurd (false≢true (sym well));
       dies = λ _. let dies = both.0.dies refl in (dies.0, subst (λ (k : ℕ). Rose k new.store.faults) going.faults dies.1);
@@ -293,6 +301,7 @@ module _ (tells : Bool) (Opens : List ℕ → List ℕ → Type 0) (index : belo
     }
     look_refused new (Damaged page) both = (let now = going_look new both.0 in record {
       shape = now.shape;
+      mirrors = now.mirrors;
       cause = both.1.1;
       faults = λ _. (now.dead, now.faults);
       dies = λ failed. absurd (false≢true failed);
@@ -313,6 +322,7 @@ module _ (tells : Bool) (Opens : List ℕ → List ℕ → Type 0) (index : belo
     pub all_tried : (IsTrue tells → HasNoAbsent index mid.store.state.bytes to (2 ^ 64)) → Clears tells Opens index seats old mid (Ok n)
     all_tried none = record {
       shape = going.shape;
+      mirrors = going.mirrors;
       cause = tt;
       faults = λ _. (going.dead, going.faults);
       dies = λ failed. absurd (false≢true failed);
@@ -338,6 +348,7 @@ module _ (tells : Bool) (Opens : List ℕ → List ℕ → Type 0) (index : belo
             let well = tries.faults refl in
             record {
               shape = tries.shape ∙ going.shape;
+              mirrors = sent_then tells old.store mid.store new.store going.mirrors tries.mirrors;
               dead = well.0 ∙ going.dead;
               faults = well.1 ∙ going.faults;
               ranges = λ u. tries.ranges refl u ∙ going.ranges u;
@@ -365,6 +376,7 @@ module _ (tells : Bool) (Opens : List ℕ → List ℕ → Type 0) (index : belo
       pub try_refused : (fault : TableFault) → Tries tells Opens index seats key mid new (Err fault) → Clears tells Opens index seats old new (Err fault)
       try_refused fault tries = record {
         shape = tries.shape ∙ going.shape;
+        mirrors = sent_then tells old.store mid.store new.store going.mirrors tries.mirrors;
         cause = cause_of fault tries.cause;
         faults = λ well. let kept = tries.faults well in (kept.0 ∙ going.dead, kept.1 ∙ going.faults);
         dies = λ failed. let dies = tries.dies failed in (dies.0, subst (λ (k : ℕ). Rose k new.store.faults) going.faults dies.1);
@@ -390,6 +402,7 @@ pub going_to : (tells : Bool) (Opens : List ℕ → List ℕ → Type 0) (index 
     → Going tells Opens index seats t to' n' old now
 going_to tells Opens index seats t to n to' n' old now at count going = record {
   shape = going.shape;
+  mirrors = going.mirrors;
   dead = going.dead;
   faults = going.faults;
   ranges = going.ranges;

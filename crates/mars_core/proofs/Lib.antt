@@ -17,3 +17,4 @@ pub mod Unwritten
 pub mod Clearing
 pub mod Purged
 pub mod Tabled
+pub mod GivingUp

@@ -107,6 +107,7 @@ module _ (tells : Bool) (Opens : Shape → List ℕ → List ℕ → Type 0) (in
     alive = lives;
     faults = (upgrades.faults refl).1;
     shape = upgrades.shape;
+    mirrors = upgrades.mirrors;
     state = opened_is;
     fresh = (empty, none, sure);
     sound = sound;

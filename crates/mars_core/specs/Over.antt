@@ -12,6 +12,7 @@ use Rattle.caller_steps.specs.State as face
 use Rattle.caller_steps.specs.State.{opened, records_of}
 use Rattle.caller_steps.specs.Room.{Limits}
 use Rattle.caller_steps.specs.Core.{CoreView}
+use Rattle.eaw_face.specs.Mirroring.{Mirrors}
 
 -- the limits of an array of this shape
 abbrev pub limits_of : Shape → Limits
@@ -55,3 +56,4 @@ pub record Begins (tells : Bool) (Opens : List ℕ → List ℕ → Type 0) (ind
   pub version : IsTrue tells → version_of new.state.bytes ≡ 2
   pub keys : IsTrue tells → keys_of index new.state.bytes ≡ keys_of index old.state.bytes
   pub time : IsTrue tells → LeavesOnly (OpensUpgraded Opens old.state.bytes) old new
+  pub mirrors : Mirrors tells old new

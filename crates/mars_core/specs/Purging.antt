@@ -21,6 +21,7 @@ use Rattle.caller_steps.specs.declared.purge_fault.PurgeFault.{PurgeFault}
 use Rattle.caller_steps.specs.declared.purge_fault.PurgeFault.TheVariants as stop
 use Rattle.mars_core.specs.Over.{index_of}
 use Rattle.mars_core.specs.Seats.{Seats, calls_at}
+use Rattle.eaw_face.specs.Mirroring.{Mirrors}
 
 -- the index of `main` keeps the key's pair, as the last of its page
 abbrev pub Keeps : Index → List ℕ → ℕ → Type 0
@@ -86,6 +87,7 @@ pub record Tries (tells : Bool) (Opens : List ℕ → List ℕ → Type 0) (inde
   pub sound : IsTrue tells → IsAlive new.store → index.sound new.store.state.bytes
   pub tried : IsTrue tells → IfOk result (Tried index seats key old.store.state.bytes new.store.state.bytes)
   pub time : IsTrue tells → LeavesOnly (λ image. OpensWith Opens index image (state_of index old).table) old.store new.store
+  pub mirrors : Mirrors tells old.store new.store
 
 -- Each key of `main` without a record was tried once, but those that a live transaction touches. Records, writes and saves are as they were.
 pub record Clears (tells : Bool) (Opens : List ℕ → List ℕ → Type 0) (index : Index) (seats : Seats) (old new : PagesView) (result : Result ℕ TableFault) : Type 0 where
@@ -98,3 +100,4 @@ pub record Clears (tells : Bool) (Opens : List ℕ → List ℕ → Type 0) (ind
   pub sound : IsTrue tells → IsAlive new.store → index.sound new.store.state.bytes
   pub cleared : IsTrue tells → IfOk result (λ n. Cleared index seats (2 ^ 64) n old.store.state.bytes new.store.state.bytes)
   pub time : IsTrue tells → LeavesOnly (λ image. OpensWith Opens index image (state_of index old).table) old.store new.store
+  pub mirrors : Mirrors tells old.store new.store

@@ -1,9 +1,10 @@
 // Callers by turns over records.
-ghost use Rattle.std.specs.Prelude.{◌≡◌, ◌<◌, ◌≤◌, ◌⊎◌, [], ℕ, None, Ok, IfOk, IfErr, IsTrue, IsFalse, is_some, length};
+ghost use Rattle.std.specs.Prelude.{◌≡◌, ◌<◌, ◌≤◌, ◌⊎◌, [], ℕ, None, Ok, IfOk, IfErr, IsTrue, IsFalse, is_some, length, slice_index_or};
 ghost use Rattle.std.specs.FinMap.{entries};
 ghost use Rattle.history.specs.Key.{main_name};
 ghost use Rattle.history.specs.Rows.{all_keyed};
 ghost use Rattle.eaw_face.specs.Causes.{IsAlive};
+ghost use Rattle.eaw_face.specs.Mirroring.{Mirrors, GivesUp};
 ghost use Rattle.page_store.specs.Shown.{pages_of};
 ghost use Rattle.history.specs.Locks.{touched};
 ghost use Rattle.history.specs.declared.call.Call.TheVariants.{Begin, Commit, Abort};
@@ -128,6 +129,28 @@ impl<S: EawStore, K: KeyIndex> Core<S, K> {
         self.seats.touched(caller).writes
     }
 
+    /// The oldest frame that the store below has sent and not yet given up. It is empty if there is none.
+    pub fn first_frame(&self) -> &[u8]
+        ensures { IsTrue (S.view self.now.records.store).sending.told → result.now ≡ slice_index_or (S.view self.now.records.store).sending.frames 0 [] }
+    {
+        self.records.first_frame()
+    }
+
+    /// Gives that frame up. If there is none, it does nothing.
+    pub fn drop_frame(&mut self)
+        ensures gives_up { GivesUp (S.view self.old.records.store) (S.view self.new.records.store) }
+        ensures rest { self.new ≡ record self.old { records = self.new.records } }
+    {
+        self.records.drop_frame();
+    }
+
+    /// Whether the sending of frames has ended.
+    pub fn link_down(&self) -> bool
+        ensures { result ≡ (S.view self.now.records.store).sending.is_down }
+    {
+        self.records.link_down()
+    }
+
     /// The store below. What live transactions have written is still logged in it.
     pub fn into_store(self) -> S
         ensures store { result ≡ self.records.store }
@@ -148,11 +171,13 @@ impl<S: EawStore, K: KeyIndex> Core<S, K> {
     /// touches is tried once, by rising key. Returns how many were taken out. A key stays whose pair its page keeps as the last one. What
     /// callers see stays as it is. It is refused with `Dead`, then with `Already` if the caller has a live transaction. A fault of the medium
     /// stops it, and so does a damaged page, which only a core that does not tell its records meets.
+    #[tactic(auto, using(crate::proofs::GivingUp::sends_none))]
     pub fn purge(&mut self, caller: u8) -> Result<u32, PurgeFault>
         requires inside { caller < (S.view self.old.records.store).shape.numbers }
         requires lists { IsTrue S.tells → IsAlive (S.view self.old.records.store) → version_of (S.view self.old.records.store).state.bytes ≡ 2 }
         ensures purges { Purges S.tells (Keeps K.index) caller (core_of S.opens K.index (S.view self.old.records.store) self.old)
             (core_of S.opens K.index (S.view self.new.records.store) self.new) result }
+        ensures sends { Mirrors S.tells (S.view self.old.records.store) (S.view self.new.records.store) }
     {
         if self.records.is_dead() {
             return Err(PurgeFault::Dead);
@@ -166,11 +191,13 @@ impl<S: EawStore, K: KeyIndex> Core<S, K> {
         }
     }
 
+    #[tactic(auto, using(crate::proofs::GivingUp::sends_none))]
     fn begin(&mut self, caller: u8) -> Reply
         requires inside { caller < (S.view self.old.records.store).shape.numbers }
         requires alive { IsAlive (S.view self.old.records.store) }
         ensures steps { Steps S.tells caller Begin (core_of S.opens K.index (S.view self.old.records.store) self.old)
             (core_of S.opens K.index (S.view self.new.records.store) self.new) result }
+        ensures sends { Mirrors S.tells (S.view self.old.records.store) (S.view self.new.records.store) }
         ensures not_busy { IsFalse (is_busy result) }
     {
         if self.seats.is_live(caller) {
@@ -181,6 +208,7 @@ impl<S: EawStore, K: KeyIndex> Core<S, K> {
     }
 
     // Answers a call that the one-thread table answers. Meanwhile the transaction is out of its seat.
+    #[tactic(auto, using(crate::proofs::GivingUp::sends_none))]
     fn ask(&mut self, caller: u8, call: &Call, asked: TableCall<'_>, locks: Locks) -> Reply
         requires said { call_of asked ≡ call.now }
         requires inside { caller < (S.view self.old.records.store).shape.numbers }
@@ -189,6 +217,7 @@ impl<S: EawStore, K: KeyIndex> Core<S, K> {
         requires locked { locks ≡ Held → IsLocked (core_of S.opens K.index (S.view self.old.records.store) self.old).state caller call.now }
         ensures steps { Steps S.tells caller call.now (core_of S.opens K.index (S.view self.old.records.store) self.old)
             (core_of S.opens K.index (S.view self.new.records.store) self.new) result }
+        ensures sends { Mirrors S.tells (S.view self.old.records.store) (S.view self.new.records.store) }
         ensures not_busy { locks ≡ Held → IsFalse (is_busy result) }
         ensures begun { IsFalse (is_refusal result) → IsTrue (is_some ((core_of S.opens K.index (S.view self.old.records.store) self.old).state.live caller)) }
     {
@@ -209,11 +238,13 @@ impl<S: EawStore, K: KeyIndex> Core<S, K> {
         reply
     }
 
+    #[tactic(auto, using(crate::proofs::GivingUp::sends_none))]
     fn commit(&mut self, caller: u8) -> Reply
         requires inside { caller < (S.view self.old.records.store).shape.numbers }
         requires alive { IsAlive (S.view self.old.records.store) }
         ensures steps { Steps S.tells caller Commit (core_of S.opens K.index (S.view self.old.records.store) self.old)
             (core_of S.opens K.index (S.view self.new.records.store) self.new) result }
+        ensures sends { Mirrors S.tells (S.view self.old.records.store) (S.view self.new.records.store) }
         ensures not_busy { IsFalse (is_busy result) }
         ensures begun { IsFalse (is_refusal result) → IsTrue (is_some ((core_of S.opens K.index (S.view self.old.records.store) self.old).state.live caller)) }
     {
@@ -243,11 +274,13 @@ impl<S: EawStore, K: KeyIndex> Core<S, K> {
         }
     }
 
+    #[tactic(auto, using(crate::proofs::GivingUp::sends_none))]
     fn abort(&mut self, caller: u8) -> Reply
         requires inside { caller < (S.view self.old.records.store).shape.numbers }
         requires alive { IsAlive (S.view self.old.records.store) }
         ensures steps { Steps S.tells caller Abort (core_of S.opens K.index (S.view self.old.records.store) self.old)
             (core_of S.opens K.index (S.view self.new.records.store) self.new) result }
+        ensures sends { Mirrors S.tells (S.view self.old.records.store) (S.view self.new.records.store) }
         ensures not_busy { IsFalse (is_busy result) }
         ensures begun { IsFalse (is_refusal result) → IsTrue (is_some ((core_of S.opens K.index (S.view self.old.records.store) self.old).state.live caller)) }
     {
@@ -263,11 +296,13 @@ impl<S: EawStore, K: KeyIndex> Core<S, K> {
         }
     }
 
+    #[tactic(auto, using(crate::proofs::GivingUp::sends_none))]
     fn make(&mut self, caller: u8, call: &Call, locks: Locks) -> Reply
         requires inside { caller < (S.view self.old.records.store).shape.numbers }
         requires locked { locks ≡ Held → IsLocked (core_of S.opens K.index (S.view self.old.records.store) self.old).state caller call.now }
         ensures steps { Steps S.tells caller call.now (core_of S.opens K.index (S.view self.old.records.store) self.old)
             (core_of S.opens K.index (S.view self.new.records.store) self.new) result }
+        ensures sends { Mirrors S.tells (S.view self.old.records.store) (S.view self.new.records.store) }
         ensures dead { IsTrue (S.view self.old.records.store).is_dead → (result ≡ Dead) × (self.new ≡ self.old) }
         ensures not_busy { locks ≡ Held → IsFalse (is_busy result) }
         ensures begun { IsFalse (is_refusal result) → IsTrue (is_some ((core_of S.opens K.index (S.view self.old.records.store) self.old).state.live caller)) ⊎ (call.now ≡ Begin) }
@@ -285,11 +320,14 @@ impl<S: EawStore, K: KeyIndex> Core<S, K> {
 }
 
 impl<S: EawStore, K: KeyIndex> Steps for Core<S, K> {
+    ghost use Rattle.eaw_face.specs.Mirroring.{Mirrors};
     ghost use Rattle.mars_core.specs.Held.{core_of};
 
     ghost tells = { S.tells };
 
     ghost view = { λ core. core_of S.opens K.index (S.view core.records.store) core };
+
+    ghost sends = { λ old new. Mirrors S.tells (S.view old.records.store) (S.view new.records.store) };
 
     fn step(&mut self, caller: u8, call: &Call) -> Reply {
         self.make(caller, call, Locks::Asked)

@@ -1,14 +1,14 @@
 -- Data of version 2 once a table was made: an empty root in the page that was next, and a super page that names it.
-use Rattle.std.proofs.Common.{◌≡◌, ◌≢◌, ℕ, zero, suc, ◌+◌, ◌-◌, ◌*◌, ◌/◌, ◌<◌, ◌≤◌, ◌⊎◌, inl, inr, IsTrue, List, [], ◌∷◌, ◌++◌, length, map, take, Option, Some, None, refl, sym, ◌∙◌, ap, subst, arith}
+use Rattle.std.proofs.Common.{◌≡◌, ℕ, zero, suc, ◌+◌, ◌-◌, ◌*◌, ◌/◌, ◌<◌, ◌≤◌, ◌⊎◌, inl, inr, List, [], ◌∷◌, ◌++◌, length, map, take, Option, Some, None, refl, sym, ◌∙◌, ap, subst, arith}
 use Rattle.std.specs.Prelude.{nat_eq, if◌then◌else◌, slice_get}
 use Rattle.std.specs.Option.{option_map}
 use Rattle.mars_base.specs.Bytes.{range, put}
 use Rattle.mars_base.proofs.Puts.{length-put}
 use Rattle.pcm_media.proofs.Ranges.{range-put}
-use Rattle.array_shape.specs.Logged.{Part, applied}
+use Rattle.array_shape.specs.Logged.{applied}
 use Rattle.record_slots.specs.Fresh.{fresh_page, fresh_root}
 use Rattle.record_slots.specs.IndexHead.{index_head_said}
-use Rattle.record_slots.specs.Names.{names_in, with_last, with_entries}
+use Rattle.record_slots.specs.Names.{with_last, with_entries}
 use Rattle.record_slots.specs.Super.{SaysSuper, HasTables, super_bytes, tables_in, tables_used, tables_said}
 use Rattle.record_slots.specs.Places.{page_bytes, slot_of, next_slot, next_page, tables_of, root_of, version_of, first_slot_page, free_slot, free_page, free_slots, free_pages}
 use Rattle.record_slots.specs.declared.super_page.Super.{Super}
@@ -18,7 +18,6 @@ use Rattle.page_store.proofs.Reading.{part_missed}
 use Rattle.index_pages.proofs.Fronts.{IsWritable}
 use Rattle.record_table.specs.Making.{IsFit, with_page}
 use Rattle.record_table.specs.Shown.{found_key, in_table, pairs_from, asked_tables, level_under, table_in, table_of, pairs_of, keys_of}
-use Rattle.record_table.specs.State.{Keys}
 use Rattle.record_table.proofs.Sharing.{Laws}
 use Rattle.record_table.proofs.SuperPages.{length-super_bytes, says_written}
 use Rattle.record_table.proofs.Upgraded.{same_slots}

@@ -1,13 +1,13 @@
 -- The pairs of the tables that can be asked for, under their keys: those of the table `main`.
-use Rattle.std.proofs.Common.{◌≡◌, ◌≢◌, ◌^◌, ℕ, zero, suc, ◌+◌, ◌<◌, ◌≤◌, ◌⊎◌, Bool, true, false, cond, inl, inr, ◌&&◌, List, [], ◌∷◌, ◌++◌, refl, sym, ◌∙◌, ap, subst, arith}
-use Rattle.std.specs.Prelude.{nat_eq, nat_lt, map, take, slice_get, Option, Some, None, IsTrue}
+use Rattle.std.proofs.Common.{◌≡◌, ◌≢◌, ℕ, suc, ◌<◌, ◌≤◌, Bool, true, false, cond, inl, inr, ◌&&◌, List, [], ◌∷◌, ◌++◌, refl, sym, ◌∙◌, ap, arith}
+use Rattle.std.specs.Prelude.{nat_eq, nat_lt, map, take, slice_get, Option, Some, None}
 use Rattle.std.specs.Option.{option_map}
 use Rattle.std.proofs.lemmas.Bool.{cases_eq, cases_Bool, eq-eqb, ne_eqb}
 use Rattle.std.proofs.lemmas.List.{append-nil}
 use Rattle.record_slots.specs.Places.{page_bytes, version_of, tables_of}
-use Rattle.record_slots.specs.Super.{main_table, tables_in, tables_said, tables_used, entries_said, version_said, AreTables, IsMain}
+use Rattle.record_slots.specs.Super.{main_table, tables_in, tables_said, tables_used, entries_said, IsMain}
 use Rattle.record_slots.specs.declared.super_page.TableEntry.{TableEntry}
-use Rattle.history.specs.Key.{Key, main_name, of_main, is_same_key, is_of_table}
+use Rattle.history.specs.Key.{Key, main_name, is_of_table}
 use Rattle.page_store.specs.Index.{Index, HasCounts}
 use Rattle.page_store.specs.Pairs.{Pair, Rise, found, inserted}
 use Rattle.record_table.specs.Shown.{KeyPair, found_key, in_table, pairs_from, pairs_of, asked_tables}

@@ -3,10 +3,8 @@ use Rattle.std.proofs.Common.{◌≡◌, ℕ, Bool, true, false, IsTrue, List, R
 use Rattle.std.specs.Prelude.{IsFalse}
 use Rattle.std.proofs.lemmas.Bool.{false≢true}
 use Rattle.mars_base.specs.Causes.{Rose}
-use Rattle.array_shape.specs.declared.shape.Shape.{Shape}
 use Rattle.eaw_face.specs.State.{State}
 use Rattle.eaw_face.specs.StoreView.{StoreView}
-use Rattle.eaw_face.specs.Causes.{IsAlive}
 use Rattle.history.specs.declared.call.Call.{Call}
 use Rattle.history.specs.declared.call.Reply.{Reply}
 use Rattle.record_slots.specs.Names.{names_in}

@@ -1,7 +1,7 @@
 -- Calls below that leave records, writes and saves as they were: looks and insertions, one after another, and one that fails.
-use Rattle.std.proofs.Common.{◌≡◌, ◌≢◌, ◌^◌, ℕ, ◌+◌, ◌*◌, ◌/◌, ◌<◌, ◌⊎◌, Bool, true, false, cond, inl, inr, IsTrue, List, [], ◌∷◌, Result, Ok, Err, refl, sym, ◌∙◌, ap, subst, arith}
-use Rattle.std.specs.Prelude.{nat_eq, nat_lt, map, Option, Some, None, IsFalse}
-use Rattle.std.proofs.lemmas.Bool.{cases_eq, false≢true, cases_Bool, eq-eqb, ne_eqb}
+use Rattle.std.proofs.Common.{◌≡◌, ◌≢◌, ◌^◌, ℕ, ◌+◌, ◌*◌, ◌/◌, ◌<◌, ◌⊎◌, Bool, true, false, cond, inl, inr, IsTrue, List, [], ◌∷◌, Result, Ok, Err, refl, sym, ◌∙◌, ap, subst}
+use Rattle.std.specs.Prelude.{map, Option, Some, None, IsFalse}
+use Rattle.std.proofs.lemmas.Bool.{cases_eq, false≢true}
 use Rattle.mars_base.specs.Causes.{Rose}
 use Rattle.mars_base.proofs.Going.{stays, then, weaker}
 use Rattle.array_shape.specs.Logged.{Part}
@@ -9,7 +9,7 @@ use Rattle.eaw_face.specs.State.{State, listed}
 use Rattle.eaw_face.specs.StoreView.{LeavesOnly}
 use Rattle.eaw_face.specs.Causes.{IsAlive}
 use Rattle.record_slots.specs.Slots.{slot_said, slot_bytes}
-use Rattle.record_slots.specs.Places.{slot_of, next_slot, slot_due, tables_of}
+use Rattle.record_slots.specs.Places.{slot_of, slot_due, tables_of}
 use Rattle.record_slots.specs.declared.slot.Slot.TheVariants.{Absent}
 use Rattle.page_store.specs.Index.{Index, IsTable, Grows, Gains}
 use Rattle.page_store.specs.Index as face
@@ -24,12 +24,14 @@ use Rattle.record_table.specs.Invariant.{AreSlotParts, IsTied, Rests}
 use Rattle.record_table.specs.Shown.{KeyPair, found_key, table_in, table_of, write_of, writes_of, state_of, asked_tables, pairs_of}
 use Rattle.record_table.specs.Sought.{LooksAs}
 use Rattle.record_table.specs.State.{TableState}
-use Rattle.history.specs.Key.{Key, is_same_key, of_main}
+use Rattle.history.specs.Key.{Key, of_main}
 use Rattle.history.proofs.Keys.{cases_key, same_key, other_key}
 use Rattle.history.proofs.Tables.{same_table}
 use Rattle.record_table.proofs.Tables.{record_at, get-table_in}
 use Rattle.record_table.proofs.Sharing.{Laws, placed, found_in, pairs_kept, gained}
 use Rattle.record_table.proofs.SlotParts.{said_same, log_kept, one_slot}
+use Rattle.eaw_face.specs.Mirroring.{Mirrors}
+use Rattle.eaw_face.proofs.Mirroring.{none_sent, sent_then}
 
 -- records, writes and saves are as they were, and the invariant holds
 pub record Moved (tells : Bool) (Opens : List ℕ → List ℕ → Type 0) (index : Index) (t : ℕ) (old new : PagesView) : Type 0 where
@@ -44,6 +46,7 @@ pub record Moved (tells : Bool) (Opens : List ℕ → List ℕ → Type 0) (inde
   pub state : IsTrue tells → state_of index new ≡ state_of index old
   pub tied : IsTrue tells → IsTied index new
   pub time : IsTrue tells → LeavesOnly (λ image. OpensWith Opens index image (state_of index old).table) old.store new.store
+  pub mirrors : Mirrors tells old.store new.store
 
 -- the medium failed
 pub record Failed (tells : Bool) (Opens : List ℕ → List ℕ → Type 0) (index : Index) (t : ℕ) (old new : PagesView) : Type 0 where
@@ -52,6 +55,7 @@ pub record Failed (tells : Bool) (Opens : List ℕ → List ℕ → Type 0) (ind
   pub counts : new.counts ≡ old.counts
   pub others : (u : ℕ) → u ≢ t → new.store.ranges u ≡ old.store.ranges u
   pub time : IsTrue tells → LeavesOnly (λ image. OpensWith Opens index image (state_of index old).table) old.store new.store
+  pub mirrors : Mirrors tells old.store new.store
 
 -- the state of records is determined by data, logs and counts
 pub shown_same : (index : Index) (old new : PagesView) → new.store.state ≡ old.store.state → new.counts ≡ old.counts → state_of index new ≡ state_of index old
@@ -64,6 +68,7 @@ module _ (tells : Bool) (Opens : List ℕ → List ℕ → Type 0) (index : Inde
   pub moved_none : (old : PagesView) → IsAlive old.store → Rests tells index old → Moved tells Opens index t old old
   moved_none old alive rests = record {
     shape = refl;
+    mirrors = none_sent tells old.store old.store refl refl (λ fine. fine) (λ told mirrors fine. refl);
     dead = refl;
     faults = refl;
     counts = refl;
@@ -82,6 +87,7 @@ module _ (tells : Bool) (Opens : List ℕ → List ℕ → Type 0) (index : Inde
   pub moved_then : (old mid new : PagesView) → Moved tells Opens index t old mid → Moved tells Opens index t mid new → Moved tells Opens index t old new
   moved_then old mid new a b = record {
     shape = b.shape ∙ a.shape;
+    mirrors = sent_then tells old.store mid.store new.store a.mirrors b.mirrors;
     dead = b.dead ∙ a.dead;
     faults = b.faults ∙ a.faults;
     counts = b.counts ∙ a.counts;
@@ -97,6 +103,7 @@ module _ (tells : Bool) (Opens : List ℕ → List ℕ → Type 0) (index : Inde
   pub failed_then : (old mid new : PagesView) → Moved tells Opens index t old mid → Failed tells Opens index t mid new → Failed tells Opens index t old new
   failed_then old mid new a b = record {
     shape = b.shape ∙ a.shape;
+    mirrors = sent_then tells old.store mid.store new.store a.mirrors b.mirrors;
     dies = (b.dies.0, subst (λ (n : ℕ). Rose n new.store.faults) a.faults b.dies.1);
     counts = b.counts ∙ a.counts;
     others = λ u ne. b.others u ne ∙ a.others u ne;
@@ -112,6 +119,7 @@ module _ (tells : Bool) (Opens : List ℕ → List ℕ → Type 0) (index : Inde
         let same = looks.same refl in
         record {
           shape = looks.shape;
+          mirrors = looks.mirrors;
           dead = same.still.dead;
           faults = same.still.faults;
           counts = looks.saves;
@@ -128,7 +136,7 @@ module _ (tells : Bool) (Opens : List ℕ → List ℕ → Type 0) (index : Inde
         }
 
     pub failed_by_look : LooksAs tells Opens t true old new → Failed tells Opens index t old new
-    failed_by_look looks = record { shape = looks.shape; dies = looks.dies refl; counts = looks.saves; others = looks.others; time = looks_time true looks }
+    failed_by_look looks = record { shape = looks.shape; mirrors = looks.mirrors; dies = looks.dies refl; counts = looks.saves; others = looks.others; time = looks_time true looks }
 
 module _ (index : Index) (laws : Laws index) (table root key : ℕ) (asked : table < asked_tables) (small : key < 2 ^ 64) (d e : List ℕ) (sound : index.sound d) (named : IsTable d table root) (absent : found (index.pairs d root) key ≡ None)
     (grows : Grows index root d e) where
@@ -244,6 +252,7 @@ module _ (tells : Bool) (Opens : List ℕ → List ℕ → Type 0) (index : Inde
       let keeps = λ (told : IsTrue tells). insertion_keeps index laws table root key asked small old.store.state.bytes new.store.state.bytes (rests.tied told).sound (named told) (absent told) (made told).0 reads (made told).1 in
       record {
         shape = does.shape;
+        mirrors = does.mirrors;
         dead = kept.dead;
         faults = kept.faults;
         counts = does.saves;
@@ -263,4 +272,4 @@ module _ (tells : Bool) (Opens : List ℕ → List ℕ → Type 0) (index : Inde
       }
 
   pub failed_by_insert : IsTrue (is_insert_failed r) → Failed tells Opens index t old new
-  failed_by_insert failed = record { shape = does.shape; dies = does.dies failed; counts = does.saves; others = does.others; time = insert_time }
+  failed_by_insert failed = record { shape = does.shape; mirrors = does.mirrors; dies = does.dies failed; counts = does.saves; others = does.others; time = insert_time }

@@ -1,6 +1,6 @@
 -- The rows of the table `main`, as a check of the index gathers them, are the records of the table.
 use Rattle.std.proofs.Common.{◌≡◌, ◌^◌, ℕ, List, [], ◌∷◌, sym, ◌∙◌, ap}
-use Rattle.std.specs.Prelude.{slice_get, map, Option, Some, None}
+use Rattle.std.specs.Prelude.{slice_get, map, Some}
 use Rattle.std.specs.Option.{unwrap_or}
 use Rattle.std.specs.FinMap.{entries}
 use Rattle.record_slots.specs.Places.{tables_of}

@@ -29,6 +29,7 @@ use Rattle.record_table.proofs.Moving.{Moved, Failed, rests_moved}
 use Rattle.record_table.proofs.Sharing.{Laws}
 use Rattle.record_table.proofs.SlotParts.{log_kept}
 use Rattle.record_table.proofs.Lost.{has_absent, records_same, parts_kept, loses}
+use Rattle.eaw_face.proofs.Mirroring.{none_sent}
 
 -- sound data of the same version, with the same tables and records, and with the slots of all parts that are not the key's
 record Alike (index : Index) (key : Key) (d e : List ℕ) : Type 0 where
@@ -87,6 +88,7 @@ module _ (tells : Bool) (Opens : List ℕ → List ℕ → Type 0) (index : Inde
           let same = λ (told : IsTrue tells). alike told r well (does.made told alive) in
           record {
             shape = does.shape;
+            mirrors = does.mirrors;
             dead = kept.dead;
             faults = kept.faults;
             counts = does.saves;
@@ -107,7 +109,7 @@ module _ (tells : Bool) (Opens : List ℕ → List ℕ → Type 0) (index : Inde
           }
 
       failed_by_remove : IsTrue (is_failed r) → Failed tells Opens index t old new
-      failed_by_remove failed = record { shape = does.shape; dies = does.dies failed; counts = does.saves; others = does.others; time = remove_time }
+      failed_by_remove failed = record { shape = does.shape; mirrors = does.mirrors; dies = does.dies failed; counts = does.saves; others = does.others; time = remove_time }
 
   -- what it takes, in terms of the table
   takes_so : (Ends : List ℕ → Type 0) → IsTable old.store.state.bytes table root → face.Takes index root key old.store Ends → Takes index table key old Ends
@@ -143,6 +145,7 @@ module _ (tells : Bool) (Opens : List ℕ → List ℕ → Type 0) (index : Inde
   dead_same : old.store.is_dead ≡ true → Removes tells Opens index table t key old old (Err refusal.Dead)
   dead_same dead = record {
     shape = refl;
+    mirrors = none_sent tells old.store old.store refl refl (λ fine. fine) (λ told mirrors fine. refl);
     cause = dead;
     faults = λ _. (refl, refl);
     dies = λ failed. absurd (false≢true failed);
@@ -167,6 +170,7 @@ module _ (tells : Bool) (Opens : List ℕ → List ℕ → Type 0) (index : Inde
         let same = λ (told : IsTrue tells). alike new alive told r well (does.made told alive) in (
           record {
             shape = moved.shape;
+            mirrors = moved.mirrors;
             cause = cause_so r does.cause;
             faults = λ _. (moved.dead, moved.faults);
             dies = λ failed. absurd (false≢true (sym well ∙ sym (still_failed r) ∙ failed));
@@ -189,6 +193,7 @@ module _ (tells : Bool) (Opens : List ℕ → List ℕ → Type 0) (index : Inde
         let failed = failed_by_remove new does.cause (Err fault.Media) does refl in (
           record {
             shape = failed.shape;
+            mirrors = failed.mirrors;
             cause = does.cause;
             faults = λ well. absurd (false≢true (sym well));
             dies = λ _. failed.dies;

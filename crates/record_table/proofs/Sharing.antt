@@ -1,24 +1,24 @@
 -- What an index guarantees of the pairs of the tables that can be asked for.
-use Rattle.std.proofs.Common.{◌≡◌, ◌≢◌, ◌^◌, ℕ, ◌+◌, ◌-◌, ◌<◌, ◌≤◌, ◌⊎◌, Bool, true, false, cond, inl, inr, List, [], ◌∷◌, length, refl, sym, ◌∙◌, ap, subst, arith}
-use Rattle.std.specs.Prelude.{zero, suc, nat_eq, if◌then◌else◌, ◌&&◌, slice_get, map, take, Option, Some, None}
+use Rattle.std.proofs.Common.{◌≡◌, ◌^◌, ℕ, ◌-◌, ◌<◌, ◌≤◌, Bool, true, false, cond, inl, inr, List, [], ◌∷◌, refl, sym, ◌∙◌, ap, subst, arith}
+use Rattle.std.specs.Prelude.{zero, suc, nat_eq, if◌then◌else◌, ◌&&◌, slice_get, take, Option, Some, None}
 use Rattle.std.specs.Option.{option_map, unwrap_or}
-use Rattle.std.proofs.lemmas.Bool.{cases_eq, eq-eqb}
+use Rattle.std.proofs.lemmas.Bool.{cases_eq}
 use Rattle.std.proofs.lemmas.Bool.Decides.{eqb_tells}
 use Rattle.std.proofs.lemmas.Option.{same_Some}
 use Rattle.record_slots.specs.Slots.{slot_said}
 use Rattle.record_slots.specs.Names.{names_in}
 use Rattle.record_slots.specs.Super.{main_table, next_slot_said, next_page_said, tables_said, free_slot_in, free_slots_in, free_pages_in}
-use Rattle.record_slots.specs.Places.{page_bytes, slot_of, next_slot, next_page, tables_of, root_of, slot_due, used_slots, IsOfKey, Carries, AreGiven}
+use Rattle.record_slots.specs.Places.{page_bytes, slot_of, next_slot, next_page, tables_of, root_of, slot_due, IsOfKey, Carries, AreGiven}
 use Rattle.record_slots.specs.declared.super_page.TableEntry.{TableEntry}
 use Rattle.record_slots.specs.declared.slot.Slot.{Slot}
 use Rattle.record_slots.specs.declared.slot.Slot.TheVariants.{Absent, Present}
 use Rattle.history.specs.Key.{Key, main_name, of_main, is_same_key, is_of_table}
-use Rattle.history.proofs.Keys.{name_decides, cases_key, same_key, other_key}
+use Rattle.history.proofs.Keys.{name_decides}
 use Rattle.page_store.specs.Pairs.{Pair, Rise, found}
 use Rattle.page_store.specs.Index.{Index, IsTable, HasCounts, KeepsIndex, Grows, Rests, Gains, IsEmptyRoot, Extends}
 use Rattle.record_table.specs.State.{GainsKey, KeepsKeys, TakesPages}
 use Rattle.record_table.specs.Names.{name_at, key_in}
-use Rattle.record_table.specs.Shown.{KeyPair, found_key, write_said, asked_tables, pairs_from, pairs_of, level_under, keys_of}
+use Rattle.record_table.specs.Shown.{found_key, write_said, asked_tables, pairs_from, pairs_of, level_under, keys_of}
 use Rattle.record_table.proofs.Joint.{root_in, pairs_same, found_main, main_first, found_inside, found_inserted}
 
 -- what an index guarantees about its data

@@ -37,6 +37,7 @@ use Rattle.record_table.proofs.Tables.{value_is}
 use Rattle.record_table.proofs.Writing.{rewrites}
 use Rattle.record_table.proofs.States.{written, floors, shown_write, parts_write}
 use Rattle.record_table.proofs.Moving.{Failed}
+use Rattle.eaw_face.specs.Mirroring.{Mirrors}
 
 -- a write was logged
 pub record Wrote (tells : Bool) (Opens : List ℕ → List ℕ → Type 0) (index : Index) (t : ℕ) (key : Key) (value : Option (List ℕ)) (slot : ℕ) (old new : PagesView) : Type 0 where
@@ -51,6 +52,7 @@ pub record Wrote (tells : Bool) (Opens : List ℕ → List ℕ → Type 0) (inde
   pub tied : IsTrue tells → IsTied index new
   pub room : IsTrue tells → HasRoom index t old key slot
   pub time : IsTrue tells → LeavesOnly (λ image. OpensWith Opens index image (state_of index old).table) old.store new.store
+  pub mirrors : Mirrors tells old.store new.store
 
 pub none_is : {A : Type 0} (o : Option A) → is_some o ≡ false → o ≡ None
 none_is None e = refl
@@ -118,6 +120,7 @@ module _ (tells : Bool) (Opens : List ℕ → List ℕ → Type 0) (index : Inde
       let now = λ (told : IsTrue tells). does.done.state told in
       record {
         shape = does.shape;
+        mirrors = does.mirrors;
         dead = does.done.alive ∙ sym alive;
         faults = does.kept;
         counts = ap (λ (o : Outline). o.counts) out;
@@ -141,6 +144,7 @@ module _ (tells : Bool) (Opens : List ℕ → List ℕ → Type 0) (index : Inde
   pub write_failed : {T : Type 0} → (let r : Result T PageFault = Err Media in Does tells Opens (write_as t (64 * (slots_of old.store.shape + slot)) (slot_bytes said)) old new r) → Failed tells Opens index t old new
   write_failed {T} does = record {
     shape = does.shape;
+    mirrors = does.mirrors;
     dies = (does.dies refl, does.cause.2);
     counts = does.marks.0;
     others = λ u ne. does.others u ne;

@@ -18,6 +18,7 @@ use Rattle.record_table.specs.Shown.{table_of, state_of, keys_of}
 use Rattle.record_table.specs.Causes.{Cause, slot_in}
 use Rattle.record_table.specs.declared.fault.TableFault.{TableFault}
 use Rattle.record_table.specs.declared.fault.TableFault.TheVariants.{LogFull, PagesFull, Media}
+use Rattle.eaw_face.specs.Mirroring.{Mirrors}
 
 -- an image opens with sound data whose tables have these records
 pub record OpensWith (Opens : List ℕ → List ℕ → Type 0) (index : Index) (image : List ℕ) (table : Table) : Type 0 where
@@ -88,3 +89,4 @@ pub record Does (tells : Bool) (Opens : List ℕ → List ℕ → Type 0) (index
   pub others : (u : ℕ) → u ≢ t → (new.store.ranges u ≡ old.store.ranges u) × (new.counts u ≡ old.counts u)
   pub time : IsTrue tells → IsAlive old.store
       → LeavesOnly (λ image. OpensWith Opens index image (state_of index old).table ⊎ OpensWith Opens index image (table_after t call (state_of index old))) old.store new.store
+  pub mirrors : Mirrors tells old.store new.store

@@ -15,3 +15,4 @@ pub mod Form
 pub mod Upgrading
 pub mod Removing
 pub mod Making
+pub mod Placing

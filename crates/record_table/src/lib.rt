@@ -10,6 +10,7 @@ mod form;
 mod laws;
 mod making;
 mod names;
+mod placing;
 mod records;
 mod removing;
 mod scanning;

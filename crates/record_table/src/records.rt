@@ -1,10 +1,11 @@
 // Records over pages, under an index.
-ghost use Rattle.std.specs.Prelude.{◌≡◌, ◌<◌, ◌≤◌, ℕ, [], Some, None, IfOk, IfErr, IfSome, IfNone, OnOk, OnErr, IsErrOf, IsTrue, if◌then◌else◌, filter, length, slice_get};
+ghost use Rattle.std.specs.Prelude.{◌≡◌, ◌<◌, ◌≤◌, ℕ, [], Some, None, IfOk, IfErr, IfSome, IfNone, OnOk, OnErr, IsErrOf, IsTrue, if◌then◌else◌, filter, length, slice_get, slice_index_or};
 ghost use Rattle.std.specs.FinMap.{entries};
 ghost use Rattle.std.specs.Option.{unwrap_or};
 ghost use Rattle.array_shape.specs.NumberSet.{members};
 ghost use Rattle.eaw_face.specs.Causes.{IsAlive};
 ghost use Rattle.eaw_face.specs.State.{listed};
+ghost use Rattle.eaw_face.specs.Mirroring.{GivesUp};
 ghost use Rattle.page_store.specs.Looks.{Looks};
 ghost use Rattle.page_store.specs.Shown.{counts_in, top_in, pages_of};
 ghost use Rattle.history.specs.Key.{main_name, of_main};
@@ -27,6 +28,7 @@ ghost use Rattle.record_table.specs.Names.{IsNew, names_of};
 use crate::fault::{AttachRecords, TableFault, unattached};
 use crate::making::{MakeFault, make};
 use crate::names::read_names;
+use crate::placing::{place_of, slot_of};
 use crate::removing::{next_absent, remove};
 use crate::scanning::gather;
 use crate::slots::{seek, value_at, write_as};
@@ -185,6 +187,28 @@ impl<S: EawStore, K: KeyIndex> Records<S, K> {
         self.pages.is_dead()
     }
 
+    /// The oldest frame that the store below has sent and not yet given up. It is empty if there is none.
+    pub fn first_frame(&self) -> &[u8]
+        ensures { IsTrue (S.view self.now.store).sending.told → result.now ≡ slice_index_or (S.view self.now.store).sending.frames 0 [] }
+    {
+        self.pages.first_frame()
+    }
+
+    /// Gives that frame up. If there is none, it does nothing.
+    pub fn drop_frame(&mut self)
+        ensures gives_up { GivesUp (S.view self.old.store) (S.view self.new.store) }
+        ensures marks { self.new.marks ≡ self.old.marks }
+    {
+        self.pages.drop_frame();
+    }
+
+    /// Whether the sending of frames has ended.
+    pub fn link_down(&self) -> bool
+        ensures { result ≡ (S.view self.now.store).sending.is_down }
+    {
+        self.pages.link_down()
+    }
+
     /// How many saves the number has, at most 32.
     pub fn saves(&self, tid: u8) -> u32
         requires { tid < (S.view self.now.store).shape.numbers }
@@ -209,7 +233,7 @@ impl<S: EawStore, K: KeyIndex> Records<S, K> {
     }
 
     /// Gives the key this value, at once in the number's own view, and in the table once it commits. A key that the index lacks is inserted
-    /// first, and stays there whatever becomes of the number.
+    /// first, at the place where the look-up ended, and stays there whatever becomes of the number.
     pub fn put(&mut self, tid: u8, key: u64, value: Value) -> Result<(), TableFault>
         requires { tid < (S.view self.old.store).shape.numbers }
         ensures does { Does S.tells (S.opens (S.view self.old.store).shape) K.index 0 tid (Put key value)
@@ -221,12 +245,16 @@ impl<S: EawStore, K: KeyIndex> Records<S, K> {
             key,
             value,
         };
-        match K::find(&mut self.pages, MAIN_ROOT, MAIN, key) {
-            Ok(Some(slot)) => told(write_as(&mut self.pages, tid, slot, &present)),
-            Ok(None) => match K::insert(&mut self.pages, tid, MAIN_ROOT, MAIN, key) {
-                Ok(slot) => told(write_as(&mut self.pages, tid, slot, &present)),
-                Err(fault) => Err(TableFault::from(fault)),
-            },
+        let sought = match K::find_place(&mut self.pages, MAIN_ROOT, MAIN, key) {
+            Ok(sought) => sought,
+            Err(fault) => return Err(TableFault::from(fault)),
+        };
+        if let Some(slot) = slot_of(&sought) {
+            return told(write_as(&mut self.pages, tid, slot, &present));
+        }
+        let place = place_of(sought);
+        match K::insert(&mut self.pages, tid, MAIN_ROOT, MAIN, key, place) {
+            Ok(slot) => told(write_as(&mut self.pages, tid, slot, &present)),
             Err(fault) => Err(TableFault::from(fault)),
         }
     }

@@ -1,3 +1,7 @@
+use Rattle.std.proofs.Common.{◌≡◌, false, sym, subst}
+use Rattle.page_store.specs.Shown.{Shown}
+use Rattle.mars_core.specs.Attached.{GivesBack}
+use Rattle.mars_core.proofs.Attaching.{gives_same}
 use Rattle.std.proofs.Common.{ap, ◌∙◌}
 use Rattle.array_shape.specs.declared.shape.Shape.{Shape}
 use Rattle.page_store.specs.Shown.{pages_of}
@@ -39,3 +43,10 @@ returns-clause-cause g c = tt
 
 pub returns-clause-gives_back : goal.returns-clause-gives_back
 returns-clause-gives_back g c = tt
+
+pub returns-in-Err-clause-gives_back : goal.returns-in-Err-clause-gives_back
+returns-in-Err-clause-gives_back g c =
+    let s = g.S.EawStore in
+    let store : c.into_store.result ≡ c.args.records.store = c.into_store.ensures ∙ ap (λ (r : Shown g.row.S.Denot). r.store) c.into_pages.ensures in
+    subst (λ (st : g.row.S.Denot). GivesBack g.S.EawStore.tells (g.S.EawStore.opens (g.S.EawStore.view c.args.records.store).shape) false (g.S.EawStore.view c.args.records.store) (g.S.EawStore.view st)) (sym store)
+    (gives_same s.tells (s.opens (s.view c.args.records.store).shape) (s.view c.args.records.store))

@@ -1,3 +1,7 @@
+use Rattle.std.proofs.Common.{false}
+use Rattle.index_pages.proofs.Looking.{looks_next}
+use Rattle.page_store.specs.Shown.{pages_of}
+use Rattle.page_store.specs.Looks.{Looks, is_failed}
 use Rattle.std.proofs.lemmas.Bool.{eqb-true, eqb-false}
 use Rattle.page_store.specs.Pairs.{Pair, AreNext}
 use Rattle.std.proofs.Common.{List, get_or, subst, refl, sym, ◌∙◌, ap, arith}
@@ -49,3 +53,25 @@ returns-in-Err-heard-clause-cause g c =
           (turn_at (g.K.KeyIndex.index.pairs d c.args.root) c.args.from 0 c.as_slice-some.result.now 0 (omega (arith, eqb-false _ 0 (sym c.if-is_empty.ensures))) (next_first (g.K.KeyIndex.index.pairs d c.args.root) c.args.from c.as_slice-some.result.now (omega (arith, eqb-false _ 0 (sym c.if-is_empty.ensures))) are)).0 (sym c.in-Err-heard.ensures.none.1 ∙ c.in-Ok-read_said.ensures.said told
           ∙ ap (λ (s : State). slot_said (slot_of s.bytes (get_or c.as_slice-some.result.now 0 (0, 0)).1)) ((c.in-Ok.ensures.looks.still refl).state told)),
     ) in subst (λ (f : PageFault). LookCause g.S.EawStore.tells (g.S.EawStore.view c.args.pages.now.store) (let r : Result (Option Next) PageFault = Err f in r)) (sym c.in-Err-heard.ensures.none.0) damaged)
+
+pub returns-in-Err-read_said-clause-looks : goal.returns-in-Err-read_said-clause-looks
+returns-in-Err-read_said-clause-looks g c =
+    let V = g.S.EawStore.view in
+    let T = g.S.EawStore.tells in
+    let E = g.S.EawStore.opens in
+    looks_next T E _ (pages_of (V c.args.pages.now.store) c.args.pages.now) (pages_of (V c.next_pairs.new.pages.store) c.next_pairs.new.pages) (pages_of (V c.read_said.new.pages.store) c.read_said.new.pages) c.in-Ok.ensures.looks c.in-Err-read_said.ensures.looks
+
+pub returns-in-Ok-heard-clause-looks : goal.returns-in-Ok-heard-clause-looks
+returns-in-Ok-heard-clause-looks g c =
+    let V = g.S.EawStore.view in
+    let T = g.S.EawStore.tells in
+    let E = g.S.EawStore.opens in
+    looks_next T E false (pages_of (V c.args.pages.now.store) c.args.pages.now) (pages_of (V c.next_pairs.new.pages.store) c.next_pairs.new.pages) (pages_of (V c.read_said.new.pages.store) c.read_said.new.pages) c.in-Ok.ensures.looks c.in-Ok-read_said.ensures.looks
+
+pub returns-in-Err-heard-clause-looks : goal.returns-in-Err-heard-clause-looks
+returns-in-Err-heard-clause-looks g c =
+    let V = g.S.EawStore.view in
+    let T = g.S.EawStore.tells in
+    let E = g.S.EawStore.opens in
+    subst (λ (f : PageFault). Looks T (E (V c.args.pages.now.store).shape) (let r : Result (Option Next) PageFault = Err f in is_failed r) (pages_of (V c.args.pages.now.store) c.args.pages.now) (pages_of (V c.read_said.new.pages.store) c.read_said.new.pages)) (sym c.in-Err-heard.ensures.none.0)
+    (looks_next T E false (pages_of (V c.args.pages.now.store) c.args.pages.now) (pages_of (V c.next_pairs.new.pages.store) c.next_pairs.new.pages) (pages_of (V c.read_said.new.pages.store) c.read_said.new.pages) c.in-Ok.ensures.looks c.in-Ok-read_said.ensures.looks)

@@ -1,5 +1,10 @@
+use Rattle.std.proofs.Common.{Bool, Result, Err}
+use Rattle.history.specs.Writes.{Row}
+use Rattle.record_table.specs.Does as answers
+use Rattle.record_table.specs.declared.fault.TableFault.{TableFault}
+use Rattle.record_table.proofs.Looking.{failed_told}
 use Rattle.std.proofs.lemmas.Bool.{eqb-true, eqb-false}
-use Rattle.std.proofs.Common.{false, ◌≡◌, ◌+◌, suc, ℕ, List, ◌++◌, length, refl, sym, ◌∙◌, ap, subst, arith}
+use Rattle.std.proofs.Common.{false, ℕ, List, ◌++◌, refl, sym, ◌∙◌, ap, subst, arith}
 use Rattle.std.proofs.lemmas.List.{append-nil}
 use Rattle.eaw_face.specs.State.{State}
 use Rattle.page_store.specs.Index.{slots_of}
@@ -7,7 +12,7 @@ use Rattle.page_store.specs.Pairs.{Pair, AreInside, InTurn, AreNext}
 use Rattle.page_store.specs.Shown.{pages_of}
 use Rattle.history.specs.Writes.{rows_within}
 use Rattle.index_pages.proofs.Turns.{next_first, next_empty}
-use Rattle.record_table.specs.Scanned.{rows_seen, rows_left}
+use Rattle.record_table.specs.Scanned.{rows_seen}
 use Rattle.record_table.specs.Sought.{LooksAs}
 use Rattle.record_table.specs.State.{TableState, seen_by}
 use Rattle.history.specs.Key.{main_name}
@@ -113,3 +118,59 @@ returns-clause-rows g c = λ told.
 
 pub returns-clause-looks : goal.returns-clause-looks
 returns-clause-looks g c = c.loop-from.invariant.looks
+
+pub loop-from-init : goal.loop-from-init
+loop-from-init g c =
+    let V = g.S.EawStore.view in
+    let T = g.S.EawStore.tells in
+    let E = g.S.EawStore.opens in
+    record {
+      looks = looks_none T (E (V c.args.pages.now.store).shape) c.args.tid (pages_of (V c.args.pages.now.store) c.args.pages.now);
+      rows = λ told. ap (λ (r : List Row). r ++ rows_seen g.K.KeyIndex.index c.args.tid (pages_of (V c.args.pages.now.store) c.args.pages.now) c.args.low c.args.high) c.requires.empty;
+    }
+
+pub returns-in-Err-clause-looks : goal.returns-in-Err-clause-looks
+returns-in-Err-clause-looks g c =
+    let V = g.S.EawStore.view in
+    let T = g.S.EawStore.tells in
+    let E = g.S.EawStore.opens in
+    let A = λ (b : Bool). LooksAs T (E (V c.args.pages.now.store).shape) c.args.tid b (pages_of (V c.args.pages.now.store) c.args.pages.now) (pages_of (V c.next_pairs.new.pages.store) c.next_pairs.new.pages) in
+    subst (λ (e : TableFault). A (let r : Result (Unit {0}) TableFault = Err e in answers.is_failed r)) (sym c.from.ensures)
+    (subst A (sym (failed_told c.in-Err.fault)) (looks_next T E c.args.tid _ (pages_of (V c.args.pages.now.store) c.args.pages.now) (pages_of (V c.loop-from.pages.store) c.loop-from.pages) (pages_of (V c.next_pairs.new.pages.store) c.next_pairs.new.pages) c.loop-from.invariant.looks (looks_as T (E (V c.loop-from.pages.store).shape) c.args.tid _ (pages_of (V c.loop-from.pages.store) c.loop-from.pages) (pages_of (V c.next_pairs.new.pages.store) c.next_pairs.new.pages) c.in-Err.ensures.looks)))
+
+pub returns-then-is_empty-clause-looks : goal.returns-then-is_empty-clause-looks
+returns-then-is_empty-clause-looks g c =
+    let V = g.S.EawStore.view in
+    let T = g.S.EawStore.tells in
+    let E = g.S.EawStore.opens in
+    looks_next T E c.args.tid false (pages_of (V c.args.pages.now.store) c.args.pages.now) (pages_of (V c.loop-from.pages.store) c.loop-from.pages) (pages_of (V c.next_pairs.new.pages.store) c.next_pairs.new.pages) c.loop-from.invariant.looks (looks_as T (E (V c.loop-from.pages.store).shape) c.args.tid false (pages_of (V c.loop-from.pages.store) c.loop-from.pages) (pages_of (V c.next_pairs.new.pages.store) c.next_pairs.new.pages) c.in-Ok.ensures.looks)
+
+pub returns-in-Ok-None-clause-looks : goal.returns-in-Ok-None-clause-looks
+returns-in-Ok-None-clause-looks g c =
+    let V = g.S.EawStore.view in
+    let T = g.S.EawStore.tells in
+    let E = g.S.EawStore.opens in
+    looks_next T E c.args.tid false (pages_of (V c.args.pages.now.store) c.args.pages.now) (pages_of (V c.next_pairs.new.pages.store) c.next_pairs.new.pages) (pages_of (V c.push_rows.new.pages.store) c.push_rows.new.pages) (looks_next T E c.args.tid false (pages_of (V c.args.pages.now.store) c.args.pages.now) (pages_of (V c.loop-from.pages.store) c.loop-from.pages) (pages_of (V c.next_pairs.new.pages.store) c.next_pairs.new.pages) c.loop-from.invariant.looks (looks_as T (E (V c.loop-from.pages.store).shape) c.args.tid false (pages_of (V c.loop-from.pages.store) c.loop-from.pages) (pages_of (V c.next_pairs.new.pages.store) c.next_pairs.new.pages) c.in-Ok.ensures.looks)) c.in-Ok-None.ensures.looks
+
+pub returns-in-Err-push_rows-clause-looks : goal.returns-in-Err-push_rows-clause-looks
+returns-in-Err-push_rows-clause-looks g c =
+    let V = g.S.EawStore.view in
+    let T = g.S.EawStore.tells in
+    let E = g.S.EawStore.opens in
+    looks_next T E c.args.tid _ (pages_of (V c.args.pages.now.store) c.args.pages.now) (pages_of (V c.next_pairs.new.pages.store) c.next_pairs.new.pages) (pages_of (V c.push_rows.new.pages.store) c.push_rows.new.pages) (looks_next T E c.args.tid false (pages_of (V c.args.pages.now.store) c.args.pages.now) (pages_of (V c.loop-from.pages.store) c.loop-from.pages) (pages_of (V c.next_pairs.new.pages.store) c.next_pairs.new.pages) c.loop-from.invariant.looks (looks_as T (E (V c.loop-from.pages.store).shape) c.args.tid false (pages_of (V c.loop-from.pages.store) c.loop-from.pages) (pages_of (V c.next_pairs.new.pages.store) c.next_pairs.new.pages) c.in-Ok.ensures.looks)) c.in-Err-push_rows.ensures.looks
+
+pub loop-from-preserved : goal.loop-from-preserved
+loop-from-preserved g c =
+    let V = g.S.EawStore.view in
+    let T = g.S.EawStore.tells in
+    let E = g.S.EawStore.opens in
+    let looked = looks_next T E c.args.tid false (pages_of (V c.args.pages.now.store) c.args.pages.now) (pages_of (V c.loop-from.pages.store) c.loop-from.pages) (pages_of (V c.next_pairs.new.pages.store) c.next_pairs.new.pages) c.loop-from.invariant.looks (looks_as T (E (V c.loop-from.pages.store).shape) c.args.tid false (pages_of (V c.loop-from.pages.store) c.loop-from.pages) (pages_of (V c.next_pairs.new.pages.store) c.next_pairs.new.pages) c.in-Ok.ensures.looks) in
+    record {
+      looks = looks_next T E c.args.tid false (pages_of (V c.args.pages.now.store) c.args.pages.now) (pages_of (V c.next_pairs.new.pages.store) c.next_pairs.new.pages) (pages_of (V c.push_rows.new.pages.store) c.push_rows.new.pages) looked c.in-Ok-Some.ensures.looks;
+      rows = λ told.
+          let moved = moved_by_look T (E (V c.args.pages.now.store).shape) g.K.KeyIndex.index c.args.tid (pages_of (V c.args.pages.now.store) c.args.pages.now) (pages_of (V c.next_pairs.new.pages.store) c.next_pairs.new.pages) c.requires.alive (c.requires.holds c.requires.alive) looked in
+          sym (ap (λ (s : TableState). c.push_rows.new.rows ++ rows_within main_name c.in-Ok-Some.next c.args.high (seen_by s c.args.tid)) (moved.state told))
+          ∙ (rw c.in-Ok-Some.field-0-is at (c.in-Ok-Some.ensures.rows told))
+          ∙ ap (λ (s : TableState). c.loop-from.rows ++ rows_within main_name c.loop-from.from c.args.high (seen_by s c.args.tid)) (moved.state told)
+          ∙ c.loop-from.invariant.rows told;
+    }

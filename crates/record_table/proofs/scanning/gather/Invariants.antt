@@ -1,7 +1,6 @@
 use Rattle.std.proofs.Common.{◌≡◌, ◌-◌, ◌^◌, ◌++◌, false, IsTrue}
 use Rattle.page_store.specs.Shown.{pages_of}
 use Rattle.record_table.specs.Scanned.{rows_seen}
-use Rattle.history.specs.Key.{main_name}
 use Rattle.record_table.specs.Sought.{LooksAs}
 use Rattle.record_table.proofs.scanning.gather.Given as goal
 

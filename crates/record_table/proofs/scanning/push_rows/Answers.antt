@@ -1,7 +1,11 @@
-use Rattle.std.proofs.Common.{◌≡◌, ◌<◌, ◌≤◌, ◌+◌, false, ℕ, suc, List, ◌++◌, length, get_or, drop, refl, sym, ◌∙◌, ap, subst, arith}
+use Rattle.std.proofs.Common.{Bool, Result, Err, Option}
+use Rattle.record_table.specs.Sought.{LooksAs}
+use Rattle.record_table.specs.Does as answers
+use Rattle.record_table.specs.declared.fault.TableFault.{TableFault}
+use Rattle.record_table.proofs.Looking.{failed_told}
+use Rattle.std.proofs.Common.{◌≡◌, ◌+◌, false, ℕ, suc, ◌++◌, get_or, drop, refl, sym, ◌∙◌, ap, subst, arith}
 use Rattle.std.specs.Prelude.{Some}
 use Rattle.std.proofs.lemmas.List.{append-nil}
-use Rattle.eaw_face.specs.Causes.{IsAlive}
 use Rattle.eaw_face.specs.State.{State}
 use Rattle.history.specs.Writes.{rows_within}
 use Rattle.page_store.specs.Index.{slots_of}
@@ -134,3 +138,26 @@ returns-then-row-span-clause-rows g c = λ told.
     ∙ last_row (c.loop-pair.rows) (row_at c.in-Ok.row.key c.in-Ok.row.value) _ _ _ _ (c.loop-pair.invariant.rows told) seen
     (follows_past I laws t v0 (rests.tied told) (suc c.in-Ok.row.key) c.args.span.high (omega (arith, c.if-row-span.true)))
     c.in-Ok-push_row.ensures
+
+pub returns-in-Err-clause-looks : goal.returns-in-Err-clause-looks
+returns-in-Err-clause-looks g c =
+    let V = g.S.EawStore.view in
+    let T = g.S.EawStore.tells in
+    let E = g.S.EawStore.opens in
+    let A = λ (b : Bool). LooksAs T (E (V c.args.pages.now.store).shape) c.args.tid b (pages_of (V c.args.pages.now.store) c.args.pages.now) (pages_of (V c.read_row.new.pages.store) c.read_row.new.pages) in
+    subst (λ (e : TableFault). A (let r : Result (Option ℕ) TableFault = Err e in answers.is_failed r)) (sym c.from.ensures)
+    (subst A (sym (failed_told c.in-Err.fault)) (looks_next T E c.args.tid _ (pages_of (V c.args.pages.now.store) c.args.pages.now) (pages_of (V c.loop-pair.pages.store) c.loop-pair.pages) (pages_of (V c.read_row.new.pages.store) c.read_row.new.pages) c.loop-pair.invariant.looks c.in-Err.ensures.looks))
+
+pub returns-in-Err-push_row-clause-looks : goal.returns-in-Err-push_row-clause-looks
+returns-in-Err-push_row-clause-looks g c =
+    let V = g.S.EawStore.view in
+    let T = g.S.EawStore.tells in
+    let E = g.S.EawStore.opens in
+    looks_next T E c.args.tid false (pages_of (V c.args.pages.now.store) c.args.pages.now) (pages_of (V c.loop-pair.pages.store) c.loop-pair.pages) (pages_of (V c.read_row.new.pages.store) c.read_row.new.pages) c.loop-pair.invariant.looks c.in-Ok.ensures.looks
+
+pub returns-then-row-span-clause-looks : goal.returns-then-row-span-clause-looks
+returns-then-row-span-clause-looks g c =
+    let V = g.S.EawStore.view in
+    let T = g.S.EawStore.tells in
+    let E = g.S.EawStore.opens in
+    looks_next T E c.args.tid false (pages_of (V c.args.pages.now.store) c.args.pages.now) (pages_of (V c.loop-pair.pages.store) c.loop-pair.pages) (pages_of (V c.read_row.new.pages.store) c.read_row.new.pages) c.loop-pair.invariant.looks c.in-Ok.ensures.looks

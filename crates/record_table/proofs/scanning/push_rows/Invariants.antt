@@ -3,7 +3,6 @@ use Rattle.page_store.specs.Index.{slots_of}
 use Rattle.page_store.specs.Pairs.{AreInside, InTurn}
 use Rattle.page_store.specs.Shown.{pages_of}
 use Rattle.record_table.specs.Scanned.{rows_seen}
-use Rattle.history.specs.Key.{main_name}
 use Rattle.record_table.specs.Sought.{LooksAs}
 use Rattle.record_table.proofs.scanning.push_rows.Given as goal
 

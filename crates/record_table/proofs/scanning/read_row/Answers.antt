@@ -1,4 +1,4 @@
-use Rattle.std.proofs.Common.{refl, sym, ◌∙◌, arith}
+use Rattle.std.proofs.Common.{refl, sym, ◌∙◌}
 use Rattle.page_store.specs.Shown.{pages_of}
 use Rattle.history.specs.Key.{of_main}
 use Rattle.record_table.proofs.Gathering.{follows_some, next_is}

@@ -1,4 +1,4 @@
-use Rattle.std.proofs.Common.{false, refl, sym, ◌∙◌, ap, arith}
+use Rattle.std.proofs.Common.{false, refl, sym, ◌∙◌, ap}
 use Rattle.page_store.specs.Records.{value_of}
 use Rattle.page_store.specs.Shown.{pages_of}
 use Rattle.record_table.proofs.Looking.{looks_as, looks_next}
@@ -149,3 +149,10 @@ returns-in-Ok-heard-clause-seeks g c =
     (V c.args.pages.now.store) (V c.find.new.pages.store) c.in-Ok-Some.slot (rw c.in-Ok-Some.field-0-is at c.in-Ok-Some.ensures.inside) c.in-Ok-Some.ensures.looks.shape c.in-Ok-Some.ensures.looks.ranges
     (V c.read_as.new.pages.store) (rw c.in-Ok-Some.field-0-is at c.in-Ok-Some.ensures.follows)
     c.in-Ok.said c.in-Ok.ensures.costs _ refl
+
+pub returns-in-Err-read_as-clause-looks : goal.returns-in-Err-read_as-clause-looks
+returns-in-Err-read_as-clause-looks g c =
+    let V = g.S.EawStore.view in
+    let T = g.S.EawStore.tells in
+    let E = g.S.EawStore.opens in
+    looks_next T E c.args.tid _ (pages_of (V c.args.pages.now.store) c.args.pages.now) (pages_of (V c.find.new.pages.store) c.find.new.pages) (pages_of (V c.read_as.new.pages.store) c.read_as.new.pages) (looks_as T (E (V c.args.pages.now.store).shape) c.args.tid false (pages_of (V c.args.pages.now.store) c.args.pages.now) (pages_of (V c.find.new.pages.store) c.find.new.pages) c.in-Ok-Some.ensures.looks) c.in-Err-read_as.ensures.looks

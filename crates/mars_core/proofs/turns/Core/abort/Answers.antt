@@ -1,3 +1,4 @@
+use Rattle.eaw_face.specs.Mirroring.{Mirrors}
 use Rattle.std.proofs.Common.{◌≡◌, ℕ, true, Option, Some, [], length, Result, Err, unwrap_or, ap, subst, sym, ◌∙◌, refl, ◌<◌}
 use Rattle.std.specs.Prelude.{is_some}
 use Rattle.eaw_face.specs.Causes.{IsAlive}
@@ -46,6 +47,7 @@ returns-in-Ok g c = record {
       (laws_at g c.self.inside.records.store) (laws_at g c.abort.new.self.store) (state_at g.K.KeyIndex.index (g.S.EawStore.view c.self.inside.records.store) (table_of c.self.inside.base) c.self.inside.history (live_in c.self.inside.seats) c.self.inside.doubt) (state_at g.K.KeyIndex.index (g.S.EawStore.view c.abort.new.self.store) (table_of c.self.inside.base) c.self.inside.history (live_in c.end.new.self) c.self.inside.doubt) (record { indexed = refl; dead = refl }) (record { indexed = refl; dead = refl })
       refl (length c.self.inside.seats) (length c.end.new.self) c.end.ensures.count c.self.inside.base c.self.invariant
       (subst (λ (h : Held g.row.S.Denot). IsAlive (g.S.EawStore.view h.records.store)) (sym c.self.view_is) c.requires.alive) c.args.caller (calls_at c.self.inside.seats c.args.caller) (live_is c.self.inside.seats c.args.caller (sym c.if-not-is_live.ensures)) refl refl c.in-Ok.ensures.does c.end.ensures.live);
+  sends = subst (λ (h : Held g.row.S.Denot). Mirrors g.S.EawStore.tells (g.S.EawStore.view h.records.store) (g.S.EawStore.view c.abort.new.self.store)) c.self.view_is (c.in-Ok.ensures.does.mirrors);
   not_busy = refl;
   begun = λ _. subst (λ (h : Held g.row.S.Denot). is_some ((core_of g.S.EawStore.opens g.K.KeyIndex.index (g.S.EawStore.view h.records.store) h).state.live c.args.caller) ≡ true) c.self.view_is (sym c.if-not-is_live.ensures);
 }

@@ -1,3 +1,5 @@
+use Rattle.mars_core.proofs.GivingUp.{sends_none}
+use Rattle.eaw_face.specs.Mirroring.{Mirrors}
 use Rattle.std.proofs.lemmas.Bool.{true≢false}
 use Rattle.std.proofs.Common.{true, false, ◌≡◌, ℕ, inl, inr, Option, Some, None, nat_eq, length, ap, subst, sym, ◌∙◌, refl}
 use Rattle.std.specs.Map.{update}
@@ -64,6 +66,7 @@ returns-in_default g c =
           (subst (λ (h : Held g.row.S.Denot). IsAlive (g.S.EawStore.view h.records.store)) (sym c.self.view_is) c.requires.alive) c.args.caller c.args.call.now (sym c.take.ensures.live ∙ c.in_default.is)
           (is_absent_at (limits_of (g.S.EawStore.view i.records.store).shape) (state_at g.K.KeyIndex.index (g.S.EawStore.view i.records.store) (table_of i.base) i.history (live_in i.seats) i.doubt) c.args.caller c.args.asked c.args.call.now c.requires.said) _
           (ap (λ (live : ℕ → Option Granted). state_at g.K.KeyIndex.index (g.S.EawStore.view c.self.inside.records.store) (table_of c.self.inside.base) c.self.inside.history live c.self.inside.doubt) same));
+      sends = subst (λ (h : Held g.row.S.Denot). Mirrors g.S.EawStore.tells (g.S.EawStore.view h.records.store) (g.S.EawStore.view c.self.inside.records.store)) c.self.view_is (sends_none g.S.EawStore.tells (g.S.EawStore.view c.self.inside.records.store));
       not_busy = λ held. refl;
       begun = λ granted. absurd (true≢false granted);
     }
@@ -140,6 +143,10 @@ returns g c =
                 (changed_twice (live_in i.seats) t None (Some c.answer-live.result.0) (live_in c.take.new.self) (live_in c.put.new.self) c.take.ensures.out.live c.put.ensures.live) c.answer-live.result.1 made
           ]);
       begun = λ _. subst (λ (h : Held g.row.S.Denot). is_some ((core_of g.S.EawStore.opens g.K.KeyIndex.index (g.S.EawStore.view h.records.store) h).state.live c.args.caller) ≡ true) c.self.view_is (ap (λ (o : Option Granted). is_some o) (sym c.take.ensures.live ∙ c.in-Some.is));
+      sends = subst (λ (h : Held g.row.S.Denot). Mirrors g.S.EawStore.tells (g.S.EawStore.view h.records.store) (g.S.EawStore.view c.answer-live.new.records.store)) c.self.view_is (elim c.answer-live.ensures.answered [
+        | inl unmade ↦ subst (λ (r : Shown g.row.S.Denot). Mirrors g.S.EawStore.tells (g.S.EawStore.view c.self.inside.records.store) (g.S.EawStore.view r.store)) (sym unmade.0) (sends_none g.S.EawStore.tells (g.S.EawStore.view c.self.inside.records.store))
+        | inr made ↦ made.works.does.mirrors
+      ]);
       not_busy = λ held. elim c.answer-live.ensures.answered [
         | inl unmade ↦ unmade_plain (length (p.counts t)) c.take.new.self t c.args.call.now c.answer-live.result.1 (free_of s c.take.new.self t c.args.call.now c.in-Some.live alive is c.take.ensures.out.live
             (subst (λ (h : Held g.row.S.Denot). IsLocked (core_of g.S.EawStore.opens g.K.KeyIndex.index (g.S.EawStore.view h.records.store) h).state c.args.caller c.args.call.now) (sym c.self.view_is) (c.requires.locked held)))

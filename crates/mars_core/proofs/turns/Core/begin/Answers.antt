@@ -1,3 +1,5 @@
+use Rattle.mars_core.proofs.GivingUp.{sends_none}
+use Rattle.eaw_face.specs.Mirroring.{Mirrors}
 use Rattle.std.proofs.Common.{ℕ, ap, subst, sym, ◌∙◌, refl, ◌<◌}
 use Rattle.std.specs.Prelude.{Option, length}
 use Rattle.eaw_face.specs.Causes.{IsAlive}
@@ -36,6 +38,7 @@ returns g c =
           (state_at g.K.KeyIndex.index (V store) (table_of i.base) i.history (live_in i.seats) i.doubt) _ (record { indexed = refl; dead = refl }) (length i.seats) (length c.begin.new.self) c.begin.ensures.count i.base c.self.invariant
           (subst (λ (h : Held g.row.S.Denot). IsAlive (V h.records.store)) (sym c.self.view_is) c.requires.alive) c.args.caller (none_of (live_in i.seats c.args.caller) (sym c.is_live.ensures ∙ c.if-is_live.false))
           (ap (λ (live : ℕ → Option Granted). state_at g.K.KeyIndex.index (V store) (table_of i.base) i.history live i.doubt) c.begin.ensures.live));
+      sends = subst (λ (h : Held g.row.S.Denot). Mirrors g.S.EawStore.tells (g.S.EawStore.view h.records.store) (g.S.EawStore.view c.self.inside.records.store)) c.self.view_is (sends_none g.S.EawStore.tells (g.S.EawStore.view c.self.inside.records.store));
       not_busy = refl;
     }
 

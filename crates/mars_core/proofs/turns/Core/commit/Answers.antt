@@ -1,3 +1,5 @@
+use Rattle.mars_core.proofs.GivingUp.{sends_none}
+use Rattle.eaw_face.specs.Mirroring.{Mirrors}
 use Rattle.caller_steps.specs.Fate.{is_busy}
 use Rattle.mars_core.proofs.Answered.{fault_plain}
 use Rattle.std.proofs.lemmas.Bool.{true≢false}
@@ -48,6 +50,7 @@ returns-in-Err g c = record {
       (unkept g.S.EawStore.tells g.S.EawStore.opens g.K.KeyIndex.index (pages_of (g.S.EawStore.view c.self.inside.records.store) c.self.inside.records) (state_at g.K.KeyIndex.index (g.S.EawStore.view c.self.inside.records.store) (table_of c.self.inside.base) c.self.inside.history (live_in c.self.inside.seats) c.self.inside.doubt) _ (record { indexed = refl; dead = refl }) (length c.self.inside.seats) c.self.inside.base c.self.invariant (subst (λ (h : Held g.row.S.Denot). IsAlive (g.S.EawStore.view h.records.store)) (sym c.self.view_is) c.requires.alive) c.args.caller c.in-Some.live (sym c.take.ensures.live ∙ c.in-Some.is) (let back = changed_back (live_in c.self.inside.seats) c.args.caller None (Some c.in-Some.live) (live_in c.take.new.self) (live_in c.put.new.self) c.take.ensures.out.live
       (c.put.ensures.live ∙ ap (λ (cs : Granted). update nat_eq (live_in c.take.new.self) c.args.caller (Some cs)) (c.of.ensures ∙ ap (λ (d : Done). d.calls) c.in-Err.ensures.given_back ∙ c.into_calls.ensures)) (sym c.take.ensures.live ∙ c.in-Some.is) in
       λ j. state_at g.K.KeyIndex.index (g.S.EawStore.view c.self.inside.records.store) (table_of c.self.inside.base) (c.in-Err.ensures.err j) (back j) c.self.inside.doubt));
+  sends = subst (λ (h : Held g.row.S.Denot). Mirrors g.S.EawStore.tells (g.S.EawStore.view h.records.store) (g.S.EawStore.view c.self.inside.records.store)) c.self.view_is (sends_none g.S.EawStore.tells (g.S.EawStore.view c.self.inside.records.store));
   not_busy = refl;
   begun = λ _. subst (λ (h : Held g.row.S.Denot). is_some ((core_of g.S.EawStore.opens g.K.KeyIndex.index (g.S.EawStore.view h.records.store) h).state.live c.args.caller) ≡ true) c.self.view_is (ap (λ (o : Option Granted). is_some o) (sym c.take.ensures.live ∙ c.in-Some.is));
 }
@@ -67,6 +70,7 @@ returns-in-Ok-commit g c = record {
       (laws_at g c.self.inside.records.store) (laws_at g c.commit.new.self.store) (state_at g.K.KeyIndex.index (g.S.EawStore.view c.self.inside.records.store) (table_of c.self.inside.base) c.self.inside.history (live_in c.self.inside.seats) c.self.inside.doubt) (state_at g.K.KeyIndex.index (g.S.EawStore.view c.commit.new.self.store) (table_of c.self.inside.base) c.push.new.self (live_in c.take.new.self) c.self.inside.doubt) (record { indexed = refl; dead = refl }) (record { indexed = refl; dead = refl })
       refl (length c.self.inside.seats) (length c.take.new.self) c.take.ensures.out.count c.self.inside.base c.self.invariant
       (subst (λ (h : Held g.row.S.Denot). IsAlive (g.S.EawStore.view h.records.store)) (sym c.self.view_is) c.requires.alive) c.args.caller c.in-Some.live (sym c.take.ensures.live ∙ c.in-Some.is) (record { caller = c.args.caller; calls = c.into_calls.result; at = length c.as_slice.result.now + 1 }) (λ j. record { caller = c.args.caller; calls = c.into_calls.ensures j; at = length (c.as_slice.ensures j) + 1 }) 0 (c.in-Ok-commit.ensures.does 0) c.take.ensures.out.live c.in-Ok.ensures.ok refl (length c.as_slice.result.now + 1) (ap (λ (hs : List Done). length hs + 1) c.as_slice.ensures));
+  sends = subst (λ (h : Held g.row.S.Denot). Mirrors g.S.EawStore.tells (g.S.EawStore.view h.records.store) (g.S.EawStore.view c.commit.new.self.store)) c.self.view_is ((c.in-Ok-commit.ensures.does 0).mirrors);
   not_busy = refl;
   begun = λ _. subst (λ (h : Held g.row.S.Denot). is_some ((core_of g.S.EawStore.opens g.K.KeyIndex.index (g.S.EawStore.view h.records.store) h).state.live c.args.caller) ≡ true) c.self.view_is (ap (λ (o : Option Granted). is_some o) (sym c.take.ensures.live ∙ c.in-Some.is));
 }
@@ -91,6 +95,7 @@ returns-in-Err-commit g c = record {
       refl (length c.self.inside.seats) (length c.take.new.self) c.take.ensures.out.count c.self.inside.base c.self.invariant
       (subst (λ (h : Held g.row.S.Denot). IsAlive (g.S.EawStore.view h.records.store)) (sym c.self.view_is) c.requires.alive) c.args.caller c.in-Some.live (sym c.take.ensures.live ∙ c.in-Some.is) (record { caller = c.args.caller; calls = c.into_calls.result; at = length c.as_slice.result.now + 1 }) (λ j. record { caller = c.args.caller; calls = c.into_calls.ensures j; at = length (c.as_slice.ensures j) + 1 }) (subst (λ (f : TableFault). Does g.S.EawStore.tells (g.S.EawStore.opens (g.S.EawStore.view c.self.inside.records.store).shape) g.K.KeyIndex.index 0 c.args.caller Commit
       (pages_of (g.S.EawStore.view c.self.inside.records.store) c.self.inside.records) (pages_of (g.S.EawStore.view c.commit.new.self.store) c.commit.new.self) (Err f)) (commit_fails g.S.EawStore.tells g.K.KeyIndex.index (pages_of (g.S.EawStore.view c.self.inside.records.store) c.self.inside.records) c.args.caller (subst (λ (h : Held g.row.S.Denot). IsAlive (g.S.EawStore.view h.records.store)) (sym c.self.view_is) c.requires.alive) c.in-Err-commit.fault (c.in-Err-commit.ensures.does 0).cause) (c.in-Err-commit.ensures.does 0)) c.take.ensures.out.live (sym (last_is c.self.inside.history c.pop.new.self (record { caller = c.args.caller; calls = c.into_calls.result; at = length c.as_slice.result.now + 1 }) c.pop.result (sym c.in-Ok.ensures.ok ∙ c.pop.ensures.last) (λ none. sym c.in-Ok.ensures.ok ∙ c.pop.ensures.empty.0 (subst (λ (o : Option Done). IsNone o) (sym none) refl))).0) (c.holding.ensures ∙ ap option_to_list (last_is c.self.inside.history c.pop.new.self (record { caller = c.args.caller; calls = c.into_calls.result; at = length c.as_slice.result.now + 1 }) c.pop.result (sym c.in-Ok.ensures.ok ∙ c.pop.ensures.last) (λ none. sym c.in-Ok.ensures.ok ∙ c.pop.ensures.empty.0 (subst (λ (o : Option Done). IsNone o) (sym none) refl))).1) (λ told. c.commit.ensures.due told (subst (λ (h : Held g.row.S.Denot). IsAlive (g.S.EawStore.view h.records.store)) (sym c.self.view_is) c.requires.alive) (c.in-Err-commit.is ∙ ap (λ (f : TableFault). (let r : Result (Unit {0}) TableFault = Err f in r)) (commit_fails g.S.EawStore.tells g.K.KeyIndex.index (pages_of (g.S.EawStore.view c.self.inside.records.store) c.self.inside.records) c.args.caller (subst (λ (h : Held g.row.S.Denot). IsAlive (g.S.EawStore.view h.records.store)) (sym c.self.view_is) c.requires.alive) c.in-Err-commit.fault (c.in-Err-commit.ensures.does 0).cause)))));
+  sends = subst (λ (h : Held g.row.S.Denot). Mirrors g.S.EawStore.tells (g.S.EawStore.view h.records.store) (g.S.EawStore.view c.commit.new.self.store)) c.self.view_is ((c.in-Err-commit.ensures.does 0).mirrors);
   not_busy = ap is_busy c.from.ensures ∙ fault_plain c.in-Err-commit.fault;
   begun = λ _. subst (λ (h : Held g.row.S.Denot). is_some ((core_of g.S.EawStore.opens g.K.KeyIndex.index (g.S.EawStore.view h.records.store) h).state.live c.args.caller) ≡ true) c.self.view_is (ap (λ (o : Option Granted). is_some o) (sym c.take.ensures.live ∙ c.in-Some.is));
 }
@@ -128,6 +133,7 @@ returns-in_default g c =
           (state_at g.K.KeyIndex.index (g.S.EawStore.view i.records.store) (table_of i.base) i.history (live_in i.seats) i.doubt) (record { indexed = refl; dead = refl }) (length i.seats) i.base c.self.invariant
           (subst (λ (h : Held g.row.S.Denot). IsAlive (g.S.EawStore.view h.records.store)) (sym c.self.view_is) c.requires.alive) c.args.caller Commit (sym c.take.ensures.live ∙ c.in_default.is) (refl, refl) _
           (ap (λ (live : ℕ → Option Granted). state_at g.K.KeyIndex.index (g.S.EawStore.view c.self.inside.records.store) (table_of c.self.inside.base) c.self.inside.history live c.self.inside.doubt) same));
+      sends = subst (λ (h : Held g.row.S.Denot). Mirrors g.S.EawStore.tells (g.S.EawStore.view h.records.store) (g.S.EawStore.view c.self.inside.records.store)) c.self.view_is (sends_none g.S.EawStore.tells (g.S.EawStore.view c.self.inside.records.store));
       not_busy = refl;
       begun = λ granted. absurd (true≢false granted);
     }

@@ -18,6 +18,7 @@ returns-in-Begin g c =
     let alive : (V c.args.self.now.records.store).is_dead ≡ false = subst (λ (h : Held g.row.S.Denot). (g.S.EawStore.view h.records.store).is_dead ≡ false) c.self.view_is (sym c.is_dead.ensures.dead ∙ c.if-is_dead.false) in
     record {
       steps = subst (λ (call : Call). Steps g.S.EawStore.tells c.args.caller call (core (V c.args.self.now.records.store) c.args.self.now) (core (V c.begin.new.self.records.store) c.begin.new.self) c.begin.result) (sym (ap asking c.in-Begin.is) ∙ c.of.ensures) c.begin.ensures.steps;
+      sends = c.begin.ensures.sends;
       dead = λ dead. absurd (false≢true (sym alive ∙ dead));
       not_busy = λ held. c.begin.ensures.not_busy;
       begun = λ _. inr (sym (sym (ap asking c.in-Begin.is) ∙ c.of.ensures));
@@ -33,6 +34,7 @@ returns-in-Commit g c =
     let alive : (V c.args.self.now.records.store).is_dead ≡ false = subst (λ (h : Held g.row.S.Denot). (g.S.EawStore.view h.records.store).is_dead ≡ false) c.self.view_is (sym c.is_dead.ensures.dead ∙ c.if-is_dead.false) in
     record {
       steps = subst (λ (call : Call). Steps g.S.EawStore.tells c.args.caller call (core (V c.args.self.now.records.store) c.args.self.now) (core (V c.commit.new.self.records.store) c.commit.new.self) c.commit.result) (sym (ap asking c.in-Commit.is) ∙ c.of.ensures) c.commit.ensures.steps;
+      sends = c.commit.ensures.sends;
       dead = λ dead. absurd (false≢true (sym alive ∙ dead));
       not_busy = λ held. c.commit.ensures.not_busy;
       begun = λ granted. inl (c.commit.ensures.begun granted);
@@ -48,6 +50,7 @@ returns-in-Abort g c =
     let alive : (V c.args.self.now.records.store).is_dead ≡ false = subst (λ (h : Held g.row.S.Denot). (g.S.EawStore.view h.records.store).is_dead ≡ false) c.self.view_is (sym c.is_dead.ensures.dead ∙ c.if-is_dead.false) in
     record {
       steps = subst (λ (call : Call). Steps g.S.EawStore.tells c.args.caller call (core (V c.args.self.now.records.store) c.args.self.now) (core (V c.abort.new.self.records.store) c.abort.new.self) c.abort.result) (sym (ap asking c.in-Abort.is) ∙ c.of.ensures) c.abort.ensures.steps;
+      sends = c.abort.ensures.sends;
       dead = λ dead. absurd (false≢true (sym alive ∙ dead));
       not_busy = λ held. c.abort.ensures.not_busy;
       begun = λ granted. inl (c.abort.ensures.begun granted);
@@ -66,4 +69,4 @@ ask-requires g c = record {
 pub returns-in-Table : goal.returns-in-Table
 returns-in-Table g c =
     let alive : (g.S.EawStore.view c.args.self.now.records.store).is_dead ≡ false = subst (λ (h : Held g.row.S.Denot). (g.S.EawStore.view h.records.store).is_dead ≡ false) c.self.view_is (sym c.is_dead.ensures.dead ∙ c.if-is_dead.false) in
-    record { steps = c.ask.ensures.steps; dead = λ dead. absurd (false≢true (sym alive ∙ dead)); not_busy = c.ask.ensures.not_busy; begun = λ granted. inl (c.ask.ensures.begun granted) }
+    record { steps = c.ask.ensures.steps; sends = c.ask.ensures.sends; dead = λ dead. absurd (false≢true (sym alive ∙ dead)); not_busy = c.ask.ensures.not_busy; begun = λ granted. inl (c.ask.ensures.begun granted) }

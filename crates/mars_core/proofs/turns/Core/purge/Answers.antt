@@ -1,3 +1,4 @@
+use Rattle.eaw_face.specs.Mirroring.{Mirrors}
 use Rattle.std.proofs.Common.{◌≡◌, ◌∙◌, ℕ, false, IsTrue, Option, Result, Ok, Err, length, refl, sym, ap, subst}
 use Rattle.eaw_face.specs.Causes.{IsAlive}
 use Rattle.page_store.specs.Shown.{Shown, pages_of}
@@ -47,6 +48,7 @@ returns g c =
     let V = g.S.EawStore.view in
     let i = c.self.inside in
     record {
+      sends = subst (λ (h : Held g.row.S.Denot). Mirrors g.S.EawStore.tells (g.S.EawStore.view h.records.store) (g.S.EawStore.view c.clear.new.records.store)) c.self.view_is (c.clear.ensures.clears.mirrors);
       purges = subst (λ (h : Held g.row.S.Denot). Purges g.S.EawStore.tells (Keeps g.K.KeyIndex.index) c.args.caller (core_of g.S.EawStore.opens g.K.KeyIndex.index (g.S.EawStore.view h.records.store) h)
           (core_of g.S.EawStore.opens g.K.KeyIndex.index (g.S.EawStore.view c.clear.new.records.store)
           (record { records = c.clear.new.records; base = c.self.inside.base; seats = c.self.inside.seats; history = c.self.inside.history; doubt = c.self.inside.doubt })) c.match-clear.result) c.self.view_is

@@ -1,3 +1,8 @@
+use Rattle.std.proofs.Common.{Bool}
+use Rattle.index_pages.proofs.Looking.{looks_next}
+use Rattle.record_table.specs.Attached.{is_refused_by_media}
+use Rattle.record_table.specs.declared.fault.AttachRecords.{AttachRecords}
+use Rattle.record_table.proofs.Looking.{failed_attach}
 use Rattle.std.proofs.Common.{ℕ, List, ◌++◌, false, refl, sym, ◌∙◌, ap, subst}
 use Rattle.array_shape.specs.declared.shape.Shape.{Shape}
 use Rattle.eaw_face.specs.State.{State}
@@ -51,3 +56,14 @@ returns-in-Ok-read_names-clause-rows g c = λ told.
     let bytes = (V c.args.pages.store).state.bytes in
     ap (all_keyed main_name) c.first_rows.ensures ∙ opened_rows g.K.KeyIndex.index laws bytes (c.in-Ok.ensures.cause.1 told) c.check.new.tables
     (c.in-Ok.ensures.records told ∙ ap (λ (l : List (List (ℕ × List ℕ))). l ++ records_of g.K.KeyIndex.index bytes) c.new-tables.ensures)
+
+pub returns-in-Err-clause-looks : goal.returns-in-Err-clause-looks
+returns-in-Err-clause-looks g c =
+    let V = g.S.EawStore.view in
+    let T = g.S.EawStore.tells in
+    let E = g.S.EawStore.opens in
+    let v0 = pages_of (V c.args.pages.store) c.args.pages in
+    let v1 = pages_of (V c.check.new.pages.store) c.check.new.pages in
+    let v2 = pages_of (V c.read_names.new.pages.store) c.read_names.new.pages in
+    let A = λ (b : Bool). Looks T (E (V c.args.pages.store).shape) b v0 v2 in
+    subst (λ (f : AttachRecords). A (is_refused_by_media f)) (sym c.unattached.ensures) (subst A (sym (failed_attach c.in-Err.fault)) (looks_next T E _ v0 v1 v2 c.in-Ok.ensures.looks c.in-Err.ensures.looks))

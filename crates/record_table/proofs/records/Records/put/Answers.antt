@@ -15,17 +15,16 @@ use Rattle.record_table.proofs.Doing.{look_refused}
 use Rattle.record_table.proofs.Ending.{does_of, err_same}
 use Rattle.record_table.proofs.Looking.{looks_as}
 use Rattle.record_table.proofs.Putting.{told_is_answered, put_known, put_new, put_refused}
-use Rattle.record_table.proofs.Main.{root_there}
 use Rattle.record_table.proofs.Sharing.{Laws, found_in}
 use Rattle.record_table.proofs.KeptNames.{kept}
 use Rattle.record_table.proofs.records.Records.put.Goals as goal
 
 pub insert-requires-clause-closed : goal.insert-requires-clause-closed
 insert-requires-clause-closed g c = λ living.
-    ap (λ (f : ℕ → Option ℕ). f c.args.tid) c.in-Ok-None.ensures.looks.tops ∙ (c.self.invariant.0 c.in-Ok-None.ensures.cause).closed c.args.tid
+    ap (λ (f : ℕ → Option ℕ). f c.args.tid) c.in-Ok.ensures.looks.tops ∙ (c.self.invariant.0 c.in-Ok.ensures.cause).closed c.args.tid
 
-pub invariant_of-self : goal.invariant_of-self
-invariant_of-self g c =
+pub invariant_of-self-in-Some : goal.invariant_of-self-in-Some
+invariant_of-self-in-Some g c =
     let K = g.met.K.KeyIndex in
     let V = g.S.EawStore.view in
     let T = g.S.EawStore.tells in
@@ -33,26 +32,26 @@ invariant_of-self g c =
     let I = g.K.KeyIndex.index in
     let laws : Laws g.K.KeyIndex.index = record { rises = K.rises; given = K.given; counts = K.counts; rests = K.rests; extends = K.extends } in
     let inside = c.self.inside.pages in
-    let mid = c.find.new.pages in
+    let mid = c.find_place.new.pages in
     let v0 = pages_of (V inside.store) inside in
     let v1 = pages_of (V mid.store) mid in
     let t = c.args.tid in
     let key = c.args.key in
     let new = c.write_as.new.pages in
     let v2 = pages_of (V new.store) new in
-    let alive = c.in-Ok-Some.ensures.cause in
+    let alive = c.in-Ok.ensures.cause in
     let main = λ (told : IsTrue g.S.EawStore.tells). (K.counts (V inside.store).state.bytes ((c.self.invariant.0 alive).tied told).sound).main in
-    let looks = looks_as T (E v0.store.shape) t false v0 v1 c.in-Ok-Some.ensures.looks in
+    let looks = looks_as T (E v0.store.shape) t false v0 v1 c.in-Ok.ensures.looks in
     let mid_alive = (looks.same refl).still.dead ∙ alive in
-    let does = subst (λ (s : Shape). page.Does g.S.EawStore.tells (g.S.EawStore.opens s) (write_as c.args.tid (64 * (slots_of (V mid.store).shape + c.in-Ok-Some.slot)) (slot_bytes (Present 0 c.args.key c.args.value))) (pages_of (V mid.store) mid) (pages_of (V new.store) new) c.write_as.result)
+    let does = subst (λ (s : Shape). page.Does g.S.EawStore.tells (g.S.EawStore.opens s) (write_as c.args.tid (64 * (slots_of (V mid.store).shape + c.in-Some.slot)) (slot_bytes (Present 0 c.args.key c.args.value))) (pages_of (V mid.store) mid) (pages_of (V new.store) new) c.write_as.result)
     looks.shape c.write_as.ensures.does in
-    kept (put_known T (E v0.store.shape) I laws 0 1 t key (omega arith) (omega arith) c.args.value v0 alive c.self.invariant.0 main v1 looks v2 c.in-Ok-Some.slot (λ told. found_in g.K.KeyIndex.index laws (V inside.store).state.bytes 0 1 c.args.key ((c.self.invariant.0 alive).tied told).sound (omega arith) (main told) ∙ sym (c.in-Ok-Some.ensures.found told) ∙ c.in-Ok-Some.field-0-is)
+    kept (put_known T (E v0.store.shape) I laws 0 1 t key (omega arith) (omega arith) c.args.value v0 alive c.self.invariant.0 main v1 looks v2 c.in-Some.slot (λ told. found_in g.K.KeyIndex.index laws (V inside.store).state.bytes 0 1 c.args.key ((c.self.invariant.0 alive).tied told).sound (omega arith) (main told) ∙ sym (c.in-Ok.ensures.found told) ∙ sym c.slot_of.ensures ∙ c.in-Some.is)
     (λ told. record { long = g.met.S.EawStore.long mid.store told; outlines = λ t. g.met.S.EawStore.outlines mid.store t told mid_alive; placed = λ t. g.met.S.EawStore.placed mid.store t })
     (c.write_as.ensures.ordered mid_alive) (c.write_as.ensures.reads_back mid_alive) (c.write_as.ensures.whole mid_alive) c.write_as.result does
     (λ f e ne. ap (λ (p : Shown g.row.S.Denot). pages_of (V p.store) p) (err_same c.write_as.result c.write_as.ensures.refused f e ne))) c.self.invariant.1
 
-pub returns-in-Ok-Some-clause-does : goal.returns-in-Ok-Some-clause-does
-returns-in-Ok-Some-clause-does g c =
+pub returns-in-Some-clause-does : goal.returns-in-Some-clause-does
+returns-in-Some-clause-does g c =
     let K = g.met.K.KeyIndex in
     let V = g.S.EawStore.view in
     let T = g.S.EawStore.tells in
@@ -60,27 +59,27 @@ returns-in-Ok-Some-clause-does g c =
     let I = g.K.KeyIndex.index in
     let laws : Laws g.K.KeyIndex.index = record { rises = K.rises; given = K.given; counts = K.counts; rests = K.rests; extends = K.extends } in
     let inside = c.self.inside.pages in
-    let mid = c.find.new.pages in
+    let mid = c.find_place.new.pages in
     let v0 = pages_of (V inside.store) inside in
     let v1 = pages_of (V mid.store) mid in
     let t = c.args.tid in
     let key = c.args.key in
     let new = c.write_as.new.pages in
     let v2 = pages_of (V new.store) new in
-    let alive = c.in-Ok-Some.ensures.cause in
+    let alive = c.in-Ok.ensures.cause in
     let main = λ (told : IsTrue g.S.EawStore.tells). (K.counts (V inside.store).state.bytes ((c.self.invariant.0 alive).tied told).sound).main in
-    let looks = looks_as T (E v0.store.shape) t false v0 v1 c.in-Ok-Some.ensures.looks in
+    let looks = looks_as T (E v0.store.shape) t false v0 v1 c.in-Ok.ensures.looks in
     let mid_alive = (looks.same refl).still.dead ∙ alive in
-    let does = subst (λ (s : Shape). page.Does g.S.EawStore.tells (g.S.EawStore.opens s) (write_as c.args.tid (64 * (slots_of (V mid.store).shape + c.in-Ok-Some.slot)) (slot_bytes (Present 0 c.args.key c.args.value))) (pages_of (V mid.store) mid) (pages_of (V new.store) new) c.write_as.result)
+    let does = subst (λ (s : Shape). page.Does g.S.EawStore.tells (g.S.EawStore.opens s) (write_as c.args.tid (64 * (slots_of (V mid.store).shape + c.in-Some.slot)) (slot_bytes (Present 0 c.args.key c.args.value))) (pages_of (V mid.store) mid) (pages_of (V new.store) new) c.write_as.result)
     looks.shape c.write_as.ensures.does in
     rw (c.told.ensures, told_is_answered) (does_of V T E I 0 t (Put key c.args.value) c.args.self.now inside c.self.view_is v2 _
-    (put_known T (E v0.store.shape) I laws 0 1 t key (omega arith) (omega arith) c.args.value v0 alive c.self.invariant.0 main v1 looks v2 c.in-Ok-Some.slot (λ told. found_in g.K.KeyIndex.index laws (V inside.store).state.bytes 0 1 c.args.key ((c.self.invariant.0 alive).tied told).sound (omega arith) (main told) ∙ sym (c.in-Ok-Some.ensures.found told) ∙ c.in-Ok-Some.field-0-is)
+    (put_known T (E v0.store.shape) I laws 0 1 t key (omega arith) (omega arith) c.args.value v0 alive c.self.invariant.0 main v1 looks v2 c.in-Some.slot (λ told. found_in g.K.KeyIndex.index laws (V inside.store).state.bytes 0 1 c.args.key ((c.self.invariant.0 alive).tied told).sound (omega arith) (main told) ∙ sym (c.in-Ok.ensures.found told) ∙ sym c.slot_of.ensures ∙ c.in-Some.is)
     (λ told. record { long = g.met.S.EawStore.long mid.store told; outlines = λ t. g.met.S.EawStore.outlines mid.store t told mid_alive; placed = λ t. g.met.S.EawStore.placed mid.store t })
     (c.write_as.ensures.ordered mid_alive) (c.write_as.ensures.reads_back mid_alive) (c.write_as.ensures.whole mid_alive) c.write_as.result does
     (λ f e ne. ap (λ (p : Shown g.row.S.Denot). pages_of (V p.store) p) (err_same c.write_as.result c.write_as.ensures.refused f e ne))).0)
 
-pub invariant_of-self-in-Ok : goal.invariant_of-self-in-Ok
-invariant_of-self-in-Ok g c =
+pub invariant_of-self-in-Ok-insert : goal.invariant_of-self-in-Ok-insert
+invariant_of-self-in-Ok-insert g c =
     let K = g.met.K.KeyIndex in
     let V = g.S.EawStore.view in
     let T = g.S.EawStore.tells in
@@ -88,30 +87,30 @@ invariant_of-self-in-Ok g c =
     let I = g.K.KeyIndex.index in
     let laws : Laws g.K.KeyIndex.index = record { rises = K.rises; given = K.given; counts = K.counts; rests = K.rests; extends = K.extends } in
     let inside = c.self.inside.pages in
-    let mid = c.find.new.pages in
+    let mid = c.find_place.new.pages in
     let v0 = pages_of (V inside.store) inside in
     let v1 = pages_of (V mid.store) mid in
     let t = c.args.tid in
     let key = c.args.key in
     let far = c.insert.new.pages in
     let v2 = pages_of (V far.store) far in
-    let new = c.write_as-in-Ok.new.pages in
+    let new = c.write_as-in-Ok-insert.new.pages in
     let v3 = pages_of (V new.store) new in
-    let alive = c.in-Ok-None.ensures.cause in
+    let alive = c.in-Ok.ensures.cause in
     let main = λ (told : IsTrue g.S.EawStore.tells). (K.counts (V inside.store).state.bytes ((c.self.invariant.0 alive).tied told).sound).main in
-    let looks = looks_as T (E v0.store.shape) t false v0 v1 c.in-Ok-None.ensures.looks in
+    let looks = looks_as T (E v0.store.shape) t false v0 v1 c.in-Ok.ensures.looks in
     let mid_alive = (looks.same refl).still.dead ∙ alive in
-    let inserts = subst (λ (s : Shape). (let r : Result ℕ IndexFault = Ok c.in-Ok.slot in Inserts g.S.EawStore.tells (g.S.EawStore.opens s) g.K.KeyIndex.index c.args.tid 1 0 c.args.key (pages_of (V mid.store) mid) (pages_of (V far.store) far) r)) looks.shape c.in-Ok.ensures.inserts in
+    let inserts = subst (λ (s : Shape). (let r : Result ℕ IndexFault = Ok c.in-Ok-insert.slot in Inserts g.S.EawStore.tells (g.S.EawStore.opens s) g.K.KeyIndex.index c.args.tid 1 0 c.args.key (pages_of (V mid.store) mid) (pages_of (V far.store) far) r)) looks.shape c.in-Ok-insert.ensures.inserts in
     let far_alive = (inserts.kept refl).dead ∙ mid_alive in
-    let does = subst (λ (s : Shape). page.Does g.S.EawStore.tells (g.S.EawStore.opens s) (write_as c.args.tid (64 * (slots_of (V far.store).shape + c.in-Ok.slot)) (slot_bytes (Present 0 c.args.key c.args.value))) (pages_of (V far.store) far) (pages_of (V new.store) new) c.write_as-in-Ok.result)
-    (inserts.shape ∙ looks.shape) c.write_as-in-Ok.ensures.does in
-    kept (put_new T (E v0.store.shape) I laws 0 1 t key (omega arith) (omega arith) c.args.value v0 alive c.self.invariant.0 main v1 looks (λ told. sym (c.in-Ok-None.ensures.found told) ∙ c.in-Ok-None.field-0-is) v2
-    (slot_said-slot_bytes (Absent 0 c.args.key) (omega arith)) c.in-Ok.slot inserts v3 (λ told. record { long = g.met.S.EawStore.long far.store told; outlines = λ t. g.met.S.EawStore.outlines far.store t told far_alive; placed = λ t. g.met.S.EawStore.placed far.store t })
-    (c.write_as-in-Ok.ensures.ordered far_alive) (c.write_as-in-Ok.ensures.reads_back far_alive) (c.write_as-in-Ok.ensures.whole far_alive) c.write_as-in-Ok.result does
-    (λ f e ne. ap (λ (p : Shown g.row.S.Denot). pages_of (V p.store) p) (err_same c.write_as-in-Ok.result c.write_as-in-Ok.ensures.refused f e ne))) c.self.invariant.1
+    let does = subst (λ (s : Shape). page.Does g.S.EawStore.tells (g.S.EawStore.opens s) (write_as c.args.tid (64 * (slots_of (V far.store).shape + c.in-Ok-insert.slot)) (slot_bytes (Present 0 c.args.key c.args.value))) (pages_of (V far.store) far) (pages_of (V new.store) new) c.write_as-in-Ok-insert.result)
+    (inserts.shape ∙ looks.shape) c.write_as-in-Ok-insert.ensures.does in
+    kept (put_new T (E v0.store.shape) I laws 0 1 t key (omega arith) (omega arith) c.args.value v0 alive c.self.invariant.0 main v1 looks (λ told. sym (c.in-Ok.ensures.found told) ∙ sym c.slot_of.ensures ∙ c.in_default.is) v2
+    (slot_said-slot_bytes (Absent 0 c.args.key) (omega arith)) c.in-Ok-insert.slot inserts v3 (λ told. record { long = g.met.S.EawStore.long far.store told; outlines = λ t. g.met.S.EawStore.outlines far.store t told far_alive; placed = λ t. g.met.S.EawStore.placed far.store t })
+    (c.write_as-in-Ok-insert.ensures.ordered far_alive) (c.write_as-in-Ok-insert.ensures.reads_back far_alive) (c.write_as-in-Ok-insert.ensures.whole far_alive) c.write_as-in-Ok-insert.result does
+    (λ f e ne. ap (λ (p : Shown g.row.S.Denot). pages_of (V p.store) p) (err_same c.write_as-in-Ok-insert.result c.write_as-in-Ok-insert.ensures.refused f e ne))) c.self.invariant.1
 
-pub returns-in-Ok-clause-does : goal.returns-in-Ok-clause-does
-returns-in-Ok-clause-does g c =
+pub returns-in-Ok-insert-clause-does : goal.returns-in-Ok-insert-clause-does
+returns-in-Ok-insert-clause-does g c =
     let K = g.met.K.KeyIndex in
     let V = g.S.EawStore.view in
     let T = g.S.EawStore.tells in
@@ -119,28 +118,28 @@ returns-in-Ok-clause-does g c =
     let I = g.K.KeyIndex.index in
     let laws : Laws g.K.KeyIndex.index = record { rises = K.rises; given = K.given; counts = K.counts; rests = K.rests; extends = K.extends } in
     let inside = c.self.inside.pages in
-    let mid = c.find.new.pages in
+    let mid = c.find_place.new.pages in
     let v0 = pages_of (V inside.store) inside in
     let v1 = pages_of (V mid.store) mid in
     let t = c.args.tid in
     let key = c.args.key in
     let far = c.insert.new.pages in
     let v2 = pages_of (V far.store) far in
-    let new = c.write_as-in-Ok.new.pages in
+    let new = c.write_as-in-Ok-insert.new.pages in
     let v3 = pages_of (V new.store) new in
-    let alive = c.in-Ok-None.ensures.cause in
+    let alive = c.in-Ok.ensures.cause in
     let main = λ (told : IsTrue g.S.EawStore.tells). (K.counts (V inside.store).state.bytes ((c.self.invariant.0 alive).tied told).sound).main in
-    let looks = looks_as T (E v0.store.shape) t false v0 v1 c.in-Ok-None.ensures.looks in
+    let looks = looks_as T (E v0.store.shape) t false v0 v1 c.in-Ok.ensures.looks in
     let mid_alive = (looks.same refl).still.dead ∙ alive in
-    let inserts = subst (λ (s : Shape). (let r : Result ℕ IndexFault = Ok c.in-Ok.slot in Inserts g.S.EawStore.tells (g.S.EawStore.opens s) g.K.KeyIndex.index c.args.tid 1 0 c.args.key (pages_of (V mid.store) mid) (pages_of (V far.store) far) r)) looks.shape c.in-Ok.ensures.inserts in
+    let inserts = subst (λ (s : Shape). (let r : Result ℕ IndexFault = Ok c.in-Ok-insert.slot in Inserts g.S.EawStore.tells (g.S.EawStore.opens s) g.K.KeyIndex.index c.args.tid 1 0 c.args.key (pages_of (V mid.store) mid) (pages_of (V far.store) far) r)) looks.shape c.in-Ok-insert.ensures.inserts in
     let far_alive = (inserts.kept refl).dead ∙ mid_alive in
-    let does = subst (λ (s : Shape). page.Does g.S.EawStore.tells (g.S.EawStore.opens s) (write_as c.args.tid (64 * (slots_of (V far.store).shape + c.in-Ok.slot)) (slot_bytes (Present 0 c.args.key c.args.value))) (pages_of (V far.store) far) (pages_of (V new.store) new) c.write_as-in-Ok.result)
-    (inserts.shape ∙ looks.shape) c.write_as-in-Ok.ensures.does in
-    rw (c.told-in-Ok.ensures, told_is_answered) (does_of V T E I 0 t (Put key c.args.value) c.args.self.now inside c.self.view_is v3 _
-    (put_new T (E v0.store.shape) I laws 0 1 t key (omega arith) (omega arith) c.args.value v0 alive c.self.invariant.0 main v1 looks (λ told. sym (c.in-Ok-None.ensures.found told) ∙ c.in-Ok-None.field-0-is) v2
-    (slot_said-slot_bytes (Absent 0 c.args.key) (omega arith)) c.in-Ok.slot inserts v3 (λ told. record { long = g.met.S.EawStore.long far.store told; outlines = λ t. g.met.S.EawStore.outlines far.store t told far_alive; placed = λ t. g.met.S.EawStore.placed far.store t })
-    (c.write_as-in-Ok.ensures.ordered far_alive) (c.write_as-in-Ok.ensures.reads_back far_alive) (c.write_as-in-Ok.ensures.whole far_alive) c.write_as-in-Ok.result does
-    (λ f e ne. ap (λ (p : Shown g.row.S.Denot). pages_of (V p.store) p) (err_same c.write_as-in-Ok.result c.write_as-in-Ok.ensures.refused f e ne))).0)
+    let does = subst (λ (s : Shape). page.Does g.S.EawStore.tells (g.S.EawStore.opens s) (write_as c.args.tid (64 * (slots_of (V far.store).shape + c.in-Ok-insert.slot)) (slot_bytes (Present 0 c.args.key c.args.value))) (pages_of (V far.store) far) (pages_of (V new.store) new) c.write_as-in-Ok-insert.result)
+    (inserts.shape ∙ looks.shape) c.write_as-in-Ok-insert.ensures.does in
+    rw (c.told-in-Ok-insert.ensures, told_is_answered) (does_of V T E I 0 t (Put key c.args.value) c.args.self.now inside c.self.view_is v3 _
+    (put_new T (E v0.store.shape) I laws 0 1 t key (omega arith) (omega arith) c.args.value v0 alive c.self.invariant.0 main v1 looks (λ told. sym (c.in-Ok.ensures.found told) ∙ sym c.slot_of.ensures ∙ c.in_default.is) v2
+    (slot_said-slot_bytes (Absent 0 c.args.key) (omega arith)) c.in-Ok-insert.slot inserts v3 (λ told. record { long = g.met.S.EawStore.long far.store told; outlines = λ t. g.met.S.EawStore.outlines far.store t told far_alive; placed = λ t. g.met.S.EawStore.placed far.store t })
+    (c.write_as-in-Ok-insert.ensures.ordered far_alive) (c.write_as-in-Ok-insert.ensures.reads_back far_alive) (c.write_as-in-Ok-insert.ensures.whole far_alive) c.write_as-in-Ok-insert.result does
+    (λ f e ne. ap (λ (p : Shown g.row.S.Denot). pages_of (V p.store) p) (err_same c.write_as-in-Ok-insert.result c.write_as-in-Ok-insert.ensures.refused f e ne))).0)
 
 pub invariant_of-self-in-Err-insert : goal.invariant_of-self-in-Err-insert
 invariant_of-self-in-Err-insert g c =
@@ -151,18 +150,18 @@ invariant_of-self-in-Err-insert g c =
     let I = g.K.KeyIndex.index in
     let laws : Laws g.K.KeyIndex.index = record { rises = K.rises; given = K.given; counts = K.counts; rests = K.rests; extends = K.extends } in
     let inside = c.self.inside.pages in
-    let mid = c.find.new.pages in
+    let mid = c.find_place.new.pages in
     let v0 = pages_of (V inside.store) inside in
     let v1 = pages_of (V mid.store) mid in
     let t = c.args.tid in
     let key = c.args.key in
     let far = c.insert.new.pages in
     let v2 = pages_of (V far.store) far in
-    let alive = c.in-Ok-None.ensures.cause in
+    let alive = c.in-Ok.ensures.cause in
     let main = λ (told : IsTrue g.S.EawStore.tells). (K.counts (V inside.store).state.bytes ((c.self.invariant.0 alive).tied told).sound).main in
-    let looks = looks_as T (E v0.store.shape) t false v0 v1 c.in-Ok-None.ensures.looks in
+    let looks = looks_as T (E v0.store.shape) t false v0 v1 c.in-Ok.ensures.looks in
     let inserts = subst (λ (s : Shape). (let r : Result ℕ IndexFault = Err c.in-Err-insert.fault in Inserts g.S.EawStore.tells (g.S.EawStore.opens s) g.K.KeyIndex.index c.args.tid 1 0 c.args.key (pages_of (V mid.store) mid) (pages_of (V far.store) far) r)) looks.shape c.in-Err-insert.ensures.inserts in
-    kept (put_refused T (E v0.store.shape) I laws 0 1 t key (omega arith) (omega arith) c.args.value v0 alive c.self.invariant.0 main v1 looks (λ told. sym (c.in-Ok-None.ensures.found told) ∙ c.in-Ok-None.field-0-is) v2
+    kept (put_refused T (E v0.store.shape) I laws 0 1 t key (omega arith) (omega arith) c.args.value v0 alive c.self.invariant.0 main v1 looks (λ told. sym (c.in-Ok.ensures.found told) ∙ sym c.slot_of.ensures ∙ c.in_default.is) v2
     (slot_said-slot_bytes (Absent 0 c.args.key) (omega arith)) c.in-Err-insert.fault inserts) c.self.invariant.1
 
 pub returns-in-Err-insert-clause-does : goal.returns-in-Err-insert-clause-does
@@ -174,23 +173,23 @@ returns-in-Err-insert-clause-does g c =
     let I = g.K.KeyIndex.index in
     let laws : Laws g.K.KeyIndex.index = record { rises = K.rises; given = K.given; counts = K.counts; rests = K.rests; extends = K.extends } in
     let inside = c.self.inside.pages in
-    let mid = c.find.new.pages in
+    let mid = c.find_place.new.pages in
     let v0 = pages_of (V inside.store) inside in
     let v1 = pages_of (V mid.store) mid in
     let t = c.args.tid in
     let key = c.args.key in
     let far = c.insert.new.pages in
     let v2 = pages_of (V far.store) far in
-    let alive = c.in-Ok-None.ensures.cause in
+    let alive = c.in-Ok.ensures.cause in
     let main = λ (told : IsTrue g.S.EawStore.tells). (K.counts (V inside.store).state.bytes ((c.self.invariant.0 alive).tied told).sound).main in
-    let looks = looks_as T (E v0.store.shape) t false v0 v1 c.in-Ok-None.ensures.looks in
+    let looks = looks_as T (E v0.store.shape) t false v0 v1 c.in-Ok.ensures.looks in
     let inserts = subst (λ (s : Shape). (let r : Result ℕ IndexFault = Err c.in-Err-insert.fault in Inserts g.S.EawStore.tells (g.S.EawStore.opens s) g.K.KeyIndex.index c.args.tid 1 0 c.args.key (pages_of (V mid.store) mid) (pages_of (V far.store) far) r)) looks.shape c.in-Err-insert.ensures.inserts in
-    rw c.from.ensures (does_of V T E I 0 t (Put key c.args.value) c.args.self.now inside c.self.view_is v2 _
-    (put_refused T (E v0.store.shape) I laws 0 1 t key (omega arith) (omega arith) c.args.value v0 alive c.self.invariant.0 main v1 looks (λ told. sym (c.in-Ok-None.ensures.found told) ∙ c.in-Ok-None.field-0-is) v2
+    rw c.from-in-Err-insert.ensures (does_of V T E I 0 t (Put key c.args.value) c.args.self.now inside c.self.view_is v2 _
+    (put_refused T (E v0.store.shape) I laws 0 1 t key (omega arith) (omega arith) c.args.value v0 alive c.self.invariant.0 main v1 looks (λ told. sym (c.in-Ok.ensures.found told) ∙ sym c.slot_of.ensures ∙ c.in_default.is) v2
     (slot_said-slot_bytes (Absent 0 c.args.key) (omega arith)) c.in-Err-insert.fault inserts).0)
 
-pub invariant_of-self-in-Err : goal.invariant_of-self-in-Err
-invariant_of-self-in-Err g c =
+pub invariant_of-self : goal.invariant_of-self
+invariant_of-self g c =
     let K = g.met.K.KeyIndex in
     let V = g.S.EawStore.view in
     let T = g.S.EawStore.tells in
@@ -198,7 +197,7 @@ invariant_of-self-in-Err g c =
     let I = g.K.KeyIndex.index in
     let laws : Laws g.K.KeyIndex.index = record { rises = K.rises; given = K.given; counts = K.counts; rests = K.rests; extends = K.extends } in
     let inside = c.self.inside.pages in
-    let mid = c.find.new.pages in
+    let mid = c.find_place.new.pages in
     let v0 = pages_of (V inside.store) inside in
     let v1 = pages_of (V mid.store) mid in
     let t = c.args.tid in
@@ -215,11 +214,11 @@ returns-in-Err-clause-does g c =
     let I = g.K.KeyIndex.index in
     let laws : Laws g.K.KeyIndex.index = record { rises = K.rises; given = K.given; counts = K.counts; rests = K.rests; extends = K.extends } in
     let inside = c.self.inside.pages in
-    let mid = c.find.new.pages in
+    let mid = c.find_place.new.pages in
     let v0 = pages_of (V inside.store) inside in
     let v1 = pages_of (V mid.store) mid in
     let t = c.args.tid in
     let key = c.args.key in
-    rw c.from-in-Err.ensures (does_of V T E I 0 t (Put key c.args.value) c.args.self.now inside c.self.view_is v1 _
+    rw c.from.ensures (does_of V T E I 0 t (Put key c.args.value) c.args.self.now inside c.self.view_is v1 _
     (look_refused T (E v0.store.shape) I 0 t (Put key c.args.value) v0 v1 c.self.invariant.0 _ c.in-Err.fault tt c.in-Err.ensures.cause (looks_as T (E v0.store.shape) t _ v0 v1 c.in-Err.ensures.looks)
     (λ e. ap (λ (p : Shown g.row.S.Denot). pages_of (V p.store) p) (c.in-Err.ensures.dead e))).0)

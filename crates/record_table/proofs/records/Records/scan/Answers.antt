@@ -1,3 +1,7 @@
+use Rattle.std.proofs.Common.{true, refl, subst}
+use Rattle.page_store.specs.Shown.{Shown}
+use Rattle.record_table.proofs.Doing.{does_dead}
+use Rattle.record_table.proofs.Looking.{looks_none}
 use Rattle.std.proofs.Common.{◌≡◌, sym, ◌∙◌, ap}
 use Rattle.page_store.specs.Shown.{pages_of}
 use Rattle.history.specs.declared.call.Call.TheVariants.{Scan}
@@ -28,3 +32,17 @@ returns-clause-does g c =
     rw (answer_is g c) (does_of V g.S.EawStore.tells g.S.EawStore.opens g.K.KeyIndex.index 0 c.args.tid (Scan c.args.low c.args.high) c.args.self.now inside c.self.view_is (pages_of (V c.gather.new.pages.store) c.gather.new.pages) _
     (scanned g.S.EawStore.tells (g.S.EawStore.opens (V inside.store).shape) g.K.KeyIndex.index 0 c.args.tid c.args.low c.args.high (pages_of (V inside.store) inside) (pages_of (V c.gather.new.pages.store) c.gather.new.pages) c.self.invariant.0
     (sym c.is_dead.ensures.dead ∙ c.if-is_dead.false) c.gather.new.rows c.gather.result c.gather.ensures.looks c.gather.ensures.cause c.gather.ensures.rows).0)
+
+pub returns-then-is_dead-clause-does : goal.returns-then-is_dead-clause-does
+returns-then-is_dead-clause-does g c =
+    let V = g.S.EawStore.view in
+    let now = c.args.self.now in
+    let v = pages_of (V now.store) now in
+    does_dead g.S.EawStore.tells (g.S.EawStore.opens (V now.store).shape) g.K.KeyIndex.index 0 c.args.tid (Scan c.args.low c.args.high) v v refl
+    (subst (λ (p : Shown g.row.S.Denot). (V p.store).is_dead ≡ true) c.self.view_is (sym c.is_dead.ensures.dead ∙ c.if-is_dead.true))
+
+pub returns-then-is_dead-clause-looks : goal.returns-then-is_dead-clause-looks
+returns-then-is_dead-clause-looks g c =
+    let V = g.S.EawStore.view in
+    let now = c.args.self.now in
+    looks_none g.S.EawStore.tells (g.S.EawStore.opens (V now.store).shape) c.args.tid (pages_of (V now.store) now)
