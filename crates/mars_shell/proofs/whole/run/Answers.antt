@@ -19,7 +19,7 @@ use Rattle.mars_shell.proofs.Outcomes.{turns_only, turns_spared}
 use Rattle.told_commands.proofs.Clearing.{complete_purge}
 use Rattle.mars_shell.proofs.FramesFollowed.{complete_follow}
 use Rattle.told_commands.proofs.Tabling.{complete_make}
-use Rattle.mars_shell.proofs.Waiting.{run_depth, callers_depth, callers_few}
+use Rattle.mars_shell.proofs.Waiting.{run_depth, callers_depth, callers_few, readers_few}
 use Rattle.mars_shell.proofs.whole.run.Goals as goal
 
 pub returns-in-Err-NoCommand-clause-words : goal.returns-in-Err-NoCommand-clause-words
@@ -303,6 +303,9 @@ over_records-requires-clause-depth g c = λ κs lives. run_depth (map string_byt
 
 pub run_callers-requires-clause-few : goal.run_callers-requires-clause-few
 run_callers-requires-clause-few g c = λ κs lives. callers_few (map string_bytes c.args.words.now) c.in-Ok-Callers.numbers (rw c.in-Ok-Callers.field-0-is at c.in-Ok-Callers.ensures-1.asked)
+
+pub run_callers-requires-clause-readers : goal.run_callers-requires-clause-readers
+run_callers-requires-clause-readers g c = λ κs lives. readers_few (map string_bytes c.args.words.now) c.in-Ok-Callers.numbers (rw c.in-Ok-Callers.field-0-is at c.in-Ok-Callers.ensures-1.asked)
 
 pub run_callers-requires-clause-depth : goal.run_callers-requires-clause-depth
 run_callers-requires-clause-depth g c = λ κs lives. callers_depth (map string_bytes c.args.words.now) c.in-Ok-Callers.numbers (rw c.in-Ok-Callers.field-0-is at c.in-Ok-Callers.ensures-1.asked)
