@@ -1,7 +1,8 @@
-//! The text of callers' work: the lines that were passed over, the history, what became of the other transactions, and the records. What it
-//! is stands in `specs/Text.antt` (`work_text`).
+//! The text of callers' work: the lines that were passed over, the history, what became of the other transactions, the records, and
+//! what readers were answered. What it is stands in `specs/Text.antt` (`work_text`).
 #![tactic(auto)]
 
+mod answers;
 mod fates;
 mod faults;
 mod number_line;
@@ -9,6 +10,7 @@ mod records;
 mod tables;
 mod transactions;
 
+pub use answers::write_answers;
 pub use fates::write_fates;
 pub use faults::write_faults;
 pub use number_line::append_number;

@@ -43,6 +43,7 @@ use Rattle.told_commands.specs.Dump.{DumpsRecords}
 use Rattle.mars_shell.specs.Follow.{Follows}
 use Rattle.mars_shell.specs.Formats.{IsFormatted, FormatOutcome}
 use Rattle.array_runs.specs.Forms.{index_of_form, index_in}
+use Rattle.reader_work.specs.Readership.{passes_for}
 use Rattle.mars_shell.specs.Joint.{JointWork}
 use Rattle.mars_shell.specs.Late.{is_late}
 use Rattle.mars_shell.specs.Next.{AllSound, IsOfRecords, LeavesFresh}
@@ -229,7 +230,7 @@ module _ (tells : Bool) (told : IsTrue tells) (old new : View) (counts_now : (t 
 
     pub next_sound : (asked : Words) (status : Status) (input : List ℕ) (cut : Bool) (text : List ℕ) → IsOfRecords asked → OutcomeFor asked old status new input cut text → AllSound shape form new.content
     next_sound (Run given) status input cut text of outcome = records_sound false 0 (λ ended. TakesTurns false (is_late given.writing) (Answers input ended cut text) old ended new) status cut text (λ ended taken. turns_sound false (is_late given.writing) (Answers input ended cut text) ended taken) outcome
-    next_sound (Callers numbers) status input cut text of outcome = records_sound false numbers.callers (λ ended. TakesTurns false (is_late numbers.writing) (JointWork numbers.callers numbers.tries input ended cut text) old ended new) status cut text (λ ended taken. turns_sound false (is_late numbers.writing) (JointWork numbers.callers numbers.tries input ended cut text) ended taken) outcome
+    next_sound (Callers numbers) status input cut text of outcome = records_sound false (passes_for numbers.callers numbers.readers) (λ ended. TakesTurns false (is_late numbers.writing) (JointWork numbers.callers numbers.readers numbers.tries input ended cut text) old ended new) status cut text (λ ended taken. turns_sound false (is_late numbers.writing) (JointWork numbers.callers numbers.readers numbers.tries input ended cut text) ended taken) outcome
     next_sound Dump status input cut text of outcome = records_sound true 0 (λ ended. DumpsRecords ended old new cut text) status cut text (dumped_sound cut text) outcome
     next_sound (Drill numbers) status input cut text of outcome = records_sound false 0 (λ ended. TakesTurns false (is_late numbers.writing) (Drills numbers ended cut text) old ended new) status cut text (λ ended taken. turns_sound false (is_late numbers.writing) (Drills numbers ended cut text) ended taken) outcome
     next_sound (Make name) status input cut text of outcome = made_sound name status cut text outcome

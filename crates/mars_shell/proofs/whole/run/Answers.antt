@@ -7,6 +7,7 @@ use Rattle.mars_shell.specs.Drill.{Drills}
 use Rattle.array_runs.proofs.Endings.{is_early, counts_unread, read_fault_early}
 use Rattle.mars_shell.proofs.Endings.{format_late}
 use Rattle.mars_shell.proofs.FormatLemmas.{no_usage}
+use Rattle.reader_work.specs.Readership.{passes_for}
 use Rattle.mars_shell.specs.Joint.{JointWork}
 use Rattle.mars_shell.specs.Late.{is_late}
 use Rattle.mars_shell.specs.Run.{TakesTurns, Answers}
@@ -16,7 +17,7 @@ use Rattle.told_commands.proofs.Clearing.{complete_purge}
 use Rattle.told_commands.proofs.Dumping.{complete_dump}
 use Rattle.mars_shell.proofs.FramesFollowed.{complete_follow}
 use Rattle.told_commands.proofs.Tabling.{complete_make}
-use Rattle.mars_shell.proofs.Waiting.{run_depth, callers_depth, callers_few}
+use Rattle.mars_shell.proofs.Waiting.{run_depth, callers_depth, callers_few, readers_few}
 use Rattle.mars_shell.proofs.whole.run.Goals as goal
 
 pub returns-in-Err-NoCommand-clause-words : goal.returns-in-Err-NoCommand-clause-words
@@ -123,7 +124,7 @@ returns-in-Ok-Callers-clause-complete g c =
     let ran = said.ran in
     callers_say (map string_bytes c.args.words.now) c.run_callers.result.0 (Unit {0}) _ c.in-Ok-Callers.numbers (rw c.in-Ok-Callers.field-0-is at c.in-Ok-Callers.ensures-1.asked)
     (λ fit no_source no_sink no_media.
-    complete_records false numbers.callers (λ ended. TakesTurns false (is_late numbers.writing) (JointWork numbers.callers numbers.tries ran.holds.0 ended ran.cut ran.text) old ended new) old c.run_callers.result.0 new ran.cut ran.text given _ _ _ _ _ _ _ fit.0.1 fit.2.0 fit.2.1 fit.2.2 no_source no_sink no_media said.counts (said.input fit.0.0) (ran.holds.2 fit.1))
+    complete_records false (passes_for numbers.callers numbers.readers) (λ ended. TakesTurns false (is_late numbers.writing) (JointWork numbers.callers numbers.readers numbers.tries ran.holds.0 ended ran.cut ran.text) old ended new) old c.run_callers.result.0 new ran.cut ran.text given _ _ _ _ _ _ _ fit.0.1 fit.2.0 fit.2.1 fit.2.2 no_source no_sink no_media said.counts (said.input fit.0.0) (ran.holds.2 fit.1))
 
 pub returns-in-Ok-Dump-clause-words : goal.returns-in-Ok-Dump-clause-words
 returns-in-Ok-Dump-clause-words g c = words_say (map string_bytes c.args.words.now) c.run_told.result.0 _ _ Dump c.run_told.ensures.no_usage (rw c.in-Ok-Dump.field-0-is at c.in-Ok-Dump.ensures-1.asked) tt
@@ -296,6 +297,9 @@ over_records-requires-clause-depth g c = λ κs lives. run_depth (map string_byt
 
 pub run_callers-requires-clause-few : goal.run_callers-requires-clause-few
 run_callers-requires-clause-few g c = λ κs lives. callers_few (map string_bytes c.args.words.now) c.in-Ok-Callers.numbers (rw c.in-Ok-Callers.field-0-is at c.in-Ok-Callers.ensures-1.asked)
+
+pub run_callers-requires-clause-readers : goal.run_callers-requires-clause-readers
+run_callers-requires-clause-readers g c = λ κs lives. readers_few (map string_bytes c.args.words.now) c.in-Ok-Callers.numbers (rw c.in-Ok-Callers.field-0-is at c.in-Ok-Callers.ensures-1.asked)
 
 pub run_callers-requires-clause-depth : goal.run_callers-requires-clause-depth
 run_callers-requires-clause-depth g c = λ κs lives. callers_depth (map string_bytes c.args.words.now) c.in-Ok-Callers.numbers (rw c.in-Ok-Callers.field-0-is at c.in-Ok-Callers.ensures-1.asked)
