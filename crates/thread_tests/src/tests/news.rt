@@ -1,12 +1,13 @@
 // What a pass reads of the history of a shared core, and what a reader is answered that is fed with it.
-ghost use Rattle.std.specs.Prelude.{◌≡◌};
+ghost use Rattle.std.specs.Prelude.{◌≡◌, ◌≤◌, length, drop, IfSome};
+ghost use Rattle.caller_steps.specs.Prefix.{Grows};
 ghost use Rattle.mars_manager.specs.Pass.{dealt};
 ghost use Rattle.mars_manager.specs.Sharing.{CanShare};
 
 use super::held_media::Hold;
 use super::sharing::fresh;
 use caller_steps::Core;
-use history::{Call, Done, Reply, Rows};
+use history::{Call, Done, History, Reply, Rows};
 use mars_manager::{Mars, Pass, Passes};
 use record_slots::Value;
 use sample_callers::put_one;
@@ -31,6 +32,25 @@ fn are_puts(dones: &[Done], first: u64, value: Value) -> bool {
     dones.len() == 2 && is_put(&dones[0], 1, value) && is_put(&dones[1], 2, value)
 }
 
+// What the history has behind the first transactions, of which the pass has seen so many.
+fn behind<C: Core + Drop>(
+    alloc: Global,
+    mars: &Mars<C>,
+    pass: &mut Pass<C>,
+    from: u64,
+) -> Option<History>
+    requires own { pass.old.table ≡ mars.now.table }
+    requires from { from ≤ length pass.old.known.seen }
+    ensures table { pass.new.table ≡ pass.old.table }
+    ensures seen { Grows pass.old.known.seen pass.new.known.seen }
+    ensures copy { IfSome result (λ history. history ≡ drop from pass.new.known.seen) }
+{
+    match mars.since(alloc, pass, from) {
+        Ok(Ok(history)) => Some(history),
+        Ok(Err(_)) | Err(_) => None,
+    }
+}
+
 // Whether the pass reads both transactions behind none, the second one behind the first, and none behind both.
 fn reads_all<C: Core + Drop>(
     alloc: Global,
@@ -41,18 +61,13 @@ fn reads_all<C: Core + Drop>(
     requires { pass.old.table ≡ mars.now.table }
     ensures { pass.new.table ≡ pass.old.table }
 {
-    let Ok(Ok(all)) = mars.since(alloc, pass, 0) else {
-        return None;
-    };
-    if all.as_slice().len() != 2 {
+    let all = behind(alloc, mars, pass, 0)?;
+    let count = all.as_slice().len();
+    if count != 2 {
         return Some(false);
     }
-    let Ok(Ok(last)) = mars.since(alloc, pass, 1) else {
-        return None;
-    };
-    let Ok(Ok(none)) = mars.since(alloc, pass, 2) else {
-        return None;
-    };
+    let last = behind(alloc, mars, pass, 1)?;
+    let none = behind(alloc, mars, pass, 2)?;
     let right = are_puts(all.as_slice(), 1, value) && are_puts(last.as_slice(), 2, value);
     Some(right && none.as_slice().is_empty())
 }
