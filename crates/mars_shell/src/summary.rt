@@ -7,6 +7,7 @@ ghost use Rattle.mars_shell.specs.Tally.{key_sum, tally_text};
 use crate::tally::Tally;
 use command_words::DrillNumbers;
 use history::Rows;
+use history_text::append_number;
 use mars_base::NoMemory;
 use record_slots::Value;
 use std::alloc::Global;

@@ -26,7 +26,6 @@ returns-in-Ok-Chain-clause-served g c =
 pub returns-in-Ok-Chain-clause-untold : goal.returns-in-Ok-Chain-clause-untold
 returns-in-Ok-Chain-clause-untold g c = c.work_over.ensures.untold
 
-
 pub returns-in-Ok-Chain-clause-counts : goal.returns-in-Ok-Chain-clause-counts
 returns-in-Ok-Chain-clause-counts g c = rw c.in-Ok-Chain.ensures.says.faults at c.work_over.ensures.counts
 
@@ -47,7 +46,6 @@ returns-in-Ok-Tree-clause-served g c =
 
 pub returns-in-Ok-Tree-clause-untold : goal.returns-in-Ok-Tree-clause-untold
 returns-in-Ok-Tree-clause-untold g c = c.work_over-in-Ok-Tree.ensures.untold
-
 
 pub returns-in-Ok-Tree-clause-counts : goal.returns-in-Ok-Tree-clause-counts
 returns-in-Ok-Tree-clause-counts g c = rw c.in-Ok-Tree.ensures.says.faults at c.work_over-in-Ok-Tree.ensures.counts
