@@ -4,6 +4,7 @@ use Rattle.array_shape.specs.declared.shape.Shape.{Shape}
 use Rattle.array_image.specs.Decided.{settled_data}
 use Rattle.pcm_media.specs.View.{View}
 use Rattle.eaw_face.specs.Causes.{IsAlive}
+use Rattle.eaw_face.specs.Mirroring.{Mirrors}
 use Rattle.eaw_face.specs.StoreView.{StoreView, LeavesOnly}
 use Rattle.record_slots.specs.Places.{page_bytes}
 use Rattle.record_slots.specs.Super.{form_said}
@@ -35,3 +36,4 @@ pub record SaysForm (tells : Bool) (Opens : List ℕ → List ℕ → Type 0) (f
   pub faults : new.faults ≡ old.faults
   pub state : IsTrue tells → new.state ≡ old.state
   pub time : IsTrue tells → LeavesOnly (λ image. Opens image old.state.bytes) old new
+  pub mirrors : Mirrors tells old new

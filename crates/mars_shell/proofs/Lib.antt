@@ -18,4 +18,3 @@ mod Endings
 pub mod Commanding
 pub mod FramesFollowed
 pub mod Outcomes
-pub mod Dumping

@@ -4,7 +4,6 @@ pub mod OnCore
 pub mod Late
 pub mod PrefixLaw
 pub mod Run
-pub mod Dump
 pub mod Told
 pub mod Served
 pub mod Tally

@@ -11,6 +11,7 @@ use Rattle.array_image.specs.Decided.{settled_data}
 use Rattle.device_recovery.specs.Recovered.{HasNoVote}
 use Rattle.eaw_face.specs.State.{State}
 use Rattle.eaw_face.specs.StoreView.{StoreView, LeavesOnly}
+use Rattle.eaw_face.proofs.Mirroring.{sent_then}
 use Rattle.eaw_device.specs.Opens.{Opens, KeepsData, Attached, HoldsArray, IsBehind}
 use Rattle.record_slots.specs.Places.{next_page}
 use Rattle.page_store.specs.Index.{Index, index_pages_of}
@@ -150,6 +151,7 @@ pub makes_over : (tells : Bool) (Opens : Shape → List ℕ → List ℕ → Typ
     → making.MakesTable tells (Opens mid.shape) (index_of_form form) name mid new made → making.MakesTable tells (Opens old.shape) (index_at old.state.bytes) name old new made
 makes_over tells Opens form name old mid new alive says made makes = record {
   shape = makes.shape ∙ says.shape;
+  mirrors = sent_then tells old mid new says.mirrors makes.mirrors;
   sound = λ told. moved told (λ h b i. i.sound b) (makes.sound told);
   cause = moved_cause tells name old mid alive (says.alive ∙ sym alive) says.shape (λ told. bytes told) made makes.cause;
   kept = λ well. ((makes.kept well).0 ∙ says.alive ∙ sym alive, (makes.kept well).1 ∙ says.faults);

@@ -22,6 +22,7 @@ left_by tells failed Opens old new alive looks = record {
   kept = λ well. ((looks.still well).dead, (looks.still well).faults);
   unwritten = λ told well. ap (λ (s : State). s.bytes) ((looks.still well).state told);
   dies = looks.dies;
+  mirrors = looks.mirrors;
   time = λ told. looks.time told alive;
 }
 
