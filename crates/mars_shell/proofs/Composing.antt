@@ -49,6 +49,7 @@ use Rattle.mars_shell.specs.Next.{AllSound, IsOfRecords, LeavesFresh}
 use Rattle.array_runs.specs.Outcome.{Idle, OutcomeOf}
 use Rattle.array_runs.specs.Records.{HoldsRecords, IsDamaged, Exceeds, OverRecords}
 use Rattle.mars_shell.specs.Run.{TakesTurns, Answers}
+use Rattle.mars_shell.specs.FramedRun.{RunsAs}
 use Rattle.told_commands.specs.Tables.{Tries, MadeBy, MakeOutcome}
 use Rattle.told_commands.specs.Purge.{Clears, PurgedBy}
 use Rattle.array_runs.specs.declared.status.Status.{Status}
@@ -220,8 +221,12 @@ module _ (tells : Bool) (told : IsTrue tells) (old new : View) (counts_now : (t 
     purged_by_sound cut text script.MediaFault purged = cleared_sound purged.1.0 purged.1.1
     purged_by_sound cut text script.NoMemory purged = absurd purged
 
+    run_sound : (frames late : Bool) (input : List ℕ) (cut : Bool) (text : List ℕ) (ended : Ended) → RunsAs frames late input cut text old ended new → AllSound shape form new.content
+    run_sound true late input cut text ended framed = turns_sound false late _ ended framed.taken
+    run_sound false late input cut text ended taken = turns_sound false late (Answers input ended cut text) ended taken
+
     pub next_sound : (asked : Words) (status : Status) (input : List ℕ) (cut : Bool) (text : List ℕ) → IsOfRecords asked → OutcomeFor asked old status new input cut text → AllSound shape form new.content
-    next_sound (Run given) status input cut text of outcome = records_sound false 0 (λ ended. TakesTurns false (is_late given.writing) (Answers input ended cut text) old ended new) status cut text (λ ended taken. turns_sound false (is_late given.writing) (Answers input ended cut text) ended taken) outcome
+    next_sound (Run given) status input cut text of outcome = records_sound false 0 (λ ended. RunsAs given.frames (is_late given.writing) input cut text old ended new) status cut text (λ ended taken. run_sound given.frames (is_late given.writing) input cut text ended taken) outcome
     next_sound (Callers numbers) status input cut text of outcome = records_sound false numbers.callers (λ ended. TakesTurns false (is_late numbers.writing) (JointWork numbers.callers numbers.tries input ended cut text) old ended new) status cut text (λ ended taken. turns_sound false (is_late numbers.writing) (JointWork numbers.callers numbers.tries input ended cut text) ended taken) outcome
     next_sound Dump status input cut text of outcome = records_sound true 0 (λ ended. (taken : TakesTurns true false (Dumps ended cut text) old ended new) × Spares taken.shape old new) status cut text (λ ended taken. turns_sound true false (Dumps ended cut text) ended taken.0) outcome
     next_sound (Drill numbers) status input cut text of outcome = records_sound false 0 (λ ended. TakesTurns false (is_late numbers.writing) (Drills numbers ended cut text) old ended new) status cut text (λ ended taken. turns_sound false (is_late numbers.writing) (Drills numbers ended cut text) ended taken) outcome

@@ -17,7 +17,7 @@ use crate::drilling::DrawnScript;
 use crate::dump::RecordDump;
 use crate::following::run_follow;
 use crate::formatting::run_format;
-use crate::lines::ByTurns;
+use crate::framed_run::run_lines;
 use crate::records::over_records;
 use array_runs::Status;
 use caller_work::Gate;
@@ -73,16 +73,7 @@ pub fn run<
     match read_words(rt.alloc(), words) {
         Err(WordsFault::NoCommand) => (Status::Usage, media),
         Err(WordsFault::NoMemory) => (Status::NoMemory, media),
-        Ok(Words::Run(options)) => {
-            over_records(
-                rt.alloc(),
-                source,
-                sink,
-                media,
-                options.writing,
-                &OnCore { work: ByTurns },
-            )
-        }
+        Ok(Words::Run(options)) => run_lines(rt.alloc(), source, sink, media, options),
         Ok(Words::Callers(numbers)) => {
             let crew = Crew { rt, numbers, gate };
             run_callers(rt.alloc(), source, sink, media, &crew)

@@ -10,7 +10,8 @@ use Rattle.mars_shell.proofs.Endings.{format_late}
 use Rattle.mars_shell.proofs.FormatLemmas.{no_usage}
 use Rattle.mars_shell.specs.Joint.{JointWork}
 use Rattle.mars_shell.specs.Late.{is_late}
-use Rattle.mars_shell.specs.Run.{TakesTurns, Answers}
+use Rattle.mars_shell.specs.Run.{TakesTurns}
+use Rattle.mars_shell.specs.FramedRun.{RunsAs}
 use Rattle.mars_shell.specs.Served.{TakesTurnsFor}
 use Rattle.mars_shell.proofs.Saying.{words_say, callers_say}
 use Rattle.array_runs.proofs.Completing.{nothing_read, complete_of, complete_records}
@@ -40,50 +41,46 @@ pub returns-in-Err-NoCommand-clause-complete : goal.returns-in-Err-NoCommand-cla
 returns-in-Err-NoCommand-clause-complete g c = inl (c.in-Err-NoCommand.ensures-1.refused c.in-Err-NoCommand.field-0-is)
 
 pub returns-in-Ok-Run-clause-words : goal.returns-in-Ok-Run-clause-words
-returns-in-Ok-Run-clause-words g c = words_say (map string_bytes c.args.words.now) c.over_records.result.0 _ _ (Run c.in-Ok-Run.options) c.over_records.ensures.no_usage (rw c.in-Ok-Run.field-0-is at c.in-Ok-Run.ensures-1.asked) tt
+returns-in-Ok-Run-clause-words g c = words_say (map string_bytes c.args.words.now) c.run_lines.result.0 _ _ (Run c.in-Ok-Run.options) c.run_lines.ensures.no_usage (rw c.in-Ok-Run.field-0-is at c.in-Ok-Run.ensures-1.asked) tt
 
 pub returns-in-Ok-Run-clause-usage : goal.returns-in-Ok-Run-clause-usage
 returns-in-Ok-Run-clause-usage g c = λ nothing. absurd (nothing (Run c.in-Ok-Run.options) (rw c.in-Ok-Run.field-0-is at c.in-Ok-Run.ensures-1.asked))
 
 pub returns-in-Ok-Run-clause-early : goal.returns-in-Ok-Run-clause-early
-returns-in-Ok-Run-clause-early g c = λ either. (c.over_records.ensures.early (is_early c.over_records.result.0 either)).1
+returns-in-Ok-Run-clause-early g c = λ either. c.run_lines.ensures.early (is_early c.run_lines.result.0 either)
 
 pub returns-in-Ok-Run-clause-silent : goal.returns-in-Ok-Run-clause-silent
-returns-in-Ok-Run-clause-silent g c = c.over_records.ensures.silent
+returns-in-Ok-Run-clause-silent g c = c.run_lines.ensures.silent
 
 pub returns-in-Ok-Run-clause-counts : goal.returns-in-Ok-Run-clause-counts
-returns-in-Ok-Run-clause-counts g c = c.over_records.ensures.counts
+returns-in-Ok-Run-clause-counts g c = c.run_lines.ensures.counts
 
 pub returns-in-Ok-Run-clause-steady : goal.returns-in-Ok-Run-clause-steady
-returns-in-Ok-Run-clause-steady g c = c.over_records.ensures.steady
+returns-in-Ok-Run-clause-steady g c = c.run_lines.ensures.steady
 
 pub returns-in-Ok-Run-clause-input : goal.returns-in-Ok-Run-clause-input
-returns-in-Ok-Run-clause-input g c = words_say (map string_bytes c.args.words.now) c.over_records.result.0 _ _ (Run c.in-Ok-Run.options) c.over_records.ensures.no_usage (rw c.in-Ok-Run.field-0-is at c.in-Ok-Run.ensures-1.asked) (c.over_records.ensures.input refl)
+returns-in-Ok-Run-clause-input g c = words_say (map string_bytes c.args.words.now) c.run_lines.result.0 _ _ (Run c.in-Ok-Run.options) c.run_lines.ensures.no_usage (rw c.in-Ok-Run.field-0-is at c.in-Ok-Run.ensures-1.asked) (c.run_lines.ensures.input)
 
 pub returns-in-Ok-Run-clause-formats : goal.returns-in-Ok-Run-clause-formats
-returns-in-Ok-Run-clause-formats g c = words_say (map string_bytes c.args.words.now) c.over_records.result.0 _ _ (Run c.in-Ok-Run.options) c.over_records.ensures.no_usage (rw c.in-Ok-Run.field-0-is at c.in-Ok-Run.ensures-1.asked) (λ numbers is. absurd (let no : ⊥ = cc is in no))
+returns-in-Ok-Run-clause-formats g c = words_say (map string_bytes c.args.words.now) c.run_lines.result.0 _ _ (Run c.in-Ok-Run.options) c.run_lines.ensures.no_usage (rw c.in-Ok-Run.field-0-is at c.in-Ok-Run.ensures-1.asked) (λ numbers is. absurd (let no : ⊥ = cc is in no))
 
 pub returns-in-Ok-Run-clause-untold : goal.returns-in-Ok-Run-clause-untold
-returns-in-Ok-Run-clause-untold g c = words_say (map string_bytes c.args.words.now) c.over_records.result.0 _ _ (Run c.in-Ok-Run.options) c.over_records.ensures.no_usage (rw c.in-Ok-Run.field-0-is at c.in-Ok-Run.ensures-1.asked) (λ is. absurd is)
+returns-in-Ok-Run-clause-untold g c = words_say (map string_bytes c.args.words.now) c.run_lines.result.0 _ _ (Run c.in-Ok-Run.options) c.run_lines.ensures.no_usage (rw c.in-Ok-Run.field-0-is at c.in-Ok-Run.ensures-1.asked) (λ is. absurd is)
 
 pub returns-in-Ok-Run-clause-ran : goal.returns-in-Ok-Run-clause-ran
-returns-in-Ok-Run-clause-ran g c =
-    let old = g.M.Media.view c.args.media in
-    let new = g.M.Media.view c.over_records.result.1 in
-    let ran = c.over_records.ensures.ran in
-    words_say (map string_bytes c.args.words.now) c.over_records.result.0 _ _ (Run c.in-Ok-Run.options) c.over_records.ensures.no_usage (rw c.in-Ok-Run.field-0-is at c.in-Ok-Run.ensures-1.asked)
-    (record { cut = ran.cut; text = ran.text; wrote = ran.wrote; counts = ran.counts; holds = (ran.holds.0, ran.holds.1 refl, λ told. turns_only 0 (is_late c.in-Ok-Run.options.writing) (λ ended. Answers ran.holds.0 ended ran.cut ran.text) old c.over_records.result.0 new ran.cut ran.text (ran.holds.2 told)) })
+returns-in-Ok-Run-clause-ran g c = words_say (map string_bytes c.args.words.now) c.run_lines.result.0 _ _ (Run c.in-Ok-Run.options) c.run_lines.ensures.no_usage (rw c.in-Ok-Run.field-0-is at c.in-Ok-Run.ensures-1.asked) c.run_lines.ensures.ran
 
 pub returns-in-Ok-Run-clause-complete : goal.returns-in-Ok-Run-clause-complete
 returns-in-Ok-Run-clause-complete g c =
     let old = g.M.Media.view c.args.media in
-    let new = g.M.Media.view c.over_records.result.1 in
+    let new = g.M.Media.view c.run_lines.result.1 in
     let given = g.S.Source.left c.args.source.now in
-    let said = c.over_records.ensures in
+    let options = c.in-Ok-Run.options in
+    let said = c.run_lines.ensures in
     let ran = said.ran in
-    words_say (map string_bytes c.args.words.now) c.over_records.result.0 (Unit {0}) _ (Run c.in-Ok-Run.options) c.over_records.ensures.no_usage (rw c.in-Ok-Run.field-0-is at c.in-Ok-Run.ensures-1.asked)
+    words_say (map string_bytes c.args.words.now) c.run_lines.result.0 (Unit {0}) _ (Run options) c.run_lines.ensures.no_usage (rw c.in-Ok-Run.field-0-is at c.in-Ok-Run.ensures-1.asked)
     (λ fit no_source no_sink no_media.
-    complete_records false 0 (λ ended. TakesTurnsFor false (is_late c.in-Ok-Run.options.writing) (Answers ran.holds.0 ended ran.cut ran.text) old ended new) old c.over_records.result.0 new ran.cut ran.text given _ _ _ _ _ _ _ fit.0.1 fit.2.0 fit.2.1 (omega arith) no_source no_sink no_media said.counts (said.input refl fit.0.0) (ran.holds.2 fit.1))
+    complete_records false 0 (λ ended. RunsAs options.frames (is_late options.writing) ran.holds.0 ran.cut ran.text old ended new) old c.run_lines.result.0 new ran.cut ran.text given _ _ _ _ _ _ _ fit.0.1 fit.2.0 fit.2.1 (omega arith) no_source no_sink no_media said.counts (said.input fit.0.0) (ran.holds.2 fit.1))
 
 pub returns-in-Ok-Callers-clause-words : goal.returns-in-Ok-Callers-clause-words
 returns-in-Ok-Callers-clause-words g c = callers_say (map string_bytes c.args.words.now) c.run_callers.result.0 _ _ c.in-Ok-Callers.numbers (rw c.in-Ok-Callers.field-0-is at c.in-Ok-Callers.ensures-1.asked) tt
@@ -128,50 +125,50 @@ returns-in-Ok-Callers-clause-complete g c =
     complete_records false numbers.callers (λ ended. TakesTurns false (is_late numbers.writing) (JointWork numbers.callers numbers.tries ran.holds.0 ended ran.cut ran.text) old ended new) old c.run_callers.result.0 new ran.cut ran.text given _ _ _ _ _ _ _ fit.0.1 fit.2.0 fit.2.1 fit.2.2 no_source no_sink no_media said.counts (said.input fit.0.0) (ran.holds.2 fit.1))
 
 pub returns-in-Ok-Dump-clause-words : goal.returns-in-Ok-Dump-clause-words
-returns-in-Ok-Dump-clause-words g c = words_say (map string_bytes c.args.words.now) c.over_records-in-Ok-Dump.result.0 _ _ Dump c.over_records-in-Ok-Dump.ensures.no_usage (rw c.in-Ok-Dump.field-0-is at c.in-Ok-Dump.ensures-1.asked) tt
+returns-in-Ok-Dump-clause-words g c = words_say (map string_bytes c.args.words.now) c.over_records.result.0 _ _ Dump c.over_records.ensures.no_usage (rw c.in-Ok-Dump.field-0-is at c.in-Ok-Dump.ensures-1.asked) tt
 
 pub returns-in-Ok-Dump-clause-usage : goal.returns-in-Ok-Dump-clause-usage
 returns-in-Ok-Dump-clause-usage g c = λ nothing. absurd (nothing Dump (rw c.in-Ok-Dump.field-0-is at c.in-Ok-Dump.ensures-1.asked))
 
 pub returns-in-Ok-Dump-clause-early : goal.returns-in-Ok-Dump-clause-early
-returns-in-Ok-Dump-clause-early g c = λ either. (c.over_records-in-Ok-Dump.ensures.early (is_early c.over_records-in-Ok-Dump.result.0 either)).1
+returns-in-Ok-Dump-clause-early g c = λ either. (c.over_records.ensures.early (is_early c.over_records.result.0 either)).1
 
 pub returns-in-Ok-Dump-clause-silent : goal.returns-in-Ok-Dump-clause-silent
-returns-in-Ok-Dump-clause-silent g c = c.over_records-in-Ok-Dump.ensures.silent
+returns-in-Ok-Dump-clause-silent g c = c.over_records.ensures.silent
 
 pub returns-in-Ok-Dump-clause-counts : goal.returns-in-Ok-Dump-clause-counts
-returns-in-Ok-Dump-clause-counts g c = c.over_records-in-Ok-Dump.ensures.counts
+returns-in-Ok-Dump-clause-counts g c = c.over_records.ensures.counts
 
 pub returns-in-Ok-Dump-clause-steady : goal.returns-in-Ok-Dump-clause-steady
-returns-in-Ok-Dump-clause-steady g c = c.over_records-in-Ok-Dump.ensures.steady
+returns-in-Ok-Dump-clause-steady g c = c.over_records.ensures.steady
 
 pub returns-in-Ok-Dump-clause-input : goal.returns-in-Ok-Dump-clause-input
-returns-in-Ok-Dump-clause-input g c = words_say (map string_bytes c.args.words.now) c.over_records-in-Ok-Dump.result.0 _ _ Dump c.over_records-in-Ok-Dump.ensures.no_usage (rw c.in-Ok-Dump.field-0-is at c.in-Ok-Dump.ensures-1.asked) (c.over_records-in-Ok-Dump.ensures.unread refl)
+returns-in-Ok-Dump-clause-input g c = words_say (map string_bytes c.args.words.now) c.over_records.result.0 _ _ Dump c.over_records.ensures.no_usage (rw c.in-Ok-Dump.field-0-is at c.in-Ok-Dump.ensures-1.asked) (c.over_records.ensures.unread refl)
 
 pub returns-in-Ok-Dump-clause-formats : goal.returns-in-Ok-Dump-clause-formats
-returns-in-Ok-Dump-clause-formats g c = words_say (map string_bytes c.args.words.now) c.over_records-in-Ok-Dump.result.0 _ _ Dump c.over_records-in-Ok-Dump.ensures.no_usage (rw c.in-Ok-Dump.field-0-is at c.in-Ok-Dump.ensures-1.asked) (λ numbers is. absurd (let no : ⊥ = cc is in no))
+returns-in-Ok-Dump-clause-formats g c = words_say (map string_bytes c.args.words.now) c.over_records.result.0 _ _ Dump c.over_records.ensures.no_usage (rw c.in-Ok-Dump.field-0-is at c.in-Ok-Dump.ensures-1.asked) (λ numbers is. absurd (let no : ⊥ = cc is in no))
 
 pub returns-in-Ok-Dump-clause-untold : goal.returns-in-Ok-Dump-clause-untold
-returns-in-Ok-Dump-clause-untold g c = words_say (map string_bytes c.args.words.now) c.over_records-in-Ok-Dump.result.0 _ _ Dump c.over_records-in-Ok-Dump.ensures.no_usage (rw c.in-Ok-Dump.field-0-is at c.in-Ok-Dump.ensures-1.asked) (λ is. c.over_records-in-Ok-Dump.ensures.untold refl)
+returns-in-Ok-Dump-clause-untold g c = words_say (map string_bytes c.args.words.now) c.over_records.result.0 _ _ Dump c.over_records.ensures.no_usage (rw c.in-Ok-Dump.field-0-is at c.in-Ok-Dump.ensures-1.asked) (λ is. c.over_records.ensures.untold refl)
 
 pub returns-in-Ok-Dump-clause-ran : goal.returns-in-Ok-Dump-clause-ran
 returns-in-Ok-Dump-clause-ran g c =
     let old = g.M.Media.view c.args.media in
-    let new = g.M.Media.view c.over_records-in-Ok-Dump.result.1 in
-    let ran = c.over_records-in-Ok-Dump.ensures.ran in
-    words_say (map string_bytes c.args.words.now) c.over_records-in-Ok-Dump.result.0 _ _ Dump c.over_records-in-Ok-Dump.ensures.no_usage (rw c.in-Ok-Dump.field-0-is at c.in-Ok-Dump.ensures-1.asked)
-    (record { cut = ran.cut; text = ran.text; wrote = ran.wrote; counts = ran.counts; holds = (g.S.Source.left c.args.source.now, (λ _. refl), λ told. turns_spared 0 false (λ ended. Dumps ended ran.cut ran.text) old c.over_records-in-Ok-Dump.result.0 new ran.cut ran.text refl (ran.holds.2 told)) })
+    let new = g.M.Media.view c.over_records.result.1 in
+    let ran = c.over_records.ensures.ran in
+    words_say (map string_bytes c.args.words.now) c.over_records.result.0 _ _ Dump c.over_records.ensures.no_usage (rw c.in-Ok-Dump.field-0-is at c.in-Ok-Dump.ensures-1.asked)
+    (record { cut = ran.cut; text = ran.text; wrote = ran.wrote; counts = ran.counts; holds = (g.S.Source.left c.args.source.now, (λ _. refl), λ told. turns_spared 0 false (λ ended. Dumps ended ran.cut ran.text) old c.over_records.result.0 new ran.cut ran.text refl (ran.holds.2 told)) })
 
 pub returns-in-Ok-Dump-clause-complete : goal.returns-in-Ok-Dump-clause-complete
 returns-in-Ok-Dump-clause-complete g c =
     let old = g.M.Media.view c.args.media in
-    let new = g.M.Media.view c.over_records-in-Ok-Dump.result.1 in
+    let new = g.M.Media.view c.over_records.result.1 in
     let given = g.S.Source.left c.args.source.now in
-    let said = c.over_records-in-Ok-Dump.ensures in
+    let said = c.over_records.ensures in
     let ran = said.ran in
-    words_say (map string_bytes c.args.words.now) c.over_records-in-Ok-Dump.result.0 (Unit {0}) _ Dump c.over_records-in-Ok-Dump.ensures.no_usage (rw c.in-Ok-Dump.field-0-is at c.in-Ok-Dump.ensures-1.asked)
+    words_say (map string_bytes c.args.words.now) c.over_records.result.0 (Unit {0}) _ Dump c.over_records.ensures.no_usage (rw c.in-Ok-Dump.field-0-is at c.in-Ok-Dump.ensures-1.asked)
     (λ fit no_source no_sink no_media.
-    complete_records true 0 (λ ended. TakesTurnsFor true false (Dumps ended ran.cut ran.text) old ended new) old c.over_records-in-Ok-Dump.result.0 new ran.cut ran.text [] [] _ _ _ _ _ _ (omega arith) fit.1.0 fit.1.1 (omega arith) no_source no_sink no_media said.counts (nothing_read c.over_records-in-Ok-Dump.result.0 (λ early. absurd (false≢true (said.early early).0))) (ran.holds.2 fit.0))
+    complete_records true 0 (λ ended. TakesTurnsFor true false (Dumps ended ran.cut ran.text) old ended new) old c.over_records.result.0 new ran.cut ran.text [] [] _ _ _ _ _ _ (omega arith) fit.1.0 fit.1.1 (omega arith) no_source no_sink no_media said.counts (nothing_read c.over_records.result.0 (λ early. absurd (false≢true (said.early early).0))) (ran.holds.2 fit.0))
 
 pub returns-in-Ok-Drill-clause-words : goal.returns-in-Ok-Drill-clause-words
 returns-in-Ok-Drill-clause-words g c = words_say (map string_bytes c.args.words.now) c.over_records-in-Ok-Drill.result.0 _ _ (Drill c.in-Ok-Drill.numbers) c.over_records-in-Ok-Drill.ensures.no_usage (rw c.in-Ok-Drill.field-0-is at c.in-Ok-Drill.ensures-1.asked) tt
