@@ -43,7 +43,7 @@ number_left least most None first is = rw is (λ n same. some_is_none (sym same)
 number_left least most (Some n) first is = rw is refl
 
 -- a value and a default give at most one number
-one_number : (least most : ℕ) (default : Option ℕ) (first : Option Text) (m n : ℕ) → most < 2 ^ 32 → IsNumber least most default first m → IsNumber least most default first n → m ≡ n
+pub one_number : (least most : ℕ) (default : Option ℕ) (first : Option Text) (m n : ℕ) → most < 2 ^ 32 → IsNumber least most default first m → IsNumber least most default first n → m ≡ n
 one_number least most default None m n fits is are = inner (sym is ∙ are)
 one_number least most default (Some value) m n fits is are = decimal_injective m n (omega (arith, is.1, fits)) (omega (arith, are.1, fits)) (sym is.2 ∙ are.2)
 

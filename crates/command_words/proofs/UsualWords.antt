@@ -15,7 +15,7 @@ use Rattle.clap.specs.Kinds.{Kinds, or_else}
 use Rattle.clap.specs.declared.error.ErrorKind.{ErrorKind}
 use Rattle.clap.specs.declared.error.ErrorKind.TheVariants as kind
 use Rattle.record_slots.specs.Text.{IsName, is_letter}
-use Rattle.command_words.specs.Usual.{late_words, format_words, joined_words, AreSmall, drill_words, AreOfDrill, callers_words, tries_words, AreOfCallers}
+use Rattle.command_words.specs.Usual.{late_words, format_words, joined_words, AreSmall, drill_words, AreOfDrill, callers_words, tries_words, readers_words, AreOfCallers, AreOfReaders}
 use Rattle.command_words.specs.declared.words.CallersNumbers.{CallersNumbers}
 use Rattle.command_words.specs.declared.words.DrillNumbers.{DrillNumbers}
 use Rattle.command_words.specs.declared.words.FormatNumbers.{FormatNumbers}
@@ -459,6 +459,9 @@ callers_built = unwrap_or (slice_get (built command_line).subs 5) callers_shape
 abbrev tries_rule : Rule
 tries_rule = unwrap_or (arg_by_id callers_built.rules (codes "tries")) (option_of (codes "tries"))
 
+abbrev readers_rule : Rule
+readers_rule = unwrap_or (arg_by_id callers_built.rules (codes "readers")) (option_of (codes "readers"))
+
 module _ (callers : Text) (plain_callers : IsPlain callers) where
   abbrev with_callers : Walk
   with_callers = to_positional callers_built.rules (arg_by_index callers_built.rules 1) callers (stands nothing_held 1) nothing_held
@@ -480,9 +483,9 @@ module _ (callers : Text) (plain_callers : IsPlain callers) where
   callers_met = ap (λ (w : Walk). Some (codes "callers", finished callers_built.rules w.held)) callers_walk
 
   callers_values : (first_of (codes "callers") (finished callers_built.rules with_callers.held) ≡ Some callers) × (first_of (codes "tries") (finished callers_built.rules with_callers.held) ≡ None)
-      × (first_of (codes "late") (finished callers_built.rules with_callers.held) ≡ None)
+      × (first_of (codes "late") (finished callers_built.rules with_callers.held) ≡ None) × (first_of (codes "readers") (finished callers_built.rules with_callers.held) ≡ None)
   unfolding clap_on_literals
-  callers_values = (refl, refl, refl)
+  callers_values = (refl, refl, refl, refl)
 
   module _ (tries : Text) (plain_tries : IsPlain tries) where
     abbrev tries_option : List Text
@@ -510,9 +513,39 @@ module _ (callers : Text) (plain_callers : IsPlain callers) where
     tries_met = ap (λ (w : Walk). Some (codes "callers", finished callers_built.rules w.held)) tries_walk
 
     tries_values : (first_of (codes "callers") (finished callers_built.rules with_tries.held) ≡ Some callers) × (first_of (codes "tries") (finished callers_built.rules with_tries.held) ≡ Some tries)
-        × (first_of (codes "late") (finished callers_built.rules with_tries.held) ≡ None)
+        × (first_of (codes "late") (finished callers_built.rules with_tries.held) ≡ None) × (first_of (codes "readers") (finished callers_built.rules with_tries.held) ≡ None)
     unfolding clap_on_literals
-    tries_values = (refl, refl, refl)
+    tries_values = (refl, refl, refl, refl)
+
+  module _ (readers : Text) (plain_readers : IsPlain readers) where
+    abbrev readers_option : List Text
+    readers_option = codes "--readers" ∷ readers ∷ []
+
+    abbrev with_readers : Walk
+    with_readers = after_value (walked callers_built.rules [] with_callers (codes "--readers")).held 2 (codes "readers") readers_rule readers
+
+    readers_walk : walk callers_built.rules [] nothing_held (callers ∷ readers_option) ≡ with_readers
+    unfolding clap_on_literals
+    readers_walk = ap (λ w. fold (walked callers_built.rules []) w readers_option) (unnamed_walked callers_built nothing_held 1 callers plain_callers)
+        ∙ value_walked callers_built.rules [] (walked callers_built.rules [] with_callers (codes "--readers")).held 2 (codes "readers") readers_rule readers refl plain_readers
+
+    readers_passes : walk_fault callers_built [] (walk_from nothing_held) (callers ∷ readers_option) ≡ []
+    unfolding clap_on_literals
+    readers_passes = unnamed_passes callers_built nothing_held 1 callers plain_callers readers_option _ refl refl
+        ∙ value_passes callers_built [] (walked callers_built.rules [] with_callers (codes "--readers")).held 2 (codes "readers") readers_rule readers refl plain_readers []
+
+    readers_taken : fault_of command_line (codes "callers" ∷ callers ∷ readers_option) ≡ []
+    unfolding clap_on_literals
+    readers_taken = ap (λ k. or_else k []) (level_passes callers_built (callers ∷ readers_option) with_readers readers_passes readers_walk refl)
+
+    readers_met : subcommand_of command_line (codes "callers" ∷ callers ∷ readers_option) ≡ Some (codes "callers", finished callers_built.rules with_readers.held)
+    unfolding clap_on_literals
+    readers_met = ap (λ (w : Walk). Some (codes "callers", finished callers_built.rules w.held)) readers_walk
+
+    readers_values : (first_of (codes "callers") (finished callers_built.rules with_readers.held) ≡ Some callers) × (first_of (codes "tries") (finished callers_built.rules with_readers.held) ≡ None)
+        × (first_of (codes "late") (finished callers_built.rules with_readers.held) ≡ None) × (first_of (codes "readers") (finished callers_built.rules with_readers.held) ≡ Some readers)
+    unfolding clap_on_literals
+    readers_values = (refl, refl, refl, refl)
 
 left : (least most number : ℕ) (first : Option Text) → first ≡ None → IsNumber least most (Some number) first number
 left least most number first is = rw is refl
@@ -531,6 +564,8 @@ callers_asks numbers are default =
           callers = given 1 32 _ None _ found.0 are.some are.few;
           tries = rw default (left 1 1000000 100 _ found.1);
           writing = at_once _ numbers.writing are.writing found.2;
+          readers = rw are.readers (left 1 8 0 _ found.3);
+          room = λ some. absurd (omega (arith, are.readers, some));
         },
       ),
     )
@@ -550,6 +585,29 @@ tries_asks numbers are =
           callers = given 1 32 _ None _ found.0 are.some are.few;
           tries = given 1 1000000 _ _ _ found.1 are.once are.bounded;
           writing = at_once _ numbers.writing are.writing found.2;
+          readers = rw are.readers (left 1 8 0 _ found.3);
+          room = λ some. absurd (omega (arith, are.readers, some));
+        },
+      ),
+    )
+
+pub readers_asks : (numbers : CallersNumbers) → AreOfReaders numbers → AsksFor (readers_words numbers) (Callers numbers)
+readers_asks numbers are =
+    let plain_callers = plain_decimal numbers.callers (omega (arith, are.few)) in
+    let plain_readers = plain_decimal numbers.readers (omega (arith, are.few_readers)) in
+    let found = readers_values (decimal numbers.callers) plain_callers (decimal numbers.readers) plain_readers in (
+      readers_taken (decimal numbers.callers) plain_callers (decimal numbers.readers) plain_readers,
+      codes "callers",
+      _,
+      readers_met (decimal numbers.callers) plain_callers (decimal numbers.readers) plain_readers,
+      (
+        refl,
+        record {
+          callers = given 1 32 _ None _ found.0 are.some (omega (arith, are.few));
+          tries = rw are.tries (left 1 1000000 100 _ found.1);
+          writing = at_once _ numbers.writing are.writing found.2;
+          readers = given 1 8 _ _ _ found.3 are.some_readers are.few_readers;
+          room = λ some. are.few;
         },
       ),
     )

@@ -1,5 +1,5 @@
 -- What words ask for.
-use Rattle.std.specs.Prelude.{ℕ, ◌≡◌, ◌≤◌, List, [], Option, Some, None, Bool, false, codes}
+use Rattle.std.specs.Prelude.{ℕ, ◌≡◌, ◌≤◌, ◌<◌, List, [], Option, Some, None, Bool, false, codes}
 use Rattle.std.specs.Fmt.{decimal}
 use Rattle.std.specs.Str.{bytes_eq}
 use Rattle.clap.specs.Words.{Text, Row, fault_of, subcommand_of, first_of}
@@ -52,11 +52,13 @@ pub record GivesDrill (values : List Row) (given : DrillNumbers) : Type 0 where
   pub count : IsNumber 1 100000 None (first_of (codes "count") values) given.count
   pub writing : GivesWriting (first_of (codes "late") values) given.writing
 
--- what the value and the options of `callers` give
+-- what the value and the options of `callers` give; beside readers there are at most 31 callers
 pub record GivesCallers (options : List Row) (given : CallersNumbers) : Type 0 where
   pub callers : IsNumber 1 32 None (first_of (codes "callers") options) given.callers
   pub tries : IsNumber 1 1000000 (Some 100) (first_of (codes "tries") options) given.tries
   pub writing : GivesWriting (first_of (codes "late") options) given.writing
+  pub readers : IsNumber 1 8 (Some 0) (first_of (codes "readers") options) given.readers
+  pub room : 0 < given.readers → given.callers ≤ 31
 
 -- the name of a table that the word of `make` is
 pub record GivesName (values : List Row) (table : List ℕ) : Type 0 where

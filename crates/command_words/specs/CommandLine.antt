@@ -29,9 +29,9 @@ format_shape =
 abbrev pub drill_shape : Shape
 drill_shape = record (new_shape (codes "drill")) { rules = new_rule (codes "seed") ∷ new_rule (codes "count") ∷ option_of (codes "late") ∷ [] }
 
--- `callers` with one positional word and two options
+-- `callers` with one positional word and three options
 abbrev pub callers_shape : Shape
-callers_shape = record (new_shape (codes "callers")) { rules = new_rule (codes "callers") ∷ option_of (codes "tries") ∷ option_of (codes "late") ∷ [] }
+callers_shape = record (new_shape (codes "callers")) { rules = new_rule (codes "callers") ∷ option_of (codes "tries") ∷ option_of (codes "late") ∷ option_of (codes "readers") ∷ [] }
 
 -- `make` with one positional word
 abbrev pub make_shape : Shape

@@ -77,7 +77,8 @@ fn callers_command<'a>(alloc: Global) -> Result<Command<'a>, AllocError>
     Command::new(alloc, "callers")
         .arg(Arg::new(alloc, "callers"))?
         .arg(option(alloc, "tries"))?
-        .arg(option(alloc, "late"))
+        .arg(option(alloc, "late"))?
+        .arg(option(alloc, "readers"))
 }
 
 fn make_command<'a>(alloc: Global) -> Result<Command<'a>, AllocError>

@@ -1,7 +1,6 @@
 -- Work over a store that mirrors, told of the store below it.
 use Rattle.std.proofs.Common.{◌≡◌, ℕ, List, [], Bool, true, false, Result, sym, ap, subst}
 use Rattle.std.specs.Prelude.{IsTrue}
-use Rattle.std.proofs.lemmas.Bool.{false≢true}
 use Rattle.array_shape.specs.declared.shape.Shape.{Shape}
 use Rattle.eaw_face.specs.Sending.{Sending}
 use Rattle.eaw_face.specs.State.{State}
@@ -46,7 +45,6 @@ module _ (Opens : Shape → List ℕ → List ℕ → Type 0) (index : Index) (o
     now = served.now;
     left = served.left;
     unwritten = served.unwritten;
-    spared = λ is. absurd (false≢true is);
   }
 
 -- the same under the index that the data names, which is found first

@@ -39,10 +39,11 @@ use Rattle.script_run.specs.declared.ended.Ended.TheVariants as script
 use Rattle.mars_shell.specs.Asked.{OutcomeFor}
 use Rattle.mars_shell.specs.Commands.{ObeysBy, ObeysAs}
 use Rattle.mars_shell.specs.Drill.{Drills}
-use Rattle.mars_shell.specs.Dump.{Dumps, Spares}
+use Rattle.told_commands.specs.Dump.{DumpsRecords}
 use Rattle.mars_shell.specs.Follow.{Follows}
 use Rattle.mars_shell.specs.Formats.{IsFormatted, FormatOutcome}
 use Rattle.array_runs.specs.Forms.{index_of_form, index_in}
+use Rattle.reader_work.specs.Readership.{passes_for}
 use Rattle.mars_shell.specs.Joint.{JointWork}
 use Rattle.mars_shell.specs.Late.{is_late}
 use Rattle.mars_shell.specs.Next.{AllSound, IsOfRecords, LeavesFresh}
@@ -221,14 +222,21 @@ module _ (tells : Bool) (told : IsTrue tells) (old new : View) (counts_now : (t 
     purged_by_sound cut text script.MediaFault purged = cleared_sound purged.1.0 purged.1.1
     purged_by_sound cut text script.NoMemory purged = absurd purged
 
+    -- a dump leaves the data that was opened
+    dumped_sound : (cut : Bool) (text : List ℕ) (ended : Ended) → DumpsRecords ended old new cut text → AllSound shape form new.content
+    dumped_sound cut text ended dumps image left =
+        let same : dumps.shape ≡ shape = one_shape (header_of old.content.bytes) dumps.shape shape dumps.holds.array.header opened.header in
+        let bytes = settled_data dumps.shape old.content.bytes in
+        (bytes, subst (λ (s : Shape). Opens s image bytes) same (dumps.spares.now image left), subst (λ (i : Index). i.sound bytes) (ap (λ (s : Shape). index_in s old) same ∙ own_index old shape form sound) dumps.holds.sound)
+
     run_sound : (frames late : Bool) (input : List ℕ) (cut : Bool) (text : List ℕ) (ended : Ended) → RunsAs frames late input cut text old ended new → AllSound shape form new.content
     run_sound true late input cut text ended framed = turns_sound false late _ ended framed.taken
     run_sound false late input cut text ended taken = turns_sound false late (Answers input ended cut text) ended taken
 
     pub next_sound : (asked : Words) (status : Status) (input : List ℕ) (cut : Bool) (text : List ℕ) → IsOfRecords asked → OutcomeFor asked old status new input cut text → AllSound shape form new.content
     next_sound (Run given) status input cut text of outcome = records_sound false 0 (λ ended. RunsAs given.frames (is_late given.writing) input cut text old ended new) status cut text (λ ended taken. run_sound given.frames (is_late given.writing) input cut text ended taken) outcome
-    next_sound (Callers numbers) status input cut text of outcome = records_sound false numbers.callers (λ ended. TakesTurns false (is_late numbers.writing) (JointWork numbers.callers numbers.tries input ended cut text) old ended new) status cut text (λ ended taken. turns_sound false (is_late numbers.writing) (JointWork numbers.callers numbers.tries input ended cut text) ended taken) outcome
-    next_sound Dump status input cut text of outcome = records_sound true 0 (λ ended. (taken : TakesTurns true false (Dumps ended cut text) old ended new) × Spares taken.shape old new) status cut text (λ ended taken. turns_sound true false (Dumps ended cut text) ended taken.0) outcome
+    next_sound (Callers numbers) status input cut text of outcome = records_sound false (passes_for numbers.callers numbers.readers) (λ ended. TakesTurns false (is_late numbers.writing) (JointWork numbers.callers numbers.readers numbers.tries input ended cut text) old ended new) status cut text (λ ended taken. turns_sound false (is_late numbers.writing) (JointWork numbers.callers numbers.readers numbers.tries input ended cut text) ended taken) outcome
+    next_sound Dump status input cut text of outcome = records_sound true 0 (λ ended. DumpsRecords ended old new cut text) status cut text (dumped_sound cut text) outcome
     next_sound (Drill numbers) status input cut text of outcome = records_sound false 0 (λ ended. TakesTurns false (is_late numbers.writing) (Drills numbers ended cut text) old ended new) status cut text (λ ended taken. turns_sound false (is_late numbers.writing) (Drills numbers ended cut text) ended taken) outcome
     next_sound (Make name) status input cut text of outcome = made_sound name status cut text outcome
     next_sound Purge status input cut text of outcome = records_sound false 0 (PurgedBy old new cut text) status cut text (purged_by_sound cut text) outcome

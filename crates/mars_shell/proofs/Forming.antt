@@ -16,7 +16,7 @@ use Rattle.mars_core.specs.declared.fault.CoreFault.{CoreFault}
 use Rattle.script_run.specs.declared.ended.Ended.{Ended}
 use Rattle.array_runs.specs.Forms.{index_of_form, index_at, SaysForm}
 use Rattle.array_runs.specs.Records.{worked_on, begun_on}
-use Rattle.mars_shell.specs.Served.{opens_of, Served, Serves, Spared}
+use Rattle.mars_shell.specs.Served.{opens_of, Served, Serves}
 use Rattle.array_runs.proofs.Forming.{of_form}
 use Rattle.array_runs.proofs.Untaken.{untaken_over}
 
@@ -36,17 +36,6 @@ module _ (tells : Bool) (told : IsTrue tells) (Opens : Shape → List ℕ → Li
   of_first spares P holds = subst (λ (b : List ℕ). P (limits_of old.shape) (begun_on spares index b)) bytes_are (subst (λ (s : Shape). P (limits_of s) (begun_on spares index mid.state.bytes)) says.shape holds)
 
   module _ (new : StoreView) where
-    time_on : LeavesOnly (λ image. Opens mid.shape image mid.state.bytes) mid new → LeavesOnly (λ image. Opens old.shape image old.state.bytes) old new
-    time_on time = going.then (says.time told) (subst (λ (b : List ℕ). LeavesOnly (λ image. Opens old.shape image b) mid new) bytes_are
-        (subst (λ (s : Shape). LeavesOnly (λ image. Opens s image mid.state.bytes) mid new) says.shape time))
-
-    spared_on : Spared Opens mid new → Spared Opens old new
-    spared_on spared = record {
-      alive = spared.alive;
-      time = time_on spared.time;
-      now = λ image left. subst (λ (b : List ℕ). Opens old.shape image b) bytes_are (subst (λ (s : Shape). Opens s image mid.state.bytes) says.shape (spared.now image left));
-    }
-
     served_on : (spares : Bool) (Says : Limits → List Turn → face.State → Type 0) (ended : Ended) → Served spares Says Opens index mid ended new → Served spares Says Opens index old ended new
     served_on spares Says ended served =
         let sound = subst (λ (b : List ℕ). index.sound b) bytes_are served.sound in
@@ -69,7 +58,6 @@ module _ (tells : Bool) (told : IsTrue tells) (Opens : Shape → List ℕ → Li
           now = λ image left. subst (λ (s : Shape). opens_of Opens s index served.final (length served.final.history) image) says.shape (served.now image left);
           left = served.left;
           unwritten = λ unfailed reads. served.unwritten unfailed reads ∙ ap (worked_on spares) bytes_are;
-          spared = λ is. spared_on (served.spared is);
         }
 
     -- the work was done under the store's own index

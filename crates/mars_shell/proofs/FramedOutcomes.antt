@@ -16,7 +16,7 @@ use Rattle.array_runs.proofs.Opened.{array}
 use Rattle.array_runs.proofs.Statuses.{outcome_as, outcome_spared}
 use Rattle.mars_shell.specs.FramedRun.{SaysFramed, says_framed, TakesFramed}
 use Rattle.mars_shell.specs.Run.{TakesTurns}
-use Rattle.mars_shell.specs.Served.{Serves, TakesTurnsFor}
+use Rattle.mars_shell.specs.Served.{Serves}
 use Rattle.mars_shell.proofs.Outcomes.{records_outcome}
 
 -- callers took turns, or the records were not taken
@@ -29,12 +29,12 @@ pub framed_outcome : (tells : Bool) (told : IsTrue tells) (old : View) (only_now
 framed_outcome tells told old only_now store attached keeps defers later new behind counts_now input cut text result served =
     let Does = says_framed (index_at store.state.bytes) store input cut text in
     let outcome = records_outcome tells told old only_now store attached keeps defers later new behind counts_now 0 (omega arith) false Does result cut text served in
-    outcome_as false (λ ended. TakesTurnsFor false defers (Does ended) old ended new) (λ ended. TakesFramed defers input cut text old ended new) (λ page. IsDamaged old page × (Exceeds 0 old → ⊥))
+    outcome_as false (λ ended. TakesTurns false defers (Does ended) old ended new) (λ ended. TakesFramed defers input cut text old ended new) (λ page. IsDamaged old page × (Exceeds 0 old → ⊥))
         (HoldsArray old × (Exceeds 0 old → ⊥)) (Exceeds 0 old) old (served_status result) new cut text
         (λ ended taken. record {
           shape = store.shape;
           array = array tells told old only_now store attached keeps;
-          taken = subst (λ (bytes : List ℕ). TakesTurns false defers (SaysFramed store.shape bytes (begun_on false (index_at bytes) bytes) input ended cut text) old ended new) (attached.bytes told) taken.0;
+          taken = subst (λ (bytes : List ℕ). TakesTurns false defers (SaysFramed store.shape bytes (begun_on false (index_at bytes) bytes) input ended cut text) old ended new) (attached.bytes told) taken;
         }) outcome
 
 -- the work was not begun

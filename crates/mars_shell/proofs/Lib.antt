@@ -22,4 +22,3 @@ mod Endings
 pub mod Commanding
 pub mod FramesFollowed
 pub mod Outcomes
-pub mod Dumping

@@ -16,12 +16,11 @@ use Rattle.caller_steps.specs.Run.{Turn}
 use Rattle.caller_steps.specs.Step.{Runs}
 use Rattle.mars_core.specs.Over.{limits_of}
 use Rattle.script_run.specs.declared.ended.Ended.{Ended}
-use Rattle.mars_shell.specs.Dump.{Spares}
 use Rattle.array_runs.specs.Forms.{index_at, index_in}
 use Rattle.array_runs.specs.Records.{worked_on, begun_on, HasAll}
 use Rattle.mars_shell.specs.Run.{TakesTurns}
 use Rattle.mars_shell.specs.PrefixLaw.{Recovers}
-use Rattle.mars_shell.specs.Served.{opens_of, Served, Spared}
+use Rattle.mars_shell.specs.Served.{opens_of, Served}
 use Rattle.array_runs.proofs.Forming.{sound_says}
 use Rattle.array_runs.proofs.Opened.{at_entry, holds, looked}
 
@@ -46,7 +45,7 @@ module _ (tells : Bool) (told : IsTrue tells) (old : View) (only_now : (image : 
             (subst (λ (i : Index). HasAll i later.state.bytes served.final) (sym (sound_says store.state.bytes later.state.bytes has.sound)) has)
 
         -- callers took turns
-        takes_turns : TakesTurns spares defers Says old ended new
+        pub takes_turns : TakesTurns spares defers Says old ended new
         takes_turns = record {
           shape = store.shape;
           holds = holds tells told old only_now store attached keeps served.sound;
@@ -65,15 +64,3 @@ module _ (tells : Bool) (told : IsTrue tells) (old : View) (only_now : (image : 
           left = λ unfailed. let its = served.left unfailed in own_all its.0 its.1;
           unwritten = λ unfailed reads. bytes_now (served.left unfailed).0 ∙ served.unwritten unfailed reads ∙ ap (worked_on spares) (attached.bytes told);
         }
-
-        -- and what was opened stays, if the store was spared and no commit may wait
-        spared_on : IsFalse defers → Spared Opens store later → Spares store.shape old new
-        spared_on at_once spared = record {
-          quiet = subst (λ (s : Shape). HasNoVote s new.content.bytes) served.shape (behind.quiet told spared.alive at_once);
-          now = λ image left. subst (λ (b : List ℕ). Opens store.shape image b) (attached.bytes told) (spared.now image (left_now image left));
-          since = λ all image left. looked tells told old only_now store attached keeps defers later new behind spared.time store.shape all image left;
-        }
-
-        pub turns_taken : (taken : TakesTurns spares defers Says old ended new) × (IsTrue spares → IsFalse defers → Spares taken.shape old new)
-        unfolding takes_turns
-        turns_taken = (takes_turns, λ is at_once. spared_on at_once (served.spared is))

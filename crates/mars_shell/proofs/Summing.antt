@@ -17,7 +17,7 @@ use Rattle.texts.specs.Written.{IsWritten}
 use Rattle.script_run.specs.declared.ended.Ended.{Ended}
 use Rattle.script_run.specs.declared.ended.Ended.TheVariants.{All, WriteFault, MediaFault, NoMemory}
 use Rattle.script_run.specs.declared.responder.Stop.TheVariants as stop
-use Rattle.mars_shell.specs.Dump.{number_line}
+use Rattle.history_text.specs.Text.{number_line}
 use Rattle.mars_shell.specs.Drill.{summary_text, AreMade, Drills}
 use Rattle.mars_shell.specs.Made.{without_reply, GoOn, Made, EndsEarly, SummedUp}
 use Rattle.mars_shell.specs.OnCore.{TurnsOn}

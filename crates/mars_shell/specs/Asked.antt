@@ -10,11 +10,12 @@ use Rattle.script_run.specs.Input.{input_limit}
 use Rattle.mars_shell.specs.Commands.{ObeysAs}
 use Rattle.mars_shell.specs.Follow.{FollowOutcome}
 use Rattle.mars_shell.specs.Formats.{GiveLength, FormatOutcome}
+use Rattle.reader_work.specs.Readership.{passes_for}
 use Rattle.mars_shell.specs.Joint.{JointWork}
 use Rattle.mars_shell.specs.Late.{is_late}
 use Rattle.array_runs.specs.Outcome.{OutcomeOf}
 use Rattle.mars_shell.specs.Drill.{Drills}
-use Rattle.mars_shell.specs.Dump.{Dumps, Spares}
+use Rattle.told_commands.specs.Dump.{DumpOutcome}
 use Rattle.array_runs.specs.Records.{HoldsRecords, OverRecords}
 use Rattle.mars_shell.specs.Run.{TakesTurns}
 use Rattle.mars_shell.specs.FramedRun.{RunsAs}
@@ -49,10 +50,10 @@ IfReads _ Without Reads = Without
 abbrev pub OutcomeFor : Words → View → Status → View → List ℕ → Bool → List ℕ → Type 0
 OutcomeFor (Run given) old status new input cut text = OverRecords false 0 (λ ended. RunsAs given.frames (is_late given.writing) input cut text old ended new) old status new cut text
 OutcomeFor (Callers numbers) old status new input cut text =
-    OverRecords false numbers.callers (λ ended. TakesTurns false (is_late numbers.writing) (JointWork numbers.callers numbers.tries input ended cut text) old ended new) old status new cut text
+    OverRecords false (passes_for numbers.callers numbers.readers) (λ ended. TakesTurns false (is_late numbers.writing) (JointWork numbers.callers numbers.readers numbers.tries input ended cut text) old ended new) old status new cut text
 OutcomeFor (Eaw given) old status new input cut text = OutcomeOf true (λ ended. ObeysAs given.frames old input ended new cut text) (λ page. ⊥) ⊥ ⊥ old status new cut text
 OutcomeFor Follow old status new input cut text = FollowOutcome old status new input cut text
-OutcomeFor Dump old status new input cut text = OverRecords true 0 (λ ended. (taken : TakesTurns true false (Dumps ended cut text) old ended new) × Spares taken.shape old new) old status new cut text
+OutcomeFor Dump old status new input cut text = DumpOutcome old status new cut text
 OutcomeFor (Drill numbers) old status new input cut text = OverRecords false 0 (λ ended. TakesTurns false (is_late numbers.writing) (Drills numbers ended cut text) old ended new) old status new cut text
 OutcomeFor (Format numbers) old status new input cut text = FormatOutcome numbers old status new cut text
 OutcomeFor (Make name) old status new input cut text = MakeOutcome name old status new cut text
@@ -69,7 +70,7 @@ abbrev pub IsFit : Words → Bool → List ℕ → Bool → View → Type 0
 IsFit (Format numbers) source_tells input media_tells media = GiveLength numbers media.size
 IsFit (Run given) source_tells input media_tells media = IsShortInput source_tells input × IsTrue media_tells × ((shape : Shape) × HoldsRecords shape media)
 IsFit (Callers numbers) source_tells input media_tells media =
-    IsShortInput source_tells input × IsTrue media_tells × ((shape : Shape) × HoldsRecords shape media × (numbers.callers ≤ shape.numbers))
+    IsShortInput source_tells input × IsTrue media_tells × ((shape : Shape) × HoldsRecords shape media × (passes_for numbers.callers numbers.readers ≤ shape.numbers))
 IsFit (Eaw given) source_tells input media_tells media = IsShortInput source_tells input × IsTrue media_tells × HoldsArray media
 IsFit Follow source_tells input media_tells media = IsShortInput source_tells input × IsTrue media_tells × HoldsArray media
 IsFit Dump source_tells input media_tells media = IsTrue media_tells × ((shape : Shape) × HoldsRecords shape media)

@@ -5,7 +5,6 @@ pub mod Late
 pub mod PrefixLaw
 pub mod Run
 pub mod FramedRun
-pub mod Dump
 pub mod Told
 pub mod Served
 pub mod Tally

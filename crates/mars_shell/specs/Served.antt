@@ -21,7 +21,6 @@ use Rattle.script_run.specs.Counts.{Counts}
 use Rattle.script_run.specs.declared.ended.Ended.{Ended}
 use Rattle.script_run.specs.declared.ended.Ended.TheVariants.{MediaFault}
 use Rattle.array_runs.specs.Untaken.{Untaken}
-use Rattle.mars_shell.specs.Dump.{Spares}
 use Rattle.array_runs.specs.Records.{worked_on, begun_on, HasAll}
 use Rattle.mars_shell.specs.Run.{TakesTurns}
 
@@ -29,14 +28,8 @@ use Rattle.mars_shell.specs.Run.{TakesTurns}
 abbrev pub opens_of : (Shape → List ℕ → List ℕ → Type 0) → Shape → Index → State → ℕ → List ℕ → Type 0
 opens_of Opens shape index final least image = HasPrefixOf (OpensWith (Opens shape) index) final least image
 
--- The store is alive, and whatever a loss of power might have left meanwhile or may leave now opens with the data that it had.
-pub record Spared (Opens : Shape → List ℕ → List ℕ → Type 0) (old new : StoreView) : Type 0 where
-  pub alive : IsAlive new
-  pub time : LeavesOnly (λ image. Opens old.shape image old.state.bytes) old new
-  pub now : (image : List ℕ) → new.left_since new.moment image → Opens old.shape image old.state.bytes
-
 -- Callers took turns over the records of the store's data, which are sound under an index. This is what is said of a run, in terms of the
--- store, which may be one that was spared.
+-- store.
 pub record Served (spares : Bool) (Says : Limits → List Turn → State → Type 0) (Opens : Shape → List ℕ → List ℕ → Type 0) (index : Index) (old : StoreView) (ended : Ended) (new : StoreView) : Type 0 where
   pub sound : index.sound old.state.bytes
   pub shape : new.shape ≡ old.shape
@@ -50,7 +43,6 @@ pub record Served (spares : Bool) (Says : Limits → List Turn → State → Typ
   pub now : (image : List ℕ) → new.left_since new.moment image → opens_of Opens old.shape index final (length final.history) image
   pub left : ended ≢ MediaFault → IsAlive new × HasAll index new.state.bytes final
   pub unwritten : ended ≢ MediaFault → IsFalse (has_write turns) → new.state.bytes ≡ worked_on spares old.state.bytes
-  pub spared : IsTrue spares → Spared Opens old new
 
 -- that, or the records were not taken
 abbrev pub Serves : Bool → (Ended → Limits → List Turn → State → Type 0) → (Shape → List ℕ → List ℕ → Type 0) → Index → StoreView → Result Ended CoreFault → Bool → List ℕ → StoreView → Type 0
@@ -62,7 +54,3 @@ abbrev pub ServedCounts : Result Ended CoreFault → ℕ → ℕ → ℕ → ℕ
 ServedCounts (Ok ended) sink sink' media media' = Counts ended sink sink' media media'
 ServedCounts (Err Media) sink sink' media media' = (sink' ≡ sink) × Rose media media'
 ServedCounts (Err fault) sink sink' media media' = (sink' ≡ sink) × (media' ≡ media)
-
--- The same in terms of the medium: callers took turns, and if the work spares the records and no commit may wait, what was opened stays.
-abbrev pub TakesTurnsFor : (spares late : Bool) → (Limits → List Turn → State → Type 0) → View → Ended → View → Type 0
-TakesTurnsFor spares late Says old ended new = (taken : TakesTurns spares late Says old ended new) × (IsTrue spares → IsFalse late → Spares taken.shape old new)

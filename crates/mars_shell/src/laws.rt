@@ -31,10 +31,10 @@ use record_table::version_two_keeps;
 /// in their order and each once, with just the calls of the plan and under the number that was told. No other caller has any.
 pub fn what_callers_are_told()
     ensures fated { (base : Table) (index : Index) (limits : Limits) (turns : List Turn) (final : State) → Runs limits (opened base index) turns final
-        → (callers tries : ℕ) (input text : List ℕ) (ended : Ended) (cut : Bool) (work : JointWork callers tries input ended cut text limits turns final)
+        → (callers readers tries : ℕ) (input text : List ℕ) (ended : Ended) (cut : Bool) (work : JointWork callers readers tries input ended cut text limits turns final)
         → (caller : ℕ) → caller < callers → AreFated caller (planned None (calls_by caller work.said)) (of_caller work.fates caller) (commits_of caller final.history) }
     ensures others { (base : Table) (index : Index) (limits : Limits) (turns : List Turn) (final : State) → Runs limits (opened base index) turns final
-        → (callers tries : ℕ) (input text : List ℕ) (ended : Ended) (cut : Bool) → JointWork callers tries input ended cut text limits turns final → HasNoOthers callers final }
+        → (callers readers tries : ℕ) (input text : List ℕ) (ended : Ended) (cut : Bool) → JointWork callers readers tries input ended cut text limits turns final → HasNoOthers callers final }
 {}
 
 /// Runs compose, over a medium that tells its bytes. If all that a loss of power may leave is sound, then that is so after a run too, whatever

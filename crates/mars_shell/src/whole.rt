@@ -14,19 +14,18 @@ use crate::callers::{Crew, run_callers};
 use crate::commands::run_commands;
 use crate::core_work::OnCore;
 use crate::drilling::DrawnScript;
-use crate::dump::RecordDump;
 use crate::following::run_follow;
 use crate::formatting::run_format;
 use crate::framed_run::run_lines;
 use crate::records::over_records;
 use array_runs::Status;
 use caller_work::Gate;
-use command_words::{Words, WordsFault, Writing, read_words};
+use command_words::{Words, WordsFault, read_words};
 use outside::{Sink, Source};
 use pcm_media::Media;
 use std::sync::Wait;
 use std::thread::Threads;
-use told_commands::{NewTable, Purge, run_told};
+use told_commands::{Dump, NewTable, Purge, run_told};
 
 /// Does all that the program does with the words after the image's, and returns the medium.
 ///
@@ -80,10 +79,7 @@ pub fn run<
         }
         Ok(Words::Eaw(options)) => run_commands(rt.alloc(), source, sink, media, options),
         Ok(Words::Follow) => run_follow(rt.alloc(), source, sink, media),
-        Ok(Words::Dump) => {
-            let writing = Writing::AtOnce;
-            over_records(rt.alloc(), source, sink, media, writing, &RecordDump)
-        }
+        Ok(Words::Dump) => run_told(rt.alloc(), source, sink, media, &Dump),
         Ok(Words::Drill(numbers)) => {
             let work = OnCore {
                 work: DrawnScript { numbers },

@@ -16,6 +16,8 @@ pub mod Putting
 pub mod RowsOf
 pub mod Gathering
 pub mod Opened
+mod AllRows
+mod ByName
 pub mod Holding
 pub mod Fronts
 pub mod Main

@@ -69,7 +69,7 @@ module _ (d : List ℕ) where
   sorted_row key None rest a b = b
   sorted_row key (Some v) rest a b = both _ _ a b
 
-  sorted : (low high : ℕ) (ps : List Pair) → Rise low high ps → T (is_sorted nat_cmp (rows_of d ps))
+  pub sorted : (low high : ℕ) (ps : List Pair) → Rise low high ps → T (is_sorted nat_cmp (rows_of d ps))
   sorted low high [] rise = tt
   sorted low high (p ∷ ps) rise = sorted_row p.0 (record_at d (Some p.1)) (rows_of d ps) (below p.0 (suc p.0) high ps (omega arith) rise.1) (sorted (suc p.0) high ps rise.1)
 
@@ -85,7 +85,7 @@ module _ (d : List ℕ) where
       go false = refl
   find_row key q (Some v) rest = ap (λ (b : Bool). cond b (Some v) (find nat_cmp q rest)) (tied q key)
 
-  find_rows : (low high q : ℕ) (ps : List Pair) → Rise low high ps → find nat_cmp q (rows_of d ps) ≡ record_at d (found ps q)
+  pub find_rows : (low high q : ℕ) (ps : List Pair) → Rise low high ps → find nat_cmp q (rows_of d ps) ≡ record_at d (found ps q)
   find_rows low high q [] rise = refl
   find_rows low high q (p ∷ ps) rise = find_row p.0 q (record_at d (Some p.1)) (rows_of d ps) ∙ elim (cases_eq p.0 q) [
     | inl same ↦

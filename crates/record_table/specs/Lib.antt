@@ -7,6 +7,7 @@ pub mod Does
 pub mod Groups
 pub mod Invariant
 pub mod Attached
+pub mod AllTables
 pub mod Sought
 pub mod Faults
 pub mod Seeks

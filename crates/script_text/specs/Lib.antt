@@ -1,4 +1,5 @@
 pub mod Line
+pub mod JointLine
 pub mod Reads
 pub mod Replies
 pub mod HexText

@@ -15,10 +15,11 @@ use Rattle.array_runs.specs.Untaken.{Untaken}
 use Rattle.array_runs.specs.declared.status.Status.{Status}
 use Rattle.array_runs.specs.declared.status.Status.TheVariants.{Good, WriteFault, MediaFault, NoMemory, Damaged, Refused}
 use Rattle.told_commands.specs.declared.told_work.Told.{Told}
-use Rattle.told_commands.specs.declared.told_work.Told.TheVariants.{Line}
+use Rattle.told_commands.specs.declared.told_work.Told.TheVariants.{Line, Lines}
 
 abbrev pub told_bytes : Told → List ℕ
 told_bytes (Line text) = text
+told_bytes (Lines text) = text.items
 
 -- the text that is told, or the status with which the work stopped
 abbrev pub said : Result Told Status → Result (List ℕ) Status

@@ -23,6 +23,8 @@ use texts::ShortText;
 pub enum Told {
     /// A line, which is formed without memory.
     Line(ShortText),
+    /// Lines, which are formed in full before any of them is written.
+    Lines(Vec<u8>),
 }
 
 impl Told {
@@ -31,6 +33,7 @@ impl Told {
     {
         match self {
             Told::Line(line) => line.as_bytes(),
+            Told::Lines(lines) => lines,
         }
     }
 }
