@@ -241,7 +241,15 @@ fn work_jointly<
     let Ok(readership) = open_readership(crew.rt, alloc, core.as_ref().base(), asks) else {
         return (Err(NoMemory), Box::into_inner(core));
     };
-    match work_with(crew.rt, alloc, core, readership, plans, u64::from(tries), crew.gate) {
+    match work_with(
+        crew.rt,
+        alloc,
+        core,
+        readership,
+        plans,
+        u64::from(tries),
+        crew.gate,
+    ) {
         Ok((core, fates, answers, end)) => {
             let core = Box::into_inner(core);
             let lines = WorkLines {

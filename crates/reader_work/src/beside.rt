@@ -19,8 +19,8 @@ ghost use Rattle.reader_work.specs.Reading.{CanRead, HasRead};
 use crate::answer::Answers;
 use crate::feeding::Feeding;
 use crate::news::{Board, News};
-use crate::reading::{ReadWorker, read_keys};
 use crate::readership::Readership;
+use crate::reading::{ReadWorker, read_keys};
 use caller_plans::Plans;
 use caller_steps::Core;
 use caller_work::{Fates, Gate, Rooms, WorkEnd, Worker, finish, hire, prepare, work, work_all};
@@ -50,11 +50,7 @@ fn all_worked<R: Threads + Wait + Sync, C: Core + Drop + Send, G: Gate + Sync>(
 }
 
 // Lets all readers read, each on a thread of its own.
-fn read_all<R: Threads + Wait + Sync, G: Gate + Sync>(
-    rt: &R,
-    workers: &mut [ReadWorker],
-    gate: &G,
-)
+fn read_all<R: Threads + Wait + Sync, G: Gate + Sync>(rt: &R, workers: &mut [ReadWorker], gate: &G)
     requires some { 0 < length workers.old }
     requires ready { (i : ℕ) (w : ReadWorker) → i < length workers.old → CanRead (slice_index_or workers.old i w) }
     ensures read { (i : ℕ) (w : ReadWorker) → i < length workers.old → HasRead (slice_index_or workers.old i w) (slice_index_or workers.new i w) }
@@ -245,7 +241,10 @@ fn work_beside<R: Threads + Wait + Sync, C: Core + Drop + Send, G: Gate + Sync>(
 
 // Ends the feed.
 fn close<R: Wait>(rt: &R, readership: Readership) {
-    let Readership { feed, workers: _workers } = readership;
+    let Readership {
+        feed,
+        workers: _workers,
+    } = readership;
     feed.close(rt);
 }
 

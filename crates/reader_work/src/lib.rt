@@ -12,8 +12,8 @@ mod answer;
 mod beside;
 mod feeding;
 mod news;
-mod reading;
 mod readership;
+mod reading;
 
 pub use answer::{Answer, Answers};
 pub use beside::work_with;

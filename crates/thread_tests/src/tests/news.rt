@@ -155,6 +155,9 @@ fn what_was_committed_is_read_and_fed(rt: HostRuntime) -> Result<(), Fail> {
     let value = Value::of(b"kept").ok_or("value")?;
     let (right, read) = over_an_array(&rt, rt.alloc(), value).ok_or("shared")?;
     assert!(rt; right);
-    assert_eq!(rt; read, [(0, None), (2, Some(value)), (2, Some(value)), (2, None)]);
+    assert_eq!(rt;
+        read,
+        [(0, None), (2, Some(value)), (2, Some(value)), (2, None)]
+    );
     Ok(())
 }

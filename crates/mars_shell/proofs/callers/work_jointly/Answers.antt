@@ -69,14 +69,14 @@ returns-in-Ok-work_with-clause-works g c =
       holds = λ tells. joint_turns s.tells _ _ numbers.callers numbers.readers numbers.tries c.args.input.now read.0 read.1 plans read.3 c.in-Ok-work_with.fates.items c.in-Ok-work_with.end worked c.requires.ready.enough (answers_in answers) tells
           c.tell_end-ended.result told.cut told.text (λ unfailed remembered. (whole unfailed remembered).0) c.tell_end-ended.ensures.fault
           (λ unfailed remembered. answered_in answers _ _ _ _ _ _ base history asks c.in-Ok-work_with.ensures.answered (whole unfailed remembered).1)
-          (retold c.tell_end-ended.result told.cut told.text _ _ _ _ _ _ _ _ (answers_in answers) read.2 c.history.ensures c.base-in-Ok-work_with.ensures.base refl told.holds);
+          (retold c.tell_end-ended.result told.cut told.text _ _ _ _ _ _ c.in-Ok-work_with.fates.items c.in-Ok-work_with.fates.items (answers_in answers) read.2 c.history.ensures c.base-in-Ok-work_with.ensures.base refl told.holds);
     }
 
 pub returns-in-Err-work_with-clause-works : goal.returns-in-Err-work_with-clause-works
 returns-in-Err-work_with-clause-works g c = record { cut = false; text = []; wrote = λ _. sym (append-nil _); counts = refl; holds = λ told. (refl, refl) }
 
 pub returns-in-Err-work_with-clause-given_back : goal.returns-in-Err-work_with-clause-given_back
-returns-in-Err-work_with-clause-given_back g c = c.into_inner.ensures ∙ ap (λ (boxed : _). boxed.value) c.in-Err-work_with.ensures.given_back ∙ c.in-Ok-new.ensures.ok
+returns-in-Err-work_with-clause-given_back g c = c.into_inner-in-Err-work_with.ensures ∙ ap (λ (boxed : _). boxed.value) c.in-Err-work_with.ensures.given_back ∙ c.in-Ok-new.ensures.ok
 
 pub returns-in_default-clause-works : goal.returns-in_default-clause-works
 returns-in_default-clause-works g c = record { cut = false; text = []; wrote = λ _. sym (append-nil _); counts = refl; holds = λ told. (refl, refl) }
@@ -88,9 +88,9 @@ pub returns-in_default-open_readership-clause-works : goal.returns-in_default-op
 returns-in_default-open_readership-clause-works g c = record { cut = false; text = []; wrote = λ _. sym (append-nil _); counts = refl; holds = λ told. (refl, refl) }
 
 pub open_readership-requires : goal.open_readership-requires
-open_readership-requires g c κs within =
+open_readership-requires g c =
     let readers : length c.in-Ok.script.asks.items ≡ c.args.crew.now.numbers.readers = ap length c.in-Ok.ensures.4 ∙ as_many_asks 0 c.args.crew.now.numbers.readers c.in-Ok.ensures.0 in
-    omega (arith, readers, c.requires.readers)
+    record { few = omega (arith, readers, c.requires.readers) }
 
 pub work_with-requires-clause-some : goal.work_with-requires-clause-some
 work_with-requires-clause-some g c κs within =
