@@ -33,6 +33,7 @@ use told_commands::{Dump, NewTable, Purge, run_told};
 /// caller's transactions are made by a worker of its own on a thread, which calls the gate between its calls. `eaw` does not read the
 /// records, nor does `follow`, which applies frames that lines say. `drill`, `dump`, `make`, `purge` and `format` read no input. Only `callers` may wait. In `run`, `callers` and `drill` commits may be answered before
 /// their data is written to its place, if the words say so.
+#[tactic(auto, using(crate::proofs::Waiting::run_depth, crate::proofs::Waiting::drill_depth))]
 pub fn run<
     R: AllocGlobal + Threads + Wait + Sync,
     S: Source,

@@ -1,4 +1,4 @@
-use Rattle.std.proofs.Common.{[], false, inl, inr, ⊎_elim, refl, sym, subst, ◌∙◌, arith}
+use Rattle.std.proofs.Common.{[], false, ⊎_elim, refl, sym, subst, ◌∙◌, arith}
 use Rattle.std.proofs.lemmas.List.{append-nil}
 use Rattle.array_runs.specs.Records.{OverRecords}
 use Rattle.array_runs.specs.Statuses.{IsEarly, IsRefusal}

@@ -1,7 +1,5 @@
-use Rattle.std.proofs.Common.{ℕ, Bool, List, [], false, refl, sym, ap, subst}
+use Rattle.std.proofs.Common.{[], false, refl, sym, subst}
 use Rattle.std.proofs.lemmas.List.{append-nil}
-use Rattle.array_shape.specs.declared.shape.Shape.{Shape}
-use Rattle.eaw_face.specs.State.{State}
 use Rattle.mars_core.specs.Attached.{is_media_fault}
 use Rattle.record_table.specs.Form.{form_number}
 use Rattle.record_table.specs.declared.form.Form.{Form}

@@ -1,9 +1,8 @@
-use Rattle.std.proofs.Common.{◌≡◌, List, ℕ, [], false, true, refl, sym, ap, subst, ◌∙◌, arith}
+use Rattle.std.proofs.Common.{◌≡◌, [], false, true, refl, sym, ap, subst, ◌∙◌, arith}
 use Rattle.std.proofs.lemmas.List.{append-nil}
 use Rattle.mars_base.proofs.Going.{stays}
 use Rattle.eaw_face.specs.StoreView.{LeavesOnly}
 use Rattle.mirror.specs.Mirroring.{over, sending_in}
-use Rattle.mars_core.specs.declared.fault.CoreFault.TheVariants.{NoMemory}
 use Rattle.mars_core.specs.Held.{core_of}
 use Rattle.mars_core.specs.Over.{IsOver}
 use Rattle.array_runs.specs.Untaken.{OpensAs, Untaken}

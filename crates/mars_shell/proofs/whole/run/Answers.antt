@@ -18,7 +18,7 @@ use Rattle.told_commands.proofs.Clearing.{complete_purge}
 use Rattle.told_commands.proofs.Dumping.{complete_dump}
 use Rattle.mars_shell.proofs.FramesFollowed.{complete_follow}
 use Rattle.told_commands.proofs.Tabling.{complete_make}
-use Rattle.mars_shell.proofs.Waiting.{run_depth, callers_depth, callers_few, readers_few}
+use Rattle.mars_shell.proofs.Waiting.{callers_depth, callers_few, readers_few}
 use Rattle.mars_shell.proofs.whole.run.Goals as goal
 
 pub returns-in-Err-NoCommand-clause-words : goal.returns-in-Err-NoCommand-clause-words
@@ -288,9 +288,6 @@ returns-in-Ok-Format-clause-formats g c = words_say (map string_bytes c.args.wor
 
 pub returns-in-Ok-Format-clause-untold : goal.returns-in-Ok-Format-clause-untold
 returns-in-Ok-Format-clause-untold g c = words_say (map string_bytes c.args.words.now) c.run_format.result.0 _ _ (Format c.in-Ok-Format.numbers) (no_usage c.in-Ok-Format.numbers _ c.run_format.result.0 _ _ c.run_format.ensures.says) (rw c.in-Ok-Format.field-0-is at c.in-Ok-Format.ensures-1.asked) (λ is. absurd is)
-
-pub over_records-requires-clause-depth : goal.over_records-requires-clause-depth
-over_records-requires-clause-depth g c = λ κs lives. run_depth (map string_bytes c.args.words.now) c.in-Ok-Run.options (rw c.in-Ok-Run.field-0-is at c.in-Ok-Run.ensures-1.asked)
 
 pub run_callers-requires-clause-few : goal.run_callers-requires-clause-few
 run_callers-requires-clause-few g c = λ κs lives. callers_few (map string_bytes c.args.words.now) c.in-Ok-Callers.numbers (rw c.in-Ok-Callers.field-0-is at c.in-Ok-Callers.ensures-1.asked)
