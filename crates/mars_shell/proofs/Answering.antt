@@ -59,9 +59,9 @@ module _ (core : CoreView) (callers n : ℕ) (line : List ℕ) (progress : Progr
         let limits = progress.start.limits in
         let one : Runs limits progress.state ((caller, call, reply) ∷ []) later.state =
         subst (λ (l : Limits). Runs l progress.state ((caller, call, reply) ∷ []) later.state) (sym stands.limits_are)
-            (subst (λ (s : State). Runs core.limits s ((caller, call, reply) ∷ []) later.state) (sym stands.state_is) (later.state, steps.step told, refl)) in
+        (subst (λ (s : State). Runs core.limits s ((caller, call, reply) ∷ []) later.state) (sym stands.state_is) (later.state, steps.step told, refl)) in
         turns_tell true limits progress.start.state later.state (progress.turns ++ (caller, call, reply) ∷ []) refl (turns_on true limits progress.start.state progress.state later.state progress.turns ((caller, call, reply) ∷ [])
-            (turns_of_runs limits progress.start.state progress.state progress.turns stands.runs) (turns_of_runs limits progress.state later.state ((caller, call, reply) ∷ []) one))
+        (turns_of_runs limits progress.start.state progress.state progress.turns stands.runs) (turns_of_runs limits progress.state later.state ((caller, call, reply) ∷ []) one))
 
     stand : Stands later after
     stand = record { limits_are = stands.limits_are ∙ sym steps.limits; state_is = refl; runs = led; sound = on.sound; safe = on.now }

@@ -54,5 +54,5 @@ module _ (tells : Bool) (told : IsTrue tells) (Opens : Shape → List ℕ → Li
   says_on result served =
       let bytes_are : mid.state.bytes ≡ old.state.bytes = ap (λ (s : State). s.bytes) (says.state told) in
       let moved = subst (λ (x : Shape × List ℕ × Index). Serves false (λ ended. SaysFramed x.0 x.1 (begun_on false x.2 x.1) input ended cut text) Opens (index_of_form form) mid result cut text new)
-          (λ i. (says.shape i, bytes_are i, sym (of_form form old.state.bytes (says.is told)) i)) served in
+      (λ i. (says.shape i, bytes_are i, sym (of_form form old.state.bytes (says.is told)) i)) served in
       serves_on tells told Opens form old mid says new false (says_framed (index_at old.state.bytes) old input cut text) result cut text moved

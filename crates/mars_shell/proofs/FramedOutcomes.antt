@@ -30,12 +30,12 @@ framed_outcome tells told old only_now store attached keeps defers later new beh
     let Does = says_framed (index_at store.state.bytes) store input cut text in
     let outcome = records_outcome tells told old only_now store attached keeps defers later new behind counts_now 0 (omega arith) false Does result cut text served in
     outcome_as false (λ ended. TakesTurns false defers (Does ended) old ended new) (λ ended. TakesFramed defers input cut text old ended new) (λ page. IsDamaged old page × (Exceeds 0 old → ⊥))
-        (HoldsArray old × (Exceeds 0 old → ⊥)) (Exceeds 0 old) old (served_status result) new cut text
-        (λ ended taken. record {
-          shape = store.shape;
-          array = array tells told old only_now store attached keeps;
-          taken = subst (λ (bytes : List ℕ). TakesTurns false defers (SaysFramed store.shape bytes (begun_on false (index_at bytes) bytes) input ended cut text) old ended new) (attached.bytes told) taken;
-        }) outcome
+    (HoldsArray old × (Exceeds 0 old → ⊥)) (Exceeds 0 old) old (served_status result) new cut text
+    (λ ended taken. record {
+      shape = store.shape;
+      array = array tells told old only_now store attached keeps;
+      taken = subst (λ (bytes : List ℕ). TakesTurns false defers (SaysFramed store.shape bytes (begun_on false (index_at bytes) bytes) input ended cut text) old ended new) (attached.bytes told) taken;
+    }) outcome
 
 -- the work was not begun
 pub framed_none : (defers : Bool) (input : List ℕ) (old : View) (status : Status) (new : View) (cut : Bool) (text : List ℕ) → OverRecords true 0 (λ none. ⊥) old status new cut text
@@ -43,4 +43,4 @@ pub framed_none : (defers : Bool) (input : List ℕ) (old : View) (status : Stat
 framed_none defers input old status new cut text outcome =
     let none = outcome_spared false (λ none. ⊥) (λ page. IsDamaged old page × (Exceeds 0 old → ⊥)) (HoldsArray old × (Exceeds 0 old → ⊥)) (Exceeds 0 old) old status new cut text outcome in
     outcome_as false (λ none. ⊥) (λ ended. TakesFramed defers input cut text old ended new) (λ page. IsDamaged old page × (Exceeds 0 old → ⊥)) (HoldsArray old × (Exceeds 0 old → ⊥)) (Exceeds 0 old)
-        old status new cut text (λ ended none. absurd none) none
+    old status new cut text (λ ended none. absurd none) none

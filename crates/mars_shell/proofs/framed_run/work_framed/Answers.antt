@@ -84,9 +84,9 @@ returns-clause-served g c =
     let ended = c.answer_framed-ended.result.0 in
     let ran = c.answer_framed-ended.ensures.ran in
     let ready = can_share s.tells s.opens index old mid (core_of s.opens index mid core) begins 0 (omega arith)
-        (λ told image left. met.only_now core.records.store.store image told begins.alive left) in
+    (λ told image left. met.only_now core.records.store.store image told begins.alive left) in
     let over_last = subst (λ st. IsOver s.tells (s.opens (s.view st.store).shape) index (over (s.view st.store) (sending_in true (λ l. l.frames) (λ l. l.faults) st))
-        (core_of s.opens index (over (s.view st.store) (sending_in true (λ l. l.frames) (λ l. l.faults) st)) last)) c.into_store.ensures.store c.into_store.ensures.over in
+    (core_of s.opens index (over (s.view st.store) (sending_in true (λ l. l.frames) (λ l. l.faults) st)) last)) c.into_store.ensures.store c.into_store.ensures.over in
     let later = core_of s.opens index new last in
     record {
       cut = ran.cut;
@@ -95,8 +95,8 @@ returns-clause-served g c =
       counts = ran.counts;
       holds = λ told.
           let done = ran.holds told (first s.tells s.opens index old mid _ core begins told 0 ready refl none refl from_one)
-              (stands_first s.tells s.opens index old mid _ core begins told 0 ready refl none refl from_one)
-              (has_begun s.tells s.opens index old mid _ core begins told 0 ready refl none refl from_one) in
+          (stands_first s.tells s.opens index old mid _ core begins told 0 ready refl none refl from_one)
+          (has_begun s.tells s.opens index old mid _ core begins told 0 ready refl none refl from_one) in
           let turns = by_frames s.tells s.opens index old mid _ core begins told 0 ready refl none refl from_one later input ended ran.cut ran.text new refl done in
           let all = served s.tells s.opens index old mid (core_of s.opens index mid core) begins told new later over_last (says_framed index old input ran.cut ran.text ended) ended turns in
           let below = served_below s.opens index (s.view prim.store) (s.view last.records.store.store) sent sent' input ran.cut ran.text ended all in
