@@ -128,7 +128,7 @@ one_writing (Some value) (Late depth) (Late more) is also = ap Late (one_number 
 
 -- numbers of the same options are the same
 one_run : (options : List Row) (given other : RunOptions) → GivesRun options given → GivesRun options other → given ≡ other
-one_run options given other is also = ap (λ w. record { writing = w }) (one_writing (first_of (codes "late") options) given.writing other.writing is.writing also.writing)
+one_run options given other is also = ap₂ (λ w b. record { writing = w; frames = b }) (one_writing (first_of (codes "late") options) given.writing other.writing is.writing also.writing) (is.frames ∙ sym also.frames)
 
 one_eaw : (options : List Row) (given other : EawOptions) → GivesEaw options given → GivesEaw options other → given ≡ other
 one_eaw options given other is also = ap (λ b. record { frames = b }) (is.frames ∙ sym also.frames)

@@ -93,12 +93,34 @@ level_passes s words w passes is no_more = ap (λ k. or_else k (behind_walk s (w
 abbrev IsTaken : List Text → Text → List Row → Type 0
 IsTaken words name options = (fault_of command_line words ≡ []) × (subcommand_of command_line words ≡ Some (name, options))
 
-run_taken : IsTaken (codes "run" ∷ []) (codes "run") []
+-- `run` as it is built, and the options of its words
+abbrev run_built : Shape
+run_built = unwrap_or (slice_get (built command_line).subs 0) run_shape
+
+abbrev run_options : List Text → List Row
+run_options words = finished run_built.rules (walk run_built.rules [] nothing_held words).held
+
+run_taken : IsTaken (codes "run" ∷ []) (codes "run") (run_options [])
 unfolding clap_on_literals
 run_taken = (refl, refl)
 
-pub run_asks : AsksFor (codes "run" ∷ []) (Run (record { writing = AtOnce }))
-run_asks = (run_taken.0, codes "run", [], run_taken.1, (refl, record { writing = refl }))
+run_plain : (first_of (codes "late") (run_options []) ≡ None) × (false ≡ is_given (first_of (codes "frames") (run_options [])))
+unfolding clap_on_literals
+run_plain = (refl, refl)
+
+pub run_asks : AsksFor (codes "run" ∷ []) (Run (record { writing = AtOnce; frames = false }))
+run_asks = (run_taken.0, codes "run", run_options [], run_taken.1, (refl, record { writing = run_plain.0; frames = run_plain.1 }))
+
+run_frames_taken : IsTaken (codes "run" ∷ codes "--frames" ∷ []) (codes "run") (run_options (codes "--frames" ∷ []))
+unfolding clap_on_literals
+run_frames_taken = (refl, refl)
+
+run_framed : (first_of (codes "late") (run_options (codes "--frames" ∷ [])) ≡ None) × (true ≡ is_given (first_of (codes "frames") (run_options (codes "--frames" ∷ []))))
+unfolding clap_on_literals
+run_framed = (refl, refl)
+
+pub run_frames_asks : AsksFor (codes "run" ∷ codes "--frames" ∷ []) (Run (record { writing = AtOnce; frames = true }))
+run_frames_asks = (run_frames_taken.0, codes "run", run_options (codes "--frames" ∷ []), run_frames_taken.1, (refl, record { writing = run_framed.0; frames = run_framed.1 }))
 
 -- `eaw` as it is built, and the options of its words
 abbrev eaw_built : Shape
@@ -304,10 +326,6 @@ joined_asks numbers small =
       ),
     )
 
--- `run` as it is built, and its option
-abbrev run_built : Shape
-run_built = unwrap_or (slice_get (built command_line).subs 0) run_shape
-
 abbrev late_rule : Rule
 late_rule = unwrap_or (arg_by_id run_built.rules (codes "late")) (option_of (codes "late"))
 
@@ -331,18 +349,18 @@ module _ (depth : Text) (plain : IsPlain depth) where
   unfolding clap_on_literals
   late_met = ap (λ (w : Walk). Some (codes "run", finished run_built.rules w.held)) late_walk
 
-  late_value : first_of (codes "late") (finished run_built.rules with_depth.held) ≡ Some depth
+  late_value : (first_of (codes "late") (finished run_built.rules with_depth.held) ≡ Some depth) × (false ≡ is_given (first_of (codes "frames") (finished run_built.rules with_depth.held)))
   unfolding clap_on_literals
-  late_value = refl
+  late_value = (refl, refl)
 
-pub late_asks : (depth : ℕ) → 1 ≤ depth → depth ≤ 64 → AsksFor (late_words depth) (Run (record { writing = Late depth }))
+pub late_asks : (depth : ℕ) → 1 ≤ depth → depth ≤ 64 → AsksFor (late_words depth) (Run (record { writing = Late depth; frames = false }))
 late_asks depth some few =
     let plain = plain_decimal depth (omega (arith, few)) in (
       late_taken (decimal depth) plain,
       codes "run",
       _,
       late_met (decimal depth) plain,
-      (refl, record { writing = given 1 64 depth None _ (late_value (decimal depth) plain) some few }),
+      (refl, record { writing = given 1 64 depth None _ (late_value (decimal depth) plain).0 some few; frames = (late_value (decimal depth) plain).1 }),
     )
 
 -- the option `late` is missing

@@ -25,14 +25,15 @@ abbrev pub GivesWriting : Option Text → Writing → Type 0
 GivesWriting first AtOnce = first ≡ None
 GivesWriting first (Late depth) = IsNumber 1 64 None first depth
 
--- what the option of `run` gives
-pub record GivesRun (options : List Row) (given : RunOptions) : Type 0 where
-  pub writing : GivesWriting (first_of (codes "late") options) given.writing
-
 -- whether an option without a value is given: that it is, is the value that is told of it
 abbrev pub is_given : Option Text → Bool
 is_given None = false
 is_given (Some value) = bytes_eq value (codes "true")
+
+-- what the options of `run` give
+pub record GivesRun (options : List Row) (given : RunOptions) : Type 0 where
+  pub writing : GivesWriting (first_of (codes "late") options) given.writing
+  pub frames : given.frames ≡ is_given (first_of (codes "frames") options)
 
 -- what the option of `eaw` gives
 pub record GivesEaw (options : List Row) (given : EawOptions) : Type 0 where

@@ -8,13 +8,13 @@ use Rattle.clap.specs.declared.builder.action.ArgAction.TheVariants.{SetTrue}
 abbrev pub option_of : Text → Rule
 option_of name = record (new_rule name) { long = Some name }
 
--- `run` with one option
-abbrev pub run_shape : Shape
-run_shape = record (new_shape (codes "run")) { rules = option_of (codes "late") ∷ [] }
-
 -- an option without a value: `--name`
 abbrev pub flag_of : Text → Rule
 flag_of name = record (option_of name) { action = Some SetTrue }
+
+-- `run` with an option and a flag
+abbrev pub run_shape : Shape
+run_shape = record (new_shape (codes "run")) { rules = option_of (codes "late") ∷ flag_of (codes "frames") ∷ [] }
 
 -- `eaw` with one option
 abbrev pub eaw_shape : Shape

@@ -37,7 +37,9 @@ fn run_command<'a>(alloc: Global) -> Result<Command<'a>, AllocError>
     ensures shape { IfOk result (λ command. shape_of command ≡ run_shape) }
     ensures local { IfOk result (λ command. (out-Command command).has_globals ≡ false) }
 {
-    Command::new(alloc, "run").arg(option(alloc, "late"))
+    Command::new(alloc, "run")
+        .arg(option(alloc, "late"))?
+        .arg(flag(alloc, "frames"))
 }
 
 fn eaw_command<'a>(alloc: Global) -> Result<Command<'a>, AllocError>

@@ -17,8 +17,9 @@ pub fn one_command()
 
 /// What usual words ask for. No words, and requests for help or the version, ask for nothing.
 pub fn usual_words()
-    ensures run { AsksFor (codes "run" ∷ []) (Words.Run (record { writing = AtOnce })) }
-    ensures late { (depth : ℕ) → 1 ≤ depth → depth ≤ 64 → AsksFor (late_words depth) (Words.Run (record { writing = Late depth })) }
+    ensures run { AsksFor (codes "run" ∷ []) (Words.Run (record { writing = AtOnce; frames = false })) }
+    ensures late { (depth : ℕ) → 1 ≤ depth → depth ≤ 64 → AsksFor (late_words depth) (Words.Run (record { writing = Late depth; frames = false })) }
+    ensures run_frames { AsksFor (codes "run" ∷ codes "--frames" ∷ []) (Words.Run (record { writing = AtOnce; frames = true })) }
     ensures callers { (numbers : CallersNumbers) → AreOfCallers numbers → numbers.tries ≡ 100 → AsksFor (callers_words numbers) (Words.Callers numbers) }
     ensures tries { (numbers : CallersNumbers) → AreOfCallers numbers → AsksFor (tries_words numbers) (Words.Callers numbers) }
     ensures readers { (numbers : CallersNumbers) → AreOfReaders numbers → AsksFor (readers_words numbers) (Words.Callers numbers) }

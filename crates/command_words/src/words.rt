@@ -38,6 +38,8 @@ pub enum Words {
 #[derive(Clone, Copy, Debug, PartialEq, Eq)]
 pub struct RunOptions {
     pub writing: Writing,
+    /// Whether the frames that the calls send are written too.
+    pub frames: bool,
 }
 
 /// How raw commands are answered.
@@ -120,8 +122,8 @@ pub enum WordsFault {
 }
 
 /// Reads the words after the image's: `run`, `eaw`, `dump`, `purge`, `follow`, `make` with the name of a table, `callers` with a number and the options `tries` and `readers`, `drill` with a seed and a
-/// count, or `format` with its options in any order. `run`, `callers` and `drill` have the option `late` too, and `eaw` has `frames`. Each
-/// option is given at most once.
+/// count, or `format` with its options in any order. `run`, `callers` and `drill` have the option `late` too, and `run` and `eaw` have
+/// `frames`. Each option is given at most once.
 pub fn read_words(alloc: Global, words: &[String]) -> Result<Words, WordsFault>
     ensures asked { IfOk result (AsksFor (map string_bytes words.now)) }
     ensures refused { IfErr result (λ fault. fault ≡ WordsFault.NoCommand → AskForNothing (map string_bytes words.now)) }
@@ -150,7 +152,8 @@ fn asked(matches: &ArgMatches<'_>) -> Option<Words>
     match name {
         "run" => {
             let writing = read_writing(options)?;
-            Some(Words::Run(RunOptions { writing }))
+            let frames = read_flag(options, "frames");
+            Some(Words::Run(RunOptions { writing, frames }))
         }
         "callers" => {
             let numbers = read_callers(options)?;

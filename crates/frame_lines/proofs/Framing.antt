@@ -20,7 +20,7 @@ pub are_some : (fs : List Frame) → All (λ (b : List ℕ). 0 < length b) (map 
 are_some [] = All-nil (λ (b : List ℕ). 0 < length b)
 are_some (f ∷ fs) = All-cons (λ (b : List ℕ). 0 < length b) (frame_bytes f) (map frame_bytes fs) (omega arith) (are_some fs)
 
-lines_are : (fs : List Frame) → flat_map bytes_line (map frame_bytes fs) ≡ lines_of_frames fs
+pub lines_are : (fs : List Frame) → flat_map bytes_line (map frame_bytes fs) ≡ lines_of_frames fs
 lines_are [] = refl
 lines_are (f ∷ fs) = ap (λ (t : List ℕ). bytes_line (frame_bytes f) ++ t) (lines_are fs)
 

@@ -90,7 +90,10 @@ fn write_answer<R: Mirrored>(
 }
 
 // Writes a line for each frame that was sent, the oldest first, and gives them up.
-fn write_frames<R: Mirrored>(responder: &mut R, out: &mut Vec<u8>) -> Result<(), NoMemory>
+pub(crate) fn write_frames<R: Mirrored>(
+    responder: &mut R,
+    out: &mut Vec<u8>,
+) -> Result<(), NoMemory>
     requires told { IsTrue (R.view responder.old).sending.told }
     requires some { All (λ frame. 0 < length frame) (R.view responder.old).sending.frames }
     requires ready { R.is_ready responder.old }

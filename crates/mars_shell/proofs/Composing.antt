@@ -50,6 +50,7 @@ use Rattle.mars_shell.specs.Next.{AllSound, IsOfRecords, LeavesFresh}
 use Rattle.array_runs.specs.Outcome.{Idle, OutcomeOf}
 use Rattle.array_runs.specs.Records.{HoldsRecords, IsDamaged, Exceeds, OverRecords}
 use Rattle.mars_shell.specs.Run.{TakesTurns, Answers}
+use Rattle.mars_shell.specs.FramedRun.{RunsAs}
 use Rattle.told_commands.specs.Tables.{Tries, MadeBy, MakeOutcome}
 use Rattle.told_commands.specs.Purge.{Clears, PurgedBy}
 use Rattle.array_runs.specs.declared.status.Status.{Status}
@@ -228,8 +229,12 @@ module _ (tells : Bool) (told : IsTrue tells) (old new : View) (counts_now : (t 
         let bytes = settled_data dumps.shape old.content.bytes in
         (bytes, subst (λ (s : Shape). Opens s image bytes) same (dumps.spares.now image left), subst (λ (i : Index). i.sound bytes) (ap (λ (s : Shape). index_in s old) same ∙ own_index old shape form sound) dumps.holds.sound)
 
+    run_sound : (frames late : Bool) (input : List ℕ) (cut : Bool) (text : List ℕ) (ended : Ended) → RunsAs frames late input cut text old ended new → AllSound shape form new.content
+    run_sound true late input cut text ended framed = turns_sound false late _ ended framed.taken
+    run_sound false late input cut text ended taken = turns_sound false late (Answers input ended cut text) ended taken
+
     pub next_sound : (asked : Words) (status : Status) (input : List ℕ) (cut : Bool) (text : List ℕ) → IsOfRecords asked → OutcomeFor asked old status new input cut text → AllSound shape form new.content
-    next_sound (Run given) status input cut text of outcome = records_sound false 0 (λ ended. TakesTurns false (is_late given.writing) (Answers input ended cut text) old ended new) status cut text (λ ended taken. turns_sound false (is_late given.writing) (Answers input ended cut text) ended taken) outcome
+    next_sound (Run given) status input cut text of outcome = records_sound false 0 (λ ended. RunsAs given.frames (is_late given.writing) input cut text old ended new) status cut text (λ ended taken. run_sound given.frames (is_late given.writing) input cut text ended taken) outcome
     next_sound (Callers numbers) status input cut text of outcome = records_sound false (passes_for numbers.callers numbers.readers) (λ ended. TakesTurns false (is_late numbers.writing) (JointWork numbers.callers numbers.readers numbers.tries input ended cut text) old ended new) status cut text (λ ended taken. turns_sound false (is_late numbers.writing) (JointWork numbers.callers numbers.readers numbers.tries input ended cut text) ended taken) outcome
     next_sound Dump status input cut text of outcome = records_sound true 0 (λ ended. DumpsRecords ended old new cut text) status cut text (dumped_sound cut text) outcome
     next_sound (Drill numbers) status input cut text of outcome = records_sound false 0 (λ ended. TakesTurns false (is_late numbers.writing) (Drills numbers ended cut text) old ended new) status cut text (λ ended taken. turns_sound false (is_late numbers.writing) (Drills numbers ended cut text) ended taken) outcome

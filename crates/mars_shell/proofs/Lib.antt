@@ -3,6 +3,10 @@ pub mod FateTexts
 pub mod FormatLemmas
 pub mod FreshRecords
 pub mod Answering
+pub mod GivingUp
+pub mod Framing
+pub mod Below
+pub mod FramedOutcomes
 pub mod Acknowledged
 pub mod Forming
 pub mod Serving

@@ -31,10 +31,10 @@ use Rattle.mars_shell.specs.Served.{opens_of, Served}
 use Rattle.array_runs.proofs.Shapes.{same_limits}
 
 module _ (tells : Bool) (Opens : Shape → List ℕ → List ℕ → Type 0) (index : Index) (old mid : StoreView) (core : CoreView) (begins : Begins tells (Opens old.shape) index old mid core) where
-  limits_are : core.limits ≡ limits_of old.shape
+  pub limits_are : core.limits ≡ limits_of old.shape
   limits_are = begins.over.limits ∙ ap limits_of begins.shape
 
-  begun_is : IsTrue tells → core.state ≡ begun_on false index old.state.bytes
+  pub begun_is : IsTrue tells → core.state ≡ begun_on false index old.state.bytes
   begun_is told = begins.state told
 
   -- memory ran out before the work

@@ -17,7 +17,8 @@ use Rattle.array_runs.specs.Outcome.{OutcomeOf}
 use Rattle.mars_shell.specs.Drill.{Drills}
 use Rattle.told_commands.specs.Dump.{DumpOutcome}
 use Rattle.array_runs.specs.Records.{HoldsRecords, OverRecords}
-use Rattle.mars_shell.specs.Run.{TakesTurns, Answers}
+use Rattle.mars_shell.specs.Run.{TakesTurns}
+use Rattle.mars_shell.specs.FramedRun.{RunsAs}
 use Rattle.array_runs.specs.Statuses.{IsRefused, IsUnfollowed}
 use Rattle.told_commands.specs.Tables.{MakeOutcome}
 use Rattle.told_commands.specs.Purge.{PurgeOutcome}
@@ -47,7 +48,7 @@ IfReads _ Without Reads = Without
 -- What was written and done, by what is asked for. `run`, `callers`, `drill`, `dump`, `make` and `purge` read the records of an array that was opened.
 -- `eaw` and `follow` do not. Only `callers` need numbers.
 abbrev pub OutcomeFor : Words → View → Status → View → List ℕ → Bool → List ℕ → Type 0
-OutcomeFor (Run given) old status new input cut text = OverRecords false 0 (λ ended. TakesTurns false (is_late given.writing) (Answers input ended cut text) old ended new) old status new cut text
+OutcomeFor (Run given) old status new input cut text = OverRecords false 0 (λ ended. RunsAs given.frames (is_late given.writing) input cut text old ended new) old status new cut text
 OutcomeFor (Callers numbers) old status new input cut text =
     OverRecords false (passes_for numbers.callers numbers.readers) (λ ended. TakesTurns false (is_late numbers.writing) (JointWork numbers.callers numbers.readers numbers.tries input ended cut text) old ended new) old status new cut text
 OutcomeFor (Eaw given) old status new input cut text = OutcomeOf true (λ ended. ObeysAs given.frames old input ended new cut text) (λ page. ⊥) ⊥ ⊥ old status new cut text

@@ -4,6 +4,7 @@ pub mod OnCore
 pub mod Late
 pub mod PrefixLaw
 pub mod Run
+pub mod FramedRun
 pub mod Told
 pub mod Served
 pub mod Tally

@@ -16,7 +16,7 @@ use crate::core_work::OnCore;
 use crate::drilling::DrawnScript;
 use crate::following::run_follow;
 use crate::formatting::run_format;
-use crate::lines::ByTurns;
+use crate::framed_run::run_lines;
 use crate::records::over_records;
 use array_runs::Status;
 use caller_work::Gate;
@@ -33,6 +33,7 @@ use told_commands::{Dump, NewTable, Purge, run_told};
 /// caller's transactions are made by a worker of its own on a thread, which calls the gate between its calls. `eaw` does not read the
 /// records, nor does `follow`, which applies frames that lines say. `drill`, `dump`, `make`, `purge` and `format` read no input. Only `callers` may wait. In `run`, `callers` and `drill` commits may be answered before
 /// their data is written to its place, if the words say so.
+#[tactic(auto, using(crate::proofs::Waiting::run_depth, crate::proofs::Waiting::drill_depth))]
 pub fn run<
     R: AllocGlobal + Threads + Wait + Sync,
     S: Source,
@@ -72,16 +73,7 @@ pub fn run<
     match read_words(rt.alloc(), words) {
         Err(WordsFault::NoCommand) => (Status::Usage, media),
         Err(WordsFault::NoMemory) => (Status::NoMemory, media),
-        Ok(Words::Run(options)) => {
-            over_records(
-                rt.alloc(),
-                source,
-                sink,
-                media,
-                options.writing,
-                &OnCore { work: ByTurns },
-            )
-        }
+        Ok(Words::Run(options)) => run_lines(rt.alloc(), source, sink, media, options),
         Ok(Words::Callers(numbers)) => {
             let crew = Crew { rt, numbers, gate };
             run_callers(rt.alloc(), source, sink, media, &crew)

@@ -4,7 +4,7 @@ use Rattle.reader_work.specs.Readership.{passes_for}
 use Rattle.mars_shell.specs.Joint.{JointWork}
 use Rattle.mars_shell.specs.Run.{TakesTurns}
 use Rattle.array_runs.specs.Records.{OverRecords}
-use Rattle.array_runs.specs.Statuses.{IsEarly, IsRefusal, served_status}
+use Rattle.array_runs.specs.Statuses.{IsEarly, IsRefusal}
 use Rattle.array_runs.specs.declared.status.Status.{Status}
 use Rattle.array_runs.proofs.Endings.{served_late, served_refused, input_read}
 use Rattle.mars_shell.proofs.Endings.{served}

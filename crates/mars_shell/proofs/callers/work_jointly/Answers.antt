@@ -1,18 +1,9 @@
-use Rattle.std.proofs.Common.{◌≡◌, ◌≢◌, ◌≤◌, ℕ, List, [], false, length, refl, sym, subst, ap, ap₂, ◌∙◌, arith}
+use Rattle.std.proofs.Common.{◌≡◌, ◌≤◌, ℕ, [], false, length, refl, sym, subst, ap, ap₂, ◌∙◌, arith}
 use Rattle.std.proofs.lemmas.List.{append-nil}
-use Rattle.std.specs.Prelude.{Result, Ok, Err, IfOk, IsOk}
-use Rattle.std.specs.Global.{Vec}
-use Rattle.mars_base.specs.declared.NoMemory.{NoMemory}
-use Rattle.history.specs.Writes.{Table}
-use Rattle.history.specs.declared.transaction.Done.{Done}
 use Rattle.mars_core.specs.Held.{core_of}
 use Rattle.mars_manager.specs.Sharing.{CanShare}
 use Rattle.caller_work.specs.Worked.{Worked}
-use Rattle.reader_work.specs.Answers.{AllAnswer}
 use Rattle.reader_work.specs.Readership.{passes_for, asks_with}
-use Rattle.reader_work.specs.declared.answer.Answer.{Answer}
-use Rattle.script_run.specs.declared.ended.Ended.{Ended}
-use Rattle.script_run.specs.declared.ended.Ended.TheVariants as ends
 use Rattle.mars_shell.specs.Told.{answers_in}
 use Rattle.mars_shell.proofs.Joining.{as_many, as_many_asks, few_answers, answered_in, callers_within, retold, joint_turns}
 use Rattle.mars_shell.proofs.callers.work_jointly.Goals as goal

@@ -1,10 +1,10 @@
-use Rattle.std.proofs.Common.{[], false, inl, inr, ⊎_elim, refl, sym, subst, ◌∙◌, arith}
+use Rattle.std.proofs.Common.{[], false, ⊎_elim, refl, sym, subst, ◌∙◌, arith}
 use Rattle.std.proofs.lemmas.List.{append-nil}
 use Rattle.array_runs.specs.Records.{OverRecords}
 use Rattle.mars_shell.specs.Run.{TakesTurns}
 use Rattle.array_runs.specs.Statuses.{IsEarly, IsRefusal}
 use Rattle.array_runs.specs.declared.status.Status.{Status}
-use Rattle.array_runs.proofs.Endings.{served_late, served_refused, served_usage, served_untold, input_read}
+use Rattle.array_runs.proofs.Endings.{served_late, served_refused, served_usage, input_read}
 use Rattle.mars_shell.proofs.Endings.{served}
 use Rattle.mars_shell.proofs.Outcomes.{records_outcome, turns_none}
 use Rattle.mars_shell.proofs.records.over_records_on.Goals as goal

@@ -10,14 +10,15 @@ use Rattle.mars_shell.proofs.FormatLemmas.{no_usage}
 use Rattle.reader_work.specs.Readership.{passes_for}
 use Rattle.mars_shell.specs.Joint.{JointWork}
 use Rattle.mars_shell.specs.Late.{is_late}
-use Rattle.mars_shell.specs.Run.{TakesTurns, Answers}
+use Rattle.mars_shell.specs.Run.{TakesTurns}
+use Rattle.mars_shell.specs.FramedRun.{RunsAs}
 use Rattle.mars_shell.proofs.Saying.{words_say, callers_say}
 use Rattle.array_runs.proofs.Completing.{nothing_read, complete_of, complete_records}
 use Rattle.told_commands.proofs.Clearing.{complete_purge}
 use Rattle.told_commands.proofs.Dumping.{complete_dump}
 use Rattle.mars_shell.proofs.FramesFollowed.{complete_follow}
 use Rattle.told_commands.proofs.Tabling.{complete_make}
-use Rattle.mars_shell.proofs.Waiting.{run_depth, callers_depth, callers_few, readers_few}
+use Rattle.mars_shell.proofs.Waiting.{callers_depth, callers_few, readers_few}
 use Rattle.mars_shell.proofs.whole.run.Goals as goal
 
 pub returns-in-Err-NoCommand-clause-words : goal.returns-in-Err-NoCommand-clause-words
@@ -39,50 +40,46 @@ pub returns-in-Err-NoCommand-clause-complete : goal.returns-in-Err-NoCommand-cla
 returns-in-Err-NoCommand-clause-complete g c = inl (c.in-Err-NoCommand.ensures-1.refused c.in-Err-NoCommand.field-0-is)
 
 pub returns-in-Ok-Run-clause-words : goal.returns-in-Ok-Run-clause-words
-returns-in-Ok-Run-clause-words g c = words_say (map string_bytes c.args.words.now) c.over_records.result.0 _ _ (Run c.in-Ok-Run.options) c.over_records.ensures.no_usage (rw c.in-Ok-Run.field-0-is at c.in-Ok-Run.ensures-1.asked) tt
+returns-in-Ok-Run-clause-words g c = words_say (map string_bytes c.args.words.now) c.run_lines.result.0 _ _ (Run c.in-Ok-Run.options) c.run_lines.ensures.no_usage (rw c.in-Ok-Run.field-0-is at c.in-Ok-Run.ensures-1.asked) tt
 
 pub returns-in-Ok-Run-clause-usage : goal.returns-in-Ok-Run-clause-usage
 returns-in-Ok-Run-clause-usage g c = λ nothing. absurd (nothing (Run c.in-Ok-Run.options) (rw c.in-Ok-Run.field-0-is at c.in-Ok-Run.ensures-1.asked))
 
 pub returns-in-Ok-Run-clause-early : goal.returns-in-Ok-Run-clause-early
-returns-in-Ok-Run-clause-early g c = λ either. (c.over_records.ensures.early (is_early c.over_records.result.0 either)).1
+returns-in-Ok-Run-clause-early g c = λ either. c.run_lines.ensures.early (is_early c.run_lines.result.0 either)
 
 pub returns-in-Ok-Run-clause-silent : goal.returns-in-Ok-Run-clause-silent
-returns-in-Ok-Run-clause-silent g c = c.over_records.ensures.silent
+returns-in-Ok-Run-clause-silent g c = c.run_lines.ensures.silent
 
 pub returns-in-Ok-Run-clause-counts : goal.returns-in-Ok-Run-clause-counts
-returns-in-Ok-Run-clause-counts g c = c.over_records.ensures.counts
+returns-in-Ok-Run-clause-counts g c = c.run_lines.ensures.counts
 
 pub returns-in-Ok-Run-clause-steady : goal.returns-in-Ok-Run-clause-steady
-returns-in-Ok-Run-clause-steady g c = c.over_records.ensures.steady
+returns-in-Ok-Run-clause-steady g c = c.run_lines.ensures.steady
 
 pub returns-in-Ok-Run-clause-input : goal.returns-in-Ok-Run-clause-input
-returns-in-Ok-Run-clause-input g c = words_say (map string_bytes c.args.words.now) c.over_records.result.0 _ _ (Run c.in-Ok-Run.options) c.over_records.ensures.no_usage (rw c.in-Ok-Run.field-0-is at c.in-Ok-Run.ensures-1.asked) (c.over_records.ensures.input refl)
+returns-in-Ok-Run-clause-input g c = words_say (map string_bytes c.args.words.now) c.run_lines.result.0 _ _ (Run c.in-Ok-Run.options) c.run_lines.ensures.no_usage (rw c.in-Ok-Run.field-0-is at c.in-Ok-Run.ensures-1.asked) (c.run_lines.ensures.input)
 
 pub returns-in-Ok-Run-clause-formats : goal.returns-in-Ok-Run-clause-formats
-returns-in-Ok-Run-clause-formats g c = words_say (map string_bytes c.args.words.now) c.over_records.result.0 _ _ (Run c.in-Ok-Run.options) c.over_records.ensures.no_usage (rw c.in-Ok-Run.field-0-is at c.in-Ok-Run.ensures-1.asked) (λ numbers is. absurd (let no : ⊥ = cc is in no))
+returns-in-Ok-Run-clause-formats g c = words_say (map string_bytes c.args.words.now) c.run_lines.result.0 _ _ (Run c.in-Ok-Run.options) c.run_lines.ensures.no_usage (rw c.in-Ok-Run.field-0-is at c.in-Ok-Run.ensures-1.asked) (λ numbers is. absurd (let no : ⊥ = cc is in no))
 
 pub returns-in-Ok-Run-clause-untold : goal.returns-in-Ok-Run-clause-untold
-returns-in-Ok-Run-clause-untold g c = words_say (map string_bytes c.args.words.now) c.over_records.result.0 _ _ (Run c.in-Ok-Run.options) c.over_records.ensures.no_usage (rw c.in-Ok-Run.field-0-is at c.in-Ok-Run.ensures-1.asked) (λ is. absurd is)
+returns-in-Ok-Run-clause-untold g c = words_say (map string_bytes c.args.words.now) c.run_lines.result.0 _ _ (Run c.in-Ok-Run.options) c.run_lines.ensures.no_usage (rw c.in-Ok-Run.field-0-is at c.in-Ok-Run.ensures-1.asked) (λ is. absurd is)
 
 pub returns-in-Ok-Run-clause-ran : goal.returns-in-Ok-Run-clause-ran
-returns-in-Ok-Run-clause-ran g c =
-    let old = g.M.Media.view c.args.media in
-    let new = g.M.Media.view c.over_records.result.1 in
-    let ran = c.over_records.ensures.ran in
-    words_say (map string_bytes c.args.words.now) c.over_records.result.0 _ _ (Run c.in-Ok-Run.options) c.over_records.ensures.no_usage (rw c.in-Ok-Run.field-0-is at c.in-Ok-Run.ensures-1.asked)
-    (record { cut = ran.cut; text = ran.text; wrote = ran.wrote; counts = ran.counts; holds = (ran.holds.0, ran.holds.1 refl, λ told. ran.holds.2 told) })
+returns-in-Ok-Run-clause-ran g c = words_say (map string_bytes c.args.words.now) c.run_lines.result.0 _ _ (Run c.in-Ok-Run.options) c.run_lines.ensures.no_usage (rw c.in-Ok-Run.field-0-is at c.in-Ok-Run.ensures-1.asked) c.run_lines.ensures.ran
 
 pub returns-in-Ok-Run-clause-complete : goal.returns-in-Ok-Run-clause-complete
 returns-in-Ok-Run-clause-complete g c =
     let old = g.M.Media.view c.args.media in
-    let new = g.M.Media.view c.over_records.result.1 in
+    let new = g.M.Media.view c.run_lines.result.1 in
     let given = g.S.Source.left c.args.source.now in
-    let said = c.over_records.ensures in
+    let options = c.in-Ok-Run.options in
+    let said = c.run_lines.ensures in
     let ran = said.ran in
-    words_say (map string_bytes c.args.words.now) c.over_records.result.0 (Unit {0}) _ (Run c.in-Ok-Run.options) c.over_records.ensures.no_usage (rw c.in-Ok-Run.field-0-is at c.in-Ok-Run.ensures-1.asked)
+    words_say (map string_bytes c.args.words.now) c.run_lines.result.0 (Unit {0}) _ (Run options) c.run_lines.ensures.no_usage (rw c.in-Ok-Run.field-0-is at c.in-Ok-Run.ensures-1.asked)
     (λ fit no_source no_sink no_media.
-    complete_records false 0 (λ ended. TakesTurns false (is_late c.in-Ok-Run.options.writing) (Answers ran.holds.0 ended ran.cut ran.text) old ended new) old c.over_records.result.0 new ran.cut ran.text given _ _ _ _ _ _ _ fit.0.1 fit.2.0 fit.2.1 (omega arith) no_source no_sink no_media said.counts (said.input refl fit.0.0) (ran.holds.2 fit.1))
+    complete_records false 0 (λ ended. RunsAs options.frames (is_late options.writing) ran.holds.0 ran.cut ran.text old ended new) old c.run_lines.result.0 new ran.cut ran.text given _ _ _ _ _ _ _ fit.0.1 fit.2.0 fit.2.1 (omega arith) no_source no_sink no_media said.counts (said.input fit.0.0) (ran.holds.2 fit.1))
 
 pub returns-in-Ok-Callers-clause-words : goal.returns-in-Ok-Callers-clause-words
 returns-in-Ok-Callers-clause-words g c = callers_say (map string_bytes c.args.words.now) c.run_callers.result.0 _ _ c.in-Ok-Callers.numbers (rw c.in-Ok-Callers.field-0-is at c.in-Ok-Callers.ensures-1.asked) tt
@@ -169,52 +166,52 @@ returns-in-Ok-Dump-clause-complete g c =
     complete_dump old new said.ran.cut said.ran.text _ _ _ _ _ _ fit.1.0 fit.1.1 no_source no_sink no_media c.run_told.result.0 said.late said.counts (said.ran.holds fit.0))
 
 pub returns-in-Ok-Drill-clause-words : goal.returns-in-Ok-Drill-clause-words
-returns-in-Ok-Drill-clause-words g c = words_say (map string_bytes c.args.words.now) c.over_records-in-Ok-Drill.result.0 _ _ (Drill c.in-Ok-Drill.numbers) c.over_records-in-Ok-Drill.ensures.no_usage (rw c.in-Ok-Drill.field-0-is at c.in-Ok-Drill.ensures-1.asked) tt
+returns-in-Ok-Drill-clause-words g c = words_say (map string_bytes c.args.words.now) c.over_records.result.0 _ _ (Drill c.in-Ok-Drill.numbers) c.over_records.ensures.no_usage (rw c.in-Ok-Drill.field-0-is at c.in-Ok-Drill.ensures-1.asked) tt
 
 pub returns-in-Ok-Drill-clause-usage : goal.returns-in-Ok-Drill-clause-usage
 returns-in-Ok-Drill-clause-usage g c = λ nothing. absurd (nothing (Drill c.in-Ok-Drill.numbers) (rw c.in-Ok-Drill.field-0-is at c.in-Ok-Drill.ensures-1.asked))
 
 pub returns-in-Ok-Drill-clause-early : goal.returns-in-Ok-Drill-clause-early
-returns-in-Ok-Drill-clause-early g c = λ either. (c.over_records-in-Ok-Drill.ensures.early (is_early c.over_records-in-Ok-Drill.result.0 either)).1
+returns-in-Ok-Drill-clause-early g c = λ either. (c.over_records.ensures.early (is_early c.over_records.result.0 either)).1
 
 pub returns-in-Ok-Drill-clause-silent : goal.returns-in-Ok-Drill-clause-silent
-returns-in-Ok-Drill-clause-silent g c = c.over_records-in-Ok-Drill.ensures.silent
+returns-in-Ok-Drill-clause-silent g c = c.over_records.ensures.silent
 
 pub returns-in-Ok-Drill-clause-counts : goal.returns-in-Ok-Drill-clause-counts
-returns-in-Ok-Drill-clause-counts g c = c.over_records-in-Ok-Drill.ensures.counts
+returns-in-Ok-Drill-clause-counts g c = c.over_records.ensures.counts
 
 pub returns-in-Ok-Drill-clause-steady : goal.returns-in-Ok-Drill-clause-steady
-returns-in-Ok-Drill-clause-steady g c = c.over_records-in-Ok-Drill.ensures.steady
+returns-in-Ok-Drill-clause-steady g c = c.over_records.ensures.steady
 
 pub returns-in-Ok-Drill-clause-input : goal.returns-in-Ok-Drill-clause-input
-returns-in-Ok-Drill-clause-input g c = words_say (map string_bytes c.args.words.now) c.over_records-in-Ok-Drill.result.0 _ _ (Drill c.in-Ok-Drill.numbers) c.over_records-in-Ok-Drill.ensures.no_usage (rw c.in-Ok-Drill.field-0-is at c.in-Ok-Drill.ensures-1.asked) (c.over_records-in-Ok-Drill.ensures.unread refl)
+returns-in-Ok-Drill-clause-input g c = words_say (map string_bytes c.args.words.now) c.over_records.result.0 _ _ (Drill c.in-Ok-Drill.numbers) c.over_records.ensures.no_usage (rw c.in-Ok-Drill.field-0-is at c.in-Ok-Drill.ensures-1.asked) (c.over_records.ensures.unread refl)
 
 pub returns-in-Ok-Drill-clause-formats : goal.returns-in-Ok-Drill-clause-formats
-returns-in-Ok-Drill-clause-formats g c = words_say (map string_bytes c.args.words.now) c.over_records-in-Ok-Drill.result.0 _ _ (Drill c.in-Ok-Drill.numbers) c.over_records-in-Ok-Drill.ensures.no_usage (rw c.in-Ok-Drill.field-0-is at c.in-Ok-Drill.ensures-1.asked) (λ numbers is. absurd (let no : ⊥ = cc is in no))
+returns-in-Ok-Drill-clause-formats g c = words_say (map string_bytes c.args.words.now) c.over_records.result.0 _ _ (Drill c.in-Ok-Drill.numbers) c.over_records.ensures.no_usage (rw c.in-Ok-Drill.field-0-is at c.in-Ok-Drill.ensures-1.asked) (λ numbers is. absurd (let no : ⊥ = cc is in no))
 
 pub returns-in-Ok-Drill-clause-untold : goal.returns-in-Ok-Drill-clause-untold
-returns-in-Ok-Drill-clause-untold g c = words_say (map string_bytes c.args.words.now) c.over_records-in-Ok-Drill.result.0 _ _ (Drill c.in-Ok-Drill.numbers) c.over_records-in-Ok-Drill.ensures.no_usage (rw c.in-Ok-Drill.field-0-is at c.in-Ok-Drill.ensures-1.asked) (λ is. absurd is)
+returns-in-Ok-Drill-clause-untold g c = words_say (map string_bytes c.args.words.now) c.over_records.result.0 _ _ (Drill c.in-Ok-Drill.numbers) c.over_records.ensures.no_usage (rw c.in-Ok-Drill.field-0-is at c.in-Ok-Drill.ensures-1.asked) (λ is. absurd is)
 
 pub returns-in-Ok-Drill-clause-ran : goal.returns-in-Ok-Drill-clause-ran
 returns-in-Ok-Drill-clause-ran g c =
     let old = g.M.Media.view c.args.media in
-    let new = g.M.Media.view c.over_records-in-Ok-Drill.result.1 in
+    let new = g.M.Media.view c.over_records.result.1 in
     let numbers = c.in-Ok-Drill.numbers in
-    let ran = c.over_records-in-Ok-Drill.ensures.ran in
-    words_say (map string_bytes c.args.words.now) c.over_records-in-Ok-Drill.result.0 _ _ (Drill c.in-Ok-Drill.numbers) c.over_records-in-Ok-Drill.ensures.no_usage (rw c.in-Ok-Drill.field-0-is at c.in-Ok-Drill.ensures-1.asked)
+    let ran = c.over_records.ensures.ran in
+    words_say (map string_bytes c.args.words.now) c.over_records.result.0 _ _ (Drill c.in-Ok-Drill.numbers) c.over_records.ensures.no_usage (rw c.in-Ok-Drill.field-0-is at c.in-Ok-Drill.ensures-1.asked)
     (record { cut = ran.cut; text = ran.text; wrote = ran.wrote; counts = ran.counts; holds = (g.S.Source.left c.args.source.now, (λ _. refl), λ told. ran.holds.2 told) })
 
 pub returns-in-Ok-Drill-clause-complete : goal.returns-in-Ok-Drill-clause-complete
 returns-in-Ok-Drill-clause-complete g c =
     let old = g.M.Media.view c.args.media in
-    let new = g.M.Media.view c.over_records-in-Ok-Drill.result.1 in
+    let new = g.M.Media.view c.over_records.result.1 in
     let given = g.S.Source.left c.args.source.now in
     let numbers = c.in-Ok-Drill.numbers in
-    let said = c.over_records-in-Ok-Drill.ensures in
+    let said = c.over_records.ensures in
     let ran = said.ran in
-    words_say (map string_bytes c.args.words.now) c.over_records-in-Ok-Drill.result.0 (Unit {0}) _ (Drill c.in-Ok-Drill.numbers) c.over_records-in-Ok-Drill.ensures.no_usage (rw c.in-Ok-Drill.field-0-is at c.in-Ok-Drill.ensures-1.asked)
+    words_say (map string_bytes c.args.words.now) c.over_records.result.0 (Unit {0}) _ (Drill c.in-Ok-Drill.numbers) c.over_records.ensures.no_usage (rw c.in-Ok-Drill.field-0-is at c.in-Ok-Drill.ensures-1.asked)
     (λ fit no_source no_sink no_media.
-    complete_records false 0 (λ ended. TakesTurns false (is_late numbers.writing) (Drills numbers ended ran.cut ran.text) old ended new) old c.over_records-in-Ok-Drill.result.0 new ran.cut ran.text [] [] _ _ _ _ _ _ (omega arith) fit.1.0 fit.1.1 (omega arith) no_source no_sink no_media said.counts (nothing_read c.over_records-in-Ok-Drill.result.0 (λ early. absurd (false≢true (said.early early).0))) (ran.holds.2 fit.0))
+    complete_records false 0 (λ ended. TakesTurns false (is_late numbers.writing) (Drills numbers ended ran.cut ran.text) old ended new) old c.over_records.result.0 new ran.cut ran.text [] [] _ _ _ _ _ _ (omega arith) fit.1.0 fit.1.1 (omega arith) no_source no_sink no_media said.counts (nothing_read c.over_records.result.0 (λ early. absurd (false≢true (said.early early).0))) (ran.holds.2 fit.0))
 
 pub returns-in-Ok-Eaw-clause-complete : goal.returns-in-Ok-Eaw-clause-complete
 returns-in-Ok-Eaw-clause-complete g c =
@@ -291,9 +288,6 @@ returns-in-Ok-Format-clause-formats g c = words_say (map string_bytes c.args.wor
 
 pub returns-in-Ok-Format-clause-untold : goal.returns-in-Ok-Format-clause-untold
 returns-in-Ok-Format-clause-untold g c = words_say (map string_bytes c.args.words.now) c.run_format.result.0 _ _ (Format c.in-Ok-Format.numbers) (no_usage c.in-Ok-Format.numbers _ c.run_format.result.0 _ _ c.run_format.ensures.says) (rw c.in-Ok-Format.field-0-is at c.in-Ok-Format.ensures-1.asked) (λ is. absurd is)
-
-pub over_records-requires-clause-depth : goal.over_records-requires-clause-depth
-over_records-requires-clause-depth g c = λ κs lives. run_depth (map string_bytes c.args.words.now) c.in-Ok-Run.options (rw c.in-Ok-Run.field-0-is at c.in-Ok-Run.ensures-1.asked)
 
 pub run_callers-requires-clause-few : goal.run_callers-requires-clause-few
 run_callers-requires-clause-few g c = λ κs lives. callers_few (map string_bytes c.args.words.now) c.in-Ok-Callers.numbers (rw c.in-Ok-Callers.field-0-is at c.in-Ok-Callers.ensures-1.asked)
