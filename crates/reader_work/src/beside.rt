@@ -178,6 +178,7 @@ fn run_beside<R: Threads + Wait + Sync, C: Core + Drop + Send, G: Gate + Sync>(
     requires tries { 1 ≤ tries }
     requires passes { (shared.1.list ≡ dealt shared.0.table shared.0.setup (length rooms.jobs.items + 1)) × (shared.1.table ≡ shared.0.table) × (length rooms.jobs.items + 1 ≤ shared.1.room) }
     requires callers { shared.0.setup.callers ≡ length rooms.jobs.items + 1 }
+    requires named { shared.0.setup.names ≡ (C.view shared.0.setup.first).state.names }
     requires blank { All IsBlank rooms.jobs.items }
     requires rooms { (rooms.workers.items ≡ []) × (length rooms.jobs.items ≤ vec_capacity rooms.workers) × (rooms.told.items ≡ []) × (length rooms.jobs.items ≤ vec_capacity rooms.told) }
     requires open { IsOpen (C.view shared.0.setup.first).state.base readership }
