@@ -130,6 +130,6 @@ returns-clause-answered g c =
     let list = c.put_back.ensures.list in
     let so = subst (AreSo g.C.Core.tells g.C.Core.view mars.setup gathered.turns state) list gathered.each in
     let fits = so_last g.C.Core.tells g.C.Core.view mars.setup gathered.turns state front last so in
-    let base = (g.C.Core.view mars.setup.first).state.base in
-    IfOk-weaker c.all_work-workers.result.2 _ _ (λ told all. answer_longer base last.known.seen state.history (keys_of c.args.readership.workers.items) told.items
-    (seen_front g.C.Core.tells g.C.Core.view mars.setup gathered.turns state last.known fits) (all base c.requires.open.ready)) c.all_work-workers.ensures.answered
+    let first = (g.C.Core.view mars.setup.first).state in
+    IfOk-weaker c.all_work-workers.result.2 _ _ (λ told all. answer_longer first.names first.base last.known.seen state.history (keys_of c.args.readership.workers.items) told.items
+    (seen_front g.C.Core.tells g.C.Core.view mars.setup gathered.turns state last.known fits) (all first.names first.base c.requires.open.ready)) c.all_work-workers.ensures.answered
