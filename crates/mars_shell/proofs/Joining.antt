@@ -4,6 +4,7 @@ use Rattle.std.specs.Prelude.{IsTrue, Result, Ok, Err, IfOk, IsOk}
 use Rattle.std.specs.Global.{Vec}
 use Rattle.mars_base.specs.declared.NoMemory.{NoMemory}
 use Rattle.history.specs.Writes.{Table}
+use Rattle.history.specs.declared.key.Key.{Key}
 use Rattle.std.specs.List.{flat_map}
 use Rattle.std.specs.FinMap.{entries}
 use Rattle.std.proofs.lemmas.Bool.{true≢false}
@@ -51,22 +52,22 @@ as_many_asks reader zero said = refl
 as_many_asks reader (suc readers) said = ap suc (as_many_asks (suc reader) readers said)
 
 -- there is an answer list for each reader
-pub as_many_answers : (base : Table) (list : List Done) (asks : List (List ℕ)) (told : List (List Answer)) → AllAnswer base list asks told → length told ≡ length asks
-as_many_answers base list [] [] all = refl
-as_many_answers base list [] (one ∷ told) all = absurd all
-as_many_answers base list (keys ∷ asks) [] all = absurd all
-as_many_answers base list (keys ∷ asks) (one ∷ told) all = ap suc (as_many_answers base list asks told all.1)
+pub as_many_answers : (names : List (List ℕ)) (base : Table) (list : List Done) (asks : List (List Key)) (told : List (List Answer)) → AllAnswer names base list asks told → length told ≡ length asks
+as_many_answers names base list [] [] all = refl
+as_many_answers names base list [] (one ∷ told) all = absurd all
+as_many_answers names base list (keys ∷ asks) [] all = absurd all
+as_many_answers names base list (keys ∷ asks) (one ∷ told) all = ap suc (as_many_answers names base list asks told all.1)
 
 -- so there are few, as there are few readers
-pub few_answers : (answers : Result (Vec (List Answer)) NoMemory) (base : Table) (list : List Done) (asks : List (List ℕ)) → IfOk answers (λ told. AllAnswer base list asks told.items) → length asks ≤ 255 → length (answers_in answers) ≤ 255
-few_answers (Ok told) base list asks all few = omega (arith, as_many_answers base list asks told.items all, few)
-few_answers (Err none) base list asks all few = omega arith
+pub few_answers : (answers : Result (Vec (List Answer)) NoMemory) (names : List (List ℕ)) (base : Table) (list : List Done) (asks : List (List Key)) → IfOk answers (λ told. AllAnswer names base list asks told.items) → length asks ≤ 255 → length (answers_in answers) ≤ 255
+few_answers (Ok told) names base list asks all few = omega (arith, as_many_answers names base list asks told.items all, few)
+few_answers (Err none) names base list asks all few = omega arith
 
 -- the same answers for equal things
-pub answered_in : (answers : Result (Vec (List Answer)) NoMemory) (base base' : Table) (list list' : List Done) (asks asks' : List (List ℕ)) → base ≡ base' → list ≡ list' → asks ≡ asks'
-    → IfOk answers (λ told. AllAnswer base list asks told.items) → IsOk answers → AllAnswer base' list' asks' (answers_in answers)
-answered_in (Ok told) base base' list list' asks asks' b l a all ok = subst (λ (x : Table × List Done × List (List ℕ)). AllAnswer x.0 x.1 x.2 told.items) (λ i. (b i, l i, a i)) all
-answered_in (Err none) base base' list list' asks asks' b l a all ok = absurd (cc ok)
+pub answered_in : (answers : Result (Vec (List Answer)) NoMemory) (names names' : List (List ℕ)) (base base' : Table) (list list' : List Done) (asks asks' : List (List Key)) → names ≡ names' → base ≡ base' → list ≡ list' → asks ≡ asks'
+    → IfOk answers (λ told. AllAnswer names base list asks told.items) → IsOk answers → AllAnswer names' base' list' asks' (answers_in answers)
+answered_in (Ok told) names names' base base' list list' asks asks' n b l a all ok = subst (λ (x : List (List ℕ) × Table × List Done × List (List Key)). AllAnswer x.0 x.1 x.2 x.3 told.items) (λ i. (n i, b i, l i, a i)) all
+answered_in (Err none) names names' base base' list list' asks asks' n b l a all ok = absurd (cc ok)
 
 -- the callers alone need no more passes
 pub callers_within : (callers readers most : ℕ) → passes_for callers readers ≤ most → callers ≤ most
@@ -135,7 +136,7 @@ module _ (tells : Bool) (core last : CoreView) (callers readers tries : ℕ) (in
       }
 
   joint_work : last.state.names ≡ core.state.names → (ended : Ended) (cut : Bool) (text : List ℕ) → (ended ≢ ends.MediaFault → ended ≢ ends.NoMemory → end ≡ work.All) → (ended ≡ ends.MediaFault) ↔ (end ≡ work.MediaFault)
-      → (ended ≢ ends.MediaFault → ended ≢ ends.NoMemory → AllAnswer last.state.base last.state.history (keys_from 0 readers said) told)
+      → (ended ≢ ends.MediaFault → ended ≢ ends.NoMemory → AllAnswer last.state.names last.state.base last.state.history (keys_from 0 readers said) told)
       → TellsEnd ended cut text (work_text (faults_from 1 (λ caller. false) said) last.state.history fates (entries (records last.state.base last.state.history)) told) (flat_map done_lines last.state.history ++ media_line)
       → JointWork callers readers tries input ended cut text core.limits worked.turns last.state
   joint_work named ended cut text whole fault answered tells_work = record {
@@ -158,7 +159,7 @@ module _ (tells : Bool) (core last : CoreView) (callers readers tries : ℕ) (in
   }
 
   pub joint_turns : IsTrue tells → (ended : Ended) (cut : Bool) (text : List ℕ) → (ended ≢ ends.MediaFault → ended ≢ ends.NoMemory → end ≡ work.All) → (ended ≡ ends.MediaFault) ↔ (end ≡ work.MediaFault)
-      → (ended ≢ ends.MediaFault → ended ≢ ends.NoMemory → AllAnswer last.state.base last.state.history (keys_from 0 readers said) told)
+      → (ended ≢ ends.MediaFault → ended ≢ ends.NoMemory → AllAnswer last.state.names last.state.base last.state.history (keys_from 0 readers said) told)
       → TellsEnd ended cut text (work_text (faults_from 1 (λ caller. false) said) last.state.history fates (entries (records last.state.base last.state.history)) told) (flat_map done_lines last.state.history ++ media_line)
       → TurnsOn (JointWork callers readers tries input ended cut text) core ended last
   joint_turns tells_all ended cut text whole fault answered tells_work = record {

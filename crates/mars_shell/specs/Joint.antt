@@ -43,6 +43,6 @@ pub record JointWork (callers readers tries : ℕ) (input : List ℕ) (ended : E
   pub causes : (caller : ℕ) (within : caller < callers) → HaveCauses callers final.names (λ other. planned None (calls_by other said)) caller (works caller within).1.0
   pub fault : (ended ≡ MediaFault) ↔ IsTrue final.is_dead
   pub told : List (List Answer)
-  pub answered : ended ≢ MediaFault → ended ≢ NoMemory → AllAnswer final.base final.history (keys_from 0 readers said) told
+  pub answered : ended ≢ MediaFault → ended ≢ NoMemory → AllAnswer final.names final.base final.history (keys_from 0 readers said) told
   pub tells : TellsEnd ended cut text (work_text (faults_from 1 (λ caller. false) said) final.history fates (entries (records final.base final.history)) told)
       (flat_map done_lines final.history ++ media_line)
