@@ -78,7 +78,7 @@ fn work_text(
     write_faults(&mut text, lines.faults.as_slice())?;
     put_history(&mut text, history)?;
     write_all_fates(&mut text, &lines.fates)?;
-    write_tables(&mut text, &tables)?;
+    write_tables(&mut text, tables.as_slice())?;
     write_answers(&mut text, answers)?;
     Ok(text)
 }
