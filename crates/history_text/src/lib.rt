@@ -5,6 +5,7 @@
 mod answers;
 mod fates;
 mod faults;
+mod keys;
 mod number_line;
 mod tables;
 mod transactions;

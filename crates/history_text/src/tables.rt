@@ -2,15 +2,13 @@
 ghost use Rattle.std.specs.Prelude.{◌≡◌, ◌++◌, IfOk, OnOk, length};
 ghost use Rattle.std.specs.List.{flat_map};
 ghost use Rattle.history.specs.Rows.{keyed, all_keyed, records_in};
-ghost use Rattle.history_text.specs.Text.{record_head, record_line};
+ghost use Rattle.history_text.specs.Text.{record_line};
 
-use history::Rows;
+use crate::keys::append_key;
+use history::{Key, Rows};
 use mars_base::NoMemory;
 use record_slots::{Name, Value};
 use texts::{Piece, append_pieces};
-
-// The table whose records go without its name.
-const MAIN: &[u8] = b"main";
 
 /// Appends a line for each record of the tables, one table after another. At `Err` some of them may have been appended.
 pub fn write_tables(text: &mut Vec<u8>, tables: &[(Name, Rows)]) -> Result<(), NoMemory>
@@ -48,30 +46,15 @@ fn write_table(text: &mut Vec<u8>, name: &Name, rows: &Rows) -> Result<(), NoMem
 fn write_row(text: &mut Vec<u8>, name: &Name, key: u64, value: &Value) -> Result<(), NoMemory>
     ensures { OnOk result (text.new.items ≡ text.old.items ++ record_line (keyed name.now (key, value.now))) }
 {
-    write_head(text, name)?;
+    let key = Key { table: *name, key };
+    text.extend_from_slice(b"rec ")?;
+    append_key(text, &key)?;
     append_pieces(
         text,
         &[
-            Piece::Number(key),
             Piece::Words(b" "),
             Piece::Words(value.as_bytes()),
             Piece::Words(b"\n"),
-        ],
-    )
-}
-
-fn write_head(text: &mut Vec<u8>, name: &Name) -> Result<(), NoMemory>
-    ensures { OnOk result (text.new.items ≡ text.old.items ++ record_head name.now) }
-{
-    if name.as_bytes() == MAIN {
-        return append_pieces(text, &[Piece::Words(b"rec ")]);
-    }
-    append_pieces(
-        text,
-        &[
-            Piece::Words(b"rec @"),
-            Piece::Words(name.as_bytes()),
-            Piece::Words(b" "),
         ],
     )
 }
