@@ -1,4 +1,4 @@
-use Rattle.std.proofs.Common.{◌∷◌, [], arith, sym, subst, ◌∙◌}
+use Rattle.std.proofs.Common.{◌∷◌, [], arith, subst}
 use Rattle.history.specs.declared.call.Call.TheVariants.{Get}
 use Rattle.script_text.specs.Line.{IsCallText, IsLineOf}
 use Rattle.script_text.proofs.Fields.{behind}
