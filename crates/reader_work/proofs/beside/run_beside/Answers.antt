@@ -114,7 +114,7 @@ returns-clause-worked g c =
     let fits = so_last g.C.Core.tells g.C.Core.view mars.setup gathered.turns state front last so in
     let looks : IsOnlooker (length plans) last.known = subst (λ (n : ℕ). IsOnlooker n last.known) (ap (λ (p : PassView g.row.C.Denot). p.known.number) its.1 ∙ many) c.all_work-workers.ensures.pass.1 in
     let all : mars.setup.callers ≡ length plans + 1 = omega (arith, c.requires.callers, many) in
-    whole g.C.Core.tells g.C.Core.view mars c.close-2.result c.args.tries plans c.finish-end.new.told.items finish.done.0 front c.finish-end.result each (finish.done.1 ∙ same ∙ hire.len ∙ many) both done finish.done.3
+    whole g.C.Core.tells g.C.Core.view mars c.close-2.result c.args.tries plans c.finish-end.new.told.items finish.done.0 front c.finish-end.result c.requires.named each (finish.done.1 ∙ same ∙ hire.len ∙ many) both done finish.done.3
     c.close-2.ensures.since gathered.turns gathered.run
     (turns_by g.C.Core.tells g.C.Core.view mars.setup gathered.turns state (length plans) last.known looks fits (subst (λ (n : ℕ). AreOf n gathered.turns) all gathered.whose))
     gathered.ready.alive (so_first g.C.Core.tells g.C.Core.view mars.setup gathered.turns state front last so)
@@ -130,6 +130,6 @@ returns-clause-answered g c =
     let list = c.put_back.ensures.list in
     let so = subst (AreSo g.C.Core.tells g.C.Core.view mars.setup gathered.turns state) list gathered.each in
     let fits = so_last g.C.Core.tells g.C.Core.view mars.setup gathered.turns state front last so in
-    let base = (g.C.Core.view mars.setup.first).state.base in
-    IfOk-weaker c.all_work-workers.result.2 _ _ (λ told all. answer_longer base last.known.seen state.history (keys_of c.args.readership.workers.items) told.items
-    (seen_front g.C.Core.tells g.C.Core.view mars.setup gathered.turns state last.known fits) (all base c.requires.open.ready)) c.all_work-workers.ensures.answered
+    let first = (g.C.Core.view mars.setup.first).state in
+    IfOk-weaker c.all_work-workers.result.2 _ _ (λ told all. answer_longer first.names first.base last.known.seen state.history (keys_of c.args.readership.workers.items) told.items
+    (seen_front g.C.Core.tells g.C.Core.view mars.setup gathered.turns state last.known fits) (all first.names first.base c.requires.open.ready)) c.all_work-workers.ensures.answered
