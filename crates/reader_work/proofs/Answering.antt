@@ -2,7 +2,7 @@
 use Rattle.std.proofs.Common.{◌≡◌, ℕ, zero, suc, ◌+◌, ◌<◌, ◌≤◌, List, [], ◌∷◌, ◌++◌, length, take, drop, get_or, refl, sym, ap, ◌∙◌, subst, arith, length-append}
 use Rattle.std.specs.FinMap.{get}
 use mathlib.Core.List.{IsPrefix}
-use Rattle.history.specs.Key.{Key}
+use Rattle.history.specs.declared.key.Key.{Key}
 use Rattle.history.specs.Legal.{records}
 use Rattle.history.specs.Writes.{Table}
 use Rattle.history.specs.declared.transaction.Done.{Done}
@@ -16,7 +16,7 @@ use Rattle.snapshot_readers.specs.Batches.{Batch, joined}
 use Rattle.snapshot_readers.specs.Feeds.{read, read_base}
 use Rattle.snapshot_readers.proofs.Joining.{joined_prefix}
 use Rattle.snapshot_readers.proofs.Prefixes.{prefix_trans}
-use Rattle.reader_work.specs.Answers.{IsValueIn, IsAnswer, come_to, AreAnswers, AllAnswer}
+use Rattle.reader_work.specs.Answers.{IsAnswer, come_to, AreAnswers, AllAnswer}
 use Rattle.reader_work.specs.Reading.{HasRead}
 use Rattle.reader_work.specs.Readership.{keys_of, answers_of, IsReady}
 use Rattle.reader_work.specs.declared.answer.Answer.{Answer}
@@ -39,11 +39,15 @@ come_within names base list least key NoTable low is = low
 
 -- what is an answer in a list is one in a longer list
 in_longer : (names : List (List ℕ)) (base : Table) (list longer : List Done) (least : ℕ) (key : Key) (answer : Answer) → IsPrefix list longer → IsAnswer names base list least key answer → IsAnswer names base longer least key answer
-in_longer names base list longer least key (Value asked at value) front (there, same, is) = (there, same, record {
-  rises = is.rises;
-  within = (let e = ap (λ (l : List Done). length l) front.1 in omega (arith, e, length-append list front.0, is.within));
-  is = is.is ∙ ap (λ (l : List Done). get (records base l) key) (sym (take_in at list front.0 is.within) ∙ ap (λ (l : List Done). take at l) front.1);
-})
+in_longer names base list longer least key (Value asked at value) front (there, same, is) = (
+  there,
+  same,
+  record {
+    rises = is.rises;
+    within = (let e = ap (λ (l : List Done). length l) front.1 in omega (arith, e, length-append list front.0, is.within));
+    is = is.is ∙ ap (λ (l : List Done). get (records base l) key) (sym (take_in at list front.0 is.within) ∙ ap (λ (l : List Done). take at l) front.1);
+  },
+)
 in_longer names base list longer least key NoTable front is = is
 
 pub all_longer : (names : List (List ℕ)) (base : Table) (list longer : List Done) (least : ℕ) (keys : List Key) (answers : List Answer) → IsPrefix list longer → AreAnswers names base list least keys answers

@@ -1,7 +1,7 @@
 -- What readers are answered.
 use Rattle.std.specs.Prelude.{ℕ, ◌≡◌, ◌≤◌, List, [], ◌∷◌, length, take, Option, IsTrue, IsFalse}
 use Rattle.std.specs.FinMap.{get}
-use Rattle.history.specs.Key.{Key}
+use Rattle.history.specs.declared.key.Key.{Key}
 use Rattle.history.specs.Legal.{records}
 use Rattle.history.specs.Locks.{has_table}
 use Rattle.history.specs.Writes.{Table}

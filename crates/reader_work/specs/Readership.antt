@@ -1,7 +1,7 @@
 -- The readers of a script before their work.
 use Rattle.std.specs.Prelude.{ℕ, zero, suc, ◌≡◌, ◌+◌, ◌<◌, List, [], All, map, length, Option, None, Some}
 use Rattle.logbook.specs.Pages.{Book}
-use Rattle.history.specs.Key.{Key}
+use Rattle.history.specs.declared.key.Key.{Key}
 use Rattle.history.specs.Writes.{Table}
 use Rattle.caller_plans.specs.declared.plan.Plan.{Plan}
 use Rattle.caller_work.specs.declared.crew.Job.{Job}

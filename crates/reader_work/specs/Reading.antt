@@ -1,5 +1,5 @@
 -- The work of a reader.
-use Rattle.std.specs.Prelude.{◌≡◌, ◌≤◌, List, [], length, vec_capacity}
+use Rattle.std.specs.Prelude.{◌≡◌, ◌≤◌, [], length, vec_capacity}
 use Rattle.snapshot_readers.specs.Batches.{joined}
 use Rattle.snapshot_readers.specs.Feeds.{read, read_book, read_base}
 use Rattle.reader_work.specs.Answers.{AreAnswers}

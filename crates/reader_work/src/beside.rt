@@ -97,6 +97,7 @@ fn tie<R: Wait>(
         let ReadWorker {
             number: _,
             mut reader,
+            names: _names,
             keys: _keys,
             answers,
         } = worker;

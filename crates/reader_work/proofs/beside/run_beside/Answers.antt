@@ -1,6 +1,5 @@
-use Rattle.std.proofs.Common.{◌≡◌, ◌+◌, ◌-◌, ◌<◌, ◌≤◌, ℕ, suc, List, [], ◌∷◌, ◌++◌, map, get_or, length, length-append, Option, inl, inr, arith, refl, sym, ap, ◌∙◌, subst}
-use Rattle.std.specs.Prelude.{All, IfSome, Result, IfOk}
-use Rattle.std.specs.Global.{Vec}
+use Rattle.std.proofs.Common.{◌≡◌, ◌+◌, ◌<◌, ℕ, List, [], ◌∷◌, ◌++◌, map, length, Option, arith, refl, sym, ap, ◌∙◌, subst}
+use Rattle.std.specs.Prelude.{IfSome}
 use Rattle.std.proofs.lemmas.List.{length-map}
 use Rattle.std.proofs.lemmas.Result.{IfOk-weaker}
 use Rattle.mars_manager.specs.Pass.{PassView, AreSo, known_of, times, newcomer}
@@ -10,7 +9,6 @@ use Rattle.caller_work.specs.declared.crew.Job.{Job}
 use Rattle.caller_work.proofs.Hiring.{there_is, it_is, none_of}
 use Rattle.caller_work.proofs.Whole.{whole}
 use Rattle.caller_work.proofs.Manning.{ready_at, left_at, all_done}
-use Rattle.reader_work.specs.Answers.{AllAnswer}
 use Rattle.reader_work.specs.News.{IsOnlooker}
 use Rattle.reader_work.specs.Readership.{plans_of, keys_of}
 use Rattle.reader_work.proofs.Answering.{answer_longer}

@@ -1,9 +1,9 @@
-use Rattle.std.proofs.Common.{◌≡◌, ◌↔◌, ℕ, ◌+◌, ◌<◌, ◌++◌, List, [], ◌∷◌, map, length, Option, Some, None, append_assoc, length-append, arith, refl, sym, ap, ◌∙◌, subst}
+use Rattle.std.proofs.Common.{◌≡◌, ◌↔◌, ◌+◌, ◌<◌, ◌++◌, List, [], ◌∷◌, length, Option, Some, None, append_assoc, length-append, arith, refl, sym, ap, ◌∙◌, subst}
 use Rattle.std.specs.Prelude.{All, IfSome, IsSome, IsNone}
 use Rattle.std.specs.Option.{option_to_list}
 use Rattle.std.proofs.lemmas.List.{map-append}
 use Rattle.std.proofs.lemmas.List.Elements.{All-push, All-pop}
-use Rattle.history.specs.Key.{Key}
+use Rattle.history.specs.declared.key.Key.{Key}
 use Rattle.snapshot_readers.specs.Feeds.{IsFresh}
 use Rattle.snapshot_readers.specs.declared.reader.Reader.{Reader}
 use Rattle.reader_work.specs.Readership.{keys_of, IsReady}

@@ -1,9 +1,7 @@
-use Rattle.std.proofs.Common.{◌≡◌, ◌<◌, ℕ, List, length, arith, sym, ap, ◌∙◌}
+use Rattle.std.proofs.Common.{List, length, arith, sym, ap, ◌∙◌}
 use Rattle.std.proofs.lemmas.List.{length-map}
 use Rattle.std.proofs.lemmas.Bool.{eqb-false}
-use Rattle.history.specs.Key.{Key}
-use Rattle.history.specs.Rows.{table_of}
-use Rattle.reader_work.specs.Readership.{keys_of}
+use Rattle.history.specs.declared.key.Key.{Key}
 use Rattle.reader_work.specs.declared.reading.ReadWorker.{ReadWorker}
 use Rattle.reader_work.proofs.readership.open_readership.Goals as goal
 

@@ -1,5 +1,5 @@
-use Rattle.std.proofs.Common.{◌≡◌, ◌+◌, ◌<◌, ℕ, [], ◌∷◌, ◌++◌, List, length, take, get_or, arith, sym, ap, ◌∙◌, subst, length-append}
-use Rattle.history.specs.Key.{Key}
+use Rattle.std.proofs.Common.{◌≡◌, ◌+◌, ◌<◌, ℕ, [], ◌∷◌, List, length, take, get_or, arith, sym, ap, ◌∙◌, subst, length-append}
+use Rattle.history.specs.declared.key.Key.{Key}
 use Rattle.history.specs.Writes.{Table}
 use Rattle.snapshot_readers.specs.Batches.{joined}
 use Rattle.snapshot_readers.specs.Feeds.{read, read_base}
@@ -22,7 +22,9 @@ loop-nth-preserved g c =
     let front = joined_prefix (read was) (read now) c.answer_for-answer.ensures.on in
     let same : read_base now ≡ base = c.answer_for-answer.ensures.same.1 ∙ i.base in
     let listed : c.as_slice.result.now ≡ first.keys = c.as_slice.ensures ∙ i.keys in
-    let is = subst (λ (x : List (List ℕ) × Table × List Key). IsAnswer x.0 x.1 (joined (read now)) (length (joined (read now))) (get_or x.2 nth _) answer) (λ j. (i.names j, same j, listed j)) c.answer_for-answer.ensures.answer in
+    let key = c.index-as_slice-nth.result in
+    let its : key ≡ get_or first.keys nth key = c.index-as_slice-nth.is ∙ ap (λ (l : List Key). get_or l nth key) listed in
+    let is = subst (λ (x : List (List ℕ) × Table × Key). IsAnswer x.0 x.1 (joined (read now)) (length (joined (read now))) x.2 answer) (λ j. (i.names j, same j, its j)) c.answer_for-answer.ensures.answer in
     record {
       keys = i.keys;
       names = i.names;
@@ -31,5 +33,5 @@ loop-nth-preserved g c =
       book = c.answer_for-answer.ensures.same.0 ∙ i.book;
       base = same;
       answers = subst (λ (l : List Answer). AreAnswers first.names base (joined (read now)) 0 (take (nth + 1) first.keys) l) (sym c.push_reserved.ensures.items)
-          (next_of first.names base (joined (read was)) (joined (read now)) first.keys nth _ c.loop-nth.worker.answers.items answer within i.answers front is);
+          (next_of first.names base (joined (read was)) (joined (read now)) first.keys nth key c.loop-nth.worker.answers.items answer within i.answers front is);
     }

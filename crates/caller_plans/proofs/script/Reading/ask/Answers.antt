@@ -1,4 +1,4 @@
-use Rattle.std.proofs.Common.{ℕ, ◌≡◌, Some, [], ◌∷◌, ◌++◌, List, length, get_or, set, slice_get, refl, sym, ap, ◌∙◌}
+use Rattle.std.proofs.Common.{ℕ, ◌≡◌, Some, List, length, get_or, set, slice_get, refl, ap, ◌∙◌}
 use Rattle.std.proofs.lemmas.Option.{slice_get_read}
 use Rattle.history.specs.declared.key.Key.{Key}
 use Rattle.caller_plans.proofs.Drafting.{takes_asked}
