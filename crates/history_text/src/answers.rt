@@ -69,11 +69,7 @@ fn write_value(
     append_key(text, key)?;
     append_pieces(
         text,
-        &[
-            Piece::Words(b" at "),
-            Piece::Number(at),
-            Piece::Words(b" "),
-        ],
+        &[Piece::Words(b" at "), Piece::Number(at), Piece::Words(b" ")],
     )?;
     write_found(text, value)
 }

@@ -10,10 +10,9 @@ use texts::{Piece, append_pieces};
 pub fn append_key(text: &mut Vec<u8>, key: &Key) -> Result<(), NoMemory>
     ensures { OnOk result (text.new.items ≡ text.old.items ++ key_text key.now) }
 {
-    let number = Piece::Number(key.key);
     let main = main_table();
     if key.table.as_bytes() == main.as_bytes() {
-        return append_pieces(text, &[number]);
+        return append_pieces(text, &[Piece::Number(key.key)]);
     }
     append_pieces(
         text,
@@ -21,7 +20,7 @@ pub fn append_key(text: &mut Vec<u8>, key: &Key) -> Result<(), NoMemory>
             Piece::Words(b"@"),
             Piece::Words(key.table.as_bytes()),
             Piece::Words(b" "),
-            number,
+            Piece::Number(key.key),
         ],
     )
 }
