@@ -1,5 +1,5 @@
 -- A check has at most one verdict, if each of its parts has.
-use Rattle.std.specs.Prelude.{Bool, true, false, ◌≡◌, ◌⊎◌, List, [], ◌∷◌, Option, Some, None, refl}
+use Rattle.std.specs.Prelude.{Bool, true, false, ◌≡◌, List, [], ◌∷◌, Option, Some, None, refl}
 use Rattle.std.proofs.Common.{inl, inr}
 use Rattle.mars_base.specs.Check.{Check, pass, test, both, unless, each, IsSingle}
 

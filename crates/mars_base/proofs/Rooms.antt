@@ -1,8 +1,6 @@
 -- At most one logger is the first without room.
-use Rattle.std.proofs.Common.{◌≡◌, ℕ, ◌+◌, ◌<◌, ◌≤◌, arith}
-use Rattle.std.specs.Prelude.{Some, None, refl}
-use Rattle.mars_base.specs.Check.{IsSingle}
-use Rattle.mars_base.specs.Room.{HaveRoom, IsFirstFull, room}
+use Rattle.std.proofs.Common.{ℕ, arith}
+use Rattle.mars_base.specs.Room.{HaveRoom, IsFirstFull}
 
 module _ (loggers entries : ℕ) (held needed : ℕ → ℕ) where
   -- where each logger has room, none is without

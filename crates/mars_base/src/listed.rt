@@ -56,6 +56,13 @@ impl<T> Listed<T> {
     {
         self.items.len()
     }
+
+    /// The items in a vector, so that room can be made before several are added.
+    pub fn into_items(self) -> Vec<T>
+        ensures { result.items ≡ self }
+    {
+        self.items
+    }
 }
 
 impl<T> From<Vec<T>> for Listed<T> {
