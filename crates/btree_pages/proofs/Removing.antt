@@ -1,6 +1,7 @@
 -- The steps of a removal from a tree.
 use Rattle.std.proofs.Common.{◌≡◌, ◌≢◌, ℕ, ◌+◌, ◌*◌, ◌%◌, ◌<◌, ◌≤◌, ◌⊎◌, inl, inr, Bool, true, false, nat_eq, List, [], ◌∷◌, ◌++◌, length, Option, Some, None, Result, Ok, Err, refl, sym, ◌∙◌, ap, subst, arith}
 use Rattle.std.specs.Prelude.{IsTrue, IfSome, if◌then◌else◌, not}
+use Rattle.std.specs.List.{AllZip}
 use Rattle.std.proofs.lemmas.Bool.{false≢true}
 use Rattle.std.proofs.lemmas.List.{append-nil, length-append}
 use Rattle.array_shape.specs.declared.shape.Shape.{Shape}
@@ -17,7 +18,7 @@ use Rattle.page_store.specs.Looks.{is_failed}
 use Rattle.page_store.specs.Pairs.{Pair}
 use Rattle.page_store.specs.Runs.{Runs, acting_of}
 use Rattle.page_store.specs.Shown.{Shown}
-use Rattle.page_store.specs.Works.{Step, front, onward, aside, acts, Limits, Spends, fronts_of, way_of, asides_of, actions_of, AreActs, ActsBy, LieIn, IsAmong, IsMet, takes_of, blamed, is_done, WorksFrom}
+use Rattle.page_store.specs.Works.{Step, front, onward, aside, acts, Limits, Spends, fronts_of, way_of, asides_of, actions_of, AreActs, ActsBy, LiesIn, IsAmong, IsMet, takes_of, blamed, is_done, WorksFrom}
 use Rattle.page_store.specs.declared.fault.PageFault.{PageFault}
 use Rattle.page_store.specs.declared.fault.PageFault.TheVariants as faults
 use Rattle.index_pages.specs.Acts.{ActCause}
@@ -34,14 +35,14 @@ use Rattle.btree_pages.proofs.Beginning.{none_on, way_onto}
 use Rattle.btree_pages.proofs.Stepping.{leads_first, leads_on}
 
 -- the parts of the actions lie in their pages
-pub removing_in : (half : ℕ) (after : Super) (slot : ℕ) (free : Free) (page link : ℕ) (pairs : List Pair) (key : ℕ) → LieIn (removing_pages half slot page) (removing_parts half after slot free page link pairs key)
+pub removing_in : (half : ℕ) (after : Super) (slot : ℕ) (free : Free) (page link : ℕ) (pairs : List Pair) (key : ℕ) → AllZip LiesIn (removing_pages half slot page) (removing_parts half after slot free page link pairs key)
 removing_in half after slot free page link pairs key = ((slot % 8 * 64, omega arith, refl), ((0, omega arith, refl), ((8, omega arith, refl), tt)))
 
 pub joining_in : (half : ℕ) (after : Super) (slot : ℕ) (free : Free) (leaf : ℕ) (pairs : List Pair) (parent : ℕ) (entries : List Pair) (right : ℕ) (freed : Free)
-    → LieIn (joining_pages half slot leaf parent right) (joining_parts half after slot free leaf pairs parent entries right freed)
+    → AllZip LiesIn (joining_pages half slot leaf parent right) (joining_parts half after slot free leaf pairs parent entries right freed)
 joining_in half after slot free leaf pairs parent entries right freed = ((slot % 8 * 64, omega arith, refl), ((0, omega arith, refl), ((0, omega arith, refl), ((0, omega arith, refl), ((8, omega arith, refl), tt)))))
 
-pub leaving_in : (half : ℕ) (after : Super) (slot : ℕ) (free : Free) (parent : ℕ) (entries : List Pair) (leaf : ℕ) (freed : Free) → LieIn (leaving_pages half slot parent leaf) (leaving_parts half after slot free parent entries leaf freed)
+pub leaving_in : (half : ℕ) (after : Super) (slot : ℕ) (free : Free) (parent : ℕ) (entries : List Pair) (leaf : ℕ) (freed : Free) → AllZip LiesIn (leaving_pages half slot parent leaf) (leaving_parts half after slot free parent entries leaf freed)
 leaving_in half after slot free parent entries leaf freed = ((slot % 8 * 64, omega arith, refl), ((0, omega arith, refl), ((0, omega arith, refl), ((8, omega arith, refl), tt))))
 
 -- a refused action blames no page, and a fault the same page whatever the call would have answered

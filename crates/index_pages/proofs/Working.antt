@@ -5,6 +5,7 @@ use Rattle.std.proofs.lemmas.Bool.{false≢true}
 use Rattle.std.proofs.lemmas.List.{append-nil, length-append}
 use Rattle.std.proofs.lemmas.List.Sums.{sum_by-cons, sum_by-append}
 use Rattle.mars_base.specs.Costs.{Costs}
+use Rattle.std.specs.List.{AllZip}
 use Rattle.array_shape.specs.declared.shape.Shape.{Shape}
 use Rattle.array_shape.specs.Places.{page_count}
 use Rattle.array_shape.specs.Logged.{Part}
@@ -16,9 +17,9 @@ use Rattle.page_store.specs.Device.{device, device_cost}
 use Rattle.page_store.specs.Follows.{HasRead, one_reading, reads_cost}
 use Rattle.page_store.specs.Index.{Action}
 use Rattle.page_store.specs.Looks.{is_failed}
-use Rattle.page_store.specs.Runs.{Runs, IsCost, AreCosts, acting_of}
+use Rattle.page_store.specs.Runs.{Runs, IsCost, acting_of}
 use Rattle.page_store.specs.Shown.{Shown, address, outline_of, pages_of}
-use Rattle.page_store.specs.Works.{Step, front, onward, aside, acts, IsStepCost, AreStepCosts, Spends, fronts_of, way_of, asides_of, actions_of, AreActs, ActsBy, LieIn, IsAmong, IsMet, Limits, takes_of, is_done, blamed, blamed_index, WorksFrom}
+use Rattle.page_store.specs.Works.{Step, front, onward, aside, acts, IsStepCost, Spends, fronts_of, way_of, asides_of, actions_of, AreActs, ActsBy, LiesIn, IsAmong, IsMet, Limits, takes_of, is_done, blamed, blamed_index, WorksFrom}
 use Rattle.page_store.specs.declared.fault.PageFault.{PageFault}
 use Rattle.page_store.specs.declared.fault.PageFault.TheVariants as faults
 use Rattle.page_store.specs.declared.index_fault.IndexFault.{IndexFault}
@@ -99,7 +100,7 @@ abbrev pub onwards : List Reading → List Step
 onwards rs = map (λ r. onward r) rs
 
 module _ {S : Type 0} (tells : Bool) (view : S → StoreView) (calls : S → store.Command → ℕ) where
-  costs_two : (xs ys : List Step) (ns ms : List ℕ) → AreStepCosts view calls xs ns → AreStepCosts view calls ys ms → AreStepCosts view calls (xs ++ ys) (ns ++ ms)
+  costs_two : (xs ys : List Step) (ns ms : List ℕ) → AllZip (IsStepCost view calls) xs ns → AllZip (IsStepCost view calls) ys ms → AllZip (IsStepCost view calls) (xs ++ ys) (ns ++ ms)
   costs_two [] ys [] ms are are' = are'
   costs_two [] ys (n ∷ ns) ms are are' = absurd are
   costs_two (x ∷ xs) ys [] ms are are' = absurd are
@@ -134,7 +135,7 @@ module _ {S : Type 0} (tells : Bool) (view : S → StoreView) (calls : S → sto
     read_costs [] = []
     read_costs (r ∷ rs) = calls at (store.read (address r.0 0) 512) ∷ read_costs rs
 
-    read_each : (rs : List Reading) → AreStepCosts view calls (onwards rs) (read_costs rs)
+    read_each : (rs : List Reading) → AllZip (IsStepCost view calls) (onwards rs) (read_costs rs)
     read_each [] = tt
     read_each (r ∷ rs) = ((at, refl), read_each rs)
 
@@ -163,11 +164,11 @@ module _ {S : Type 0} (tells : Bool) (view : S → StoreView) (calls : S → sto
     all_costs [] = []
     all_costs (c ∷ cs) = device_cost (calls at.store) (device c (outline_of (pages_of (view at.store) at))) ∷ all_costs cs
 
-    all_each : (cs : List PageCommand) → AreCosts view calls cs (all_costs cs)
+    all_each : (cs : List PageCommand) → AllZip (IsCost view calls) cs (all_costs cs)
     all_each [] = tt
     all_each (c ∷ cs) = ((at, refl), all_each cs)
 
-    more_costs : (cs ds : List PageCommand) (ns : List ℕ) → AreCosts view calls cs ns → AreCosts view calls (cs ++ ds) (ns ++ all_costs ds)
+    more_costs : (cs ds : List PageCommand) (ns : List ℕ) → AllZip (IsCost view calls) cs ns → AllZip (IsCost view calls) (cs ++ ds) (ns ++ all_costs ds)
     more_costs [] ds [] are = all_each ds
     more_costs [] ds (n ∷ ns) are = absurd are
     more_costs (c ∷ cs) ds [] are = absurd are
@@ -179,7 +180,7 @@ module _ {S : Type 0} (tells : Bool) (view : S → StoreView) (calls : S → sto
         let whole : runs.made ≡ commands = sym (append-nil runs.made) ∙ ap (λ (l : List PageCommand). runs.made ++ l) (sym runs.all) ∙ runs.these in
         record {
           costs = sum runs.costs ∷ [];
-          each = ((runs.costs, subst (λ (cs : List PageCommand). AreCosts view calls cs runs.costs) whole runs.each, refl), tt);
+          each = ((runs.costs, subst (λ (cs : List PageCommand). AllZip (IsCost view calls) cs runs.costs) whole runs.each, refl), tt);
           most = omega (arith, runs.most);
           exact = λ told is. omega (arith, runs.exact told);
         }
@@ -187,7 +188,7 @@ module _ {S : Type 0} (tells : Bool) (view : S → StoreView) (calls : S → sto
         let all = sum_two runs.costs (all_costs runs.left) in
         record {
           costs = sum (runs.costs ++ all_costs runs.left) ∷ [];
-          each = ((runs.costs ++ all_costs runs.left, subst (λ (cs : List PageCommand). AreCosts view calls cs (runs.costs ++ all_costs runs.left)) runs.these (more_costs runs.made runs.left runs.costs runs.each), refl), tt);
+          each = ((runs.costs ++ all_costs runs.left, subst (λ (cs : List PageCommand). AllZip (IsCost view calls) cs (runs.costs ++ all_costs runs.left)) runs.these (more_costs runs.made runs.left runs.costs runs.each), refl), tt);
           most = omega (arith, all, runs.most);
           exact = λ told is. absurd (false≢true is);
         }
