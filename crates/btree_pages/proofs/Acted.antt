@@ -17,9 +17,6 @@ use Rattle.index_pages.specs.Keys.{key_at}
 use Rattle.btree_pages.specs.Index.{half_for}
 use Rattle.btree_pages.specs.Writes.{cutting_pages, cutting_parts, growing_pages, growing_parts}
 
-pub adding_in : (half : ℕ) (after : Super) (slot page link : ℕ) (pairs : List Pair) (table key : ℕ) → AllZip LiesIn (adding_pages half slot page) (adding_parts half after slot page link pairs table key)
-adding_in half after slot page link pairs table key = ((slot % 8 * 64, omega arith, refl), ((0, omega arith, refl), ((8, omega arith, refl), tt)))
-
 pub cutting_in : (after : Super) (page level : ℕ) (pairs : List Pair) (taken parent : ℕ) (above : List Pair) → AllZip LiesIn (cutting_pages page taken parent) (cutting_parts after page level pairs taken parent above)
 cutting_in after page level pairs taken parent above = ((0, omega arith, refl), ((0, omega arith, refl), ((0, omega arith, refl), ((8, omega arith, refl), tt))))
 
@@ -38,11 +35,3 @@ half_among child taken parent key half pairs is = elim (half_one pairs child tak
 
 pub root_half_among : (left right root key half : ℕ) (pairs : List Pair) → half ≡ half_for pairs left right key → IsAmong half (growing_pages left right root)
 root_half_among left right root key half pairs is = elim (half_one pairs left right key half is) [ inl e ↦ inl e | inr e ↦ inr (inl e) ]
-
--- an action blames no page
-pub act_blames : (old : StoreView) (t : ℕ) (pages : List ℕ) (fault : PageFault) → (let r : Result (Unit {0}) PageFault = Err fault in ActCause old t pages r) → (let r : Result ℕ IndexFault = Err (as_index fault) in blamed_index r ≡ None)
-act_blames old t pages faults.Media cause = refl
-act_blames old t pages faults.Dead cause = refl
-act_blames old t pages (faults.LogFull g h n) cause = refl
-act_blames old t pages faults.SavesFull cause = refl
-act_blames old t pages (faults.Damaged bad) cause = absurd cause

@@ -35,9 +35,6 @@ use Rattle.btree_pages.proofs.Beginning.{none_on, way_onto}
 use Rattle.btree_pages.proofs.Stepping.{leads_first, leads_on}
 
 -- the parts of the actions lie in their pages
-pub removing_in : (half : ℕ) (after : Super) (slot : ℕ) (free : Free) (page link : ℕ) (pairs : List Pair) (key : ℕ) → AllZip LiesIn (removing_pages half slot page) (removing_parts half after slot free page link pairs key)
-removing_in half after slot free page link pairs key = ((slot % 8 * 64, omega arith, refl), ((0, omega arith, refl), ((8, omega arith, refl), tt)))
-
 pub joining_in : (half : ℕ) (after : Super) (slot : ℕ) (free : Free) (leaf : ℕ) (pairs : List Pair) (parent : ℕ) (entries : List Pair) (right : ℕ) (freed : Free)
     → AllZip LiesIn (joining_pages half slot leaf parent right) (joining_parts half after slot free leaf pairs parent entries right freed)
 joining_in half after slot free leaf pairs parent entries right freed = ((slot % 8 * 64, omega arith, refl), ((0, omega arith, refl), ((0, omega arith, refl), ((0, omega arith, refl), ((8, omega arith, refl), tt)))))
@@ -45,14 +42,7 @@ joining_in half after slot free leaf pairs parent entries right freed = ((slot %
 pub leaving_in : (half : ℕ) (after : Super) (slot : ℕ) (free : Free) (parent : ℕ) (entries : List Pair) (leaf : ℕ) (freed : Free) → AllZip LiesIn (leaving_pages half slot parent leaf) (leaving_parts half after slot free parent entries leaf freed)
 leaving_in half after slot free parent entries leaf freed = ((slot % 8 * 64, omega arith, refl), ((0, omega arith, refl), ((0, omega arith, refl), ((8, omega arith, refl), tt))))
 
--- a refused action blames no page, and a fault the same page whatever the call would have answered
-pub act_blames_none : (T : Type 0) (old : StoreView) (t : ℕ) (pages : List ℕ) (fault : PageFault) → (let r : Result (Unit {0}) PageFault = Err fault in ActCause old t pages r) → (let r : Result T PageFault = Err fault in blamed r ≡ None)
-act_blames_none T old t pages faults.Media cause = refl
-act_blames_none T old t pages faults.Dead cause = refl
-act_blames_none T old t pages (faults.LogFull g h n) cause = refl
-act_blames_none T old t pages faults.SavesFull cause = absurd cause
-act_blames_none T old t pages (faults.Damaged bad) cause = absurd cause
-
+-- a fault blames the same page whatever the call would have answered
 pub blamed_as : (T U : Type 0) (fault : PageFault) → (let r : Result T PageFault = Err fault in let s : Result U PageFault = Err fault in blamed r ≡ blamed s)
 blamed_as T U faults.Media = refl
 blamed_as T U faults.Dead = refl

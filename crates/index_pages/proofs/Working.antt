@@ -1,11 +1,10 @@
 -- The steps of an insertion or a removal: reads, actions, and one after another.
-use Rattle.std.proofs.Common.{◌≡◌, ◌≢◌, ℕ, zero, suc, ◌+◌, ◌<◌, ◌≤◌, ◌⊎◌, inl, inr, Bool, true, false, List, [], ◌∷◌, ◌++◌, append_assoc, length, Option, Some, None, Result, Ok, Err, refl, sym, ◌∙◌, ap, subst, arith}
+use Rattle.std.proofs.Common.{◌≡◌, ◌≢◌, ℕ, zero, suc, ◌+◌, ◌*◌, ◌%◌, ◌<◌, ◌≤◌, ◌⊎◌, inl, inr, Bool, true, false, List, [], ◌∷◌, ◌++◌, append_assoc, length, Option, Some, None, Result, Ok, Err, refl, sym, ◌∙◌, ap, subst, arith}
 use Rattle.std.specs.Prelude.{IsTrue, IsFalse, IfSome, sum, map, not}
 use Rattle.std.proofs.lemmas.Bool.{false≢true}
 use Rattle.std.proofs.lemmas.List.{append-nil, length-append}
 use Rattle.std.proofs.lemmas.List.Sums.{sum_by-cons, sum_by-append}
 use Rattle.mars_base.specs.Costs.{Costs}
-use Rattle.std.specs.List.{AllZip}
 use Rattle.array_shape.specs.declared.shape.Shape.{Shape}
 use Rattle.array_shape.specs.Places.{page_count}
 use Rattle.array_shape.specs.Logged.{Part}
@@ -20,11 +19,18 @@ use Rattle.page_store.specs.Looks.{is_failed}
 use Rattle.page_store.specs.Runs.{Runs, IsCost, acting_of}
 use Rattle.page_store.specs.Shown.{Shown, address, outline_of, pages_of}
 use Rattle.page_store.specs.Works.{Step, front, onward, aside, acts, IsStepCost, Spends, fronts_of, way_of, asides_of, actions_of, AreActs, ActsBy, LiesIn, IsAmong, IsMet, Limits, takes_of, is_done, blamed, blamed_index, WorksFrom}
+use Rattle.page_store.specs.Pairs.{Pair}
+use Rattle.record_slots.specs.declared.free.Free.{Free}
+use Rattle.record_slots.specs.declared.super_page.Super.{Super}
 use Rattle.page_store.specs.declared.fault.PageFault.{PageFault}
 use Rattle.page_store.specs.declared.fault.PageFault.TheVariants as faults
 use Rattle.page_store.specs.declared.index_fault.IndexFault.{IndexFault}
 use Rattle.page_store.specs.declared.index_fault.IndexFault.TheVariants as index
+use Rattle.index_pages.specs.Acts.{ActCause}
+use Rattle.index_pages.specs.Adding.{adding_pages, adding_parts}
 use Rattle.index_pages.specs.Faults.{as_index}
+use Rattle.index_pages.specs.Giving.{removing_pages, removing_parts}
+use Rattle.std.specs.List.{AllZip}
 use Rattle.index_pages.specs.Fetched.{ReadCause}
 use Rattle.index_pages.specs.Peeks.{Peeks, AreAsides}
 
@@ -249,6 +255,21 @@ module _ {S : Type 0} (tells : Bool) (view : S → StoreView) (calls : S → sto
       all = all;
       taken = taken;
     }
+
+-- the parts of an insertion and of a removal in one page lie in their pages
+pub adding_in : (half : ℕ) (after : Super) (slot page link : ℕ) (pairs : List Pair) (table key : ℕ) → AllZip LiesIn (adding_pages half slot page) (adding_parts half after slot page link pairs table key)
+adding_in half after slot page link pairs table key = ((slot % 8 * 64, omega arith, refl), ((0, omega arith, refl), ((8, omega arith, refl), tt)))
+
+pub removing_in : (half : ℕ) (after : Super) (slot : ℕ) (free : Free) (page link : ℕ) (pairs : List Pair) (key : ℕ) → AllZip LiesIn (removing_pages half slot page) (removing_parts half after slot free page link pairs key)
+removing_in half after slot free page link pairs key = ((slot % 8 * 64, omega arith, refl), ((0, omega arith, refl), ((8, omega arith, refl), tt)))
+
+-- a refused action blames no page
+pub act_blames : (T : Type 0) (old : StoreView) (t : ℕ) (pages : List ℕ) (fault : PageFault) → (let r : Result (Unit {0}) PageFault = Err fault in ActCause old t pages r) → (let r : Result T PageFault = Err fault in blamed r ≡ None)
+act_blames T old t pages faults.Media cause = refl
+act_blames T old t pages faults.Dead cause = refl
+act_blames T old t pages (faults.LogFull g h n) cause = refl
+act_blames T old t pages faults.SavesFull cause = absurd cause
+act_blames T old t pages (faults.Damaged bad) cause = absurd cause
 
 -- a fault that an insertion passes on blames the same page
 pub blamed_same : (T U : Type 0) (fault : PageFault) → (let r : Result T IndexFault = Err (as_index fault) in let s : Result U PageFault = Err fault in blamed_index r ≡ blamed s)
