@@ -1,18 +1,10 @@
 -- The parts of the actions lie in their pages, one in each.
-use Rattle.std.proofs.Common.{◌≡◌, ℕ, suc, ◌+◌, ◌*◌, ◌/◌, ◌%◌, ◌<◌, nat_lt, true, false, ◌⊎◌, inl, inr, List, [], ◌∷◌, None, Result, Err, refl, sym, ◌∙◌, arith}
-use Rattle.std.specs.Prelude.{if◌then◌else◌}
+use Rattle.std.proofs.Common.{◌≡◌, ℕ, suc, nat_lt, true, false, ◌⊎◌, inl, inr, List, refl, ◌∙◌, arith}
 use Rattle.std.specs.List.{AllZip}
 use Rattle.std.proofs.lemmas.Bool.Decides.{leb_tells}
 use Rattle.record_slots.specs.declared.super_page.Super.{Super}
-use Rattle.eaw_face.specs.StoreView.{StoreView}
 use Rattle.page_store.specs.Pairs.{Pair}
-use Rattle.page_store.specs.Works.{LiesIn, IsAmong, blamed_index}
-use Rattle.page_store.specs.declared.fault.PageFault.{PageFault}
-use Rattle.page_store.specs.declared.fault.PageFault.TheVariants as faults
-use Rattle.page_store.specs.declared.index_fault.IndexFault.{IndexFault}
-use Rattle.index_pages.specs.Acts.{ActCause}
-use Rattle.index_pages.specs.Adding.{adding_pages, adding_parts}
-use Rattle.index_pages.specs.Faults.{as_index}
+use Rattle.page_store.specs.Works.{LiesIn, IsAmong}
 use Rattle.index_pages.specs.Keys.{key_at}
 use Rattle.btree_pages.specs.Index.{half_for}
 use Rattle.btree_pages.specs.Writes.{cutting_pages, cutting_parts, growing_pages, growing_parts}

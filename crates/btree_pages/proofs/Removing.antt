@@ -3,7 +3,7 @@ use Rattle.std.proofs.Common.{◌≡◌, ◌≢◌, ℕ, ◌+◌, ◌*◌, ◌%�
 use Rattle.std.specs.Prelude.{IsTrue, IfSome, if◌then◌else◌, not}
 use Rattle.std.specs.List.{AllZip}
 use Rattle.std.proofs.lemmas.Bool.{false≢true}
-use Rattle.std.proofs.lemmas.List.{append-nil, length-append}
+use Rattle.std.proofs.lemmas.List.{length-append}
 use Rattle.array_shape.specs.declared.shape.Shape.{Shape}
 use Rattle.array_shape.specs.Places.{page_count}
 use Rattle.eaw_face.specs.Command as store
@@ -16,19 +16,17 @@ use Rattle.page_store.specs.Follows.{HasRead, IsLast, one_reading}
 use Rattle.page_store.specs.Index.{Action}
 use Rattle.page_store.specs.Looks.{is_failed}
 use Rattle.page_store.specs.Pairs.{Pair}
-use Rattle.page_store.specs.Runs.{Runs, acting_of}
+use Rattle.page_store.specs.Runs.{Runs}
 use Rattle.page_store.specs.Shown.{Shown}
-use Rattle.page_store.specs.Works.{Step, front, onward, aside, acts, Limits, Spends, fronts_of, way_of, asides_of, actions_of, AreActs, ActsBy, LiesIn, IsAmong, IsMet, takes_of, blamed, is_done, WorksFrom}
+use Rattle.page_store.specs.Works.{Step, front, onward, aside, acts, Limits, Spends, fronts_of, way_of, asides_of, actions_of, AreActs, ActsBy, LiesIn, IsAmong, IsMet, blamed, is_done, WorksFrom}
 use Rattle.page_store.specs.declared.fault.PageFault.{PageFault}
 use Rattle.page_store.specs.declared.fault.PageFault.TheVariants as faults
-use Rattle.index_pages.specs.Acts.{ActCause}
 use Rattle.index_pages.specs.Fetched.{TestCause}
-use Rattle.index_pages.specs.Giving.{removing_pages, removing_parts}
 use Rattle.index_pages.specs.Page.{level_said, pairs_said}
 use Rattle.index_pages.proofs.Working.{onwards, spends_none, spends_ill, spends_then, spends_onward, spends_front, spends_beside, spends_act, works_behind, works_of}
 use Rattle.btree_laws.specs.Descent.{child_for}
 use Rattle.btree_pages.specs.Downward.{below, down}
-use Rattle.btree_pages.specs.Steps.{CameDown, FailsDown, IsOnly, ReadsNamed, SaysPage, limits_down}
+use Rattle.btree_pages.specs.Steps.{CameDown, FailsDown, IsOnly, ReadsNamed, limits_down}
 use Rattle.btree_pages.specs.Writes.{joining_pages, joining_parts, leaving_pages, leaving_parts}
 use Rattle.btree_pages.specs.declared.node.Node.{Node}
 use Rattle.btree_pages.proofs.Beginning.{none_on, way_onto}

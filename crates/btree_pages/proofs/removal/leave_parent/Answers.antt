@@ -15,7 +15,6 @@ use Rattle.eaw_face.specs.StoreView.{log_len}
 use Rattle.page_store.specs.Runs.{acting_of}
 use Rattle.page_store.specs.Works.{blamed, removal_actions}
 use Rattle.std.proofs.lemmas.Bool.{false≢true}
-use Rattle.array_shape.specs.Places.{page_count}
 use Rattle.index_pages.proofs.Working.{act_blames}
 use Rattle.btree_pages.proofs.Removing.{leaving_in, ends_none, act_alone}
 use Rattle.btree_pages.proofs.removal.leave_parent.Goals as goal

@@ -1,4 +1,4 @@
-use Rattle.std.proofs.Common.{◌<◌, ◌^◌, arith, ◌≡◌, Bool, List, [], ◌∷◌, None, Result, Ok, Err, IsTrue, refl, sym, ap, ℕ}
+use Rattle.std.proofs.Common.{◌<◌, ◌^◌, arith, Bool, [], None, Result, Ok, Err, IsTrue, refl, sym, ap}
 use Rattle.page_store.specs.Index.{index_pages_of, Action}
 use Rattle.page_store.specs.Shown.{pages_of}
 use Rattle.index_pages.specs.Giving.{removing_pages, removing_parts}
