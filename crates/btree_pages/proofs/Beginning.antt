@@ -1,9 +1,8 @@
 -- The steps of an insertion from the root on.
-use Rattle.std.proofs.Common.{◌≡◌, ◌≢◌, ℕ, ◌+◌, ◌<◌, ◌≤◌, ◌⊎◌, inl, inr, Bool, true, false, nat_eq, List, [], ◌∷◌, ◌++◌, length, Option, Some, None, Result, Ok, Err, refl, sym, ◌∙◌, ap, subst, arith}
+use Rattle.std.proofs.Common.{◌≡◌, ℕ, ◌+◌, ◌<◌, ◌≤◌, ◌⊎◌, inl, inr, Bool, true, false, nat_eq, List, [], ◌∷◌, ◌++◌, length, Option, Some, None, Result, Ok, Err, refl, sym, ◌∙◌, ap, subst, arith}
 use Rattle.std.specs.Prelude.{IsTrue, IfSome, if◌then◌else◌}
 use Rattle.std.proofs.lemmas.Bool.{false≢true}
-use Rattle.std.proofs.lemmas.Bool.Decides.{eqb_tells}
-use Rattle.std.proofs.lemmas.List.{length-append, append-nil}
+use Rattle.std.proofs.lemmas.List.{length-append}
 use Rattle.array_shape.specs.declared.shape.Shape.{Shape}
 use Rattle.array_shape.specs.Places.{page_count}
 use Rattle.eaw_face.specs.Command as store
@@ -24,7 +23,7 @@ use Rattle.index_pages.specs.Faults.{as_index}
 use Rattle.index_pages.specs.Fetched.{TestCause}
 use Rattle.index_pages.specs.Page.{level_said, pairs_said}
 use Rattle.index_pages.specs.Peeks.{Peeks, AreAsides}
-use Rattle.index_pages.proofs.Working.{spends_none, spends_ill, spends_front, spends_onward, spends_then, spends_act, onwards, asides_plain, met_later, met_first, works_of, works_behind, blamed_same}
+use Rattle.index_pages.proofs.Working.{spends_none, spends_ill, spends_front, spends_onward, spends_then, spends_act, onwards, asides_plain, met_later, works_of, works_behind, blamed_same}
 use Rattle.btree_laws.specs.Descent.{child_for}
 use Rattle.btree_pages.specs.Downward.{below, down, tree_finding}
 use Rattle.btree_pages.specs.Steps.{known_from, limits_above, limits_below}

@@ -1,10 +1,8 @@
 -- What full pages on a key's way make of an insertion.
-use Rattle.std.proofs.Common.{◌≡◌, ◌≢◌, ℕ, zero, suc, ◌+◌, ◌<◌, ◌≤◌, Bool, true, false, nat_lt, inl, inr, List, [], ◌∷◌, length, Option, refl, sym, ◌∙◌, ap, subst, arith}
-use Rattle.std.specs.Prelude.{nat_le, ◌||◌, if◌then◌else◌}
+use Rattle.std.proofs.Common.{◌≡◌, ◌≢◌, ℕ, zero, suc, ◌<◌, ◌≤◌, Bool, true, false, nat_lt, inl, inr, List, [], ◌∷◌, length, Option, refl, sym, ◌∙◌, ap, arith}
+use Rattle.std.specs.Prelude.{nat_le, ◌||◌}
 use Rattle.std.proofs.lemmas.Bool.Decides.{leb_tells}
 use Rattle.record_slots.specs.Places.{page_due}
-use Rattle.page_store.specs.Index.{Action}
-use Rattle.index_pages.specs.Keys.{key_end}
 use Rattle.index_pages.specs.Page.{page_pairs, pairs_from, pairs_said, level_of, count_of, count_said}
 use Rattle.index_pages.proofs.PageFacts.{length-page_pairs}
 use Rattle.btree_laws.proofs.Apart.{start_of}
@@ -13,7 +11,7 @@ use Rattle.btree_laws.specs.Sound.{IsTree}
 use Rattle.btree_laws.specs.TreeFacts.{tree_level}
 use Rattle.btree_laws.specs.declared.root.Root.{Root}
 use Rattle.btree_pages.specs.Crowded.{is_full, is_full_below, is_crowded}
-use Rattle.btree_pages.specs.Index.{adding, cutting, growing, half_for, actions_below, tree_actions}
+use Rattle.btree_pages.specs.Index.{adding, half_for, actions_below, tree_actions}
 use Rattle.btree_pages.proofs.Descending.{Down, child_step}
 
 -- a test that fails has no part that holds
@@ -113,6 +111,12 @@ crowd_below root bytes key page low high (suc l) tree from to inner =
     ap (λ (n : ℕ). is_full_below n bytes page key) (tree_level root (suc l) bytes page low high tree)
     ∙ ap (λ (n : ℕ). is_full bytes (child_for (page_pairs bytes page) key) || is_full_below n bytes (child_for (page_pairs bytes page) key) key) (sym (tree_level root l bytes (child_for (page_pairs bytes page) key) child.from child.to child.tree))
 
+-- the leaf to which the way goes
+pub leaf_here : (root : Root) (bytes : List ℕ) (key steps page : ℕ) (bound : Option ℕ) (d : Down root bytes key steps page bound) → level_of bytes page ≡ 0 → page ≡ leaf_for bytes root.page key
+leaf_here root bytes key steps page bound d bottom =
+    let m : d.m ≡ 0 = sym (tree_level root d.m bytes page d.low d.high d.tree) ∙ bottom in
+    sym (d.way key d.from d.to ∙ ap (λ (n : ℕ). page_for n bytes page key) m)
+
 module _ (root : Root) (bytes : List ℕ) (key steps page : ℕ) (bound : Option ℕ) (d : Down root bytes key steps page bound) (full : Bool)
     (so_far : is_crowded bytes root.page key ≡ (full || (is_full bytes page || is_full_below (level_of bytes page) bytes page key))) where
   pub crowd_step : level_of bytes page ≢ 0 → (now : Bool) → now ≡ (full || is_full bytes page) → (child : ℕ) → child ≡ child_for (page_pairs bytes page) key
@@ -127,8 +131,3 @@ module _ (root : Root) (bytes : List ℕ) (key steps page : ℕ) (bound : Option
   pub crowd_end : level_of bytes page ≡ 0 → (now : Bool) → now ≡ (full || is_full bytes page) → now ≡ is_crowded bytes root.page key
   crowd_end bottom now is =
       is ∙ ap (λ (b : Bool). full || b) (sym (or_none (is_full bytes page)) ∙ ap (λ (n : ℕ). is_full bytes page || is_full_below n bytes page key) (sym bottom)) ∙ sym so_far
-
-  pub leaf_here : level_of bytes page ≡ 0 → page ≡ leaf_for bytes root.page key
-  leaf_here bottom =
-      let m : d.m ≡ 0 = sym (tree_level root d.m bytes page d.low d.high d.tree) ∙ bottom in
-      sym (d.way key d.from d.to ∙ ap (λ (n : ℕ). page_for n bytes page key) m)

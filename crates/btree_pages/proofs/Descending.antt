@@ -14,12 +14,12 @@ use Rattle.index_pages.proofs.Rising.{next-append, next-head, next-right}
 use Rattle.index_pages.proofs.Tiling.{tile_bounds, joined_rises}
 use Rattle.index_pages.proofs.Turns.{next_least, next_below}
 use Rattle.btree_laws.proofs.Apart.{child_facts, entries_tile, start_of, tree_some}
-use Rattle.btree_laws.proofs.Ways.{child_given, found_on_way}
+use Rattle.btree_laws.proofs.Ways.{child_given, found_on_way, page_for_last}
 use Rattle.btree_laws.specs.Descent.{child_for, leaf_for, page_for}
 use Rattle.btree_laws.specs.Sound.{AreBelow, AreSound, IsSoundTree, IsTree}
 use Rattle.btree_laws.specs.Tree.{next_low, pairs_of_tree, pairs_under, pieces_with}
 use Rattle.btree_laws.specs.TreeFacts.{tree_level}
-use Rattle.btree_pages.specs.Leaf.{AtLeaf, IsBegin, bound_in, from_bound}
+use Rattle.btree_pages.specs.Leaf.{AtLeaf, IsBegin, behind_in, bound_in, from_bound}
 use Rattle.btree_pages.specs.Node.{IsNode}
 use Rattle.btree_laws.specs.declared.root.Root.{Root}
 
@@ -153,6 +153,32 @@ child_step root l bytes (e ∷ f ∷ es) high key some are sound le lt =
           (b.4.0, next_is x (omega (arith, b.0, wide)) ∙ b.4.1, λ k from' to'. next_is k from' ∙ b.4.2 k from' to'),
         )
 
+-- the entry behind that of a key's child has its own low key's child
+behind_child : (root : Root) (l : ℕ) (bytes : List ℕ) (es : List Pair) (high key : ℕ) → AreBelow root.page (next_page bytes) es → AreSound (IsTree root l bytes) es high → (f : Pair) → behind_in es key ≡ Some f
+    → (child_for es f.0 ≡ f.1) × (next_low es high ≤ f.0) × (f.0 < high) × (f.1 < next_page bytes)
+behind_child root l bytes [] high key are sound f is = absurd (cc)
+behind_child root l bytes (e ∷ []) high key are sound f is = absurd (cc)
+behind_child root l bytes (e ∷ g ∷ es) high key are sound f is =
+    let here = child_facts root l bytes e.1 e.0 g.0 are.0.1 sound.0 in
+    let there = child_facts root l bytes g.1 g.0 (next_low es high) are.2.0.1 sound.1.0 in
+    let tail = tile_bounds (next_low es high) high (pieces_with (pairs_under l bytes) es) (entries_tile root l bytes es high are.2.2 sound.1.1) in
+    elim (leb_tells (suc key) g.0) [
+      | inl h ↦
+          let b : nat_lt key g.0 ≡ true = h.0 in
+          let same : g ≡ f = (let found : Some g ≡ Some f = (rw b at is) in cc) in
+          let own : nat_lt g.0 g.0 ≡ false = grind (arith, nat_tests) in
+          let child : child_for (e ∷ g ∷ es) g.0 ≡ g.1 = (rw own (first_child g es high there.1)) in
+          subst (λ (p : Pair). (child_for (e ∷ g ∷ es) p.0 ≡ p.1) × (e.0 ≤ p.0) × (p.0 < high) × (p.1 < next_page bytes)) same (child, omega (arith, here.1), omega (arith, there.1, tail), are.2.1)
+      | inr h ↦
+          let b : nat_lt key g.0 ≡ false = h.0 in
+          let rest : behind_in (g ∷ es) key ≡ Some f = (rw b at is) in
+          let r = behind_child root l bytes (g ∷ es) high key are.2 sound.1 f rest in
+          let low : g.0 ≤ f.0 = r.1 in
+          let later : nat_lt f.0 g.0 ≡ false = grind (arith, nat_tests, low) in
+          let child : child_for (e ∷ g ∷ es) f.0 ≡ f.1 = (rw later r.0) in
+          (child, omega (arith, here.1, low), r.2, r.3)
+    ]
+
 -- the way to the lower bound of a page ends at a leaf that begins there
 first_begins : (root : Root) (m : ℕ) (bytes : List ℕ) → ((q low high : ℕ) → q ≢ root.page → IsTree root m bytes q low high → next (page_pairs bytes (page_for m bytes q low)) low ≢ None)
     → (es : List Pair) (low high : ℕ) → 1 ≤ length es → next_low es high ≡ low → AreBelow root.page (next_page bytes) es → AreSound (IsTree root m bytes) es high → next (page_pairs bytes (page_for m bytes (child_for es low) low)) low ≢ None
@@ -172,6 +198,11 @@ leaf_begins root (suc m) bytes q low high other t =
     let some : 1 ≤ length (page_pairs bytes q) = omega (arith, t.0.some, length-page_pairs bytes q) in
     first_begins root m bytes (leaf_begins root m bytes) (page_pairs bytes q) low high some (start_of low high (page_pairs bytes q) some t.0.first) t.0.children t.1
 
+-- one level further down on a key's way
+page_on : (d : ℕ) (bytes : List ℕ) (root key page : ℕ) → page_for d bytes root key ≡ page → page_for (d + 1) bytes root key ≡ child_for (page_pairs bytes page) key
+page_on d bytes root key page is =
+    ap (λ (n : ℕ). page_for n bytes root key) (let e : d + 1 ≡ suc d = omega arith in e) ∙ page_for_last d bytes root key ∙ ap (λ (p : ℕ). child_for (page_pairs bytes p) key) is
+
 -- after so many steps down, this page decides for all keys in its range, of which the key is one
 pub record Down (root : Root) (bytes : List ℕ) (key steps page : ℕ) (bound : Option ℕ) : Type 0 where
   pub m : ℕ
@@ -182,6 +213,8 @@ pub record Down (root : Root) (bytes : List ℕ) (key steps page : ℕ) (bound :
   pub to : key < high
   pub left : m + steps ≤ 7
   pub inside : page < next_page bytes
+  pub depth : m + steps ≡ level_of bytes root.page
+  pub path : (k : ℕ) → low ≤ k → k < high → page_for steps bytes root.page k ≡ page
   pub way : (k : ℕ) → low ≤ k → k < high → leaf_for bytes root.page k ≡ page_for m bytes page k
   pub finds : (k : ℕ) → low ≤ k → k < high → found (pairs_of_tree bytes root.page) k ≡ found (pairs_under m bytes page) k
   pub nexts : (k : ℕ) → low ≤ k → k < high → next (pairs_of_tree bytes root.page) k ≡ or_else (next (pairs_under m bytes page) k) (from_bound root bytes bound)
@@ -206,6 +239,8 @@ down_first root bytes key sound lt = record {
   to = lt;
   left = omega (arith, sound.1);
   inside = sound.0.1;
+  depth = omega arith;
+  path = λ k a b. refl;
   way = λ k a b. refl;
   finds = λ k a b. refl;
   nexts = λ k a b. sym (or_none (next (pairs_under (level_of bytes root.page) bytes root.page) k));
@@ -214,6 +249,7 @@ down_first root bytes key sound lt = record {
 
 -- one step down, to the key's child
 module _ (root : Root) (m : ℕ) (bytes : List ℕ) (key steps page low high : ℕ) (bound : Option ℕ) (t : IsTree root (suc m) bytes page low high) (from : low ≤ key) (to : key < high) (left : suc m + steps ≤ 7)
+    (depth : suc m + steps ≡ level_of bytes root.page) (path : (k : ℕ) → low ≤ k → k < high → page_for steps bytes root.page k ≡ page)
     (way : (k : ℕ) → low ≤ k → k < high → leaf_for bytes root.page k ≡ page_for (suc m) bytes page k)
     (finds : (k : ℕ) → low ≤ k → k < high → found (pairs_of_tree bytes root.page) k ≡ found (pairs_under (suc m) bytes page) k)
     (nexts : (k : ℕ) → low ≤ k → k < high → next (pairs_of_tree bytes root.page) k ≡ or_else (next (pairs_under (suc m) bytes page) k) (from_bound root bytes bound))
@@ -251,6 +287,8 @@ module _ (root : Root) (m : ℕ) (bytes : List ℕ) (key steps page low high : �
         to = child.key_to;
         left = omega arith;
         inside = (child_given root bytes (page_pairs bytes page) key some t.0.children).1;
+        depth = omega (arith, depth);
+        path = λ k a z. page_on steps bytes root.page k page (path k (omega (arith, a, above)) (omega (arith, z, child.below))) ∙ child.same k a z;
         way = λ k a z. way k (omega (arith, a, above)) (omega (arith, z, child.below)) ∙ ap (λ (q : ℕ). page_for m bytes q k) (child.same k a z);
         finds = λ k a z.
             finds k (omega (arith, a, above)) (omega (arith, z, child.below)) ∙ found_on_way root 1 m bytes k page low high t (omega (arith, a, above)) (omega (arith, z, child.below))
@@ -271,7 +309,7 @@ down_level root bytes key steps page bound d = tree_level root d.m bytes page d.
 on : (root : Root) (m : ℕ) (bytes : List ℕ) (key steps page : ℕ) (bound : Option ℕ) (d : Down root bytes key steps page bound) → d.m ≡ m → 1 ≤ m → Down root bytes key (steps + 1) (child_for (page_pairs bytes page) key) (option_or (bound_in (page_pairs bytes page) key) bound)
 on root zero bytes key steps page bound d is some = absurd (omega arith)
 on root (suc m) bytes key steps page bound d is some =
-    step_down root m bytes key steps page d.low d.high bound (subst (λ (n : ℕ). IsTree root n bytes page d.low d.high) is d.tree) d.from d.to (omega (arith, d.left, is))
+    step_down root m bytes key steps page d.low d.high bound (subst (λ (n : ℕ). IsTree root n bytes page d.low d.high) is d.tree) d.from d.to (omega (arith, d.left, is)) (omega (arith, d.depth, is)) d.path
     (subst (λ (n : ℕ). (k : ℕ) → d.low ≤ k → k < d.high → leaf_for bytes root.page k ≡ page_for n bytes page k) is d.way)
     (subst (λ (n : ℕ). (k : ℕ) → d.low ≤ k → k < d.high → found (pairs_of_tree bytes root.page) k ≡ found (pairs_under n bytes page) k) is d.finds)
     (subst (λ (n : ℕ). (k : ℕ) → d.low ≤ k → k < d.high → next (pairs_of_tree bytes root.page) k ≡ or_else (next (pairs_under n bytes page) k) (from_bound root bytes bound)) is d.nexts)
@@ -314,3 +352,34 @@ last root zero bytes key steps page bound d is none =
 
 pub down_last : (root : Root) (bytes : List ℕ) (key steps page : ℕ) (bound : Option ℕ) → Down root bytes key steps page bound → level_of bytes page ≡ 0 → AtLeaf root bytes key bound (page_bytes bytes page)
 down_last root bytes key steps page bound d leaf = last root d.m bytes key steps page bound d refl (sym (down_level root bytes key steps page bound d) ∙ leaf)
+
+-- the page that so many levels of the way of a key lead to
+pub down_at : (d : ℕ) (root : Root) (bytes : List ℕ) (key : ℕ) → IsSoundTree root bytes → key < key_end → d ≤ level_of bytes root.page → (bound : Option ℕ) × Down root bytes key d (page_for d bytes root.page key) bound
+down_at zero root bytes key sound lt le = (None, down_first root bytes key sound lt)
+down_at (suc d) root bytes key sound lt le =
+    let r = down_at d root bytes key sound lt (omega arith) in
+    let page : ℕ = page_for d bytes root.page key in
+    let inner : level_of bytes (page_for d bytes root.page key) ≢ 0 = λ none. absurd (omega (arith, none, le, r.1.depth, down_level root bytes key d (page_for d bytes root.page key) r.0 r.1)) in
+    let one = down_step root bytes key d (page_for d bytes root.page key) r.0 r.1 inner in (
+      option_or (bound_in (page_pairs bytes (page_for d bytes root.page key)) key) r.0,
+      subst (λ (p : ℕ). Down root bytes key (suc d) p (option_or (bound_in (page_pairs bytes (page_for d bytes root.page key)) key) r.0)) (sym (page_for_last d bytes root.page key))
+          (subst (λ (n : ℕ). Down root bytes key n (child_for (page_pairs bytes (page_for d bytes root.page key)) key) (option_or (bound_in (page_pairs bytes (page_for d bytes root.page key)) key) r.0)) (let e : d + 1 ≡ suc d = omega arith in e) one),
+    )
+
+-- the child of the entry behind is on the way of the entry's low key
+behind : (root : Root) (m : ℕ) (bytes : List ℕ) (key steps page : ℕ) (bound : Option ℕ) (d : Down root bytes key steps page bound) → d.m ≡ m → 1 ≤ m → (f : Pair) → behind_in (page_pairs bytes page) key ≡ Some f
+    → (f.1 ≡ page_for (steps + 1) bytes root.page f.0) × (steps + 1 ≤ level_of bytes root.page) × (f.1 < next_page bytes)
+behind root zero bytes key steps page bound d is some f there = absurd (omega arith)
+behind root (suc m) bytes key steps page bound d is some f there =
+    let t : IsTree root (suc m) bytes page d.low d.high = subst (λ (n : ℕ). IsTree root n bytes page d.low d.high) is d.tree in
+    let many : 1 ≤ length (page_pairs bytes page) = omega (arith, t.0.some, length-page_pairs bytes page) in
+    let start = start_of d.low d.high (page_pairs bytes page) many t.0.first in
+    let child = behind_child root m bytes (page_pairs bytes page) d.high key t.0.children t.1 f there in (
+      sym (page_on steps bytes root.page f.0 page (d.path f.0 (omega (arith, start, child.1)) child.2) ∙ child.0),
+      omega (arith, d.depth, is),
+      child.3,
+    )
+
+pub down_behind : (root : Root) (bytes : List ℕ) (key steps page : ℕ) (bound : Option ℕ) → Down root bytes key steps page bound → level_of bytes page ≢ 0 → (f : Pair) → behind_in (page_pairs bytes page) key ≡ Some f
+    → (f.1 ≡ page_for (steps + 1) bytes root.page f.0) × (steps + 1 ≤ level_of bytes root.page) × (f.1 < next_page bytes)
+down_behind root bytes key steps page bound d inner f there = behind root d.m bytes key steps page bound d refl (omega (arith, inner, down_level root bytes key steps page bound d)) f there

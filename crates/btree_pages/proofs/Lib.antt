@@ -30,6 +30,7 @@ pub mod Coming
 pub mod Giveable
 pub mod Looked
 pub mod Turning
+pub mod Starting
 pub mod Keeping
 pub mod Righting
 pub mod Arriving

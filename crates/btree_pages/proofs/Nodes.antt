@@ -7,7 +7,7 @@ use Rattle.index_pages.specs.Written.{IsPage, SaysHead}
 use Rattle.index_pages.specs.declared.page.Head.{Head}
 use Rattle.index_pages.proofs.Reading.{from_step, from_end}
 use Rattle.btree_laws.specs.Descent.{child_for}
-use Rattle.btree_pages.specs.Leaf.{bound_in}
+use Rattle.btree_pages.specs.Leaf.{behind_in}
 use Rattle.btree_pages.specs.Node.{IsNode, SaysNode}
 
 -- the head of a page of the tree, and a page that is not one
@@ -58,25 +58,25 @@ module _ (page : List ℕ) where
 
   -- the search for a key's child stands at entry k, and the next one begins above the key
   pub child_here : (k n key : ℕ) → suc k < n → key < (pair_said page (suc k)).0
-      → (child_for (pairs_from page k (n - k)) key ≡ (pair_said page k).1) × (bound_in (pairs_from page k (n - k)) key ≡ Some (pair_said page (suc k)).0)
+      → (child_for (pairs_from page k (n - k)) key ≡ (pair_said page k).1) × (behind_in (pairs_from page k (n - k)) key ≡ Some (pair_said page (suc k)))
   child_here k n key lt e =
       let b : nat_lt key (pair_said page (suc k)).0 ≡ true = grind (arith, nat_tests) in (
         ap (λ (ps : List Pair). child_for ps key) (two_steps k n lt) ∙ (rw b refl),
-        ap (λ (ps : List Pair). bound_in ps key) (two_steps k n lt) ∙ (rw b refl),
+        ap (λ (ps : List Pair). behind_in ps key) (two_steps k n lt) ∙ (rw b refl),
       )
 
   -- the next entry does not
   pub child_later : (k n key : ℕ) → suc k < n → (pair_said page (suc k)).0 ≤ key
-      → (child_for (pairs_from page k (n - k)) key ≡ child_for (pairs_from page (suc k) (n - suc k)) key) × (bound_in (pairs_from page k (n - k)) key ≡ bound_in (pairs_from page (suc k) (n - suc k)) key)
+      → (child_for (pairs_from page k (n - k)) key ≡ child_for (pairs_from page (suc k) (n - suc k)) key) × (behind_in (pairs_from page k (n - k)) key ≡ behind_in (pairs_from page (suc k) (n - suc k)) key)
   child_later k n key lt e =
       let b : nat_lt key (pair_said page (suc k)).0 ≡ false = grind (arith, nat_tests) in (
         ap (λ (ps : List Pair). child_for ps key) (two_steps k n lt) ∙ (rw b (ap (λ (ps : List Pair). child_for ps key) (sym (from_step page (suc k) n lt)))),
-        ap (λ (ps : List Pair). bound_in ps key) (two_steps k n lt) ∙ (rw b (ap (λ (ps : List Pair). bound_in ps key) (sym (from_step page (suc k) n lt)))),
+        ap (λ (ps : List Pair). behind_in ps key) (two_steps k n lt) ∙ (rw b (ap (λ (ps : List Pair). behind_in ps key) (sym (from_step page (suc k) n lt)))),
       )
 
   -- there is no next entry
-  pub child_last : (k n key : ℕ) → n ≡ suc k → (child_for (pairs_from page k (n - k)) key ≡ (pair_said page k).1) × (bound_in (pairs_from page k (n - k)) key ≡ None)
-  child_last k n key e = (ap (λ (ps : List Pair). child_for ps key) (last_step k n e), ap (λ (ps : List Pair). bound_in ps key) (last_step k n e))
+  pub child_last : (k n key : ℕ) → n ≡ suc k → (child_for (pairs_from page k (n - k)) key ≡ (pair_said page k).1) × (behind_in (pairs_from page k (n - k)) key ≡ None)
+  child_last k n key e = (ap (λ (ps : List Pair). child_for ps key) (last_step k n e), ap (λ (ps : List Pair). behind_in ps key) (last_step k n e))
 
 length_from : (page : List ℕ) (i n : ℕ) → length (pairs_from page i n) ≡ n
 length_from page i zero = refl

@@ -1,8 +1,9 @@
 -- The steps of a removal from a tree.
 use Rattle.std.proofs.Common.{◌≡◌, ◌≢◌, ℕ, ◌+◌, ◌*◌, ◌%◌, ◌<◌, ◌≤◌, ◌⊎◌, inl, inr, Bool, true, false, nat_eq, List, [], ◌∷◌, ◌++◌, length, Option, Some, None, Result, Ok, Err, refl, sym, ◌∙◌, ap, subst, arith}
 use Rattle.std.specs.Prelude.{IsTrue, IfSome, if◌then◌else◌, not}
+use Rattle.std.specs.List.{AllZip}
 use Rattle.std.proofs.lemmas.Bool.{false≢true}
-use Rattle.std.proofs.lemmas.List.{append-nil, length-append}
+use Rattle.std.proofs.lemmas.List.{length-append}
 use Rattle.array_shape.specs.declared.shape.Shape.{Shape}
 use Rattle.array_shape.specs.Places.{page_count}
 use Rattle.eaw_face.specs.Command as store
@@ -15,43 +16,31 @@ use Rattle.page_store.specs.Follows.{HasRead, IsLast, one_reading}
 use Rattle.page_store.specs.Index.{Action}
 use Rattle.page_store.specs.Looks.{is_failed}
 use Rattle.page_store.specs.Pairs.{Pair}
-use Rattle.page_store.specs.Runs.{Runs, acting_of}
+use Rattle.page_store.specs.Runs.{Runs}
 use Rattle.page_store.specs.Shown.{Shown}
-use Rattle.page_store.specs.Works.{Step, front, onward, aside, acts, Limits, Spends, fronts_of, way_of, asides_of, actions_of, AreActs, ActsBy, LieIn, IsAmong, IsMet, takes_of, blamed, is_done, WorksFrom}
+use Rattle.page_store.specs.Works.{Step, front, onward, aside, acts, Limits, Spends, fronts_of, way_of, asides_of, actions_of, AreActs, ActsBy, LiesIn, IsAmong, IsMet, blamed, is_done, WorksFrom}
 use Rattle.page_store.specs.declared.fault.PageFault.{PageFault}
 use Rattle.page_store.specs.declared.fault.PageFault.TheVariants as faults
-use Rattle.index_pages.specs.Acts.{ActCause}
 use Rattle.index_pages.specs.Fetched.{TestCause}
-use Rattle.index_pages.specs.Giving.{removing_pages, removing_parts}
 use Rattle.index_pages.specs.Page.{level_said, pairs_said}
 use Rattle.index_pages.proofs.Working.{onwards, spends_none, spends_ill, spends_then, spends_onward, spends_front, spends_beside, spends_act, works_behind, works_of}
 use Rattle.btree_laws.specs.Descent.{child_for}
 use Rattle.btree_pages.specs.Downward.{below, down}
-use Rattle.btree_pages.specs.Steps.{CameDown, FailsDown, IsOnly, ReadsNamed, SaysPage, limits_down}
+use Rattle.btree_pages.specs.Steps.{CameDown, FailsDown, IsOnly, ReadsNamed, limits_down}
 use Rattle.btree_pages.specs.Writes.{joining_pages, joining_parts, leaving_pages, leaving_parts}
 use Rattle.btree_pages.specs.declared.node.Node.{Node}
 use Rattle.btree_pages.proofs.Beginning.{none_on, way_onto}
 use Rattle.btree_pages.proofs.Stepping.{leads_first, leads_on}
 
 -- the parts of the actions lie in their pages
-pub removing_in : (half : ℕ) (after : Super) (slot : ℕ) (free : Free) (page link : ℕ) (pairs : List Pair) (key : ℕ) → LieIn (removing_pages half slot page) (removing_parts half after slot free page link pairs key)
-removing_in half after slot free page link pairs key = ((slot % 8 * 64, omega arith, refl), ((0, omega arith, refl), ((8, omega arith, refl), tt)))
-
 pub joining_in : (half : ℕ) (after : Super) (slot : ℕ) (free : Free) (leaf : ℕ) (pairs : List Pair) (parent : ℕ) (entries : List Pair) (right : ℕ) (freed : Free)
-    → LieIn (joining_pages half slot leaf parent right) (joining_parts half after slot free leaf pairs parent entries right freed)
+    → AllZip LiesIn (joining_pages half slot leaf parent right) (joining_parts half after slot free leaf pairs parent entries right freed)
 joining_in half after slot free leaf pairs parent entries right freed = ((slot % 8 * 64, omega arith, refl), ((0, omega arith, refl), ((0, omega arith, refl), ((0, omega arith, refl), ((8, omega arith, refl), tt)))))
 
-pub leaving_in : (half : ℕ) (after : Super) (slot : ℕ) (free : Free) (parent : ℕ) (entries : List Pair) (leaf : ℕ) (freed : Free) → LieIn (leaving_pages half slot parent leaf) (leaving_parts half after slot free parent entries leaf freed)
+pub leaving_in : (half : ℕ) (after : Super) (slot : ℕ) (free : Free) (parent : ℕ) (entries : List Pair) (leaf : ℕ) (freed : Free) → AllZip LiesIn (leaving_pages half slot parent leaf) (leaving_parts half after slot free parent entries leaf freed)
 leaving_in half after slot free parent entries leaf freed = ((slot % 8 * 64, omega arith, refl), ((0, omega arith, refl), ((0, omega arith, refl), ((8, omega arith, refl), tt))))
 
--- a refused action blames no page, and a fault the same page whatever the call would have answered
-pub act_blames_none : (T : Type 0) (old : StoreView) (t : ℕ) (pages : List ℕ) (fault : PageFault) → (let r : Result (Unit {0}) PageFault = Err fault in ActCause old t pages r) → (let r : Result T PageFault = Err fault in blamed r ≡ None)
-act_blames_none T old t pages faults.Media cause = refl
-act_blames_none T old t pages faults.Dead cause = refl
-act_blames_none T old t pages (faults.LogFull g h n) cause = refl
-act_blames_none T old t pages faults.SavesFull cause = absurd cause
-act_blames_none T old t pages (faults.Damaged bad) cause = absurd cause
-
+-- a fault blames the same page whatever the call would have answered
 pub blamed_as : (T U : Type 0) (fault : PageFault) → (let r : Result T PageFault = Err fault in let s : Result U PageFault = Err fault in blamed r ≡ blamed s)
 blamed_as T U faults.Media = refl
 blamed_as T U faults.Dead = refl

@@ -1,5 +1,6 @@
 -- The leaf of a key, and what comes after it.
 use Rattle.std.specs.Prelude.{ℕ, ◌≡◌, ◌≢◌, ◌≤◌, nat_lt, if◌then◌else◌, List, [], ◌∷◌, Option, Some, None}
+use Rattle.std.specs.Option.{option_map}
 use Rattle.record_slots.specs.Places.{AreGiven}
 use Rattle.page_store.specs.Pairs.{Pair, Rise, InTurn, found, next}
 use Rattle.index_pages.specs.Keys.{or_else}
@@ -8,11 +9,14 @@ use Rattle.btree_laws.specs.Descent.{leaf_for}
 use Rattle.btree_laws.specs.Tree.{pairs_of_tree}
 use Rattle.btree_laws.specs.declared.root.Root.{Root}
 
--- the low key of the entry after that of the key's child
+-- the entry after that of the key's child; and its low key
+abbrev pub behind_in : List Pair → ℕ → Option Pair
+behind_in [] key = None
+behind_in (e ∷ []) key = None
+behind_in (e ∷ f ∷ es) key = if nat_lt key f.0 then Some f else behind_in (f ∷ es) key
+
 abbrev pub bound_in : List Pair → ℕ → Option ℕ
-bound_in [] key = None
-bound_in (e ∷ []) key = None
-bound_in (e ∷ f ∷ es) key = if nat_lt key f.0 then Some f.0 else bound_in (f ∷ es) key
+bound_in entries key = option_map (λ e. e.0) (behind_in entries key)
 
 -- the first pair from a bound on
 abbrev pub from_bound : Root → List ℕ → Option ℕ → Option Pair

@@ -1,6 +1,7 @@
 pub mod Index
 pub mod Node
 pub mod Leaf
+pub mod Start
 pub mod Downward
 pub mod OnWay
 pub mod Writes

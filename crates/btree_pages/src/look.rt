@@ -1,5 +1,5 @@
 // Look-ups from the root down.
-ghost use Rattle.std.specs.Prelude.{◌≡◌, ◌<◌, ◌≤◌, ◌||◌, nat_le, false, [], IfOk, IfErr, IfSome, OnOk, IsErrOf, IsTrue, length};
+ghost use Rattle.std.specs.Prelude.{◌≡◌, ◌<◌, ◌≤◌, ◌^◌, ◌↔◌, ◌||◌, nat_le, false, [], IfOk, IfErr, IfSome, OnOk, IsErrOf, IsTrue, length};
 ghost use Rattle.array_shape.specs.Places.{page_count};
 ghost use Rattle.eaw_face.specs.Causes.{IsAlive};
 ghost use Rattle.record_slots.specs.Places.{page_bytes};
@@ -12,9 +12,9 @@ ghost use Rattle.page_store.specs.Shown.{pages_of};
 ghost use Rattle.index_pages.specs.Fetched.{TestCause};
 ghost use Rattle.index_pages.specs.Page.{count_said};
 ghost use Rattle.btree_pages.specs.Downward.{Descended, Gathered, down, tree_finding, tree_nexting};
+ghost use Rattle.btree_pages.specs.Start.{Arrives, Gives, IsLater, IsStart, start_behind};
 ghost use Rattle.btree_pages.specs.Crowded.{is_crowded};
 ghost use Rattle.btree_pages.specs.Index.{tree, AreSoundTrees};
-ghost use Rattle.btree_pages.specs.Leaf.{AtLeaf, Reaches};
 ghost use Rattle.btree_pages.specs.Node.{IsNode, SaysNode};
 ghost use Rattle.btree_laws.specs.Descent.{leaf_for};
 ghost use Rattle.btree_laws.specs.Tree.{pairs_of_tree};
@@ -33,15 +33,51 @@ use page_store::{LeafPage, NextPairs, PageFault, Pages, Sought};
 // The most pages on the way from the root to a leaf.
 pub const WAY_MAX: u32 = LEVEL_MAX as u32 + 1;
 
+/// A page on the way to a key, and how many may be read from it on, as far as the leaf of the key.
+#[derive(Clone, Copy, Debug)]
+pub struct Start {
+    pub page: u32,
+    pub key: u64,
+    pub most: u32,
+}
+
 /// A leaf on the way to a key.
 #[derive(Clone, Copy, Debug)]
 pub struct Leaf {
     pub page: u32,
     pub count: u16,
-    /// The low key of what comes after it.
-    pub bound: Option<u64>,
+    /// Where the way to what comes after it leaves its own.
+    pub behind: Option<Start>,
     /// Whether it is full, or a page on the way to it.
     pub full: bool,
+}
+
+// The way to what an entry leads to begins at its child.
+fn at_entry(entry: Option<(u64, u64)>, most: u32) -> Option<Start>
+    requires small { IfSome entry (λ e. e.1 < 2 ^ 32) }
+    ensures { result ≡ start_behind most entry }
+{
+    match entry {
+        None => None,
+        Some((key, page)) => Some(Start {
+            page: page as u32,
+            key,
+            most,
+        }),
+    }
+}
+
+// Whether a child, and that of the next entry, are pages of an index of so many.
+fn are_inside(child: u64, entry: Option<(u64, u64)>, count: u32) -> bool
+    ensures { IsTrue result ↔ ((child < count) × IfSome entry (λ e. e.1 < count)) }
+{
+    if child >= u64::from(count) {
+        return false;
+    }
+    match entry {
+        None => true,
+        Some((_, page)) => page < u64::from(count),
+    }
 }
 
 // Reads a page of the tree.
@@ -71,32 +107,36 @@ pub fn read_node<S: EawStore>(
 fn descend<S: EawStore>(
     pages: &mut Pages<S>,
     root: Root,
-    key: u64,
+    start: Start,
     bytes: &mut [u8; PAGE_LEN],
 ) -> Result<Leaf, PageFault>
-    requires root { root.page < page_count (S.view pages.old.store).shape }
+    requires inside { start.page < page_count (S.view pages.old.store).shape }
+    requires some { 1 ≤ start.most }
+    requires most { start.most ≤ 8 }
     requires sound { IsTrue S.tells → IsAlive (S.view pages.old.store) → AreSoundTrees (S.view pages.old.store).state.bytes }
     requires named { IsTrue S.tells → IsAlive (S.view pages.old.store) → IsTable (S.view pages.old.store).state.bytes root.table root.page }
+    requires start { IsTrue S.tells → IsAlive (S.view pages.old.store) → IsStart root (S.view pages.old.store).state.bytes start }
     ensures looks { Looks S.tells (S.opens (S.view pages.old.store).shape) (is_failed result)
         (pages_of (S.view pages.old.store) pages.old) (pages_of (S.view pages.new.store) pages.new) }
     ensures cause { LookCause S.tells (S.view pages.old.store) result }
-    ensures walks { Walks S.tells (S.calls pages.old.store) (S.calls pages.new.store) (down root.page key) 8 (Descended key bytes.new)
+    ensures walks { Walks S.tells (S.calls pages.old.store) (S.calls pages.new.store) (down start.page start.key) start.most (Descended start.key bytes.new)
         (S.view pages.old.store) (S.view pages.new.store) result }
-    ensures leaf { IsTrue S.tells → IfOk result (λ leaf. AtLeaf root (S.view pages.old.store).state.bytes key leaf.bound bytes.new) }
+    ensures leaf { IsTrue S.tells → IfOk result (λ leaf. Arrives root (S.view pages.old.store).state.bytes start leaf.behind bytes.new) }
     ensures count { IfOk result (λ leaf. leaf.count ≡ count_said bytes.new) }
     ensures most { IfOk result (λ leaf. leaf.count ≤ 30) }
-    ensures above { IfOk result (λ leaf. IfSome leaf.bound (λ bound. key < bound)) }
-    ensures full { IsTrue S.tells → IfOk result (λ leaf. (leaf.page ≡ leaf_for (S.view pages.old.store).state.bytes root.page key)
-        × (leaf.full ≡ is_crowded (S.view pages.old.store).state.bytes root.page key)) }
+    ensures behind { IfOk result (λ leaf. IfSome leaf.behind (IsLater (S.view pages.old.store).shape start)) }
+    ensures begins { IsTrue S.tells → IfOk result (λ leaf. IfSome leaf.behind (IsStart root (S.view pages.old.store).state.bytes)) }
+    ensures page { IsTrue S.tells → IfOk result (λ leaf. leaf.page ≡ leaf_for (S.view pages.old.store).state.bytes root.page start.key) }
+    ensures full { IsTrue S.tells → start.most ≡ 8 → IfOk result (λ leaf. leaf.full ≡ is_crowded (S.view pages.old.store).state.bytes root.page start.key) }
     ensures room { IfOk result (λ leaf. leaf.full ≡ false → leaf.count < 30) }
     ensures dead { IsErrOf result PageFault.Dead → pages.new ≡ pages.old }
 {
     let count = index_page_count(pages);
-    let mut page = root.page;
+    let mut page = start.page;
     let mut last = page;
-    let mut bound = None;
+    let mut behind = None;
     let mut full = false;
-    for _step in 0..WAY_MAX {
+    for step in 0..start.most {
         let head = match read_node(pages, page, bytes) {
             Ok(head) => head,
             Err(fault) => return Err(fault),
@@ -106,17 +146,17 @@ fn descend<S: EawStore>(
             return Ok(Leaf {
                 page,
                 count: head.count,
-                bound,
+                behind,
                 full,
             });
         }
-        let (child, behind) = child_in(bytes, head.count, key);
-        if child >= u64::from(count) {
+        let (child, entry) = child_in(bytes, head.count, start.key);
+        if !are_inside(child, entry, count) {
             return Err(PageFault::Damaged { page });
         }
         last = page;
         page = child as u32;
-        bound = behind.or(bound);
+        behind = at_entry(entry, start.most - 1 - step).or(behind);
     }
     Err(PageFault::Damaged { page: last })
 }
@@ -147,8 +187,13 @@ pub fn find<S: EawStore>(
     ensures dead { IsErrOf result PageFault.Dead → pages.new ≡ pages.old }
 {
     let count = index_page_count(pages);
+    let start = Start {
+        page: root.page,
+        key,
+        most: WAY_MAX,
+    };
     let mut bytes = [0; PAGE_LEN];
-    let leaf = match descend(pages, root, key, &mut bytes) {
+    let leaf = match descend(pages, root, start, &mut bytes) {
         Ok(leaf) => leaf,
         Err(fault) => return Err(fault),
     };
@@ -181,8 +226,13 @@ pub fn find_place<S: EawStore>(
     ensures dead { IsErrOf result PageFault.Dead → pages.new ≡ pages.old }
 {
     let count = index_page_count(pages);
+    let start = Start {
+        page: root.page,
+        key,
+        most: WAY_MAX,
+    };
     let mut bytes = [0; PAGE_LEN];
-    let leaf = match descend(pages, root, key, &mut bytes) {
+    let leaf = match descend(pages, root, start, &mut bytes) {
         Ok(leaf) => leaf,
         Err(fault) => return Err(fault),
     };
@@ -206,45 +256,49 @@ pub fn find_place<S: EawStore>(
     }))
 }
 
-// The pairs of the leaf of a key from that key on, and where the next leaf begins.
+// The pairs of the leaf of a key from that key on, and where the way to the next leaf begins.
 #[derive(Drop)]
 struct Reached {
     page: u32,
     some: NextPairs,
-    bound: Option<u64>,
+    behind: Option<Start>,
 }
 
 // Finds the pairs from a key on in the leaf of that key.
-fn reach<S: EawStore>(pages: &mut Pages<S>, root: Root, from: u64) -> Result<Reached, PageFault>
-    requires root { root.page < page_count (S.view pages.old.store).shape }
+fn reach<S: EawStore>(pages: &mut Pages<S>, root: Root, start: Start) -> Result<Reached, PageFault>
+    requires inside { start.page < page_count (S.view pages.old.store).shape }
+    requires some { 1 ≤ start.most }
+    requires most { start.most ≤ 8 }
     requires sound { IsTrue S.tells → IsAlive (S.view pages.old.store) → AreSoundTrees (S.view pages.old.store).state.bytes }
     requires named { IsTrue S.tells → IsAlive (S.view pages.old.store) → IsTable (S.view pages.old.store).state.bytes root.table root.page }
+    requires start { IsTrue S.tells → IsAlive (S.view pages.old.store) → IsStart root (S.view pages.old.store).state.bytes start }
     ensures looks { Looks S.tells (S.opens (S.view pages.old.store).shape) (is_failed result)
         (pages_of (S.view pages.old.store) pages.old) (pages_of (S.view pages.new.store) pages.new) }
     ensures cause { LookCause S.tells (S.view pages.old.store) result }
-    ensures walks { Walks S.tells (S.calls pages.old.store) (S.calls pages.new.store) (down root.page from) 8 (Gathered from)
+    ensures walks { Walks S.tells (S.calls pages.old.store) (S.calls pages.new.store) (down start.page start.key) start.most (Gathered start.key)
         (S.view pages.old.store) (S.view pages.new.store) result }
-    ensures reaches { IsTrue S.tells → IfOk result (λ at. Reaches root (S.view pages.old.store).state.bytes from at.some.items at.bound) }
-    ensures inside { IfOk result (λ at. AreInside from (slots_of (S.view pages.old.store).shape) at.some.items) }
-    ensures above { IfOk result (λ at. IfSome at.bound (λ bound. from < bound)) }
+    ensures reaches { IsTrue S.tells → IfOk result (λ at. Gives root (S.view pages.old.store).state.bytes start at.some.items at.behind) }
+    ensures inside { IfOk result (λ at. AreInside start.key (slots_of (S.view pages.old.store).shape) at.some.items) }
+    ensures behind { IfOk result (λ at. IfSome at.behind (IsLater (S.view pages.old.store).shape start)) }
+    ensures begins { IsTrue S.tells → IfOk result (λ at. IfSome at.behind (IsStart root (S.view pages.old.store).state.bytes)) }
     ensures dead { IsErrOf result PageFault.Dead → pages.new ≡ pages.old }
 {
     let slots = SLOTS_IN_PAGE * index_page_count(pages);
     let mut bytes = [0; PAGE_LEN];
-    let leaf = match descend(pages, root, from, &mut bytes) {
+    let leaf = match descend(pages, root, start, &mut bytes) {
         Ok(leaf) => leaf,
         Err(fault) => return Err(fault),
     };
     let Leaf {
         page,
         count,
-        bound,
+        behind,
         ..
     } = leaf;
-    let Some(some) = rest_of(&bytes, count, from, slots) else {
+    let Some(some) = rest_of(&bytes, count, start.key, slots) else {
         return Err(PageFault::Damaged { page });
     };
-    Ok(Reached { page, some, bound })
+    Ok(Reached { page, some, behind })
 }
 
 // The pairs of a leaf from its beginning on. It is damaged if it has none.
@@ -259,7 +313,8 @@ fn begun(at: Reached) -> Result<NextPairs, PageFault>
     Ok(some)
 }
 
-// The pairs from this key on in the leaf of the key; those of the next leaf, if that one has none.
+// The pairs from this key on in the leaf of the key; those of the next leaf, if that one has none. The way there begins below the last page
+// that both ways share.
 pub fn next<S: EawStore>(
     pages: &mut Pages<S>,
     root: Root,
@@ -277,19 +332,24 @@ pub fn next<S: EawStore>(
     ensures inside { IfOk result (λ some. AreInside from (slots_of (S.view pages.old.store).shape) some.items) }
     ensures dead { IsErrOf result PageFault.Dead → pages.new ≡ pages.old }
 {
-    let at = match reach(pages, root, from) {
+    let start = Start {
+        page: root.page,
+        key: from,
+        most: WAY_MAX,
+    };
+    let at = match reach(pages, root, start) {
         Ok(at) => at,
         Err(fault) => return Err(fault),
     };
-    let Reached { some, bound, .. } = at;
+    let Reached { some, behind, .. } = at;
     if !some.is_empty() {
         return Ok(some);
     }
-    let Some(low) = bound else {
+    let Some(next_start) = behind else {
         return Ok(some);
     };
-    match reach(pages, root, low) {
-        Ok(behind) => begun(behind),
+    match reach(pages, root, next_start) {
+        Ok(later) => begun(later),
         Err(fault) => Err(fault),
     }
 }

@@ -3,7 +3,7 @@ ghost use Rattle.std.specs.Prelude.{◌≡◌, ◌<◌, ◌≤◌, IfSome, IfNon
 ghost use Rattle.page_store.specs.Pairs.{found};
 ghost use Rattle.index_pages.specs.Page.{count_said, pairs_said};
 ghost use Rattle.btree_laws.specs.Descent.{child_for};
-ghost use Rattle.btree_pages.specs.Leaf.{bound_in};
+ghost use Rattle.btree_pages.specs.Leaf.{behind_in};
 ghost use Rattle.btree_pages.specs.Node.{IsNode, SaysNode};
 
 use index_pages::{Head, PAGE_LEN, read_head, read_pair};
@@ -28,20 +28,20 @@ pub fn read_node_head(page: &[u8; PAGE_LEN]) -> Option<Head>
     Some(head)
 }
 
-// The child whose range has the key, and the low key of the next entry.
-pub fn child_in(page: &[u8; PAGE_LEN], count: u16, key: u64) -> (u64, Option<u64>)
+// The child whose range has the key, and the next entry.
+pub fn child_in(page: &[u8; PAGE_LEN], count: u16, key: u64) -> (u64, Option<(u64, u64)>)
     requires count { count ≡ count_said page.now }
     requires some { 1 ≤ count }
     requires most { count ≤ 30 }
     ensures child { result.0 ≡ child_for (pairs_said page.now) key }
-    ensures bound { result.1 ≡ bound_in (pairs_said page.now) key }
-    ensures above { IfSome result.1 (λ low. key < low) }
+    ensures behind { result.1 ≡ behind_in (pairs_said page.now) key }
+    ensures above { IfSome result.1 (λ entry. key < entry.0) }
 {
     let mut child = read_pair(page, 0).1;
     for i in 1..count {
         let (low, other) = read_pair(page, i);
         if key < low {
-            return (child, Some(low));
+            return (child, Some((low, other)));
         }
         child = other;
     }

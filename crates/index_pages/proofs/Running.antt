@@ -4,12 +4,13 @@ use Rattle.std.specs.Prelude.{IsTrue, sum}
 use Rattle.std.proofs.lemmas.List.{append-nil}
 use Rattle.std.proofs.lemmas.List.Sums.{sum_by_push}
 use Rattle.mars_base.specs.Costs.{Costs}
+use Rattle.std.specs.List.{AllZip}
 use Rattle.array_shape.specs.Logged.{Part}
 use Rattle.eaw_face.specs.Command as store
 use Rattle.eaw_face.specs.StoreView.{StoreView}
 use Rattle.page_store.specs.Command.{PageCommand, write_as, top_end}
 use Rattle.page_store.specs.Device.{device, device_cost}
-use Rattle.page_store.specs.Runs.{Runs, IsCost, AreCosts, writes_of, acting_of}
+use Rattle.page_store.specs.Runs.{Runs, IsCost, writes_of, acting_of}
 use Rattle.page_store.specs.Shown.{Shown, address, outline_of, pages_of}
 use Rattle.page_store.specs.declared.fault.PageFault.{PageFault}
 use Rattle.index_pages.specs.Parts.{parts_named}
@@ -41,7 +42,7 @@ pub split_here : (ps : List PagePart) (i : ℕ) (d : PagePart) → i < length ps
 split_here ps i d lt = ap (λ (l : List Part). parts_named (take i ps) ++ l) (sym (rest_named ps i d lt)) ∙ named_split ps i
 
 module _ {S : Type 0} (tells : Bool) (view : S → StoreView) (calls : S → store.Command → ℕ) (t : ℕ) where
-  costs_snoc : (cs : List PageCommand) (ns : List ℕ) (c : PageCommand) (n : ℕ) → AreCosts view calls cs ns → IsCost view calls c n → AreCosts view calls (cs ++ c ∷ []) (ns ++ n ∷ [])
+  costs_snoc : (cs : List PageCommand) (ns : List ℕ) (c : PageCommand) (n : ℕ) → AllZip (IsCost view calls) cs ns → IsCost view calls c n → AllZip (IsCost view calls) (cs ++ c ∷ []) (ns ++ n ∷ [])
   costs_snoc [] [] c n are is = (is, tt)
   costs_snoc [] (m ∷ ns) c n are is = absurd are
   costs_snoc (d ∷ cs) [] c n are is = absurd are
@@ -54,7 +55,7 @@ module _ {S : Type 0} (tells : Bool) (view : S → StoreView) (calls : S → sto
   -- these parts were written, and nothing else was done
   pub record Running (parts : List Part) (old new : StoreView) : Type 0 where
     pub costs : List ℕ
-    pub each : AreCosts view calls (writes_of t parts) costs
+    pub each : AllZip (IsCost view calls) (writes_of t parts) costs
     pub most : new.moment ≤ old.moment + sum costs
     pub exact : IsTrue tells → new.moment ≡ old.moment + sum costs
 
@@ -69,7 +70,7 @@ module _ {S : Type 0} (tells : Bool) (view : S → StoreView) (calls : S → sto
         let all = sum_snoc running.costs n in
         record {
           costs = running.costs ++ n ∷ [];
-          each = subst (λ (cs : List PageCommand). AreCosts view calls cs (running.costs ++ n ∷ [])) (sym (writes_append t parts (part ∷ [])))
+          each = subst (λ (cs : List PageCommand). AllZip (IsCost view calls) cs (running.costs ++ n ∷ [])) (sym (writes_append t parts (part ∷ [])))
               (costs_snoc (writes_of t parts) running.costs (write_as t part.0 part.1) n running.each (at, refl));
           most = omega (arith, all, running.most, costs.most);
           exact = λ told. omega (arith, all, running.exact told, costs.done told);

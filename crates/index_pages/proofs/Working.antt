@@ -1,5 +1,5 @@
 -- The steps of an insertion or a removal: reads, actions, and one after another.
-use Rattle.std.proofs.Common.{◌≡◌, ◌≢◌, ℕ, zero, suc, ◌+◌, ◌<◌, ◌≤◌, ◌⊎◌, inl, inr, Bool, true, false, List, [], ◌∷◌, ◌++◌, append_assoc, length, Option, Some, None, Result, Ok, Err, refl, sym, ◌∙◌, ap, subst, arith}
+use Rattle.std.proofs.Common.{◌≡◌, ◌≢◌, ℕ, zero, suc, ◌+◌, ◌*◌, ◌%◌, ◌<◌, ◌≤◌, ◌⊎◌, inl, inr, Bool, true, false, List, [], ◌∷◌, ◌++◌, append_assoc, length, Option, Some, None, Result, Ok, Err, refl, sym, ◌∙◌, ap, subst, arith}
 use Rattle.std.specs.Prelude.{IsTrue, IsFalse, IfSome, sum, map, not}
 use Rattle.std.proofs.lemmas.Bool.{false≢true}
 use Rattle.std.proofs.lemmas.List.{append-nil, length-append}
@@ -16,14 +16,21 @@ use Rattle.page_store.specs.Device.{device, device_cost}
 use Rattle.page_store.specs.Follows.{HasRead, one_reading, reads_cost}
 use Rattle.page_store.specs.Index.{Action}
 use Rattle.page_store.specs.Looks.{is_failed}
-use Rattle.page_store.specs.Runs.{Runs, IsCost, AreCosts, acting_of}
+use Rattle.page_store.specs.Runs.{Runs, IsCost, acting_of}
 use Rattle.page_store.specs.Shown.{Shown, address, outline_of, pages_of}
-use Rattle.page_store.specs.Works.{Step, front, onward, aside, acts, IsStepCost, AreStepCosts, Spends, fronts_of, way_of, asides_of, actions_of, AreActs, ActsBy, LieIn, IsAmong, IsMet, Limits, takes_of, is_done, blamed, blamed_index, WorksFrom}
+use Rattle.page_store.specs.Works.{Step, front, onward, aside, acts, IsStepCost, Spends, fronts_of, way_of, asides_of, actions_of, AreActs, ActsBy, LiesIn, IsAmong, IsMet, Limits, takes_of, is_done, blamed, blamed_index, WorksFrom}
+use Rattle.page_store.specs.Pairs.{Pair}
+use Rattle.record_slots.specs.declared.free.Free.{Free}
+use Rattle.record_slots.specs.declared.super_page.Super.{Super}
 use Rattle.page_store.specs.declared.fault.PageFault.{PageFault}
 use Rattle.page_store.specs.declared.fault.PageFault.TheVariants as faults
 use Rattle.page_store.specs.declared.index_fault.IndexFault.{IndexFault}
 use Rattle.page_store.specs.declared.index_fault.IndexFault.TheVariants as index
+use Rattle.index_pages.specs.Acts.{ActCause}
+use Rattle.index_pages.specs.Adding.{adding_pages, adding_parts}
 use Rattle.index_pages.specs.Faults.{as_index}
+use Rattle.index_pages.specs.Giving.{removing_pages, removing_parts}
+use Rattle.std.specs.List.{AllZip}
 use Rattle.index_pages.specs.Fetched.{ReadCause}
 use Rattle.index_pages.specs.Peeks.{Peeks, AreAsides}
 
@@ -99,7 +106,7 @@ abbrev pub onwards : List Reading → List Step
 onwards rs = map (λ r. onward r) rs
 
 module _ {S : Type 0} (tells : Bool) (view : S → StoreView) (calls : S → store.Command → ℕ) where
-  costs_two : (xs ys : List Step) (ns ms : List ℕ) → AreStepCosts view calls xs ns → AreStepCosts view calls ys ms → AreStepCosts view calls (xs ++ ys) (ns ++ ms)
+  costs_two : (xs ys : List Step) (ns ms : List ℕ) → AllZip (IsStepCost view calls) xs ns → AllZip (IsStepCost view calls) ys ms → AllZip (IsStepCost view calls) (xs ++ ys) (ns ++ ms)
   costs_two [] ys [] ms are are' = are'
   costs_two [] ys (n ∷ ns) ms are are' = absurd are
   costs_two (x ∷ xs) ys [] ms are are' = absurd are
@@ -134,7 +141,7 @@ module _ {S : Type 0} (tells : Bool) (view : S → StoreView) (calls : S → sto
     read_costs [] = []
     read_costs (r ∷ rs) = calls at (store.read (address r.0 0) 512) ∷ read_costs rs
 
-    read_each : (rs : List Reading) → AreStepCosts view calls (onwards rs) (read_costs rs)
+    read_each : (rs : List Reading) → AllZip (IsStepCost view calls) (onwards rs) (read_costs rs)
     read_each [] = tt
     read_each (r ∷ rs) = ((at, refl), read_each rs)
 
@@ -163,11 +170,11 @@ module _ {S : Type 0} (tells : Bool) (view : S → StoreView) (calls : S → sto
     all_costs [] = []
     all_costs (c ∷ cs) = device_cost (calls at.store) (device c (outline_of (pages_of (view at.store) at))) ∷ all_costs cs
 
-    all_each : (cs : List PageCommand) → AreCosts view calls cs (all_costs cs)
+    all_each : (cs : List PageCommand) → AllZip (IsCost view calls) cs (all_costs cs)
     all_each [] = tt
     all_each (c ∷ cs) = ((at, refl), all_each cs)
 
-    more_costs : (cs ds : List PageCommand) (ns : List ℕ) → AreCosts view calls cs ns → AreCosts view calls (cs ++ ds) (ns ++ all_costs ds)
+    more_costs : (cs ds : List PageCommand) (ns : List ℕ) → AllZip (IsCost view calls) cs ns → AllZip (IsCost view calls) (cs ++ ds) (ns ++ all_costs ds)
     more_costs [] ds [] are = all_each ds
     more_costs [] ds (n ∷ ns) are = absurd are
     more_costs (c ∷ cs) ds [] are = absurd are
@@ -179,7 +186,7 @@ module _ {S : Type 0} (tells : Bool) (view : S → StoreView) (calls : S → sto
         let whole : runs.made ≡ commands = sym (append-nil runs.made) ∙ ap (λ (l : List PageCommand). runs.made ++ l) (sym runs.all) ∙ runs.these in
         record {
           costs = sum runs.costs ∷ [];
-          each = ((runs.costs, subst (λ (cs : List PageCommand). AreCosts view calls cs runs.costs) whole runs.each, refl), tt);
+          each = ((runs.costs, subst (λ (cs : List PageCommand). AllZip (IsCost view calls) cs runs.costs) whole runs.each, refl), tt);
           most = omega (arith, runs.most);
           exact = λ told is. omega (arith, runs.exact told);
         }
@@ -187,7 +194,7 @@ module _ {S : Type 0} (tells : Bool) (view : S → StoreView) (calls : S → sto
         let all = sum_two runs.costs (all_costs runs.left) in
         record {
           costs = sum (runs.costs ++ all_costs runs.left) ∷ [];
-          each = ((runs.costs ++ all_costs runs.left, subst (λ (cs : List PageCommand). AreCosts view calls cs (runs.costs ++ all_costs runs.left)) runs.these (more_costs runs.made runs.left runs.costs runs.each), refl), tt);
+          each = ((runs.costs ++ all_costs runs.left, subst (λ (cs : List PageCommand). AllZip (IsCost view calls) cs (runs.costs ++ all_costs runs.left)) runs.these (more_costs runs.made runs.left runs.costs runs.each), refl), tt);
           most = omega (arith, all, runs.most);
           exact = λ told is. absurd (false≢true is);
         }
@@ -248,6 +255,21 @@ module _ {S : Type 0} (tells : Bool) (view : S → StoreView) (calls : S → sto
       all = all;
       taken = taken;
     }
+
+-- the parts of an insertion and of a removal in one page lie in their pages
+pub adding_in : (half : ℕ) (after : Super) (slot page link : ℕ) (pairs : List Pair) (table key : ℕ) → AllZip LiesIn (adding_pages half slot page) (adding_parts half after slot page link pairs table key)
+adding_in half after slot page link pairs table key = ((slot % 8 * 64, omega arith, refl), ((0, omega arith, refl), ((8, omega arith, refl), tt)))
+
+pub removing_in : (half : ℕ) (after : Super) (slot : ℕ) (free : Free) (page link : ℕ) (pairs : List Pair) (key : ℕ) → AllZip LiesIn (removing_pages half slot page) (removing_parts half after slot free page link pairs key)
+removing_in half after slot free page link pairs key = ((slot % 8 * 64, omega arith, refl), ((0, omega arith, refl), ((8, omega arith, refl), tt)))
+
+-- a refused action blames no page
+pub act_blames : (T : Type 0) (old : StoreView) (t : ℕ) (pages : List ℕ) (fault : PageFault) → (let r : Result (Unit {0}) PageFault = Err fault in ActCause old t pages r) → (let r : Result T PageFault = Err fault in blamed r ≡ None)
+act_blames T old t pages faults.Media cause = refl
+act_blames T old t pages faults.Dead cause = refl
+act_blames T old t pages (faults.LogFull g h n) cause = refl
+act_blames T old t pages faults.SavesFull cause = absurd cause
+act_blames T old t pages (faults.Damaged bad) cause = absurd cause
 
 -- a fault that an insertion passes on blames the same page
 pub blamed_same : (T U : Type 0) (fault : PageFault) → (let r : Result T IndexFault = Err (as_index fault) in let s : Result U PageFault = Err fault in blamed_index r ≡ blamed s)

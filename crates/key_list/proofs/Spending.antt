@@ -21,7 +21,7 @@ use Rattle.index_pages.specs.Acts.{ActCause}
 use Rattle.index_pages.specs.Adding.{adding_pages, adding_parts}
 use Rattle.index_pages.specs.Giving.{removing_pages, removing_parts}
 use Rattle.index_pages.specs.Peeks.{Peeks}
-use Rattle.index_pages.proofs.Working.{spends_none, spends_then, spends_act, asides_plain, works_behind, works_of}
+use Rattle.index_pages.proofs.Working.{adding_in, removing_in, spends_none, spends_then, spends_act, asides_plain, works_behind, works_of}
 use Rattle.key_list.specs.Along.{chain_finding}
 use Rattle.key_list.specs.Finds.{most_read, no_way}
 use Rattle.key_list.specs.Located.{cutting_pages, cutting_parts}
@@ -31,21 +31,13 @@ acted pages takes = record { pages = pages; takes = takes }
 
 -- the actions by their commands
 pub adding_by : (t mark half : ℕ) (after : Super) (slot page link : ℕ) (pairs : List Pair) (table key : ℕ) → ActsBy t (acted (adding_pages half slot page) 0) (acting_of t mark (adding_parts half after slot page link pairs table key))
-adding_by t mark half after slot page link pairs table key = (mark, adding_parts half after slot page link pairs table key, refl, ((slot % 8 * 64, omega arith, refl), ((0, omega arith, refl), ((8, omega arith, refl), tt))))
+adding_by t mark half after slot page link pairs table key = (mark, adding_parts half after slot page link pairs table key, refl, adding_in half after slot page link pairs table key)
 
 pub cutting_by : (t mark : ℕ) (after : Super) (next page link : ℕ) (pairs : List Pair) → ActsBy t (acted (cutting_pages next page) 1) (acting_of t mark (cutting_parts after next page link pairs))
 cutting_by t mark after next page link pairs = (mark, cutting_parts after next page link pairs, refl, ((0, omega arith, refl), ((0, omega arith, refl), ((8, omega arith, refl), tt))))
 
 pub removing_by : (t mark half : ℕ) (after : Super) (slot : ℕ) (free : Free) (page link : ℕ) (pairs : List Pair) (key : ℕ) → ActsBy t (acted (removing_pages half slot page) 0) (acting_of t mark (removing_parts half after slot free page link pairs key))
-removing_by t mark half after slot free page link pairs key = (mark, removing_parts half after slot free page link pairs key, refl, ((slot % 8 * 64, omega arith, refl), ((0, omega arith, refl), ((8, omega arith, refl), tt))))
-
--- a refused action blames no page
-pub act_blames : (T : Type 0) (old : StoreView) (t : ℕ) (pages : List ℕ) (fault : PageFault) → (let r : Result (Unit {0}) PageFault = Err fault in ActCause old t pages r) → (let r : Result T PageFault = Err fault in blamed r ≡ None)
-act_blames T old t pages faults.Media cause = refl
-act_blames T old t pages faults.Dead cause = refl
-act_blames T old t pages (faults.LogFull g h n) cause = refl
-act_blames T old t pages faults.SavesFull cause = absurd cause
-act_blames T old t pages (faults.Damaged bad) cause = absurd cause
+removing_by t mark half after slot free page link pairs key = (mark, removing_parts half after slot free page link pairs key, refl, removing_in half after slot free page link pairs key)
 
 -- how much an insertion may do, with a place or without
 pub limits_one : (known : Bool) (root key : ℕ) (shape : Shape) → (let l = insertion_limits known (chain_finding root key) shape in (1 ≤ l.fronts) × (most_read known shape ≤ l.way) × (1 ≤ l.asides) × (1 ≤ l.actions))

@@ -1,5 +1,6 @@
 -- Commands of pages one after another, and what they cost.
 use Rattle.std.specs.Prelude.{ℕ, ◌≡◌, ◌+◌, ◌≤◌, Bool, IsTrue, List, [], ◌∷◌, ◌++◌, sum, Result, OnOk}
+use Rattle.std.specs.List.{AllZip}
 use Rattle.eaw_face.specs.Command as store
 use Rattle.eaw_face.specs.StoreView.{StoreView}
 use Rattle.array_shape.specs.Logged.{Part}
@@ -12,12 +13,6 @@ use Rattle.page_store.specs.declared.fault.PageFault.{PageFault}
 abbrev pub IsCost : {S : Type 0} → (S → StoreView) → (S → store.Command → ℕ) → PageCommand → ℕ → Type 0
 IsCost {S} view calls command n = (at : Shown S) × (n ≡ device_cost (calls at.store) (device command (outline_of (pages_of (view at.store) at))))
 
--- so each of these commands
-abbrev pub AreCosts : {S : Type 0} → (S → StoreView) → (S → store.Command → ℕ) → List PageCommand → List ℕ → Type 0
-AreCosts view calls [] [] = Unit {0}
-AreCosts view calls (c ∷ cs) (n ∷ ns) = IsCost view calls c n × AreCosts view calls cs ns
-AreCosts view calls _ _ = ⊥
-
 -- These commands were made, one after another, or the first of them, up to one that failed, and nothing else was done: at most their calls
 -- were made, and just these at Ok, if the store tells.
 pub record Runs {S T : Type 0} (tells : Bool) (view : S → StoreView) (calls : S → store.Command → ℕ) (commands : List PageCommand) (old new : StoreView) (result : Result T PageFault) : Type 0 where
@@ -25,7 +20,7 @@ pub record Runs {S T : Type 0} (tells : Bool) (view : S → StoreView) (calls : 
   pub left : List PageCommand
   pub costs : List ℕ
   pub these : made ++ left ≡ commands
-  pub each : AreCosts view calls made costs
+  pub each : AllZip (IsCost view calls) made costs
   pub all : OnOk result (left ≡ [])
   pub most : new.moment ≤ old.moment + sum costs
   pub exact : IsTrue tells → OnOk result (new.moment ≡ old.moment + sum costs)

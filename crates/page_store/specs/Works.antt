@@ -1,5 +1,6 @@
 -- What an insertion or a removal reads, which nested top actions it makes, and what that costs.
 use Rattle.std.specs.Prelude.{ℕ, suc, ◌≡◌, ◌+◌, ◌<◌, ◌≤◌, ◌⊎◌, Bool, true, false, IsTrue, List, [], ◌∷◌, ◌++◌, length, sum, map, Option, Some, None, IfSome, Result, Ok, Err, OnOk}
+use Rattle.std.specs.List.{AllZip}
 use Rattle.array_shape.specs.Places.{page_count}
 use Rattle.array_shape.specs.declared.shape.Shape.{Shape}
 use Rattle.array_shape.specs.Logged.{Part}
@@ -8,7 +9,7 @@ use Rattle.eaw_face.specs.StoreView.{StoreView}
 use Rattle.page_store.specs.Command.{PageCommand}
 use Rattle.page_store.specs.Course.{Reading, Course, IsWay}
 use Rattle.page_store.specs.Index.{Action}
-use Rattle.page_store.specs.Runs.{AreCosts, acting_of}
+use Rattle.page_store.specs.Runs.{IsCost, acting_of}
 use Rattle.page_store.specs.Shown.{address}
 use Rattle.page_store.specs.declared.fault.PageFault.{PageFault}
 use Rattle.page_store.specs.declared.fault.PageFault.TheVariants as page
@@ -23,28 +24,18 @@ pub data Step : Type 0 where
   aside : (page at len : ℕ) → Step
   acts : (action : Action) (commands : List PageCommand) → Step
 
--- a read of so many bytes makes so many calls, where it is made
-abbrev pub IsReadCost : {S : Type 0} → (S → store.Command → ℕ) → (addr len n : ℕ) → Type 0
-IsReadCost {S} calls addr len n = (at : S) × (n ≡ calls at (store.read addr len))
-
--- so does a step; an action makes those of its commands
+-- a step makes so many calls: a read those of its command, in the state in which it is made, and an action those of its commands
 abbrev pub IsStepCost : {S : Type 0} → (S → StoreView) → (S → store.Command → ℕ) → Step → ℕ → Type 0
-IsStepCost view calls front n = IsReadCost calls (address 0 0) 512 n
-IsStepCost view calls (onward r) n = IsReadCost calls (address r.0 0) 512 n
-IsStepCost view calls (aside page at len) n = IsReadCost calls (address page at) len n
-IsStepCost view calls (acts action commands) n = (costs : List ℕ) × AreCosts view calls commands costs × (n ≡ sum costs)
-
--- so does each of these steps
-abbrev pub AreStepCosts : {S : Type 0} → (S → StoreView) → (S → store.Command → ℕ) → List Step → List ℕ → Type 0
-AreStepCosts view calls [] [] = Unit {0}
-AreStepCosts view calls (s ∷ ss) (n ∷ ns) = IsStepCost view calls s n × AreStepCosts view calls ss ns
-AreStepCosts view calls _ _ = ⊥
+IsStepCost {S} view calls front n = (made : S) × (n ≡ calls made (store.read (address 0 0) 512))
+IsStepCost {S} view calls (onward r) n = (made : S) × (n ≡ calls made (store.read (address r.0 0) 512))
+IsStepCost {S} view calls (aside page at len) n = (made : S) × (n ≡ calls made (store.read (address page at) len))
+IsStepCost view calls (acts action commands) n = (costs : List ℕ) × AllZip (IsCost view calls) commands costs × (n ≡ sum costs)
 
 -- These steps were made, the last one first, or the last one in part, and nothing else was done: at most their calls were made, and just these if
 -- it went well and the store tells.
 pub record Spends {S : Type 0} (tells well : Bool) (view : S → StoreView) (calls : S → store.Command → ℕ) (steps : List Step) (old new : StoreView) : Type 0 where
   pub costs : List ℕ
-  pub each : AreStepCosts view calls steps costs
+  pub each : AllZip (IsStepCost view calls) steps costs
   pub most : new.moment ≤ old.moment + sum costs
   pub exact : IsTrue tells → IsTrue well → new.moment ≡ old.moment + sum costs
 
@@ -72,15 +63,13 @@ actions_of [] = []
 actions_of (acts action commands ∷ ss) = actions_of ss ++ action ∷ []
 actions_of (_ ∷ ss) = actions_of ss
 
--- a part lies in each of these pages, one in each
-abbrev pub LieIn : List ℕ → List Part → Type 0
-LieIn [] [] = Unit {0}
-LieIn (page ∷ pages) (part ∷ parts) = ((at : ℕ) × (at < 512) × (part.0 ≡ address page at)) × LieIn pages parts
-LieIn _ _ = ⊥
+-- a part lies in a page
+abbrev pub LiesIn : ℕ → Part → Type 0
+LiesIn page part = (at : ℕ) × (at < 512) × (part.0 ≡ address page at)
 
 -- the commands of an action of number t: the write of a part in each of its pages, and its end
 abbrev pub ActsBy : ℕ → Action → List PageCommand → Type 0
-ActsBy t action commands = (mark : ℕ) × (parts : List Part) × (commands ≡ acting_of t mark parts) × LieIn action.pages parts
+ActsBy t action commands = (mark : ℕ) × (parts : List Part) × (commands ≡ acting_of t mark parts) × AllZip LiesIn action.pages parts
 
 -- so of each action
 abbrev pub AreActs : ℕ → List Step → Type 0

@@ -124,7 +124,8 @@ pub trait KeyIndex {
     /// stay if the insertion is refused after them.
     ///
     /// It reads the super page, the pages on the way of the key, each once, and the first of a list of what is free for each page and slot that it
-    /// takes from one. With a place, at which the data is still what it was when that was found, it reads no page of the way.
+    /// takes from one. A place is a page that an index may have, with room for one more pair (`place`), and the data is still what it was when that
+    /// was found (`fits`): with one, no page of the way is read.
     fn insert<S: EawStore>(
         pages: &mut Pages<S>,
         tid: u8,

@@ -23,7 +23,8 @@ use Rattle.index_pages.proofs.Looking.{looks_none, looks_next}
 use Rattle.btree_pages.specs.Downward.{below}
 use Rattle.btree_pages.specs.Index.{tree, tree_actions, actions_below, half_for}
 use Rattle.btree_pages.specs.Steps.{limits_above}
-use Rattle.btree_pages.proofs.Acted.{growing_in, root_half_among, act_blames}
+use Rattle.index_pages.proofs.Working.{act_blames, blamed_same}
+use Rattle.btree_pages.proofs.Acted.{growing_in, root_half_among}
 use Rattle.btree_pages.proofs.Beginning.{works_none, works_first_err, works_second_err, works_grow_err, works_grown}
 use Rattle.btree_pages.specs.Writes.{IsRead, growing_pages, growing_parts}
 use Rattle.index_pages.proofs.Claims.{free_pages_pass, next_pass}
@@ -464,7 +465,7 @@ returns-in-Err-grow_root-clause-works g c =
     (works_grow_err T V g.S.EawStore.calls t key root.page top.level top.pairs.items (tree_actions v0.store.state.bytes root.page key) c.args.pages.now.store Claim c.take_page.new.pages.store left c.in-Ok.ensures.peeks c.in-Ok.ensures.looks.shape (takes_two T E t root key v0 c.index_page_count-count.result n.count n.all n.most n.some small c.requires.sound c.requires.named c.requires.absent long c.requires.alive front c.requires.front c.requires.slot c.requires.says top.level top.pairs.items read c.requires.level c.requires.pairs c.requires.full c.if-top-eq-LEVEL_MAX.false) c.grow_root.new.pages.store c.take_page-2.new.pages right c.in-Ok-take_page.ensures.peeks (record { pages = growing_pages left.number right.number root.page; takes = 2 })
     (acting_of t (log_len v2.store t) (growing_parts right.front left.number right.number root.page top.level top.pairs.items))
     (log_len v2.store t, growing_parts right.front left.number right.number root.page top.level top.pairs.items, refl, growing_in right.front left.number right.number root.page top.level top.pairs.items) refl c.in-Err-grow_root.fault (runs (Err c.in-Err-grow_root.fault) c.in-Err-grow_root.ensures.runs)
-    (act_blames v2.store t (growing_pages left.number right.number top.page) c.in-Err-grow_root.fault c.in-Err-grow_root.ensures.acts.cause)
+    (blamed_same ℕ (Unit {0}) c.in-Err-grow_root.fault ∙ act_blames (Unit {0}) v2.store t (growing_pages left.number right.number top.page) c.in-Err-grow_root.fault c.in-Err-grow_root.ensures.acts.cause)
     (actions_below (level_of v2.store.state.bytes root.page) v2.store.state.bytes root.page (half_for (page_pairs v2.store.state.bytes root.page) (page_due v2.store.state.bytes 0) (page_due v2.store.state.bytes 1) key) 2 key)
     (root_due T E t root key v0 c.index_page_count-count.result n.count n.all n.most n.some small c.requires.sound c.requires.named c.requires.absent long c.requires.alive front c.requires.front c.requires.slot c.requires.says top.level top.pairs.items read c.requires.level c.requires.pairs c.requires.full c.if-top-eq-LEVEL_MAX.false (c.if-not-are_pages_left.ensures.0 refl) v2 looks left.number right.number left.front right.front one other))
 

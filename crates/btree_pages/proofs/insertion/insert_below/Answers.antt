@@ -1,4 +1,4 @@
-use Rattle.std.proofs.Common.{◌≡◌, ◌+◌, ◌-◌, ◌^◌, ◌<◌, ◌≤◌, ℕ, List, [], ◌∷◌, Option, Result, Ok, Err, length, false, IsTrue, refl, sym, ◌∙◌, ap, subst, arith}
+use Rattle.std.proofs.Common.{◌≡◌, ◌+◌, ◌-◌, ◌^◌, ◌<◌, ◌≤◌, ℕ, [], ◌∷◌, Option, Result, Ok, Err, length, false, IsTrue, refl, sym, ◌∙◌, ap, subst, arith}
 use Rattle.std.proofs.lemmas.Bool.{false≢true}
 use Rattle.array_shape.specs.declared.shape.Shape.{Shape}
 use Rattle.eaw_face.specs.State.{State}
@@ -25,7 +25,8 @@ use Rattle.btree_pages.specs.Index.{tree_below, actions_below, half_for}
 use Rattle.btree_pages.specs.Steps.{known_from, limits_below}
 use Rattle.btree_pages.specs.Writes.{IsRead, cutting_pages, cutting_parts}
 use Rattle.btree_pages.proofs.Stepping.{stepped_first, stepped_child, stepped_room, stepped_cut, works_stop, works_peek_err, works_act, works_read_err}
-use Rattle.btree_pages.proofs.Acted.{adding_in, cutting_in, half_among, act_blames}
+use Rattle.index_pages.proofs.Working.{act_blames, adding_in, blamed_same}
+use Rattle.btree_pages.proofs.Acted.{cutting_in, half_among}
 use Rattle.btree_pages.proofs.Below.{stands_first, sound_now, named_now, reached_now, living, look_err, then_err, living1, sound1, says1, stands_down, pages_full, cut_err, stands_cut, add_done, add_err, half_read, half_leads, rest_down, rest_due, rest_cut, rest_last}
 use Rattle.btree_pages.specs.Trees.{whole_of}
 use Rattle.index_pages.proofs.Claims.{free_pages_pass, free_slots_pass}
@@ -560,7 +561,7 @@ returns-in-Err-cut_page-clause-works g c =
     (record { pages = cutting_pages child.page taken.number at.page; takes = 1 }) (acting_of t (log_len v3.store t) (cutting_parts taken.front child.page child.level child.pairs.items taken.number at.page at.pairs.items))
     (log_len v3.store t, cutting_parts taken.front child.page child.level child.pairs.items taken.number at.page at.pairs.items, refl, cutting_in taken.front child.page child.level child.pairs.items taken.number at.page at.pairs.items)
     (actions_below child.level v3.store.state.bytes child.page (half_for (page_pairs v3.store.state.bytes child.page) child.page taken.number key) 1 key)
-    (rest_due T E t root key v0 node.page node.level (c.args.front.next_page + node.level) c.index_page_count-count.result n.count n.all n.most n.some small c.requires.table c.requires.sound c.requires.named c.requires.absent long c.requires.alive limit v1 c.loop-node.front at.page at.level at.pairs.items c.loop-node.invariant.stands v3 looks3 child.page child.level child.pairs.items c.in-Ok.ensures.child c.in-Ok.ensures.level c.in-Ok.ensures.read c.in-Ok.ensures.some c.in-Ok.ensures.pairs full (c.if-not-are_pages_left.ensures.0 refl) taken.number taken.front takes (two_some taken.number c.in-Ok-take_page.ensures.inside.0) inside after_is c.in-Ok-take_page.ensures.slots.0 c.in-Ok-take_page.ensures.slots.1) q r refl (act_blames v3.store t (cutting_pages child.page taken.number at.page) c.in-Err-cut_page.fault c.in-Err-cut_page.ensures.acts.cause) (λ told yes. absurd (false≢true yes)) c.in-Err-cut_page.ensures.runs)
+    (rest_due T E t root key v0 node.page node.level (c.args.front.next_page + node.level) c.index_page_count-count.result n.count n.all n.most n.some small c.requires.table c.requires.sound c.requires.named c.requires.absent long c.requires.alive limit v1 c.loop-node.front at.page at.level at.pairs.items c.loop-node.invariant.stands v3 looks3 child.page child.level child.pairs.items c.in-Ok.ensures.child c.in-Ok.ensures.level c.in-Ok.ensures.read c.in-Ok.ensures.some c.in-Ok.ensures.pairs full (c.if-not-are_pages_left.ensures.0 refl) taken.number taken.front takes (two_some taken.number c.in-Ok-take_page.ensures.inside.0) inside after_is c.in-Ok-take_page.ensures.slots.0 c.in-Ok-take_page.ensures.slots.1) q r refl (blamed_same ℕ (Unit {0}) c.in-Err-cut_page.fault ∙ act_blames (Unit {0}) v3.store t (cutting_pages child.page taken.number at.page) c.in-Err-cut_page.fault c.in-Err-cut_page.ensures.acts.cause) (λ told yes. absurd (false≢true yes)) c.in-Err-cut_page.ensures.runs)
 
 pub returns-in-Err-take_slot-clause-works : goal.returns-in-Err-take_slot-clause-works
 returns-in-Err-take_slot-clause-works g c =
@@ -645,4 +646,4 @@ returns-in-Err-add_pair-clause-works g c =
     (record { pages = adding_pages half slot.number at.page; takes = 0 }) (acting_of t (log_len v2.store t) (adding_parts half slot.front slot.number at.page 0 at.pairs.items root.table key))
     (log_len v2.store t, adding_parts half slot.front slot.number at.page 0 at.pairs.items root.table key, refl, adding_in half slot.front slot.number at.page 0 at.pairs.items root.table key)
     [] (λ told. rest_last T E t root key v0 node.page node.level (c.args.front.next_page + node.level) c.index_page_count-count.result n.count n.all n.most n.some small c.requires.table c.requires.sound c.requires.named c.requires.absent long c.requires.alive limit v1 c.loop-node.front at.page at.level at.pairs.items c.loop-node.invariant.stands v2 c.in-Ok-take_slot.ensures.looks bottom slot.number slot.front takes inside told ∙ ap (λ (h : ℕ). (let a : Action = record { pages = adding_pages h slot.number at.page; takes = 0 } in a) ∷ []) half_is)
-    q r refl (act_blames v2.store t (adding_pages half slot.number at.page) c.in-Err-add_pair.fault c.in-Err-add_pair.ensures.acts.cause) (λ told yes. refl) c.in-Err-add_pair.ensures.runs)
+    q r refl (blamed_same ℕ (Unit {0}) c.in-Err-add_pair.fault ∙ act_blames (Unit {0}) v2.store t (adding_pages half slot.number at.page) c.in-Err-add_pair.fault c.in-Err-add_pair.ensures.acts.cause) (λ told yes. refl) c.in-Err-add_pair.ensures.runs)

@@ -18,7 +18,7 @@ returns-then-slot-from-clause-cause g c =
     let view = g.S.EawStore.view c.args.pages.now.store in (
       c.in-Ok.ensures.cause,
       λ told.
-          let at = c.in-Ok.ensures.leaf told in
+          let at = (c.in-Ok.ensures.leaf told).1 in
           let some : found (pairs_said c.descend.new.bytes) c.args.key ≡ Some c.in-Some.slot = sym c.slot_in.ensures ∙ c.in-Some.is in
           let given = given_found view.state.bytes c.args.root.table c.args.key c.in-Some.slot (pairs_said c.descend.new.bytes) at.given some in
           omega (arith, given, (whole_of view.state.bytes (c.requires.sound told c.in-Ok.ensures.cause)).front.slots, slots_are view.shape view.state.bytes (g.met.S.EawStore.long c.args.pages.now.store told), c.index_page_count-count.ensures.all, c.if-slot-from.true, c.from.ensures),
@@ -41,7 +41,7 @@ returns-in_default g c = record {
   cause = c.in-Ok.ensures.cause;
   follows = walks_ok g.S.EawStore.tells (g.S.EawStore.calls c.args.pages.now.store) (g.S.EawStore.calls c.descend.new.pages.store) (down c.args.root.page c.args.key) (down c.args.root.page c.args.key) 8 8
       (Descended c.args.key c.descend.new.bytes) (λ slot read. slot_at c.args.key read ≡ Some slot) (g.S.EawStore.view c.args.pages.now.store) (g.S.EawStore.view c.descend.new.pages.store) (λ read way. way) (omega arith) c.in-Ok.leaf _ c.in-Ok.ensures.walks (λ read way ends. slot_is c.args.key c.descend.new.bytes c.in-Ok.leaf read ends ∙ ap Some (sym c.slot_in.ensures ∙ c.in_default.is));
-  found = λ told. sym ((c.in-Ok.ensures.leaf told).found_is ∙ sym c.slot_in.ensures ∙ c.in_default.is);
+  found = λ told. sym ((c.in-Ok.ensures.leaf told).1.found_is ∙ sym c.slot_in.ensures ∙ c.in_default.is);
   inside = tt;
   dead = λ told. no_error _ _ told;
 }

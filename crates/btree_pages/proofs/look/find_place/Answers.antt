@@ -1,4 +1,4 @@
-use Rattle.std.proofs.Common.{◌≡◌, ◌+◌, ◌<◌, ◌≤◌, ℕ, Bool, false, true, List, [], ◌∷◌, Some, length, refl, sym, ◌∙◌, ap, subst, arith}
+use Rattle.std.proofs.Common.{◌≡◌, ◌<◌, ℕ, List, [], ◌∷◌, Some, length, refl, sym, ◌∙◌, ap, subst, arith}
 use Rattle.std.proofs.lemmas.Bool.{false≢true}
 use Rattle.page_store.specs.Pairs.{Pair, found}
 use Rattle.index_pages.specs.Page.{pairs_said, level_of, page_pairs}
@@ -20,14 +20,14 @@ returns-then-slot-from-clause-cause g c =
     let view = g.S.EawStore.view c.args.pages.now.store in (
       c.in-Ok.ensures.cause,
       λ told.
-          let at = c.in-Ok.ensures.leaf told in
+          let at = (c.in-Ok.ensures.leaf told).1 in
           let some : found (pairs_said c.descend.new.bytes) c.args.key ≡ Some c.in-Some.slot = sym c.slot_in.ensures ∙ c.in-Some.is in
           let given = given_found view.state.bytes c.args.root.table c.args.key c.in-Some.slot (pairs_said c.descend.new.bytes) at.given some in
           omega (arith, given, (whole_of view.state.bytes (c.requires.sound told c.in-Ok.ensures.cause)).front.slots, slots_are view.shape view.state.bytes (g.met.S.EawStore.long c.args.pages.now.store told), c.index_page_count-count.ensures.all, c.if-slot-from.true, c.from.ensures),
     )
 
 pub returns-then-full-clause-place : goal.returns-then-full-clause-place
-returns-then-full-clause-place g c = λ told. crowded_two (g.S.EawStore.view c.args.pages.now.store).state.bytes c.args.root.page c.args.key (sym (c.in-Ok.ensures.full told).1 ∙ c.if-full.true)
+returns-then-full-clause-place g c = λ told. crowded_two (g.S.EawStore.view c.args.pages.now.store).state.bytes c.args.root.page c.args.key (sym (c.in-Ok.ensures.full told refl) ∙ c.if-full.true)
 
 pub returns-then-not-is_index_page-clause-cause : goal.returns-then-not-is_index_page-clause-cause
 returns-then-not-is_index_page-clause-cause g c =
@@ -41,7 +41,7 @@ returns-then-not-is_index_page-clause-cause g c =
           subst (λ (n : ℕ). IsTree c.args.root n (g.S.EawStore.view c.args.pages.now.store).state.bytes c.args.root.page 0 key_end) (above_all (level_of (g.S.EawStore.view c.args.pages.now.store).state.bytes c.args.root.page)) sound.2 in
           let own : IsOwn (g.S.EawStore.view c.args.pages.now.store).state.bytes (leaf_for (g.S.EawStore.view c.args.pages.now.store).state.bytes c.args.root.page c.args.key) =
           way_own root (level_of bytes root.page) 0 bytes c.args.key root.page 0 key_end sound.0 tree (omega arith) (omega arith) in
-          let here = (c.in-Ok.ensures.full told).0 in
+          let here = c.in-Ok.ensures.page told in
           let less : c.in-Ok.leaf.page < c.index_page_count-count.result = omega (arith, own.1, here, (whole_of view.state.bytes (c.requires.sound told c.in-Ok.ensures.cause)).front.pages, index_pages_are view.shape bytes (g.met.S.EawStore.long c.args.pages.now.store told), c.index_page_count-count.ensures.count) in
           false≢true (c.if-not-is_index_page.ensures.1 (omega (arith, own.0, here), less)),
     )
@@ -49,11 +49,11 @@ returns-then-not-is_index_page-clause-cause g c =
 pub returns-clause-place : goal.returns-clause-place
 returns-clause-place g c = λ told.
     let bytes = (g.S.EawStore.view c.args.pages.now.store).state.bytes in
-    let full = c.in-Ok.ensures.full told in
+    let here = c.in-Ok.ensures.page told in
     record {
-      page_is = full.0;
-      pairs_are = c.read_pairs.ensures.pairs ∙ (c.in-Ok.ensures.leaf told).pairs ∙ ap (λ (p : ℕ). page_pairs bytes p) (sym full.0);
-      alone = open_leaf bytes c.args.root.page c.args.key (sym full.1 ∙ c.if-full.false) ∙ ap (λ (p : ℕ). adding bytes p ∷ []) (sym full.0);
+      page_is = here;
+      pairs_are = c.read_pairs.ensures.pairs ∙ (c.in-Ok.ensures.leaf told).1.pairs ∙ ap (λ (p : ℕ). page_pairs bytes p) (sym here);
+      alone = open_leaf bytes c.args.root.page c.args.key (sym (c.in-Ok.ensures.full told refl) ∙ c.if-full.false) ∙ ap (λ (p : ℕ). adding bytes p ∷ []) (sym here);
     }
 
 pub returns-clause-inside : goal.returns-clause-inside

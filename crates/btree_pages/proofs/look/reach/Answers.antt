@@ -1,10 +1,9 @@
 use Rattle.btree_pages.specs.declared.look.Leaf.{Leaf}
 use Rattle.btree_pages.specs.declared.look.Reached.{Reached}
 use Rattle.btree_pages.proofs.Nexting.{no_error, other_error, not_damaged_page}
-use Rattle.std.proofs.Common.{◌≤◌, ◌*◌, ℕ, List, sym, ◌∙◌, ap, subst, arith}
-use Rattle.page_store.specs.Pairs.{Pair, AreInside, InTurn, next}
+use Rattle.std.proofs.Common.{◌≤◌, ◌*◌, ℕ, subst, arith}
+use Rattle.page_store.specs.Pairs.{AreInside}
 use Rattle.record_slots.specs.Places.{next_slot}
-use Rattle.page_store.specs.Index.{slots_of}
 use Rattle.index_pages.specs.Page.{pairs_said}
 use Rattle.index_pages.proofs.Sizes.{slots_are}
 use Rattle.index_pages.proofs.Turns.{rest_inside}
@@ -21,20 +20,21 @@ returns-in_default-clause-cause g c =
     let view = g.S.EawStore.view c.args.pages.now.store in (
       c.in-Ok.ensures.cause,
       λ told.
-          let at = c.in-Ok.ensures.leaf told in
+          let at = (c.in-Ok.ensures.leaf told).1 in
           let few : next_slot view.state.bytes ≤ (8 * c.index_page_count-slots.result) = omega (arith, (whole_of view.state.bytes (c.requires.sound told c.in-Ok.ensures.cause)).front.slots, slots_are view.shape view.state.bytes (g.met.S.EawStore.long c.args.pages.now.store told), c.index_page_count-slots.ensures.all) in
-          (rw c.in_default.is at c.rest_of.ensures.none) (rest_inside view.state.bytes c.args.root.table (8 * c.index_page_count-slots.result) at.rises.0 at.rises.1 c.args.from (pairs_said c.descend.new.bytes) at.rises.2 at.given few),
+          (rw c.in_default.is at c.rest_of.ensures.none) (rest_inside view.state.bytes c.args.root.table (8 * c.index_page_count-slots.result) at.rises.0 at.rises.1 c.args.start.key (pairs_said c.descend.new.bytes) at.rises.2 at.given few),
     )
 
 pub returns-in-Err : goal.returns-in-Err
 returns-in-Err g c = record {
   looks = c.in-Err.ensures.looks;
   cause = c.in-Err.ensures.cause;
-  walks = walks_err g.S.EawStore.tells (g.S.EawStore.calls c.args.pages.now.store) (g.S.EawStore.calls c.descend.new.pages.store) (down c.args.root.page c.args.from) (down c.args.root.page c.args.from) 8 8
-      (Descended c.args.from c.descend.new.bytes) (Gathered c.args.from) (g.S.EawStore.view c.args.pages.now.store) (g.S.EawStore.view c.descend.new.pages.store) (λ read way. way) (omega arith) c.in-Err.fault c.in-Err.ensures.walks;
+  walks = walks_err g.S.EawStore.tells (g.S.EawStore.calls c.args.pages.now.store) (g.S.EawStore.calls c.descend.new.pages.store) (down c.args.start.page c.args.start.key) (down c.args.start.page c.args.start.key) c.args.start.most c.args.start.most
+      (Descended c.args.start.key c.descend.new.bytes) (Gathered c.args.start.key) (g.S.EawStore.view c.args.pages.now.store) (g.S.EawStore.view c.descend.new.pages.store) (λ read way. way) (omega arith) c.in-Err.fault c.in-Err.ensures.walks;
   reaches = λ told. tt;
   inside = tt;
-  above = tt;
+  behind = tt;
+  begins = λ told. tt;
   dead = λ told. c.in-Err.ensures.dead (other_error Reached Leaf _ _ told);
 }
 
@@ -55,21 +55,31 @@ returns-clause-dead g c = λ told. no_error _ _ told
 
 pub returns-clause-reaches : goal.returns-clause-reaches
 returns-clause-reaches g c = λ told.
-    reaches_here c.args.root (g.S.EawStore.view c.args.pages.now.store).state.bytes c.args.from (8 * c.index_page_count-slots.result) c.in-Ok.leaf.bound c.descend.new.bytes (c.in-Ok.ensures.leaf told)
-    c.in-Some.some.items (rw c.in-Some.is at c.rest_of.ensures.rest) (rw c.in-Some.is at c.rest_of.ensures.inside)
+    let at = c.in-Ok.ensures.leaf told in (
+      at.0,
+      reaches_here c.args.root (g.S.EawStore.view c.args.pages.now.store).state.bytes c.args.start.key (8 * c.index_page_count-slots.result) at.0 c.descend.new.bytes at.1
+          c.in-Some.some.items (rw c.in-Some.is at c.rest_of.ensures.rest) (rw c.in-Some.is at c.rest_of.ensures.inside),
+      at.2,
+    )
 
 pub returns-clause-inside : goal.returns-clause-inside
 returns-clause-inside g c =
     let view = g.S.EawStore.view c.args.pages.now.store in
-    subst (λ (n : ℕ). AreInside c.args.from n c.in-Some.some.items) (omega (arith, c.index_page_count-slots.ensures.all)) (rw c.in-Some.is at c.rest_of.ensures.inside)
+    subst (λ (n : ℕ). AreInside c.args.start.key n c.in-Some.some.items) (omega (arith, c.index_page_count-slots.ensures.all)) (rw c.in-Some.is at c.rest_of.ensures.inside)
 
 pub returns-in_default-clause-walks : goal.returns-in_default-clause-walks
 returns-in_default-clause-walks g c =
-    walks_bad g.S.EawStore.tells (g.S.EawStore.calls c.args.pages.now.store) (g.S.EawStore.calls c.descend.new.pages.store) (down c.args.root.page c.args.from) (down c.args.root.page c.args.from) 8 8
-    (Descended c.args.from c.descend.new.bytes) (Gathered c.args.from) (g.S.EawStore.view c.args.pages.now.store) (g.S.EawStore.view c.descend.new.pages.store) (λ read way. way) (omega arith) c.in-Ok.leaf c.in-Ok.leaf.page c.in-Ok.ensures.walks (descended_last c.args.from c.descend.new.bytes c.in-Ok.leaf)
+    walks_bad g.S.EawStore.tells (g.S.EawStore.calls c.args.pages.now.store) (g.S.EawStore.calls c.descend.new.pages.store) (down c.args.start.page c.args.start.key) (down c.args.start.page c.args.start.key) c.args.start.most c.args.start.most
+    (Descended c.args.start.key c.descend.new.bytes) (Gathered c.args.start.key) (g.S.EawStore.view c.args.pages.now.store) (g.S.EawStore.view c.descend.new.pages.store) (λ read way. way) (omega arith) c.in-Ok.leaf c.in-Ok.leaf.page c.in-Ok.ensures.walks (descended_last c.args.start.key c.descend.new.bytes c.in-Ok.leaf)
 
 pub returns-clause-walks : goal.returns-clause-walks
 returns-clause-walks g c =
-    walks_ok g.S.EawStore.tells (g.S.EawStore.calls c.args.pages.now.store) (g.S.EawStore.calls c.descend.new.pages.store) (down c.args.root.page c.args.from) (down c.args.root.page c.args.from) 8 8
-    (Descended c.args.from c.descend.new.bytes) (Gathered c.args.from) (g.S.EawStore.view c.args.pages.now.store) (g.S.EawStore.view c.descend.new.pages.store) (λ read way. way) (omega arith) c.in-Ok.leaf _ c.in-Ok.ensures.walks
-    (λ read way ends. gathered_is c.args.from c.descend.new.bytes c.in-Ok.leaf _ read ends refl refl (rw c.in-Some.is at c.rest_of.ensures.rest))
+    walks_ok g.S.EawStore.tells (g.S.EawStore.calls c.args.pages.now.store) (g.S.EawStore.calls c.descend.new.pages.store) (down c.args.start.page c.args.start.key) (down c.args.start.page c.args.start.key) c.args.start.most c.args.start.most
+    (Descended c.args.start.key c.descend.new.bytes) (Gathered c.args.start.key) (g.S.EawStore.view c.args.pages.now.store) (g.S.EawStore.view c.descend.new.pages.store) (λ read way. way) (omega arith) c.in-Ok.leaf _ c.in-Ok.ensures.walks
+    (λ read way ends. gathered_is c.args.start.key c.descend.new.bytes c.in-Ok.leaf _ read ends refl refl (rw c.in-Some.is at c.rest_of.ensures.rest))
+
+pub returns-clause-behind : goal.returns-clause-behind
+returns-clause-behind g c = c.in-Ok.ensures.behind
+
+pub returns-clause-begins : goal.returns-clause-begins
+returns-clause-begins g c = c.in-Ok.ensures.begins

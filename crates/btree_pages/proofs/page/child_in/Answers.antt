@@ -3,7 +3,7 @@ use Rattle.page_store.specs.Pairs.{Pair}
 use Rattle.index_pages.specs.Page.{pairs_from, pair_said, count_said}
 use Rattle.index_pages.proofs.Reading.{from_first}
 use Rattle.btree_laws.specs.Descent.{child_for}
-use Rattle.btree_pages.specs.Leaf.{bound_in}
+use Rattle.btree_pages.specs.Leaf.{behind_in}
 use Rattle.btree_pages.proofs.Nodes.{child_here, child_later}
 use Rattle.btree_pages.proofs.page.child_in.Goals as goal
 
@@ -13,7 +13,7 @@ loop-i-init c =
     record {
       child = ap (λ (p : Pair). p.1) c.read_pair-child.ensures.pair;
       rest = ap (λ (m : ℕ). child_for (pairs_from c.args.page.now 0 m) c.args.key) all ∙ ap (λ (ps : List Pair). child_for ps c.args.key) (sym (from_first c.args.page.now));
-      bounds = ap (λ (m : ℕ). bound_in (pairs_from c.args.page.now 0 m) c.args.key) all ∙ ap (λ (ps : List Pair). bound_in ps c.args.key) (sym (from_first c.args.page.now));
+      bounds = ap (λ (m : ℕ). behind_in (pairs_from c.args.page.now 0 m) c.args.key) all ∙ ap (λ (ps : List Pair). behind_in ps c.args.key) (sym (from_first c.args.page.now));
     }
 
 pub returns-then-key-low-clause-child : goal.returns-then-key-low-clause-child
@@ -24,11 +24,11 @@ returns-then-key-low-clause-child c =
     ∙ sym (child_here c.args.page.now (c.loop-i.i - 1) c.args.count c.args.key (omega arith) (subst (λ (j : ℕ). c.args.key < (pair_said c.args.page.now j).0) back key)).0
     ∙ c.loop-i.invariant.rest
 
-pub returns-then-key-low-clause-bound : goal.returns-then-key-low-clause-bound
-returns-then-key-low-clause-bound c =
+pub returns-then-key-low-clause-behind : goal.returns-then-key-low-clause-behind
+returns-then-key-low-clause-behind c =
     let back : c.loop-i.i ≡ suc (c.loop-i.i - 1) = omega arith in
     let key : c.args.key < (pair_said c.args.page.now c.loop-i.i).0 = subst (λ (p : Pair). c.args.key < p.0) c.read_pair-low.ensures.pair c.if-key-low.true in
-    ap (λ (p : Pair). Some p.0) c.read_pair-low.ensures.pair ∙ ap (λ (j : ℕ). Some (pair_said c.args.page.now j).0) back
+    ap Some c.read_pair-low.ensures.pair ∙ ap (λ (j : ℕ). Some (pair_said c.args.page.now j)) back
     ∙ sym (child_here c.args.page.now (c.loop-i.i - 1) c.args.count c.args.key (omega arith) (subst (λ (j : ℕ). c.args.key < (pair_said c.args.page.now j).0) back key)).1
     ∙ c.loop-i.invariant.bounds
 
@@ -42,5 +42,5 @@ loop-i-preserved c =
     record {
       child = ap (λ (p : Pair). p.1) c.read_pair-low.ensures.pair ∙ ap (λ (j : ℕ). (pair_said c.args.page.now j).1) on;
       rest = ap (λ (j : ℕ). child_for (pairs_from c.args.page.now j (c.args.count - j)) c.args.key) next ∙ sym later.0 ∙ c.loop-i.invariant.rest;
-      bounds = ap (λ (j : ℕ). bound_in (pairs_from c.args.page.now j (c.args.count - j)) c.args.key) next ∙ sym later.1 ∙ c.loop-i.invariant.bounds;
+      bounds = ap (λ (j : ℕ). behind_in (pairs_from c.args.page.now j (c.args.count - j)) c.args.key) next ∙ sym later.1 ∙ c.loop-i.invariant.bounds;
     }

@@ -26,7 +26,8 @@ use Rattle.page_store.specs.Course.{Reading}
 use Rattle.page_store.specs.Follows.{HasRead}
 use Rattle.btree_pages.specs.Downward.{below}
 use Rattle.btree_pages.specs.Steps.{limits_down}
-use Rattle.btree_pages.proofs.Removing.{joining_in, act_blames_none, act_beside, beside_bad, beside_fails}
+use Rattle.index_pages.proofs.Working.{act_blames}
+use Rattle.btree_pages.proofs.Removing.{joining_in, act_beside, beside_bad, beside_fails}
 use Rattle.btree_pages.proofs.removal.join_right.Goals as goal
 
 pub returns-in-Err-clause-removes : goal.returns-in-Err-clause-removes
@@ -212,5 +213,5 @@ returns-in-Err-join_leaves-clause-works g c =
     ∙ ap (λ (b : List ℕ). removal_actions (tree_removal b c.args.root.page c.args.key)) (bytes_same T (E v0.store.shape) v0 v1 looks told) in
     let r : Result (Unit {0}) PageFault = Err c.in-Err-join_leaves.fault in
     let s : Result Bool PageFault = Err c.in-Err-join_leaves.fault in
-    act_beside g.S.EawStore.tells V g.S.EawStore.calls c.args.tid due (blamed s) c.args.key (c.args.parent.page ∷ []) c.args.pages.now action (acting_of c.args.tid mark parts) (mark, parts, refl, joining_in half freed.front slot.number slot.free c.args.leaf right.pairs.items parent.page c.without_place.result.items freed.number freed.free) (act_blames_none Bool v1.store c.args.tid (joining_pages half slot.number c.args.leaf parent.page freed.number) c.in-Err-join_leaves.fault c.in-Err-join_leaves.ensures.acts.cause) is
+    act_beside g.S.EawStore.tells V g.S.EawStore.calls c.args.tid due (blamed s) c.args.key (c.args.parent.page ∷ []) c.args.pages.now action (acting_of c.args.tid mark parts) (mark, parts, refl, joining_in half freed.front slot.number slot.free c.args.leaf right.pairs.items parent.page c.without_place.result.items freed.number freed.free) (act_blames Bool v1.store c.args.tid (joining_pages half slot.number c.args.leaf parent.page freed.number) c.in-Err-join_leaves.fault c.in-Err-join_leaves.ensures.acts.cause) is
     c.args.pages.now.store (g.S.EawStore.calls c.fetch_right.new.pages.store) named c.in-Ok.ensures.reads.says.0 r v1.store v2.store reads c.in-Err-join_leaves.ensures.runs

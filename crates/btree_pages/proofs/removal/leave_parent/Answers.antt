@@ -15,8 +15,8 @@ use Rattle.eaw_face.specs.StoreView.{log_len}
 use Rattle.page_store.specs.Runs.{acting_of}
 use Rattle.page_store.specs.Works.{blamed, removal_actions}
 use Rattle.std.proofs.lemmas.Bool.{false≢true}
-use Rattle.array_shape.specs.Places.{page_count}
-use Rattle.btree_pages.proofs.Removing.{leaving_in, act_blames_none, ends_none, act_alone}
+use Rattle.index_pages.proofs.Working.{act_blames}
+use Rattle.btree_pages.proofs.Removing.{leaving_in, ends_none, act_alone}
 use Rattle.btree_pages.proofs.removal.leave_parent.Goals as goal
 
 pub returns-in_default-clause-removes : goal.returns-in_default-clause-removes
@@ -114,4 +114,4 @@ returns-in-Err-clause-works g c =
     slot.number slot.free slot.front c.requires.released v1 c.requires.finds c.args.leaf parent.page parent.level parent.pairs.items c.requires.leaf_is c.requires.alone c.requires.parent c.requires.level c.requires.reached c.requires.last c.requires.several freed.free freed.front gives.1 told)) in
     let r : Result (Unit {0}) PageFault = Err c.in-Err.fault in
     let s : Result Bool PageFault = Err c.in-Err.fault in
-    act_alone g.S.EawStore.tells V g.S.EawStore.calls c.args.tid due (blamed s) c.args.key (c.args.leaf ∷ []) c.args.pages.now action (acting_of c.args.tid mark parts) (mark, parts, refl, leaving_in half freed.front slot.number slot.free parent.page c.without_end.result.items freed.number freed.free) (act_blames_none Bool v0.store c.args.tid (leaving_pages half slot.number parent.page freed.number) c.in-Err.fault c.in-Err.ensures.acts.cause) is r v0.store v1.store c.in-Err.ensures.runs
+    act_alone g.S.EawStore.tells V g.S.EawStore.calls c.args.tid due (blamed s) c.args.key (c.args.leaf ∷ []) c.args.pages.now action (acting_of c.args.tid mark parts) (mark, parts, refl, leaving_in half freed.front slot.number slot.free parent.page c.without_end.result.items freed.number freed.free) (act_blames Bool v0.store c.args.tid (leaving_pages half slot.number parent.page freed.number) c.in-Err.fault c.in-Err.ensures.acts.cause) is r v0.store v1.store c.in-Err.ensures.runs

@@ -1,4 +1,4 @@
-use Rattle.std.proofs.Common.{◌<◌, ◌^◌, arith, ◌≡◌, Bool, List, [], ◌∷◌, None, Result, Ok, Err, IsTrue, refl, sym, ap, ℕ}
+use Rattle.std.proofs.Common.{◌<◌, ◌^◌, arith, Bool, [], None, Result, Ok, Err, IsTrue, refl, sym, ap}
 use Rattle.page_store.specs.Index.{index_pages_of, Action}
 use Rattle.page_store.specs.Shown.{pages_of}
 use Rattle.index_pages.specs.Giving.{removing_pages, removing_parts}
@@ -10,7 +10,8 @@ use Rattle.page_store.specs.Runs.{acting_of}
 use Rattle.page_store.specs.Works.{blamed, removal_actions}
 use Rattle.page_store.specs.declared.fault.PageFault.{PageFault}
 use Rattle.btree_pages.specs.Index.{tree_removal}
-use Rattle.btree_pages.proofs.Removing.{removing_in, act_blames_none, act_alone}
+use Rattle.index_pages.proofs.Working.{act_blames, removing_in}
+use Rattle.btree_pages.proofs.Removing.{act_alone}
 use Rattle.btree_pages.proofs.removal.lose_pair.Goals as goal
 
 pub returns-in-Ok-clause-removes : goal.returns-in-Ok-clause-removes
@@ -76,4 +77,4 @@ returns-in-Err-clause-works g c =
     slot.number slot.free slot.front c.requires.released v1 leaf.page leaf.level leaf.pairs.items c.requires.leaf c.requires.bottom c.requires.reached c.requires.finds c.requires.more told)) in
     let r : Result (Unit {0}) PageFault = Err c.in-Err.fault in
     let s : Result Bool PageFault = Err c.in-Err.fault in
-    act_alone g.S.EawStore.tells V g.S.EawStore.calls c.args.tid due (blamed s) c.args.key [] c.args.pages.now action (acting_of c.args.tid mark parts) (mark, parts, refl, removing_in half slot.front slot.number slot.free leaf.page 0 leaf.pairs.items c.args.key) (act_blames_none Bool v0.store c.args.tid (removing_pages half slot.number leaf.page) c.in-Err.fault c.in-Err.ensures.acts.cause) is r v0.store v1.store c.in-Err.ensures.runs
+    act_alone g.S.EawStore.tells V g.S.EawStore.calls c.args.tid due (blamed s) c.args.key [] c.args.pages.now action (acting_of c.args.tid mark parts) (mark, parts, refl, removing_in half slot.front slot.number slot.free leaf.page 0 leaf.pairs.items c.args.key) (act_blames Bool v0.store c.args.tid (removing_pages half slot.number leaf.page) c.in-Err.fault c.in-Err.ensures.acts.cause) is r v0.store v1.store c.in-Err.ensures.runs

@@ -18,11 +18,11 @@ use Rattle.page_store.specs.Runs.{acting_of}
 use Rattle.page_store.specs.Works.{blamed_index, is_done}
 use Rattle.page_store.specs.declared.fault.PageFault.{PageFault}
 use Rattle.index_pages.specs.Page.{page_pairs}
-use Rattle.index_pages.proofs.Working.{blamed_same}
+use Rattle.index_pages.proofs.Working.{act_blames, blamed_same}
 use Rattle.key_list.specs.Finds.{limits_here, limits_cut}
 use Rattle.key_list.specs.Index.{chain_actions, adding, by_half}
 use Rattle.key_list.specs.Located.{cutting_parts}
-use Rattle.key_list.proofs.Spending.{acted, cutting_by, act_blames, none_done, peek_fails, act_ends, act_then}
+use Rattle.key_list.proofs.Spending.{acted, cutting_by, none_done, peek_fails, act_ends, act_then}
 use Rattle.key_list.proofs.Whole.{made_first, made_cut}
 use Rattle.key_list.proofs.insertion.insert_cut.Goals as goal
 

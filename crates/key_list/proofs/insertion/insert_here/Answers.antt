@@ -18,10 +18,10 @@ use Rattle.page_store.specs.Runs.{acting_of}
 use Rattle.page_store.specs.Works.{blamed_index}
 use Rattle.page_store.specs.declared.fault.PageFault.{PageFault}
 use Rattle.index_pages.specs.Adding.{adding_parts}
-use Rattle.index_pages.proofs.Working.{blamed_same}
+use Rattle.index_pages.proofs.Working.{act_blames, blamed_same}
 use Rattle.key_list.specs.Finds.{limits_here}
 use Rattle.key_list.specs.Index.{chain_actions}
-use Rattle.key_list.proofs.Spending.{acted, adding_by, act_blames, peek_fails, act_ends}
+use Rattle.key_list.proofs.Spending.{acted, adding_by, peek_fails, act_ends}
 use Rattle.key_list.proofs.Whole.{made_here}
 use Rattle.key_list.proofs.insertion.insert_here.Goals as goal
 

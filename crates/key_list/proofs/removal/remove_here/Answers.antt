@@ -11,7 +11,8 @@ use Rattle.page_store.specs.declared.fault.PageFault.{PageFault}
 use Rattle.index_pages.specs.Giving.{removing_pages, removing_parts}
 use Rattle.key_list.specs.Finds.{limits_here}
 use Rattle.key_list.specs.Index.{chain_removal}
-use Rattle.key_list.proofs.Spending.{acted, removing_by, act_blames, none_done, peek_none, act_ends}
+use Rattle.index_pages.proofs.Working.{act_blames}
+use Rattle.key_list.proofs.Spending.{acted, removing_by, none_done, peek_none, act_ends}
 use Rattle.key_list.proofs.Taking.{made_none, made_removing}
 use Rattle.key_list.proofs.removal.remove_here.Goals as goal
 
