@@ -1,5 +1,5 @@
 -- Work over a store that mirrors, told of the store below it.
-use Rattle.std.proofs.Common.{◌≡◌, ℕ, List, [], Bool, true, false, Result, sym, ap, subst}
+use Rattle.std.proofs.Common.{◌≡◌, ℕ, List, Bool, true, false, Result, sym, ap, subst}
 use Rattle.std.specs.Prelude.{IsTrue}
 use Rattle.array_shape.specs.declared.shape.Shape.{Shape}
 use Rattle.eaw_face.specs.Sending.{Sending}

@@ -1,9 +1,8 @@
 -- What comes of lines with frames over an array that was opened.
-use Rattle.std.proofs.Common.{◌≡◌, ℕ, ◌≤◌, List, Bool, true, false, Result, subst, arith}
+use Rattle.std.proofs.Common.{ℕ, ◌≤◌, List, Bool, true, false, Result, subst, arith}
 use Rattle.std.specs.Prelude.{IsTrue}
 use Rattle.pcm_media.specs.Images.{MayLeave}
 use Rattle.pcm_media.specs.View.{View}
-use Rattle.array_image.specs.Decided.{settled_data}
 use Rattle.eaw_face.specs.StoreView.{StoreView}
 use Rattle.eaw_device.specs.Opens.{Opens, KeepsData, Attached, HoldsArray, IsBehind}
 use Rattle.mars_core.specs.declared.fault.CoreFault.{CoreFault}

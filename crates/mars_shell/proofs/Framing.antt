@@ -1,7 +1,6 @@
 -- The lines of a script are answered by the turns of a core, with the frames that its store sends.
-use Rattle.std.proofs.Common.{◌≡◌, ◌≢◌, ◌⊎◌, ℕ, ◌+◌, ◌<◌, ◌≤◌, List, [], ◌∷◌, ◌++◌, length, map, Bool, true, false, inl, inr, refl, sym, ap, subst, ◌∙◌, arith}
+use Rattle.std.proofs.Common.{◌≡◌, ◌≢◌, ◌⊎◌, ℕ, ◌+◌, ◌<◌, List, [], ◌∷◌, ◌++◌, length, map, Bool, true, false, inl, inr, refl, sym, ap, subst, ◌∙◌, arith}
 use Rattle.std.specs.Prelude.{IsTrue, All}
-use Rattle.std.specs.List.{concat}
 use Rattle.array_shape.specs.declared.shape.Shape.{Shape}
 use Rattle.eaw_face.specs.Frame.{Frame, frame_bytes}
 use Rattle.eaw_face.specs.Mirroring.{AreInSequence, followed}
@@ -9,14 +8,13 @@ use Rattle.eaw_face.specs.StoreView.{StoreView}
 use Rattle.page_store.specs.Index.{Index}
 use Rattle.caller_steps.specs.State.{State}
 use Rattle.caller_steps.specs.Core.{CoreView}
-use Rattle.caller_steps.specs.Room.{Limits}
 use Rattle.caller_steps.specs.Run.{Turn, has_fault}
 use Rattle.caller_steps.specs.Step.{Runs}
-use Rattle.mars_core.specs.Over.{limits_of, Begins}
+use Rattle.mars_core.specs.Over.{Begins}
 use Rattle.mars_core.specs.Held.{Held, core_of}
 use Rattle.mars_manager.specs.Sharing.{CanShare}
 use Rattle.script_run.specs.Lines.{lines_of}
-use Rattle.script_run.specs.Transcript.{Ends, Answered, Ran}
+use Rattle.script_run.specs.Transcript.{Ends, Answered}
 use Rattle.script_run.specs.declared.ended.Ended.{Ended}
 use Rattle.script_run.specs.declared.ended.Ended.TheVariants.{All as Done, WriteFault, MediaFault, NoMemory}
 use Rattle.frame_lines.specs.Framed.{Framed, lines_of_frames, HasSent}
@@ -25,7 +23,7 @@ use Rattle.frame_lines.proofs.Framing.{are_some}
 use Rattle.array_runs.specs.Records.{begun_on}
 use Rattle.mars_shell.specs.OnCore.{TurnsOn}
 use Rattle.mars_shell.specs.Standing.{Progress, callers_of, HasData, line_script, Stands, Comes}
-use Rattle.mars_shell.specs.FramedRun.{framed_lines, framed_start, AnswersFramed, SendsFirst, says_framed}
+use Rattle.mars_shell.specs.FramedRun.{framed_lines, framed_start, says_framed}
 use Rattle.mars_shell.proofs.Lining.{gives_clean, stops_clean, safe_now}
 use Rattle.mars_shell.proofs.Making.{living}
 use Rattle.mars_shell.proofs.Serving.{limits_are, begun_is}

@@ -1,18 +1,15 @@
 -- A core whose store mirrors, and gives up a frame.
-use Rattle.std.proofs.Common.{◌≡◌, ℕ, ◌⊎◌, inl, ⊎_elim, Bool, List, [], ◌++◌, length, refl, sym, ap, subst, ◌∙◌, arith}
-use Rattle.std.specs.Prelude.{IsTrue, ◌↔◌}
+use Rattle.std.proofs.Common.{◌≡◌, ℕ, inl, List, [], length, refl, sym}
+use Rattle.std.specs.Prelude.{◌↔◌}
 use Rattle.std.proofs.lemmas.List.{append-nil}
 use Rattle.array_shape.specs.declared.shape.Shape.{Shape}
 use Rattle.eaw_face.specs.StoreView.{StoreView}
-use Rattle.eaw_face.specs.Mirroring.{Mirrors, GivesUp}
+use Rattle.eaw_face.specs.Mirroring.{GivesUp}
 use Rattle.page_store.specs.Index.{Index}
-use Rattle.caller_steps.specs.State.{State}
-use Rattle.caller_steps.specs.Core.{CoreView, IsSafe, Continues}
+use Rattle.caller_steps.specs.Core.{CoreView, IsSafe}
 use Rattle.caller_steps.proofs.Continuing.{continues_none}
-use Rattle.mars_core.specs.Over.{limits_of, index_of}
 use Rattle.mars_core.specs.Held.{Held, core_of, core_over, state_over}
-use Rattle.mars_core.proofs.GivingUp.{sends_none}
-use Rattle.mars_shell.specs.Standing.{Progress, IsReady, Stands, Comes}
+use Rattle.mars_shell.specs.Standing.{Progress, Stands, Comes}
 
 -- The core stands as it stood, if only what might have been left is told in another way.
 module _ (core : CoreView) (left : ℕ → List ℕ → Type 0) (same : (t : ℕ) (image : List ℕ) → left t image ↔ core.left_since t image) where

@@ -1,6 +1,6 @@
 -- What comes of work over an array that was opened.
-use Rattle.std.proofs.Common.{ℕ, ◌≤◌, List, Bool, true, false, refl, Result, Ok, Err}
-use Rattle.std.specs.Prelude.{IsTrue, IsFalse}
+use Rattle.std.proofs.Common.{ℕ, ◌≤◌, List, Bool, true, Result, Ok, Err}
+use Rattle.std.specs.Prelude.{IsTrue}
 use Rattle.pcm_media.specs.Images.{MayLeave}
 use Rattle.pcm_media.specs.View.{View}
 use Rattle.eaw_face.specs.StoreView.{StoreView}

@@ -1,6 +1,6 @@
 -- A run over an array that was opened: its records were read, and its lines answered.
 use Rattle.std.proofs.Common.{◌≡◌, ℕ, ◌≤◌, length, false, inl, inr, ⊎_elim, List, Bool, sym, ap, subst, ◌∙◌, arith}
-use Rattle.std.specs.Prelude.{IsTrue, IsFalse}
+use Rattle.std.specs.Prelude.{IsTrue}
 use Rattle.pcm_media.specs.Images.{MayLeave}
 use Rattle.pcm_media.specs.View.{View}
 use Rattle.array_shape.specs.declared.shape.Shape.{Shape}
@@ -22,7 +22,7 @@ use Rattle.mars_shell.specs.Run.{TakesTurns}
 use Rattle.mars_shell.specs.PrefixLaw.{Recovers}
 use Rattle.mars_shell.specs.Served.{opens_of, Served}
 use Rattle.array_runs.proofs.Forming.{sound_says}
-use Rattle.array_runs.proofs.Opened.{at_entry, holds, looked}
+use Rattle.array_runs.proofs.Opened.{at_entry, holds}
 
 module _ (tells : Bool) (told : IsTrue tells) (old : View) (only_now : (image : List ℕ) → IsTrue tells → old.left_since old.moment image → MayLeave old.content image)
     (store : StoreView) (attached : Attached tells old store) (keeps : KeepsData tells old store.moment store.left_since) where

@@ -1,7 +1,6 @@
 -- The work over the records of a store, from what it makes of a core.
 use Rattle.std.proofs.Common.{◌≡◌, ℕ, ◌≤◌, inl, inr, ⊎_elim, List, [], ◌++◌, length, take, Bool, false, refl, sym, ap, subst, ◌∙◌, arith}
 use Rattle.std.specs.Prelude.{IsTrue}
-use Rattle.std.proofs.lemmas.Bool.{false≢true}
 use Rattle.mars_base.proofs.Going as going
 use Rattle.array_shape.specs.declared.shape.Shape.{Shape}
 use Rattle.eaw_face.specs.StoreView.{StoreView, LeavesOnly}

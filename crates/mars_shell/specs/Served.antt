@@ -1,7 +1,6 @@
 -- What is done over a store whose records are read first.
-use Rattle.std.specs.Prelude.{ℕ, ◌≡◌, ◌≢◌, List, ◌++◌, length, Bool, IsTrue, IsFalse, Result, Ok, Err}
+use Rattle.std.specs.Prelude.{ℕ, ◌≡◌, ◌≢◌, List, ◌++◌, length, Bool, IsFalse, Result, Ok, Err}
 use Rattle.mars_base.specs.Causes.{Rose}
-use Rattle.pcm_media.specs.View.{View}
 use Rattle.array_shape.specs.declared.shape.Shape.{Shape}
 use Rattle.eaw_face.specs.Causes.{IsAlive}
 use Rattle.eaw_face.specs.StoreView.{StoreView, LeavesOnly}
@@ -22,7 +21,6 @@ use Rattle.script_run.specs.declared.ended.Ended.{Ended}
 use Rattle.script_run.specs.declared.ended.Ended.TheVariants.{MediaFault}
 use Rattle.array_runs.specs.Untaken.{Untaken}
 use Rattle.array_runs.specs.Records.{worked_on, begun_on, HasAll}
-use Rattle.mars_shell.specs.Run.{TakesTurns}
 
 -- how images of an array of this shape open with records, under an index
 abbrev pub opens_of : (Shape → List ℕ → List ℕ → Type 0) → Shape → Index → State → ℕ → List ℕ → Type 0

@@ -1,4 +1,4 @@
-use Rattle.std.proofs.Common.{ℕ, Bool, List, [], false, Result, Err, ⊎_elim, refl, sym, subst}
+use Rattle.std.proofs.Common.{ℕ, Bool, List, [], false, Result, ⊎_elim, refl, sym, subst}
 use Rattle.std.proofs.lemmas.List.{append-nil}
 use Rattle.array_runs.specs.declared.status.Status.{Status}
 use Rattle.told_commands.specs.Told.{said, Tells}
