@@ -3,3 +3,4 @@ pub mod Bytes
 pub mod Running
 pub mod Beginning
 pub mod Framing
+pub mod FrontLines

@@ -27,6 +27,7 @@ use Rattle.script_text.proofs.Numbers.{decimal_is_word}
 use Rattle.script_run.specs.Transcript.{Ends, Answered}
 use Rattle.script_run.specs.declared.ended.Ended.{Ended}
 use Rattle.script_run.specs.declared.ended.Ended.TheVariants.{All, WriteFault, MediaFault, NoMemory as Short}
+use Rattle.frame_lines.proofs.FrontLines.{head}
 use Rattle.mars_shell.specs.Lines.{LineGives, LineStops, call_script}
 
 first : List ℕ → ℕ
@@ -97,6 +98,35 @@ not_bad caller n m few is =
     let all : AllDigits 10 (decimal caller) = digits_decimal (numerals_by_value (AllDigits 10) tells_digits) caller few in
     let digit = digit_at (decimal caller) 0 all (decimal_nonempty caller few) in
     omega (arith, digit.1, ap first both.0)
+
+-- ---- how an answer begins
+
+head_of : (front rest : List ℕ) → 0 < length front → head (front ++ rest) ≡ head front
+head_of [] rest some = absurd (omega (arith, some))
+head_of (x ∷ front) rest some = refl
+
+-- a caller's line begins with a digit
+begins_with_digit : (caller : ℕ) (reply : Reply) → caller < 2 ^ 64 → head (reply_line caller reply) ≤ 57
+begins_with_digit caller reply few =
+    let all : AllDigits 10 (decimal caller) = digits_decimal (numerals_by_value (AllDigits 10) tells_digits) caller few in
+    let digit = digit_at (decimal caller) 0 all (decimal_nonempty caller few) in
+    let same : head (reply_line caller reply) ≡ head (decimal caller) = ap head (line_is caller reply) ∙ head_of (decimal caller) (32 ∷ ((reply_text reply ++ 10 ∷ []) ++ row_lines caller reply)) (decimal_nonempty caller few) in
+    omega (arith, digit.1, same)
+
+bad_begins : (n : ℕ) → head (bad_line n) ≡ 98
+unfolding bad_line
+bad_begins n = refl
+
+-- neither it nor another answer begins as the line of a frame does
+pub told_no_frame : (caller : ℕ) (reply : Reply) → caller < 2 ^ 64 → head (reply_line caller reply) ≡ 102 → ⊥
+told_no_frame caller reply few is = omega (arith, is, begins_with_digit caller reply few)
+
+pub no_frame : (callers : ℕ) → callers ≤ 2 ^ 64 → (old : List Turn) (n : ℕ) (bytes text : List ℕ) (new : List Turn) → LineGives callers old n bytes text new → head text ≡ 102 → ⊥
+no_frame callers most old n bytes text new (inl over) is = let none : head text ≡ 0 = ap head over.1 in omega (arith, is, none)
+no_frame callers most old n bytes text new (inr (inl bad)) is = let begins : head text ≡ 98 = ap head bad.1 ∙ bad_begins n in omega (arith, is, begins)
+no_frame callers most old n bytes text new (inr (inr told)) is = told_no_frame told.0 told.1 (omega (arith, most, told.2.1.0)) (ap head (sym told.4) ∙ is)
+
+-- ---- commits
 
 -- a table's reply to a call is never that of a commit
 found_is_no_commit : (o : Option (List ℕ)) (k : ℕ) → Committed k ≡ found o → ⊥

@@ -1,6 +1,7 @@
 -- The lines of a script are answered by the turns of a core, with the frames that its store sends.
-use Rattle.std.proofs.Common.{◌≡◌, ◌≢◌, ◌⊎◌, ℕ, ◌+◌, ◌<◌, List, [], ◌∷◌, ◌++◌, length, map, Bool, true, false, inl, inr, refl, sym, ap, subst, ◌∙◌, arith}
-use Rattle.std.specs.Prelude.{IsTrue, All}
+use Rattle.std.proofs.Common.{◌≡◌, ◌≢◌, ◌⊎◌, ℕ, ◌+◌, ◌<◌, ◌≤◌, ◌^◌, List, [], ◌∷◌, ◌++◌, length, map, Bool, true, false, inl, inr, refl, sym, ap, subst, ◌∙◌, arith}
+use Rattle.std.specs.Prelude.{IsTrue, All, Contains}
+use Rattle.std.specs.List.{concat}
 use Rattle.array_shape.specs.declared.shape.Shape.{Shape}
 use Rattle.eaw_face.specs.Frame.{Frame, frame_bytes}
 use Rattle.eaw_face.specs.Mirroring.{AreInSequence, followed}
@@ -13,6 +14,8 @@ use Rattle.caller_steps.specs.Step.{Runs}
 use Rattle.mars_core.specs.Over.{Begins}
 use Rattle.mars_core.specs.Held.{Held, core_of}
 use Rattle.mars_manager.specs.Sharing.{CanShare}
+use Rattle.history.specs.declared.call.Reply.TheVariants.{Committed}
+use Rattle.script_text.specs.Replies.{reply_line}
 use Rattle.script_run.specs.Lines.{lines_of}
 use Rattle.script_run.specs.Transcript.{Ends, Answered}
 use Rattle.script_run.specs.declared.ended.Ended.{Ended}
@@ -23,8 +26,10 @@ use Rattle.frame_lines.proofs.Framing.{are_some}
 use Rattle.array_runs.specs.Records.{begun_on}
 use Rattle.mars_shell.specs.OnCore.{TurnsOn}
 use Rattle.mars_shell.specs.Standing.{Progress, callers_of, HasData, line_script, Stands, Comes}
-use Rattle.mars_shell.specs.FramedRun.{framed_lines, framed_start, says_framed}
-use Rattle.mars_shell.proofs.Lining.{gives_clean, stops_clean, safe_now}
+use Rattle.mars_shell.specs.FramedRun.{framed_lines, framed_start, AnswersFramed, SendsFirst, says_framed}
+use Rattle.mars_shell.proofs.Acknowledged.{committed_kept}
+use Rattle.mars_shell.proofs.Lining.{gives_clean, stops_clean, answered_turns, safe_now}
+use Rattle.mars_shell.proofs.Unframed.{plain_of}
 use Rattle.mars_shell.proofs.Making.{living}
 use Rattle.mars_shell.proofs.Serving.{limits_are, begun_is}
 
@@ -104,6 +109,15 @@ module _ (tells : Bool) (Opens : Shape → List ℕ → List ℕ → Type 0) (in
           alive = λ unfailed. living core.limits core.state later.state last.inner.turns turned ready.alive (clean unfailed);
         }
 
+      -- the history has what was acknowledged
+      kept : (last : Framed Progress) → Comes (core_of Opens index mid held) first.inner later last.inner → (answers : List (List ℕ)) (rest : List ℕ) → Answered framed_lines first 1 (lines_of input) ended cut answers rest last
+          → (frames : List Frame) (caller n : ℕ) → caller < 2 ^ 64 → n < 2 ^ 64 → Contains answers (lines_of_frames frames ++ reply_line caller (Committed n)) → n ≤ length later.state.history
+      kept last comes answers rest answered frames caller n few fits has =
+          let most : old.shape.numbers ≤ 2 ^ 64 = let r = old.shape.in_range in omega (arith, r.most_numbers) in
+          let plain = plain_of first 1 (lines_of input) ended cut answers rest last most answered in
+          committed_kept old.shape.numbers most caller n few fits core.limits core.state later.state (lines_of input) plain.ended plain.cut plain.answers plain.rest last.inner.turns (turned last comes)
+          (answered_turns first.inner 1 (lines_of input) plain.ended plain.cut plain.answers plain.rest last.inner plain.answered) (plain.told frames caller n few has)
+
       module _ (new : StoreView) (data_is : later.state.index.bytes ≡ new.state.bytes) where
         -- the frames of the opening bring the data to that of the first state
         brought : mid.sending.is_down ≡ false → (begun_on false index old.state.bytes).index.bytes ≡ followed sent old.state.bytes
@@ -123,6 +137,7 @@ module _ (tells : Bool) (Opens : Shape → List ℕ → List ℕ → Type 0) (in
             last = ran.final;
             answered = ran.answered;
             turns_are = refl;
+            acknowledged = kept ran.final ran.comes ran.answers ran.rest ran.answered;
             whole = λ all. data_is ∙ (ran.stands all).1.data_is;
           });
         })) (λ unfailed. framed_clean first 1 (lines_of input) ended cut ran.answers ran.rest ran.final unfailed ran.answered refl)

@@ -8,6 +8,7 @@ pub mod Framing
 pub mod Below
 pub mod FramedOutcomes
 pub mod Acknowledged
+pub mod Unframed
 pub mod Forming
 pub mod Serving
 pub mod Lining

@@ -54,7 +54,7 @@ ends_turns old n line MediaFault cut rest new ends = (ends.0, ends.1.1, ends.2)
 ends_turns old n line NoMemory cut rest new ends = (ends.0, ends.1, ends.2.1)
 ends_turns old n line Done cut rest new ends = absurd ends
 
-answered_turns : (old : Progress) (n : ℕ) (lines : List (List ℕ)) (ended : Ended) (cut : Bool) (answers : List (List ℕ)) (rest : List ℕ) (new : Progress)
+pub answered_turns : (old : Progress) (n : ℕ) (lines : List (List ℕ)) (ended : Ended) (cut : Bool) (answers : List (List ℕ)) (rest : List ℕ) (new : Progress)
     → Answered line_script old n lines ended cut answers rest new → Answered (call_script (callers_of old)) old.turns n lines ended cut answers rest new.turns
 answered_turns old n [] ended cut [] rest new is = (is.0, is.1, is.2, ap (λ (progress : Progress). progress.turns) is.3)
 answered_turns old n [] ended cut (answer ∷ answers) rest new is = absurd is

@@ -1,5 +1,5 @@
 -- What a run over records does whose lines are answered with the frames that the array sends.
-use Rattle.std.specs.Prelude.{ℕ, ◌≡◌, ◌⊎◌, List, [], ◌++◌, Bool, true, false, All}
+use Rattle.std.specs.Prelude.{ℕ, ◌≡◌, ◌<◌, ◌≤◌, ◌^◌, ◌⊎◌, List, [], ◌++◌, length, Bool, true, false, All, Contains}
 use Rattle.std.specs.List.{concat}
 use Rattle.pcm_media.specs.View.{View}
 use Rattle.array_shape.specs.declared.shape.Shape.{Shape}
@@ -9,11 +9,13 @@ use Rattle.eaw_face.specs.Frame.{Frame, IsFrameIn}
 use Rattle.eaw_face.specs.Mirroring.{AreInSequence, followed}
 use Rattle.eaw_face.specs.StoreView.{StoreView}
 use Rattle.page_store.specs.Index.{Index}
+use Rattle.history.specs.declared.call.Reply.TheVariants.{Committed}
 use Rattle.caller_steps.specs.State.{State}
 use Rattle.caller_steps.specs.Room.{Limits}
 use Rattle.caller_steps.specs.Run.{Turn}
 use Rattle.mars_core.specs.Over.{limits_of}
 use Rattle.texts.specs.Written.{IsWritten}
+use Rattle.script_text.specs.Replies.{reply_line}
 use Rattle.script_run.specs.Lines.{lines_of}
 use Rattle.script_run.specs.Script.{Script}
 use Rattle.script_run.specs.Transcript.{Answered}
@@ -39,8 +41,9 @@ framed_start shape opened begun sent = record {
   frames = sent;
 }
 
--- The lines of the frames that the opening has sent were written, and then the lines of the input were answered, each with its frames. If all
--- are answered, the frames give the data at the end.
+-- The lines of the frames that the opening has sent were written, and then the lines of the input were answered, each with its frames. What
+-- was acknowledged as committed is kept: the history has at least n transactions if an answer is the whole line `c committed n` behind lines
+-- of frames. If all are answered, the frames give the data at the end.
 pub record AnswersFramed (first : Framed Progress) (input : List ℕ) (ended : Ended) (cut : Bool) (text : List ℕ) (turns : List Turn) (final : State) : Type 0 where
   pub answers : List (List ℕ)
   pub rest : List ℕ
@@ -48,6 +51,7 @@ pub record AnswersFramed (first : Framed Progress) (input : List ℕ) (ended : E
   pub last : Framed Progress
   pub answered : Answered framed_lines first 1 (lines_of input) ended cut answers rest last
   pub turns_are : last.inner.turns ≡ turns
+  pub acknowledged : (frames : List Frame) (caller n : ℕ) → caller < 2 ^ 64 → n < 2 ^ 64 → Contains answers (lines_of_frames frames ++ reply_line caller (Committed n)) → n ≤ length final.history
   pub whole : ended ≡ Done → final.index.bytes ≡ followed last.frames last.opened
 
 -- The frames that the opening has sent are in sequence from 1, and bring the data to that of the callers' first state. Their lines were written
