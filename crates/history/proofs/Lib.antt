@@ -9,5 +9,6 @@ pub mod Locking
 pub mod Counting
 pub mod Replaying
 pub mod Comparing
+pub mod ReadAgain
 pub mod Judging
 pub mod Adding

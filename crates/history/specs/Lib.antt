@@ -6,3 +6,5 @@ pub mod Log
 pub mod Locks
 pub mod Rows
 pub mod Replay
+pub mod Packed
+pub mod Told

@@ -10,9 +10,11 @@ mod copying;
 mod key;
 mod laws;
 mod locks;
+mod packing;
 mod replay;
 mod rows;
 mod transaction;
+mod unpacking;
 
 pub use call::{Call, Reply};
 pub use copying::since;
@@ -21,4 +23,5 @@ pub use laws::{logs_show_what_is_seen, others_stay_right, strict_locking, what_a
 pub use locks::{Mode, stripe_of};
 pub use replay::{is_legal, play};
 pub use rows::{Rows, Tables};
-pub use transaction::{Calls, CallsWithRoom, Done, History};
+pub use transaction::{Calls, CallsWithRoom, Done, Entries, History};
+pub use unpacking::{KeptRows, Told};

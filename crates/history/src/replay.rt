@@ -68,8 +68,10 @@ impl Replay {
         ensures { OnOk result (work_in self.new ≡ worked (begun (work_in self.old).table) calls.now) }
     {
         self.begin();
-        for (call, _) in calls.entries() {
-            self.make(call)?;
+        let mut left = calls.entries();
+        while let Some((call, _told, rest)) = left.next() {
+            self.make(&call)?;
+            left = rest;
         }
         Ok(())
     }
@@ -80,11 +82,14 @@ impl Replay {
         ensures made { IfOk result (λ right. IsTrue right → (work_in self.new).table ≡ left_by (work_in self.old).table calls.now) }
     {
         self.begin();
-        for (call, reply) in calls.entries() {
-            if !self.answers(call, reply, alloc)? {
+        let mut left = calls.entries();
+        while let Some((call, told, rest)) = left.next() {
+            let reply = told.into_reply(alloc)?;
+            if !self.answers(&call, &reply, alloc)? {
                 return Ok(false);
             }
-            self.make(call)?;
+            self.make(&call)?;
+            left = rest;
         }
         Ok(true)
     }

@@ -1,7 +1,10 @@
-use Rattle.std.proofs.Common.{◌≡◌, take}
+use Rattle.std.proofs.Common.{◌≡◌, length}
 use Rattle.history.specs.Table.{begun, worked}
 use Rattle.history.specs.Replay.{work_in}
 use Rattle.history.proofs.replay.Replay.make_all.Given as goal
 
 abbrev pub invariant-loop-call : goal.invariant-loop-call
-invariant-loop-call l = work_in l.self ≡ worked (begun (work_in l.fn.self).table) (take l.call-index l.call-items)
+invariant-loop-call l = worked (work_in l.self) l.left ≡ worked (begun (work_in l.fn.self).table) l.calls
+
+abbrev pub decreases-loop-call : goal.decreases-loop-call
+decreases-loop-call l = length l.left
