@@ -7,24 +7,7 @@ use Rattle.history.specs.Legal.{records, IsLegalFrom, IsLegal}
 use Rattle.history.specs.declared.call.Call.{Call}
 use Rattle.history.specs.declared.call.Reply.{Reply}
 use Rattle.history.specs.declared.transaction.Done.{Done}
-use Rattle.history.proofs.OneMore.{IsRightFrom-push, worked-push, IsLegal-push, records-push}
-
--- one more call that gets the right reply
-pub right-next : (work : Work) (calls : Granted) (i : ℕ) (entry : Call × Reply) → i < length calls → entry ≡ get_or calls i entry
-    → IsRightFrom work (take i calls) → Answers (worked work (take i calls)) entry.0 entry.1 → IsRightFrom work (take (i + 1) calls)
-right-next work calls i entry within at right answers =
-    subst (λ cs. IsRightFrom work cs) (ap (λ (e : Call × Reply). take i calls ++ e ∷ []) at ∙ sym (take_more calls i entry within)) (IsRightFrom-push work (take i calls) entry.0 entry.1 right answers)
-
-pub worked-next : (work : Work) (calls : Granted) (i : ℕ) (entry : Call × Reply) → i < length calls → entry ≡ get_or calls i entry
-    → worked work (take (i + 1) calls) ≡ after (worked work (take i calls)) entry.0
-worked-next work calls i entry within at =
-    ap (worked work) (take_more calls i entry within ∙ ap (λ (e : Call × Reply). take i calls ++ e ∷ []) (sym at)) ∙ worked-push work (take i calls) entry.0 entry.1
-
--- each of the calls that are right gets the right reply
-pub right_at : (work : Work) (calls : Granted) (i : ℕ) (entry : Call × Reply) → i < length calls → IsRightFrom work calls → Answers (worked work (take i calls)) (get_or calls i entry).0 (get_or calls i entry).1
-right_at work [] i entry within right = absurd (omega (arith, within))
-right_at work (first ∷ calls) zero entry within right = right.0
-right_at work (first ∷ calls) (suc i) entry within right = right_at (after work first.0) calls i entry (omega (arith, within)) right.1
+use Rattle.history.proofs.OneMore.{IsLegal-push, records-push}
 
 -- one more transaction that has the next number and is right
 pub legal-next : (base : Table) (history : List Done) (i : ℕ) (done : Done) → i < length history → done ≡ get_or history i done
@@ -52,19 +35,18 @@ pub legal_at : (base : Table) (history : List Done) (i : ℕ) (done : Done) → 
     → ((get_or history i done).at ≡ i + 1) × IsRight (records base (take i history)) (get_or history i done).calls
 legal_at base history i done within legal = let both = legal_from_at 1 base history i done within legal in (omega (arith, both.0), both.1)
 
-module _ (start : Work) (calls : Granted) (i : ℕ) (entry : Call × Reply) (within : i < length calls) (at : entry ≡ get_or calls i entry) (work : Work) (made : work ≡ worked start (take i calls)) where
-  -- As a loop over the calls has it, one more call is made,
-  pub made-next : (later : Work) → later ≡ after work entry.0 → later ≡ worked start (take (i + 1) calls)
-  made-next later is = is ∙ ap (λ (w : Work). after w entry.0) made ∙ sym (worked-next start calls i entry within at)
+module _ (work : Work) (left rest : Granted) (call : Call) (reply : Reply) (front : left ≡ (call, reply) ∷ rest) where
+  -- Where calls are right, the first gets the right reply, and those behind it are right,
+  pub right_front : IsRightFrom work left → Answers work call reply × IsRightFrom (after work call) rest
+  right_front right = subst (λ calls. IsRightFrom work calls) front right
 
-  -- which got the right reply,
-  pub stays_right : IsRightFrom start (take i calls) → Answers work entry.0 entry.1 → IsRightFrom start (take (i + 1) calls)
-  stays_right right answers = right-next start calls i entry within at right (subst (λ w. Answers w entry.0 entry.1) made answers)
+  -- and the other way round.
+  pub right_again : Answers work call reply → IsRightFrom (after work call) rest → IsRightFrom work left
+  right_again answers right = subst (λ calls. IsRightFrom work calls) (sym front) (answers, right)
 
-  -- or it did not, and the calls are not right.
-  pub is_wrong : (Answers work entry.0 entry.1 → ⊥) → IsRightFrom start calls → ⊥
-  is_wrong wrong right = wrong (subst (λ w. Answers w entry.0 entry.1) (sym made)
-      (subst (λ (e : Call × Reply). Answers (worked start (take i calls)) e.0 e.1) (sym at) (right_at start calls i entry within right)))
+  -- Made first, it leaves what those behind it come from.
+  pub made_front : worked (after work call) rest ≡ worked work left
+  made_front = sym (ap (worked work) front)
 
 module _ (base : Table) (history : List Done) (i : ℕ) (done : Done) (within : i < length history) (at : done ≡ get_or history i done) (table : Table) (made : table ≡ records base (take i history)) where
   pub left-next : (later : Table) → later ≡ left_by table done.calls → later ≡ records base (take (i + 1) history)

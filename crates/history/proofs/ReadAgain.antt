@@ -1,11 +1,12 @@
 -- What was packed is read again as it was.
-use Rattle.std.proofs.Common.{◌≡◌, ◌<◌, ◌≤◌, ◌+◌, ◌^◌, ◌++◌, [], ◌∷◌, ℕ, zero, suc, Bool, true, false, List, Unit, length, take, drop, refl, ap, sym, ◌∙◌, arith, subst}
+use Rattle.std.proofs.Common.{◌≡◌, ◌<◌, ◌≤◌, ◌+◌, ◌^◌, ◌++◌, [], ◌∷◌, ℕ, zero, suc, Bool, true, false, List, length, take, drop, refl, ap, sym, ◌∙◌, arith, subst, get_or, ◌-◌}
 use Rattle.std.specs.Prelude.{nat_eq, nat_lt, if◌then◌else◌}
 use Rattle.std.specs.List.{All, flat_map}
 use Rattle.std.specs.Int.{w64, to_le_bytes, from_le_bytes}
 use Rattle.std.proofs.lemmas.List.Elements.{All-nil, All-cons, All-head, All-tail, All-append}
 use Rattle.std.proofs.lemmas.Nat.{from_le_bytes-to_le_bytes_8}
-use Rattle.std.proofs.lemmas.List.{take_at, drop_at, append_assoc, length-append, flat_map_more}
+use Rattle.std.proofs.lemmas.List.{take_at, drop_at, take_more, append_assoc, length-append, flat_map_more}
+use Rattle.std.proofs.lemmas.Bool.{le-ltb}
 use lib.Pointwise.{pointwise}
 use Rattle.record_slots.specs.Text.{IsName, IsValue}
 use Rattle.history.specs.Key.{main_name}
@@ -15,13 +16,16 @@ use Rattle.history.specs.declared.call.Call.TheVariants.{Begin, Get, Put, Del, S
 use Rattle.history.specs.declared.call.Reply.{Reply}
 use Rattle.history.specs.declared.call.Reply.TheVariants.{Fine, Found, Absent, Listed, Saved, Committed, NoTransaction, NoTable, Already, NoSave, SavesFull, Busy, LogFull, SlotsFull, PagesFull, Media, Dead, NoMemory, Damaged}
 use Rattle.history.specs.Packed.{word, word_at, texted, text_at, kept_name, whole_name, name_at, call_bytes, get_at, put_at, del_at, scan_at, call_at, CanCall, CanRow, row_bytes, row_at, rows_at, reply_bytes, number_at, found_at, listed_at, log_full_at, reply_at, CanReply, entry_bytes, CanEnter, entries_within, entries_in, ArePacked}
-use Rattle.history.proofs.Comparing.{text_decides}
+use Rattle.history.proofs.Keys.{name_decides}
 
 pub word_read : (n : ℕ) (rest : List ℕ) → n < 2 ^ 64 → word_at (word n ++ rest) ≡ (n, rest)
 word_read n rest small =
+    let sizes : length (word n ++ rest) ≡ 8 + length rest = length-append (word n) rest in
+    let long : nat_lt (length (word n ++ rest)) 8 ≡ false = le-ltb (length (word n ++ rest)) 8 (omega (arith, sizes)) in
     let number : from_le_bytes w64 (take 8 (word n ++ rest)) ≡ n = ap (from_le_bytes w64) (take_at (word n) rest 8 refl) ∙ from_le_bytes-to_le_bytes_8 n small in
     let behind : drop 8 (word n ++ rest) ≡ rest = drop_at (word n) rest 8 refl in
-    λ i. (number i, behind i)
+    let read : (from_le_bytes w64 (take 8 (word n ++ rest)), drop 8 (word n ++ rest)) ≡ (n, rest) = λ i. (number i, behind i) in
+    ap (λ (b : Bool). if b then (0, word n ++ rest) else (from_le_bytes w64 (take 8 (word n ++ rest)), drop 8 (word n ++ rest))) long ∙ read
 
 pub text_read : (text rest : List ℕ) → text_at (texted text ++ rest) ≡ (text, rest)
 text_read text rest = λ i. (take_at text rest (length text) refl i, drop_at text rest (length text) refl i)
@@ -35,7 +39,7 @@ name_whole : (name : List ℕ) → IsName name → whole_name (kept_name name) �
 name_whole name is = go (pointwise nat_eq name main_name) refl
   where
     go : (b : Bool) → pointwise nat_eq name main_name ≡ b → whole_name (if b then [] else name) ≡ name
-    go true same = sym ((text_decides name main_name).0 same)
+    go true same = sym ((name_decides name main_name).0 same)
     go false other = whole_some name is.some
 
 name_read : (name rest : List ℕ) → IsName name → name_at (texted (kept_name name) ++ rest) ≡ (name, rest)
@@ -207,3 +211,79 @@ more_packed bytes more entry packed can is =
       whole = is ∙ more_bytes bytes entry packed ∙ ap (flat_map entry_bytes) (sym same);
       able = subst (λ (es : List (Call × Reply)). All CanEnter es) (sym same) (more_able bytes entry packed can);
     }
+
+-- so many rows are read
+pub count_rows : (n : ℕ) (bytes : List ℕ) → length (rows_at n bytes).0 ≡ n
+count_rows zero bytes = refl
+count_rows (suc n) bytes = ap suc (count_rows n (row_at bytes).1)
+
+-- the first row, and those behind it
+pub rows_some : (n : ℕ) (bytes : List ℕ) → 0 < n → (rows_at n bytes).0 ≡ (row_at bytes).0 ∷ (rows_at (n - 1) (row_at bytes).1).0
+rows_some zero bytes some = absurd (omega (arith, some))
+rows_some (suc n) bytes some =
+    let less : n ≡ suc n - 1 = omega arith in
+    ap (λ (m : ℕ). (row_at bytes).0 ∷ (rows_at m (row_at bytes).1).0) less
+
+-- what is behind one row more
+pub behind_more : (n row : ℕ) (bytes rest : List ℕ) → row < n → rest ≡ (row_at bytes).1 → (rows_at (n - (row + 1)) rest).1 ≡ (rows_at (n - row) bytes).1
+behind_more n row bytes rest less is =
+    let step : n - row ≡ suc (n - (row + 1)) = omega (arith, less) in
+    ap (λ (b : List ℕ). (rows_at (n - (row + 1)) b).1) is ∙ sym (ap (λ (m : ℕ). (rows_at m bytes).1) step)
+
+-- one row more is written
+pub row_written : (old was now head : List ℕ) (rows : List Row) (i : ℕ) (row : Row) → i < length rows → row ≡ get_or rows i row
+    → was ≡ old ++ (head ++ flat_map row_bytes (take i rows)) → now ≡ was ++ row_bytes row → now ≡ old ++ (head ++ flat_map row_bytes (take (i + 1) rows))
+row_written old was now head rows i row less at before step =
+    let more : take i rows ++ row ∷ [] ≡ take (i + 1) rows = ap (λ (r : Row). take i rows ++ r ∷ []) at ∙ sym (take_more rows i row less) in
+    step ∙ ap (λ (b : List ℕ). b ++ row_bytes row) before ∙ append_assoc old (head ++ flat_map row_bytes (take i rows)) (row_bytes row)
+    ∙ ap (λ (b : List ℕ). old ++ b) (append_assoc head (flat_map row_bytes (take i rows)) (row_bytes row))
+    ∙ ap (λ (b : List ℕ). old ++ (head ++ b)) (flat_map_more row_bytes [] (take i rows) row ∙ ap (flat_map row_bytes) more)
+
+pub row_can : (rows : List Row) (i : ℕ) (row : Row) → i < length rows → row ≡ get_or rows i row → All CanRow (take i rows) → CanRow row → All CanRow (take (i + 1) rows)
+row_can rows i row less at before can =
+    let more : take i rows ++ row ∷ [] ≡ take (i + 1) rows = ap (λ (r : Row). take i rows ++ r ∷ []) at ∙ sym (take_more rows i row less) in
+    subst (λ (rs : List Row). All CanRow rs) more (All-append CanRow (take i rows) (row ∷ []) before (All-cons CanRow row [] can (All-nil CanRow)))
+
+-- the three numbers of a full log are written
+pub log_full_written : (old first second third : List ℕ) (l h n logger held needed : ℕ) → l ≡ logger → h ≡ held → n ≡ needed
+    → first ≡ old ++ 12 ∷ word l → second ≡ first ++ word h → third ≡ second ++ word n → third ≡ old ++ reply_bytes (LogFull logger held needed)
+log_full_written old first second third l h n logger held needed ls hs ns one two three =
+    let head : List ℕ = 12 ∷ word logger in
+    let all : third ≡ old ++ head ++ word held ++ word needed =
+    three ∙ ap (λ (b : List ℕ). b ++ word n) (two ∙ ap (λ (b : List ℕ). b ++ word h) one) ∙ (λ i. (old ++ 12 ∷ word (ls i)) ++ word (hs i) ++ word (ns i)) in
+    all ∙ append_assoc (old ++ head) (word held) (word needed) ∙ append_assoc old head (word held ++ word needed) ∙ ap (λ (b : List ℕ). old ++ b) (sym (append_assoc head (word held) (word needed)))
+
+-- what stands at the front of packed bytes: an entry, and behind it packed bytes
+pub record Front (bytes : List ℕ) : Type 0 where
+  pub entry : Call × Reply
+  pub rest : List ℕ
+  pub can : CanEnter entry
+  pub call : call_at bytes ≡ (entry.0, reply_bytes entry.1 ++ rest)
+  pub reply : reply_at (reply_bytes entry.1 ++ rest) ≡ (entry.1, rest)
+  pub packed : ArePacked rest
+  pub all : entries_in bytes ≡ entry ∷ entries_in rest
+
+pub front_of : (bytes : List ℕ) → ArePacked bytes → 0 < length bytes → Front bytes
+front_of bytes packed some = go (entries_in bytes) refl
+  where
+    go : (es : List (Call × Reply)) → entries_in bytes ≡ es → Front bytes
+    go [] is =
+        let none : bytes ≡ [] = packed.whole ∙ ap (flat_map entry_bytes) is in
+        let short : length bytes ≡ 0 = ap (λ (b : List ℕ). length b) none in
+        absurd (omega (arith, some, short))
+    go (first ∷ es) is =
+        let able : All CanEnter (first ∷ es) = subst (λ (xs : List (Call × Reply)). All CanEnter xs) is packed.able in
+        let behind : List ℕ = flat_map entry_bytes es in
+        let whole : bytes ≡ entry_bytes first ++ behind = packed.whole ∙ ap (flat_map entry_bytes) is in
+        let first_can : CanEnter first = All-head CanEnter first es able in
+        let others : All CanEnter es = All-tail CanEnter first es able in
+        let theirs : entries_in behind ≡ es = packed_of es others in
+        record {
+          entry = first;
+          rest = behind;
+          can = first_can;
+          call = ap call_at (whole ∙ append_assoc (call_bytes first.0) (reply_bytes first.1) behind) ∙ call_read first.0 (reply_bytes first.1 ++ behind) first_can.0;
+          reply = reply_read first.1 behind first_can.1;
+          packed = record { whole = ap (flat_map entry_bytes) (sym theirs); able = subst (λ (xs : List (Call × Reply)). All CanEnter xs) (sym theirs) others };
+          all = is ∙ ap (λ (xs : List (Call × Reply)). first ∷ xs) (sym theirs);
+        }

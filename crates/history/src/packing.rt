@@ -2,7 +2,7 @@
 ghost use Rattle.std.specs.Prelude.{◌≡◌, ◌+◌, ◌<◌, ◌≤◌, ◌∷◌, ◌++◌, ◌^◌, [], IsFalse, length, List, ℕ, vec_capacity, OnOk, OnErr};
 ghost use Rattle.record_slots.specs.Text.{IsName, IsValue};
 ghost use Rattle.history.specs.Writes.{Row};
-ghost use Rattle.history.specs.Packed.{word, texted, kept_name, call_bytes, CanCall, row_bytes, reply_bytes, CanReply, is_listed, entries_in, ArePacked};
+ghost use Rattle.history.specs.Packed.{word, texted, kept_name, call_bytes, CanCall, CanRow, row_bytes, reply_bytes, CanReply, is_listed, entries_in, ArePacked};
 ghost use Rattle.history.specs.declared.call.Reply.TheVariants.{Found, Listed, LogFull};
 
 use crate::{Call, Reply};
@@ -48,7 +48,11 @@ fn kept(name: &Name) -> &[u8]
     ensures name { IsName name.now }
 {
     let text = name.as_bytes();
-    if text == b"main".as_slice() { &[] } else { text }
+    if text == b"main".as_slice() {
+        &[]
+    } else {
+        text
+    }
 }
 
 // A kind, the name of a table, and a number.
@@ -102,6 +106,7 @@ fn append_call(bytes: &mut Vec<u8>, call: &Call)
 
 fn append_row(bytes: &mut Vec<u8>, key: u64, value: &Value) -> Result<(), NoMemory>
     ensures ok { OnOk result (bytes.new.items ≡ bytes.old.items ++ row_bytes (key, value.now)) }
+    ensures able { OnOk result (CanRow (key, value.now)) }
     ensures err { OnErr result (bytes.new.items ≡ bytes.old.items) }
 {
     bytes.reserve(ROW_MOST)?;

@@ -2,5 +2,5 @@ use Rattle.std.proofs.Common.{◌≡◌, ◌-◌}
 use Rattle.history.specs.Packed.{rows_at}
 use Rattle.history.proofs.unpacking.behind_rows.Given as goal
 
-abbrev pub invariant-loop-_row : goal.invariant-loop-_row
-invariant-loop-_row l = (rows_at (l.count - l._row) l.rest).1 ≡ (rows_at l.count l.bytes).1
+abbrev pub invariant-loop-row : goal.invariant-loop-row
+invariant-loop-row l = (rows_at (l.count - l.row) l.rest).1 ≡ (rows_at l.count l.bytes).1
