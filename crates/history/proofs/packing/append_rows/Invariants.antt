@@ -1,4 +1,4 @@
-use Rattle.std.proofs.Common.{◌≡◌, ◌++◌, ◌∷◌, length, take, List, ℕ}
+use Rattle.std.proofs.Common.{◌≡◌, ◌++◌, ◌∷◌, length, take}
 use Rattle.std.specs.List.{All, flat_map}
 use Rattle.history.specs.Packed.{word, row_bytes, CanRow}
 use Rattle.history.proofs.packing.append_rows.Given as goal

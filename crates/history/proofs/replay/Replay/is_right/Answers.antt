@@ -13,7 +13,7 @@ returns-then-not-branch-clause-right c =
     let call = c.in-Some.call in (
       λ never. absurd (false≢true never),
       λ right. absurd (both_ways c.in_ok-answers.field-0 c.if-not-branch.true (c.in_ok-answers.ensures.1
-          (subst (λ (r : Reply). Answers work call r) (sym c.in_ok-into_reply.ensures)
+          (subst (λ (r : Reply). Answers work call r) (sym c.in_ok-reply.ensures)
           (right_front work c.loop-call.left c.in-Some.rest call (told_reply c.in-Some.told) c.in-Some.ensures (c.loop-call.invariant.right.1 right)).0))),
     )
 
@@ -29,7 +29,7 @@ loop-call-preserved c =
       made = ap (λ (w : Work). worked w rest) c.in_ok-make.ensures ∙ made_front work left rest call told front ∙ c.loop-call.invariant.made;
       right = (
         λ right. c.loop-call.invariant.right.0 (right_again work left rest call told front
-            (subst (λ (r : Reply). Answers work call r) c.in_ok-into_reply.ensures (c.in_ok-answers.ensures.0 c.if-not-branch.false))
+            (subst (λ (r : Reply). Answers work call r) c.in_ok-reply.ensures (c.in_ok-answers.ensures.0 c.if-not-branch.false))
             (subst (λ (w : Work). IsRightFrom w rest) c.in_ok-make.ensures right)),
         λ all. subst (λ (w : Work). IsRightFrom w rest) (sym c.in_ok-make.ensures) (right_front work left rest call told front (c.loop-call.invariant.right.1 all)).1,
       );

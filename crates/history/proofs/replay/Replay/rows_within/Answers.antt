@@ -1,5 +1,4 @@
-use Rattle.std.proofs.Common.{ap, sym, ◌∙◌, ◌++◌, List, append-nil}
-use Rattle.history.specs.Key.{Key}
+use Rattle.std.proofs.Common.{ap, sym, ◌∙◌, ◌++◌, append-nil}
 use Rattle.history.proofs.Replaying.{entries_of, listed}
 use Rattle.history.proofs.replay.Replay.rows_within.Goals as goal
 
