@@ -7,8 +7,5 @@ pub mod Pending
 pub mod Saves
 pub mod Locking
 pub mod Counting
-pub mod Replaying
-pub mod Comparing
 pub mod ReadAgain
-pub mod Judging
 pub mod Adding

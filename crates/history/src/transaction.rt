@@ -83,7 +83,7 @@ impl Calls {
 }
 
 /// Calls that are kept, each with its reply, from some one on.
-#[derive(Debug, Drop)]
+#[derive(Drop)]
 pub struct Entries<'a> {
     bytes: &'a [u8],
 }
@@ -116,7 +116,7 @@ impl<'a> Entries<'a> {
 }
 
 /// The granted calls of a transaction, each with its reply, with room for one more.
-#[derive(Debug, Drop)]
+#[derive(Drop)]
 pub struct CallsWithRoom {
     bytes: Vec<u8>,
 }

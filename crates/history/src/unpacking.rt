@@ -11,7 +11,7 @@ use std::alloc::Global;
 use std::marker::Model;
 
 /// Rows of a scan that are kept among other bytes.
-#[derive(Debug, Drop)]
+#[derive(Drop)]
 pub struct KeptRows<'a> {
     count: u64,
     bytes: &'a [u8],
@@ -71,7 +71,7 @@ impl<'a> KeptRows<'a> {
 }
 
 /// A reply that is kept: the rows of a scan, or another reply.
-#[derive(Debug, Drop)]
+#[derive(Drop)]
 pub enum Told<'a> {
     Rows(KeptRows<'a>),
     Plain(Reply),
