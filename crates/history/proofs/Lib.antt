@@ -7,7 +7,5 @@ pub mod Pending
 pub mod Saves
 pub mod Locking
 pub mod Counting
-pub mod Replaying
-pub mod Comparing
-pub mod Judging
+pub mod ReadAgain
 pub mod Adding

@@ -5,4 +5,5 @@ pub mod Legal
 pub mod Log
 pub mod Locks
 pub mod Rows
-pub mod Replay
+pub mod Packed
+pub mod Told

@@ -1,4 +1,4 @@
-ghost use Rattle.std.specs.Prelude.{◌≡◌, [], ◌∷◌, ◌++◌, IfOk, OnOk, OnErr};
+ghost use Rattle.std.specs.Prelude.{◌≡◌, [], ◌∷◌, ◌++◌, OnOk, OnErr};
 ghost use Rattle.history.specs.Key.{of_table};
 ghost use Rattle.history.specs.Rows.{is_same_row, are_same_rows, records_in};
 
@@ -36,15 +36,6 @@ impl Rows {
     {
         self.rows.push((key, value))?;
         Ok(())
-    }
-
-    /// A copy of the records.
-    pub fn copy(&self) -> Result<Rows, NoMemory>
-        ensures { IfOk result (λ copy. copy ≡ self.now) }
-    {
-        Ok(Rows {
-            rows: self.rows.clone()?,
-        })
     }
 
     pub fn as_slice(&self) -> &[(u64, Value)]

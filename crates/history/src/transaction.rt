@@ -1,25 +1,31 @@
-ghost use Rattle.std.specs.Prelude.{◌≡◌, ◌↔◌, ◌<◌, [], ◌∷◌, ◌++◌, length, vec_len, vec_capacity, IsNone, OnOk, OnErr, IfOk, IfErr};
-ghost use Rattle.std.specs.Option.{option_to_list};
+ghost use Rattle.std.specs.Prelude.{◌≡◌, [], ◌∷◌, ◌++◌, List, IfOk, IfErr, OnOk, OnErr, MatchOption};
+ghost use Rattle.history.specs.Writes.{Row};
+ghost use Rattle.history.specs.Told.{told_reply};
 
+use crate::packing::{MOST, append_entry};
+use crate::unpacking::{Told, read_call, read_told};
 use crate::{Call, Reply};
 use mars_base::{Listed, NoMemory};
-use std::alloc::{AllocError, Global};
+use std::alloc::Global;
 use std::marker::Model;
 
-/// The granted calls of a transaction, each with its reply.
+/// The granted calls of a transaction, each with its reply, one behind the other in one run of bytes.
 #[derive(Debug, Drop)]
 pub struct Calls {
-    entries: Vec<(Call, Reply)>,
+    bytes: Vec<u8>,
 }
 
 impl Model for Calls {
     ghost use Rattle.std.specs.Prelude.{List};
     ghost use Rattle.history.specs.declared.call.Call.{Call};
     ghost use Rattle.history.specs.declared.call.Reply.{Reply};
+    ghost use Rattle.history.specs.Packed.{entries_in, ArePacked};
 
     ghost Value = { List (Call × Reply) };
 
-    ghost view = { λ c. c.entries.items };
+    ghost view = { λ c. entries_in c.bytes.items };
+
+    ghost invariant = { λ c. ArePacked c.bytes.items };
 }
 
 impl Calls {
@@ -27,7 +33,7 @@ impl Calls {
         ensures { result ≡ [] }
     {
         Calls {
-            entries: Vec::new(alloc),
+            bytes: Vec::new(alloc),
         }
     }
 
@@ -35,9 +41,8 @@ impl Calls {
         ensures ok { OnOk result (self.new ≡ self.old ++ (call, reply) ∷ []) }
         ensures err { OnErr result (self.new ≡ self.old) }
     {
-        reserve_one(&mut self.entries)?;
-        self.entries.push((call, reply))?;
-        Ok(())
+        self.bytes.reserve(MOST)?;
+        append_entry(&mut self.bytes, &call, &reply)
     }
 
     /// The same with room for one more call, or as they are if there is no memory for it.
@@ -45,66 +50,110 @@ impl Calls {
         ensures ok { IfOk result (λ calls. calls ≡ self) }
         ensures err { IfErr result (λ calls. calls ≡ self) }
     {
-        let Calls { mut entries } = self;
-        match reserve_one(&mut entries) {
-            Ok(()) => Ok(CallsWithRoom { entries }),
-            Err(_) => Err(Calls { entries }),
+        let Calls { mut bytes } = self;
+        match bytes.reserve(MOST) {
+            Ok(()) => Ok(CallsWithRoom { bytes }),
+            Err(_) => Err(Calls { bytes }),
         }
     }
 
-    pub fn entries(&self) -> &[(Call, Reply)]
-        ensures { result.now ≡ self.now }
+    /// The same without the room that is not needed.
+    pub fn fitted(self) -> Calls
+        ensures { result ≡ self }
     {
-        &self.entries
+        let Calls { mut bytes } = self;
+        bytes.shrink_to_fit();
+        Calls { bytes }
+    }
+
+    /// A copy of the calls.
+    pub fn copy(&self) -> Result<Calls, NoMemory>
+        ensures { IfOk result (λ copy. copy ≡ self.now) }
+    {
+        Ok(Calls {
+            bytes: self.bytes.clone()?,
+        })
+    }
+
+    pub fn entries(&self) -> Entries<'_>
+        ensures { result ≡ self.now }
+    {
+        Entries { bytes: &self.bytes }
     }
 }
 
-// Many transactions have one call, so the first takes room for itself only. `Vec` would take room for four.
-fn reserve_one(entries: &mut Vec<(Call, Reply)>) -> Result<(), AllocError>
-    ensures items { entries.new.items ≡ entries.old.items }
-    ensures room { OnOk result (vec_len entries.new < vec_capacity entries.new) }
-{
-    if entries.is_empty() {
-        return entries.reserve_exact(1);
-    }
-    entries.reserve(1)
+/// Calls that are kept, each with its reply, from some one on.
+#[derive(Drop)]
+pub struct Entries<'a> {
+    bytes: &'a [u8],
 }
 
-/// The granted calls of a transaction, each with its reply, with room for one more.
-#[derive(Debug, Drop)]
-pub struct CallsWithRoom {
-    entries: Vec<(Call, Reply)>,
-}
-
-impl Model for CallsWithRoom {
-    ghost use Rattle.std.specs.Prelude.{List, ◌<◌, vec_len, vec_capacity};
+impl<'a> Model for Entries<'a> {
+    ghost use Rattle.std.specs.Prelude.{List};
     ghost use Rattle.history.specs.declared.call.Call.{Call};
     ghost use Rattle.history.specs.declared.call.Reply.{Reply};
+    ghost use Rattle.history.specs.Packed.{entries_in, ArePacked};
 
     ghost Value = { List (Call × Reply) };
 
-    ghost view = { λ c. c.entries.items };
+    ghost view = { λ e. entries_in e.bytes.now };
 
-    ghost invariant = { λ c. vec_len c.entries < vec_capacity c.entries };
+    ghost invariant = { λ e. ArePacked e.bytes.now };
+}
+
+impl<'a> Entries<'a> {
+    /// The first call with its reply, and those behind it.
+    pub fn next(&self) -> Option<(Call, Told<'a>, Entries<'a>)>
+        ensures { MatchOption result (self.now ≡ []) (λ p. self.now ≡ (p.0, told_reply p.1) ∷ p.2) }
+    {
+        if self.bytes.is_empty() {
+            return None;
+        }
+        let (call, rest) = read_call(self.bytes);
+        let (told, behind) = read_told(rest);
+        Some((call, told, Entries { bytes: behind }))
+    }
+}
+
+/// The granted calls of a transaction, each with its reply, with room for one more.
+#[derive(Drop)]
+pub struct CallsWithRoom {
+    bytes: Vec<u8>,
+}
+
+impl Model for CallsWithRoom {
+    ghost use Rattle.std.specs.Prelude.{List, ◌+◌, ◌≤◌, length, vec_capacity};
+    ghost use Rattle.history.specs.declared.call.Call.{Call};
+    ghost use Rattle.history.specs.declared.call.Reply.{Reply};
+    ghost use Rattle.history.specs.Packed.{entries_in, ArePacked, HasRoom};
+
+    ghost Value = { List (Call × Reply) };
+
+    ghost view = { λ c. entries_in c.bytes.items };
+
+    ghost invariant = { λ c. HasRoom c.bytes.items (vec_capacity c.bytes) };
 }
 
 impl CallsWithRoom {
-    /// The calls with this one, in the room that there is.
-    #[inline]
-    pub fn push(self, call: Call, reply: Reply) -> Calls
-        ensures { result ≡ self ++ (call, reply) ∷ [] }
+    /// The calls with this one, in the room that there is, or as they are. Only the rows of a scan can lack memory.
+    pub fn push(self, call: &Call, reply: &Reply) -> Result<Calls, Calls>
+        ensures ok { IfOk result (λ calls. calls ≡ self ++ (call.now, reply.now) ∷ []) }
+        ensures err { IfErr result (λ calls. calls ≡ self) }
+        ensures listed { OnErr result ((rows : List Row) × (reply.now ≡ Reply.Listed rows)) }
     {
-        let CallsWithRoom { mut entries } = self;
-        let _pushed = entries.push((call, reply));
-        Calls { entries }
+        let CallsWithRoom { mut bytes } = self;
+        match append_entry(&mut bytes, call, reply) {
+            Ok(()) => Ok(Calls { bytes }),
+            Err(_) => Err(Calls { bytes }),
+        }
     }
 
     /// The calls as they are.
     pub fn into_calls(self) -> Calls
         ensures { result ≡ self }
     {
-        let CallsWithRoom { entries } = self;
-        Calls { entries }
+        let CallsWithRoom { bytes } = self;
+        Calls { bytes }
     }
 }
 

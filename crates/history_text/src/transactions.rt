@@ -6,7 +6,7 @@ ghost use Rattle.script_text.specs.Replies.{reply_line};
 ghost use Rattle.history_text.specs.Text.{done_lines};
 
 use history::{Calls, Done, History};
-use script_text::put_reply;
+use script_text::put_kept;
 use texts::{Piece, TextOut, put_pieces};
 
 /// Puts the lines of each transaction.
@@ -45,8 +45,10 @@ fn put_head<E, T: TextOut<E>>(out: &mut T, done: &Done) -> Result<(), E>
 fn put_replies<E, T: TextOut<E>>(out: &mut T, caller: u8, calls: &Calls) -> Result<(), E>
     ensures { Appends T.tells (T.view out.old) (T.view out.new) result (flat_map (λ entry. reply_line caller entry.1) calls.now) }
 {
-    for (_, reply) in calls.entries() {
-        put_reply(out, caller, reply)?;
+    let mut left = calls.entries();
+    while let Some((_call, told, rest)) = left.next() {
+        put_kept(out, caller, &told)?;
+        left = rest;
     }
     Ok(())
 }

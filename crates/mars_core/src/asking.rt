@@ -13,7 +13,7 @@ ghost use Rattle.mars_core.specs.Works.{Works, HasSaves, IsSaveRefusal, Unmade, 
 use crate::live::Live;
 use crate::locks::Locks;
 use crate::masks::Masks;
-use crate::replies::{copy_of, found, removed};
+use crate::replies::{found, removed};
 use crate::seats::Seats;
 use crate::table_call::TableCall;
 use eaw_face::EawStore;
@@ -138,16 +138,12 @@ pub fn answer<S: EawStore, K: KeyIndex>(
         return (Live { calls, masks }, Reply::Busy { holder });
     }
     match work(alloc, records, caller, table, asked) {
-        Ok(reply) => match copy_of(&reply) {
-            Ok(kept) => {
-                let calls = calls.push(*call, kept);
+        Ok(reply) => match calls.push(call, &reply) {
+            Ok(calls) => {
                 let masks = masks.merged(Masks::touched_by(seats.names(), call));
                 (Live { calls, masks }, reply)
             }
-            Err(_) => {
-                let calls = calls.into_calls();
-                (Live { calls, masks }, Reply::NoMemory)
-            }
+            Err(calls) => (Live { calls, masks }, Reply::NoMemory),
         },
         Err(fault) => {
             let calls = calls.into_calls();

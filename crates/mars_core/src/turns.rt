@@ -256,6 +256,7 @@ impl<S: EawStore, K: KeyIndex> Core<S, K> {
             return Reply::NoTransaction;
         };
         let Live { calls, masks } = live;
+        let calls = calls.fitted();
         // The history takes the transaction first, so that nothing is committed that there is no memory to keep.
         match self.history.push(Done { caller, calls, at }) {
             Ok(()) => {}

@@ -6,7 +6,8 @@ ghost use Rattle.history.specs.Rows.{table_of, records_in};
 ghost use Rattle.history.specs.Writes.{rows_of};
 ghost use Rattle.mars_shell.specs.MainRows.{rows_among};
 
-use history::{History, Rows, Tables, main_table, play};
+use history::{History, Rows, Tables, main_table};
+use history_replay::play;
 use mars_base::NoMemory;
 use record_slots::Name;
 use std::alloc::Global;

@@ -1,4 +1,5 @@
 pub mod ReplyLemmas
+pub mod LeftPieces
 pub mod Words
 pub mod Numbers
 pub mod Lines

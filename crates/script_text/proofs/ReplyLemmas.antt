@@ -49,3 +49,8 @@ bad_line_is n = simp append_assoc
 pub media_line_is : (caller : ℕ) → reply_line caller Media ≡ numbered_media_line caller
 unfolding reply_line
 media_line_is caller = append-nil (told_line caller media_fault) ∙ append_assoc (decimal caller) (32 ∷ media_fault) (10 ∷ [])
+
+-- the line that counts rows
+pub rows_pieces : (caller count : ℕ) (number many : List ℕ) → number ≡ decimal caller → many ≡ decimal count
+    → number ++ (codes " rows " ++ (many ++ 10 ∷ [])) ≡ told_line caller (codes "rows " ++ decimal count)
+rows_pieces caller count number many first second = rw (first, second) (simp append_assoc)

@@ -27,4 +27,4 @@ pub use joint_line::{JointLine, read_joint_line};
 pub use laws::{media_reply_line, one_line, one_raw_line};
 pub use lent::{BLOCK, Lent};
 pub use line::{Line, read_line};
-pub use reply::{put_reply, put_reply_text, write_bad_line, write_reply};
+pub use reply::{put_kept, put_reply, put_reply_text, write_bad_line, write_reply};

@@ -1,8 +1,9 @@
 ghost use Rattle.std.specs.Prelude.{◌≡◌, [], ◌∷◌, ◌++◌, codes, decimal, OnOk, OnErr};
+ghost use Rattle.history.specs.Told.{told_reply};
 ghost use Rattle.texts.specs.Written.{Appends};
 ghost use Rattle.script_text.specs.Replies.{reply_text, told_line, row_lines, reply_line, bad_line};
 
-use history::Reply;
+use history::{KeptRows, Reply, Told};
 use mars_base::NoMemory;
 use record_slots::Value;
 use texts::{MEDIA_FAULT, Piece, TextOut, append_pieces, put_number, put_pieces};
@@ -29,6 +30,48 @@ pub fn put_reply<E, T: TextOut<E>>(out: &mut T, caller: u8, reply: &Reply) -> Re
         Reply::Listed(rows) => put_rows(out, caller, rows.as_slice()),
         _ => Ok(()),
     }
+}
+
+/// Puts the lines of a reply that a history keeps.
+pub fn put_kept<E, T: TextOut<E>>(out: &mut T, caller: u8, told: &Told<'_>) -> Result<(), E>
+    ensures { Appends T.tells (T.view out.old) (T.view out.new) result (reply_line caller (told_reply told.now)) }
+{
+    match told {
+        Told::Plain(reply) => put_reply(out, caller, reply),
+        Told::Rows(rows) => put_listed(out, caller, rows),
+    }
+}
+
+fn put_listed<E, T: TextOut<E>>(out: &mut T, caller: u8, rows: &KeptRows<'_>) -> Result<(), E>
+    ensures { Appends T.tells (T.view out.old) (T.view out.new) result (reply_line caller (Reply.Listed rows.now)) }
+{
+    put_rows_head(out, caller, rows.len())?;
+    put_kept_rows(out, caller, rows.all())
+}
+
+fn put_rows_head<E, T: TextOut<E>>(out: &mut T, caller: u8, count: u64) -> Result<(), E>
+    ensures { Appends T.tells (T.view out.old) (T.view out.new) result (told_line caller (codes "rows " ++ decimal count)) }
+{
+    put_pieces(
+        out,
+        &[
+            Piece::Number(u64::from(caller)),
+            Piece::Words(b" rows "),
+            Piece::Number(count),
+            Piece::Words(b"\n"),
+        ],
+    )
+}
+
+fn put_kept_rows<E, T: TextOut<E>>(out: &mut T, caller: u8, rows: KeptRows<'_>) -> Result<(), E>
+    ensures { Appends T.tells (T.view out.old) (T.view out.new) result (row_lines caller (Reply.Listed rows)) }
+{
+    let mut left = rows;
+    while let Some((key, value, rest)) = left.next() {
+        put_row(out, caller, key, &value)?;
+        left = rest;
+    }
+    Ok(())
 }
 
 // Puts the line of a reply without its rows.

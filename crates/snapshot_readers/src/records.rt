@@ -2,7 +2,7 @@
 ghost use Rattle.std.specs.Prelude.{◌≡◌, IfOk, OnOk, OnErr};
 ghost use Rattle.std.specs.FinMap.{get};
 ghost use Rattle.history.specs.Writes.{set_or_remove, all_written};
-ghost use Rattle.history.specs.Replay.{with_rows};
+ghost use Rattle.history_replay.specs.Replay.{with_rows};
 ghost use Rattle.history.specs.Rows.{table_of};
 ghost use Rattle.snapshot_readers.specs.Rooms.{table_in, HasRoom, HaveRoom};
 

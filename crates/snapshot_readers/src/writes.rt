@@ -39,8 +39,10 @@ impl Writing {
         ensures { OnOk result ((table : Table) → all_written table self.new.writes.items ≡ left_by (all_written table self.old.writes.items) calls.now) }
     {
         self.saves.truncate(0);
-        for (call, _) in calls.entries() {
-            self.make(call)?;
+        let mut left = calls.entries();
+        while let Some((call, _told, rest)) = left.next() {
+            self.make(&call)?;
+            left = rest;
         }
         Ok(())
     }

@@ -1,4 +1,5 @@
-use history::{Call, Calls, Done, History, Reply, Rows, Tables, is_legal, main_table, play};
+use history::{Call, Calls, Done, History, Reply, Rows, Tables, main_table};
+use history_replay::{is_legal, play};
 use mars_base::NoMemory;
 use record_slots::{Name, Value};
 use std::alloc::Global;

@@ -7,7 +7,7 @@ ghost use Rattle.mars_manager.specs.Sharing.{CanShare};
 use super::held_media::Hold;
 use super::sharing::fresh;
 use caller_steps::Core;
-use history::{Call, Done, History, Key, Reply, Tables, main_table};
+use history::{Call, Done, History, Key, Reply, Tables, Told, main_table};
 use mars_manager::{Mars, Pass, Passes};
 use record_slots::Value;
 use sample_callers::put_one;
@@ -19,7 +19,7 @@ use std::test::*;
 
 // Whether the transaction is that of caller 0 with this number, which puts the value at the key of the same number.
 fn is_put(done: &Done, at: u64, value: Value) -> bool {
-    if done.caller != 0 || done.at != at || done.calls.entries().len() != 1 {
+    if done.caller != 0 || done.at != at {
         return false;
     }
     let put = Call::Put {
@@ -27,7 +27,10 @@ fn is_put(done: &Done, at: u64, value: Value) -> bool {
         key: at,
         value,
     };
-    done.calls.entries()[0] == (put, Reply::Fine)
+    let Some((call, told, rest)) = done.calls.entries().next() else {
+        return false;
+    };
+    call == put && matches!(&told, Told::Plain(Reply::Fine)) && rest.next().is_none()
 }
 
 fn are_puts(dones: &[Done], first: u64, value: Value) -> bool {

@@ -1,13 +1,29 @@
-use Rattle.std.proofs.Common.{ap}
-use Rattle.std.specs.List.{flat_map}
+use Rattle.std.proofs.Common.{List, arith, subst, sym}
 use Rattle.history.specs.declared.call.Call.{Call}
 use Rattle.history.specs.declared.call.Reply.{Reply}
-use Rattle.texts.proofs.Appending.{same_text, cut_at}
+use Rattle.history.specs.Told.{told_reply}
+use Rattle.texts.proofs.Appending.{all_of}
 use Rattle.script_text.specs.Replies.{reply_line}
+use Rattle.script_text.proofs.LeftPieces.{Left, all_left, one_less, cut_left, none_left}
 use Rattle.history_text.proofs.transactions.put_replies.Goals as goal
 
-pub returns-in_err-put_reply : goal.returns-in_err-put_reply
-returns-in_err-put_reply g c =
+pub loop-_call-init : goal.loop-_call-init
+loop-_call-init g c =
     let line = λ (entry : Call × Reply). reply_line c.args.caller entry.1 in
-    same_text (ap (flat_map line) c.entries-reply-items.ensures)
-    (cut_at line c.entries-reply-items.result.now c.loop-reply.reply-index _ c.from_residual.result c.loop-reply-test.true (ap line c.loop-reply-item.is) c.from_residual.ensures.0 c.loop-reply.invariant c.in_err-put_reply.ensures)
+    let out = g.T.TextOut.view c.args.out.now in
+    subst (λ (calls : List (Call × Reply)). Left line g.T.TextOut.tells out out c.args.calls.now calls) (sym c.entries.ensures) (all_left line c.args.calls.now)
+
+pub returns-in_err-put_kept : goal.returns-in_err-put_kept
+returns-in_err-put_kept g c =
+    cut_left (λ (entry : Call × Reply). reply_line c.args.caller entry.1) (c.in-Some._call, told_reply c.in-Some.told) c.in-Some.rest c.loop-_call.left c.from_residual.result c.in-Some.ensures
+    c.from_residual.ensures.0 c.loop-_call.invariant c.in_err-put_kept.ensures
+
+pub loop-_call-preserved : goal.loop-_call-preserved
+loop-_call-preserved g c =
+    one_less (λ (entry : Call × Reply). reply_line c.args.caller entry.1) (c.in-Some._call, told_reply c.in-Some.told) c.in-Some.rest c.loop-_call.left c.in-Some.ensures c.loop-_call.invariant
+    (all_of c.in_ok-put_kept.ensures)
+
+pub returns : goal.returns
+returns g c =
+    let all = none_left (λ (entry : Call × Reply). reply_line c.args.caller entry.1) c.loop-_call.left c.in_default.ensures c.loop-_call.invariant in
+    record { whole = all.whole; part = tt; cause = record { later = omega (arith, all.kept); failed = tt; kept = all.kept } }

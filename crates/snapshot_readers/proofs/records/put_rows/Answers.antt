@@ -2,7 +2,7 @@ use Rattle.std.proofs.Common.{ap, sym, ◌∙◌, Some}
 use Rattle.std.specs.FinMap.{insert}
 use Rattle.history.specs.Key.{of_table}
 use Rattle.history.specs.Writes.{Table}
-use Rattle.history.proofs.Replaying.{with_rows-next}
+use Rattle.history_replay.proofs.Replaying.{with_rows-next}
 use Rattle.snapshot_readers.specs.Rooms.{table_in}
 use Rattle.snapshot_readers.proofs.Rooming.{filled}
 use Rattle.snapshot_readers.proofs.records.put_rows.Goals as goal

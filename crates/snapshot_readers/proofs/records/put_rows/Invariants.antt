@@ -1,5 +1,5 @@
 use Rattle.std.proofs.Common.{◌≡◌, ◌-◌, length, drop}
-use Rattle.history.specs.Replay.{with_rows}
+use Rattle.history_replay.specs.Replay.{with_rows}
 use Rattle.snapshot_readers.specs.Rooms.{table_in}
 use Rattle.snapshot_readers.proofs.records.put_rows.Given as goal
 

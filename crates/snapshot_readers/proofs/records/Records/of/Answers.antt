@@ -1,7 +1,7 @@
 use Rattle.std.proofs.Common.{ap, sym, ◌∙◌}
-use Rattle.history.specs.Replay.{with_rows}
+use Rattle.history_replay.specs.Replay.{with_rows}
 use Rattle.history.specs.Writes.{Table}
-use Rattle.history.proofs.Replaying.{table_of-next}
+use Rattle.history_replay.proofs.Replaying.{table_of-next}
 use Rattle.snapshot_readers.proofs.records.Records.of.Goals as goal
 
 pub loop-i-preserved : goal.loop-i-preserved

@@ -1,9 +1,0 @@
-use Rattle.std.proofs.Common.{ap, map, Some}
-use Rattle.history.specs.Writes.{Table}
-use Rattle.history.specs.Replay.{table_in}
-use Rattle.history.proofs.Replaying.{table_in-written}
-use Rattle.history.proofs.replay.Replay.put.Goals as goal
-
-pub returns : goal.returns
-returns c = ap (λ (t : Table). record { table = t; saves = map table_in c.args.self.now.saves.items })
-    (table_in-written c.args.self.now.table c.insert.new.self c.args.key (Some c.args.value) c.in_ok-insert.ensures.updates)

@@ -1,6 +1,0 @@
-use Rattle.std.proofs.Common.{◌≡◌, ◌++◌}
-use Rattle.history.proofs.Replaying.{listed}
-use Rattle.history.proofs.replay.Replay.rows_within.Given as goal
-
-abbrev pub invariant-loop-key : goal.invariant-loop-key
-invariant-loop-key l = l.rows ++ listed l.table l.low l.high l.key-iterator ≡ listed l.table l.low l.high l.self.table.entries

@@ -1,8 +1,0 @@
-use Rattle.std.proofs.Common.{◌≡◌, take}
-use Rattle.history.specs.Legal.{records}
-use Rattle.history.specs.Rows.{table_of}
-use Rattle.history.specs.Replay.{work_in}
-use Rattle.history.proofs.replay.play.Given as goal
-
-abbrev pub invariant-loop-done : goal.invariant-loop-done
-invariant-loop-done l = (work_in l.replay).table ≡ records (table_of l.base) (take l.done-index l.done-items)
