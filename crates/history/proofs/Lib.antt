@@ -10,4 +10,5 @@ pub mod Counting
 pub mod Replaying
 pub mod Comparing
 pub mod Judging
+pub mod Grouping
 pub mod Adding
