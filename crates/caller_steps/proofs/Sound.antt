@@ -40,11 +40,11 @@ apart_more names calls other call reply before own stripe =
     ap (λ (t : Touch). clash t (touched names other stripe)) (touched-push names calls call reply stripe)
     ∙ clash_more (touched names calls stripe) (touches names call stripe) (touched names other stripe) (before stripe) (own stripe)
 
-right-update : (table : Table) (f : ℕ → Option Granted) (caller : ℕ) (calls : Option Granted)
+pub right-update : (table : Table) (f : ℕ → Option Granted) (caller : ℕ) (calls : Option Granted)
     → ((other : ℕ) → other ≢ caller → IsRight table (unwrap_or (f other) [])) → IsRight table (unwrap_or calls []) → (other : ℕ) → IsRight table (unwrap_or (update nat_eq f caller calls other) [])
 right-update table f caller calls others own other = at_update (λ o. IsRight table (unwrap_or o [])) f caller calls other (λ is. own) (others other)
 
-apart-update : (names : List (List ℕ)) (f : ℕ → Option Granted) (caller : ℕ) (calls : Option Granted)
+pub apart-update : (names : List (List ℕ)) (f : ℕ → Option Granted) (caller : ℕ) (calls : Option Granted)
     → ((one other : ℕ) → one ≢ other → AreApart names (unwrap_or (f one) []) (unwrap_or (f other) []))
     → ((other : ℕ) → other ≢ caller → AreApart names (unwrap_or calls []) (unwrap_or (f other) []))
     → (one other : ℕ) → one ≢ other → AreApart names (unwrap_or (update nat_eq f caller calls one) []) (unwrap_or (update nat_eq f caller calls other) [])
@@ -73,7 +73,7 @@ module _ (old : State) (caller : ℕ) (sound : IsSound old) where
   }
 
   -- a caller's transaction ends
-  ends : IsSound (with_live old caller None)
+  pub ends : IsSound (with_live old caller None)
   ends = record {
     legal = sound.legal;
     certain = sound.certain;
