@@ -61,7 +61,7 @@ group_base state last [] = refl
 group_base state last (caller ∷ callers) = group_base (with_done state last caller) last callers
 
 module _ (state : State) (sound : IsSound state) (alive : state.is_dead ≡ false) (callers : List ℕ) where
-  last : ℕ
+  abbrev last : ℕ
   last = group_end state callers
 
   now : IsRightNow (with_group state last callers)
