@@ -11,7 +11,7 @@ use caller_steps::Core;
 /// A core begins with no transaction. If its transactions keep the sum, each image that a loss of power may leave opens with records of
 /// that sum, as long as the prefix law holds, as it does along all steps (`caller_steps::prefix_law`).
 pub fn every_image_keeps_the_sum<C: Core>()
-    ensures begun { (base : Table) (index : Index) → IsBalanced (opened base index) }
+    ensures begun { (names : List (List ℕ)) (base : Table) (index : Index) → IsBalanced (opened names base index) }
     ensures images { (core : C) (since least : ℕ) (image : List ℕ) → IsBalanced (C.view core).state → IsSafe (C.view core) since least → (C.view core).left_since since image
         → (table : Table) × (C.view core).opens image table × (sum_of table ≡ sum_of (C.view core).state.base) }
 {}

@@ -18,7 +18,7 @@ use Rattle.btree_laws.specs.Sound.{IsTree}
 use Rattle.btree_laws.specs.Tree.{IsUnder}
 use Rattle.btree_laws.specs.TreeFacts.{tree_level}
 use Rattle.btree_pages.proofs.Descending.{child_step}
-use Rattle.btree_pages.specs.Index.{actions_below, adding, cutting, half_for}
+use Rattle.btree_pages.specs.Index.{actions_below, adding, cutting, half_for, half_pairs}
 use Rattle.btree_laws.specs.declared.root.Root.{Root}
 
 -- a half of the entries that has the key in its range has the key's child
@@ -41,6 +41,12 @@ child_drop (suc n) key low high (e ∷ f ∷ es) less r le =
     let b : nat_lt key f.0 ≡ false = grind (arith, nat_tests, h.0, le) in
     let is : child_for (e ∷ f ∷ es) key ≡ child_for (f ∷ es) key = (rw b refl) in
     child_drop n key (suc e.0) high (f ∷ es) (omega arith) r.1 le ∙ sym is
+
+pub half_same : (key low high : ℕ) (ps : List Pair) → length ps ≡ 30 → Rise low high ps → child_for (half_pairs ps key) key ≡ child_for ps key
+half_same key low high ps full rises = elim (leb_tells (suc key) (key_at ps 15)) [
+  | inl h ↦ let b : nat_lt key (key_at ps 15) ≡ true = h.0 in rw b (child_take 15 key ps (omega arith) (omega (arith, full)) h.1)
+  | inr h ↦ let b : nat_lt key (key_at ps 15) ≡ false = h.0 in rw b (child_drop 15 key low high ps (omega (arith, full)) rises (omega (arith, h.1)))
+]
 
 -- one page further down, with what it has
 abbrev actions_step : ℕ → List ℕ → ℕ → ℕ → ℕ → ℕ → ℕ → ℕ → List Pair → List Action

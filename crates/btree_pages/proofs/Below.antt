@@ -12,10 +12,10 @@ use Rattle.record_slots.specs.Places.{page_bytes, next_slot, next_page, used_slo
 use Rattle.record_slots.specs.Super.{SaysSuper}
 use Rattle.record_slots.specs.declared.super_page.Super.{Super}
 use Rattle.page_store.specs.Fits.{FitAll, IsFirstLacking}
-use Rattle.page_store.specs.Index.{IsTable, Grows, Rests, Gains, slots_of, index_pages_of}
+use Rattle.page_store.specs.Index.{Action, IsTable, Grows, Rests, Gains, slots_of, index_pages_of}
 use Rattle.page_store.specs.Inserts.{ActionFits, MayBecome, Inserts}
 use Rattle.page_store.specs.Looks.{Looks, LookCause, is_failed}
-use Rattle.page_store.specs.Pairs.{Pair, found}
+use Rattle.page_store.specs.Pairs.{Pair, Rise, found}
 use Rattle.page_store.specs.Shown.{PagesView}
 use Rattle.page_store.specs.declared.fault.PageFault.{PageFault}
 use Rattle.page_store.specs.declared.index_fault.IndexFault.{IndexFault}
@@ -37,14 +37,16 @@ use Rattle.btree_laws.specs.Tree.{pairs_of_tree}
 use Rattle.btree_laws.specs.declared.root.Root.{Root}
 use Rattle.btree_pages.specs.Index.{tree, tree_below, adding, cutting, half_for, half_pairs, actions_below, AreSoundTrees}
 use Rattle.btree_pages.specs.OnWay.{IsOnWay, IsReached}
-use Rattle.btree_pages.specs.Trees.{trees_count}
+use Rattle.btree_pages.specs.Trees.{trees_count, table_sound}
+use Rattle.btree_pages.proofs.Actions.{half_same}
+use Rattle.btree_pages.proofs.Children.{reached_child}
 use Rattle.btree_pages.specs.Writes.{IsRead, cutting_pages, cutting_parts}
 use Rattle.btree_pages.proofs.AddData.{adding_grows, adding_takes_none, slot_there}
 use Rattle.btree_pages.proofs.CutData.{cutting_grows, cut_after, cut_says, cut_used, cut_level, cut_due, half_there, half_says, half_left}
 use Rattle.btree_pages.proofs.Joining.{grows_more, rests_more, gains_more}
 use Rattle.index_pages.proofs.Joining.{named_kept}
 use Rattle.index_pages.proofs.Left.{DecidesAll, pages_lack, room_lacks, fits_same, lacks_same}
-use Rattle.btree_pages.proofs.Walking.{Walks, walk_first, walk_down, walk_due, walk_cut, walk_last, child_way}
+use Rattle.btree_pages.proofs.Walking.{Walks, walk_first, walk_down, walk_due, walk_cut, walk_last, child_way, rest_room, rest_full}
 
 -- a half of 30 pairs
 pub record IsHalfRead (shape : Shape) (page : ℕ) (pairs : List Pair) : Type 0 where
@@ -178,6 +180,17 @@ module _ (tells : Bool) (E : Shape → List ℕ → List ℕ → Type 0) (t : �
               subst (λ (n : ℕ). Walks v0.store root t (index_pages_of v0.store.shape) key (index_pages_of v0.store.shape - used_pages v0.store.state.bytes) (actions_below level0 v0.store.state.bytes page0 page0 0 key) most v'.store.state.bytes page n pairs) suc_level
               (subst (λ (b : List ℕ). Walks v0.store root t (index_pages_of v0.store.shape) key (index_pages_of v0.store.shape - used_pages v0.store.state.bytes) (actions_below level0 v0.store.state.bytes page0 page0 0 key) most b page level pairs) (sym (same1 told)) (s.walks told))
 
+          child_here : IsTrue tells → child ≡ child_for (page_pairs v'.store.state.bytes page) key
+          child_here told = child_is ∙ ap (λ (ps : List Pair). child_for ps key) (walks1 told).way.pairs_are
+
+          rest_here : IsTrue tells → actions_below level v.store.state.bytes page page 0 key ≡ actions_below (suc m) v'.store.state.bytes page page 0 key
+          rest_here told = ap (λ (b : List ℕ). actions_below level b page page 0 key) (sym (same1 told)) ∙ ap (λ (n : ℕ). actions_below n v'.store.state.bytes page page 0 key) suc_level
+
+          -- what is left to do from such a child on
+          pub rest_down : length below < 30 → IsTrue tells → actions_below level v.store.state.bytes page page 0 key ≡ actions_below m v'.store.state.bytes child child 0 key
+          rest_down room told =
+              rest_here told ∙ rest_room m v'.store.state.bytes page child key (child_here told) (omega (arith, room, ap (λ (ps : List Pair). length ps) (are1 told), length-page_pairs v'.store.state.bytes child))
+
           -- a child with room is the next page on the way
           pub stands_down : length below < 30 → Stands v' front child m below
           stands_down room = record {
@@ -198,6 +211,13 @@ module _ (tells : Bool) (E : Shape → List ℕ → List ℕ → Type 0) (t : �
 
             due : IsTrue tells → DecidesAll v0.store t (index_pages_of v0.store.shape - used_pages v0.store.state.bytes) (actions_below level0 v0.store.state.bytes page0 page0 0 key) (index_pages_of v0.store.shape - used_pages v'.store.state.bytes) (cutting child (page_due v'.store.state.bytes 0) page ∷ (actions_below m v'.store.state.bytes child (half_for (page_pairs v'.store.state.bytes child) child (page_due v'.store.state.bytes 0) key) 1 key))
             due told = walk_due v0.store root t (index_pages_of v0.store.shape) key (index_pages_of v0.store.shape - used_pages v0.store.state.bytes) (actions_below level0 v0.store.state.bytes page0 page0 0 key) most v'.store.state.bytes page m pairs (walks1 told) child child_is (many told)
+
+            -- the half that has the key has the child that the page had
+            pub half_leads : (pairs2 : List Pair) → pairs2 ≡ half_pairs below key → IsTrue tells → child_for pairs2 key ≡ child_for below key
+            half_leads pairs2 pairs2_is told =
+                let child' = reached_child root v.store.state.bytes key page level pairs (table_sound v.store.state.bytes root (sound_now told) (named_now told)) fits (reached_now told) (let ne : level ≡ 0 → ⊥ = λ e. absurd (omega (arith, one_more)) in ne) in
+                let rises = subst (λ (c : ℕ). (low : ℕ) × (high : ℕ) × Rise low high (page_pairs v.store.state.bytes c)) (sym child_is) child'.rises in
+                ap (λ (ps : List Pair). child_for ps key) pairs2_is ∙ half_same key rises.0 rises.1 below full (subst (λ (ps : List Pair). Rise rises.0 rises.1 ps) (sym (are told)) rises.2)
 
             -- no page is left
             pub pages_full : (1 ≤ front.free_pages + (half - front.next_page) → ⊥) → (let r : Result ℕ IndexFault = Err (index.PagesFull (half - 1)) in Inserts tells (E v0.store.shape) (tree_below page0 level0 most) t root.page root.table key v0 v' r)
@@ -255,6 +275,12 @@ module _ (tells : Bool) (E : Shape → List ℕ → List ℕ → Type 0) (t : �
               cut_enough : IsTrue tells → 1 ≤ index_pages_of v0.store.shape - used_pages v'.store.state.bytes
               cut_enough told = omega (arith, used_less told)
 
+              -- the split is the next action
+              pub rest_due : IsTrue tells → actions_below level v.store.state.bytes page page 0 key ≡ (let a : Action = record { pages = cutting_pages child taken page; takes = 1 } in a) ∷ actions_below m v'.store.state.bytes child (half_for (page_pairs v'.store.state.bytes child) child taken key) 1 key
+              rest_due told =
+                  rest_here told ∙ rest_full m v'.store.state.bytes page child key (child_here told) (many told)
+                  ∙ ap (λ (n : ℕ). cutting child n page ∷ actions_below m v'.store.state.bytes child (half_for (page_pairs v'.store.state.bytes child) child n key) 1 key) (sym (taken_due told))
+
               -- the split was refused
               pub cut_err : (v'' : PagesView) (fault : PageFault) → (let r : Result (Unit {0}) PageFault = Err fault in Acts tells (E v'.store.shape) t (cutting_pages child taken page) (cutting_parts after child m below taken page pairs) v' v'' r)
                   → (let r : Result ℕ IndexFault = Err (as_index fault) in Inserts tells (E v0.store.shape) (tree_below page0 level0 most) t root.page root.table key v0 v'' r)
@@ -309,6 +335,14 @@ module _ (tells : Bool) (E : Shape → List ℕ → List ℕ → Type 0) (t : �
                   half_walks told =
                       walk_cut v0.store root t (index_pages_of v0.store.shape) key (index_pages_of v0.store.shape - used_pages v0.store.state.bytes) (actions_below level0 v0.store.state.bytes page0 page0 0 key) most v'.store.state.bytes page m pairs (walks1 told) child child_is (many told) (applied (cutting_parts after child m below taken page pairs) v'.store.state.bytes) page2 pairs2
                       (half_is2 told ∙ ap (λ (n : ℕ). half_for (page_pairs v'.store.state.bytes child) child n key) (taken_due told)) (cut_fits told) (cut_used v0.store.shape v'.store.state.bytes half (long1 told) half_is all few root front after taken key (walks1 told).d child m page below pairs fits (long_entries told) child_read parent_read (sound1 told) (named1 told) (says1 told) (takes told) (walks1 told).way child_is (are1 told) full s.room (used_less told)) (cut_most told) (half_way told) (half_rest told)
+
+                  -- the split is the next action, and this is left behind it
+                  pub rest_cut : IsTrue tells → actions_below level v.store.state.bytes page page 0 key ≡ (let a : Action = record { pages = cutting_pages child taken page; takes = 1 } in a) ∷ actions_below m v''.store.state.bytes page2 page2 0 key
+                  rest_cut told =
+                      rest_here told ∙ rest_full m v'.store.state.bytes page child key (child_here told) (many told)
+                      ∙ ap (λ (n : ℕ). cutting child n page ∷ actions_below m v'.store.state.bytes child (half_for (page_pairs v'.store.state.bytes child) child n key) 1 key) (sym (taken_due told))
+                      ∙ ap (λ (x : ℕ). cutting child taken page ∷ actions_below m v'.store.state.bytes child x 1 key) (sym (half_is2 told))
+                      ∙ ap (λ (l : List Action). cutting child taken page ∷ l) (sym (half_rest told) ∙ ap (λ (b : List ℕ). actions_below m b page2 page2 0 key) (sym (cut_bytes told)))
 
                   -- after the split, the half that has the key is the next page on the way
                   pub stands_cut : (level2 : ℕ) → level2 ≡ m → Stands v'' after page2 level2 pairs2
@@ -369,6 +403,12 @@ module _ (tells : Bool) (E : Shape → List ℕ → List ℕ → Type 0) (t : �
 
           decided : IsTrue tells → DecidesAll v0.store t (index_pages_of v0.store.shape - used_pages v0.store.state.bytes) (actions_below level0 v0.store.state.bytes page0 page0 0 key) (index_pages_of v0.store.shape - used_pages v'.store.state.bytes) (adding v'.store.state.bytes page ∷ [])
           decided told = walk_last v0.store root t (index_pages_of v0.store.shape) key (index_pages_of v0.store.shape - used_pages v0.store.state.bytes) (actions_below level0 v0.store.state.bytes page0 page0 0 key) most v'.store.state.bytes page pairs (leaf_walks told)
+
+          -- adding the pair is all that is left
+          pub rest_last : IsTrue tells → actions_below level v.store.state.bytes page page 0 key ≡ (let a : Action = record { pages = adding_pages half slot page; takes = 0 } in a) ∷ []
+          rest_last told =
+              ap (λ (b : List ℕ). actions_below level b page page 0 key) (sym (same1 told)) ∙ ap (λ (n : ℕ). actions_below n v'.store.state.bytes page page 0 key) bottom
+              ∙ ap (λ (ps : List ℕ). (let a : Action = record { pages = ps; takes = 0 } in a) ∷ []) (sym (add_pages told))
 
           pub add_done : (v'' : PagesView) → (let r : Result (Unit {0}) PageFault = Ok tt in
               Acts tells (E v'.store.shape) t (adding_pages (index_pages_of v'.store.shape) slot page) (adding_parts (index_pages_of v'.store.shape) after slot page 0 pairs root.table key) v' v'' r)

@@ -1,7 +1,7 @@
 -- The child that has the key in its range, of a page on the key's way.
 use Rattle.std.proofs.Common.{◌≡◌, ◌≢◌, ℕ, zero, suc, ◌+◌, ◌<◌, ◌≤◌, List, length, sym, ap, subst, arith}
 use Rattle.record_slots.specs.Places.{page_bytes, next_page}
-use Rattle.page_store.specs.Pairs.{Pair}
+use Rattle.page_store.specs.Pairs.{Pair, Rise}
 use Rattle.index_pages.specs.Keys.{key_end}
 use Rattle.index_pages.specs.Page.{page_pairs, level_of}
 use Rattle.index_pages.specs.Ways.{above}
@@ -23,6 +23,12 @@ pub record IsChild (bytes : List ℕ) (child level : ℕ) : Type 0 where
   pub given : child < next_page bytes
   pub node : IsNode (page_bytes bytes child)
   pub level_is : level_of bytes child + 1 ≡ level
+  pub rises : (low : ℕ) × (high : ℕ) × Rise low high (page_pairs bytes child)
+
+-- the pairs of a page of a tree rise
+pub rises_of : (root : Root) (m : ℕ) (bytes : List ℕ) (page low high : ℕ) → IsTree root m bytes page low high → (from : ℕ) × (to : ℕ) × Rise from to (page_pairs bytes page)
+rises_of root zero bytes page low high t = (low, high, t.0.rises)
+rises_of root (suc m) bytes page low high t = (low, key_end, t.0.rises)
 
 pub reached_child : (root : Root) (bytes : List ℕ) (key page level : ℕ) (pairs : List Pair) → IsSoundTree root bytes → key < key_end → IsReached root bytes key page level pairs → level ≢ 0 → IsChild bytes (child_for pairs key) level
 reached_child root bytes key page zero pairs sound lt reached inner = absurd (omega arith)
@@ -41,5 +47,6 @@ reached_child root bytes key page (suc m) pairs sound lt reached inner =
       two = own.0.0;
       given = own.1;
       node = node_of root m bytes (child_for (page_pairs bytes page) key) child.from child.to most child.tree;
+      rises = rises_of root m bytes (child_for (page_pairs bytes page) key) child.from child.to child.tree;
       level_is = (let e = tree_level root m bytes (child_for (page_pairs bytes page) key) child.from child.to child.tree in omega (arith, e));
     })

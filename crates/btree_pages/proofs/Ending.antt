@@ -50,7 +50,7 @@ module _ (tells : Bool) (E : Shape → List ℕ → List ℕ → Type 0) (t : �
     loses told = lose_loses v0.store.shape v0.store.state.bytes (long told) root key slot fits (sound told) (named told) (is told) free given (released told) leaf pairs
         (leaf_reached root v0.store.state.bytes key leaf level pairs bottom (reached told)) (reached told).1.pairs_are read.most read.small (more told)
 
-    takes : IsTrue tells → tree_removal v0.store.state.bytes root.page key ≡ Some (removing_pages (index_pages_of v0.store.shape) slot leaf)
+    pub takes : IsTrue tells → tree_removal v0.store.state.bytes root.page key ≡ Some (removing_pages (index_pages_of v0.store.shape) slot leaf)
     takes told = lose_takes v0.store.shape v0.store.state.bytes (long told) root key slot fits (sound told) (named told) (is told) free given (released told) leaf pairs
         (leaf_reached root v0.store.state.bytes key leaf level pairs bottom (reached told)) (reached told).1.pairs_are read.most read.small (more told)
 
@@ -104,7 +104,7 @@ module _ (tells : Bool) (E : Shape → List ℕ → List ℕ → Type 0) (t : �
           (there told) (subst (λ (ps : List Pair). length ps ≤ 30) (pairs_at told) right_read.most) (subst (λ (ps : List Pair). AreSmall ps) (pairs_at told) right_read.small) freed after
           (subst (λ (r : ℕ). GivesPage given r freed after) (right_at told) gives))
 
-      join_takes_told : IsTrue tells → tree_removal v0.store.state.bytes root.page key ≡ Some (joining_pages (index_pages_of v0.store.shape) slot leaf parent right)
+      pub join_takes_told : IsTrue tells → tree_removal v0.store.state.bytes root.page key ≡ Some (joining_pages (index_pages_of v0.store.shape) slot leaf parent right)
       join_takes_told told =
           join_takes v0.store.shape v0.store.state.bytes (long told) root key slot fits (sound told) (named told) (is told) free given (released told) (at told).below (alone_at told) (most_at told) (small_at told)
           (there told) (subst (λ (ps : List Pair). length ps ≤ 30) (pairs_at told) right_read.most) (subst (λ (ps : List Pair). AreSmall ps) (pairs_at told) right_read.small) freed after
@@ -137,7 +137,7 @@ module _ (tells : Bool) (E : Shape → List ℕ → List ℕ → Type 0) (t : �
           (leave_loses v0.store.shape v0.store.state.bytes (long told) root key slot fits (sound told) (named told) (is told) free given (released told) (at told).below (alone_at told) (most_at told) (small_at told)
           (last_at told) (several_at told) freed after (subst (λ (r : ℕ). GivesPage given r freed after) (leaf_at told) gives))
 
-      leave_takes_told : IsTrue tells → tree_removal v0.store.state.bytes root.page key ≡ Some (leaving_pages (index_pages_of v0.store.shape) slot parent leaf)
+      pub leave_takes_told : IsTrue tells → tree_removal v0.store.state.bytes root.page key ≡ Some (leaving_pages (index_pages_of v0.store.shape) slot parent leaf)
       leave_takes_told told =
           leave_takes v0.store.shape v0.store.state.bytes (long told) root key slot fits (sound told) (named told) (is told) free given (released told) (at told).below (alone_at told) (most_at told) (small_at told)
           (last_at told) (several_at told) freed after (subst (λ (r : ℕ). GivesPage given r freed after) (leaf_at told) gives)

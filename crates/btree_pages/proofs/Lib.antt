@@ -34,3 +34,8 @@ pub mod Keeping
 pub mod Righting
 pub mod Arriving
 pub mod Standing
+pub mod Stepping
+pub mod Acted
+pub mod Beginning
+pub mod Crowds
+pub mod Removing

@@ -1,8 +1,8 @@
 -- The first pair from a key on, from what the leaves say.
-use Rattle.std.proofs.Common.{◌≡◌, ◌≤◌, ◌∙◌, Bool, List, [], ◌∷◌, length, Option, Some, None, Result, Ok, Err, ℕ, refl, sym, ap, subst, arith}
-use Rattle.std.specs.Prelude.{IfOk}
+use Rattle.std.proofs.Common.{◌≡◌, ◌≤◌, ◌∙◌, Bool, true, false, List, [], ◌∷◌, length, Option, Some, None, Result, Ok, Err, ℕ, refl, sym, ap, subst, arith}
+use Rattle.std.specs.Prelude.{IfOk, IfErr}
 use Rattle.eaw_face.specs.StoreView.{StoreView}
-use Rattle.page_store.specs.Looks.{IsStill, LookCause}
+use Rattle.page_store.specs.Looks.{IsStill, LookCause, is_failed}
 use Rattle.page_store.specs.Pairs.{Pair, AreInside, AreNext, InTurn, next}
 use Rattle.page_store.specs.declared.fault.PageFault.{PageFault}
 use Rattle.page_store.specs.declared.fault.PageFault.TheVariants.{LogFull, SavesFull, Media, Dead, Damaged}
@@ -71,3 +71,12 @@ look_before T U tells old mid Dead still cause = sym still.dead ∙ cause
 look_before T U tells old mid (Damaged bad) still cause = (sym still.dead ∙ cause.0, cause.1)
 look_before T U tells old mid (LogFull g h n) still cause = absurd cause
 look_before T U tells old mid SavesFull still cause = absurd cause
+
+-- an answer that names a damaged page is no fault of the medium
+pub begun_fine : {T : Type 0} (r : Result T PageFault) (page : ℕ) (Q : Type 0) → IfErr r (λ fault. (fault ≡ Damaged page) × Q) → is_failed r ≡ false
+begun_fine (Ok x) page Q none = refl
+begun_fine (Err Media) page Q none = absurd (let e : Media ≡ Damaged page = none.0 in cc)
+begun_fine (Err Dead) page Q none = refl
+begun_fine (Err (LogFull g h n)) page Q none = refl
+begun_fine (Err SavesFull) page Q none = refl
+begun_fine (Err (Damaged bad)) page Q none = refl

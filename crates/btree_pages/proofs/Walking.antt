@@ -46,6 +46,14 @@ step_to m now page child key is =
     ap (λ (c : ℕ). if nat_lt (count_of now c) 30 then actions_below m now c c 0 key
     else cutting c (page_due now 0) page ∷ actions_below m now c (half_for (page_pairs now c) c (page_due now 0) key) 1 key) (sym is)
 
+-- what is left from a page on, if the child that comes next has room, and if it has none
+pub rest_room : (m : ℕ) (now : List ℕ) (page child key : ℕ) → child ≡ child_for (page_pairs now page) key → count_of now child < 30 → actions_below (suc m) now page page 0 key ≡ actions_below m now child child 0 key
+rest_room m now page child key is room = (let b : nat_lt (count_of now child) 30 ≡ true = grind (arith, nat_tests) in step_to m now page child key is ∙ (rw b refl))
+
+pub rest_full : (m : ℕ) (now : List ℕ) (page child key : ℕ) → child ≡ child_for (page_pairs now page) key → 30 ≤ count_of now child
+    → actions_below (suc m) now page page 0 key ≡ cutting child (page_due now 0) page ∷ actions_below m now child (half_for (page_pairs now child) child (page_due now 0) key) 1 key
+rest_full m now page child key is full = (let b : nat_lt (count_of now child) 30 ≡ false = grind (arith, nat_tests) in step_to m now page child key is ∙ (rw b refl))
+
 module _ (store : StoreView) (root : Root) (t pages key left : ℕ) (all : List Action) (most : ℕ) (now : List ℕ) (page m : ℕ) (pairs : List Pair) (w : Walks store root t pages key left all most now page (suc m) pairs)
     (child : ℕ) (child_is : child ≡ child_for pairs key) where
   child_there : child ≡ child_for (page_pairs now page) key
@@ -111,6 +119,11 @@ walk_last store root t pages key left all most now page pairs w = w.decides
 -- the insertion begins at a root with room
 pub root_first : (root key : ℕ) (old : List ℕ) → count_of old root < 30 → actions_below (level_of old root) old root root 0 key ≡ tree_actions old root key
 root_first root key old room = (let b : nat_lt (count_of old root) 30 ≡ true = grind (arith, nat_tests) in rw b refl)
+
+-- a root without room is split first
+pub root_split : (root key : ℕ) (old : List ℕ) → 30 ≤ count_of old root → tree_actions old root key
+    ≡ growing old root ∷ actions_below (level_of old root) old root (half_for (page_pairs old root) (page_due old 0) (page_due old 1) key) 2 key
+root_split root key old full = (let b : nat_lt (count_of old root) 30 ≡ false = grind (arith, nat_tests) in rw b refl)
 
 module _ (store : StoreView) (t pages root key : ℕ) (old : List ℕ) (full : 30 ≤ count_of old root) where
   -- a root without room is split

@@ -1,5 +1,5 @@
 -- An insertion from the root on.
-use Rattle.std.proofs.Common.{◌≡◌, ◌≢◌, ℕ, suc, ◌+◌, ◌-◌, ◌^◌, ◌<◌, ◌≤◌, ◌⊎◌, Bool, false, inl, inr, List, [], ◌∷◌, length, None, Result, Ok, Err, refl, sym, ◌∙◌, ap, subst, arith}
+use Rattle.std.proofs.Common.{◌≡◌, ◌≢◌, ℕ, zero, suc, ◌+◌, ◌-◌, ◌^◌, ◌<◌, ◌≤◌, ◌⊎◌, Bool, false, inl, inr, List, [], ◌∷◌, length, None, Result, Ok, Err, refl, sym, ◌∙◌, ap, subst, arith}
 use Rattle.std.specs.Prelude.{IsTrue}
 use Rattle.array_shape.specs.declared.shape.Shape.{Shape}
 use Rattle.array_shape.specs.Places.{data_len, page_count}
@@ -13,8 +13,9 @@ use Rattle.page_store.specs.Fits.{FitAll, IsFirstLacking}
 use Rattle.page_store.specs.Index.{Action, IsTable, Grows, Rests, slots_of, index_pages_of}
 use Rattle.page_store.specs.Inserts.{ActionFits, LackPages, LackRoom, MayBecome, Inserts}
 use Rattle.page_store.specs.Looks.{Looks, is_failed}
-use Rattle.page_store.specs.Pairs.{Pair, found}
+use Rattle.page_store.specs.Pairs.{Pair, Rise, found}
 use Rattle.page_store.specs.Shown.{PagesView}
+use Rattle.page_store.specs.Works.{takes_of}
 use Rattle.page_store.specs.declared.fault.PageFault.{PageFault}
 use Rattle.page_store.specs.declared.index_fault.IndexFault.{IndexFault}
 use Rattle.page_store.specs.declared.index_fault.IndexFault.TheVariants as index
@@ -22,7 +23,9 @@ use Rattle.index_pages.specs.Acts.{Acts}
 use Rattle.index_pages.specs.Adding.{TakesPage}
 use Rattle.index_pages.specs.Faults.{as_index}
 use Rattle.index_pages.specs.Fetched.{TestCause, IsFront}
+use Rattle.index_pages.specs.Keys.{key_end}
 use Rattle.index_pages.specs.Page.{page_pairs, count_of, level_of}
+use Rattle.index_pages.specs.Ways.{above}
 use Rattle.index_pages.proofs.Causing.{look_cause, still_same}
 use Rattle.index_pages.proofs.Going.{Going, going_looks, going_act, alive_now, inserts_refused, inserts_look_err, inserts_act_err}
 use Rattle.index_pages.proofs.Looking.{looks_none}
@@ -30,19 +33,27 @@ use Rattle.index_pages.proofs.PageFacts.{length-page_pairs}
 use Rattle.index_pages.proofs.Sizes.{index_pages_are}
 use Rattle.btree_laws.specs.Tree.{pairs_of_tree}
 use Rattle.btree_laws.specs.declared.root.Root.{Root}
-use Rattle.btree_pages.specs.Index.{tree, tree_below, growing, half_for, half_pairs, tree_actions, actions_below, AreSoundTrees}
+use Rattle.btree_pages.specs.Index.{tree, tree_below, growing, half_for, half_pairs, tree_actions, actions_below, AreSoundTrees, IsOpenLeaf}
 use Rattle.btree_pages.specs.Node.{IsNode}
 use Rattle.btree_pages.specs.OnWay.{IsReached}
 use Rattle.btree_pages.specs.Trees.{table_sound, trees_count}
 use Rattle.btree_pages.specs.Writes.{IsRead, growing_pages, growing_parts}
 use Rattle.btree_pages.specs.declared.node.Node.{Node}
 use Rattle.index_pages.proofs.Claims.{entries_long, slots_few}
+use Rattle.btree_pages.proofs.Actions.{half_same}
+use Rattle.btree_pages.proofs.Children.{rises_of}
 use Rattle.btree_pages.proofs.Descending.{down_first, down_node}
+use Rattle.btree_laws.specs.Descent.{child_for}
 use Rattle.btree_pages.proofs.GrowData.{growing_grows, grown_level, grown_half, grown_pairs, grown_says, grown_used, grown_left, grown_dues, grown_slots}
 use Rattle.index_pages.proofs.Left.{DecidesAll, all_left, room_lacks, fits_same, lacks_same}
 use Rattle.index_pages.proofs.Lifting.{joins_same, inserts_then}
 use Rattle.index_pages.proofs.Joining.{named_kept, joins_within}
-use Rattle.btree_pages.proofs.Walking.{root_first, grow_due, growing_takes, growing_stops, growing_lacks, grown_decides}
+use Rattle.btree_pages.proofs.Walking.{root_first, root_split, grow_due, growing_takes, growing_stops, growing_lacks, grown_decides}
+
+-- as many levels above the leaves
+pub above_all : (d : ℕ) → d ≡ above d 0
+above_all zero = refl
+above_all (suc d) = ap suc (above_all d)
 
 module _ (tells : Bool) (E : Shape → List ℕ → List ℕ → Type 0) (t : ℕ) (root : Root) (key : ℕ) (v0 v1 : PagesView) (sound : IsTrue tells → IsAlive v0.store → AreSoundTrees v0.store.state.bytes)
     (named : IsTrue tells → IsAlive v0.store → IsTable v0.store.state.bytes root.table root.page) (fits : key < 2 ^ 64) (looks : Looks tells (E v0.store.shape) false v0 v1) where
@@ -92,6 +103,39 @@ module _ (tells : Bool) (E : Shape → List ℕ → List ℕ → Type 0) (t : �
             subst (λ (b : List ℕ). DecidesAll v0.store t (index_pages_of v0.store.shape - used_pages v0.store.state.bytes) (tree_actions v0.store.state.bytes root.page key) (index_pages_of v0.store.shape - used_pages b) (actions_below level b page page 0 key)) (sym (same1 told))
             (subst (λ (l : List Action). DecidesAll v0.store t (index_pages_of v0.store.shape - used_pages v0.store.state.bytes) (tree_actions v0.store.state.bytes root.page key) (index_pages_of v0.store.shape - used_pages v0.store.state.bytes) l) is (all_left v0.store t (index_pages_of v0.store.shape - used_pages v0.store.state.bytes) (tree_actions v0.store.state.bytes root.page key)))
 
+    -- from a place on that was found before
+    pub place_then : (front : Super) (page level : ℕ) (pairs : List Pair) → level ≡ 0 → (IsTrue tells → SaysSuper (page_bytes v0.store.state.bytes 0) front) → (IsTrue tells → IsOpenLeaf v0.store.state.bytes root.page key page pairs)
+        → (v2 : PagesView) (r : Result ℕ IndexFault) → Inserts tells (E v1.store.shape) (tree_below page level (front.next_page + level)) t root.page root.table key v1 v2 r → Inserts tells (E v0.store.shape) tree t root.page root.table key v0 v2 r
+    place_then front page level pairs bottom says opens v2 r rest =
+        inserts_then tells E t root.page root.table key v0 v1 v2 tree (tree_below page level (front.next_page + level)) going1 alive
+        (λ told. joins_within tree (front.next_page + level) (λ bytes root key. actions_below level bytes page page 0 key) root.page root.table key v0.store.state.bytes v1.store.state.bytes (omega (arith, (says told).next_page, bottom)) (ap (λ (b : List ℕ). next_slot b) (same1 told)) (going1.made told alive).0 (going1.made told alive).1)
+        decides r rest
+      where
+        decides : IsTrue tells → DecidesAll v0.store t (index_pages_of v0.store.shape - used_pages v0.store.state.bytes) (tree_actions v0.store.state.bytes root.page key) (index_pages_of v0.store.shape - used_pages v1.store.state.bytes) (actions_below level v1.store.state.bytes page page 0 key)
+        decides told =
+            let is : tree_actions v0.store.state.bytes root.page key ≡ actions_below level v0.store.state.bytes page page 0 key = (opens told).alone ∙ ap (λ (n : ℕ). actions_below n v0.store.state.bytes page page 0 key) (sym bottom) in
+            subst (λ (b : List ℕ). DecidesAll v0.store t (index_pages_of v0.store.shape - used_pages v0.store.state.bytes) (tree_actions v0.store.state.bytes root.page key) (index_pages_of v0.store.shape - used_pages b) (actions_below level b page page 0 key)) (sym (same1 told))
+            (subst (λ (l : List Action). DecidesAll v0.store t (index_pages_of v0.store.shape - used_pages v0.store.state.bytes) (tree_actions v0.store.state.bytes root.page key) (index_pages_of v0.store.shape - used_pages v0.store.state.bytes) l) is (all_left v0.store t (index_pages_of v0.store.shape - used_pages v0.store.state.bytes) (tree_actions v0.store.state.bytes root.page key)))
+
+    -- which is on the key's way
+    pub place_reached : (page level : ℕ) (pairs : List Pair) → level ≡ 0 → (IsTrue tells → IsOpenLeaf v0.store.state.bytes root.page key page pairs) → IsTrue tells → IsReached root v1.store.state.bytes key page level pairs
+    place_reached page level pairs bottom opens told =
+        let o = opens told in
+        subst (λ (b : List ℕ). IsReached root b key page level pairs) (sym (same1 told))
+        (level_of v0.store.state.bytes root.page, record { page_is = o.page_is; level_is = above_all (level_of v0.store.state.bytes root.page) ∙ ap (λ (n : ℕ). above (level_of v0.store.state.bytes root.page) n) (sym bottom); pairs_are = o.pairs_are })
+
+    -- adding the pair is all that is due
+    pub place_due : (page : ℕ) (pairs : List Pair) → (IsTrue tells → IsOpenLeaf v0.store.state.bytes root.page key page pairs) → IsTrue tells → actions_below 0 v1.store.state.bytes page page 0 key ≡ tree_actions v0.store.state.bytes root.page key
+    place_due page pairs opens told = ap (λ (b : List ℕ). actions_below 0 b page page 0 key) (same1 told) ∙ sym (opens told).alone
+
+    -- what is due from a root with room on
+    pub room_due : (page level : ℕ) (pairs : List Pair) → page ≡ root.page → (IsTrue tells → level ≡ level_of v0.store.state.bytes root.page) → (IsTrue tells → pairs ≡ page_pairs v0.store.state.bytes root.page) → length pairs < 30
+        → IsTrue tells → actions_below level v1.store.state.bytes page page 0 key ≡ tree_actions v0.store.state.bytes root.page key
+    room_due page level pairs page_is level_is are room told =
+        let count : count_of v0.store.state.bytes root.page < 30 = omega (arith, room, length-page_pairs v0.store.state.bytes root.page, ap (λ (ps : List Pair). length ps) (are told)) in
+        ap (λ (b : List ℕ). actions_below level b page page 0 key) (same1 told) ∙ ap (λ (p : ℕ). actions_below level v0.store.state.bytes p p 0 key) page_is
+        ∙ ap (λ (n : ℕ). actions_below n v0.store.state.bytes root.page root.page 0 key) (level_is told) ∙ root_first root.page key v0.store.state.bytes count
+
 module _ (tells : Bool) (E : Shape → List ℕ → List ℕ → Type 0) (t : ℕ) (root : Root) (key : ℕ) (v0 : PagesView) (half : ℕ) (half_is : half ≡ index_pages_of v0.store.shape) (all : half + half ≡ page_count v0.store.shape)
     (few : half ≤ 16384) (two : 2 ≤ half) (fits : key < 2 ^ 64) (sound : IsTrue tells → AreSoundTrees v0.store.state.bytes) (named : IsTrue tells → IsTable v0.store.state.bytes root.table root.page)
     (absent : IsTrue tells → found (pairs_of_tree v0.store.state.bytes root.page) key ≡ None) (long : IsTrue tells → length v0.store.state.bytes ≡ data_len v0.store.shape) (alive : IsAlive v0.store)
@@ -126,6 +170,10 @@ module _ (tells : Bool) (E : Shape → List ℕ → List ℕ → Type 0) (t : �
 
     takes : (b : List ℕ) → (IsTrue tells → b ≡ v0.store.state.bytes) → IsTrue tells → (growing b root.page).takes ≡ 2
     takes b same told = subst (λ (x : List ℕ). (growing x root.page).takes ≡ 2) (sym (same told)) (growing_takes v0.store t (index_pages_of v0.store.shape) root.page key v0.store.state.bytes (many told) (omega (arith, less, level_is told)))
+
+    -- two pages are taken for it
+    pub takes_two : IsTrue tells → 2 ≤ takes_of (tree_actions v0.store.state.bytes root.page key)
+    takes_two told = omega (arith, ap (λ (l : List Action). takes_of l) (root_split root.page key v0.store.state.bytes (many told)), takes v0.store.state.bytes (λ t'. refl) told)
 
     -- fewer than two pages are left
     pub root_full : (2 ≤ front.free_pages + (half - front.next_page) → ⊥) → (let r : Result ℕ IndexFault = Err (index.PagesFull (half - 1)) in Inserts tells (E v0.store.shape) tree t root.page root.table key v0 v0 r)
@@ -183,6 +231,16 @@ module _ (tells : Bool) (E : Shape → List ℕ → List ℕ → Type 0) (t : �
 
       enough : IsTrue tells → (growing v2.store.state.bytes root.page).takes ≤ index_pages_of v0.store.shape - used_pages v2.store.state.bytes
       enough told = omega (arith, takes v2.store.state.bytes same2 told, enough2 told)
+
+      grow_is : IsTrue tells → growing v2.store.state.bytes root.page ≡ (let a : Action = record { pages = growing_pages left right root.page; takes = 2 } in a)
+      grow_is told = λ i. record { pages = sym (grow_pages told) i; takes = takes v2.store.state.bytes same2 told i }
+
+      -- the split of the root comes first, and then what is left below it
+      pub root_due : IsTrue tells → tree_actions v0.store.state.bytes root.page key ≡ (let a : Action = record { pages = growing_pages left right root.page; takes = 2 } in a)
+          ∷ actions_below (level_of v2.store.state.bytes root.page) v2.store.state.bytes root.page (half_for (page_pairs v2.store.state.bytes root.page) (page_due v2.store.state.bytes 0) (page_due v2.store.state.bytes 1) key) 2 key
+      root_due told =
+          ap (λ (b : List ℕ). tree_actions b root.page key) (sym (same2 told)) ∙ root_split root.page key v2.store.state.bytes (many2 told)
+          ∙ ap (λ (a : Action). a ∷ actions_below (level_of v2.store.state.bytes root.page) v2.store.state.bytes root.page (half_for (page_pairs v2.store.state.bytes root.page) (page_due v2.store.state.bytes 0) (page_due v2.store.state.bytes 1) key) 2 key) (grow_is told)
 
       grow_start : (v3 : PagesView) (r : Result (Unit {0}) PageFault) → Acts tells (E v2.store.shape) t (growing_pages left right root.page) (growing_parts after left right root.page level pairs) v2 v3 r → Acts tells (E v0.store.shape) t (growing_pages left right root.page) (growing_parts after left right root.page level pairs) v2 v3 r
       grow_start v3 r acts = subst (λ (sh : Shape). Acts tells (E sh) t (growing_pages left right root.page) (growing_parts after left right root.page level pairs) v2 v3 r) looks.shape acts
@@ -264,6 +322,20 @@ module _ (tells : Bool) (E : Shape → List ℕ → List ℕ → Type 0) (t : �
               subst (λ (b : List ℕ). DecidesAll v0.store t (index_pages_of v0.store.shape - used_pages v0.store.state.bytes) (tree_actions v0.store.state.bytes root.page key) (index_pages_of v0.store.shape - used_pages b) (actions_below level b page2 page2 0 key)) (sym (bytes3 told))
               (subst (λ (b : List ℕ). DecidesAll v0.store t (index_pages_of v0.store.shape - used_pages b) (tree_actions b root.page key) (index_pages_of v0.store.shape - used_pages (applied (growing_parts after left right root.page level pairs) v2.store.state.bytes)) (actions_below level (applied (growing_parts after left right root.page level pairs) v2.store.state.bytes) page2 page2 0 key)) (same2 told)
               (grown_decides v0.store t (index_pages_of v0.store.shape) root.page key v2.store.state.bytes (many2 told) (applied (growing_parts after left right root.page level pairs) v2.store.state.bytes) page2 level (level2_is told) less (half_due told) (grow_fits told) (grown_used v0.store.shape v2.store.state.bytes half (long2 told) half_is all few root front mid after left right key level pairs fits (entries_long v2.store.state.bytes front (omega (arith, long2 told, all, two)) (says2 told)) read (sound2 told) (named2 told) (says2 told) (one told) (other told) (level2_is told) (are2 told) full less (enough2 told)) (grown_rest told)))
+
+          -- the half that has the key has the root's child for it
+          pub root_leads : IsTrue tells → child_for pairs2 key ≡ child_for pairs key
+          root_leads told =
+              let tree' = table_sound v0.store.state.bytes root (sound told) (named told) in
+              let rises = rises_of root (level_of v0.store.state.bytes root.page) v0.store.state.bytes root.page 0 key_end tree'.2 in
+              ap (λ (ps : List Pair). child_for ps key) pairs2_are ∙ half_same key rises.0 rises.1 pairs full (subst (λ (ps : List Pair). Rise rises.0 rises.1 ps) (sym (are told)) rises.2)
+
+          pub root_rest : (level2 : ℕ) → level2 ≡ level → IsTrue tells → tree_actions v0.store.state.bytes root.page key ≡ (let a : Action = record { pages = growing_pages left right root.page; takes = 2 } in a) ∷ actions_below level2 v3.store.state.bytes page2 page2 0 key
+          root_rest level2 same told =
+              root_due told
+              ∙ ap (λ (n : ℕ). (let a : Action = record { pages = growing_pages left right root.page; takes = 2 } in a) ∷ actions_below n v2.store.state.bytes root.page (half_for (page_pairs v2.store.state.bytes root.page) (page_due v2.store.state.bytes 0) (page_due v2.store.state.bytes 1) key) 2 key) (level2_is told)
+              ∙ ap (λ (x : ℕ). (let a : Action = record { pages = growing_pages left right root.page; takes = 2 } in a) ∷ actions_below level v2.store.state.bytes root.page x 2 key) (sym (half_due told))
+              ∙ ap (λ (l : List Action). (let a : Action = record { pages = growing_pages left right root.page; takes = 2 } in a) ∷ l) (sym (grown_rest told) ∙ ap (λ (b : List ℕ). actions_below level b page2 page2 0 key) (sym (bytes3 told)) ∙ ap (λ (n : ℕ). actions_below n v3.store.state.bytes page2 page2 0 key) (sym same))
 
           -- what is left of the insertion decides
           pub grown_then : (level2 : ℕ) → level2 ≡ level → (v4 : PagesView) (r : Result ℕ IndexFault) → Inserts tells (E v3.store.shape) (tree_below page2 level2 (after.next_page + level2)) t root.page root.table key v3 v4 r → Inserts tells (E v0.store.shape) tree t root.page root.table key v0 v4 r

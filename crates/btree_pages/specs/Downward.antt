@@ -19,6 +19,11 @@ abbrev pub down : ℕ → ℕ → List Reading → Option ℕ
 down root key [] = Some root
 down root key (r ∷ rs) = if is_leaf r.1 then None else Some (child_for (pairs_said r.1) key)
 
+-- the same from a page of this level with these pairs on, which was read before
+abbrev pub below : ℕ → ℕ → List Pair → List Reading → Option ℕ
+below key level pairs [] = if nat_eq level 0 then None else Some (child_for pairs key)
+below key level pairs (r ∷ rs) = if is_leaf r.1 then None else Some (child_for (pairs_said r.1) key)
+
 -- what the leaf says of the key
 abbrev pub slot_at : ℕ → List Reading → Option (Option ℕ)
 slot_at key [] = None

@@ -1,5 +1,5 @@
 -- Trees as an index: the tree of each table, its pages, and the actions of an insertion and of a removal.
-use Rattle.std.specs.Prelude.{ℕ, zero, suc, nat_eq, nat_lt, nat_le, ◌||◌, if◌then◌else◌, List, [], ◌∷◌, take, drop, Option, Some, None}
+use Rattle.std.specs.Prelude.{ℕ, zero, suc, ◌≡◌, nat_eq, nat_lt, nat_le, ◌||◌, if◌then◌else◌, List, [], ◌∷◌, take, drop, Option, Some, None}
 use Rattle.std.specs.Option.{unwrap_or}
 use Rattle.mars_base.specs.Check.{Check}
 use Rattle.record_slots.specs.Places.{first_slot_page, slot_page, slot_due, page_due}
@@ -69,6 +69,12 @@ tree_actions bytes root key =
     growing bytes root
     ∷ actions_below (level_of bytes root) bytes root (half_for (page_pairs bytes root) (page_due bytes 0) (page_due bytes 1) key) 2 key
 
+-- the key's leaf has these pairs, and adding a pair to it is all that an insertion does: no page on the way is full
+pub record IsOpenLeaf (bytes : List ℕ) (root key page : ℕ) (pairs : List Pair) : Type 0 where
+  pub page_is : page ≡ leaf_for bytes root key
+  pub pairs_are : pairs ≡ page_pairs bytes page
+  pub alone : tree_actions bytes root key ≡ adding bytes page ∷ []
+
 -- The pages of a removal's parts. The leaf of the key loses its pair: the slot, the leaf, the super page.
 abbrev pub losing : List ℕ → ℕ → ℕ → List ℕ
 losing bytes slot leaf = slot_page bytes slot ∷ leaf ∷ 0 ∷ []
@@ -97,6 +103,7 @@ tree = record {
   level = level_of;
   has_page = IsPageOfTree;
   actions = tree_actions;
+  fits = λ bytes root key page link pairs. IsOpenLeaf bytes root key page pairs;
   removal = tree_removal;
   finding = tree_finding;
   nexting = tree_nexting;

@@ -4,6 +4,8 @@ pub mod Leaf
 pub mod Downward
 pub mod OnWay
 pub mod Writes
+pub mod Steps
+pub mod Crowded
 pub mod Checked
 -- lemmas that the laws of the index cite
 pub mod Props

@@ -1,7 +1,9 @@
 // The nested top actions of a removal that leaves a leaf without pairs.
 ghost use Rattle.std.specs.Prelude.{◌≡◌, ◌<◌, ◌≤◌, None, IsErrOf, length};
 ghost use Rattle.eaw_face.specs.Causes.{IsAlive};
+ghost use Rattle.eaw_face.specs.StoreView.{log_len};
 ghost use Rattle.page_store.specs.Index.{slots_of, index_pages_of};
+ghost use Rattle.page_store.specs.Runs.{Runs, acting_of};
 ghost use Rattle.page_store.specs.Shown.{pages_of, top_in};
 ghost use Rattle.index_pages.specs.Acts.{Acts};
 ghost use Rattle.btree_pages.specs.Writes.{joining_pages, joining_parts, leaving_pages, leaving_parts};
@@ -43,6 +45,10 @@ pub fn join_leaves<S: EawStore>(
         (joining_parts (index_pages_of (S.view pages.old.store).shape) right.now.front slot.now.number slot.now.free leaf.page leaf.pairs.items
         parent.page parent.pairs.items right.now.number right.now.free)
         (pages_of (S.view pages.old.store) pages.old) (pages_of (S.view pages.new.store) pages.new) result }
+    ensures runs { Runs S.tells S.view S.calls (acting_of tid (log_len (S.view pages.old.store) tid)
+        (joining_parts (index_pages_of (S.view pages.old.store).shape) right.now.front slot.now.number slot.now.free leaf.page leaf.pairs.items
+        parent.page parent.pairs.items right.now.number right.now.free))
+        (S.view pages.old.store) (S.view pages.new.store) result }
     ensures dead { IsErrOf result PageFault.Dead → pages.new ≡ pages.old }
 {
     let mut free = [0; SLOT_LEN];
@@ -84,6 +90,10 @@ pub fn drop_leaf<S: EawStore>(
         (leaving_parts (index_pages_of (S.view pages.old.store).shape) leaf.now.front slot.now.number slot.now.free parent.page parent.pairs.items
         leaf.now.number leaf.now.free)
         (pages_of (S.view pages.old.store) pages.old) (pages_of (S.view pages.new.store) pages.new) result }
+    ensures runs { Runs S.tells S.view S.calls (acting_of tid (log_len (S.view pages.old.store) tid)
+        (leaving_parts (index_pages_of (S.view pages.old.store).shape) leaf.now.front slot.now.number slot.now.free parent.page parent.pairs.items
+        leaf.now.number leaf.now.free))
+        (S.view pages.old.store) (S.view pages.new.store) result }
     ensures dead { IsErrOf result PageFault.Dead → pages.new ≡ pages.old }
 {
     let mut free = [0; SLOT_LEN];

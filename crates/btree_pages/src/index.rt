@@ -5,7 +5,9 @@ ghost use Rattle.btree_pages.specs.Index.{tree};
 use crate::{checking, insertion, look, removal};
 use btree_laws::Root;
 use eaw_face::EawStore;
-use page_store::{CheckFault, IndexFault, KeyIndex, NextPairs, PageFault, Pages, TableRows};
+use page_store::{
+    CheckFault, IndexFault, KeyIndex, LeafPage, NextPairs, PageFault, Pages, Sought, TableRows,
+};
 use std::alloc::Global;
 
 /// Indexes that are B+ trees of pages, one for each table. A look-up reads the pages from the root down to the leaf of its key, eight at
@@ -41,6 +43,15 @@ impl KeyIndex for BTreePages {
         look::find(pages, Root { page: root, table }, key)
     }
 
+    fn find_place<S: EawStore>(
+        pages: &mut Pages<S>,
+        root: u32,
+        table: u8,
+        key: u64,
+    ) -> Result<Sought, PageFault> {
+        look::find_place(pages, Root { page: root, table }, key)
+    }
+
     fn next_pairs<S: EawStore>(
         pages: &mut Pages<S>,
         root: u32,
@@ -56,8 +67,9 @@ impl KeyIndex for BTreePages {
         root: u32,
         table: u8,
         key: u64,
+        place: Option<LeafPage>,
     ) -> Result<u32, IndexFault> {
-        insertion::insert(pages, tid, Root { page: root, table }, key)
+        insertion::insert(pages, tid, Root { page: root, table }, key, place)
     }
 
     fn remove<S: EawStore>(

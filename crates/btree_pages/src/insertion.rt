@@ -1,17 +1,21 @@
 // Insertions into the tree of a table: each full page on the way down is split, and then the pair goes to its leaf.
-ghost use Rattle.std.specs.Prelude.{◌≡◌, ◌≢◌, ◌↔◌, ◌+◌, ◌-◌, ◌*◌, ◌<◌, ◌≤◌, None, IsErrOf, IsTrue, length};
+ghost use Rattle.std.specs.Prelude.{◌≡◌, ◌≢◌, ◌↔◌, ◌+◌, ◌-◌, ◌*◌, ◌<◌, ◌≤◌, [], ◌∷◌, None, is_some, IfSome, IsErrOf, IsTrue, length};
 ghost use Rattle.eaw_face.specs.Causes.{IsAlive};
 ghost use Rattle.record_slots.specs.Places.{page_bytes};
 ghost use Rattle.record_slots.specs.Super.{SaysSuper};
 ghost use Rattle.page_store.specs.Index.{IsTable, index_pages_of, slots_of};
 ghost use Rattle.page_store.specs.Inserts.{Inserts};
 ghost use Rattle.page_store.specs.Pairs.{found};
+ghost use Rattle.page_store.specs.Placed.{IsPlaceIn};
 ghost use Rattle.page_store.specs.Shown.{pages_of, top_in};
+ghost use Rattle.page_store.specs.Works.{Works, WorksFrom, blamed_index, insertion_limits, is_done};
 ghost use Rattle.index_pages.specs.Fetched.{IsFront};
 ghost use Rattle.index_pages.specs.Page.{level_of, page_pairs};
 ghost use Rattle.btree_laws.specs.Tree.{pairs_of_tree};
-ghost use Rattle.btree_pages.specs.Index.{tree, tree_below, AreSoundTrees};
+ghost use Rattle.btree_pages.specs.Downward.{below, down, tree_finding};
+ghost use Rattle.btree_pages.specs.Index.{tree, tree_below, tree_actions, actions_below, AreSoundTrees, IsOpenLeaf};
 ghost use Rattle.btree_pages.specs.OnWay.{IsReached};
+ghost use Rattle.btree_pages.specs.Steps.{known_from, limits_above, limits_below};
 ghost use Rattle.btree_pages.specs.Writes.{IsRead};
 
 use crate::checking::FORM;
@@ -23,15 +27,16 @@ use index_pages::{
     LEVEL_MAX, PAIRS_MAX, SLOTS_IN_PAGE, fetch_super, index_fault, index_page_count, take_page,
     take_slot,
 };
-use page_store::{IndexFault, Pages};
+use page_store::{IndexFault, LeafPage, Pages};
 use record_slots::Super;
 
-// Inserts a key that is absent. A full root is split first.
+// Inserts a key that is absent. A full root is split first. With a place the way is not gone again.
 pub fn insert<S: EawStore>(
     pages: &mut Pages<S>,
     tid: u8,
     root: Root,
     key: u64,
+    place: Option<LeafPage>,
 ) -> Result<u32, IndexFault>
     requires tid { tid < (S.view pages.old.store).shape.numbers }
     requires table { root.table < 8 }
@@ -39,8 +44,14 @@ pub fn insert<S: EawStore>(
     requires sound { IsTrue S.tells → IsAlive (S.view pages.old.store) → AreSoundTrees (S.view pages.old.store).state.bytes }
     requires named { IsTrue S.tells → IsAlive (S.view pages.old.store) → IsTable (S.view pages.old.store).state.bytes root.table root.page }
     requires absent { IsTrue S.tells → IsAlive (S.view pages.old.store) → found (pairs_of_tree (S.view pages.old.store).state.bytes root.page) key ≡ None }
+    requires place { IfSome place (λ leaf. IsPlaceIn (S.view pages.old.store).shape leaf.page leaf.pairs.items) }
+    requires fits { IsTrue S.tells → IsAlive (S.view pages.old.store)
+        → IfSome place (λ leaf. IsOpenLeaf (S.view pages.old.store).state.bytes root.page key leaf.page leaf.pairs.items) }
     ensures inserts { Inserts S.tells (S.opens (S.view pages.old.store).shape) tree tid root.page root.table key
         (pages_of (S.view pages.old.store) pages.old) (pages_of (S.view pages.new.store) pages.new) result }
+    ensures works { Works (IsTrue S.tells) S.tells (is_done result) S.view S.calls tid (down root.page key)
+        (insertion_limits (is_some place) (tree_finding root.page key) (S.view pages.old.store).shape) (tree_actions (S.view pages.old.store).state.bytes root.page key)
+        (blamed_index result) (S.view pages.old.store) (S.view pages.new.store) }
     ensures dead { IsErrOf result IndexFault.Dead → pages.new ≡ pages.old }
 {
     let count = index_page_count(pages);
@@ -52,6 +63,9 @@ pub fn insert<S: EawStore>(
         return Err(IndexFault::SlotsFull {
             slots: front.next_slot,
         });
+    }
+    if let Some(leaf) = place {
+        return insert_below(pages, tid, root, key, front, node_of(leaf));
     }
     if !is_index_page(root.page, count) {
         return Err(IndexFault::Damaged { page: 0 });
@@ -92,6 +106,8 @@ fn insert_above<S: EawStore>(
     requires pairs { IsTrue S.tells → top.pairs.items ≡ page_pairs (S.view pages.old.store).state.bytes root.page }
     ensures inserts { Inserts S.tells (S.opens (S.view pages.old.store).shape) tree tid root.page root.table key
         (pages_of (S.view pages.old.store) pages.old) (pages_of (S.view pages.new.store) pages.new) result }
+    ensures works { WorksFrom (0 ∷ root.page ∷ []) (IsTrue S.tells) S.tells (is_done result) S.view S.calls tid (below key top.level top.pairs.items) (limits_above top.level)
+        (tree_actions (S.view pages.old.store).state.bytes root.page key) (blamed_index result) (S.view pages.old.store) (S.view pages.new.store) }
     ensures dead { IsErrOf result IndexFault.Dead → ⊥ }
 {
     let count = index_page_count(pages);
@@ -115,6 +131,24 @@ fn insert_above<S: EawStore>(
     }
     let half = half_of(&top, left.number, right.number, key);
     insert_below(pages, tid, root, key, right.front, half)
+}
+
+// A place as a page that was read.
+fn node_of(leaf: LeafPage) -> Node
+    ensures page { result.page ≡ leaf.page }
+    ensures level { result.level ≡ 0 }
+    ensures pairs { result.pairs.items ≡ leaf.pairs.items }
+{
+    let LeafPage {
+        page,
+        link: _,
+        pairs,
+    } = leaf;
+    Node {
+        page,
+        level: 0,
+        pairs,
+    }
 }
 
 // Whether a page is one of so many, and not the super page.
@@ -165,6 +199,8 @@ fn insert_below<S: EawStore>(
     requires reached { IsTrue S.tells → IsReached root (S.view pages.old.store).state.bytes key node.page node.level node.pairs.items }
     ensures inserts { Inserts S.tells (S.opens (S.view pages.old.store).shape) (tree_below node.page node.level (front.next_page + node.level)) tid root.page root.table key
         (pages_of (S.view pages.old.store) pages.old) (pages_of (S.view pages.new.store) pages.new) result }
+    ensures works { WorksFrom (known_from node.level node.page) (IsTrue S.tells) S.tells (is_done result) S.view S.calls tid (below key node.level node.pairs.items) (limits_below node.level)
+        (actions_below node.level (S.view pages.old.store).state.bytes node.page node.page 0 key) (blamed_index result) (S.view pages.old.store) (S.view pages.new.store) }
     ensures dead { IsErrOf result IndexFault.Dead → ⊥ }
 {
     let count = index_page_count(pages);

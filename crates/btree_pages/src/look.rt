@@ -1,5 +1,5 @@
 // Look-ups from the root down.
-ghost use Rattle.std.specs.Prelude.{◌≡◌, ◌<◌, ◌≤◌, [], IfOk, IfErr, IfSome, OnOk, IsErrOf, IsTrue, length};
+ghost use Rattle.std.specs.Prelude.{◌≡◌, ◌<◌, ◌≤◌, ◌||◌, nat_le, false, [], IfOk, IfErr, IfSome, OnOk, IsErrOf, IsTrue, length};
 ghost use Rattle.array_shape.specs.Places.{page_count};
 ghost use Rattle.eaw_face.specs.Causes.{IsAlive};
 ghost use Rattle.record_slots.specs.Places.{page_bytes};
@@ -7,22 +7,28 @@ ghost use Rattle.page_store.specs.Follows.{Follows, HasRead, Walks, one_reading}
 ghost use Rattle.page_store.specs.Index.{IsTable, slots_of};
 ghost use Rattle.page_store.specs.Looks.{Looks, LookCause, is_failed};
 ghost use Rattle.page_store.specs.Pairs.{AreInside, AreNext, found};
+ghost use Rattle.page_store.specs.Placed.{IsSoughtFor, IsSoughtIn, slot_sought};
 ghost use Rattle.page_store.specs.Shown.{pages_of};
 ghost use Rattle.index_pages.specs.Fetched.{TestCause};
 ghost use Rattle.index_pages.specs.Page.{count_said};
 ghost use Rattle.btree_pages.specs.Downward.{Descended, Gathered, down, tree_finding, tree_nexting};
-ghost use Rattle.btree_pages.specs.Index.{AreSoundTrees};
+ghost use Rattle.btree_pages.specs.Crowded.{is_crowded};
+ghost use Rattle.btree_pages.specs.Index.{tree, AreSoundTrees};
 ghost use Rattle.btree_pages.specs.Leaf.{AtLeaf, Reaches};
 ghost use Rattle.btree_pages.specs.Node.{IsNode, SaysNode};
+ghost use Rattle.btree_laws.specs.Descent.{leaf_for};
 ghost use Rattle.btree_laws.specs.Tree.{pairs_of_tree};
 
+use crate::insertion::is_index_page;
 use crate::page::{child_in, read_node_head, slot_in};
+use crate::write::NO_LINK;
 use btree_laws::Root;
 use eaw_face::EawStore;
 use index_pages::{
-    Head, LEVEL_MAX, PAGE_LEN, SLOTS_IN_PAGE, fetch_page, index_page_count, rest_of,
+    Head, LEVEL_MAX, PAGE_LEN, PAIRS_MAX, SLOTS_IN_PAGE, fetch_page, index_page_count, read_pairs,
+    rest_of,
 };
-use page_store::{NextPairs, PageFault, Pages};
+use page_store::{LeafPage, NextPairs, PageFault, Pages, Sought};
 
 // The most pages on the way from the root to a leaf.
 pub const WAY_MAX: u32 = LEVEL_MAX as u32 + 1;
@@ -34,6 +40,8 @@ pub struct Leaf {
     pub count: u16,
     /// The low key of what comes after it.
     pub bound: Option<u64>,
+    /// Whether it is full, or a page on the way to it.
+    pub full: bool,
 }
 
 // Reads a page of the tree.
@@ -78,22 +86,28 @@ fn descend<S: EawStore>(
     ensures count { IfOk result (λ leaf. leaf.count ≡ count_said bytes.new) }
     ensures most { IfOk result (λ leaf. leaf.count ≤ 30) }
     ensures above { IfOk result (λ leaf. IfSome leaf.bound (λ bound. key < bound)) }
+    ensures full { IsTrue S.tells → IfOk result (λ leaf. (leaf.page ≡ leaf_for (S.view pages.old.store).state.bytes root.page key)
+        × (leaf.full ≡ is_crowded (S.view pages.old.store).state.bytes root.page key)) }
+    ensures room { IfOk result (λ leaf. leaf.full ≡ false → leaf.count < 30) }
     ensures dead { IsErrOf result PageFault.Dead → pages.new ≡ pages.old }
 {
     let count = index_page_count(pages);
     let mut page = root.page;
     let mut last = page;
     let mut bound = None;
+    let mut full = false;
     for _step in 0..WAY_MAX {
         let head = match read_node(pages, page, bytes) {
             Ok(head) => head,
             Err(fault) => return Err(fault),
         };
+        full = or_full(full, head.count);
         if head.level == 0 {
             return Ok(Leaf {
                 page,
                 count: head.count,
                 bound,
+                full,
             });
         }
         let (child, behind) = child_in(bytes, head.count, key);
@@ -105,6 +119,13 @@ fn descend<S: EawStore>(
         bound = behind.or(bound);
     }
     Err(PageFault::Damaged { page: last })
+}
+
+// Whether a page was full before, or one with so many pairs is.
+fn or_full(full: bool, count: u16) -> bool
+    ensures { result ≡ (full || nat_le 30 count) }
+{
+    full || usize::from(count) >= PAIRS_MAX
 }
 
 // The slot of a key.
@@ -140,6 +161,51 @@ pub fn find<S: EawStore>(
     Ok(Some(slot as u32))
 }
 
+// The slot of a key, or the leaf that its pair goes into, if no page on the way is full.
+pub fn find_place<S: EawStore>(
+    pages: &mut Pages<S>,
+    root: Root,
+    key: u64,
+) -> Result<Sought, PageFault>
+    requires root { root.page < page_count (S.view pages.old.store).shape }
+    requires sound { IsTrue S.tells → IsAlive (S.view pages.old.store) → AreSoundTrees (S.view pages.old.store).state.bytes }
+    requires named { IsTrue S.tells → IsAlive (S.view pages.old.store) → IsTable (S.view pages.old.store).state.bytes root.table root.page }
+    ensures looks { Looks S.tells (S.opens (S.view pages.old.store).shape) (is_failed result)
+        (pages_of (S.view pages.old.store) pages.old) (pages_of (S.view pages.new.store) pages.new) }
+    ensures cause { LookCause S.tells (S.view pages.old.store) result }
+    ensures follows { Follows S.tells (S.calls pages.old.store) (S.calls pages.new.store) (tree_finding root.page key) slot_sought
+        (S.view pages.old.store) (S.view pages.new.store) result }
+    ensures found { IsTrue S.tells → IfOk result (λ sought. slot_sought sought ≡ found (pairs_of_tree (S.view pages.old.store).state.bytes root.page) key) }
+    ensures place { IsTrue S.tells → IfOk result (IsSoughtFor tree (S.view pages.old.store).state.bytes root.page key) }
+    ensures inside { IfOk result (IsSoughtIn (S.view pages.old.store).shape) }
+    ensures dead { IsErrOf result PageFault.Dead → pages.new ≡ pages.old }
+{
+    let count = index_page_count(pages);
+    let mut bytes = [0; PAGE_LEN];
+    let leaf = match descend(pages, root, key, &mut bytes) {
+        Ok(leaf) => leaf,
+        Err(fault) => return Err(fault),
+    };
+    let Leaf { page, full, .. } = leaf;
+    if let Some(slot) = slot_in(&bytes, leaf.count, key) {
+        if slot >= u64::from(SLOTS_IN_PAGE * count) {
+            return Err(PageFault::Damaged { page });
+        }
+        return Ok(Sought::Slot(slot as u32));
+    }
+    if full {
+        return Ok(Sought::Split);
+    }
+    if !is_index_page(page, count) {
+        return Err(PageFault::Damaged { page });
+    }
+    Ok(Sought::Place(LeafPage {
+        page,
+        link: NO_LINK,
+        pairs: read_pairs(&bytes, leaf.count),
+    }))
+}
+
 // The pairs of the leaf of a key from that key on, and where the next leaf begins.
 #[derive(Drop)]
 struct Reached {
@@ -169,7 +235,12 @@ fn reach<S: EawStore>(pages: &mut Pages<S>, root: Root, from: u64) -> Result<Rea
         Ok(leaf) => leaf,
         Err(fault) => return Err(fault),
     };
-    let Leaf { page, count, bound } = leaf;
+    let Leaf {
+        page,
+        count,
+        bound,
+        ..
+    } = leaf;
     let Some(some) = rest_of(&bytes, count, from, slots) else {
         return Err(PageFault::Damaged { page });
     };

@@ -11,6 +11,7 @@ ghost use Rattle.btree_laws.specs.Descent.{child_for};
 ghost use Rattle.btree_pages.specs.Index.{AreSoundTrees};
 ghost use Rattle.btree_pages.specs.Node.{IsNode};
 ghost use Rattle.btree_pages.specs.OnWay.{IsReached};
+ghost use Rattle.btree_pages.specs.Steps.{ReadsNamed, ReadsPage};
 ghost use Rattle.btree_pages.specs.Writes.{IsRead};
 
 use crate::look::read_node;
@@ -34,6 +35,8 @@ pub fn fetch_node<S: EawStore>(pages: &mut Pages<S>, page: u32) -> Result<Node, 
     ensures looks { Looks S.tells (S.opens (S.view pages.old.store).shape) (is_failed result)
         (pages_of (S.view pages.old.store) pages.old) (pages_of (S.view pages.new.store) pages.new) }
     ensures cause { TestCause S.tells (IsNode (page_bytes (S.view pages.old.store).state.bytes page)) page (S.view pages.old.store) result }
+    ensures reads { ReadsPage S.tells (S.calls pages.old.store) (S.calls pages.new.store) page (page_bytes (S.view pages.old.store).state.bytes page)
+        (S.view pages.old.store) (S.view pages.new.store) result }
     ensures page { IfOk result (λ node. node.page ≡ page) }
     ensures read { IfOk result (λ node. IsRead (S.view pages.old.store).shape page node.level node.pairs.items) }
     ensures some { IfOk result (λ node. node.level ≢ 0 → 1 ≤ length node.pairs.items) }
@@ -84,6 +87,8 @@ pub fn fetch_child<S: EawStore>(
     ensures looks { Looks S.tells (S.opens (S.view pages.old.store).shape) (is_failed result)
         (pages_of (S.view pages.old.store) pages.old) (pages_of (S.view pages.new.store) pages.new) }
     ensures cause { LookCause S.tells (S.view pages.old.store) result }
+    ensures reads { ReadsNamed S.tells (S.calls pages.old.store) (S.calls pages.new.store) node.now.page (child_for node.now.pairs.items key)
+        (S.view pages.old.store) (S.view pages.new.store) result }
     ensures child { IfOk result (λ child. child.page ≡ child_for node.now.pairs.items key) }
     ensures read { IfOk result (λ child. IsRead (S.view pages.old.store).shape child.page child.level child.pairs.items) }
     ensures some { IfOk result (λ child. child.level ≢ 0 → 1 ≤ length child.pairs.items) }

@@ -1,5 +1,5 @@
 // Removals from the tree of a table: the pair leaves its leaf, and a leaf that has no other is joined with a neighbour.
-ghost use Rattle.std.specs.Prelude.{◌≡◌, ◌≢◌, ◌<◌, ◌≤◌, ℕ, Some, IsSome, IfOk, IfSome, IfNone, IsErrOf, IsTrue, length, get_or};
+ghost use Rattle.std.specs.Prelude.{◌≡◌, ◌≢◌, ◌<◌, ◌≤◌, ℕ, [], ◌∷◌, Some, IsSome, IfOk, IfErr, IfSome, IfNone, IsErrOf, IsTrue, length, get_or};
 ghost use Rattle.std.specs.List.{remove};
 ghost use Rattle.eaw_face.specs.Causes.{IsAlive};
 ghost use Rattle.record_slots.specs.Places.{page_bytes, version_of};
@@ -9,14 +9,17 @@ ghost use Rattle.page_store.specs.Looks.{Looks, LookCause, is_failed};
 ghost use Rattle.page_store.specs.Pairs.{found};
 ghost use Rattle.page_store.specs.Removes.{HasAbsent, Removes};
 ghost use Rattle.page_store.specs.Shown.{pages_of, top_in};
+ghost use Rattle.page_store.specs.Works.{Works, WorksFrom, blamed, is_done, removal_actions, removal_limits};
 ghost use Rattle.index_pages.specs.Fetched.{IsFront};
 ghost use Rattle.index_pages.specs.Giving.{MayGive, GivesSlot};
 ghost use Rattle.index_pages.specs.Page.{count_of, page_pairs};
 ghost use Rattle.btree_laws.specs.Descent.{child_for};
 ghost use Rattle.btree_laws.specs.Removals.{right_of, without_right};
 ghost use Rattle.btree_laws.specs.Tree.{pairs_of_tree};
-ghost use Rattle.btree_pages.specs.Index.{tree, AreSoundTrees};
+ghost use Rattle.btree_pages.specs.Downward.{below, down, tree_finding};
+ghost use Rattle.btree_pages.specs.Index.{tree, tree_removal, AreSoundTrees};
 ghost use Rattle.btree_pages.specs.OnWay.{IsReached};
+ghost use Rattle.btree_pages.specs.Steps.{CameDown, FailsDown, ReadsNamed, limits_down};
 ghost use Rattle.btree_pages.specs.Writes.{IsRead, Releases};
 
 use crate::checking::FORM;
@@ -50,6 +53,9 @@ pub fn remove<S: EawStore>(
     requires absent { IsTrue S.tells → IsAlive (S.view pages.old.store) → HasAbsent tree root.page root.table key (S.view pages.old.store).state.bytes }
     ensures removes { Removes S.tells (S.opens (S.view pages.old.store).shape) tree tid root.page key
         (pages_of (S.view pages.old.store) pages.old) (pages_of (S.view pages.new.store) pages.new) result }
+    ensures works { Works (Unit {0}) S.tells (is_done result) S.view S.calls tid (down root.page key)
+        (removal_limits (tree_finding root.page key) (S.view pages.old.store).shape) (removal_actions (tree_removal (S.view pages.old.store).state.bytes root.page key))
+        (blamed result) (S.view pages.old.store) (S.view pages.new.store) }
     ensures dead { IsErrOf result PageFault.Dead → pages.new ≡ pages.old }
 {
     let count = index_page_count(pages);
@@ -97,6 +103,8 @@ fn remove_below<S: EawStore>(
     requires reached { IsTrue S.tells → IsReached root (S.view pages.old.store).state.bytes key top.page top.level top.pairs.items }
     ensures removes { Removes S.tells (S.opens (S.view pages.old.store).shape) tree tid root.page key
         (pages_of (S.view pages.old.store) pages.old) (pages_of (S.view pages.new.store) pages.new) result }
+    ensures works { WorksFrom (0 ∷ top.page ∷ []) (Unit {0}) S.tells (is_done result) S.view S.calls tid (below key top.level top.pairs.items) (limits_down top.level)
+        (removal_actions (tree_removal (S.view pages.old.store).state.bytes root.page key)) (blamed result) (S.view pages.old.store) (S.view pages.new.store) }
     ensures dead { IsErrOf result PageFault.Dead → ⊥ }
 {
     let parent = match fetch_parent(pages, root, key, top) {
@@ -143,6 +151,9 @@ fn fetch_parent<S: EawStore>(
     ensures some { IfOk result (λ node. 1 ≤ length node.pairs.items) }
     ensures level { IfOk result (λ node. node.level ≡ 1) }
     ensures reached { IsTrue S.tells → IfOk result (λ node. IsReached root (S.view pages.old.store).state.bytes key node.page node.level node.pairs.items) }
+    ensures down { IfOk result (λ node. CameDown S.tells S.view S.calls key top.page top.level top.pairs.items (S.view pages.old.store) (S.view pages.new.store)
+        node.page node.level node.pairs.items) }
+    ensures fails { IfErr result (FailsDown S.tells S.view S.calls key top.page top.level top.pairs.items (S.view pages.old.store) (S.view pages.new.store)) }
     ensures dead { IsErrOf result PageFault.Dead → ⊥ }
 {
     let mut node = top;
@@ -201,6 +212,8 @@ fn lose_pair<S: EawStore>(
     requires more { IsTrue S.tells → leaf.page ≢ root.page → 2 ≤ length leaf.pairs.items }
     ensures removes { Removes S.tells (S.opens (S.view pages.old.store).shape) tree tid root.page key
         (pages_of (S.view pages.old.store) pages.old) (pages_of (S.view pages.new.store) pages.new) result }
+    ensures works { WorksFrom ([]) (Unit {0}) S.tells (is_done result) S.view S.calls tid (below key 0 []) (limits_down 0)
+        (removal_actions (tree_removal (S.view pages.old.store).state.bytes root.page key)) (blamed result) (S.view pages.old.store) (S.view pages.new.store) }
     ensures dead { IsErrOf result PageFault.Dead → ⊥ }
 {
     let Node { page, pairs, .. } = leaf;
@@ -245,6 +258,8 @@ fn join_right<S: EawStore>(
     requires leaves { remove parent.pairs.items place ≡ without_right parent.pairs.items key }
     ensures removes { Removes S.tells (S.opens (S.view pages.old.store).shape) tree tid root.page key
         (pages_of (S.view pages.old.store) pages.old) (pages_of (S.view pages.new.store) pages.new) result }
+    ensures works { WorksFrom (parent.page ∷ []) (Unit {0}) S.tells (is_done result) S.view S.calls tid (below key 0 []) (limits_down 0)
+        (removal_actions (tree_removal (S.view pages.old.store).state.bytes root.page key)) (blamed result) (S.view pages.old.store) (S.view pages.new.store) }
     ensures dead { IsErrOf result PageFault.Dead → ⊥ }
 {
     let right = match fetch_right(pages, root, key, &parent, place) {
@@ -290,6 +305,8 @@ fn fetch_right<S: EawStore>(
     ensures read { IfOk result (λ right. IsRead (S.view pages.old.store).shape right.page right.level right.pairs.items) }
     ensures level { IfOk result (λ right. right.level ≡ 0) }
     ensures pairs { IsTrue S.tells → IfOk result (λ right. right.pairs.items ≡ page_pairs (S.view pages.old.store).state.bytes right.page) }
+    ensures reads { ReadsNamed S.tells (S.calls pages.old.store) (S.calls pages.new.store) parent.now.page (right_of parent.now.pairs.items key)
+        (S.view pages.old.store) (S.view pages.new.store) result }
     ensures dead { IsErrOf result PageFault.Dead → ⊥ }
 {
     let count = index_page_count(pages);
@@ -338,6 +355,8 @@ fn leave_parent<S: EawStore>(
     requires several { 2 ≤ length parent.pairs.items }
     ensures removes { Removes S.tells (S.opens (S.view pages.old.store).shape) tree tid root.page key
         (pages_of (S.view pages.old.store) pages.old) (pages_of (S.view pages.new.store) pages.new) result }
+    ensures works { WorksFrom (leaf ∷ []) (Unit {0}) S.tells (is_done result) S.view S.calls tid (below key 0 []) (limits_down 0)
+        (removal_actions (tree_removal (S.view pages.old.store).state.bytes root.page key)) (blamed result) (S.view pages.old.store) (S.view pages.new.store) }
     ensures dead { IsErrOf result PageFault.Dead → ⊥ }
 {
     let Some(freed) = give_page(&slot.front, leaf) else {

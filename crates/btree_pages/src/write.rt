@@ -1,7 +1,9 @@
 // The nested top actions of an insertion.
 ghost use Rattle.std.specs.Prelude.{◌≡◌, ◌+◌, ◌<◌, ◌≤◌, None, IsErrOf, length};
 ghost use Rattle.eaw_face.specs.Causes.{IsAlive};
+ghost use Rattle.eaw_face.specs.StoreView.{log_len};
 ghost use Rattle.page_store.specs.Index.{slots_of, index_pages_of};
+ghost use Rattle.page_store.specs.Runs.{Runs, acting_of};
 ghost use Rattle.page_store.specs.Shown.{pages_of, top_in};
 ghost use Rattle.index_pages.specs.Acts.{Acts};
 ghost use Rattle.index_pages.specs.Adding.{adding_pages, adding_parts};
@@ -38,6 +40,9 @@ pub fn add_pair<S: EawStore>(
     ensures acts { Acts S.tells (S.opens (S.view pages.old.store).shape) tid (adding_pages (index_pages_of (S.view pages.old.store).shape) slot.now.number leaf.page)
         (adding_parts (index_pages_of (S.view pages.old.store).shape) slot.now.front slot.now.number leaf.page 0 leaf.pairs.items table key)
         (pages_of (S.view pages.old.store) pages.old) (pages_of (S.view pages.new.store) pages.new) result }
+    ensures runs { Runs S.tells S.view S.calls (acting_of tid (log_len (S.view pages.old.store) tid)
+        (adding_parts (index_pages_of (S.view pages.old.store).shape) slot.now.front slot.now.number leaf.page 0 leaf.pairs.items table key))
+        (S.view pages.old.store) (S.view pages.new.store) result }
     ensures dead { IsErrOf result PageFault.Dead → pages.new ≡ pages.old }
 {
     let Node { page, pairs, .. } = leaf;
@@ -69,6 +74,9 @@ pub fn cut_page<S: EawStore>(
     ensures acts { Acts S.tells (S.opens (S.view pages.old.store).shape) tid (cutting_pages node.now.page taken.now.number parent.page)
         (cutting_parts taken.now.front node.now.page node.now.level node.now.pairs.items taken.now.number parent.page parent.pairs.items)
         (pages_of (S.view pages.old.store) pages.old) (pages_of (S.view pages.new.store) pages.new) result }
+    ensures runs { Runs S.tells S.view S.calls (acting_of tid (log_len (S.view pages.old.store) tid)
+        (cutting_parts taken.now.front node.now.page node.now.level node.now.pairs.items taken.now.number parent.page parent.pairs.items))
+        (S.view pages.old.store) (S.view pages.new.store) result }
     ensures dead { IsErrOf result PageFault.Dead → pages.new ≡ pages.old }
 {
     let pairs = node.pairs.as_slice();
@@ -113,6 +121,9 @@ pub fn grow_root<S: EawStore>(
     ensures acts { Acts S.tells (S.opens (S.view pages.old.store).shape) tid (growing_pages left right.now.number root.now.page)
         (growing_parts right.now.front left right.now.number root.now.page root.now.level root.now.pairs.items)
         (pages_of (S.view pages.old.store) pages.old) (pages_of (S.view pages.new.store) pages.new) result }
+    ensures runs { Runs S.tells S.view S.calls (acting_of tid (log_len (S.view pages.old.store) tid)
+        (growing_parts right.now.front left right.now.number root.now.page root.now.level root.now.pairs.items))
+        (S.view pages.old.store) (S.view pages.new.store) result }
     ensures dead { IsErrOf result PageFault.Dead → pages.new ≡ pages.old }
 {
     let level = root.level;

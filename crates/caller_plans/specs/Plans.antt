@@ -2,9 +2,9 @@
 use Rattle.std.specs.Prelude.{ℕ, zero, suc, Bool, true, false, IsTrue, not, nat_eq, if◌then◌else◌, List, [], ◌∷◌, ◌++◌, All, Option, Some, None}
 use Rattle.history.specs.declared.call.Call.{Call}
 use Rattle.history.specs.declared.call.Call.TheVariants.{Begin, Commit, Abort}
-use Rattle.script_text.specs.declared.line.Line.{Line}
-use Rattle.script_text.specs.declared.line.Line.TheVariants.{Nothing, Told, Bad}
-use Rattle.script_text.specs.Line.{LineSays}
+use Rattle.script_text.specs.declared.joint_line.JointLine.{JointLine}
+use Rattle.script_text.specs.declared.joint_line.JointLine.TheVariants.{Nothing, Told, Read, Bad}
+use Rattle.script_text.specs.JointLine.{JointLineSays}
 use Rattle.caller_plans.specs.declared.plan.Plan.{Plan}
 use Rattle.caller_plans.specs.declared.plan.PlanEnd.TheVariants as end
 use Rattle.caller_plans.specs.declared.fate.LineFault.{LineFault}
@@ -35,27 +35,28 @@ is_stray within Begin = within
 is_stray within call = not within
 
 -- the calls of a caller, in order
-abbrev pub calls_by : ℕ → List Line → List Call
+abbrev pub calls_by : ℕ → List JointLine → List Call
 calls_by caller [] = []
 calls_by caller (Told other call ∷ lines) = if nat_eq other caller then call ∷ calls_by caller lines else calls_by caller lines
 calls_by caller (line ∷ lines) = calls_by caller lines
 
 -- the lines from the n-th on that are bad or stray, given which callers are within a transaction
-abbrev pub faults_from : ℕ → (ℕ → Bool) → List Line → List LineFault
+abbrev pub faults_from : ℕ → (ℕ → Bool) → List JointLine → List LineFault
 faults_from n within [] = []
 faults_from n within (Nothing ∷ lines) = faults_from (suc n) within lines
+faults_from n within (Read reader key ∷ lines) = faults_from (suc n) within lines
 faults_from n within (Bad ∷ lines) = fault.Bad n ∷ faults_from (suc n) within lines
 faults_from n within (Told caller call ∷ lines) =
     (if is_stray (within caller) call then fault.Stray n ∷ [] else []) ++ faults_from (suc n) (λ other. if nat_eq other caller then within_after (within caller) call else within other) lines
 
--- what each line says, with this many callers
-abbrev pub AllSay : ℕ → List (List ℕ) → List Line → Type 0
-AllSay callers [] [] = Unit {0}
-AllSay callers (bytes ∷ lines) (line ∷ said) = LineSays callers bytes line × AllSay callers lines said
-AllSay callers _ _ = ⊥
+-- what each line says, with this many callers and readers
+abbrev pub AllSay : (callers readers : ℕ) → List (List ℕ) → List JointLine → Type 0
+AllSay callers readers [] [] = Unit {0}
+AllSay callers readers (bytes ∷ lines) (line ∷ said) = JointLineSays callers readers bytes line × AllSay callers readers lines said
+AllSay callers readers _ _ = ⊥
 
 -- what each of n callers plans, from this one on
-abbrev pub plans_from : ℕ → ℕ → List Line → List (List Plan)
+abbrev pub plans_from : ℕ → ℕ → List JointLine → List (List Plan)
 plans_from caller zero lines = []
 plans_from caller (suc n) lines = planned None (calls_by caller lines) ∷ plans_from (suc caller) n lines
 

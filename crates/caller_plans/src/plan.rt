@@ -8,6 +8,9 @@ use mars_base::Listed;
 /// Calls in the order in which a caller makes them.
 pub type Asked = Listed<Call>;
 
+/// Keys in the order in which a reader asks for them.
+pub type Keys = Listed<u64>;
+
 /// The transactions of a caller, in the order of the script.
 pub type Plans = Listed<Plan>;
 

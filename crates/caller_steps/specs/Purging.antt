@@ -9,11 +9,11 @@ use Rattle.history.specs.declared.key.Key.{Key}
 use Rattle.history.specs.Locks.{Meets}
 use Rattle.history.specs.Writes.{Table}
 use Rattle.history.specs.declared.call.Call.TheVariants.{Del}
-use Rattle.history.specs.declared.call.Reply.{Reply}
-use Rattle.history.specs.declared.call.Reply.TheVariants.{Already, Media, Dead}
 use Rattle.caller_steps.specs.State.{State, Index, calls_of, records_of}
 use Rattle.caller_steps.specs.Core.{CoreView, IsSafe}
 use Rattle.caller_steps.specs.Prefix.{HasPrefixOf}
+use Rattle.caller_steps.specs.declared.purge_fault.PurgeFault.{PurgeFault}
+use Rattle.caller_steps.specs.declared.purge_fault.PurgeFault.TheVariants.{Dead, Already, Media, Damaged}
 
 -- a live transaction touches the stripe of this key
 abbrev pub IsTouched : State → Key → Type 0
@@ -55,27 +55,27 @@ pub record Purged (Keeps : List ℕ → Key → Type 0) (old : State) (n : ℕ) 
   pub left : (key : Key) → key.key < 2 ^ 64 → IsAbsent new key → IsTouched new key ⊎ Keeps new.index.bytes key
 
 -- How a purge is answered, and what it leaves: how many keys it took out; or it is refused, since the medium has failed, or its caller is live,
--- and nothing changes; or the medium fails in it, and the index may then be anything.
-abbrev pub PurgeStep : (List ℕ → Key → Type 0) → State → ℕ → Result ℕ Reply → State → Type 0
+-- and nothing changes; or the medium fails in it, and the index may then be anything. No page is damaged where the records are told.
+abbrev pub PurgeStep : (List ℕ → Key → Type 0) → State → ℕ → Result ℕ PurgeFault → State → Type 0
 PurgeStep Keeps old caller (Ok n) new = (old.is_dead ≡ false) × (old.live caller ≡ None) × Purged Keeps old n new
 PurgeStep Keeps old caller (Err Dead) new = (old.is_dead ≡ true) × (new ≡ old)
 PurgeStep Keeps old caller (Err Already) new = (old.is_dead ≡ false) × IsSome (old.live caller) × (new ≡ old)
 PurgeStep Keeps old caller (Err Media) new = (old.is_dead ≡ false) × (old.live caller ≡ None) × (index : Index) × (new ≡ record old { index = index; is_dead = true })
-PurgeStep Keeps old caller (Err reply) new = ⊥
+PurgeStep Keeps old caller (Err (Damaged page)) new = ⊥
 
 -- when it is refused before it looks at a key, over any store
-abbrev pub PurgeCause : State → ℕ → Result ℕ Reply → Type 0
+abbrev pub PurgeCause : State → ℕ → Result ℕ PurgeFault → Type 0
 PurgeCause old caller (Err Dead) = old.is_dead ≡ true
 PurgeCause old caller (Err Already) = (old.is_dead ≡ false) × IsSome (old.live caller)
 PurgeCause old caller result = (old.is_dead ≡ false) × (old.live caller ≡ None)
 
-abbrev pub is_media_refusal : Result ℕ Reply → Bool
+abbrev pub is_media_refusal : Result ℕ PurgeFault → Bool
 is_media_refusal (Err Media) = true
 is_media_refusal result = false
 
 -- A purge of a core. The records and what live transactions see stay, at each moment within it too: whatever a loss of power within it leaves
 -- has all transactions that were committed before.
-pub record Purges (tells : Bool) (Keeps : List ℕ → Key → Type 0) (caller : ℕ) (old new : CoreView) (result : Result ℕ Reply) : Type 0 where
+pub record Purges (tells : Bool) (Keeps : List ℕ → Key → Type 0) (caller : ℕ) (old new : CoreView) (result : Result ℕ PurgeFault) : Type 0 where
   pub limits : new.limits ≡ old.limits
   pub opens : (image : List ℕ) (table : Table) → old.opens image table → new.opens image table
   pub names : new.state.names ≡ old.state.names

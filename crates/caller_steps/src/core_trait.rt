@@ -17,11 +17,15 @@ pub trait Core {
 
     ghost view: { Self → CoreView };
 
+    /// From a core to the one that a step leaves: what the store below it has sent.
+    ghost sends: { Self → Self → Type 0 };
+
     /// Answers a caller's call.
     fn step(&mut self, caller: u8, call: &Call) -> Reply
         requires { caller < (view self.old).limits.callers }
         ensures steps { Steps tells caller call.now (view self.old) (view self.new) result }
-        ensures dead { IsTrue (view self.old).state.is_dead → (result ≡ Dead) × (self.new ≡ self.old) };
+        ensures dead { IsTrue (view self.old).state.is_dead → (result ≡ Dead) × (self.new ≡ self.old) }
+        ensures sends { sends self.old self.new };
 
     /// Answers a caller's call that clashes with no other caller's live transaction, as locks outside of the core have made sure. It makes
     /// the step that `step` would make, without a search for a holder. A caller that is not live is granted nothing but a begin, and nobody a call on a
@@ -33,7 +37,8 @@ pub trait Core {
         ensures dead { IsTrue (view self.old).state.is_dead → (result ≡ Dead) × (self.new ≡ self.old) }
         ensures not_busy { IsFalse (is_busy result) }
         ensures begun { IsFalse (is_refusal result) → IsTrue (is_some ((view self.old).state.live caller)) ⊎ (call.now ≡ Begin) }
-        ensures tabled { IsFalse (is_refusal result) → IsTrue (has_table (view self.old).state.names call.now) };
+        ensures tabled { IsFalse (is_refusal result) → IsTrue (has_table (view self.old).state.names call.now) }
+        ensures sends { sends self.old self.new };
 
     /// The names of the tables, by their numbers.
     fn names(&self) -> &Names
@@ -54,10 +59,13 @@ impl<C: Core> Core for Box<C> {
 
     ghost view = { λ core. C.view core.value };
 
+    ghost sends = { λ old new. C.sends old.value new.value };
+
     fn step(&mut self, caller: u8, call: &Call) -> Reply
         requires { caller < (C.view self.old.value).limits.callers }
         ensures steps { Steps C.tells caller call.now (C.view self.old.value) (C.view self.new.value) result }
         ensures dead { IsTrue (C.view self.old.value).state.is_dead → (result ≡ Dead) × (self.new ≡ self.old) }
+        ensures sends { C.sends self.old.value self.new.value }
     {
         self.as_mut().step(caller, call)
     }
@@ -70,6 +78,7 @@ impl<C: Core> Core for Box<C> {
         ensures not_busy { IsFalse (is_busy result) }
         ensures begun { IsFalse (is_refusal result) → IsTrue (is_some ((C.view self.old.value).state.live caller)) ⊎ (call.now ≡ Begin) }
         ensures tabled { IsFalse (is_refusal result) → IsTrue (has_table (C.view self.old.value).state.names call.now) }
+        ensures sends { C.sends self.old.value self.new.value }
     {
         self.as_mut().step_locked(caller, call)
     }

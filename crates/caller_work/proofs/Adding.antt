@@ -8,7 +8,7 @@ use Rattle.std.specs.Prelude.{not}
 use Rattle.std.proofs.lemmas.List.Elements.{filter-append}
 use Rattle.caller_steps.specs.Fate.{is_busy}
 use Rattle.mars_manager.specs.declared.view.Known.{Known}
-use Rattle.mars_manager.specs.Pass.{PassView, told_of}
+use Rattle.mars_manager.specs.Pass.{PassView, names_in, names_of, told_of}
 use Rattle.mars_manager.specs.declared.view.Met.{Met}
 use Rattle.mars_manager.specs.Locks.{steps_of, IsAgain, IsBusyBy}
 use Rattle.mars_manager.specs.Asked.{IsStepOf, Meets}
@@ -23,7 +23,7 @@ steps_both xs ys = filter-append (λ (entry : Call × Reply). not (is_busy entry
 module _ {C : Type 0} where
   -- one call of a pass adds one reply
   pub adds_one : (was now : PassView C) (call : Call) (reply : Reply) → (now.known.number ≡ was.known.number) × (now.known.setup ≡ was.known.setup) → told_of now.known ≡ told_of was.known ++ steps_of ((call, reply) ∷ []) → now.table ≡ was.table
-      → (m : Meets (IsStepOf call) was.known now.known) → ((n : ℕ) × (last : Known C) × IsAgain n was.known last × IsBusyBy call reply last now.known)
+      → (m : Meets (IsStepOf (names_of was.known) call) was.known now.known) → ((n : ℕ) × (last : Known C) × IsAgain n was.known last × IsBusyBy call reply last now.known)
       → (Holds : Granted → Type 0) → Holds ((call, reply) ∷ []) → Adds was now Holds
   adds_one was now call reply same told table met busy Holds holds = record {
     same = record { table = table; number = same.0; setup = same.1 };
@@ -43,7 +43,7 @@ module _ {C : Type 0} where
 
   -- nothing was told
   pub adds_none : (pass : PassView C) (Holds : Granted → Type 0) → Holds [] → Adds pass pass Holds
-  adds_none pass Holds holds = record { same = same_none pass; more = []; told = sym (append-nil (told_of pass.known)); steps = []; met = sym (append-nil pass.known.met); tells = told_none pass.known.number; holds = holds }
+  adds_none pass Holds holds = record { same = same_none pass; more = []; told = sym (append-nil (told_of pass.known)); steps = []; met = sym (append-nil pass.known.met); tells = told_none (names_of pass.known) pass.known.number; holds = holds }
 
   -- one list after another
   pub adds_on : (was mid now : PassView C) (First Second Both : Granted → Type 0) → Adds was mid First → Adds mid now Second
@@ -54,7 +54,7 @@ module _ {C : Type 0} where
     told = other.told ∙ ap (λ (l : Granted). l ++ steps_of other.more) one.told ∙ append_assoc (told_of was.known) (steps_of one.more) (steps_of other.more) ∙ ap (λ (l : Granted). told_of was.known ++ l) (sym (steps_both one.more other.more));
     steps = one.steps ++ other.steps;
     met = other.met ∙ ap (λ (l : List Met). l ++ other.steps) one.met ∙ append_assoc was.known.met one.steps other.steps;
-    tells = told_both was.known.number one.more other.more one.steps other.steps one.tells (subst (λ n. IsToldOf n other.more other.steps) one.same.number other.tells);
+    tells = told_both (names_of was.known) was.known.number one.more other.more one.steps other.steps one.tells (subst (λ (x : List (List ℕ) × ℕ). IsToldOf x.0 x.1 other.more other.steps) (λ k. (names_in (one.same.setup k), one.same.number k)) other.tells);
     holds = both one.more other.more one.holds other.holds;
   }
 

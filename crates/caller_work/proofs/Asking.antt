@@ -2,12 +2,12 @@
 use Rattle.std.proofs.Common.{◌≡◌, ◌≢◌, ◌⊎◌, ◌||◌, ◌&&◌, ℕ, zero, suc, ◌+◌, ◌<◌, ◌≤◌, Bool, true, false, List, [], ◌∷◌, ◌++◌, get_or, length, drop, Option, Some, Result, Ok, Err, append_assoc, refl, sym, ap, ◌∙◌, subst, inl, inr, ⊎_elim, arith}
 use Rattle.std.specs.Prelude.{Contains, MatchBool, if◌then◌else◌}
 use Rattle.std.proofs.lemmas.List.{append_cancel_left}
-use Rattle.std.proofs.lemmas.Bool.{false≢true}
+use Rattle.std.proofs.lemmas.Bool.{false≢true, and_parts}
 use Rattle.std.proofs.lemmas.List.Elements.{Contains-append_left, Contains-append_right, Contains-append_cases}
 use mathlib.Core.Logic.{dite}
 use native.Mathlib.Decide.{dec_le}
 use Rattle.history.specs.Table.{Granted}
-use Rattle.history.specs.Locks.{touches, clash}
+use Rattle.history.specs.Locks.{touches, has_table, clash}
 use Rattle.history.specs.declared.call.Call.{Call}
 use Rattle.history.specs.declared.call.Call.TheVariants.{Begin, Commit, Abort}
 use Rattle.history.specs.declared.call.Reply.{Reply}
@@ -18,7 +18,7 @@ use Rattle.caller_steps.specs.Fate.{is_refusal}
 use Rattle.stripe_words.specs.Words.{Refuses}
 use Rattle.mars_manager.specs.declared.view.Met.{Met}
 use Rattle.mars_manager.specs.declared.view.Known.{Known}
-use Rattle.mars_manager.specs.Pass.{PassView}
+use Rattle.mars_manager.specs.Pass.{PassView, names_of}
 use Rattle.mars_manager.specs.Locks.{met, IsAgain, IsBusyBy, IsRefusedFor}
 use Rattle.mars_manager.specs.Asked.{IsStepOf, IsUpTo, AsksFor, HasAsked, against, Meets, AreMet, HaveAsked}
 use Rattle.mars_manager.proofs.Asking.{only_one, one_here, none_here, refused_caused}
@@ -32,11 +32,11 @@ use Rattle.caller_work.specs.Tries.{end_call, is_last, refusal_outcome, IsOne, G
 use Rattle.caller_work.specs.Asked.{IsHit, IsToldOf, IsPlanned, HaveCauses}
 
 -- no call, and the calls of one list after another
-pub told_none : (n : ℕ) → IsToldOf n [] []
-told_none n = record { named = λ step there. none_here step there; hits = λ call holder there. none_here (call, says.Busy holder) there }
+pub told_none : (names : List (List ℕ)) (n : ℕ) → IsToldOf names n [] []
+told_none names n = record { named = λ step there. none_here step there; hits = λ call holder there. none_here (call, says.Busy holder) there }
 
-pub told_both : (n : ℕ) (xs ys : Granted) (ms ns : List Met) → IsToldOf n xs ms → IsToldOf n ys ns → IsToldOf n (xs ++ ys) (ms ++ ns)
-told_both n xs ys ms ns a b = record {
+pub told_both : (names : List (List ℕ)) (n : ℕ) (xs ys : Granted) (ms ns : List Met) → IsToldOf names n xs ms → IsToldOf names n ys ns → IsToldOf names n (xs ++ ys) (ms ++ ns)
+told_both names n xs ys ms ns a b = record {
   named = λ step there. ⊎_elim
       (λ (first : Contains ms step). let one = a.named step first in (one.0, Contains-append_left xs ys one.0 one.1, one.2))
       (λ (second : Contains ns step). let one = b.named step second in (one.0, Contains-append_right xs ys one.0 one.1, one.2))
@@ -49,7 +49,7 @@ told_both n xs ys ms ns a b = record {
 
 module _ {C : Type 0} where
   -- the step that a `Busy` comes of is among those that the call made
-  hit_of : (was last now : Known C) (call : Call) (h n : ℕ) (steps : List Met) → now.met ≡ was.met ++ steps → IsAgain n was last → IsRefusedFor call h last now → IsHit was.number call h steps
+  hit_of : (was last now : Known C) (call : Call) (h n : ℕ) (steps : List Met) → now.met ≡ was.met ++ steps → IsAgain n was last → IsRefusedFor call h last now → IsHit (names_of was) was.number call h steps
   hit_of was last now call h n steps is again refused =
       let r = refused.refused in
       let x : Met = met refused.stripe r.step r.found in
@@ -60,12 +60,13 @@ module _ {C : Type 0} where
         step = x;
         asked = refused.asked;
         there = subst (λ (ms : List Met). Contains ms x) (sym same) (Contains-append_right again.more (r.before ++ x ∷ []) x (Contains-append_right r.before (x ∷ []) x (one_here x)));
-        touches_it = refused.touches_it;
+        touches_it = subst (λ (names : List (List ℕ)). touches names call refused.stripe refused.asked ≡ true) (ap (λ (k : Known C). names_of k) again.is)
+            (and_parts (has_table (names_of last) call) (touches (names_of last) call refused.stripe refused.asked) refused.touches_it).1;
         why = subst (λ i. Refuses refused.asked r.found i h) (ap (λ (k : Known C). k.number) again.is) r.why;
       }
 
   -- one call of a pass
-  pub told_one : (was now : Known C) (call : Call) (reply : Reply) → (m : Meets (IsStepOf call) was now) → ((n : ℕ) × (last : Known C) × IsAgain n was last × IsBusyBy call reply last now) → IsToldOf was.number ((call, reply) ∷ []) m.more
+  pub told_one : (was now : Known C) (call : Call) (reply : Reply) → (m : Meets (IsStepOf (names_of was) call) was now) → ((n : ℕ) × (last : Known C) × IsAgain n was last × IsBusyBy call reply last now) → IsToldOf (names_of was) was.number ((call, reply) ∷ []) m.more
   told_one was now call reply m busy = record {
     named = λ step there. ((call, reply), one_here (call, reply), m.each step there);
     hits = λ its holder there.
@@ -138,8 +139,8 @@ module _ (P : Call → Type 0) (begin : P Begin) (commit : P Commit) (abort : P 
       (worked NoLimit (drop (length early) plans) back late stopped (λ plan there. each plan (in_drop (length early) plans plan there)) second)
 
 -- a call that a caller was told of and that touches a stripe is one of its plans'
-pub planned_by : (tries : Tries) (plans : List Plan) (told : Granted) (fates : List Fate) (stopped : Option Reply) → IsWork tries plans told fates stopped → (entry : Call × Reply) → Contains told entry → (t : ℕ) (asked : Mode) → touches entry.0 t asked ≡ true → IsPlanned plans entry.0
-planned_by tries plans told fates stopped work entry there t asked touch = all_worked (λ (call : Call). (t : ℕ) (asked : Mode) → touches call t asked ≡ true → IsPlanned plans call)
+pub planned_by : (names : List (List ℕ)) (tries : Tries) (plans : List Plan) (told : Granted) (fates : List Fate) (stopped : Option Reply) → IsWork tries plans told fates stopped → (entry : Call × Reply) → Contains told entry → (t : ℕ) (asked : Mode) → touches names entry.0 t asked ≡ true → IsPlanned plans entry.0
+planned_by names tries plans told fates stopped work entry there t asked touch = all_worked (λ (call : Call). (t : ℕ) (asked : Mode) → touches names call t asked ≡ true → IsPlanned plans call)
     (λ t asked e. absurd (false≢true e)) (λ t asked e. absurd (false≢true e)) (λ t asked e. absurd (false≢true e)) tries plans told fates stopped
     (λ plan has call its t asked e. record { plan = plan; there = has; its = its }) work entry there t asked touch
 
@@ -148,10 +149,10 @@ or_right true b e = refl
 or_right false b e = e
 
 -- two calls that touch a stripe, the second in a mode that refuses the first
-clashing : (call its : Call) (t : ℕ) (asked other : Mode) → touches call t asked ≡ true → touches its t other ≡ true → IsUpTo (against asked) other → clash (touches call t) (touches its t) ≡ true
-clashing call its t mode.Shared other reads touch up =
-    let writes : touches its t mode.Exclusive ≡ true = ap (touches its t) (sym up) ∙ touch in
-    second (touches call t mode.Exclusive) (touches call t mode.Shared) (touches its t mode.Exclusive) (touches its t mode.Shared) reads writes
+clashing : (names : List (List ℕ)) (call its : Call) (t : ℕ) (asked other : Mode) → touches names call t asked ≡ true → touches names its t other ≡ true → IsUpTo (against asked) other → clash (touches names call t) (touches names its t) ≡ true
+clashing names call its t mode.Shared other reads touch up =
+    let writes : touches names its t mode.Exclusive ≡ true = ap (touches names its t) (sym up) ∙ touch in
+    second (touches names call t mode.Exclusive) (touches names call t mode.Shared) (touches names its t mode.Exclusive) (touches names its t mode.Shared) reads writes
   where
     second : (cw cr iw ir : Bool) → cr ≡ true → iw ≡ true → ((cw && (ir || iw)) || ((cr || cw) && iw)) ≡ true
     second true true true true a b = refl
@@ -160,11 +161,11 @@ clashing call its t mode.Shared other reads touch up =
     second false true true false a b = refl
     second cw false iw ir a b = absurd (false≢true a)
     second cw true false ir a b = absurd (false≢true b)
-clashing call its t mode.Exclusive other writes touch up = first (touches call t mode.Exclusive) (touches call t mode.Shared) (touches its t mode.Exclusive) (touches its t mode.Shared) writes (any other touch)
+clashing names call its t mode.Exclusive other writes touch up = first (touches names call t mode.Exclusive) (touches names call t mode.Shared) (touches names its t mode.Exclusive) (touches names its t mode.Shared) writes (any other touch)
   where
-    any : (other : Mode) → touches its t other ≡ true → (touches its t mode.Shared || touches its t mode.Exclusive) ≡ true
-    any mode.Shared e = ap (λ b. b || touches its t mode.Exclusive) e
-    any mode.Exclusive e = or_right (touches its t mode.Shared) (touches its t mode.Exclusive) e
+    any : (other : Mode) → touches names its t other ≡ true → (touches names its t mode.Shared || touches names its t mode.Exclusive) ≡ true
+    any mode.Shared e = ap (λ b. b || touches names its t mode.Exclusive) e
+    any mode.Exclusive e = or_right (touches names its t mode.Shared) (touches names its t mode.Exclusive) e
 
     first : (cw cr iw ir : Bool) → cw ≡ true → (ir || iw) ≡ true → ((cw && (ir || iw)) || ((cr || cw) && iw)) ≡ true
     first false cr iw ir a b = absurd (false≢true a)
@@ -188,10 +189,10 @@ module _ {C : Type 0} where
   met_at met (q ∷ passes) (suc i) p a within = met_at met passes i p a.1 (omega arith)
 
   -- why a caller was told `Busy`, from what all passes asked for and what each caller was told
-  pub causes_of : (callers : ℕ) (plans : ℕ → List Plan) (tries : Tries) (passes : List (PassView C)) (p : PassView C) (told : (k : ℕ) → k < callers → Granted) (fates : ℕ → List Fate) (stopped : ℕ → Option Reply) → HaveAsked callers passes → callers ≤ length passes
-      → ((k : ℕ) → k < callers → (get_or passes k p).known.number ≡ k) → ((k : ℕ) (l : k < callers) → IsToldOf k (told k l) (get_or passes k p).known.met) → ((k : ℕ) (l : k < callers) → IsWork tries (plans k) (told k l) (fates k) (stopped k))
-      → (k : ℕ) (within : k < callers) → HaveCauses callers plans k (told k within)
-  causes_of callers plans tries passes p told fates stopped asked many numbers tells works k within call h there =
+  pub causes_of : (callers : ℕ) (names : List (List ℕ)) (plans : ℕ → List Plan) (tries : Tries) (passes : List (PassView C)) (p : PassView C) (told : (k : ℕ) → k < callers → Granted) (fates : ℕ → List Fate) (stopped : ℕ → Option Reply) → HaveAsked callers passes → callers ≤ length passes
+      → ((k : ℕ) → k < callers → (get_or passes k p).known.number ≡ k) → ((k : ℕ) (l : k < callers) → IsToldOf names k (told k l) (get_or passes k p).known.met) → ((k : ℕ) (l : k < callers) → IsWork tries (plans k) (told k l) (fates k) (stopped k))
+      → (k : ℕ) (within : k < callers) → HaveCauses callers names plans k (told k within)
+  causes_of callers names plans tries passes p told fates stopped asked many numbers tells works k within call h there =
       let hit = (tells k within).hits call h there in
       let mine : (i : ℕ) → i < callers → (get_or passes i p).known.met ≡ asked.met i = (λ i l. met_at asked.met passes i p asked.each (omega arith) ∙ ap asked.met (numbers i l)) in
       let here : Contains (asked.met k) hit.step = subst (λ (ms : List Met). Contains ms hit.step) (mine k within) hit.there in
@@ -203,13 +204,13 @@ module _ {C : Type 0} where
       let entry = one.0 in
       let step = one.2 in
       let place = asked_at (against hit.asked) hit.step.stripe his.0 his.2 in
-      let touch : touches entry.0 hit.step.stripe step.0 ≡ true = subst (λ t. touches entry.0 t step.0 ≡ true) place step.1 in record {
+      let touch : touches names entry.0 hit.step.stripe step.0 ≡ true = subst (λ t. touches names entry.0 t step.0 ≡ true) place (and_parts (has_table names entry.0) (touches names entry.0 his.0.stripe step.0) step.1).1 in record {
         among = among;
         other = other hit.asked hit.step.found hit.why;
         its = entry.0;
-        planned = planned_by tries (plans h) (told h among) (fates h) (stopped h) (works h among) entry one.1 hit.step.stripe step.0 touch;
+        planned = planned_by names tries (plans h) (told h among) (fates h) (stopped h) (works h among) entry one.1 hit.step.stripe step.0 touch;
         stripe = hit.step.stripe;
-        clashes = clashing call entry.0 hit.step.stripe hit.asked step.0 hit.touches_it touch (asked_up (against hit.asked) hit.step.stripe his.0 step.0 his.2 step.2);
+        clashes = clashing names call entry.0 hit.step.stripe hit.asked step.0 hit.touches_it touch (asked_up (against hit.asked) hit.step.stripe his.0 step.0 his.2 step.2);
       }
     where
       other : (asked : Mode) (found : ℕ) → Refuses asked found k h → h ≢ k

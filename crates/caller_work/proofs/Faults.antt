@@ -121,6 +121,7 @@ media_at call (says.Listed v) told rest = rest
 media_at call (says.Saved v) told rest = rest
 media_at call (says.Committed v) told rest = rest
 media_at call says.NoTransaction told rest = rest
+media_at call says.NoTable told rest = rest
 media_at call says.Already told rest = rest
 media_at call (says.NoSave v) told rest = rest
 media_at call says.SavesFull told rest = rest

@@ -291,6 +291,7 @@ own_at caller own call (says.Listed v) told rest = rest (own_after caller own (c
 own_at caller own call (says.Saved v) told rest = rest (own_after caller own (call, says.Saved v))
 own_at caller own call (says.Committed v) told rest = rest (own_after caller own (call, says.Committed v))
 own_at caller own call says.NoTransaction told rest = rest (own_after caller own (call, says.NoTransaction))
+own_at caller own call says.NoTable told rest = rest (own_after caller own (call, says.NoTable))
 own_at caller own call says.Already told rest = rest (own_after caller own (call, says.Already))
 own_at caller own call (says.NoSave v) told rest = rest (own_after caller own (call, says.NoSave v))
 own_at caller own call says.SavesFull told rest = rest (own_after caller own (call, says.SavesFull))

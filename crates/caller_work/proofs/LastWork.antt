@@ -4,7 +4,7 @@ use Rattle.history.specs.declared.call.Reply.{Reply}
 use Rattle.history.specs.declared.call.Reply.TheVariants as says
 use Rattle.std.specs.Prelude.{option_map}
 use Rattle.history.specs.Table.{Granted}
-use Rattle.mars_manager.specs.Pass.{PassView}
+use Rattle.mars_manager.specs.Pass.{PassView, names_in, names_of}
 use Rattle.mars_manager.specs.declared.view.Met.{Met}
 use Rattle.mars_manager.specs.Locks.{steps_of}
 use Rattle.mars_manager.specs.Sharing.{MarsView}
@@ -89,8 +89,8 @@ module _ {C : Type 0} (mars : MarsView C) (caller : ℕ) (was now : Worker C) (e
                 worked.works.holds,
               ),
             );
-            asked = subst (λ (ms : List Met). IsToldOf caller (left.works.0 ++ worked.works.more) ms) (sym worked.works.met)
-                (told_both caller left.works.0 worked.works.more was.pass.known.met worked.works.steps left.asked (subst (λ n. IsToldOf n worked.works.more worked.works.steps) left.number worked.works.tells));
+            asked = subst (λ (x : List (List ℕ) × List Met). IsToldOf x.0 caller (left.works.0 ++ worked.works.more) x.1) (λ k. (names_in (sym worked.works.same.setup k), sym worked.works.met k))
+                (told_both (names_of was.pass.known) caller left.works.0 worked.works.more was.pass.known.met worked.works.steps left.asked (subst (λ n. IsToldOf (names_of was.pass.known) n worked.works.more worked.works.steps) left.number worked.works.tells));
             whole = λ ended. none_at worked.stopped (sym worked.stop_is ∙ whole_none now.stop
                 (λ holder stops. endless late worked.works.more worked.made holder
                 (subst (λ (s : Option Reply). Works NoLimit late worked.works.more worked.made s) (busy_at worked.stopped holder (sym worked.stop_is ∙ stops)) worked.works.holds))

@@ -9,12 +9,12 @@ use Rattle.caller_steps.specs.Room.{Limits}
 use Rattle.caller_steps.specs.Core.{CoreView}
 use Rattle.caller_steps.specs.Fate.{is_media}
 use Rattle.caller_steps.specs.Own.{has_media}
-use Rattle.caller_steps.specs.Run.{Turn, AreOf, turns_of, has_fault}
+use Rattle.caller_steps.specs.Run.{Turn, GoesAlong, AreOf, turns_of, has_fault}
 use Rattle.caller_steps.proofs.Running.{turns_dead}
 use Rattle.caller_steps.proofs.Telling.{told_by_some, some_line}
 use Rattle.mars_manager.specs.declared.setup.Setup.{Setup}
-use Rattle.mars_manager.specs.Pass.{PassView, Fits, AreSo, known_of, times, newcomer}
-use Rattle.mars_manager.specs.Sharing.{MarsView, Since, AreGathered}
+use Rattle.mars_manager.specs.Pass.{PassView, names_in, Fits, AreSo, known_of, times, newcomer}
+use Rattle.mars_manager.specs.Sharing.{MarsView, Since}
 use Rattle.mars_manager.proofs.Calls.{told_all}
 use Rattle.caller_plans.specs.declared.plan.Plan.{Plan}
 use Rattle.caller_plans.specs.declared.fate.Fate.{Fate}
@@ -24,7 +24,7 @@ use Rattle.caller_work.specs.declared.end.WorkEnd.{WorkEnd}
 use Rattle.caller_work.specs.Standing.{stop_for}
 use Rattle.caller_work.specs.Tries.{IsWorkOf}
 use Rattle.caller_work.specs.Crew.{IsDone}
-use Rattle.caller_work.specs.Asked.{HaveCauses}
+use Rattle.caller_work.specs.Asked.{IsToldOf, HaveCauses}
 use Rattle.mars_manager.specs.Asked.{HaveAsked}
 use Rattle.caller_work.proofs.Asking.{causes_of}
 use Rattle.caller_work.specs.Worked.{of_caller, end_of, worst, is_fault, Worked}
@@ -67,11 +67,12 @@ module _ {C : Type 0} where
   fits_at tells show setup turns state (q ∷ passes) (suc i) p so within = fits_at tells show setup turns state passes i p so.1 (omega arith)
 
   module _ (tells : Bool) (show : C → CoreView) (mars : MarsView C) (last : C) (tries : ℕ) (plans : List (List Plan)) (told : List (List Fate)) (stopped : List (Option Reply)) (passes : List (PassView C)) (end : WorkEnd)
-      (few : mars.setup.callers ≡ length plans) (each : length told ≡ length plans) (each_stopped : length stopped ≡ length plans) (both : length passes ≡ length plans)
+      (named : mars.setup.names ≡ (show mars.setup.first).state.names) (each : length told ≡ length plans) (each_stopped : length stopped ≡ length plans) (both : length passes ≡ length plans)
       (done : (k : ℕ) (p : PassView C) → k < length plans → IsDone end k (Times tries) (of_caller plans k) (of_caller told k) (get_or stopped k None) (get_or passes k p))
       (end_is : end ≡ worst (map (option_map stop_for) stopped))
       (since : Since tells (show mars.setup.first) (show last))
-      (gathered : AreGathered tells show mars.setup last passes) (asked : HaveAsked mars.setup.callers passes) where
+      (turns : List Turn) (run : GoesAlong tells (show mars.setup.first).limits (show mars.setup.first).state turns (show last).state) (of_these : AreOf (length plans) turns)
+      (alive : (show mars.setup.first).state.is_dead ≡ false) (so : AreSo tells show mars.setup turns (show last).state passes) (asked : HaveAsked (length plans) passes) where
     somebody : PassView C
     somebody = record { table = mars.table; known = newcomer mars.setup 0 }
 
@@ -84,21 +85,19 @@ module _ {C : Type 0} where
     abbrev now : State
     now = (show last).state
 
-    abbrev turns : List Turn
-    turns = gathered.turns
-
     -- each caller's turns are those that its plans ask for
     works : (k : ℕ) → k < length plans → IsWorkOf (Times tries) (of_caller plans k) (turns_of k turns) (of_caller told k) (get_or stopped k None)
     works k within =
         let d = done k somebody within in
-        let fits = fits_at tells show mars.setup turns now passes k somebody gathered.each (omega arith) in
+        let fits = fits_at tells show mars.setup turns now passes k somebody so (omega arith) in
         (d.works.0, sym (told_all tells show mars.setup turns now (get_or passes k somebody).known fits ∙ ap (λ (n : ℕ). turns_of n turns) d.number) ∙ d.works.1, d.works.2)
 
     -- and each `Busy` that it was told has its cause
-    causes : (k : ℕ) (within : k < length plans) → HaveCauses (length plans) (of_caller plans) k (works k within).0
+    causes : (k : ℕ) (within : k < length plans) → HaveCauses (length plans) first.names (of_caller plans) k (works k within).0
     unfolding works
-    causes k within = causes_of (length plans) (of_caller plans) (Times tries) passes somebody (λ i l. (done i somebody l).works.0) (of_caller told) (λ i. get_or stopped i None)
-        (subst (λ n. HaveAsked n passes) few asked) (omega arith) (λ i l. (done i somebody l).number) (λ i l. (done i somebody l).asked) (λ i l. (done i somebody l).works.2) k within
+    causes k within = causes_of (length plans) first.names (of_caller plans) (Times tries) passes somebody (λ i l. (done i somebody l).works.0) (of_caller told) (λ i. get_or stopped i None)
+        asked (omega arith) (λ i l. (done i somebody l).number) (λ i l. subst (λ (names : List (List ℕ)). IsToldOf names i (done i somebody l).works.0 (get_or passes i somebody).known.met)
+        (ap names_in (fits_at tells show mars.setup turns now passes i somebody so (omega arith)).setup_is ∙ named) (done i somebody l).asked) (λ i l. (done i somebody l).works.2) k within
 
     media_work : (k : ℕ) → k < length plans → has_media (turns_of k turns) ≡ is_fault (end_of (option_map stop_for (get_or stopped k None)))
     media_work k within =
@@ -115,12 +114,12 @@ module _ {C : Type 0} where
         from (x ∷ xs) (suc k) = from xs k
 
     dead_is : now.is_dead ≡ has_fault turns
-    dead_is = turns_dead tells limits first now turns gathered.run ∙ ap (λ b. b || has_fault turns) gathered.ready.alive
+    dead_is = turns_dead tells limits first now turns run ∙ ap (λ b. b || has_fault turns) alive
 
     fault_told : has_fault turns ≡ true → is_fault end ≡ true
     fault_told fault =
-        let cause = told_by_some (λ (entry : Call × Reply). is_media entry.1) mars.setup.callers turns gathered.whose fault in
-        let within : cause.0 < length plans = (let l = cause.1 in omega arith) in
+        let cause = told_by_some (λ (entry : Call × Reply). is_media entry.1) (length plans) turns of_these fault in
+        let within : cause.0 < length plans = cause.1 in
         ap is_fault end_is ∙ fault_of_one (map (option_map stop_for) stopped) cause.0 None (let e = length-map stopped (option_map stop_for) in omega arith) (ap (λ (s : Option Stop). is_fault (end_of s)) (stop_at cause.0) ∙ sym (media_work cause.0 within) ∙ cause.2)
 
     fault_true : is_fault end ≡ true → has_fault turns ≡ true
@@ -136,8 +135,8 @@ module _ {C : Type 0} where
     whole = record {
       since = since;
       turns = turns;
-      run = gathered.run;
-      whose = subst (λ (n : ℕ). AreOf n turns) few gathered.whose;
+      run = run;
+      whose = of_these;
       dead = dead_is ∙ fault_as;
       fault = fault_as;
       each = each;

@@ -12,18 +12,18 @@ use Rattle.mars_manager.specs.Asked.{IsStepOf}
 use Rattle.caller_plans.specs.declared.plan.Plan.{Plan}
 
 -- one of these steps of the pass n was refused for a call: it found the pass h in its way
-pub record IsHit (n : ℕ) (call : Call) (h : ℕ) (steps : List Met) : Type 0 where
+pub record IsHit (names : List (List ℕ)) (n : ℕ) (call : Call) (h : ℕ) (steps : List Met) : Type 0 where
   pub step : Met
   pub asked : Mode
   pub there : Contains steps step
-  pub touches_it : IsTrue (touches call step.stripe asked)
+  pub touches_it : IsTrue (touches names call step.stripe asked)
   pub why : Refuses asked step.found n h
 
--- What the pass n was told at its calls, and the steps that it made for them on the words of stripes: each step is for what one of the calls
--- touches, and each `Busy` is that of a step.
-pub record IsToldOf (n : ℕ) (told : Granted) (steps : List Met) : Type 0 where
-  pub named : (step : Met) → Contains steps step → (entry : Call × Reply) × Contains told entry × IsStepOf entry.0 step
-  pub hits : (call : Call) (holder : ℕ) → Contains told (call, says.Busy holder) → IsHit n call holder steps
+-- What the pass n was told at its calls, and the steps that it made for them on the words of stripes, where the tables have these names: each step
+-- is for what one of the calls locks, and each `Busy` is that of a step.
+pub record IsToldOf (names : List (List ℕ)) (n : ℕ) (told : Granted) (steps : List Met) : Type 0 where
+  pub named : (step : Met) → Contains steps step → (entry : Call × Reply) × Contains told entry × IsStepOf names entry.0 step
+  pub hits : (call : Call) (holder : ℕ) → Contains told (call, says.Busy holder) → IsHit names n call holder steps
 
 -- the call is one of these plans'
 pub record IsPlanned (plans : List Plan) (call : Call) : Type 0 where
@@ -32,14 +32,14 @@ pub record IsPlanned (plans : List Plan) (call : Call) : Type 0 where
   pub its : Contains plan.calls call
 
 -- the holder is another of so many callers and plans a call that touches a stripe of this one, one of the two for writing
-pub record HasCause (callers : ℕ) (plans : ℕ → List Plan) (caller : ℕ) (call : Call) (holder : ℕ) : Type 0 where
+pub record HasCause (callers : ℕ) (names : List (List ℕ)) (plans : ℕ → List Plan) (caller : ℕ) (call : Call) (holder : ℕ) : Type 0 where
   pub among : holder < callers
   pub other : holder ≢ caller
   pub its : Call
   pub planned : IsPlanned (plans holder) its
   pub stripe : ℕ
-  pub clashes : IsTrue (clash (touches call stripe) (touches its stripe))
+  pub clashes : IsTrue (clash (touches names call stripe) (touches names its stripe))
 
 -- so it is at each `Busy` that a caller was told
-abbrev pub HaveCauses : ℕ → (ℕ → List Plan) → ℕ → Granted → Type 0
-HaveCauses callers plans caller told = (call : Call) (holder : ℕ) → Contains told (call, says.Busy holder) → HasCause callers plans caller call holder
+abbrev pub HaveCauses : ℕ → List (List ℕ) → (ℕ → List Plan) → ℕ → Granted → Type 0
+HaveCauses callers names plans caller told = (call : Call) (holder : ℕ) → Contains told (call, says.Busy holder) → HasCause callers names plans caller call holder

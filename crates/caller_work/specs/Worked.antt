@@ -57,6 +57,6 @@ pub record Worked (tells : Bool) (tries : ℕ) (plans : List (List Plan)) (first
   pub stopped : List (Option Reply)
   pub each_stopped : length stopped ≡ length plans
   pub works : (caller : ℕ) → caller < length plans → IsWorkOf (Times tries) (of_caller plans caller) (turns_of caller turns) (of_caller fates caller) (slice_index_or stopped caller None)
-  pub causes : (caller : ℕ) (within : caller < length plans) → HaveCauses (length plans) (of_caller plans) caller (works caller within).0
+  pub causes : (caller : ℕ) (within : caller < length plans) → HaveCauses (length plans) first.state.names (of_caller plans) caller (works caller within).0
   pub end_is : end ≡ worst (map (option_map stop_for) stopped)
   pub whole : end ≡ work.All → (caller : ℕ) → caller < length plans → slice_index_or stopped caller None ≡ None

@@ -9,11 +9,12 @@ use Rattle.clap.specs.Matches.{subcommand_name_of}
 use Rattle.clap.specs.declared.parser.ArgMatches.{ArgMatches}
 use Rattle.texts.specs.Reads.{Reads}
 use Rattle.record_slots.specs.Text.{IsName}
-use Rattle.command_words.specs.Asked.{SubcommandAsks, GivesRun, GivesNumbers, GivesDrill, GivesCallers, GivesWriting, GivesName, IsNumber}
+use Rattle.command_words.specs.Asked.{SubcommandAsks, GivesRun, GivesEaw, GivesNumbers, GivesDrill, GivesCallers, GivesWriting, GivesName, IsNumber}
 use Rattle.command_words.specs.declared.words.CallersNumbers.{CallersNumbers}
 use Rattle.command_words.specs.declared.words.DrillNumbers.{DrillNumbers}
 use Rattle.command_words.specs.declared.words.FormatNumbers.{FormatNumbers}
 use Rattle.command_words.specs.declared.words.RunOptions.{RunOptions}
+use Rattle.command_words.specs.declared.words.EawOptions.{EawOptions}
 use Rattle.command_words.specs.declared.words.Writing.{Writing}
 use Rattle.command_words.specs.declared.words.Writing.TheVariants.{AtOnce, Late}
 use Rattle.command_words.specs.declared.words.Words.{Words}
@@ -42,7 +43,7 @@ number_left least most None first is = rw is (λ n same. some_is_none (sym same)
 number_left least most (Some n) first is = rw is refl
 
 -- a value and a default give at most one number
-one_number : (least most : ℕ) (default : Option ℕ) (first : Option Text) (m n : ℕ) → most < 2 ^ 32 → IsNumber least most default first m → IsNumber least most default first n → m ≡ n
+pub one_number : (least most : ℕ) (default : Option ℕ) (first : Option Text) (m n : ℕ) → most < 2 ^ 32 → IsNumber least most default first m → IsNumber least most default first n → m ≡ n
 one_number least most default None m n fits is are = inner (sym is ∙ are)
 one_number least most default (Some value) m n fits is are = decimal_injective m n (omega (arith, is.1, fits)) (omega (arith, are.1, fits)) (sym is.2 ∙ are.2)
 
@@ -67,7 +68,7 @@ one_met met name other options others is also =
 abbrev name_of : Words → Text
 name_of (Run given) = codes "run"
 name_of (Callers numbers) = codes "callers"
-name_of Eaw = codes "eaw"
+name_of (Eaw given) = codes "eaw"
 name_of Dump = codes "dump"
 name_of (Drill numbers) = codes "drill"
 name_of (Format numbers) = codes "format"
@@ -79,7 +80,7 @@ name_of Follow = codes "follow"
 named : (name : Text) (options : List Row) (asked : Words) → SubcommandAsks name options asked → name ≡ name_of asked
 named name options (Run given) says = says.0
 named name options (Callers numbers) says = says.0
-named name options Eaw says = says
+named name options (Eaw given) says = says.0
 named name options Dump says = says
 named name options (Drill numbers) says = says.0
 named name options (Format numbers) says = says.0
@@ -127,7 +128,10 @@ one_writing (Some value) (Late depth) (Late more) is also = ap Late (one_number 
 
 -- numbers of the same options are the same
 one_run : (options : List Row) (given other : RunOptions) → GivesRun options given → GivesRun options other → given ≡ other
-one_run options given other is also = ap (λ w. record { writing = w }) (one_writing (first_of (codes "late") options) given.writing other.writing is.writing also.writing)
+one_run options given other is also = ap₂ (λ w b. record { writing = w; frames = b }) (one_writing (first_of (codes "late") options) given.writing other.writing is.writing also.writing) (is.frames ∙ sym also.frames)
+
+one_eaw : (options : List Row) (given other : EawOptions) → GivesEaw options given → GivesEaw options other → given ≡ other
+one_eaw options given other is also = ap (λ b. record { frames = b }) (is.frames ∙ sym also.frames)
 
 one_callers : (options : List Row) (numbers other : CallersNumbers) → GivesCallers options numbers → GivesCallers options other → numbers ≡ other
 one_callers options numbers other are also = search (rules, one_number, one_writing)
@@ -145,7 +149,7 @@ one_make values table other is also = inner (sym is.given ∙ also.given)
 pub one_asked : (name : Text) (options : List Row) (asked other : Words) → SubcommandAsks name options asked → SubcommandAsks name options other → asked ≡ other
 one_asked name options (Run given) (Run other) says also = ap Run (one_run options given other says.1 also.1)
 one_asked name options (Callers numbers) (Callers other) says also = ap Callers (one_callers options numbers other says.1 also.1)
-one_asked name options Eaw Eaw says also = refl
+one_asked name options (Eaw given) (Eaw other) says also = ap Eaw (one_eaw options given other says.1 also.1)
 one_asked name options Dump Dump says also = refl
 one_asked name options (Drill numbers) (Drill other) says also = ap Drill (one_drill options numbers other says.1 also.1)
 one_asked name options (Format numbers) (Format other) says also = ap Format (one_format options numbers other says.1 also.1)
@@ -159,7 +163,7 @@ pub none_other : (word : Text) → (word ≡ codes "run" → ⊥) → (word ≡ 
     → (word ≡ codes "format" → ⊥) → (word ≡ codes "make" → ⊥) → (word ≡ codes "purge" → ⊥) → (word ≡ codes "follow" → ⊥) → (options : List Row) (asked : Words) → SubcommandAsks word options asked → ⊥
 none_other word run callers eaw dump drill format make purge follow options (Run given) says = run says.0
 none_other word run callers eaw dump drill format make purge follow options (Callers numbers) says = callers says.0
-none_other word run callers eaw dump drill format make purge follow options Eaw says = eaw says
+none_other word run callers eaw dump drill format make purge follow options (Eaw given) says = eaw says.0
 none_other word run callers eaw dump drill format make purge follow options Dump says = dump says
 none_other word run callers eaw dump drill format make purge follow options (Drill numbers) says = drill says.0
 none_other word run callers eaw dump drill format make purge follow options (Format numbers) says = format says.0

@@ -1,5 +1,5 @@
 -- What usual words ask for.
-use Rattle.std.proofs.Common.{◌≡◌, ◌<◌, ◌≤◌, ◌^◌, ℕ, zero, suc, false, List, [], ◌∷◌, Option, Some, None, codes, refl, sym, ap, subst, ◌∙◌, arith, drop, get_or, nat_lt, nat_le, if◌then◌else◌}
+use Rattle.std.proofs.Common.{◌≡◌, ◌<◌, ◌≤◌, ◌^◌, ℕ, zero, suc, true, false, List, [], ◌∷◌, Option, Some, None, codes, refl, sym, ap, subst, ◌∙◌, arith, drop, get_or, nat_lt, nat_le, if◌then◌else◌}
 use Rattle.std.specs.Prelude.{fold, slice_get, unwrap_or}
 use Rattle.std.specs.Str.{bytes_eq}
 use Rattle.std.specs.Fmt.{decimal}
@@ -15,15 +15,15 @@ use Rattle.clap.specs.Kinds.{Kinds, or_else}
 use Rattle.clap.specs.declared.error.ErrorKind.{ErrorKind}
 use Rattle.clap.specs.declared.error.ErrorKind.TheVariants as kind
 use Rattle.record_slots.specs.Text.{IsName, is_letter}
-use Rattle.command_words.specs.Usual.{late_words, format_words, joined_words, AreSmall, drill_words, AreOfDrill, callers_words, tries_words, AreOfCallers}
+use Rattle.command_words.specs.Usual.{late_words, format_words, joined_words, AreSmall, drill_words, AreOfDrill, callers_words, tries_words, readers_words, AreOfCallers, AreOfReaders}
 use Rattle.command_words.specs.declared.words.CallersNumbers.{CallersNumbers}
 use Rattle.command_words.specs.declared.words.DrillNumbers.{DrillNumbers}
 use Rattle.command_words.specs.declared.words.FormatNumbers.{FormatNumbers}
 use Rattle.command_words.specs.declared.words.Writing.{Writing}
 use Rattle.command_words.specs.declared.words.Writing.TheVariants.{AtOnce, Late}
 use Rattle.clap.proofs.OnLiterals.{clap_on_literals}
-use Rattle.command_words.specs.CommandLine.{command_line, run_shape, format_shape, drill_shape, callers_shape, make_shape, option_of}
-use Rattle.command_words.specs.Asked.{AsksFor, AskForNothing, IsNumber, GivesWriting}
+use Rattle.command_words.specs.CommandLine.{command_line, run_shape, eaw_shape, format_shape, drill_shape, callers_shape, make_shape, option_of}
+use Rattle.command_words.specs.Asked.{AsksFor, AskForNothing, IsNumber, GivesWriting, is_given}
 use Rattle.command_words.specs.declared.words.Words.TheVariants.{Run, Callers, Eaw, Dump, Drill, Format, Make, Purge, Follow}
 
 -- the word is not a flag
@@ -93,19 +93,63 @@ level_passes s words w passes is no_more = ap (λ k. or_else k (behind_walk s (w
 abbrev IsTaken : List Text → Text → List Row → Type 0
 IsTaken words name options = (fault_of command_line words ≡ []) × (subcommand_of command_line words ≡ Some (name, options))
 
-run_taken : IsTaken (codes "run" ∷ []) (codes "run") []
+-- `run` as it is built, and the options of its words
+abbrev run_built : Shape
+run_built = unwrap_or (slice_get (built command_line).subs 0) run_shape
+
+abbrev run_options : List Text → List Row
+run_options words = finished run_built.rules (walk run_built.rules [] nothing_held words).held
+
+run_taken : IsTaken (codes "run" ∷ []) (codes "run") (run_options [])
 unfolding clap_on_literals
 run_taken = (refl, refl)
 
-pub run_asks : AsksFor (codes "run" ∷ []) (Run (record { writing = AtOnce }))
-run_asks = (run_taken.0, codes "run", [], run_taken.1, (refl, record { writing = refl }))
+run_plain : (first_of (codes "late") (run_options []) ≡ None) × (false ≡ is_given (first_of (codes "frames") (run_options [])))
+unfolding clap_on_literals
+run_plain = (refl, refl)
 
-eaw_taken : IsTaken (codes "eaw" ∷ []) (codes "eaw") []
+pub run_asks : AsksFor (codes "run" ∷ []) (Run (record { writing = AtOnce; frames = false }))
+run_asks = (run_taken.0, codes "run", run_options [], run_taken.1, (refl, record { writing = run_plain.0; frames = run_plain.1 }))
+
+run_frames_taken : IsTaken (codes "run" ∷ codes "--frames" ∷ []) (codes "run") (run_options (codes "--frames" ∷ []))
+unfolding clap_on_literals
+run_frames_taken = (refl, refl)
+
+run_framed : (first_of (codes "late") (run_options (codes "--frames" ∷ [])) ≡ None) × (true ≡ is_given (first_of (codes "frames") (run_options (codes "--frames" ∷ []))))
+unfolding clap_on_literals
+run_framed = (refl, refl)
+
+pub run_frames_asks : AsksFor (codes "run" ∷ codes "--frames" ∷ []) (Run (record { writing = AtOnce; frames = true }))
+run_frames_asks = (run_frames_taken.0, codes "run", run_options (codes "--frames" ∷ []), run_frames_taken.1, (refl, record { writing = run_framed.0; frames = run_framed.1 }))
+
+-- `eaw` as it is built, and the options of its words
+abbrev eaw_built : Shape
+eaw_built = unwrap_or (slice_get (built command_line).subs 1) eaw_shape
+
+abbrev eaw_options : List Text → List Row
+eaw_options words = finished eaw_built.rules (walk eaw_built.rules [] nothing_held words).held
+
+eaw_taken : IsTaken (codes "eaw" ∷ []) (codes "eaw") (eaw_options [])
 unfolding clap_on_literals
 eaw_taken = (refl, refl)
 
-pub eaw_asks : AsksFor (codes "eaw" ∷ []) Eaw
-eaw_asks = (eaw_taken.0, codes "eaw", [], eaw_taken.1, refl)
+eaw_plain : false ≡ is_given (first_of (codes "frames") (eaw_options []))
+unfolding clap_on_literals
+eaw_plain = refl
+
+pub eaw_asks : AsksFor (codes "eaw" ∷ []) (Eaw (record { frames = false }))
+eaw_asks = (eaw_taken.0, codes "eaw", eaw_options [], eaw_taken.1, (refl, record { frames = eaw_plain }))
+
+frames_taken : IsTaken (codes "eaw" ∷ codes "--frames" ∷ []) (codes "eaw") (eaw_options (codes "--frames" ∷ []))
+unfolding clap_on_literals
+frames_taken = (refl, refl)
+
+eaw_framed : true ≡ is_given (first_of (codes "frames") (eaw_options (codes "--frames" ∷ [])))
+unfolding clap_on_literals
+eaw_framed = refl
+
+pub frames_asks : AsksFor (codes "eaw" ∷ codes "--frames" ∷ []) (Eaw (record { frames = true }))
+frames_asks = (frames_taken.0, codes "eaw", eaw_options (codes "--frames" ∷ []), frames_taken.1, (refl, record { frames = eaw_framed }))
 
 dump_taken : IsTaken (codes "dump" ∷ []) (codes "dump") []
 unfolding clap_on_literals
@@ -282,10 +326,6 @@ joined_asks numbers small =
       ),
     )
 
--- `run` as it is built, and its option
-abbrev run_built : Shape
-run_built = unwrap_or (slice_get (built command_line).subs 0) run_shape
-
 abbrev late_rule : Rule
 late_rule = unwrap_or (arg_by_id run_built.rules (codes "late")) (option_of (codes "late"))
 
@@ -309,18 +349,18 @@ module _ (depth : Text) (plain : IsPlain depth) where
   unfolding clap_on_literals
   late_met = ap (λ (w : Walk). Some (codes "run", finished run_built.rules w.held)) late_walk
 
-  late_value : first_of (codes "late") (finished run_built.rules with_depth.held) ≡ Some depth
+  late_value : (first_of (codes "late") (finished run_built.rules with_depth.held) ≡ Some depth) × (false ≡ is_given (first_of (codes "frames") (finished run_built.rules with_depth.held)))
   unfolding clap_on_literals
-  late_value = refl
+  late_value = (refl, refl)
 
-pub late_asks : (depth : ℕ) → 1 ≤ depth → depth ≤ 64 → AsksFor (late_words depth) (Run (record { writing = Late depth }))
+pub late_asks : (depth : ℕ) → 1 ≤ depth → depth ≤ 64 → AsksFor (late_words depth) (Run (record { writing = Late depth; frames = false }))
 late_asks depth some few =
     let plain = plain_decimal depth (omega (arith, few)) in (
       late_taken (decimal depth) plain,
       codes "run",
       _,
       late_met (decimal depth) plain,
-      (refl, record { writing = given 1 64 depth None _ (late_value (decimal depth) plain) some few }),
+      (refl, record { writing = given 1 64 depth None _ (late_value (decimal depth) plain).0 some few; frames = (late_value (decimal depth) plain).1 }),
     )
 
 -- the option `late` is missing
@@ -419,6 +459,9 @@ callers_built = unwrap_or (slice_get (built command_line).subs 5) callers_shape
 abbrev tries_rule : Rule
 tries_rule = unwrap_or (arg_by_id callers_built.rules (codes "tries")) (option_of (codes "tries"))
 
+abbrev readers_rule : Rule
+readers_rule = unwrap_or (arg_by_id callers_built.rules (codes "readers")) (option_of (codes "readers"))
+
 module _ (callers : Text) (plain_callers : IsPlain callers) where
   abbrev with_callers : Walk
   with_callers = to_positional callers_built.rules (arg_by_index callers_built.rules 1) callers (stands nothing_held 1) nothing_held
@@ -440,9 +483,9 @@ module _ (callers : Text) (plain_callers : IsPlain callers) where
   callers_met = ap (λ (w : Walk). Some (codes "callers", finished callers_built.rules w.held)) callers_walk
 
   callers_values : (first_of (codes "callers") (finished callers_built.rules with_callers.held) ≡ Some callers) × (first_of (codes "tries") (finished callers_built.rules with_callers.held) ≡ None)
-      × (first_of (codes "late") (finished callers_built.rules with_callers.held) ≡ None)
+      × (first_of (codes "late") (finished callers_built.rules with_callers.held) ≡ None) × (first_of (codes "readers") (finished callers_built.rules with_callers.held) ≡ None)
   unfolding clap_on_literals
-  callers_values = (refl, refl, refl)
+  callers_values = (refl, refl, refl, refl)
 
   module _ (tries : Text) (plain_tries : IsPlain tries) where
     abbrev tries_option : List Text
@@ -470,9 +513,39 @@ module _ (callers : Text) (plain_callers : IsPlain callers) where
     tries_met = ap (λ (w : Walk). Some (codes "callers", finished callers_built.rules w.held)) tries_walk
 
     tries_values : (first_of (codes "callers") (finished callers_built.rules with_tries.held) ≡ Some callers) × (first_of (codes "tries") (finished callers_built.rules with_tries.held) ≡ Some tries)
-        × (first_of (codes "late") (finished callers_built.rules with_tries.held) ≡ None)
+        × (first_of (codes "late") (finished callers_built.rules with_tries.held) ≡ None) × (first_of (codes "readers") (finished callers_built.rules with_tries.held) ≡ None)
     unfolding clap_on_literals
-    tries_values = (refl, refl, refl)
+    tries_values = (refl, refl, refl, refl)
+
+  module _ (readers : Text) (plain_readers : IsPlain readers) where
+    abbrev readers_option : List Text
+    readers_option = codes "--readers" ∷ readers ∷ []
+
+    abbrev with_readers : Walk
+    with_readers = after_value (walked callers_built.rules [] with_callers (codes "--readers")).held 2 (codes "readers") readers_rule readers
+
+    readers_walk : walk callers_built.rules [] nothing_held (callers ∷ readers_option) ≡ with_readers
+    unfolding clap_on_literals
+    readers_walk = ap (λ w. fold (walked callers_built.rules []) w readers_option) (unnamed_walked callers_built nothing_held 1 callers plain_callers)
+        ∙ value_walked callers_built.rules [] (walked callers_built.rules [] with_callers (codes "--readers")).held 2 (codes "readers") readers_rule readers refl plain_readers
+
+    readers_passes : walk_fault callers_built [] (walk_from nothing_held) (callers ∷ readers_option) ≡ []
+    unfolding clap_on_literals
+    readers_passes = unnamed_passes callers_built nothing_held 1 callers plain_callers readers_option _ refl refl
+        ∙ value_passes callers_built [] (walked callers_built.rules [] with_callers (codes "--readers")).held 2 (codes "readers") readers_rule readers refl plain_readers []
+
+    readers_taken : fault_of command_line (codes "callers" ∷ callers ∷ readers_option) ≡ []
+    unfolding clap_on_literals
+    readers_taken = ap (λ k. or_else k []) (level_passes callers_built (callers ∷ readers_option) with_readers readers_passes readers_walk refl)
+
+    readers_met : subcommand_of command_line (codes "callers" ∷ callers ∷ readers_option) ≡ Some (codes "callers", finished callers_built.rules with_readers.held)
+    unfolding clap_on_literals
+    readers_met = ap (λ (w : Walk). Some (codes "callers", finished callers_built.rules w.held)) readers_walk
+
+    readers_values : (first_of (codes "callers") (finished callers_built.rules with_readers.held) ≡ Some callers) × (first_of (codes "tries") (finished callers_built.rules with_readers.held) ≡ None)
+        × (first_of (codes "late") (finished callers_built.rules with_readers.held) ≡ None) × (first_of (codes "readers") (finished callers_built.rules with_readers.held) ≡ Some readers)
+    unfolding clap_on_literals
+    readers_values = (refl, refl, refl, refl)
 
 left : (least most number : ℕ) (first : Option Text) → first ≡ None → IsNumber least most (Some number) first number
 left least most number first is = rw is refl
@@ -491,6 +564,8 @@ callers_asks numbers are default =
           callers = given 1 32 _ None _ found.0 are.some are.few;
           tries = rw default (left 1 1000000 100 _ found.1);
           writing = at_once _ numbers.writing are.writing found.2;
+          readers = rw are.readers (left 1 8 0 _ found.3);
+          room = λ some. absurd (omega (arith, are.readers, some));
         },
       ),
     )
@@ -510,6 +585,29 @@ tries_asks numbers are =
           callers = given 1 32 _ None _ found.0 are.some are.few;
           tries = given 1 1000000 _ _ _ found.1 are.once are.bounded;
           writing = at_once _ numbers.writing are.writing found.2;
+          readers = rw are.readers (left 1 8 0 _ found.3);
+          room = λ some. absurd (omega (arith, are.readers, some));
+        },
+      ),
+    )
+
+pub readers_asks : (numbers : CallersNumbers) → AreOfReaders numbers → AsksFor (readers_words numbers) (Callers numbers)
+readers_asks numbers are =
+    let plain_callers = plain_decimal numbers.callers (omega (arith, are.few)) in
+    let plain_readers = plain_decimal numbers.readers (omega (arith, are.few_readers)) in
+    let found = readers_values (decimal numbers.callers) plain_callers (decimal numbers.readers) plain_readers in (
+      readers_taken (decimal numbers.callers) plain_callers (decimal numbers.readers) plain_readers,
+      codes "callers",
+      _,
+      readers_met (decimal numbers.callers) plain_callers (decimal numbers.readers) plain_readers,
+      (
+        refl,
+        record {
+          callers = given 1 32 _ None _ found.0 are.some (omega (arith, are.few));
+          tries = rw are.tries (left 1 1000000 100 _ found.1);
+          writing = at_once _ numbers.writing are.writing found.2;
+          readers = given 1 8 _ _ _ found.3 are.some_readers are.few_readers;
+          room = λ some. are.few;
         },
       ),
     )

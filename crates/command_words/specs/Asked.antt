@@ -1,11 +1,13 @@
 -- What words ask for.
-use Rattle.std.specs.Prelude.{ℕ, ◌≡◌, ◌≤◌, List, [], Option, Some, None, codes}
+use Rattle.std.specs.Prelude.{ℕ, ◌≡◌, ◌≤◌, ◌<◌, List, [], Option, Some, None, Bool, false, codes}
 use Rattle.std.specs.Fmt.{decimal}
+use Rattle.std.specs.Str.{bytes_eq}
 use Rattle.clap.specs.Words.{Text, Row, fault_of, subcommand_of, first_of}
 use Rattle.record_slots.specs.Text.{IsName}
 use Rattle.command_words.specs.CommandLine.{command_line}
 use Rattle.command_words.specs.declared.words.FormatNumbers.{FormatNumbers}
 use Rattle.command_words.specs.declared.words.RunOptions.{RunOptions}
+use Rattle.command_words.specs.declared.words.EawOptions.{EawOptions}
 use Rattle.command_words.specs.declared.words.Writing.{Writing}
 use Rattle.command_words.specs.declared.words.Writing.TheVariants.{AtOnce, Late}
 use Rattle.command_words.specs.declared.words.DrillNumbers.{DrillNumbers}
@@ -23,9 +25,19 @@ abbrev pub GivesWriting : Option Text → Writing → Type 0
 GivesWriting first AtOnce = first ≡ None
 GivesWriting first (Late depth) = IsNumber 1 64 None first depth
 
--- what the option of `run` gives
+-- whether an option without a value is given: that it is, is the value that is told of it
+abbrev pub is_given : Option Text → Bool
+is_given None = false
+is_given (Some value) = bytes_eq value (codes "true")
+
+-- what the options of `run` give
 pub record GivesRun (options : List Row) (given : RunOptions) : Type 0 where
   pub writing : GivesWriting (first_of (codes "late") options) given.writing
+  pub frames : given.frames ≡ is_given (first_of (codes "frames") options)
+
+-- what the option of `eaw` gives
+pub record GivesEaw (options : List Row) (given : EawOptions) : Type 0 where
+  pub frames : given.frames ≡ is_given (first_of (codes "frames") options)
 
 -- the numbers that the options of `format` give, and those of the default array for the options that are missing
 pub record GivesNumbers (options : List Row) (given : FormatNumbers) : Type 0 where
@@ -40,11 +52,13 @@ pub record GivesDrill (values : List Row) (given : DrillNumbers) : Type 0 where
   pub count : IsNumber 1 100000 None (first_of (codes "count") values) given.count
   pub writing : GivesWriting (first_of (codes "late") values) given.writing
 
--- what the value and the options of `callers` give
+-- what the value and the options of `callers` give; beside readers there are at most 31 callers
 pub record GivesCallers (options : List Row) (given : CallersNumbers) : Type 0 where
   pub callers : IsNumber 1 32 None (first_of (codes "callers") options) given.callers
   pub tries : IsNumber 1 1000000 (Some 100) (first_of (codes "tries") options) given.tries
   pub writing : GivesWriting (first_of (codes "late") options) given.writing
+  pub readers : IsNumber 1 8 (Some 0) (first_of (codes "readers") options) given.readers
+  pub room : 0 < given.readers → given.callers ≤ 31
 
 -- the name of a table that the word of `make` is
 pub record GivesName (values : List Row) (table : List ℕ) : Type 0 where
@@ -55,7 +69,7 @@ pub record GivesName (values : List Row) (table : List ℕ) : Type 0 where
 abbrev pub SubcommandAsks : Text → List Row → Words → Type 0
 SubcommandAsks name options (Run given) = (name ≡ codes "run") × GivesRun options given
 SubcommandAsks name options (Callers numbers) = (name ≡ codes "callers") × GivesCallers options numbers
-SubcommandAsks name options Eaw = name ≡ codes "eaw"
+SubcommandAsks name options (Eaw given) = (name ≡ codes "eaw") × GivesEaw options given
 SubcommandAsks name options Dump = name ≡ codes "dump"
 SubcommandAsks name options (Drill numbers) = (name ≡ codes "drill") × GivesDrill options numbers
 SubcommandAsks name options (Format numbers) = (name ≡ codes "format") × GivesNumbers options numbers

@@ -2,14 +2,23 @@
 use Rattle.std.specs.Prelude.{[], ◌∷◌, Some, true, false, map, codes}
 use Rattle.clap.specs.Words.{Text, Rule, Shape, App, new_app, new_rule}
 use Rattle.clap.specs.Simple.{new_shape}
+use Rattle.clap.specs.declared.builder.action.ArgAction.TheVariants.{SetTrue}
 
 -- an option with one value: `--name value`, or `--name=value`
 abbrev pub option_of : Text → Rule
 option_of name = record (new_rule name) { long = Some name }
 
--- `run` with one option
+-- an option without a value: `--name`
+abbrev pub flag_of : Text → Rule
+flag_of name = record (option_of name) { action = Some SetTrue }
+
+-- `run` with an option and a flag
 abbrev pub run_shape : Shape
-run_shape = record (new_shape (codes "run")) { rules = option_of (codes "late") ∷ [] }
+run_shape = record (new_shape (codes "run")) { rules = option_of (codes "late") ∷ flag_of (codes "frames") ∷ [] }
+
+-- `eaw` with one option
+abbrev pub eaw_shape : Shape
+eaw_shape = record (new_shape (codes "eaw")) { rules = flag_of (codes "frames") ∷ [] }
 
 -- `format` with its four options
 abbrev pub format_shape : Shape
@@ -20,9 +29,9 @@ format_shape =
 abbrev pub drill_shape : Shape
 drill_shape = record (new_shape (codes "drill")) { rules = new_rule (codes "seed") ∷ new_rule (codes "count") ∷ option_of (codes "late") ∷ [] }
 
--- `callers` with one positional word and two options
+-- `callers` with one positional word and three options
 abbrev pub callers_shape : Shape
-callers_shape = record (new_shape (codes "callers")) { rules = new_rule (codes "callers") ∷ option_of (codes "tries") ∷ option_of (codes "late") ∷ [] }
+callers_shape = record (new_shape (codes "callers")) { rules = new_rule (codes "callers") ∷ option_of (codes "tries") ∷ option_of (codes "late") ∷ option_of (codes "readers") ∷ [] }
 
 -- `make` with one positional word
 abbrev pub make_shape : Shape
@@ -40,5 +49,5 @@ no_commands = let app = new_app (codes "mars") in record app { top = record app.
 abbrev pub command_line : App
 command_line = record {
   top = record mars_shape { disable_help_flag = true; disable_help_subcommand = true };
-  subs = run_shape ∷ new_shape (codes "eaw") ∷ new_shape (codes "dump") ∷ format_shape ∷ drill_shape ∷ callers_shape ∷ make_shape ∷ new_shape (codes "purge") ∷ new_shape (codes "follow") ∷ [];
+  subs = run_shape ∷ eaw_shape ∷ new_shape (codes "dump") ∷ format_shape ∷ drill_shape ∷ callers_shape ∷ make_shape ∷ new_shape (codes "purge") ∷ new_shape (codes "follow") ∷ [];
 }

@@ -47,10 +47,24 @@ callers_words numbers = codes "callers" ∷ decimal numbers.callers ∷ []
 abbrev pub tries_words : CallersNumbers → List Text
 tries_words numbers = codes "callers" ∷ decimal numbers.callers ∷ codes "--tries" ∷ decimal numbers.tries ∷ []
 
--- the numbers are within their ranges, and data is written at once
+-- `callers` with its value followed by the option of readers
+abbrev pub readers_words : CallersNumbers → List Text
+readers_words numbers = codes "callers" ∷ decimal numbers.callers ∷ codes "--readers" ∷ decimal numbers.readers ∷ []
+
+-- the numbers are within their ranges, data is written at once, and there are no readers
 pub record AreOfCallers (numbers : CallersNumbers) : Type 0 where
   pub some : 1 ≤ numbers.callers
   pub few : numbers.callers ≤ 32
   pub once : 1 ≤ numbers.tries
   pub bounded : numbers.tries ≤ 1000000
   pub writing : numbers.writing ≡ AtOnce
+  pub readers : numbers.readers ≡ 0
+
+-- the numbers are within their ranges, data is written at once, and there are readers
+pub record AreOfReaders (numbers : CallersNumbers) : Type 0 where
+  pub some : 1 ≤ numbers.callers
+  pub few : numbers.callers ≤ 31
+  pub tries : numbers.tries ≡ 100
+  pub writing : numbers.writing ≡ AtOnce
+  pub some_readers : 1 ≤ numbers.readers
+  pub few_readers : numbers.readers ≤ 8

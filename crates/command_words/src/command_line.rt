@@ -2,9 +2,9 @@
 ghost use Rattle.std.specs.Prelude.{◌≡◌, IfOk, false};
 ghost use Rattle.clap.specs.Words.{app_of, shape_of, rule_of};
 ghost use Rattle.clap.specs.declared.builder.Command.TheViews.{out-Command};
-ghost use Rattle.command_words.specs.CommandLine.{command_line, no_commands, run_shape, format_shape, drill_shape, callers_shape, make_shape, option_of};
+ghost use Rattle.command_words.specs.CommandLine.{command_line, no_commands, run_shape, eaw_shape, format_shape, drill_shape, callers_shape, make_shape, option_of, flag_of};
 
-use clap::{Arg, Command};
+use clap::{Arg, ArgAction, Command};
 use std::alloc::{AllocError, Global};
 
 /// The commands and their options. There is no help: whatever is wrong is reported in one word.
@@ -13,7 +13,7 @@ pub fn command_line<'a>(alloc: Global) -> Result<Command<'a>, AllocError>
 {
     no_commands(alloc)
         .subcommand(run_command(alloc)?)?
-        .subcommand(Command::new(alloc, "eaw"))?
+        .subcommand(eaw_command(alloc)?)?
         .subcommand(Command::new(alloc, "dump"))?
         .subcommand(format_command(alloc)?)?
         .subcommand(drill_command(alloc)?)?
@@ -37,7 +37,16 @@ fn run_command<'a>(alloc: Global) -> Result<Command<'a>, AllocError>
     ensures shape { IfOk result (λ command. shape_of command ≡ run_shape) }
     ensures local { IfOk result (λ command. (out-Command command).has_globals ≡ false) }
 {
-    Command::new(alloc, "run").arg(option(alloc, "late"))
+    Command::new(alloc, "run")
+        .arg(option(alloc, "late"))?
+        .arg(flag(alloc, "frames"))
+}
+
+fn eaw_command<'a>(alloc: Global) -> Result<Command<'a>, AllocError>
+    ensures shape { IfOk result (λ command. shape_of command ≡ eaw_shape) }
+    ensures local { IfOk result (λ command. (out-Command command).has_globals ≡ false) }
+{
+    Command::new(alloc, "eaw").arg(flag(alloc, "frames"))
 }
 
 fn format_command<'a>(alloc: Global) -> Result<Command<'a>, AllocError>
@@ -68,7 +77,8 @@ fn callers_command<'a>(alloc: Global) -> Result<Command<'a>, AllocError>
     Command::new(alloc, "callers")
         .arg(Arg::new(alloc, "callers"))?
         .arg(option(alloc, "tries"))?
-        .arg(option(alloc, "late"))
+        .arg(option(alloc, "late"))?
+        .arg(option(alloc, "readers"))
 }
 
 fn make_command<'a>(alloc: Global) -> Result<Command<'a>, AllocError>
@@ -84,4 +94,12 @@ fn option<'a>(alloc: Global, name: &'a str) -> Arg<'a>
     ensures local { result.global ≡ false }
 {
     Arg::new(alloc, name).long(name)
+}
+
+// An option without a value.
+fn flag<'a>(alloc: Global, name: &'a str) -> Arg<'a>
+    ensures rule { rule_of result ≡ flag_of name.entry.now }
+    ensures local { result.global ≡ false }
+{
+    option(alloc, name).action(ArgAction::SetTrue)
 }

@@ -11,5 +11,6 @@ mod words;
 
 pub use laws::{one_command, usual_words};
 pub use words::{
-    CallersNumbers, DrillNumbers, FormatNumbers, RunOptions, Words, WordsFault, Writing, read_words,
+    CallersNumbers, DrillNumbers, EawOptions, FormatNumbers, RunOptions, Words, WordsFault,
+    Writing, read_words,
 };

@@ -1,6 +1,6 @@
-ghost use Rattle.std.specs.Prelude.{◌≡◌, ℕ, List, Some, map, codes, string_bytes, MatchOption, IfOk, IfErr};
+ghost use Rattle.std.specs.Prelude.{◌≡◌, ◌<◌, ◌≤◌, ◌↔◌, IsTrue, ℕ, List, Some, map, codes, string_bytes, MatchOption, IfOk, IfErr};
 ghost use Rattle.clap.specs.Words.{Text, Row, found_of, rows_of, first_of, subcommand_rows_of};
-ghost use Rattle.command_words.specs.Asked.{AsksFor, AskForNothing, SubcommandAsks, GivesRun, GivesNumbers, GivesDrill, GivesCallers, GivesWriting, GivesName, IsNumber};
+ghost use Rattle.command_words.specs.Asked.{AsksFor, AskForNothing, SubcommandAsks, GivesRun, GivesNumbers, GivesDrill, GivesCallers, GivesWriting, GivesName, IsNumber, is_given};
 
 use crate::command_line::command_line;
 use crate::number::read_within;
@@ -19,7 +19,7 @@ pub enum Words {
     /// To make callers' transactions on threads, and to write what came of them.
     Callers(CallersNumbers),
     /// To answer raw commands.
-    Eaw,
+    Eaw(EawOptions),
     /// To write the records.
     Dump,
     /// To run a drawn script, and to write a summary.
@@ -38,6 +38,15 @@ pub enum Words {
 #[derive(Clone, Copy, Debug, PartialEq, Eq)]
 pub struct RunOptions {
     pub writing: Writing,
+    /// Whether the frames that the calls send are written too.
+    pub frames: bool,
+}
+
+/// How raw commands are answered.
+#[derive(Clone, Copy, Debug, PartialEq, Eq)]
+pub struct EawOptions {
+    /// Whether the frames that they send are written too.
+    pub frames: bool,
 }
 
 /// When the data of a commit is written to its place.
@@ -72,7 +81,7 @@ pub struct DrillNumbers {
     pub writing: Writing,
 }
 
-/// How many callers work on threads, and how often they try.
+/// How many callers work on threads, how often they try, and how many readers are beside them.
 #[derive(Clone, Copy, Debug, PartialEq, Eq)]
 pub struct CallersNumbers {
     /// Callers, 1 to 32.
@@ -80,6 +89,8 @@ pub struct CallersNumbers {
     /// How often a transaction that finds a key locked is tried, 1 to 1,000,000.
     pub tries: u32,
     pub writing: Writing,
+    /// Readers, at most 8. If there are some, there are at most 31 callers.
+    pub readers: u8,
 }
 
 const SHORT_MOST: u32 = 65_535;
@@ -89,6 +100,10 @@ const SEED_MOST: u32 = 2_147_483_647;
 const COUNT_MOST: u32 = 100_000;
 
 const CALLERS_MOST: u32 = 32;
+
+const CALLERS_MOST_BESIDE: u32 = 31;
+
+const READERS_MOST: u32 = 8;
 
 const TRIES_MOST: u32 = 1_000_000;
 
@@ -106,9 +121,9 @@ pub enum WordsFault {
     NoMemory,
 }
 
-/// Reads the words after the image's: `run`, `eaw`, `dump`, `purge`, `follow`, `make` with the name of a table, `callers` with a number and the option `tries`, `drill` with a seed and a
-/// count, or `format` with its options in any order. `run`, `callers` and `drill` have the option `late` too. Each option is given at
-/// most once.
+/// Reads the words after the image's: `run`, `eaw`, `dump`, `purge`, `follow`, `make` with the name of a table, `callers` with a number and the options `tries` and `readers`, `drill` with a seed and a
+/// count, or `format` with its options in any order. `run`, `callers` and `drill` have the option `late` too, and `run` and `eaw` have
+/// `frames`. Each option is given at most once.
 pub fn read_words(alloc: Global, words: &[String]) -> Result<Words, WordsFault>
     ensures asked { IfOk result (AsksFor (map string_bytes words.now)) }
     ensures refused { IfErr result (λ fault. fault ≡ WordsFault.NoCommand → AskForNothing (map string_bytes words.now)) }
@@ -137,13 +152,17 @@ fn asked(matches: &ArgMatches<'_>) -> Option<Words>
     match name {
         "run" => {
             let writing = read_writing(options)?;
-            Some(Words::Run(RunOptions { writing }))
+            let frames = read_flag(options, "frames");
+            Some(Words::Run(RunOptions { writing, frames }))
         }
         "callers" => {
             let numbers = read_callers(options)?;
             Some(Words::Callers(numbers))
         }
-        "eaw" => Some(Words::Eaw),
+        "eaw" => {
+            let frames = read_flag(options, "frames");
+            Some(Words::Eaw(EawOptions { frames }))
+        }
         "dump" => Some(Words::Dump),
         "drill" => {
             let numbers = read_drill(options)?;
@@ -204,11 +223,23 @@ fn read_callers(options: &ArgMatches<'_>) -> Option<CallersNumbers>
     let callers = number_of(options, "callers", 1, CALLERS_MOST, None)?;
     let tries = number_of(options, "tries", 1, TRIES_MOST, Some(TRIES_DEFAULT))?;
     let writing = read_writing(options)?;
+    let readers = number_of(options, "readers", 1, READERS_MOST, Some(0))?;
+    if !has_room(callers, readers) {
+        return None;
+    }
     Some(CallersNumbers {
         callers: callers as u8,
         tries,
         writing,
+        readers: readers as u8,
     })
+}
+
+// Whether so many callers leave room for so many readers. What readers read takes the place of one caller.
+fn has_room(callers: u32, readers: u32) -> bool
+    ensures { IsTrue result ↔ (0 < readers → callers ≤ 31) }
+{
+    readers == 0 || callers <= CALLERS_MOST_BESIDE
 }
 
 // The name of a table that the word of `make` is.
@@ -230,6 +261,16 @@ fn read_writing(options: &ArgMatches<'_>) -> Option<Writing>
     }
     let depth = number_of(options, "late", 1, DEPTH_MOST, None)?;
     Some(Writing::Late(depth as u8))
+}
+
+// Whether an option without a value is given.
+fn read_flag(options: &ArgMatches<'_>, name: &str) -> bool
+    ensures { result ≡ is_given (first_of name.now (rows_of (found_of options.now))) }
+{
+    match options.get_str(name) {
+        Some(value) => value == "true",
+        None => false,
+    }
 }
 
 // The number of an option of `format`, or the default if it is not given.

@@ -4,3 +4,4 @@ pub mod Progress
 pub mod Lines
 pub mod Performed
 pub mod Laws
+pub mod Mirrored

@@ -5,6 +5,7 @@ use Rattle.mars_base.specs.declared.Failed.{Failed}
 use Rattle.eaw_face.specs.State.{State}
 use Rattle.eaw_face.specs.StoreView.{StoreView, LeavesOnly}
 use Rattle.eaw_face.specs.Does.{IsEither}
+use Rattle.eaw_face.specs.Mirroring.{Mirrors}
 use Rattle.eaw_face.specs.declared.fault.EawFault.{EawFault}
 use Rattle.eaw_face.specs.declared.fault.EawFault.TheVariants.{UnknownTid, LogFull as Full, Media, Dead}
 use Rattle.script_text.specs.Eaw.{Raw}
@@ -27,7 +28,7 @@ made_by old new raw (Err failed) = state_after raw old
 
 -- Number t's command on a store whose images open as Opens says. An answer is the model's. An error comes only if the medium failed, in a
 -- command that passed each test and uses the medium. In either case, each image that a loss of power might newly have left opens with the
--- data before the command or the data that it made.
+-- data before the command or the data that it made. A store that mirrors sends what the command wrote.
 pub record Performed (tells : Bool) (Opens : List ℕ → List ℕ → Type 0) (old new : StoreView) (t : ℕ) (raw : Raw) (result : Result Answer Failed) : Type 0 where
   pub shape : new.shape ≡ old.shape
   pub cause : HasCause old.faults new.faults result
@@ -35,3 +36,4 @@ pub record Performed (tells : Bool) (Opens : List ℕ → List ℕ → Type 0) (
   pub answers : IsTrue tells → IfOk result (λ answer. AnswersWith old.shape (old.ranges t) old.state t raw answer new.state)
   pub fails : OnErr result (Passes old.shape (asks old.shape (old.ranges t) raw) × (asks old.shape (old.ranges t) raw).media)
   pub time : IsTrue tells → LeavesOnly (IsEither Opens old.state.bytes (made_by old.state new.state raw result).bytes) old new
+  pub mirrors : Mirrors tells old new

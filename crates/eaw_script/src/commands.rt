@@ -2,6 +2,7 @@
 use crate::buffers::Buffers;
 use crate::perform::perform;
 use eaw_face::EawStore;
+use frame_lines::Mirrored;
 use script_run::{Responder, Stop};
 use script_text::{EawLine, read_eaw, write_answer, write_bad_line};
 
@@ -16,6 +17,8 @@ impl<S: EawStore> Responder for Commands<S> {
     ghost use Rattle.eaw_script.specs.Lines.{raw_script};
     ghost use Rattle.eaw_script.specs.Progress.{Progress, Shows, Comes};
     ghost use Rattle.eaw_script.specs.Laws.{comes_none, comes_on};
+    ghost use Rattle.eaw_face.specs.Mirroring.{Mirrors};
+    ghost use Rattle.eaw_script.specs.Mirrored.{HasData};
 
     ghost tells = { S.tells };
 
@@ -30,6 +33,10 @@ impl<S: EawStore> Responder for Commands<S> {
     ghost comes = { λ old before new after. Comes S.opens (S.view old.store) before (S.view new.store) after };
 
     ghost faults = { λ commands. (S.view commands.store).faults };
+
+    ghost holds = { HasData };
+
+    ghost sends = { λ old new. Mirrors S.tells (S.view old.store) (S.view new.store) };
 
     ghost comes_none = { λ commands progress told alive shows. comes_none S.opens (S.view commands.store) progress shows (λ image. S.only_now commands.store image told alive) };
 
@@ -54,5 +61,30 @@ impl<S: EawStore> Responder for Commands<S> {
                 }
             }
         }
+    }
+}
+
+impl<S: EawStore> Mirrored for Commands<S> {
+    ghost use Rattle.std.proofs.Common.{ap};
+    ghost use Rattle.eaw_face.specs.State.{State};
+
+    ghost view = { λ commands. S.view commands.store };
+
+    ghost mirrors = { λ old new sends. sends };
+
+    ghost alive = { λ commands ready. ready };
+
+    ghost data_of = { λ commands progress told shows. ap (λ (s : State). s.bytes) shows.state };
+
+    fn first_frame(&self) -> &[u8] {
+        self.store.first_frame()
+    }
+
+    fn drop_frame(&mut self) {
+        self.store.drop_frame();
+    }
+
+    fn link_down(&self) -> bool {
+        self.store.link_down()
     }
 }

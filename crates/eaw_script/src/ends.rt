@@ -10,6 +10,7 @@ use mars_base::Failed;
 use script_text::Answer;
 
 /// Commits a log.
+#[tactic(auto, using(crate::proofs::Performing::sends_none))]
 pub fn commit<S: EawStore>(store: &mut S, number: u8) -> Result<Answer<'static>, Failed>
     requires number { number < (S.view store.old).shape.numbers }
     requires alive { (S.view store.old).is_dead ≡ false }
@@ -25,6 +26,7 @@ pub fn commit<S: EawStore>(store: &mut S, number: u8) -> Result<Answer<'static>,
 }
 
 /// Discards a log.
+#[tactic(auto, using(crate::proofs::Performing::sends_none))]
 pub fn abort<S: EawStore>(store: &mut S, number: u8) -> Result<Answer<'static>, Failed>
     requires number { number < (S.view store.old).shape.numbers }
     requires alive { (S.view store.old).is_dead ≡ false }
@@ -40,6 +42,7 @@ pub fn abort<S: EawStore>(store: &mut S, number: u8) -> Result<Answer<'static>, 
 }
 
 /// Commits what a log has from an offset on.
+#[tactic(auto, using(crate::proofs::Performing::sends_none))]
 pub fn nested<S: EawStore>(
     store: &mut S,
     number: u8,
@@ -62,6 +65,7 @@ pub fn nested<S: EawStore>(
 }
 
 /// Discards what a log has from an offset on.
+#[tactic(auto, using(crate::proofs::Performing::sends_none))]
 pub fn partial<S: EawStore>(
     store: &mut S,
     number: u8,

@@ -12,6 +12,7 @@ use mars_base::Failed;
 use script_text::{Answer, BLOCK, Lent};
 
 /// Reads a logged part.
+#[tactic(auto, using(crate::proofs::Performing::sends_none))]
 pub fn read_log<'a, S: EawStore>(
     store: &mut S,
     number: u8,
@@ -38,6 +39,7 @@ pub fn read_log<'a, S: EawStore>(
 }
 
 /// Reads committed data.
+#[tactic(auto, using(crate::proofs::Performing::sends_none))]
 pub fn read<'a, S: EawStore>(
     store: &mut S,
     number: u8,
@@ -63,6 +65,7 @@ pub fn read<'a, S: EawStore>(
 }
 
 /// How many parts a log has.
+#[tactic(auto, using(crate::proofs::Performing::sends_none))]
 pub fn log_len<S: EawStore>(store: &S, number: u8) -> Answer<'static>
     requires number { number < (S.view store.now).shape.numbers }
     requires alive { (S.view store.now).is_dead ≡ false }
@@ -72,6 +75,7 @@ pub fn log_len<S: EawStore>(store: &S, number: u8) -> Answer<'static>
 }
 
 /// How many of its parts a logger holds.
+#[tactic(auto, using(crate::proofs::Performing::sends_none))]
 pub fn held<S: EawStore>(store: &S, number: u8, logger: u8) -> Answer<'static>
     requires number { number < (S.view store.now).shape.numbers }
     requires alive { (S.view store.now).is_dead ≡ false }

@@ -12,6 +12,7 @@ use mars_base::Failed;
 use script_text::Answer;
 
 /// Logs a write.
+#[tactic(auto, using(crate::proofs::Performing::sends_none))]
 pub fn log_write<S: EawStore>(
     store: &mut S,
     number: u8,
@@ -33,6 +34,7 @@ pub fn log_write<S: EawStore>(
 }
 
 /// Writes at once, without a log, under a number that is free.
+#[tactic(auto, using(crate::proofs::Performing::sends_none))]
 pub fn atomic<S: EawStore>(
     store: &mut S,
     number: u8,
@@ -57,6 +59,7 @@ pub fn atomic<S: EawStore>(
 }
 
 /// Overwrites bytes of a logged part.
+#[tactic(auto, using(crate::proofs::Performing::sends_none))]
 pub fn edit_log<S: EawStore>(
     store: &mut S,
     number: u8,

@@ -1,3 +1,5 @@
 pub mod Lines
 pub mod Taken
 pub mod Followed
+pub mod Begun
+pub mod Framed

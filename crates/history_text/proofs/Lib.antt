@@ -1,1 +1,2 @@
 mod HistoryLines
+mod Numbering

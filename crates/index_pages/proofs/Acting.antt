@@ -11,12 +11,14 @@ use Rattle.array_shape.specs.declared.shape.Shape.{Shape}
 use Rattle.array_shape.specs.Logged.{Part, applied, AllPlaced, ranges_of}
 use Rattle.eaw_face.specs.State.{listed, count_on, is_range_on}
 use Rattle.eaw_face.specs.StoreView.{StoreView, LeavesOnly}
+use Rattle.eaw_face.specs.Mirroring.{Mirrors}
+use Rattle.eaw_face.proofs.Mirroring.{none_sent, sent_then}
 use Rattle.eaw_face.specs.Causes.{IsAlive}
 use Rattle.page_store.specs.State.{PagesState, log_of, with_one}
 use Rattle.page_store.specs.Command.{PageCommand, write_as, top_begin, top_end, after}
 use Rattle.page_store.specs.Does.{Does, Becomes}
 use Rattle.page_store.specs.Edit.{edit_pos, with_range}
-use Rattle.page_store.specs.Fits.{FitAll, is_page_on}
+use Rattle.page_store.specs.Fits.{FitAll, LacksRoom, is_page_on}
 use Rattle.page_store.specs.Kept.{IsKept, IsOrdered}
 use Rattle.page_store.specs.Outline.{Outline, floor_in}
 use Rattle.page_store.specs.Played.{played, writes_as, top_of}
@@ -71,9 +73,38 @@ listed-take n None = sym (take-none n)
 listed-take n (Some rs) = refl
 
 module _ (tells : Bool) (Opens : List ℕ → List ℕ → Type 0) (t : ℕ) where
+  -- an action that is refused before it begins
+  pub acts_none : (old : PagesView) (pages : List ℕ) (parts : List Part) (fault : PageFault) → LacksRoom old.store t pages fault → (let r : Result (Unit {0}) PageFault = Err fault in Acts tells Opens t pages parts old old r)
+  acts_none old pages parts Dead lacks = record {
+    shape = refl;
+    cause = lacks;
+    saves = refl;
+    others = λ u ne. refl;
+    kept = λ well. record { dead = refl; faults = refl; tops = refl; ranges = λ u. refl; logs = λ told u. refl };
+    made = λ told living. refl;
+    dies = λ failed. absurd (false≢true failed);
+    time = λ told living. weaker (λ image opens. inl opens) (stays old.store.moment old.store.left_since (λ image. Opens image old.store.state.bytes));
+    mirrors = none_sent tells old.store old.store refl refl (λ fine. fine) (λ told mirrors fine. refl);
+  }
+  acts_none old pages parts (LogFull g h n) lacks = record {
+    shape = refl;
+    cause = lacks;
+    saves = refl;
+    others = λ u ne. refl;
+    kept = λ well. record { dead = refl; faults = refl; tops = refl; ranges = λ u. refl; logs = λ told u. refl };
+    made = λ told living. refl;
+    dies = λ failed. absurd (false≢true failed);
+    time = λ told living. weaker (λ image opens. inl opens) (stays old.store.moment old.store.left_since (λ image. Opens image old.store.state.bytes));
+    mirrors = none_sent tells old.store old.store refl refl (λ fine. fine) (λ told mirrors fine. refl);
+  }
+  acts_none old pages parts Media lacks = absurd lacks
+  acts_none old pages parts SavesFull lacks = absurd lacks
+  acts_none old pages parts (Damaged bad) lacks = absurd lacks
+
   -- Within a top action that has begun: these parts were written, and in these pages a part each is still to be written.
   pub record Acting (old now : PagesView) (parts : List Part) (left : List ℕ) : Type 0 where
     pub shape : now.store.shape ≡ old.store.shape
+    pub mirrors : Mirrors tells old.store now.store
     pub alive : now.store.is_dead ≡ false
     pub faults : now.store.faults ≡ old.store.faults
     pub saves : now.counts ≡ old.counts
@@ -91,6 +122,7 @@ module _ (tells : Bool) (Opens : List ℕ → List ℕ → Type 0) (t : ℕ) whe
       let ranges : (u : ℕ) → now.store.ranges u ≡ old.store.ranges u = λ u. ap (λ (s : StoreView). s.ranges u) same in
       record {
         shape = ap (λ (s : StoreView). s.shape) same;
+        mirrors = subst (λ (s : StoreView). Mirrors tells old.store s) (sym same) (none_sent tells old.store old.store refl refl (λ fine. fine) (λ told mirrors fine. refl));
         alive = begun.alive;
         faults = ap (λ (s : StoreView). s.faults) same;
         saves = ap (λ (o : Outline). o.counts) begun.outline;
@@ -142,6 +174,7 @@ module _ (tells : Bool) (Opens : List ℕ → List ℕ → Type 0) (t : ℕ) whe
         ap (λ (x : Outline). listed (x.ranges t)) out ∙ ap listed (with_here now.store.ranges t (Some (with_range (floor_in (outline_of now) t) (address page at, length bytes) (listed (now.store.ranges t))))) in
         record {
           shape = does.shape ∙ acting.shape;
+          mirrors = sent_then tells old.store now.store new.store acting.mirrors does.mirrors;
           alive = does.done.alive;
           faults = does.kept ∙ acting.faults;
           saves = ap (λ (x : Outline). x.counts) out ∙ acting.saves;
@@ -160,6 +193,7 @@ module _ (tells : Bool) (Opens : List ℕ → List ℕ → Type 0) (t : ℕ) whe
         → (let r : Result (Unit {0}) PageFault = Err fault in Does tells Opens (write_as t (address page at) bytes) now new r) → (let r : Result (Unit {0}) PageFault = Err fault in Acts tells Opens t pages all old new r)
     acting_fail Media alive pages all does = record {
       shape = does.shape ∙ acting.shape;
+      mirrors = sent_then tells old.store now.store new.store acting.mirrors does.mirrors;
       cause = alive;
       saves = does.marks.0 ∙ acting.saves;
       others = λ u ne. does.others u ne ∙ acting.others u ne;
@@ -222,6 +256,7 @@ module _ (tells : Bool) (Opens : List ℕ → List ℕ → Type 0) (t : ℕ) whe
         ] in
         record {
           shape = does.shape ∙ acting.shape;
+          mirrors = sent_then tells old.store now.store new.store acting.mirrors does.mirrors;
           cause = (alive, fits);
           saves = ap (λ (o : Outline). o.counts) out ∙ acting.saves;
           others = λ u ne. does.others u ne ∙ acting.others u ne;
@@ -238,6 +273,7 @@ module _ (tells : Bool) (Opens : List ℕ → List ℕ → Type 0) (t : ℕ) whe
         }
     acting_end (Err Media) does = record {
       shape = does.shape ∙ acting.shape;
+      mirrors = sent_then tells old.store now.store new.store acting.mirrors does.mirrors;
       cause = alive;
       saves = does.marks.0 ∙ acting.saves;
       others = λ u ne. does.others u ne ∙ acting.others u ne;

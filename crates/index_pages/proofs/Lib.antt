@@ -43,3 +43,4 @@ pub mod Removals
 pub mod Even
 pub mod Extending
 pub mod Turns
+pub mod Working

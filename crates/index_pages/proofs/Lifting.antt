@@ -5,6 +5,7 @@ use Rattle.mars_base.specs.Causes.{Rose}
 use Rattle.mars_base.proofs.Going.{then, weaker}
 use Rattle.array_shape.specs.declared.shape.Shape.{Shape}
 use Rattle.eaw_face.specs.Causes.{IsAlive}
+use Rattle.eaw_face.proofs.Mirroring.{sent_then}
 use Rattle.record_slots.specs.Places.{used_slots, used_pages}
 use Rattle.page_store.specs.Index.{Index, Grows, Rests, Gains, slots_of, index_pages_of}
 use Rattle.page_store.specs.Inserts.{MayBecome, AllFit, LackPages, LackRoom, ComesTo, InsertCause, Made, Inserts}
@@ -87,6 +88,7 @@ module _ (tells : Bool) (E : Shape → List ℕ → List ℕ → Type 0) (t root
       let living : IsAlive v.store = alive_now up tells (E v0.store.shape) t root table key v0 v going alive in
       record {
         shape = rest.shape ∙ going.shape;
+        mirrors = sent_then tells v0.store v.store v'.store going.mirrors rest.mirrors;
         cause = cause_then r rest.cause;
         saves = rest.saves ∙ going.saves;
         others = λ u ne. rest.others u ne ∙ going.others u ne;

@@ -5,6 +5,7 @@ use Rattle.mars_base.specs.Causes.{Rose}
 use Rattle.mars_base.proofs.Going.{stays, then, weaker}
 use Rattle.array_shape.specs.declared.shape.Shape.{Shape}
 use Rattle.eaw_face.specs.State.{State}
+use Rattle.eaw_face.proofs.Mirroring.{none_sent, sent_then}
 use Rattle.page_store.specs.State.{PagesState}
 use Rattle.page_store.specs.Command.{read}
 use Rattle.page_store.specs.Does.{Does}
@@ -19,6 +20,7 @@ module _ (tells : Bool) (Opens : List ℕ → List ℕ → Type 0) where
   pub looks_none : (old : PagesView) → Looks tells Opens false old old
   looks_none old = record {
     shape = refl;
+    mirrors = none_sent tells old.store old.store refl refl (λ fine. fine) (λ told mirrors fine. refl);
     ranges = refl;
     saves = refl;
     tops = refl;
@@ -37,6 +39,7 @@ module _ (tells : Bool) (Opens : List ℕ → List ℕ → Type 0) where
       let still = first.still refl in
       record {
         shape = second.shape ∙ first.shape;
+        mirrors = sent_then tells old.store mid.store new.store first.mirrors second.mirrors;
         ranges = second.ranges ∙ first.ranges;
         saves = second.saves ∙ first.saves;
         tops = second.tops ∙ first.tops;
@@ -54,6 +57,7 @@ module _ (tells : Bool) (Opens : List ℕ → List ℕ → Type 0) where
       let out = does.done.outline in (
         record {
           shape = does.shape;
+          mirrors = does.mirrors;
           ranges = ap (λ (o : Outline). o.ranges) out;
           saves = ap (λ (o : Outline). o.counts) out;
           tops = ap (λ (o : Outline). o.top) out;
@@ -66,6 +70,7 @@ module _ (tells : Bool) (Opens : List ℕ → List ℕ → Type 0) where
   looks_read old new (Err Media) does same = (
     record {
       shape = does.shape;
+      mirrors = does.mirrors;
       ranges = λ i u. does.others u (λ e. e) i;
       saves = does.marks.0;
       tops = does.marks.1;

@@ -9,6 +9,7 @@ use Rattle.array_shape.specs.Logged.{Part, applied}
 use Rattle.eaw_face.specs.State.{State, listed}
 use Rattle.eaw_face.specs.Causes.{IsAlive}
 use Rattle.eaw_face.specs.StoreView.{LeavesOnly}
+use Rattle.eaw_face.proofs.Mirroring.{sent_then}
 use Rattle.page_store.specs.Fits.{FitAll, IsFirstLacking}
 use Rattle.page_store.specs.Index.{Index}
 use Rattle.page_store.specs.Looks.{Looks, LookCause, is_failed}
@@ -26,6 +27,7 @@ module _ (tells : Bool) (Opens : List ℕ → List ℕ → Type 0) (ix : Index) 
       → (let r : Result Bool PageFault = Ok false in Removes tells Opens ix t root key old now r)
   removes_none old now looks alive none = record {
     shape = looks.shape;
+    mirrors = looks.mirrors;
     cause = (alive, none);
     saves = looks.saves;
     others = λ u ne. ap (λ (f : ℕ → Option (List (ℕ × ℕ))). f u) looks.ranges;
@@ -40,6 +42,7 @@ module _ (tells : Bool) (Opens : List ℕ → List ℕ → Type 0) (ix : Index) 
       → (let r : Result Bool PageFault = Err (Damaged bad) in Removes tells Opens ix t root key old now r)
   removes_damaged old now bad looks alive untold = record {
     shape = looks.shape;
+    mirrors = looks.mirrors;
     cause = (alive, untold);
     saves = looks.saves;
     others = λ u ne. ap (λ (f : ℕ → Option (List (ℕ × ℕ))). f u) looks.ranges;
@@ -56,6 +59,7 @@ module _ (tells : Bool) (Opens : List ℕ → List ℕ → Type 0) (ix : Index) 
       let dies = looks.0.dies refl in
       record {
         shape = looks.0.shape;
+        mirrors = looks.0.mirrors;
         cause = looks.1;
         saves = looks.0.saves;
         others = λ u ne. ap (λ (f : ℕ → Option (List (ℕ × ℕ))). f u) looks.0.ranges;
@@ -66,6 +70,7 @@ module _ (tells : Bool) (Opens : List ℕ → List ℕ → Type 0) (ix : Index) 
       }
   removes_look_err T old now Dead looks = record {
     shape = looks.0.shape;
+    mirrors = looks.0.mirrors;
     cause = looks.1;
     saves = looks.0.saves;
     others = λ u ne. ap (λ (f : ℕ → Option (List (ℕ × ℕ))). f u) looks.0.ranges;
@@ -88,6 +93,7 @@ module _ (tells : Bool) (Opens : List ℕ → List ℕ → Type 0) (ix : Index) 
     pub removes_done : (let r : Result (Unit {0}) PageFault = Ok tt in Acts tells Opens t pages parts old now r) → (let r : Result Bool PageFault = Ok true in Removes tells Opens ix t root key old now r)
     removes_done acts = record {
       shape = acts.shape;
+      mirrors = acts.mirrors;
       cause = (alive, λ told. (pages, takes told, acts.cause.1));
       saves = acts.saves;
       others = acts.others;
@@ -101,6 +107,7 @@ module _ (tells : Bool) (Opens : List ℕ → List ℕ → Type 0) (ix : Index) 
     pub removes_act_err : (fault : PageFault) → (let r : Result (Unit {0}) PageFault = Err fault in Acts tells Opens t pages parts old now r) → (let r : Result Bool PageFault = Err fault in Removes tells Opens ix t root key old now r)
     removes_act_err Media acts = record {
       shape = acts.shape;
+      mirrors = acts.mirrors;
       cause = alive;
       saves = acts.saves;
       others = acts.others;
@@ -111,6 +118,7 @@ module _ (tells : Bool) (Opens : List ℕ → List ℕ → Type 0) (ix : Index) 
     }
     removes_act_err (LogFull g h n) acts = record {
       shape = acts.shape;
+      mirrors = acts.mirrors;
       cause = (alive, (pages, few, acts.cause.1), λ told. (pages, takes told, acts.cause.1));
       saves = acts.saves;
       others = acts.others;
@@ -158,6 +166,7 @@ module _ (tells : Bool) (E : Shape → List ℕ → List ℕ → Type 0) (ix : I
       let living : IsAlive mid.store = (looks.still refl).dead ∙ alive in
       record {
         shape = rest.shape ∙ looks.shape;
+        mirrors = sent_then tells old.store mid.store new.store looks.mirrors rest.mirrors;
         cause = cause_back r rest.cause;
         saves = rest.saves ∙ looks.saves;
         others = λ u ne. rest.others u ne ∙ ap (λ (f : ℕ → Option (List (ℕ × ℕ))). f u) looks.ranges;

@@ -13,3 +13,4 @@ pub mod Adding
 pub mod Giving
 pub mod Slots
 pub mod Within
+pub mod Peeks

@@ -12,6 +12,7 @@ within index most actions = record {
   level = index.level;
   has_page = index.has_page;
   actions = actions;
+  fits = index.fits;
   removal = index.removal;
   finding = index.finding;
   nexting = index.nexting;

@@ -2,6 +2,7 @@
 use Rattle.std.specs.Prelude.{ℕ, zero, suc, ◌≡◌, ◌-◌, ◌*◌, ◌^◌, ◌<◌, ◌≤◌, ◌⊎◌, List, [], ◌∷◌, ◌++◌, length, replicate}
 use Rattle.byteorder.specs.Endian.{little_bytes}
 use Rattle.page_store.specs.Pairs.{Pair}
+pub use Rattle.page_store.specs.Pairs.{AreSmall}
 use Rattle.index_pages.specs.Page.{kind_said, level_said, count_said, link_said}
 use Rattle.index_pages.specs.declared.page.Head.{Head}
 
@@ -41,8 +42,3 @@ front_bytes level count link = kind_for level ∷ level ∷ (little_bytes 2 coun
 -- all of it: the front, the pairs behind it, and zeros
 unfoldable pub written_page : ℕ → ℕ → List Pair → List ℕ
 written_page level link pairs = front_bytes level (length pairs) link ++ (pairs_bytes pairs ++ replicate (504 - 16 * length pairs) 0)
-
--- keys, and what they lead to, are numbers of 64 bits
-abbrev pub AreSmall : List Pair → Type 0
-AreSmall [] = Unit {0}
-AreSmall (p ∷ ps) = (p.0 < 2 ^ 64) × (p.1 < 2 ^ 64) × AreSmall ps

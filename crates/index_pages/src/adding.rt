@@ -1,8 +1,10 @@
 // The action that adds a pair, and the parts that other actions share with it.
 ghost use Rattle.std.specs.Prelude.{◌≡◌, ◌+◌, ◌*◌, ◌/◌, ◌%◌, ◌<◌, None, IsErrOf, length};
 ghost use Rattle.eaw_face.specs.Causes.{IsAlive};
+ghost use Rattle.eaw_face.specs.StoreView.{log_len};
 ghost use Rattle.page_store.specs.Index.{slots_of, index_pages_of};
 ghost use Rattle.page_store.specs.Pairs.{inserted};
+ghost use Rattle.page_store.specs.Runs.{Runs, acting_of};
 ghost use Rattle.page_store.specs.Shown.{pages_of, top_in};
 ghost use Rattle.index_pages.specs.Acts.{Acts};
 ghost use Rattle.index_pages.specs.Adding.{adding_pages, adding_parts};
@@ -13,16 +15,8 @@ use crate::page::{PAGE_LEN, Pairs, write_page};
 use crate::place::place_of;
 use crate::taking::Claim;
 use eaw_face::EawStore;
-use page_store::{PageFault, Pages};
+use page_store::{LeafPage, PageFault, Pages};
 use record_slots::{PART_AT, PART_LEN, SLOT_LEN, Slot, write_slot, write_super_part};
-
-/// A page of level 0 as it was read: its link and its pairs.
-#[derive(Drop)]
-pub struct LeafPage {
-    pub page: u32,
-    pub link: u32,
-    pub pairs: Pairs,
-}
 
 /// Adds a pair of the key of a table and a slot that is taken to a page of level 0 that has room, as one nested top action of three parts:
 /// the slot, which is absent under the key, the page, and the super page, which says that the slot is in use.
@@ -43,6 +37,9 @@ pub fn add_pair<S: EawStore>(
     ensures acts { Acts S.tells (S.opens (S.view pages.old.store).shape) tid (adding_pages (index_pages_of (S.view pages.old.store).shape) taken.now.number leaf.page)
         (adding_parts (index_pages_of (S.view pages.old.store).shape) taken.now.front taken.now.number leaf.page leaf.link leaf.pairs.items table key)
         (pages_of (S.view pages.old.store) pages.old) (pages_of (S.view pages.new.store) pages.new) result }
+    ensures runs { Runs S.tells S.view S.calls (acting_of tid (log_len (S.view pages.old.store) tid)
+        (adding_parts (index_pages_of (S.view pages.old.store).shape) taken.now.front taken.now.number leaf.page leaf.link leaf.pairs.items table key))
+        (S.view pages.old.store) (S.view pages.new.store) result }
     ensures dead { IsErrOf result PageFault.Dead → pages.new ≡ pages.old }
 {
     let LeafPage { page, link, pairs } = leaf;

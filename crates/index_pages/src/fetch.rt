@@ -1,13 +1,15 @@
 // Reads of the pages of an index, and of slots.
-ghost use Rattle.std.specs.Prelude.{◌≡◌, ◌<◌, ◌≤◌, ◌↔◌, ◌+◌, ◌*◌, IfOk, OnOk, IsErrOf, IsTrue};
+ghost use Rattle.std.specs.Prelude.{◌≡◌, ◌<◌, ◌≤◌, ◌↔◌, ◌+◌, ◌*◌, ◌/◌, ◌%◌, ℕ, List, true, IfOk, OnOk, IsErrOf, IsTrue};
 ghost use Rattle.array_shape.specs.Places.{page_count};
+ghost use Rattle.eaw_face.specs.Command as model;
+ghost use Rattle.mars_base.specs.Costs.{Costs};
 ghost use Rattle.record_slots.specs.Places.{page_bytes, slot_of, free_slot_of, free_page_of, IsSuper};
 ghost use Rattle.record_slots.specs.Slots.{slot_said};
 ghost use Rattle.record_slots.specs.Super.{SaysSuper, HasTables};
 ghost use Rattle.page_store.specs.Follows.{HasRead, one_reading};
 ghost use Rattle.page_store.specs.Index.{slots_of, index_pages_of};
 ghost use Rattle.page_store.specs.Looks.{Looks, is_failed};
-ghost use Rattle.page_store.specs.Shown.{pages_of};
+ghost use Rattle.page_store.specs.Shown.{address, pages_of};
 ghost use Rattle.index_pages.specs.Fetched.{ReadCause, TestCause, IsFront};
 
 use crate::page::PAGE_LEN;
@@ -74,6 +76,8 @@ pub fn fetch_free_slot<S: EawStore>(
         (pages_of (S.view pages.old.store) pages.old) (pages_of (S.view pages.new.store) pages.new) }
     ensures cause { ReadCause (S.view pages.old.store) result }
     ensures said { IsTrue S.tells → IfOk result (λ said. said ≡ free_slot_of (S.view pages.old.store).state.bytes slot) }
+    ensures costs { Costs true (S.calls pages.old.store (model.read (address (index_pages_of (S.view pages.old.store).shape + slot / 8) (slot % 8 * 64)) 64))
+        (S.view pages.old.store).moment (S.view pages.new.store).moment result }
     ensures dead { IsErrOf result PageFault.Dead → pages.new ≡ pages.old }
 {
     let page = index_page_count(pages) + slot / SLOTS_IN_PAGE;
@@ -92,6 +96,8 @@ pub fn fetch_free_page<S: EawStore>(
         (pages_of (S.view pages.old.store) pages.old) (pages_of (S.view pages.new.store) pages.new) }
     ensures cause { ReadCause (S.view pages.old.store) result }
     ensures said { IsTrue S.tells → IfOk result (λ said. said ≡ free_page_of (S.view pages.old.store).state.bytes page) }
+    ensures reads { (said : List ℕ) × HasRead S.tells (is_failed result) (S.calls pages.old.store) (S.calls pages.new.store) (S.view pages.old.store)
+        (S.view pages.new.store) (one_reading page said (page_bytes (S.view pages.old.store).state.bytes page) result) }
     ensures dead { IsErrOf result PageFault.Dead → pages.new ≡ pages.old }
 {
     let mut bytes = [0; PAGE_LEN];
@@ -106,6 +112,8 @@ pub fn fetch_super<S: EawStore>(pages: &mut Pages<S>, form: u8) -> Result<Super,
     ensures cause { TestCause S.tells (IsSuper form (S.view pages.old.store).state.bytes) 0 (S.view pages.old.store) result }
     ensures front { IfOk result (IsFront (S.view pages.old.store).shape) }
     ensures form { IfOk result (λ front. front.form ≡ form) }
+    ensures reads { (said : List ℕ) × HasRead S.tells (is_failed result) (S.calls pages.old.store) (S.calls pages.new.store) (S.view pages.old.store)
+        (S.view pages.new.store) (one_reading 0 said (page_bytes (S.view pages.old.store).state.bytes 0) result) }
     ensures says { IsTrue S.tells → IfOk result (SaysSuper (page_bytes (S.view pages.old.store).state.bytes 0)) }
     ensures dead { IsErrOf result PageFault.Dead → pages.new ≡ pages.old }
 {

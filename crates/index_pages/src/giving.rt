@@ -1,18 +1,20 @@
 // The slot and the page that a removal gives back, and the action that takes a pair out.
 ghost use Rattle.std.specs.Prelude.{◌≡◌, ◌<◌, ◌↔◌, IsTrue, None, Some, IfSome, IfNone, IsErrOf, length};
 ghost use Rattle.eaw_face.specs.Causes.{IsAlive};
+ghost use Rattle.eaw_face.specs.StoreView.{log_len};
 ghost use Rattle.page_store.specs.Index.{slots_of, index_pages_of};
 ghost use Rattle.page_store.specs.Pairs.{removed};
+ghost use Rattle.page_store.specs.Runs.{Runs, acting_of};
 ghost use Rattle.page_store.specs.Shown.{pages_of, top_in};
 ghost use Rattle.index_pages.specs.Acts.{Acts};
 ghost use Rattle.index_pages.specs.Giving.{MayGive, GivesSlot, GivesPage, removing_pages, removing_parts, with_slot_given, with_page_given};
 
 use crate::action::act_all;
-use crate::adding::{LeafPage, front_part, slot_part, whole_page};
+use crate::adding::{front_part, slot_part, whole_page};
 use crate::page::{PAGE_LEN, Pairs, write_page};
 use crate::place::place_found;
 use eaw_face::EawStore;
-use page_store::{PageFault, Pages};
+use page_store::{LeafPage, PageFault, Pages};
 use record_slots::{Free, PART_LEN, SLOT_LEN, Super, VERSION, write_free_slot, write_super_part};
 
 /// A slot or a page that is given back: its number, what it is to say, and what the super page is to say then.
@@ -106,6 +108,9 @@ pub fn remove_pair<S: EawStore>(
     ensures acts { Acts S.tells (S.opens (S.view pages.old.store).shape) tid (removing_pages (index_pages_of (S.view pages.old.store).shape) released.now.number leaf.page)
         (removing_parts (index_pages_of (S.view pages.old.store).shape) released.now.front released.now.number released.now.free leaf.page leaf.link leaf.pairs.items key)
         (pages_of (S.view pages.old.store) pages.old) (pages_of (S.view pages.new.store) pages.new) result }
+    ensures runs { Runs S.tells S.view S.calls (acting_of tid (log_len (S.view pages.old.store) tid)
+        (removing_parts (index_pages_of (S.view pages.old.store).shape) released.now.front released.now.number released.now.free leaf.page leaf.link leaf.pairs.items key))
+        (S.view pages.old.store) (S.view pages.new.store) result }
     ensures dead { IsErrOf result PageFault.Dead → pages.new ≡ pages.old }
 {
     let LeafPage { page, link, pairs } = leaf;

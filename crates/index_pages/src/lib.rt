@@ -18,7 +18,7 @@ mod rest;
 mod taking;
 
 pub use action::{PagePart, act_all};
-pub use adding::{LeafPage, add_pair, front_part, slot_part, whole_page, with_pair};
+pub use adding::{add_pair, front_part, slot_part, whole_page, with_pair};
 pub use checking::{check_lists, check_slot};
 pub use cut::{copy_of, middle_of};
 pub use fault::{check_fault, index_fault};
@@ -33,6 +33,7 @@ pub use page::{
     HALF, Head, LEVEL_MAX, PAGE_LEN, PAIRS_MAX, Pairs, next_pair, read_head, read_pair, read_pairs,
     write_page,
 };
+pub use page_store::LeafPage;
 pub use place::{place_found, place_of};
 pub use rest::rest_of;
 pub use taking::{Claim, take_page, take_slot};

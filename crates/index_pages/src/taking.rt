@@ -7,6 +7,7 @@ ghost use Rattle.page_store.specs.Looks.{Looks, LookCause, is_failed};
 ghost use Rattle.page_store.specs.Shown.{pages_of};
 ghost use Rattle.index_pages.specs.Adding.{TakesSlot, TakesPage, with_slot_taken, with_page_taken};
 ghost use Rattle.index_pages.specs.Fetched.{IsFront};
+ghost use Rattle.index_pages.specs.Peeks.{Peeks};
 ghost use Rattle.index_pages.specs.Slots.{HasRank, list_check};
 
 use crate::fetch::{SLOTS_IN_PAGE, fetch_free_page, fetch_free_slot, index_page_count};
@@ -31,6 +32,7 @@ pub fn take_slot<S: EawStore>(pages: &mut Pages<S>, front: &Super) -> Result<Cla
     ensures looks { Looks S.tells (S.opens (S.view pages.old.store).shape) (is_failed result)
         (pages_of (S.view pages.old.store) pages.old) (pages_of (S.view pages.new.store) pages.new) }
     ensures cause { LookCause S.tells (S.view pages.old.store) result }
+    ensures peeks { Peeks S.tells S.view S.calls (S.view pages.old.store) (S.view pages.new.store) result }
     ensures takes { IsTrue S.tells → IfOk result (λ taken. TakesSlot (S.view pages.old.store).state.bytes front.now taken.number taken.front) }
     ensures inside { IfOk result (λ taken. taken.number < slots_of (S.view pages.old.store).shape) }
     ensures dead { IsErrOf result PageFault.Dead → ⊥ }
@@ -72,6 +74,7 @@ pub fn take_page<S: EawStore>(pages: &mut Pages<S>, front: &Super) -> Result<Cla
     ensures looks { Looks S.tells (S.opens (S.view pages.old.store).shape) (is_failed result)
         (pages_of (S.view pages.old.store) pages.old) (pages_of (S.view pages.new.store) pages.new) }
     ensures cause { LookCause S.tells (S.view pages.old.store) result }
+    ensures peeks { Peeks S.tells S.view S.calls (S.view pages.old.store) (S.view pages.new.store) result }
     ensures takes { IsTrue S.tells → IfOk result (λ taken. TakesPage (S.view pages.old.store).state.bytes front.now taken.number taken.front) }
     ensures inside { IfOk result (λ taken. (2 ≤ taken.number) × (taken.number < index_pages_of (S.view pages.old.store).shape)) }
     ensures front { IfOk result (λ taken. IsFront (S.view pages.old.store).shape taken.front) }

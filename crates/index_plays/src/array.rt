@@ -3,7 +3,7 @@ use crate::untold_media::UntoldMedia;
 use anyhow::{Result, bail, ensure};
 use array_shape::Shape;
 use eaw_device::{Eaw, format};
-use page_store::{IndexFault, KeyIndex, NextPairs, PageFault, Pages, TableRows};
+use page_store::{IndexFault, KeyIndex, NextPairs, PageFault, Pages, Sought, TableRows};
 use pcm_media::{FusedMedia, MemoryMedia};
 use record_slots::main_super;
 use std::alloc::Global;
@@ -90,7 +90,7 @@ pub fn close(array: Array) -> MemoryMedia {
     array.into_store().into_media().into_inner().into_inner()
 }
 
-/// Inserts a key that is not there.
+/// Inserts a key that is not there, at the place that a look-up finds for it.
 pub fn insert<K: KeyIndex>(
     array: &mut Array,
     tid: u8,
@@ -100,9 +100,17 @@ pub fn insert<K: KeyIndex>(
     ensure!(table < TABLES, "no such table");
     let root = u32::from(table) + 1;
     ensure!(u64::from(root) < array.shape().page_count(), "no root");
+    let sought = match K::find_place(array, root, table, key) {
+        Ok(sought) => sought,
+        Err(fault) => bail!("{fault}"),
+    };
     ensure!(tid < array.shape().numbers, "no such number");
     ensure!(array.open_top(tid).is_none(), "an open action");
-    Ok(K::insert(array, tid, root, table, key))
+    match sought {
+        Sought::Slot(_) => bail!("the key is there"),
+        Sought::Place(leaf) => Ok(K::insert(array, tid, root, table, key, Some(leaf))),
+        Sought::Split => Ok(K::insert(array, tid, root, table, key, None)),
+    }
 }
 
 /// Removes a key that is there and has no record.

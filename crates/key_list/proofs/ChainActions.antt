@@ -28,7 +28,7 @@ pub behind_bound : (low high : ℕ) (ps : List Pair) → Rise low high ps → be
 behind_bound low high [] r = r
 behind_bound low high (p ∷ ps) r = behind_bound (suc p.0) high ps r.1
 
-rise_from : (low high : ℕ) (ps : List Pair) → Rise low high ps → low ≤ behind low ps
+pub rise_from : (low high : ℕ) (ps : List Pair) → Rise low high ps → low ≤ behind low ps
 rise_from low high [] r = omega arith
 rise_from low high (p ∷ ps) r = let h = rise_from (suc p.0) high ps r.1 in omega arith
 

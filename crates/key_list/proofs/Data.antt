@@ -52,6 +52,7 @@ use Rattle.key_list.proofs.Chains.{key_page_own, pages_same, cut_keeps, cut_name
 use Rattle.key_list.proofs.Holding.{found_before, kept_none, last_stays, more_of}
 use Rattle.key_list.proofs.Losing.{freed_chain_loses}
 use Rattle.key_list.proofs.Resting.{chain_stays}
+use Rattle.key_list.proofs.Walking.{key_page_linked}
 use Rattle.key_list.proofs.Others.{roots_one, whole_of, root_own, member_of, free_apart, due_apart, tables_apart, all_given, one_changed, others_untouched}
 
 module _ (shape : Shape) (old : List ℕ) (half : ℕ) (long : length old ≡ data_len shape) (half_is : half ≡ index_pages_of shape) (all : half + half ≡ array.page_count shape) (few : half ≤ 16384)
@@ -97,7 +98,10 @@ module _ (shape : Shape) (old : List ℕ) (half : ℕ) (long : length old ≡ da
   long_entries = entries_long old front (omega (arith, size, given_most, whole.front.some_pages)) says.front_says
 
   link_fits : link < 2 ^ 32
-  link_fits = omega (arith, loc.link_inside, half_is, few)
+  link_fits =
+      let linked = key_page_linked old root table half key whole.front chain_sound first in
+      let below : link_of old page < half = subst (λ (x : ℕ). link_of old x < half) (sym says.page_is) linked.link in
+      omega (arith, says.link_is, below, few)
 
   -- a pair is added with the slot that is due
   module _ (after : Super) (slot : ℕ) (takes : TakesSlot old front slot after) (table_few : table < 8) (room : length pairs < 30) (left : used_slots old < slots_of shape)

@@ -1,5 +1,9 @@
 pub mod Ends
 pub mod Walking
+pub mod Staying
+pub mod Placing
+pub mod Finding
+pub mod Spending
 pub mod Chains
 pub mod ChainActions
 pub mod Resting

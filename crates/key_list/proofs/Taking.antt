@@ -1,5 +1,5 @@
 -- A removal as a whole, from what its steps give.
-use Rattle.std.proofs.Common.{◌≡◌, ℕ, ◌*◌, ◌^◌, ◌<◌, ◌≤◌, Bool, true, false, List, length, Some, Result, Ok, Err, refl, sym, ◌∙◌, subst, arith}
+use Rattle.std.proofs.Common.{◌≡◌, ℕ, ◌*◌, ◌^◌, ◌<◌, ◌≤◌, Bool, true, false, List, [], ◌∷◌, length, Some, ap, Result, Ok, Err, refl, sym, ◌∙◌, subst, arith}
 use Rattle.std.specs.Prelude.{IsTrue}
 use Rattle.array_shape.specs.declared.shape.Shape.{Shape}
 use Rattle.array_shape.specs.Places.{data_len}
@@ -11,6 +11,7 @@ use Rattle.page_store.specs.Index.{IsTable, index_pages_of}
 use Rattle.page_store.specs.Pairs.{Pair, found}
 use Rattle.page_store.specs.Removes.{HasAbsent, Removes}
 use Rattle.page_store.specs.Shown.{PagesView}
+use Rattle.page_store.specs.Works.{removal_actions}
 use Rattle.page_store.specs.declared.fault.PageFault.{PageFault}
 use Rattle.page_store.specs.declared.fault.PageFault.TheVariants.{Damaged}
 use Rattle.index_pages.specs.Acts.{Acts}
@@ -19,7 +20,8 @@ use Rattle.index_pages.proofs.Even.{halves, halves_few}
 use Rattle.index_pages.proofs.Looking.{looks_none}
 use Rattle.index_pages.proofs.Removals.{removes_none, removes_damaged, removes_done, removes_act_err}
 use Rattle.key_list.specs.Chain.{IsSoundChain}
-use Rattle.key_list.specs.Index.{chain, keeps_last}
+use Rattle.key_list.specs.Index.{chain, chain_removal, keeps_last}
+use Rattle.key_list.proofs.Spending.{acted}
 use Rattle.key_list.specs.Located.{IsLocated, Locates}
 use Rattle.key_list.proofs.Data.{removing_loses, removing_at, staying_none, key_there, slot_may}
 
@@ -31,6 +33,11 @@ module _ (tells : Bool) (E : Shape → List ℕ → List ℕ → Type 0) (t root
   pub pair_stays : keeps_last root page link (length pairs) ≡ true → (let r : Result Bool PageFault = Ok false in Removes tells (E v0.store.shape) chain t root key v0 v0 r)
   pair_stays keeps = removes_none tells (E v0.store.shape) chain t root key v0 v0 (looks_none tells (E v0.store.shape) v0) alive
       (λ told. staying_none v0.store.shape v0.store.state.bytes (index_pages_of v0.store.shape) (long told) refl (halves v0.store.shape) (halves_few v0.store.shape) root table front page link pairs key fits loc (sound told) (named told) (said told) keeps)
+
+  -- then no action is due
+  pub made_none : keeps_last root page link (length pairs) ≡ true → IsTrue tells → removal_actions (chain_removal v0.store.state.bytes root key) ≡ []
+  made_none keeps told = ap removal_actions
+      (staying_none v0.store.shape v0.store.state.bytes (index_pages_of v0.store.shape) (long told) refl (halves v0.store.shape) (halves_few v0.store.shape) root table front page link pairs key fits loc (sound told) (named told) (said told) keeps)
 
   -- what is so of the key's slot over a store that tells its data
   there : (told : IsTrue tells) → (slot : ℕ) × (found pairs key ≡ Some slot) × (slot < 8 * index_pages_of v0.store.shape) × MayGive front.version slot front.next_slot front.free_slots
@@ -62,6 +69,12 @@ module _ (tells : Bool) (E : Shape → List ℕ → List ℕ → Type 0) (t root
 
     is' : found pairs key ≡ Some number
     is' = subst (λ (s : ℕ). found pairs key ≡ Some s) (sym number_is) is
+
+    -- the action that is due
+    pub made_removing : IsTrue tells → acted (removing_pages (index_pages_of v0.store.shape) number page) 0 ∷ [] ≡ removal_actions (chain_removal v0.store.state.bytes root key)
+    made_removing told =
+        ap removal_actions
+        (sym (removing_at v0.store.shape v0.store.state.bytes (index_pages_of v0.store.shape) (long told) refl (halves v0.store.shape) (halves_few v0.store.shape) root table front page link pairs key fits loc (sound told) (named told) (said told) number free after gives goes is'))
 
     -- the pair is taken out
     pub pair_gone : (v1 : PagesView) → (let r : Result (Unit {0}) PageFault = Ok tt in

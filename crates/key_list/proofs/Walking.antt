@@ -1,6 +1,6 @@
 -- A walk along a sound chain.
-use Rattle.std.proofs.Common.{◌≡◌, ◌≢◌, ℕ, zero, suc, ◌+◌, ◌-◌, ◌<◌, ◌≤◌, true, false, nat_eq, nat_lt, List, [], ◌∷◌, Option, Some, None, inl, inr, refl, sym, ◌∙◌, ap, subst, arith}
-use Rattle.std.specs.Prelude.{is_some, nat_le, if◌then◌else◌}
+use Rattle.std.proofs.Common.{◌≡◌, ◌≢◌, ℕ, zero, suc, ◌+◌, ◌-◌, ◌<◌, ◌≤◌, true, false, nat_eq, nat_lt, List, [], ◌∷◌, length, Option, Some, None, inl, inr, refl, sym, ◌∙◌, ap, subst, arith}
+use Rattle.std.specs.Prelude.{is_some, nat_le, ◌||◌, if◌then◌else◌}
 use Rattle.std.proofs.lemmas.Bool.Decides.{nat_tests, eqb_tells, leb_tells}
 use Rattle.page_store.specs.Pairs.{Pair, Rise, AreInside, AreNext, InTurn, found, next}
 use Rattle.record_slots.specs.Places.{page_bytes, next_slot, next_page, AreGiven, first_slot_page, IsSuper}
@@ -10,10 +10,11 @@ use Rattle.index_pages.specs.Pieces.{joined}
 use Rattle.key_list.specs.Chain.{behind, chain_pieces, first_key, chain_check, pairs_of_chain, chain_page_for, page_of_key}
 use Rattle.key_list.specs.Seen.{IsChain, IsChainPage, pages_of_sound, pieces_have}
 use Rattle.index_pages.proofs.Rising.{next-none, next-some, found-below}
-use Rattle.key_list.specs.ChainFacts.{chain_head}
-use Rattle.key_list.proofs.ChainActions.{first_below, linked_some}
+use Rattle.key_list.specs.ChainFacts.{chain_head, first_from}
+use Rattle.key_list.proofs.ChainActions.{first_below, later_some, linked_some, rise_from}
 use Rattle.index_pages.specs.Keys.{from_on, key_end}
 use Rattle.index_pages.proofs.Turns.{are_next, rest_none, turn_in, turn_rest}
+use Rattle.key_list.specs.Along.{ends_at}
 use Rattle.key_list.specs.Linked.{IsLinked, Reaches}
 
 -- after `steps` steps the chain from this page on answers
@@ -174,16 +175,16 @@ found_other low high (q ∷ qs) key p rises some other =
           rw b' (found_other (suc q.0) high qs key p rises.1 e other)
     ]
 
--- on the way to the page of a key: this page was read, and the one after it is next
+-- on the way to the page of a key: this page was read, the last of so many, and the one after it is next
 pub record Place (bytes : List ℕ) (root table key steps page link : ℕ) : Type 0 where
   pub n : ℕ
   pub low : ℕ
   pub chain : IsChain table (suc n) bytes page low
-  pub left : suc n + steps ≡ next_page bytes
+  pub left : n + steps ≡ next_page bytes
   pub link_is : link ≡ link_of bytes page
   pub answers : page_of_key bytes root key ≡ chain_page_for (suc n) bytes page key
 
-pub place_first : (bytes : List ℕ) (root table key link : ℕ) → 1 ≤ next_page bytes → chain_check bytes root table None → link ≡ link_of bytes root → Place bytes root table key 0 root link
+pub place_first : (bytes : List ℕ) (root table key link : ℕ) → 1 ≤ next_page bytes → chain_check bytes root table None → link ≡ link_of bytes root → Place bytes root table key 1 root link
 place_first bytes root table key link some sound link_is =
     let e : next_page bytes ≡ suc (next_page bytes - 1) = omega (arith, some) in
     record {
@@ -228,7 +229,54 @@ place_here bytes root table key steps page link at more lt =
     let b' : nat_lt key (first_key (page_pairs bytes (link_of bytes page))) ≡ true = grind (arith, nat_tests) in
     at.answers ∙ (rw b (rw b' refl))
 
-place_on : (n : ℕ) (bytes : List ℕ) (root table key steps page low link : ℕ) → IsChain table (suc n) bytes page low → suc n + steps ≡ next_page bytes → page_of_key bytes root key ≡ chain_page_for (suc n) bytes page key
+-- the first pair from a key on is before what comes behind the pairs
+next_behind : (low high key : ℕ) (ps : List Pair) (p : Pair) → Rise low high ps → next ps key ≡ Some p → (key ≤ p.0) × (p.0 < behind low ps)
+next_behind low high key [] p rises some = absurd (cc)
+next_behind low high key (q ∷ qs) p rises some =
+    elim (leb_tells key q.0) [
+      | inl le ↦
+          let b : nat_le key q.0 ≡ true = le.0 in
+          let e : Some q ≡ Some p = (rw b at some) in
+          let same : q ≡ p = cc in
+          let far = rise_from (suc q.0) high qs rises.1 in
+          subst (λ (x : Pair). (key ≤ x.0) × (x.0 < behind (suc q.0) qs)) same (le.1, omega (arith, far))
+      | inr lt ↦ let b : nat_le key q.0 ≡ false = lt.0 in next_behind (suc q.0) high key qs p rises.1 (rw b at some)
+    ]
+
+-- a key goes into the page that has a pair from it on, since the pages behind begin above that
+place_within : (bytes : List ℕ) (root table key steps page link : ℕ) (p : Pair) → Place bytes root table key steps page link → link ≢ 0 → next (page_pairs bytes page) key ≡ Some p → page_of_key bytes root key ≡ page
+place_within bytes root table key steps page link p at more some =
+    let head = link_chain at.n bytes table page at.low link at.chain at.link_is more in
+    let here = chain_head table (suc at.n) bytes page at.low at.chain in
+    let near = next_behind at.low key_end key (page_pairs bytes page) p here.rises some in
+    let many = later_some table bytes link (behind at.low (page_pairs bytes page)) head.2 head.0 in
+    let far = first_from (behind at.low (page_pairs bytes page)) key_end (page_pairs bytes link) many head.0.rises in
+    place_here bytes root table key steps page link at more (omega (arith, near.0, near.1, far.0))
+
+-- where the way of the key ends, and is not past its page
+pub place_ends : (bytes : List ℕ) (root table key steps page link : ℕ) → Place bytes root table key steps page link → ends_at key (page_bytes bytes page) ≡ true → page_of_key bytes root key ≡ page
+place_ends bytes root table key steps page link at ends = elim (eqb_tells link 0) [
+  | inl last ↦ place_last bytes root table key steps page link at last.1
+  | inr more ↦
+      let other : link_of bytes page ≢ 0 = λ e. more.1 (at.link_is ∙ e) in
+      let b : nat_eq (link_of bytes page) 0 ≡ false = grind (arith, nat_tests) in
+      let ends' : (is_some (next (page_pairs bytes page) key) || nat_eq (link_of bytes page) 0) ≡ true = ends in
+      here (next (page_pairs bytes page) key) refl (rw b at ends') more.1
+]
+  where
+    here : (o : Option Pair) → next (page_pairs bytes page) key ≡ o → (is_some o || false) ≡ true → link ≢ 0 → page_of_key bytes root key ≡ page
+    here None is none more = absurd (cc)
+    here (Some p) is some more = place_within bytes root table key steps page link p at more is
+
+-- as many pages were read as are given: no more can follow
+pub place_out : (bytes : List ℕ) (root table key steps page link : ℕ) → Place bytes root table key steps page link → link ≢ 0 → next_page bytes ≤ steps → ⊥
+place_out bytes root table key steps page link at more most = out at.n at.chain (omega (arith, at.left, most))
+  where
+    out : (n : ℕ) → IsChain table (suc n) bytes page at.low → n ≡ 0 → ⊥
+    out zero chain is = chain.1 (λ e. more (at.link_is ∙ e))
+    out (suc n) chain is = absurd (omega (arith, is))
+
+place_on : (n : ℕ) (bytes : List ℕ) (root table key steps page low link : ℕ) → IsChain table (suc n) bytes page low → n + steps ≡ next_page bytes → page_of_key bytes root key ≡ chain_page_for (suc n) bytes page key
     → link_of bytes page ≢ 0 → first_key (page_pairs bytes (link_of bytes page)) ≤ key → link ≡ link_of bytes (link_of bytes page) → Place bytes root table key (steps + 1) (link_of bytes page) link
 place_on zero bytes root table key steps page low link chain left answers other le is = absurd (chain.1 other)
 place_on (suc n) bytes root table key steps page low link chain left answers other le is =
@@ -255,6 +303,17 @@ first_from_some page (suc n) some = refl
 
 pub first_said : (page : List ℕ) → count_said page ≢ 0 → first_key (pairs_said page) ≡ (pair_said page 0).0
 first_said page some = ap (λ (ps : List Pair). first_key ps) (from_first page) ∙ first_from_some page (count_said page) some
+
+length-from : (page : List ℕ) (i n : ℕ) → length (pairs_from page i n) ≡ n
+length-from page i zero = refl
+length-from page i (suc n) = ap suc (length-from page (suc i) n)
+
+pub length-said : (page : List ℕ) → length (pairs_said page) ≡ count_said page
+length-said page = ap (λ (ps : List Pair). length ps) (from_first page) ∙ length-from page 0 (count_said page)
+
+-- a page that counts pairs has some
+pub some_said : (page : List ℕ) → count_said page ≢ 0 → 1 ≤ length (pairs_said page)
+some_said page some = omega (arith, length-said page, some)
 
 -- the page of a key is one of the chain
 page_on_chain : (n : ℕ) (bytes : List ℕ) (table page low key : ℕ) → IsChain table n bytes page low → (l : ℕ) × IsChainPage table bytes (chain_page_for n bytes page key) l

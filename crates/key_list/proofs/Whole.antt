@@ -39,6 +39,7 @@ use Rattle.key_list.specs.Chain.{IsSoundChain, pairs_of_chain, page_of_key}
 use Rattle.key_list.specs.Index.{chain, chain_within, chain_actions, adding, cutting, by_half}
 use Rattle.key_list.specs.Located.{IsLocated, Locates, cutting_pages, cutting_parts}
 use Rattle.key_list.specs.Resting.{sound_chain_counts}
+use Rattle.key_list.proofs.Spending.{acted}
 use Rattle.key_list.proofs.Data.{adding_grows, adding_takes_none, slot_there, cutting_grows, cut_after, cut_due, cut_used, half_located, half_left}
 
 -- nothing is left of so many
@@ -127,6 +128,11 @@ module _ (tells : Bool) (E : Shape → List ℕ → List ℕ → Type 0) (t root
 
       pages_are : IsTrue tells → adding_pages half taken page ≡ (adding v0.store.state.bytes page).pages
       pages_are told = adding_at v0.store.shape v0.store.state.bytes (long told) half all taken page (due_is told)
+
+      pub made_here : IsTrue tells → acted (adding_pages (index_pages_of v1.store.shape) taken page) 0 ∷ [] ≡ chain_actions v0.store.state.bytes root key
+      made_here told =
+          ap (λ (n : ℕ). acted (adding_pages n taken page) 0 ∷ []) (ap index_pages_of looks.shape ∙ sym half_is)
+          ∙ ap (λ (ps : List ℕ). acted ps 0 ∷ []) (pages_are told) ∙ sym (one_action told)
 
       -- the pair was added
       pub add_done : (v2 : PagesView) → (let r : Result (Unit {0}) PageFault = Ok tt in
@@ -239,6 +245,10 @@ module _ (tells : Bool) (E : Shape → List ℕ → List ℕ → Type 0) (t root
       one_left : IsTrue tells → 1 ≤ index_pages_of v0.store.shape - used_pages v0.store.state.bytes
       one_left told = omega (arith, used_left told)
 
+      -- the cut is the first of two actions
+      pub made_first : IsTrue tells → acted (cutting_pages taken page) 1 ∷ adding v0.store.state.bytes (by_half (page_pairs v0.store.state.bytes page) key page (page_due v0.store.state.bytes 0)) ∷ [] ≡ chain_actions v0.store.state.bytes root key
+      made_first told = ap (λ (ps : List ℕ). acted ps 1 ∷ adding v0.store.state.bytes (by_half (page_pairs v0.store.state.bytes page) key page (page_due v0.store.state.bytes 0)) ∷ []) (cut_pages_are told) ∙ sym (two_actions told)
+
       -- the cut was refused
       pub cut_err : (v2 : PagesView) (fault : PageFault) → (let r : Result (Unit {0}) PageFault = Err fault in Acts tells (E v1.store.shape) t (cutting_pages taken page) (cutting_parts after taken page link pairs) v1 v2 r)
           → (let s : Result ℕ IndexFault = Err (as_index fault) in Inserts tells (E v0.store.shape) chain t root table key v0 v2 s)
@@ -274,6 +284,12 @@ module _ (tells : Bool) (E : Shape → List ℕ → List ℕ → Type 0) (t root
         pub absent3 : IsTrue tells → found (pairs_of_chain v2.store.state.bytes root) key ≡ None
         absent3 told = ap (λ (ps : List Pair). found ps key) (going3.made told alive).1.pairs ∙ absent told
 
+        -- and the rest of the actions is what is due then
+        pub made_cut : IsTrue tells → acted (cutting_pages taken page) 1 ∷ chain_actions v2.store.state.bytes root key ≡ chain_actions v0.store.state.bytes root key
+        made_cut told =
+            let rest = half_left v0.store.shape v0.store.state.bytes half (long told) half_is all few root table front page link pairs key fits loc (sound told) (named told) (said told) after taken (takes told) full (used_left told) in
+            ap (λ (b : List ℕ). acted (cutting_pages taken page) 1 ∷ chain_actions b root key) (bytes3 told) ∙ ap (λ (steps : List Action). acted (cutting_pages taken page) 1 ∷ steps) rest ∙ made_first told
+
         module _ (hfront : Super) (hpage hlink : ℕ) (hpairs : List Pair) (front_is : hfront ≡ after) (page_is : hpage ≡ by_half pairs key page taken) (link_is : hlink ≡ by_half pairs key taken link)
             (pairs_are : hpairs ≡ by_half pairs key (take 15 pairs) (drop 15 pairs)) where
           half_read : IsLocated v0.store.shape after hpage hlink hpairs × (length hpairs ≡ 15)
@@ -288,7 +304,6 @@ module _ (tells : Bool) (E : Shape → List ℕ → List ℕ → Type 0) (t root
                     front_is = after_is;
                     some = omega (arith, at, loc.some);
                     inside = omega (arith, at, loc.inside);
-                    link_inside = omega (arith, to, taken_in.1);
                     most = omega (arith, many);
                     small = subst (λ (ps : List Pair). AreSmall ps) (sym of) (small_take 15 pairs loc.small).0;
                   },
@@ -304,7 +319,6 @@ module _ (tells : Bool) (E : Shape → List ℕ → List ℕ → Type 0) (t root
                     front_is = after_is;
                     some = omega (arith, at, taken_in.0);
                     inside = omega (arith, at, taken_in.1);
-                    link_inside = omega (arith, to, loc.link_inside);
                     most = omega (arith, many);
                     small = subst (λ (ps : List Pair). AreSmall ps) (sym of) (small_take 15 pairs loc.small).1;
                   },

@@ -1,5 +1,5 @@
 -- How look-ups go along a chain.
-use Rattle.std.specs.Prelude.{ℕ, ◌≡◌, ◌||◌, Bool, true, is_some, nat_eq, if◌then◌else◌, List, [], ◌∷◌, Option, Some, None, IfSome}
+use Rattle.std.specs.Prelude.{ℕ, ◌≡◌, ◌≢◌, ◌||◌, ◌⊎◌, Bool, true, is_some, nat_eq, if◌then◌else◌, List, [], ◌∷◌, Option, Some, None, IfSome}
 use Rattle.page_store.specs.Course.{Reading, Course}
 use Rattle.page_store.specs.Follows.{IsLast}
 use Rattle.page_store.specs.Index.{index_pages_of}
@@ -7,6 +7,7 @@ use Rattle.page_store.specs.Pairs.{Pair, next}
 use Rattle.index_pages.specs.Keys.{from_on}
 use Rattle.index_pages.specs.Page.{link_said, pairs_said}
 use Rattle.key_list.specs.declared.look.Reached.{Reached}
+use Rattle.key_list.specs.declared.look.KeyPage.{KeyPage}
 
 -- a page has a pair from the key on, or none comes after it
 abbrev pub ends_at : ℕ → List ℕ → Bool
@@ -41,3 +42,15 @@ Ended from said (r ∷ rs) = (r.1 ≡ said) × (ends_at from said ≡ true)
 -- so, and if it has a pair, it is the one that was reached
 abbrev pub Arrives : ℕ → List ℕ → Option Reached → List Reading → Type 0
 Arrives from said at read = Ended from said read × IfSome at (λ at. IsLast read at.page)
+
+-- the page was read
+abbrev pub WasRead : ℕ → List Reading → Type 0
+WasRead page [] = ⊥
+WasRead page (r ∷ rs) = (page ≡ r.0) ⊎ WasRead page rs
+
+-- The page that the key is in or goes into was read, and said this: what its pairs say is the answer, and if one of them is from the key on, it was
+-- read last.
+pub record Stays (key : ℕ) (said : List ℕ) (at : KeyPage) (read : List Reading) : Type 0 where
+  pub answer : answered (λ pairs. led_to key (next pairs key)) key read ≡ Some (led_to key (next (pairs_said said) key))
+  pub last : next (pairs_said said) key ≢ None → IsLast read at.page
+  pub met : WasRead at.page read

@@ -52,6 +52,12 @@ chain_removal bytes root key =
     if keeps_last root (page_of_key bytes root key) (link_of bytes (page_of_key bytes root key)) (count_of bytes (page_of_key bytes root key)) then None
     else Some (removing bytes (unwrap_or (found (pairs_of_chain bytes root) key) 0) (page_of_key bytes root key))
 
+-- a page is that of the key, with this link and these pairs
+pub record IsPlaceOf (bytes : List ℕ) (root key page link : ℕ) (pairs : List Pair) : Type 0 where
+  pub page_is : page ≡ page_of_key bytes root key
+  pub link_is : link ≡ link_of bytes page
+  pub pairs_are : pairs ≡ page_pairs bytes page
+
 -- chains as indexes; they have no inner pages
 abbrev pub chain : Index
 chain = record {
@@ -61,6 +67,7 @@ chain = record {
   level = λ bytes root. 0;
   has_page = IsPageOfChain;
   actions = chain_actions;
+  fits = IsPlaceOf;
   removal = chain_removal;
   finding = chain_finding;
   nexting = chain_nexting;

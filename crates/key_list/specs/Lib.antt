@@ -12,3 +12,4 @@ pub mod ChainFacts
 pub mod Resting
 pub mod Fresh
 pub mod Extending
+pub mod Finds

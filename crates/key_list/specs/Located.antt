@@ -7,20 +7,28 @@ use Rattle.record_slots.specs.Super.{SaysSuper, part_bytes}
 use Rattle.record_slots.specs.declared.super_page.Super.{Super}
 use Rattle.page_store.specs.Index.{index_pages_of}
 use Rattle.page_store.specs.Pairs.{Pair}
+use Rattle.page_store.specs.declared.leaf_page.Sought.{Sought}
+use Rattle.page_store.specs.declared.leaf_page.Sought.TheVariants.{Slot, Place, Split}
 use Rattle.page_store.specs.Shown.{address}
 use Rattle.index_pages.specs.Fetched.{IsFront}
-use Rattle.index_pages.specs.Page.{link_of, page_pairs}
+use Rattle.index_pages.specs.Page.{count_said, pairs_said, link_of, page_pairs}
 use Rattle.key_list.specs.Chain.{page_of_key}
 use Rattle.index_pages.specs.Written.{AreSmall, written_page}
+use Rattle.key_list.specs.declared.look.KeyPage.{KeyPage}
 
 -- what is known of it over any store
 pub record IsLocated (shape : Shape) (front : Super) (page link : ℕ) (pairs : List Pair) : Type 0 where
   pub front_is : IsFront shape front
   pub some : 1 ≤ page
   pub inside : page < index_pages_of shape
-  pub link_inside : link < index_pages_of shape
   pub most : length pairs ≤ 30
   pub small : AreSmall pairs
+
+-- the place is this page, if it has room
+abbrev pub IsRoomIn : KeyPage → List ℕ → Sought → Type 0
+IsRoomIn at said (Slot slot) = ⊥
+IsRoomIn at said (Place leaf) = (leaf.page ≡ at.page) × (leaf.link ≡ at.head.link) × (leaf.pairs.items ≡ pairs_said said) × (length leaf.pairs.items < 30) × AreSmall leaf.pairs.items
+IsRoomIn at said Split = 30 ≤ count_said said
 
 -- it is what the data says
 pub record Locates (bytes : List ℕ) (root key : ℕ) (front : Super) (page link : ℕ) (pairs : List Pair) : Type 0 where

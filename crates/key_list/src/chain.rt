@@ -5,13 +5,16 @@ ghost use Rattle.key_list.specs.Resting.{sound_table, sound_chain_given, sound_c
 ghost use Rattle.key_list.specs.Extending.{sound_chains_extend};
 ghost use Rattle.key_list.specs.Index.{chain};
 
-use crate::{checking, insertion, look, removal};
+use crate::{checking, insertion, look, place, removal};
 use eaw_face::EawStore;
-use page_store::{CheckFault, IndexFault, KeyIndex, NextPairs, PageFault, Pages, TableRows};
+use page_store::{
+    CheckFault, IndexFault, KeyIndex, LeafPage, NextPairs, PageFault, Pages, Sought, TableRows,
+};
 use std::alloc::Global;
 
 /// Indexes that are chains of pages in the order of their keys, one for each table: it begins in the table's root and follows the links. A
-/// look-up reads each page of the chain up to that of its key. An insertion is one nested top action of three parts: the slot, the page and
+/// look-up reads each page of the chain up to that of its key, and so does an insertion or a removal, unless it is told the page; besides, it
+/// reads the super page, and what it takes from a list. An insertion is one nested top action of three parts: the slot, the page and
 /// the super page. If the page has 30 pairs, it is cut first, by another action of three parts: the page, the page that is due, which
 /// takes the upper half and the link, and the super page. A removal is one action of three parts too: the slot, which is free then, the
 /// page and the super page. A page keeps its last pair, unless it is the root and no page follows it: so no page is ever freed.
@@ -40,6 +43,15 @@ impl KeyIndex for KeyList {
         look::find(pages, root, table, key)
     }
 
+    fn find_place<S: EawStore>(
+        pages: &mut Pages<S>,
+        root: u32,
+        table: u8,
+        key: u64,
+    ) -> Result<Sought, PageFault> {
+        place::find_place(pages, root, table, key)
+    }
+
     fn next_pairs<S: EawStore>(
         pages: &mut Pages<S>,
         root: u32,
@@ -55,8 +67,9 @@ impl KeyIndex for KeyList {
         root: u32,
         table: u8,
         key: u64,
+        place: Option<LeafPage>,
     ) -> Result<u32, IndexFault> {
-        insertion::insert(pages, tid, root, table, key)
+        insertion::insert(pages, tid, root, table, key, place)
     }
 
     fn remove<S: EawStore>(

@@ -1,20 +1,24 @@
 // Insertions into the chain of a table.
-ghost use Rattle.std.specs.Prelude.{◌≡◌, ◌<◌, ◌≤◌, ◌↔◌, None, IsErrOf, IsTrue, length};
+ghost use Rattle.std.specs.Prelude.{◌≡◌, ◌<◌, ◌≤◌, ◌↔◌, [], ◌∷◌, None, IfSome, is_some, IsErrOf, IsTrue, length};
 ghost use Rattle.array_shape.specs.Places.{page_count};
 ghost use Rattle.eaw_face.specs.Causes.{IsAlive};
 ghost use Rattle.page_store.specs.Index.{IsTable, slots_of};
 ghost use Rattle.page_store.specs.Inserts.{Inserts};
 ghost use Rattle.page_store.specs.Pairs.{found};
+ghost use Rattle.page_store.specs.Placed.{IsPlaceIn};
 ghost use Rattle.page_store.specs.Shown.{pages_of, top_in};
+ghost use Rattle.page_store.specs.Works.{Works, WorksFrom, blamed_index, insertion_limits, is_done};
 ghost use Rattle.key_list.specs.Chain.{IsSoundChain, pairs_of_chain};
-ghost use Rattle.key_list.specs.Index.{chain, chain_within};
+ghost use Rattle.key_list.specs.Index.{chain, chain_actions, chain_within, IsPlaceOf};
+ghost use Rattle.key_list.specs.Along.{along, chain_finding};
+ghost use Rattle.key_list.specs.Finds.{limits_here, limits_cut, no_way};
 ghost use Rattle.key_list.specs.Located.{IsLocated, Locates};
 
-use crate::place::{Located, locate};
+use crate::place::{Located, locate_for};
 use crate::write::{add_pair, cut_page, half_of};
 use eaw_face::EawStore;
 use index_pages::{PAIRS_MAX, SLOTS_IN_PAGE, index_fault, index_page_count, take_page, take_slot};
-use page_store::{IndexFault, Pages};
+use page_store::{IndexFault, LeafPage, Pages};
 use record_slots::Super;
 
 // Inserts a key that is not there. A full page is cut first.
@@ -24,6 +28,7 @@ pub fn insert<S: EawStore>(
     root: u32,
     table: u8,
     key: u64,
+    place: Option<LeafPage>,
 ) -> Result<u32, IndexFault>
     requires tid { tid < (S.view pages.old.store).shape.numbers }
     requires table { table < 8 }
@@ -32,11 +37,17 @@ pub fn insert<S: EawStore>(
     requires sound { IsTrue S.tells → IsAlive (S.view pages.old.store) → IsSoundChain (S.view pages.old.store).state.bytes }
     requires named { IsTrue S.tells → IsAlive (S.view pages.old.store) → IsTable (S.view pages.old.store).state.bytes table root }
     requires absent { IsTrue S.tells → IsAlive (S.view pages.old.store) → found (pairs_of_chain (S.view pages.old.store).state.bytes root) key ≡ None }
+    requires place { IfSome place (λ leaf. IsPlaceIn (S.view pages.old.store).shape leaf.page leaf.pairs.items) }
+    requires fits { IsTrue S.tells → IsAlive (S.view pages.old.store)
+        → IfSome place (λ leaf. IsPlaceOf (S.view pages.old.store).state.bytes root key leaf.page leaf.link leaf.pairs.items) }
     ensures inserts { Inserts S.tells (S.opens (S.view pages.old.store).shape) chain tid root table key
         (pages_of (S.view pages.old.store) pages.old) (pages_of (S.view pages.new.store) pages.new) result }
+    ensures works { Works (IsTrue S.tells) S.tells (is_done result) S.view S.calls tid (along root key)
+        (insertion_limits (is_some place) (chain_finding root key) (S.view pages.old.store).shape) (chain_actions (S.view pages.old.store).state.bytes root key)
+        (blamed_index result) (S.view pages.old.store) (S.view pages.new.store) }
     ensures dead { IsErrOf result IndexFault.Dead → pages.new ≡ pages.old }
 {
-    let at = match locate(pages, root, table, key) {
+    let at = match locate_for(pages, root, table, key, place) {
         Ok(at) => at,
         Err(fault) => return Err(index_fault(fault)),
     };
@@ -88,6 +99,9 @@ fn insert_here<S: EawStore>(
     requires room { length at.pairs.items < 30 }
     ensures inserts { Inserts S.tells (S.opens (S.view pages.old.store).shape) (chain_within at.front.next_page) tid root table key
         (pages_of (S.view pages.old.store) pages.old) (pages_of (S.view pages.new.store) pages.new) result }
+    ensures works { WorksFrom (0 ∷ []) (IsTrue S.tells) S.tells (is_done result) S.view S.calls tid no_way
+        limits_here (chain_actions (S.view pages.old.store).state.bytes root key)
+        (blamed_index result) (S.view pages.old.store) (S.view pages.new.store) }
     ensures dead { IsErrOf result IndexFault.Dead → ⊥ }
 {
     let taken = match take_slot(pages, &at.front) {
@@ -122,6 +136,9 @@ fn insert_cut<S: EawStore>(
     requires full { length at.pairs.items ≡ 30 }
     ensures inserts { Inserts S.tells (S.opens (S.view pages.old.store).shape) chain tid root table key
         (pages_of (S.view pages.old.store) pages.old) (pages_of (S.view pages.new.store) pages.new) result }
+    ensures works { WorksFrom (0 ∷ []) (IsTrue S.tells) S.tells (is_done result) S.view S.calls tid no_way
+        limits_cut (chain_actions (S.view pages.old.store).state.bytes root key)
+        (blamed_index result) (S.view pages.old.store) (S.view pages.new.store) }
     ensures dead { IsErrOf result IndexFault.Dead → ⊥ }
 {
     let count = index_page_count(pages);

@@ -1,5 +1,5 @@
 // Look-ups along the chain.
-ghost use Rattle.std.specs.Prelude.{◌≡◌, ◌≢◌, ◌<◌, ◌≤◌, None, IfOk, IfSome, IfNone, OnOk, IsErrOf, IsTrue};
+ghost use Rattle.std.specs.Prelude.{◌≡◌, ◌↔◌, ◌≢◌, ◌<◌, ◌≤◌, None, IfOk, IfSome, IfNone, OnOk, IsErrOf, IsTrue};
 ghost use Rattle.array_shape.specs.Places.{page_count};
 ghost use Rattle.eaw_face.specs.Causes.{IsAlive};
 ghost use Rattle.record_slots.specs.Places.{page_bytes};
@@ -8,8 +8,8 @@ ghost use Rattle.page_store.specs.Index.{slots_of, index_pages_of, IsTable};
 ghost use Rattle.page_store.specs.Looks.{Looks, LookCause, is_failed};
 ghost use Rattle.page_store.specs.Pairs.{AreInside, AreNext, found, next};
 ghost use Rattle.page_store.specs.Shown.{pages_of};
-ghost use Rattle.key_list.specs.Along.{Arrives, along, chain_finding, chain_nexting};
-ghost use Rattle.key_list.specs.Chain.{IsSoundChain, pairs_of_chain, page_of_key};
+ghost use Rattle.key_list.specs.Along.{Arrives, Stays, along, ends_at, chain_finding, chain_nexting};
+ghost use Rattle.key_list.specs.Chain.{IsSoundChain, first_key, pairs_of_chain, page_of_key};
 ghost use Rattle.index_pages.specs.Fetched.{TestCause};
 ghost use Rattle.index_pages.specs.Page.{count_said, pairs_said};
 ghost use Rattle.key_list.specs.Linked.{IsLinked, Reaches, SaysLeaf};
@@ -176,13 +176,22 @@ pub fn find<S: EawStore>(
     }
 }
 
-// The page of a key: the last one whose first key is not above it, or the root if there is none.
+// A page of the chain, and what its head says.
+#[derive(Clone, Copy, Debug)]
+pub struct KeyPage {
+    pub page: u32,
+    pub head: Head,
+}
+
+// Goes along just as a look-up of the key does, to the page that the key is in or goes into: the last one whose first key is not above it,
+// or the root if there is none. Its bytes are kept.
 pub fn page_for<S: EawStore>(
     pages: &mut Pages<S>,
     root: u32,
     table: u8,
     key: u64,
-) -> Result<u32, PageFault>
+    bytes: &mut [u8; PAGE_LEN],
+) -> Result<KeyPage, PageFault>
     requires table { table < 8 }
     requires root { root < page_count (S.view pages.old.store).shape }
     requires sound { IsTrue S.tells → IsAlive (S.view pages.old.store) → IsSoundChain (S.view pages.old.store).state.bytes }
@@ -190,33 +199,61 @@ pub fn page_for<S: EawStore>(
     ensures looks { Looks S.tells (S.opens (S.view pages.old.store).shape) (is_failed result)
         (pages_of (S.view pages.old.store) pages.old) (pages_of (S.view pages.new.store) pages.new) }
     ensures cause { LookCause S.tells (S.view pages.old.store) result }
-    ensures page { IsTrue S.tells → IfOk result (λ page. page ≡ page_of_key (S.view pages.old.store).state.bytes root key) }
-    ensures inside { IfOk result (λ page. page < page_count (S.view pages.old.store).shape) }
+    ensures walks { Walks S.tells (S.calls pages.old.store) (S.calls pages.new.store) (along root key) (index_pages_of (S.view pages.old.store).shape) (Stays key bytes.new)
+        (S.view pages.old.store) (S.view pages.new.store) result }
+    ensures page { IsTrue S.tells → IfOk result (λ at. at.page ≡ page_of_key (S.view pages.old.store).state.bytes root key) }
+    ensures some { IfOk result (λ at. 1 ≤ at.page) }
+    ensures inside { IfOk result (λ at. at.page < index_pages_of (S.view pages.old.store).shape) }
+    ensures head { IfOk result (λ at. SaysLeaf bytes.new at.head) }
+    ensures bytes { IsTrue S.tells → IfOk result (λ at. bytes.new ≡ page_bytes (S.view pages.old.store).state.bytes at.page) }
     ensures dead { IsErrOf result PageFault.Dead → pages.new ≡ pages.old }
 {
     let count = index_page_count(pages);
     let mut page = root;
-    let mut bytes = [0; PAGE_LEN];
-    let mut behind = match read_page(pages, page, &mut bytes) {
-        Ok(head) => head.link,
+    let mut head = match read_page(pages, page, bytes) {
+        Ok(head) => head,
         Err(fault) => return Err(fault),
     };
-    for _step in 0..count {
-        if behind == 0 {
-            return Ok(page);
+    if root == 0 {
+        return Err(PageFault::Damaged { page: root });
+    }
+    if root >= count {
+        return Err(PageFault::Damaged { page: root });
+    }
+    let mut ahead = [0; PAGE_LEN];
+    for _step in 1..count {
+        if ends_at(bytes, &head, key) {
+            return Ok(KeyPage { page, head });
         }
-        let head = match read_page(pages, behind, &mut bytes) {
-            Ok(head) => head,
+        let behind = match read_page(pages, head.link, &mut ahead) {
+            Ok(behind) => behind,
             Err(fault) => return Err(fault),
         };
-        if head.count == 0 {
-            return Err(PageFault::Damaged { page: behind });
+        if is_past(&ahead, behind.count, key) {
+            return Ok(KeyPage { page, head });
         }
-        if key < read_pair(&bytes, 0).0 {
-            return Ok(page);
-        }
-        page = behind;
-        behind = head.link;
+        page = head.link;
+        head = behind;
+        *bytes = ahead;
+    }
+    if ends_at(bytes, &head, key) {
+        return Ok(KeyPage { page, head });
     }
     Err(PageFault::Damaged { page })
+}
+
+// Whether the way of a key ends at a page: it has a pair from the key on, or no page follows it.
+fn ends_at(bytes: &[u8; PAGE_LEN], head: &Head, key: u64) -> bool
+    requires { SaysLeaf bytes.now head.now }
+    ensures { result ≡ ends_at key bytes.now }
+{
+    next_pair(bytes, head.count, key).is_some() || head.link == 0
+}
+
+// Whether the pairs of a page, if it has any, begin above a key.
+fn is_past(bytes: &[u8; PAGE_LEN], count: u16, key: u64) -> bool
+    requires { count ≡ count_said bytes.now }
+    ensures { IsTrue result ↔ (count_said bytes.now ≢ 0) × (key < first_key (pairs_said bytes.now)) }
+{
+    count > 0 && key < read_pair(bytes, 0).0
 }

@@ -1,17 +1,28 @@
-// The page that a key is to be inserted into.
-ghost use Rattle.std.specs.Prelude.{◌≡◌, ◌<◌, IfOk, IsErrOf, IsTrue};
+// The page that a key is in or goes into, for insertions and removals, and for a look-up that an insertion follows.
+ghost use Rattle.std.specs.Prelude.{◌≡◌, ◌<◌, ◌≤◌, IfOk, IfSome, IsErrOf, IsTrue, is_some, length};
 ghost use Rattle.array_shape.specs.Places.{page_count};
 ghost use Rattle.eaw_face.specs.Causes.{IsAlive};
-ghost use Rattle.page_store.specs.Index.{IsTable};
+ghost use Rattle.page_store.specs.Follows.{Follows};
+ghost use Rattle.page_store.specs.Index.{IsTable, index_pages_of};
 ghost use Rattle.page_store.specs.Looks.{Looks, LookCause, is_failed};
+ghost use Rattle.page_store.specs.Pairs.{AreSmall, found, next};
+ghost use Rattle.page_store.specs.Placed.{IsPlaceIn, IsSoughtFor, IsSoughtIn, slot_sought};
 ghost use Rattle.page_store.specs.Shown.{pages_of};
-ghost use Rattle.key_list.specs.Chain.{IsSoundChain};
-ghost use Rattle.key_list.specs.Located.{IsLocated, Locates};
+ghost use Rattle.page_store.specs.Works.{IsMet};
+ghost use Rattle.index_pages.specs.Page.{pairs_said};
+ghost use Rattle.key_list.specs.Along.{led_to, chain_finding};
+ghost use Rattle.key_list.specs.Chain.{IsSoundChain, pairs_of_chain};
+ghost use Rattle.key_list.specs.Finds.{Finds, most_read};
+ghost use Rattle.key_list.specs.Index.{chain, IsPlaceOf};
+ghost use Rattle.key_list.specs.Linked.{SaysLeaf};
+ghost use Rattle.key_list.specs.Located.{IsLocated, Locates, IsRoomIn};
 
-use crate::look::{page_for, read_page};
+use crate::look::{KeyPage, page_for};
 use eaw_face::EawStore;
-use index_pages::{PAGE_LEN, Pairs, fetch_super, index_page_count, read_pairs};
-use page_store::{PageFault, Pages};
+use index_pages::{
+    PAGE_LEN, PAIRS_MAX, Pairs, SLOTS_IN_PAGE, fetch_super, index_page_count, next_pair, read_pairs,
+};
+use page_store::{LeafPage, PageFault, Pages, Sought};
 use record_slots::Super;
 
 /// The form of the index that the super page of a chain says.
@@ -26,7 +37,137 @@ pub struct Located {
     pub pairs: Pairs,
 }
 
-// Finds the page of a key.
+// The slot of a key, or the page that it goes into. A page that is full is to be cut first.
+pub fn find_place<S: EawStore>(
+    pages: &mut Pages<S>,
+    root: u32,
+    table: u8,
+    key: u64,
+) -> Result<Sought, PageFault>
+    requires table { table < 8 }
+    requires root { root < page_count (S.view pages.old.store).shape }
+    requires sound { IsTrue S.tells → IsAlive (S.view pages.old.store) → IsSoundChain (S.view pages.old.store).state.bytes }
+    requires named { IsTrue S.tells → IsAlive (S.view pages.old.store) → IsTable (S.view pages.old.store).state.bytes table root }
+    ensures looks { Looks S.tells (S.opens (S.view pages.old.store).shape) (is_failed result)
+        (pages_of (S.view pages.old.store) pages.old) (pages_of (S.view pages.new.store) pages.new) }
+    ensures cause { LookCause S.tells (S.view pages.old.store) result }
+    ensures follows { Follows S.tells (S.calls pages.old.store) (S.calls pages.new.store) (chain_finding root key) slot_sought
+        (S.view pages.old.store) (S.view pages.new.store) result }
+    ensures found { IsTrue S.tells → IfOk result (λ sought. slot_sought sought ≡ found (pairs_of_chain (S.view pages.old.store).state.bytes root) key) }
+    ensures place { IsTrue S.tells → IfOk result (IsSoughtFor chain (S.view pages.old.store).state.bytes root key) }
+    ensures inside { IfOk result (IsSoughtIn (S.view pages.old.store).shape) }
+    ensures dead { IsErrOf result PageFault.Dead → pages.new ≡ pages.old }
+{
+    let slots = SLOTS_IN_PAGE * index_page_count(pages);
+    let mut bytes = [0; PAGE_LEN];
+    let at = match page_for(pages, root, table, key, &mut bytes) {
+        Ok(at) => at,
+        Err(fault) => return Err(fault),
+    };
+    let Some(slot) = slot_in(&at, &bytes, key) else {
+        return Ok(room_in(&at, &bytes));
+    };
+    if slot >= u64::from(slots) {
+        return Err(PageFault::Damaged { page: at.page });
+    }
+    Ok(Sought::Slot(slot as u32))
+}
+
+// What a page leads a key to.
+fn slot_in(at: &KeyPage, bytes: &[u8; PAGE_LEN], key: u64) -> Option<u64>
+    requires { SaysLeaf bytes.now at.now.head }
+    ensures { result ≡ led_to key (next (pairs_said bytes.now) key) }
+{
+    let Some((least, slot)) = next_pair(bytes, at.head.count, key) else {
+        return None;
+    };
+    if least == key { Some(slot) } else { None }
+}
+
+// The page as a place for one more pair, if it has room.
+fn room_in(at: &KeyPage, bytes: &[u8; PAGE_LEN]) -> Sought
+    requires { SaysLeaf bytes.now at.now.head }
+    ensures { IsRoomIn at.now bytes.now result }
+{
+    if usize::from(at.head.count) >= PAIRS_MAX {
+        return Sought::Split;
+    }
+    Sought::Place(leaf_of(at, bytes))
+}
+
+// The page as it was read.
+fn leaf_of(at: &KeyPage, bytes: &[u8; PAGE_LEN]) -> LeafPage
+    requires { SaysLeaf bytes.now at.now.head }
+    ensures page { result.page ≡ at.now.page }
+    ensures link { result.link ≡ at.now.head.link }
+    ensures pairs { result.pairs.items ≡ pairs_said bytes.now }
+    ensures small { AreSmall result.pairs.items }
+{
+    LeafPage {
+        page: at.page,
+        link: at.head.link,
+        pairs: read_pairs(bytes, at.head.count),
+    }
+}
+
+// Finds the page of a key for an insertion, unless it is known already.
+pub fn locate_for<S: EawStore>(
+    pages: &mut Pages<S>,
+    root: u32,
+    table: u8,
+    key: u64,
+    place: Option<LeafPage>,
+) -> Result<Located, PageFault>
+    requires table { table < 8 }
+    requires root { root < page_count (S.view pages.old.store).shape }
+    requires sound { IsTrue S.tells → IsAlive (S.view pages.old.store) → IsSoundChain (S.view pages.old.store).state.bytes }
+    requires named { IsTrue S.tells → IsAlive (S.view pages.old.store) → IsTable (S.view pages.old.store).state.bytes table root }
+    requires place { IfSome place (λ leaf. IsPlaceIn (S.view pages.old.store).shape leaf.page leaf.pairs.items) }
+    requires fits { IsTrue S.tells → IsAlive (S.view pages.old.store)
+        → IfSome place (λ leaf. IsPlaceOf (S.view pages.old.store).state.bytes root key leaf.page leaf.link leaf.pairs.items) }
+    ensures looks { Looks S.tells (S.opens (S.view pages.old.store).shape) (is_failed result)
+        (pages_of (S.view pages.old.store) pages.old) (pages_of (S.view pages.new.store) pages.new) }
+    ensures cause { LookCause S.tells (S.view pages.old.store) result }
+    ensures finds { Finds S.tells S.view S.calls root key (most_read (is_some place) (S.view pages.old.store).shape) (λ at steps. IsMet 0 steps)
+        (S.view pages.old.store) (S.view pages.new.store) result }
+    ensures located { IfOk result (λ at. IsLocated (S.view pages.old.store).shape at.front at.page at.link at.pairs.items) }
+    ensures said { IsTrue S.tells → IfOk result (λ at. Locates (S.view pages.old.store).state.bytes root key at.front at.page at.link at.pairs.items) }
+    ensures room { IsTrue (is_some place) → IfOk result (λ at. length at.pairs.items < 30) }
+    ensures dead { IsErrOf result PageFault.Dead → pages.new ≡ pages.old }
+{
+    match place {
+        Some(leaf) => locate_known(pages, root, table, key, leaf),
+        None => locate(pages, root, table, key),
+    }
+}
+
+// Reads the super page, for a page that was found before.
+fn locate_known<S: EawStore>(
+    pages: &mut Pages<S>,
+    root: u32,
+    table: u8,
+    key: u64,
+    leaf: LeafPage,
+) -> Result<Located, PageFault>
+    requires sound { IsTrue S.tells → IsAlive (S.view pages.old.store) → IsSoundChain (S.view pages.old.store).state.bytes }
+    requires place { IsPlaceIn (S.view pages.old.store).shape leaf.page leaf.pairs.items }
+    requires fits { IsTrue S.tells → IsAlive (S.view pages.old.store) → IsPlaceOf (S.view pages.old.store).state.bytes root key leaf.page leaf.link leaf.pairs.items }
+    ensures looks { Looks S.tells (S.opens (S.view pages.old.store).shape) (is_failed result)
+        (pages_of (S.view pages.old.store) pages.old) (pages_of (S.view pages.new.store) pages.new) }
+    ensures cause { LookCause S.tells (S.view pages.old.store) result }
+    ensures finds { Finds S.tells S.view S.calls root key 0 (λ at steps. IsMet 0 steps) (S.view pages.old.store) (S.view pages.new.store) result }
+    ensures located { IfOk result (λ at. IsLocated (S.view pages.old.store).shape at.front at.page at.link at.pairs.items) }
+    ensures said { IsTrue S.tells → IfOk result (λ at. Locates (S.view pages.old.store).state.bytes root key at.front at.page at.link at.pairs.items) }
+    ensures room { IfOk result (λ at. length at.pairs.items < 30) }
+    ensures dead { IsErrOf result PageFault.Dead → pages.new ≡ pages.old }
+{
+    match fetch_super(pages, FORM) {
+        Ok(front) => Ok(with_front(front, leaf)),
+        Err(fault) => Err(fault),
+    }
+}
+
+// Reads the super page, and finds the page of a key.
 pub fn locate<S: EawStore>(
     pages: &mut Pages<S>,
     root: u32,
@@ -40,6 +181,8 @@ pub fn locate<S: EawStore>(
     ensures looks { Looks S.tells (S.opens (S.view pages.old.store).shape) (is_failed result)
         (pages_of (S.view pages.old.store) pages.old) (pages_of (S.view pages.new.store) pages.new) }
     ensures cause { LookCause S.tells (S.view pages.old.store) result }
+    ensures finds { Finds S.tells S.view S.calls root key (index_pages_of (S.view pages.old.store).shape) (λ at steps. IsMet 0 steps × IsMet at.page steps)
+        (S.view pages.old.store) (S.view pages.new.store) result }
     ensures located { IfOk result (λ at. IsLocated (S.view pages.old.store).shape at.front at.page at.link at.pairs.items) }
     ensures said { IsTrue S.tells → IfOk result (λ at. Locates (S.view pages.old.store).state.bytes root key at.front at.page at.link at.pairs.items) }
     ensures dead { IsErrOf result PageFault.Dead → pages.new ≡ pages.old }
@@ -48,25 +191,23 @@ pub fn locate<S: EawStore>(
         Ok(front) => front,
         Err(fault) => return Err(fault),
     };
-    let page = match page_for(pages, root, table, key) {
-        Ok(page) => page,
-        Err(fault) => return Err(fault),
-    };
     let mut bytes = [0; PAGE_LEN];
-    let head = match read_page(pages, page, &mut bytes) {
-        Ok(head) => head,
-        Err(fault) => return Err(fault),
-    };
-    if page == 0 {
-        return Err(PageFault::Damaged { page });
+    match page_for(pages, root, table, key, &mut bytes) {
+        Ok(at) => Ok(with_front(front, leaf_of(&at, &bytes))),
+        Err(fault) => Err(fault),
     }
-    if page >= index_page_count(pages) {
-        return Err(PageFault::Damaged { page });
-    }
-    Ok(Located {
+}
+
+fn with_front(front: Super, leaf: LeafPage) -> Located
+    ensures front { result.front ≡ front }
+    ensures page { result.page ≡ leaf.page }
+    ensures link { result.link ≡ leaf.link }
+    ensures pairs { result.pairs.items ≡ leaf.pairs.items }
+{
+    Located {
         front,
-        page,
-        link: head.link,
-        pairs: read_pairs(&bytes, head.count),
-    })
+        page: leaf.page,
+        link: leaf.link,
+        pairs: leaf.pairs,
+    }
 }

@@ -1,5 +1,5 @@
 // Removals from the chain of a table.
-ghost use Rattle.std.specs.Prelude.{◌≡◌, ◌<◌, ◌≤◌, ℕ, None, Some, IfSome, IfNone, IsErrOf, IsTrue, length};
+ghost use Rattle.std.specs.Prelude.{◌≡◌, ◌<◌, ◌≤◌, ℕ, [], ◌∷◌, None, Some, IfSome, IfNone, IsErrOf, IsTrue, length};
 ghost use Rattle.array_shape.specs.Places.{page_count};
 ghost use Rattle.eaw_face.specs.Causes.{IsAlive};
 ghost use Rattle.record_slots.specs.Places.{version_of};
@@ -7,8 +7,11 @@ ghost use Rattle.page_store.specs.Index.{IsTable};
 ghost use Rattle.page_store.specs.Pairs.{found};
 ghost use Rattle.page_store.specs.Removes.{HasAbsent, Removes};
 ghost use Rattle.page_store.specs.Shown.{pages_of, top_in};
+ghost use Rattle.page_store.specs.Works.{Works, WorksFrom, blamed, is_done, removal_actions, removal_limits};
 ghost use Rattle.key_list.specs.Chain.{IsSoundChain};
-ghost use Rattle.key_list.specs.Index.{chain, keeps_last};
+ghost use Rattle.key_list.specs.Index.{chain, chain_removal, keeps_last};
+ghost use Rattle.key_list.specs.Along.{along, chain_finding};
+ghost use Rattle.key_list.specs.Finds.{limits_here, no_way};
 ghost use Rattle.key_list.specs.Located.{IsLocated, Locates};
 
 use crate::place::{Located, locate};
@@ -36,6 +39,9 @@ pub fn remove<S: EawStore>(
     requires absent { IsTrue S.tells → IsAlive (S.view pages.old.store) → HasAbsent chain root table key (S.view pages.old.store).state.bytes }
     ensures removes { Removes S.tells (S.opens (S.view pages.old.store).shape) chain tid root key
         (pages_of (S.view pages.old.store) pages.old) (pages_of (S.view pages.new.store) pages.new) result }
+    ensures works { Works (Unit {0}) S.tells (is_done result) S.view S.calls tid (along root key)
+        (removal_limits (chain_finding root key) (S.view pages.old.store).shape) (removal_actions (chain_removal (S.view pages.old.store).state.bytes root key))
+        (blamed result) (S.view pages.old.store) (S.view pages.new.store) }
     ensures dead { IsErrOf result PageFault.Dead → pages.new ≡ pages.old }
 {
     let at = match locate(pages, root, table, key) {
@@ -65,6 +71,9 @@ fn remove_here<S: EawStore>(
     requires said { IsTrue S.tells → Locates (S.view pages.old.store).state.bytes root key at.front at.page at.link at.pairs.items }
     ensures removes { Removes S.tells (S.opens (S.view pages.old.store).shape) chain tid root key
         (pages_of (S.view pages.old.store) pages.old) (pages_of (S.view pages.new.store) pages.new) result }
+    ensures works { WorksFrom (0 ∷ at.page ∷ []) (Unit {0}) S.tells (is_done result) S.view S.calls tid no_way
+        limits_here (removal_actions (chain_removal (S.view pages.old.store).state.bytes root key))
+        (blamed result) (S.view pages.old.store) (S.view pages.new.store) }
     ensures dead { IsErrOf result PageFault.Dead → ⊥ }
 {
     if keeps_last(&at, root) {

@@ -1,7 +1,9 @@
 // The nested top actions of an insertion.
 ghost use Rattle.std.specs.Prelude.{◌≡◌, ◌<◌, ℕ, None, IsErrOf, length, take, drop};
 ghost use Rattle.eaw_face.specs.Causes.{IsAlive};
+ghost use Rattle.eaw_face.specs.StoreView.{log_len};
 ghost use Rattle.page_store.specs.Index.{slots_of, index_pages_of};
+ghost use Rattle.page_store.specs.Runs.{Runs, acting_of};
 ghost use Rattle.page_store.specs.Shown.{pages_of, top_in};
 ghost use Rattle.index_pages.specs.Acts.{Acts};
 ghost use Rattle.index_pages.specs.Adding.{adding_pages, adding_parts};
@@ -35,6 +37,9 @@ pub fn add_pair<S: EawStore>(
     ensures acts { Acts S.tells (S.opens (S.view pages.old.store).shape) tid (adding_pages (index_pages_of (S.view pages.old.store).shape) taken.now.number at.page)
         (adding_parts (index_pages_of (S.view pages.old.store).shape) taken.now.front taken.now.number at.page at.link at.pairs.items table key)
         (pages_of (S.view pages.old.store) pages.old) (pages_of (S.view pages.new.store) pages.new) result }
+    ensures runs { Runs S.tells S.view S.calls (acting_of tid (log_len (S.view pages.old.store) tid)
+        (adding_parts (index_pages_of (S.view pages.old.store).shape) taken.now.front taken.now.number at.page at.link at.pairs.items table key))
+        (S.view pages.old.store) (S.view pages.new.store) result }
     ensures dead { IsErrOf result PageFault.Dead → pages.new ≡ pages.old }
 {
     let Located {
@@ -68,6 +73,9 @@ pub fn cut_page<S: EawStore>(
     ensures acts { Acts S.tells (S.opens (S.view pages.old.store).shape) tid (cutting_pages taken.now.number at.now.page)
         (cutting_parts taken.now.front taken.now.number at.now.page at.now.link at.now.pairs.items)
         (pages_of (S.view pages.old.store) pages.old) (pages_of (S.view pages.new.store) pages.new) result }
+    ensures runs { Runs S.tells S.view S.calls (acting_of tid (log_len (S.view pages.old.store) tid)
+        (cutting_parts taken.now.front taken.now.number at.now.page at.now.link at.now.pairs.items))
+        (S.view pages.old.store) (S.view pages.new.store) result }
     ensures dead { IsErrOf result PageFault.Dead → pages.new ≡ pages.old }
 {
     let pairs = at.pairs.as_slice();

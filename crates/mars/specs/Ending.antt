@@ -1,7 +1,7 @@
 -- What is written at the end, on standard error.
 use Rattle.std.specs.Prelude.{ℕ, List, [], ◌∷◌, ◌++◌, codes}
-use Rattle.mars_shell.specs.Fault.{status_text}
-use Rattle.mars_shell.specs.declared.status.Status.{Status}
+use Rattle.array_runs.specs.Fault.{status_text}
+use Rattle.array_runs.specs.declared.status.Status.{Status}
 
 abbrev pub line_of : List ℕ → List ℕ
 line_of [] = []

@@ -2,7 +2,7 @@
 ghost use Rattle.std.specs.Prelude.{◌≡◌, ◌++◌, List, ℕ, Bool, IsTrue};
 ghost use Rattle.mars_base.specs.Causes.{Rose};
 ghost use Rattle.texts.specs.Written.{IsWritten};
-ghost use Rattle.mars_shell.specs.Fault.{status_number};
+ghost use Rattle.array_runs.specs.Fault.{status_number};
 ghost use Rattle.mars.specs.Ending.{error_line};
 
 use mars_shell::{Status, fault_text};

@@ -1,6 +1,6 @@
 -- A call of a transaction that the records made: granted, refused, or failed.
-use Rattle.std.proofs.Common.{◌≡◌, ◌⊎◌, ℕ, inl, inr, Bool, true, false, ◌||◌, nat_eq, List, [], ◌∷◌, ◌++◌, length, IsTrue, Option, Some, unwrap_or, Result, Ok, Err, refl, sym, ap, subst, ◌∙◌, arith}
-use Rattle.std.specs.Prelude.{None, IsFalse, IsErrOf, IfOk, OnErr}
+use Rattle.std.proofs.Common.{◌≡◌, ◌≢◌, ◌⊎◌, ℕ, inl, inr, Bool, true, false, ◌||◌, nat_eq, List, [], ◌∷◌, ◌++◌, length, IsTrue, Option, Some, unwrap_or, Result, Ok, Err, refl, sym, ap, subst, ◌∙◌, arith}
+use Rattle.std.specs.Prelude.{None, is_some, IsFalse, IsErrOf, IfOk, OnErr}
 use Rattle.std.specs.FinMap.{get}
 use Rattle.std.specs.Map.{update}
 use Rattle.mars_base.specs.Causes.{Rose}
@@ -12,7 +12,8 @@ use Rattle.eaw_face.specs.Causes.{IsAlive}
 use Rattle.page_store.specs.Index as below
 use Rattle.page_store.specs.Shown.{PagesView}
 use Rattle.history.specs.Writes.{Write}
-use Rattle.history.specs.Key.{of_main}
+use Rattle.history.specs.Key.{of_table}
+use Rattle.history.specs.Rows.{NamedRows}
 use Rattle.history.specs.Table.{Granted, found, removed, IsRight}
 use Rattle.history.specs.Legal.{records}
 use Rattle.history.specs.Log.{Log, log_of}
@@ -38,7 +39,12 @@ use Rattle.caller_steps.specs.Prefix.{HasPrefixOf}
 use Rattle.caller_steps.specs.Core.{IsSafe, Steps}
 use Rattle.caller_steps.proofs.Holding.{AreNamed}
 use Rattle.caller_steps.proofs.Sound.{step_sound}
-use Rattle.mars_core.specs.Over.{limits_of, index_of}
+use Rattle.record_slots.specs.Names.{names_in}
+use Rattle.record_slots.specs.Places.{tables_of}
+use Rattle.record_table.specs.Names.{names_of}
+use Rattle.history.specs.Locks.{has_table}
+use Rattle.mars_core.specs.TableCall.{number_for}
+use Rattle.mars_core.specs.Over.{limits_of, index_of, index_with}
 use Rattle.mars_core.specs.Held.{core_over}
 use Rattle.mars_core.specs.Kept.{Mirrors, HasHeld, IsTied, IsKept}
 use Rattle.mars_core.specs.Works.{HasSaves, IsShown}
@@ -46,6 +52,7 @@ use Rattle.mars_core.proofs.Indexing.{IsWithin, InsertsNone, is_within, indexes_
 use Rattle.mars_core.proofs.Mirroring.{IsOfTable, scan_after, mirrors_granted, same_table, answers}
 use Rattle.mars_core.proofs.Rooming.{fits_is, log_lacks, slot_lacks, page_lacks, named_is}
 use Rattle.mars_core.proofs.Entering.{index_room, room_granted}
+use Rattle.mars_core.proofs.Idle.{no_calls, idle_after, idle_still}
 use Rattle.mars_core.proofs.Prefixes.{StoreLaws, sound_after, safe_dead, safe_alive}
 use Rattle.mars_core.proofs.Stepping.{ShowsPages, or_false, or_true, media_none, moves_refused, moves_granted, step_of, asks_at, steps_of, time_same, counts_is, saves_at, returns_at, enters_at}
 
@@ -89,10 +96,10 @@ media_of NoMemory well = refl
 
 saved_out : (p : PagesView) (t : ℕ) (call : Call) → IsOfTable call → HasSaves (length (p.counts t)) call → IsSavedOut p t call → ⊥
 saved_out p t Save of saves out = omega (arith, saves, out)
-saved_out p t (Get key) of saves out = out
-saved_out p t (Put key value) of saves out = out
-saved_out p t (Del key) of saves out = out
-saved_out p t (Scan low high) of saves out = out
+saved_out p t (Get name key) of saves out = out
+saved_out p t (Put name key value) of saves out = out
+saved_out p t (Del name key) of saves out = out
+saved_out p t (Scan name low high) of saves out = out
 saved_out p t (Back n) of saves out = out
 saved_out p t Commit of saves out = out
 saved_out p t Abort of saves out = out
@@ -100,10 +107,10 @@ saved_out p t Begin of saves out = out
 
 -- a call of a table that inserts no key writes nothing into the data
 quiet_of : (index : below.Index) (p : PagesView) (t : ℕ) (call : Call) → IsOfTable call → InsertsNone (keys_of index p.store.state.bytes) call → IsQuiet index p t call
-quiet_of index p t (Put key value) of inserts = inserts
-quiet_of index p t (Get key) of inserts = tt
-quiet_of index p t (Del key) of inserts = tt
-quiet_of index p t (Scan low high) of inserts = tt
+quiet_of index p t (Put name key value) of inserts = inserts
+quiet_of index p t (Get name key) of inserts = tt
+quiet_of index p t (Del name key) of inserts = tt
+quiet_of index p t (Scan name low high) of inserts = tt
 quiet_of index p t Save of inserts = tt
 quiet_of index p t (Back n) of inserts = tt
 quiet_of index p t Commit of inserts = absurd of
@@ -111,10 +118,10 @@ quiet_of index p t Abort of inserts = absurd of
 quiet_of index p t Begin of inserts = absurd of
 
 scan_same : (limits : Limits) (call : Call) (answer : Reply) (old new : Index) → IsScan call → Indexes limits call answer old new → new ≡ old
-scan_same limits (Scan low high) answer old new scan same = same
-scan_same limits (Get key) answer old new scan same = same
-scan_same limits (Put key value) answer old new scan same = absurd scan
-scan_same limits (Del key) answer old new scan same = same
+scan_same limits (Scan name low high) answer old new scan same = same
+scan_same limits (Get name key) answer old new scan same = same
+scan_same limits (Put name key value) answer old new scan same = absurd scan
+scan_same limits (Del name key) answer old new scan same = same
 scan_same limits Save answer old new scan same = same
 scan_same limits (Back n) answer old new scan same = same
 scan_same limits Commit answer old new scan same = same
@@ -122,22 +129,24 @@ scan_same limits Abort answer old new scan same = same
 scan_same limits Begin answer old new scan same = same
 
 -- What the records made of a call, as far as a core needs it.
-pub record Did (tells : Bool) (Opens : List ℕ → List ℕ → Type 0) (index : below.Index) (t : ℕ) (call : Call) (old new : PagesView) (result : Result Reply TableFault) : Type 0 where
+pub record Did (tells : Bool) (Opens : List ℕ → List ℕ → Type 0) (index : below.Index) (table t : ℕ) (call : Call) (old new : PagesView) (result : Result Reply TableFault) : Type 0 where
   pub shape : new.store.shape ≡ old.store.shape
-  pub cause : IsTrue tells → Cause tells index 0 t call old result
+  pub cause : IsTrue tells → Cause tells index table t call old result
   pub faults : IsFalse (is_failed result) → (new.store.is_dead ≡ old.store.is_dead) × (new.store.faults ≡ old.store.faults)
   pub dies : IsTrue (is_failed result) → (new.store.is_dead ≡ true) × Rose old.store.faults new.store.faults
   pub replies : IsTrue tells → IfOk result (Replies (state_of index old) t call)
   pub done : IsTrue tells → IfOk result (λ reply. state_of index new ≡ after t call reply (state_of index old))
   pub refused : IsTrue tells → IsFalse (is_failed result) → OnErr result (state_of index new ≡ state_of index old)
   pub quiet : IsTrue tells → IsFalse (is_failed result) → IsQuiet index old t call → new.store.state.bytes ≡ old.store.state.bytes
-  pub indexed : IsTrue tells → IsAlive old.store → IsFalse (is_failed result) → Indexed 0 call (keys_of index old.store.state.bytes) (keys_of index new.store.state.bytes) result
+  pub indexed : IsTrue tells → IsAlive old.store → IsFalse (is_failed result) → Indexed table call (keys_of index old.store.state.bytes) (keys_of index new.store.state.bytes) result
+  pub tables : IsTrue tells → IsFalse (is_failed result) → tables_of new.store.state.bytes ≡ tables_of old.store.state.bytes
+  pub others : (u : ℕ) → u ≢ t → new.store.ranges u ≡ old.store.ranges u
   pub time : IsTrue tells → IsAlive old.store
       → LeavesOnly (λ image. OpensWith Opens index image (state_of index old).table ⊎ OpensWith Opens index image (table_after t call (state_of index old))) old.store new.store
 
-pub did : (tells : Bool) (Opens : List ℕ → List ℕ → Type 0) (index : below.Index) (t : ℕ) (call : Call) (old new : PagesView) (result : Result Reply TableFault) → Does tells Opens index 0 t call old new result
-    → Did tells Opens index t call old new result
-did tells Opens index t call old new result does = record {
+pub did : (tells : Bool) (Opens : List ℕ → List ℕ → Type 0) (index : below.Index) (table t : ℕ) (call : Call) (old new : PagesView) (result : Result Reply TableFault) → Does tells Opens index table t call old new result
+    → Did tells Opens index table t call old new result
+did tells Opens index table t call old new result does = record {
   shape = does.shape;
   cause = λ told. does.cause;
   faults = does.faults;
@@ -147,6 +156,8 @@ did tells Opens index t call old new result does = record {
   refused = does.refused;
   quiet = does.quiet;
   indexed = does.indexed;
+  tables = does.tables;
+  others = λ u ne. (does.others u ne).0;
   time = does.time;
 }
 
@@ -159,11 +170,11 @@ removed_no_rows rows None is = absurd (cc)
 removed_no_rows rows (Some value) is = absurd (cc)
 
 -- only a scan lists rows
-listed_is : (s : TableState) (t : ℕ) (call : Call) (rows : List (ℕ × List ℕ)) → Replies s t call (reply.Listed rows) → (low high : ℕ) × (call ≡ Scan low high)
-listed_is s t (Scan low high) rows replies = (low, high, refl)
-listed_is s t (Get key) rows replies = absurd (found_no_rows rows (get (seen_by s t) (of_main key)) replies)
-listed_is s t (Put key value) rows replies = absurd (cc)
-listed_is s t (Del key) rows replies = absurd (removed_no_rows rows (get (seen_by s t) (of_main key)) replies)
+listed_is : (s : TableState) (t : ℕ) (call : Call) (rows : List (ℕ × List ℕ)) → Replies s t call (reply.Listed rows) → (name : List ℕ) × (low : ℕ) × (high : ℕ) × (call ≡ Scan name low high)
+listed_is s t (Scan name low high) rows replies = (name, low, high, refl)
+listed_is s t (Get name key) rows replies = absurd (found_no_rows rows (get (seen_by s t) (of_table name key)) replies)
+listed_is s t (Put name key value) rows replies = absurd (cc)
+listed_is s t (Del name key) rows replies = absurd (removed_no_rows rows (get (seen_by s t) (of_table name key)) replies)
 listed_is s t Save rows replies = absurd (cc)
 listed_is s t (Back n) rows replies = absurd (let e = replies.1 in cc)
 listed_is s t Commit rows replies = absurd replies
@@ -171,39 +182,68 @@ listed_is s t Abort rows replies = absurd (cc)
 listed_is s t Begin rows replies = absurd replies
 
 -- a scan whose rows there is no memory to keep has changed nothing
-pub did_unkept : (tells : Bool) (Opens : List ℕ → List ℕ → Type 0) (index : below.Index) (t : ℕ) (call : Call) (old new : PagesView) (rows : List (ℕ × List ℕ)) → IsAlive old.store
-    → Does tells Opens index 0 t call old new (Ok (reply.Listed rows)) → Did tells Opens index t call old new (Err NoMemory)
-did_unkept tells Opens index t call old new rows alive does = record {
+pub did_unkept : (tells : Bool) (Opens : List ℕ → List ℕ → Type 0) (index : below.Index) (table t : ℕ) (call : Call) (old new : PagesView) (rows : List (ℕ × List ℕ)) → IsAlive old.store
+    → Does tells Opens index table t call old new (Ok (reply.Listed rows)) → Did tells Opens index table t call old new (Err NoMemory)
+did_unkept tells Opens index table t call old new rows alive does = record {
   shape = does.shape;
-  cause = λ told. (alive, (let is = scan told in subst IsScan (sym is.2) tt));
+  cause = λ told. (alive, (let is = scan told in subst IsScan (sym is.3) tt));
   faults = does.faults;
   dies = λ failed. absurd (false≢true failed);
   replies = λ told. tt;
   done = λ told. tt;
-  refused = λ told _. let is = scan told in does.done told ∙ ap (λ (c : Call). after t c (reply.Listed rows) (state_of index old)) is.2 ∙ scan_after (state_of index old) t is.0 is.1 (reply.Listed rows);
+  refused = λ told _. let is = scan told in does.done told ∙ ap (λ (c : Call). after t c (reply.Listed rows) (state_of index old)) is.3 ∙ scan_after (state_of index old) t is.0 is.1 is.2 (reply.Listed rows);
   quiet = λ told _ quiet. does.quiet told refl quiet;
   indexed = λ told living _. let is = scan told in
-      subst (λ (c : Call). (let r : Result Reply TableFault = Err NoMemory in Indexed 0 c (keys_of index old.store.state.bytes) (keys_of index new.store.state.bytes) r)) (sym is.2)
-      (subst (λ (c : Call). (let r : Result Reply TableFault = Ok (reply.Listed rows) in Indexed 0 c (keys_of index old.store.state.bytes) (keys_of index new.store.state.bytes) r)) is.2 (does.indexed told living refl));
+      subst (λ (c : Call). (let r : Result Reply TableFault = Err NoMemory in Indexed table c (keys_of index old.store.state.bytes) (keys_of index new.store.state.bytes) r)) (sym is.3)
+      (subst (λ (c : Call). (let r : Result Reply TableFault = Ok (reply.Listed rows) in Indexed table c (keys_of index old.store.state.bytes) (keys_of index new.store.state.bytes) r)) is.3 (does.indexed told living refl));
+  tables = λ told _. does.tables told refl;
+  others = λ u ne. (does.others u ne).0;
   time = does.time;
 }
   where
-    scan : IsTrue tells → (low high : ℕ) × (call ≡ Scan low high)
+    scan : IsTrue tells → (name : List ℕ) × (low : ℕ) × (high : ℕ) × (call ≡ Scan name low high)
     scan told = listed_is (state_of index old) t call rows (does.replies told)
+
+-- there is the table that is asked for
+pub has_asked : (names : List (List ℕ)) (call : Call) (table : ℕ) → number_for names call ≡ Some table → has_table names call ≡ true
+has_asked names (Get name key) table is = ap is_some is
+has_asked names (Put name key value) table is = ap is_some is
+has_asked names (Del name key) table is = ap is_some is
+has_asked names (Scan name low high) table is = ap is_some is
+has_asked names Save table is = refl
+has_asked names (Back n) table is = refl
+has_asked names Commit table is = refl
+has_asked names Abort table is = refl
+has_asked names Begin table is = refl
+
+-- there is none
+pub has_none : (names : List (List ℕ)) (call : Call) → number_for names call ≡ None → has_table names call ≡ false
+has_none names (Get name key) is = ap is_some is
+has_none names (Put name key value) is = ap is_some is
+has_none names (Del name key) is = ap is_some is
+has_none names (Scan name low high) is = ap is_some is
+has_none names Save is = absurd (cc)
+has_none names (Back n) is = absurd (cc)
+has_none names Commit is = absurd (cc)
+has_none names Abort is = absurd (cc)
+has_none names Begin is = absurd (cc)
 
 mirrors_same : (b : TableState) (s new : State) → records_of new ≡ records_of s → new.live ≡ s.live → Mirrors b s → Mirrors b new
 mirrors_same b s new same live m = record { table = m.table ∙ sym same; logs = λ u. m.logs u ∙ ap (λ (f : ℕ → Option Granted). log_of (unwrap_or (f u) [])) (sym live) }
 
 module _ (tells : Bool) (Opens : Shape → List ℕ → List ℕ → Type 0) (index : below.Index) (one : (shape : Shape) (image a b : List ℕ) → Opens shape image a → Opens shape image b → a ≡ b) (laws : IndexLaws index)
     (p q : PagesView) (old_laws : StoreLaws tells Opens p.store) (new_laws : StoreLaws tells Opens q.store) (s new : State) (shows : ShowsPages index p s) (shows_new : ShowsPages index q new)
-    (base : new.base ≡ s.base) (history : new.history ≡ s.history) (doubt : new.doubt ≡ s.doubt) (count count' : ℕ) (same_count : count' ≡ count) (rows : List (ℕ × List ℕ))
-    (kept : IsKept tells Opens index p count rows s) (alive : IsAlive p.store) (tells_writes : IsShown tells index p) (t : ℕ) (call : Call) (of : IsOfTable call)
+    (names : new.names ≡ s.names) (base : new.base ≡ s.base) (history : new.history ≡ s.history) (doubt : new.doubt ≡ s.doubt) (count count' : ℕ) (same_count : count' ≡ count) (rows : List NamedRows)
+    (kept : IsKept tells Opens index p count rows s) (alive : IsAlive p.store) (tells_writes : IsShown tells index p) (table t : ℕ) (call : Call) (of : IsOfTable call) (asked : number_for s.names call ≡ Some table)
     (saves : HasSaves (length (p.counts t)) call) (calls : Granted) (is : s.live t ≡ Some calls) (free : IsFree s t call) where
   same_records : records_of new ≡ records_of s
   same_records = λ i. records (base i) (history i)
 
   has : HasSaves (length ((state_of index p).logs t).saved) call
   has = subst (λ (n : ℕ). HasSaves n call) (sym (counts_is index p t)) saves
+
+  there : has_table s.names call ≡ true
+  there = has_asked s.names call table asked
 
   living_state : s.is_dead ≡ false
   living_state = shows.dead ∙ alive
@@ -219,8 +259,11 @@ module _ (tells : Bool) (Opens : Shape → List ℕ → List ℕ → Type 0) (in
     named u = named_is s.index (pairs_of index p.store.state.bytes) (log_of (calls_of s u)).writes (λ key. ap (λ (x : Index). x.slot_of key) shows.indexed)
         (subst (λ (ws : List Write). shown.AreNamed (pairs_of index p.store.state.bytes) ws) (ap (λ (l : Log). l.writes) (tied.mirrors.logs u)) (tells_writes.named told alive u))
 
+    asked_below : number_for (names_of p.store.state.bytes) call ≡ Some table
+    asked_below = ap (λ (ns : List (List ℕ)). number_for ns call) (sym tied.named) ∙ asked
+
     -- the data after the call is within the array
-    module _ (result : Result Reply TableFault) (works : Did tells (Opens p.store.shape) index t call p q result) where
+    module _ (result : Result Reply TableFault) (works : Did tells (Opens p.store.shape) index table t call p q result) where
       sound_new : IsAlive q.store → index.sound q.store.state.bytes
       sound_new = sound_after tells Opens index one p q old_laws new_laws told works.shape alive tied.index_sound _ _ (works.time told alive)
 
@@ -232,8 +275,12 @@ module _ (tells : Bool) (Opens : Shape → List ℕ → List ℕ → Type 0) (in
       time = time_same tells Opens index p q s new (state_of index p).table (table_after t call (state_of index p)) works.shape tied.mirrors.table
           (same_table (state_of index p) t call of ∙ tied.mirrors.table) base history (works.time told alive)
 
+  -- the names stay
+  names_same : (result : Result Reply TableFault) → IsTrue tells → IsFalse (is_failed result) → Did tells (Opens p.store.shape) index table t call p q result → names_of q.store.state.bytes ≡ names_of p.store.state.bytes
+  names_same result told well works = ap names_in (works.tables told well)
+
   -- the caller's call was granted
-  module _ (answer : Reply) (works : Did tells (Opens p.store.shape) index t call p q (Ok answer)) (granted : IsFalse (is_refusal answer)) (plain : IsFalse (is_committed answer))
+  module _ (answer : Reply) (works : Did tells (Opens p.store.shape) index table t call p q (Ok answer)) (granted : IsFalse (is_refusal answer)) (plain : IsFalse (is_committed answer))
       (live : new.live ≡ update nat_eq s.live t (Some (calls ++ (call, answer) ∷ []))) where
     living : IsAlive q.store
     living = (works.faults refl).0 ∙ alive
@@ -245,35 +292,37 @@ module _ (tells : Bool) (Opens : Shape → List ℕ → List ℕ → Type 0) (in
       indexes : Indexes (limits_of p.store.shape) call answer s.index new.index
       indexes = subst (λ (x : Index). Indexes (limits_of p.store.shape) call answer x new.index) (sym shows.indexed)
           (subst (λ (x : Index). Indexes (limits_of p.store.shape) call answer (index_of index p.store.state.bytes) x) (sym shows_new.indexed)
-          (indexes_granted p.store.shape p.store.state.bytes q.store.state.bytes (keys_of index p.store.state.bytes) (keys_of index q.store.state.bytes) (within told (Ok answer) works living) call answer answer of
+          (subst (λ (ns : List (List ℕ)). Indexes (limits_of p.store.shape) call answer (index_of index p.store.state.bytes) (index_with ns q.store.state.bytes (keys_of index q.store.state.bytes))) (sym (names_same (Ok answer) told refl works))
+          (indexes_granted p.store.shape table (names_of p.store.state.bytes) p.store.state.bytes q.store.state.bytes (keys_of index p.store.state.bytes) (keys_of index q.store.state.bytes) (within told (Ok answer) works living) call answer answer of
           (λ inserts. works.quiet told refl (quiet_of index p t call of inserts))
-          (λ key value e. subst (λ (c : Call). Replies (state_of index p) t c answer) e (works.replies told)) (works.indexed told alive refl)))
+          (λ name key value e. subst (λ (c : Call). Replies (state_of index p) t c answer) e (works.replies told)) (works.indexed told alive refl))))
 
       asks : Asks (limits_of p.store.shape) calls s t call answer new
       asks = inr (inr (
         free,
         inl (
           answers (state_of index p) s (tied told).mirrors t (right told) call answer of (works.replies told),
-          fits_is index p s shows.indexed (tied told).mirrors (tells_writes.held told alive) t (right told) call of ((works.cause told).2 told),
+          fits_is index table p s shows.indexed (tied told).mirrors (tells_writes.held told alive) t (right told) call of ((works.cause told).2 told),
           new.index,
           indexes,
-          λ i. record { base = base i; history = history i; live = live i; doubt = doubt i; is_dead = dead_same i; index = new.index },
+          λ i. record { names = names i; base = base i; history = history i; live = live i; doubt = doubt i; is_dead = dead_same i; index = new.index },
         ),
       ))
 
       step : Step (limits_of p.store.shape) s t call answer new
       step = step_of (limits_of p.store.shape) (Some calls) s new t call answer living_state is
-          (asks_at (limits_of p.store.shape) calls s new t call answer of (saves_at index p s shows (tied told).mirrors (tells_writes.held told alive) t (right told) call has) asks)
+          (asks_at (limits_of p.store.shape) calls s new t call answer of there (saves_at index table p s shows (tied told).mirrors (tells_writes.held told alive) t (right told) call has) asks)
 
       tied_new : IsTied index q new
       tied_new = record {
         index_sound = sound_new told (Ok answer) works living;
+        named = names ∙ (tied told).named ∙ sym (names_same (Ok answer) told refl works);
         mirrors = subst (λ (b : TableState). Mirrors b new) (sym (works.done told)) (mirrors_granted (state_of index p) s (tied told).mirrors new t calls call answer is live same_records of);
         sound = step_sound (limits_of p.store.shape) s t call answer new (tied told).sound step;
         room = subst (λ (h : Shape). HasHeld (limits_of h) new) (sym works.shape)
             (room_granted (limits_of p.store.shape) s (named told) (tied told).room new.index (indexes_slots (limits_of p.store.shape) call answer s.index new.index indexes) t calls is new call answer refl live
-            (enters_at index p s shows (tied told).mirrors (tells_writes.held told alive) t (right told) call answer new.index of ((works.cause told).2 told) (works.replies told) indexes)
-            (returns_at index p s shows (tied told).mirrors (tells_writes.held told alive) t (right told) calls (ap (λ (o : Option Granted). unwrap_or o []) is) call has));
+            (enters_at index table p s shows (tied told).mirrors (tells_writes.held told alive) t (right told) call answer new.index of ((works.cause told).2 told) (works.replies told) indexes)
+            (returns_at index table p s shows (tied told).mirrors (tells_writes.held told alive) t (right told) calls (ap (λ (o : Option Granted). unwrap_or o []) is) call has));
       }
 
       safe_new : IsSafe (core_over Opens index q.store new) q.store.moment (length new.history)
@@ -283,17 +332,18 @@ module _ (tells : Bool) (Opens : Shape → List ℕ → List ℕ → Type 0) (in
     granted_keeps = record {
       seats = same_count ∙ kept.seats ∙ sym (ap (λ (h : Shape). h.numbers) works.shape);
       in_order = kept.in_order;
+      idle = λ _. idle_after p.store.ranges q.store.ranges s.live new.live t works.others (kept.idle alive) (Some (calls ++ (call, answer) ∷ [])) live (λ e. absurd (no_calls (calls ++ (call, answer) ∷ []) e));
       tied = λ told _. tied_new told;
       safe = safe_new;
     }
 
     pub granted_steps : Steps tells t call (core_over Opens index p.store s) (core_over Opens index q.store new) answer
     granted_steps = steps_of tells Opens index p q s new t call answer works.shape
-        (moves_granted s new t calls call answer base history dead_same is live of granted plain) (λ failed. absurd (false≢true (sym (media_none answer granted) ∙ failed)))
+        (moves_granted s new t calls call answer names base history dead_same is live of granted plain) (λ failed. absurd (false≢true (sym (media_none answer granted) ∙ failed)))
         (λ _. (works.faults refl).1) step (λ told. time told (Ok answer) works) safe_new
 
   -- the call was refused
-  module _ (f : TableFault) (works : Did tells (Opens p.store.shape) index t call p q (Err f)) (live : new.live ≡ s.live) where
+  module _ (f : TableFault) (works : Did tells (Opens p.store.shape) index table t call p q (Err f)) (live : new.live ≡ s.live) where
     module _ (well : Well f) where
       living_still : IsAlive q.store
       living_still = (works.faults well).0 ∙ alive
@@ -302,22 +352,23 @@ module _ (tells : Bool) (Opens : Shape → List ℕ → List ℕ → Type 0) (in
       dead_still = shows_new.dead ∙ (works.faults well).0 ∙ sym shows.dead
 
       changed : new ≡ record s { index = new.index }
-      changed = λ i. record { base = base i; history = history i; live = live i; doubt = doubt i; is_dead = dead_still i; index = new.index }
+      changed = λ i. record { names = names i; base = base i; history = history i; live = live i; doubt = doubt i; is_dead = dead_still i; index = new.index }
 
       module _ (told : IsTrue tells) where
         indexes_still : Indexes (limits_of p.store.shape) call (reply_to f) s.index new.index
         indexes_still = subst (λ (x : Index). Indexes (limits_of p.store.shape) call (reply_to f) x new.index) (sym shows.indexed)
             (subst (λ (x : Index). Indexes (limits_of p.store.shape) call (reply_to f) (index_of index p.store.state.bytes) x) (sym shows_new.indexed)
-            (indexes_refused p.store.shape p.store.state.bytes q.store.state.bytes (keys_of index p.store.state.bytes) (keys_of index q.store.state.bytes) (within told (Err f) works living_still) Reply call f of
-            (λ inserts. works.quiet told well (quiet_of index p t call of inserts)) well (works.indexed told alive well)))
+            (subst (λ (ns : List (List ℕ)). Indexes (limits_of p.store.shape) call (reply_to f) (index_of index p.store.state.bytes) (index_with ns q.store.state.bytes (keys_of index q.store.state.bytes))) (sym (names_same (Err f) told well works))
+            (indexes_refused p.store.shape table (names_of p.store.state.bytes) p.store.state.bytes q.store.state.bytes (keys_of index p.store.state.bytes) (keys_of index q.store.state.bytes) (within told (Err f) works living_still) Reply call f of (asked_below told)
+            (λ inserts. works.quiet told well (quiet_of index p t call of inserts)) well (works.indexed told alive well))))
 
         -- for its cause
-        asks_fault : (g : TableFault) → Well g → (let r : Result Reply TableFault = Err g in Cause tells index 0 t call p r) → Indexes (limits_of p.store.shape) call (reply_to g) s.index new.index
+        asks_fault : (g : TableFault) → Well g → (let r : Result Reply TableFault = Err g in Cause tells index table t call p r) → Indexes (limits_of p.store.shape) call (reply_to g) s.index new.index
             → Asks (limits_of p.store.shape) calls s t call (reply_to g) new
         asks_fault (SlotsFull n) well cause made = inr (inr (
           free,
           inr (inl (
-            slot_lacks index p s shows.indexed (tied told).mirrors (tells_writes.held told alive) t (right told) (tied told).room call n of (cause.3 told) cause.2,
+            slot_lacks index table p s shows.indexed (tied told).mirrors (tells_writes.held told alive) t (right told) (tied told).room call n of (cause.3 told) cause.2,
             new.index,
             made,
             changed,
@@ -326,7 +377,7 @@ module _ (tells : Bool) (Opens : Shape → List ℕ → List ℕ → Type 0) (in
         asks_fault (PagesFull n) well cause made = inr (inr (
           free,
           inr (inl (
-            page_lacks index p s shows.indexed (tied told).mirrors (tells_writes.held told alive) t (right told) (tied told).room call n of (cause.3 told) cause.2,
+            page_lacks index table p s shows.indexed (tied told).mirrors (tells_writes.held told alive) t (right told) (tied told).room call n of (cause.3 told) cause.2,
             new.index,
             made,
             changed,
@@ -335,7 +386,7 @@ module _ (tells : Bool) (Opens : Shape → List ℕ → List ℕ → Type 0) (in
         asks_fault (LogFull g h n) well cause made = inr (inr (
           free,
           inr (inl (
-            log_lacks index p s shows.indexed (tied told).mirrors (tells_writes.held told alive) t (right told) (tied told).room call g h n of (cause.2 told) cause.1,
+            log_lacks index table p s shows.indexed (tied told).mirrors (tells_writes.held told alive) t (right told) (tied told).room call g h n of (cause.2 told) cause.1,
             new.index,
             made,
             changed,
@@ -350,11 +401,12 @@ module _ (tells : Bool) (Opens : Shape → List ℕ → List ℕ → Type 0) (in
 
         step_still : Step (limits_of p.store.shape) s t call (reply_to f) new
         step_still = step_of (limits_of p.store.shape) (Some calls) s new t call (reply_to f) living_state is
-            (asks_at (limits_of p.store.shape) calls s new t call (reply_to f) of (saves_at index p s shows (tied told).mirrors (tells_writes.held told alive) t (right told) call has) (asks_fault f well (works.cause told) indexes_still))
+            (asks_at (limits_of p.store.shape) calls s new t call (reply_to f) of there (saves_at index table p s shows (tied told).mirrors (tells_writes.held told alive) t (right told) call has) (asks_fault f well (works.cause told) indexes_still))
 
         tied_still : IsTied index q new
         tied_still = record {
           index_sound = sound_new told (Err f) works living_still;
+          named = names ∙ (tied told).named ∙ sym (names_same (Err f) told well works);
           mirrors = subst (λ (b : TableState). Mirrors b new) (sym (works.refused told well)) (mirrors_same (state_of index p) s new same_records live (tied told).mirrors);
           sound = step_sound (limits_of p.store.shape) s t call (reply_to f) new (tied told).sound step_still;
           room = subst (λ (h : Shape). HasHeld (limits_of h) new) (sym works.shape) (subst (HasHeld (limits_of p.store.shape)) (sym changed)
@@ -368,24 +420,25 @@ module _ (tells : Bool) (Opens : Shape → List ℕ → List ℕ → Type 0) (in
       well_keeps = record {
         seats = same_count ∙ kept.seats ∙ sym (ap (λ (h : Shape). h.numbers) works.shape);
         in_order = kept.in_order;
+        idle = λ _. idle_still p.store.ranges q.store.ranges s.live new.live t works.others (kept.idle alive) calls is live;
         tied = λ told _. tied_still told;
         safe = safe_still;
       }
 
       well_steps : Steps tells t call (core_over Opens index p.store s) (core_over Opens index q.store new) (reply_to f)
       well_steps = steps_of tells Opens index p q s new t call (reply_to f) works.shape
-          (moves_refused s new t call (reply_to f) base history live (dead_still ∙ sym (ap (λ (b : Bool). s.is_dead || b) (media_of f well) ∙ or_false s.is_dead)) (refusal_of f) (plain_of f))
+          (moves_refused s new t call (reply_to f) names base history live (dead_still ∙ sym (ap (λ (b : Bool). s.is_dead || b) (media_of f well) ∙ or_false s.is_dead)) (refusal_of f) (plain_of f))
           (λ failed. absurd (false≢true (sym (media_of f well) ∙ failed))) (λ _. (works.faults well).1) step_still (λ told. time told (Err f) works) safe_still
 
   -- the medium failed
-  module _ (works : Did tells (Opens p.store.shape) index t call p q (Err Media)) (due : IsTrue (uses_index call)) (live : new.live ≡ s.live) where
+  module _ (works : Did tells (Opens p.store.shape) index table t call p q (Err Media)) (due : IsTrue (uses_index call)) (live : new.live ≡ s.live) where
     died : new.is_dead ≡ true
     died = shows_new.dead ∙ (works.dies refl).0
 
     step_failed : IsTrue tells → Step (limits_of p.store.shape) s t call reply.Media new
     step_failed told = step_of (limits_of p.store.shape) (Some calls) s new t call reply.Media living_state is
-        (asks_at (limits_of p.store.shape) calls s new t call reply.Media of (saves_at index p s shows (tied told).mirrors (tells_writes.held told alive) t (right told) call has)
-        (inr (inr (free, inr (inr (due, (refl, new.index, λ i. record { base = base i; history = history i; live = live i; doubt = doubt i; is_dead = died i; index = new.index })))))))
+        (asks_at (limits_of p.store.shape) calls s new t call reply.Media of there (saves_at index table p s shows (tied told).mirrors (tells_writes.held told alive) t (right told) call has)
+        (inr (inr (free, inr (inr (due, (refl, new.index, λ i. record { names = names i; base = base i; history = history i; live = live i; doubt = doubt i; is_dead = died i; index = new.index })))))))
 
     safe_failed : IsTrue tells → IsSafe (core_over Opens index q.store new) q.store.moment (length new.history)
     safe_failed told = safe_dead tells Opens index one p q old_laws new_laws told works.shape alive (tied told).index_sound s new (tied told).mirrors.table base history (time told (Err Media) works)
@@ -394,20 +447,21 @@ module _ (tells : Bool) (Opens : Shape → List ℕ → List ℕ → Type 0) (in
     media_keeps = record {
       seats = same_count ∙ kept.seats ∙ sym (ap (λ (h : Shape). h.numbers) works.shape);
       in_order = kept.in_order;
+      idle = λ living. absurd (false≢true (sym living ∙ (works.dies refl).0));
       tied = λ told living. absurd (false≢true (sym living ∙ (works.dies refl).0));
       safe = safe_failed;
     }
 
     media_steps : Steps tells t call (core_over Opens index p.store s) (core_over Opens index q.store new) reply.Media
     media_steps = steps_of tells Opens index p q s new t call reply.Media works.shape
-        (moves_refused s new t call reply.Media base history live (died ∙ sym (or_true s.is_dead)) refl refl)
+        (moves_refused s new t call reply.Media names base history live (died ∙ sym (or_true s.is_dead)) refl refl)
         (λ _. (works.dies refl).1) (λ kept. absurd (false≢true (sym kept))) step_failed (λ told. time told (Err Media) works) safe_failed
 
-  module _ (f : TableFault) (works : Did tells (Opens p.store.shape) index t call p q (Err f)) (due : (let r : Result Reply TableFault = Err f in IsErrOf r Media → IsTrue (uses_index call))) (live : new.live ≡ s.live) where
+  module _ (f : TableFault) (works : Did tells (Opens p.store.shape) index table t call p q (Err f)) (due : (let r : Result Reply TableFault = Err f in IsErrOf r Media → IsTrue (uses_index call))) (live : new.live ≡ s.live) where
     pub refused_keeps : IsKept tells Opens index q count' rows new
     refused_keeps = go f works due
       where
-        go : (f : TableFault) → Did tells (Opens p.store.shape) index t call p q (Err f) → (let r : Result Reply TableFault = Err f in IsErrOf r Media → IsTrue (uses_index call)) → IsKept tells Opens index q count' rows new
+        go : (f : TableFault) → Did tells (Opens p.store.shape) index table t call p q (Err f) → (let r : Result Reply TableFault = Err f in IsErrOf r Media → IsTrue (uses_index call)) → IsKept tells Opens index q count' rows new
         go Media works due = media_keeps works (due refl) live
         go (SlotsFull n) works due = well_keeps (SlotsFull n) works live refl
         go (PagesFull n) works due = well_keeps (PagesFull n) works live refl
@@ -420,7 +474,7 @@ module _ (tells : Bool) (Opens : Shape → List ℕ → List ℕ → Type 0) (in
     pub refused_steps : Steps tells t call (core_over Opens index p.store s) (core_over Opens index q.store new) (reply_to f)
     refused_steps = go f works due
       where
-        go : (f : TableFault) → Did tells (Opens p.store.shape) index t call p q (Err f) → (let r : Result Reply TableFault = Err f in IsErrOf r Media → IsTrue (uses_index call))
+        go : (f : TableFault) → Did tells (Opens p.store.shape) index table t call p q (Err f) → (let r : Result Reply TableFault = Err f in IsErrOf r Media → IsTrue (uses_index call))
             → Steps tells t call (core_over Opens index p.store s) (core_over Opens index q.store new) (reply_to f)
         go Media works due = media_steps works (due refl) live
         go (SlotsFull n) works due = well_steps (SlotsFull n) works live refl

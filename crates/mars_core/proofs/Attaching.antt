@@ -2,11 +2,12 @@
 use Rattle.std.proofs.Common.{◌≡◌, ◌⊎◌, inl, inr, ⊎_elim, ◌∙◌, refl, Bool, false, List, ℕ, IsTrue, Result, Err, sym, ap, subst}
 use Rattle.std.proofs.lemmas.Bool.{false≢true}
 use Rattle.mars_base.specs.Causes.{Rose}
-use Rattle.mars_base.proofs.Going.{weaker, then}
+use Rattle.mars_base.proofs.Going.{stays, weaker, then}
 use Rattle.array_shape.specs.declared.shape.Shape.{Shape}
 use Rattle.eaw_face.specs.State.{State}
 use Rattle.eaw_face.specs.StoreView.{StoreView}
 use Rattle.eaw_face.specs.Causes.{IsAlive}
+use Rattle.eaw_face.proofs.Mirroring.{none_sent, sent_then}
 use Rattle.page_store.specs.Index.{Index}
 use Rattle.page_store.specs.Looks.{Looks}
 use Rattle.page_store.specs.Shown.{PagesView}
@@ -14,7 +15,12 @@ use Rattle.record_table.specs.Attached.{AttachCause, is_refused_by_media}
 use Rattle.record_table.specs.declared.fault.AttachRecords.{AttachRecords}
 use Rattle.record_table.specs.declared.fault.AttachRecords.TheVariants.{Damaged, Media, Dead, NoMemory}
 use Rattle.record_table.specs.Sought.{LooksAs}
-use Rattle.record_table.specs.Upgrading.{upgraded, Upgrades, UpgradeCause}
+use Rattle.record_table.specs.Upgrading.{upgraded, OpensUpgraded, Upgrades, UpgradeCause}
+use Rattle.record_table.specs.Names.{names_of}
+use Rattle.record_table.specs.Shown.{table_of, keys_of}
+use Rattle.caller_steps.specs.State.{opened}
+use Rattle.caller_steps.specs.Core.{CoreView}
+use Rattle.mars_core.specs.Over.{IsOver, Begins, index_of}
 use Rattle.record_table.specs.declared.fault.TableFault.{TableFault}
 use Rattle.record_table.specs.declared.fault.TableFault.TheVariants as fault
 use Rattle.mars_core.specs.Attached.{is_media_fault, attach_fault, scan_fault, CoreCause, LeftAsItWas, GivesBack}
@@ -31,6 +37,7 @@ look_left tells Opens old new alive looks =
     let still = looks.still refl in
     record {
       shape = looks.shape;
+      mirrors = looks.mirrors;
       kept = λ well. (still.dead, still.faults);
       unwritten = λ told well. ap (λ (s : State). s.bytes) (still.state told);
       dies = λ failed. absurd (false≢true failed);
@@ -44,6 +51,7 @@ attach_left tells Opens index old new alive (Damaged page) cause looks = look_le
 attach_left tells Opens index old new alive NoMemory cause looks = look_left tells Opens old new alive looks
 attach_left tells Opens index old new alive Media cause looks = record {
   shape = looks.shape;
+  mirrors = looks.mirrors;
   kept = λ well. absurd (false≢true (sym well));
   unwritten = λ told well. absurd (false≢true (sym well));
   dies = looks.dies;
@@ -55,6 +63,7 @@ attach_left tells Opens index old new alive Dead cause looks = absurd (false≢t
 pub left_gives : (tells : Bool) (Opens : List ℕ → List ℕ → Type 0) (failed : Bool) (old new : StoreView) → LeftAsItWas tells Opens failed old new → GivesBack tells Opens failed old new
 left_gives tells Opens failed old new left = record {
   shape = left.shape;
+  mirrors = left.mirrors;
   kept = left.kept;
   unwritten = left.unwritten;
   dies = left.dies;
@@ -77,6 +86,7 @@ pub upgrade_gives : (tells : Bool) (Opens : List ℕ → List ℕ → Type 0) (i
     → GivesBack tells Opens (is_media_fault (scan_fault f)) old.store new.store
 upgrade_gives tells Opens index old new alive fault.Media up = record {
   shape = up.shape;
+  mirrors = up.mirrors;
   kept = λ well. absurd (false≢true (sym well));
   unwritten = λ told well. absurd (false≢true (sym well));
   dies = up.dies;
@@ -85,6 +95,7 @@ upgrade_gives tells Opens index old new alive fault.Media up = record {
 upgrade_gives tells Opens index old new alive fault.NoMemory up = absurd up.cause
 upgrade_gives tells Opens index old new alive (fault.Damaged page) up = record {
   shape = up.shape;
+  mirrors = up.mirrors;
   kept = up.faults;
   unwritten = λ told well. absurd (up.cause.1 told);
   dies = λ failed. absurd (false≢true failed);
@@ -104,9 +115,43 @@ looked_gives tells Opens failed p q new alive looks back =
     let bytes : IsTrue tells → q.store.state.bytes ≡ p.store.state.bytes = λ told. ap (λ (s : State). s.bytes) (still.state told) in
     record {
       shape = back.shape ∙ looks.shape;
+      mirrors = sent_then tells p.store q.store new looks.mirrors back.mirrors;
       kept = λ well. ((back.kept well).0 ∙ still.dead, (back.kept well).1 ∙ still.faults);
       unwritten = λ told well. back.unwritten told well ∙ bytes told;
       dies = λ dead. ((back.dies dead).0, subst (λ (n : ℕ). Rose n new.faults) still.faults (back.dies dead).1);
       time = λ told. then (weaker (λ image opens. inl opens) (looks.time told alive))
           (weaker (λ image either. subst (λ (x : Shape × List ℕ). Opens x.0 image x.1 ⊎ (IsTrue failed × Opens x.0 image (upgraded x.1))) (λ i. (looks.shape i, bytes told i)) either) (back.time told));
     }
+
+-- what begins on it begins on what was there before
+pub looked_begins : (tells : Bool) (Opens : Shape → List ℕ → List ℕ → Type 0) (index : Index) (p q : PagesView) (new : StoreView) (core : CoreView) → IsAlive p.store → Looks tells (Opens p.store.shape) false p q
+    → Begins tells (Opens q.store.shape) index q.store new core → Begins tells (Opens p.store.shape) index p.store new core
+looked_begins tells Opens index p q new core alive looks begins =
+    let still = looks.still refl in
+    let bytes : IsTrue tells → q.store.state.bytes ≡ p.store.state.bytes = λ told. ap (λ (s : State). s.bytes) (still.state told) in
+    record {
+      over = subst (λ (s : Shape). IsOver tells (Opens s) index new core) looks.shape begins.over;
+      alive = begins.alive;
+      faults = begins.faults ∙ still.faults;
+      shape = begins.shape ∙ looks.shape;
+      state = λ told. subst (λ (d : List ℕ). core.state ≡ opened (names_of d) (table_of index d) (index_of index (upgraded d))) (bytes told) (begins.state told);
+      fresh = begins.fresh;
+      sound = λ told. subst (λ (d : List ℕ). index.sound d) (bytes told) (begins.sound told);
+      bytes = λ told. begins.bytes told ∙ ap upgraded (bytes told);
+      version = begins.version;
+      keys = λ told. begins.keys told ∙ ap (keys_of index) (bytes told);
+      time = λ told. then (weaker (λ image opens. inl opens) (looks.time told alive))
+          (weaker (λ image either. subst (λ (x : Shape × List ℕ). OpensUpgraded (Opens x.0) x.1 image) (λ i. (looks.shape i, bytes told i)) either) (begins.time told));
+      mirrors = sent_then tells p.store q.store new looks.mirrors begins.mirrors;
+    }
+
+-- a store to which nothing was done
+pub gives_same : (tells : Bool) (Opens : List ℕ → List ℕ → Type 0) (old : StoreView) → GivesBack tells Opens false old old
+gives_same tells Opens old = record {
+  shape = refl;
+  mirrors = none_sent tells old old refl refl (λ fine. fine) (λ told mirrors fine. refl);
+  kept = λ well. (refl, refl);
+  unwritten = λ told well. refl;
+  dies = λ failed. absurd (false≢true failed);
+  time = λ told. stays old.moment old.left_since _;
+}

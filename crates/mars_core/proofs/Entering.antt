@@ -2,7 +2,8 @@
 use Rattle.std.proofs.Common.{◌≡◌, ◌≤◌, ◌<◌, ℕ, inl, inr, Bool, true, cond, nat_eq, List, [], ◌∷◌, ◌++◌, length, filter, take, Option, Some, None, unwrap_or, refl, sym, ap, subst, ◌∙◌, arith}
 use Rattle.std.specs.Map.{update}
 use Rattle.std.proofs.lemmas.Bool.{cases_eq}
-use Rattle.history.specs.Key.{Key, of_main}
+use Rattle.history.specs.Key.{of_table}
+use Rattle.history.specs.declared.key.Key.{Key}
 use Rattle.history.specs.Writes.{Write}
 use Rattle.history.specs.Table.{Granted, has_save}
 use Rattle.history.specs.Log.{Log, log_of, log_after, save_at}
@@ -28,8 +29,8 @@ HasSlot limits s t ix key = (slot : ℕ) × (ix.slot_of key ≡ Some slot) × Ha
 
 -- if the call with this reply writes, it finds an entry
 abbrev pub Enters : Limits → State → ℕ → Index → Call → Reply → Type 0
-Enters limits s t ix (Put key value) answer = HasSlot limits s t ix (of_main key)
-Enters limits s t ix (Del key) Fine = HasSlot limits s t ix (of_main key)
+Enters limits s t ix (Put name key value) answer = HasSlot limits s t ix (of_table name key)
+Enters limits s t ix (Del name key) Fine = HasSlot limits s t ix (of_table name key)
 Enters limits s t ix _ answer = Unit {0}
 
 -- a way back goes to a save
@@ -63,8 +64,8 @@ module _ (limits : Limits) (s : State) (named : (caller : ℕ) → AreNamed s.in
       -- what they hold of the caller itself after the call
       own_room : (call : Call) (answer : Reply) → Enters limits s t ix call answer → Returns (log_of calls).saved call
           → (g : ℕ) → length (filter (is_write_on limits ix g) (log_after (log_of calls) call answer).writes) ≤ limits.entries
-      own_room (Put key value) answer enters returns g = wrote (of_main key, Some value) enters g
-      own_room (Del key) Fine enters returns g = wrote (of_main key, None) enters g
+      own_room (Put name key value) answer enters returns g = wrote (of_table name key, Some value) enters g
+      own_room (Del name key) Fine enters returns g = wrote (of_table name key, None) enters g
       own_room (Back n) answer enters returns g =
           let front = save_is_front calls n returns in
           let fewer = length-filter-front (is_write_on limits ix g) (length (save_at (log_of calls).saved n)) (log_of calls).writes in

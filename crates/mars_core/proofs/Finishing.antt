@@ -9,9 +9,11 @@ use Rattle.mars_base.proofs.Going.{weaker}
 use Rattle.array_shape.specs.declared.shape.Shape.{Shape}
 use Rattle.eaw_face.specs.StoreView.{LeavesOnly}
 use Rattle.eaw_face.specs.Causes.{IsAlive}
+use Rattle.eaw_face.specs.State.{listed}
 use Rattle.page_store.specs.Index as below
 use Rattle.page_store.specs.Shown.{PagesView}
 use Rattle.history.specs.Writes.{Table, Write, all_written}
+use Rattle.history.specs.Rows.{NamedRows}
 use Rattle.history.specs.Table.{Granted, IsRight}
 use Rattle.history.specs.Legal.{records}
 use Rattle.history.specs.Log.{Log, log_of}
@@ -36,11 +38,13 @@ use Rattle.caller_steps.specs.Step.{Step}
 use Rattle.caller_steps.specs.Prefix.{HasPrefix, HasPrefixOf}
 use Rattle.caller_steps.specs.Core.{IsSafe, Steps}
 use Rattle.caller_steps.proofs.Sound.{step_sound}
-use Rattle.mars_core.specs.Over.{limits_of}
+use Rattle.record_slots.specs.Names.{names_in}
+use Rattle.mars_core.specs.Over.{limits_of, index_with}
 use Rattle.mars_core.specs.Held.{core_over}
 use Rattle.mars_core.specs.Kept.{Mirrors, HasHeld, IsTied, IsKept}
 use Rattle.mars_core.proofs.Mirroring.{with_one_here, mirrors_at, apart}
 use Rattle.mars_core.proofs.Entering.{room_empty}
+use Rattle.mars_core.proofs.Idle.{idle_after}
 use Rattle.mars_core.proofs.Prefixes.{StoreLaws, prefix_all, prefix_more, sound_after, safe_dead, safe_alive}
 use Rattle.mars_core.proofs.Stepping.{ShowsPages, or_false, or_true, step_of, steps_of, steps_same, time_same}
 
@@ -93,13 +97,9 @@ abort_fails tells index p t alive fault.SavesFull cause = absurd cause.1
 abort_fails tells index p t alive (fault.Damaged page) cause = absurd cause.1
 abort_fails tells index p t alive fault.NoMemory cause = absurd cause.1
 
--- the index that has these keys, in this data
-abbrev with_bytes : List ℕ → Keys → Index
-with_bytes bytes keys = record { slot_of = keys.slot_of; due = keys.due; used_slots = keys.used_slots; used_pages = keys.used_pages; next_page = keys.next_page; level = keys.levels 0; bytes = bytes }
-
 module _ (tells : Bool) (Opens : Shape → List ℕ → List ℕ → Type 0) (index : below.Index) (one : (shape : Shape) (image a b : List ℕ) → Opens shape image a → Opens shape image b → a ≡ b)
     (p q : PagesView) (old_laws : StoreLaws tells Opens p.store) (new_laws : StoreLaws tells Opens q.store) (s new : State) (shows : ShowsPages index p s) (shows_new : ShowsPages index q new)
-    (base : new.base ≡ s.base) (count count' : ℕ) (same_count : count' ≡ count) (rows : List (ℕ × List ℕ)) (kept : IsKept tells Opens index p count rows s) (alive : IsAlive p.store)
+    (names : new.names ≡ s.names) (base : new.base ≡ s.base) (count count' : ℕ) (same_count : count' ≡ count) (rows : List NamedRows) (kept : IsKept tells Opens index p count rows s) (alive : IsAlive p.store)
     (t : ℕ) (calls : Granted) (is : s.live t ≡ Some calls) where
   living_state : s.is_dead ≡ false
   living_state = shows.dead ∙ alive
@@ -156,7 +156,7 @@ module _ (tells : Bool) (Opens : Shape → List ℕ → List ℕ → Type 0) (in
 
     module _ (told : IsTrue tells) where
       keys_same : new.index ≡ record s.index { bytes = new.index.bytes }
-      keys_same = shows_new.indexed ∙ (λ i. with_bytes q.store.state.bytes (does.indexed told alive refl i)) ∙ sym (λ i. record (shows.indexed i) { bytes = (shows_new.indexed i).bytes })
+      keys_same = shows_new.indexed ∙ (λ i. index_with (names_in (does.tables told refl i)) q.store.state.bytes (does.indexed told alive refl i)) ∙ sym (λ i. record (shows.indexed i) { bytes = (shows_new.indexed i).bytes })
 
       writes_are : ((state_of index p).logs t).writes ≡ (log_of calls).writes
       writes_are = ap (λ (l : Log). l.writes) ((kept.tied told alive).mirrors.logs t) ∙ ap (λ (cs : Granted). (log_of cs).writes) at
@@ -164,18 +164,19 @@ module _ (tells : Bool) (Opens : Shape → List ℕ → List ℕ → Type 0) (in
       settles : Settles (log_of calls).writes s.index new.index
       settles = record {
         keys = keys_same;
-        none = λ none. shows_new.indexed ∙ (λ i. with_bytes (does.quiet told refl (writes_are ∙ none) i) (does.indexed told alive refl i)) ∙ sym shows.indexed;
+        none = λ none. shows_new.indexed ∙ (λ i. index_with (names_in (does.tables told refl i)) (does.quiet told refl (writes_are ∙ none) i) (does.indexed told alive refl i)) ∙ sym shows.indexed;
       }
 
       step : Step (limits_of p.store.shape) s t Commit (Committed (length s.history + 1)) new
       step = step_of (limits_of p.store.shape) (Some calls) s new t Commit (Committed (length s.history + 1)) living_state is
-          (inr (inl (refl, new.index, settles, λ i. record { base = base i; history = longer i; live = live i; doubt = doubt i; is_dead = dead_same i; index = new.index })))
+          (inr (inl (refl, new.index, settles, λ i. record { names = names i; base = base i; history = longer i; live = live i; doubt = doubt i; is_dead = dead_same i; index = new.index })))
 
       tied_new : IsTied index q new
       tied_new =
           let was = kept.tied told alive in
           record {
             index_sound = sound_after tells Opens index one p q old_laws new_laws told does.shape alive was.index_sound _ _ (does.time told alive) living;
+            named = names ∙ was.named ∙ sym (ap names_in (does.tables told refl));
             mirrors = subst (λ (b : TableState). Mirrors b new) (sym (does.done told)) (mirrors_at (state_of index p) s was.mirrors (after t Commit (Committed k) (state_of index p)) new t None live
                 (seen_left done done_is (Ok (Committed k)) does live told ∙ (λ i. records (sym base i) (sym history i)))
                 (with_one_here (state_of index p).logs t (record { writes = []; saved = [] })) (apart (state_of index p) t Commit (Committed k)));
@@ -189,12 +190,19 @@ module _ (tells : Bool) (Opens : Shape → List ℕ → List ℕ → Type 0) (in
       no_doubt : new.history ++ new.doubt ≡ s.history ++ done ∷ []
       no_doubt = ap (λ (ds : List Done). new.history ++ ds) (doubt ∙ (kept.tied told alive).sound.certain living_state) ∙ append-nil new.history ∙ history
 
-    pub committed_keeps : IsKept tells Opens index q count' rows new
-    committed_keeps = record { seats = same_count ∙ kept.seats ∙ sym (ap (λ (h : Shape). h.numbers) does.shape); in_order = kept.in_order; tied = λ told _. tied_new told; safe = safe_new }
+    pub committed_keeps : q.store.ranges t ≡ None → IsKept tells Opens index q count' rows new
+    committed_keeps free = record {
+      seats = same_count ∙ kept.seats ∙ sym (ap (λ (h : Shape). h.numbers) does.shape);
+      in_order = kept.in_order;
+      idle = λ _. idle_after p.store.ranges q.store.ranges s.live new.live t (λ u ne. (does.others u ne).0) (kept.idle alive) None live (λ _. ap (λ (o : Option (List (ℕ × ℕ))). listed o) free);
+      tied = λ told _. tied_new told;
+      safe = safe_new;
+    }
 
     pub committed_steps : (n : ℕ) → n ≡ length s.history + 1 → Steps tells t Commit (core_over Opens index p.store s) (core_over Opens index q.store new) (Committed n)
     committed_steps n n_is = subst (λ (k : ℕ). Steps tells t Commit (core_over Opens index p.store s) (core_over Opens index q.store new) (Committed k)) (sym n_is)
         (steps_of tells Opens index p q s new t Commit (Committed (length s.history + 1)) does.shape (record {
+          names = names;
           base = base;
           history = longer ∙ ap (λ (cs : Granted). s.history ++ done_by s t cs ∷ []) (sym at);
           dead = dead_same ∙ sym (or_false s.is_dead);
@@ -222,7 +230,7 @@ module _ (tells : Bool) (Opens : Shape → List ℕ → List ℕ → Type 0) (in
       wrote told,
       refl,
       new.index,
-      λ i. record { base = base i; history = history i; live = live i; doubt = (doubt ∙ ap (λ (d : Done). d ∷ []) done_is) i; is_dead = died i; index = new.index },
+      λ i. record { names = names i; base = base i; history = history i; live = live i; doubt = (doubt ∙ ap (λ (d : Done). d ∷ []) done_is) i; is_dead = died i; index = new.index },
     )))
 
     time_doubt : IsTrue tells → LeavesOnly (HasPrefixOf (OpensWith (Opens q.store.shape) index) new (length s.history)) p.store q.store
@@ -235,12 +243,14 @@ module _ (tells : Bool) (Opens : Shape → List ℕ → List ℕ → Type 0) (in
     doubted_keeps = record {
       seats = same_count ∙ kept.seats ∙ sym (ap (λ (h : Shape). h.numbers) does.shape);
       in_order = kept.in_order;
+      idle = λ living. absurd (false≢true (sym living ∙ (does.dies refl).0));
       tied = λ told living. absurd (false≢true (sym living ∙ (does.dies refl).0));
       safe = safe_doubt;
     }
 
     pub doubted_steps : Steps tells t Commit (core_over Opens index p.store s) (core_over Opens index q.store new) reply.Media
     doubted_steps = steps_of tells Opens index p q s new t Commit reply.Media does.shape (record {
+      names = names;
       base = base;
       history = history;
       dead = died ∙ sym (or_true s.is_dead);
@@ -260,17 +270,18 @@ module _ (tells : Bool) (Opens : Shape → List ℕ → List ℕ → Type 0) (in
 
       module _ (told : IsTrue tells) where
         index_alike : new.index ≡ s.index
-        index_alike = shows_new.indexed ∙ (λ i. with_bytes (does.quiet told refl tt i) (does.indexed told alive refl i)) ∙ sym shows.indexed
+        index_alike = shows_new.indexed ∙ (λ i. index_with (names_in (does.tables told refl i)) (does.quiet told refl tt i) (does.indexed told alive refl i)) ∙ sym shows.indexed
 
         step_abort : Step (limits_of p.store.shape) s t Abort Fine new
         step_abort = step_of (limits_of p.store.shape) (Some calls) s new t Abort Fine living_state is
-            (refl, λ i. record { base = base i; history = history i; live = live i; doubt = doubt i; is_dead = dead_alike i; index = index_alike i })
+            (refl, λ i. record { names = names i; base = base i; history = history i; live = live i; doubt = doubt i; is_dead = dead_alike i; index = index_alike i })
 
         tied_abort : IsTied index q new
         tied_abort =
             let was = kept.tied told alive in
             record {
               index_sound = sound_after tells Opens index one p q old_laws new_laws told does.shape alive was.index_sound _ _ (does.time told alive) lives;
+              named = names ∙ was.named ∙ sym (ap names_in (does.tables told refl));
               mirrors = subst (λ (b : TableState). Mirrors b new) (sym (does.done told)) (mirrors_at (state_of index p) s was.mirrors (after t Abort Fine (state_of index p)) new t None live
                   (was.mirrors.table ∙ (λ i. records (sym base i) (sym history i)))
                   (with_one_here (state_of index p).logs t (record { writes = []; saved = [] })) (apart (state_of index p) t Abort Fine));
@@ -285,11 +296,18 @@ module _ (tells : Bool) (Opens : Shape → List ℕ → List ℕ → Type 0) (in
         time_abort = let was = kept.tied told alive in
             time_same tells Opens index p q s new (state_of index p).table (state_of index p).table does.shape was.mirrors.table was.mirrors.table base history (does.time told alive)
 
-      pub aborted_keeps : IsKept tells Opens index q count' rows new
-      aborted_keeps = record { seats = same_count ∙ kept.seats ∙ sym (ap (λ (h : Shape). h.numbers) does.shape); in_order = kept.in_order; tied = λ told _. tied_abort told; safe = safe_abort }
+      pub aborted_keeps : q.store.ranges t ≡ None → IsKept tells Opens index q count' rows new
+      aborted_keeps free = record {
+        seats = same_count ∙ kept.seats ∙ sym (ap (λ (h : Shape). h.numbers) does.shape);
+        in_order = kept.in_order;
+        idle = λ _. idle_after p.store.ranges q.store.ranges s.live new.live t (λ u ne. (does.others u ne).0) (kept.idle alive) None live (λ _. ap (λ (o : Option (List (ℕ × ℕ))). listed o) free);
+        tied = λ told _. tied_abort told;
+        safe = safe_abort;
+      }
 
       pub aborted_steps : Steps tells t Abort (core_over Opens index p.store s) (core_over Opens index q.store new) Fine
       aborted_steps = steps_of tells Opens index p q s new t Abort Fine does.shape (record {
+        names = names;
         base = base;
         history = history;
         dead = dead_alike ∙ sym (or_false s.is_dead);
@@ -299,7 +317,7 @@ module _ (tells : Bool) (Opens : Shape → List ℕ → List ℕ → Type 0) (in
       }) (λ failed. absurd (false≢true failed)) (λ _. (does.faults refl).1) step_abort time_abort safe_abort
 
 -- a commit for which the history has no memory
-pub unkept : (tells : Bool) (Opens : Shape → List ℕ → List ℕ → Type 0) (index : below.Index) (p : PagesView) (s new : State) (shows : ShowsPages index p s) (count : ℕ) (rows : List (ℕ × List ℕ))
+pub unkept : (tells : Bool) (Opens : Shape → List ℕ → List ℕ → Type 0) (index : below.Index) (p : PagesView) (s new : State) (shows : ShowsPages index p s) (count : ℕ) (rows : List NamedRows)
     → IsKept tells Opens index p count rows s → IsAlive p.store → (t : ℕ) (calls : Granted) → s.live t ≡ Some calls → new ≡ s → Steps tells t Commit (core_over Opens index p.store s) (core_over Opens index p.store new) NoMemory
 unkept tells Opens index p s new shows count rows kept alive t calls is same = steps_same tells Opens index p s new t Commit NoMemory same kept.safe refl refl refl (λ told.
     step_of (limits_of p.store.shape) (Some calls) s s t Commit NoMemory (shows.dead ∙ alive) is (inl (refl, refl)))

@@ -6,21 +6,24 @@ use Rattle.std.proofs.lemmas.Bool.{false≢true}
 use Rattle.array_shape.specs.declared.shape.Shape.{Shape}
 use Rattle.array_shape.specs.Places.{data_len}
 use Rattle.page_store.specs.Index as below
-use Rattle.history.specs.Key.{Key, of_main}
+use Rattle.history.specs.Key.{of_table}
+use Rattle.history.specs.declared.key.Key.{Key}
 use Rattle.history.specs.declared.call.Call.{Call}
 use Rattle.history.specs.declared.call.Call.TheVariants.{Begin, Get, Put, Del, Scan, Save, Back, Commit, Abort}
 use Rattle.history.specs.declared.call.Reply.{Reply}
 use Rattle.history.specs.declared.call.Reply.TheVariants.{Fine}
 use Rattle.history.specs.declared.call.Reply.TheVariants as reply
 use Rattle.record_table.specs.State.{Keys}
-use Rattle.record_table.specs.State as table
+use Rattle.record_table.specs.State as tables
 use Rattle.record_table.specs.Does.{IndexedAt, Indexed, is_failed}
 use Rattle.record_table.specs.declared.fault.TableFault.{TableFault}
 use Rattle.record_table.specs.declared.fault.TableFault.TheVariants.{SlotsFull, PagesFull, SavesFull, LogFull, Media, Dead, Damaged, NoMemory}
 use Rattle.caller_steps.specs.State.{Index}
 use Rattle.caller_steps.specs.Room.{Limits, GainsKey, KeepsKeys, TakesPages, Inserts, IndexesAt, Indexes}
 use Rattle.caller_steps.proofs.AtKeys.{at_key}
-use Rattle.mars_core.specs.Over.{limits_of}
+use Rattle.record_slots.specs.Names.{number_of}
+use Rattle.mars_core.specs.TableCall.{number_for}
+use Rattle.mars_core.specs.Over.{limits_of, level_of, index_with}
 use Rattle.record_table.specs.Faults.{reply_to}
 use Rattle.mars_core.proofs.Mirroring.{IsOfTable}
 
@@ -33,71 +36,72 @@ pub is_within : (shape : Shape) (bytes : List ℕ) (keys : Keys) → length byte
     → keys.used_slots ≡ used_slots bytes → keys.next_page ≡ next_page bytes → IsWithin shape keys
 is_within shape bytes keys long counts s p = record { slots = omega (arith, counts.slots, long, s); pages = omega (arith, counts.pages, long, p) }
 
--- the index that has these keys, in this data
-abbrev index_with : List ℕ → Keys → Index
-index_with bytes keys = record { slot_of = keys.slot_of; due = keys.due; used_slots = keys.used_slots; used_pages = keys.used_pages; next_page = keys.next_page; level = keys.levels 0; bytes = bytes }
-
 -- the call inserts no key
 abbrev pub InsertsNone : Keys → Call → Type 0
-InsertsNone keys (Put key value) = IsSome (keys.slot_of (of_main key))
+InsertsNone keys (Put name key value) = IsSome (keys.slot_of (of_table name key))
 InsertsNone keys call = Unit {0}
 
-module _ (shape : Shape) (a b : List ℕ) (old new : Keys) (within : IsWithin shape new) where
-  both : new ≡ old → b ≡ a → index_with b new ≡ index_with a old
-  both keys bytes = λ i. index_with (bytes i) (keys i)
+module _ (shape : Shape) (table : ℕ) (names : List (List ℕ)) (a b : List ℕ) (old new : Keys) (within : IsWithin shape new) where
+  both : new ≡ old → b ≡ a → index_with names b new ≡ index_with names a old
+  both keys bytes = λ i. index_with names (bytes i) (keys i)
 
-  takes : table.TakesPages old new → TakesPages (limits_of shape) (index_with a old) (index_with b new)
-  takes t = record { later = t.later; few = t.few; most = within.pages; used = t.used; levels = t.levels 0 }
+  level_rises : (o : Option ℕ) → ((j : ℕ) → old.levels j ≤ new.levels j) → level_of old o ≤ level_of new o
+  level_rises None rises = omega arith
+  level_rises (Some j) rises = rises j
 
-  keeps : table.KeepsKeys old new → KeepsKeys (index_with a old) (index_with b new)
+  takes : tables.TakesPages old new → TakesPages (limits_of shape) (index_with names a old) (index_with names b new)
+  takes t = record { later = t.later; few = t.few; most = within.pages; used = t.used; levels = λ name. level_rises (number_of names name) t.levels }
+
+  keeps : tables.KeepsKeys old new → KeepsKeys (index_with names a old) (index_with names b new)
   keeps k = record { slot_of = k.slot_of; slots = k.slots; due = k.due }
 
-  gains : (key : Key) → table.GainsKey key old new → GainsKey (limits_of shape) key (index_with a old) (index_with b new)
+  gains : (key : Key) → tables.GainsKey key old new → GainsKey (limits_of shape) key (index_with names a old) (index_with names b new)
   gains key g = record {
     left = omega (arith, g.slots, within.slots);
     slot_of = g.slot_of;
     slots = g.slots;
   }
 
-  refused_at : (T : Type 0) (key : Key) (o : Option ℕ) → old.slot_of key ≡ o → (IsSome o → b ≡ a) → (f : TableFault) → (let r : Result T TableFault = Err f in IsFalse (is_failed r))
-      → (let r : Result T TableFault = Err f in IndexedAt 0 key o old new r) → IndexesAt (limits_of shape) key o (reply_to f) (index_with a old) (index_with b new)
-  refused_at T key (Some slot) is quiet f well same = both same (quiet refl)
-  refused_at T key None is quiet (LogFull g h n) well (t, inl k) = (takes t, inl (keeps k))
-  refused_at T key None is quiet (LogFull g h n) well (t, inr k) = (takes t, inr (gains key k))
-  refused_at T key None is quiet (PagesFull n) well (t, k, most) = (takes t, keeps k, most)
-  refused_at T key None is quiet (SlotsFull n) well (t, k) = (takes t, keeps k)
-  refused_at T key None is quiet SavesFull well (t, k) = (takes t, keeps k)
-  refused_at T key None is quiet Media well x = absurd (cc)
-  refused_at T key None is quiet Dead well (t, k) = (takes t, keeps k)
-  refused_at T key None is quiet (Damaged page) well (t, k) = (takes t, keeps k)
-  refused_at T key None is quiet NoMemory well (t, k) = (takes t, keeps k)
+  refused_at : (T : Type 0) (key : Key) (asked : number_of names key.table ≡ Some table) (o : Option ℕ) → old.slot_of key ≡ o → (IsSome o → b ≡ a) → (f : TableFault) → (let r : Result T TableFault = Err f in IsFalse (is_failed r))
+      → (let r : Result T TableFault = Err f in IndexedAt table key o old new r) → IndexesAt (limits_of shape) key o (reply_to f) (index_with names a old) (index_with names b new)
+  refused_at T key asked (Some slot) is quiet f well same = both same (quiet refl)
+  refused_at T key asked None is quiet (LogFull g h n) well (t, inl k) = (takes t, inl (keeps k))
+  refused_at T key asked None is quiet (LogFull g h n) well (t, inr k) = (takes t, inr (gains key k))
+  refused_at T key asked None is quiet (PagesFull n) well (t, k, inl few) = (takes t, keeps k, inl few)
+  refused_at T key asked None is quiet (PagesFull n) well (t, k, inr high) = (takes t, keeps k, inr (subst (λ (o : Option ℕ). 7 ≤ level_of new o) (sym asked) high))
+  refused_at T key asked None is quiet (SlotsFull n) well (t, k) = (takes t, keeps k)
+  refused_at T key asked None is quiet SavesFull well (t, k) = (takes t, keeps k)
+  refused_at T key asked None is quiet Media well x = absurd (cc)
+  refused_at T key asked None is quiet Dead well (t, k) = (takes t, keeps k)
+  refused_at T key asked None is quiet (Damaged page) well (t, k) = (takes t, keeps k)
+  refused_at T key asked None is quiet NoMemory well (t, k) = (takes t, keeps k)
 
   granted_at : {T : Type 0} (key : Key) (o : Option ℕ) → old.slot_of key ≡ o → (IsSome o → b ≡ a) → (answer : T)
-      → (let r : Result T TableFault = Ok answer in IndexedAt 0 key o old new r) → IndexesAt (limits_of shape) key o Fine (index_with a old) (index_with b new)
+      → (let r : Result T TableFault = Ok answer in IndexedAt table key o old new r) → IndexesAt (limits_of shape) key o Fine (index_with names a old) (index_with names b new)
   granted_at key (Some slot) is quiet answer same = both same (quiet refl)
   granted_at key None is quiet answer (t, k) = (takes t, gains key k)
 
   -- a refusal
-  pub indexes_refused : (T : Type 0) (call : Call) (f : TableFault) → IsOfTable call → (InsertsNone old call → b ≡ a) → (let r : Result T TableFault = Err f in IsFalse (is_failed r))
-      → (let r : Result T TableFault = Err f in Indexed 0 call old new r) → Indexes (limits_of shape) call (reply_to f) (index_with a old) (index_with b new)
-  indexes_refused T (Put key value) f of quiet well indexed = refused_at T (of_main key) (old.slot_of (of_main key)) refl quiet f well indexed
-  indexes_refused T (Get key) f of quiet well same = both same (quiet tt)
-  indexes_refused T (Del key) f of quiet well same = both same (quiet tt)
-  indexes_refused T (Scan low high) f of quiet well same = both same (quiet tt)
-  indexes_refused T Save f of quiet well same = both same (quiet tt)
-  indexes_refused T (Back n) f of quiet well same = both same (quiet tt)
-  indexes_refused T Commit f of quiet well same = absurd of
-  indexes_refused T Abort f of quiet well same = absurd of
-  indexes_refused T Begin f of quiet well same = absurd of
+  pub indexes_refused : (T : Type 0) (call : Call) (f : TableFault) → IsOfTable call → number_for names call ≡ Some table → (InsertsNone old call → b ≡ a) → (let r : Result T TableFault = Err f in IsFalse (is_failed r))
+      → (let r : Result T TableFault = Err f in Indexed table call old new r) → Indexes (limits_of shape) call (reply_to f) (index_with names a old) (index_with names b new)
+  indexes_refused T (Put name key value) f of asked quiet well indexed = refused_at T (of_table name key) asked (old.slot_of (of_table name key)) refl quiet f well indexed
+  indexes_refused T (Get name key) f of asked quiet well same = both same (quiet tt)
+  indexes_refused T (Del name key) f of asked quiet well same = both same (quiet tt)
+  indexes_refused T (Scan name low high) f of asked quiet well same = both same (quiet tt)
+  indexes_refused T Save f of asked quiet well same = both same (quiet tt)
+  indexes_refused T (Back n) f of asked quiet well same = both same (quiet tt)
+  indexes_refused T Commit f of asked quiet well same = absurd of
+  indexes_refused T Abort f of asked quiet well same = absurd of
+  indexes_refused T Begin f of asked quiet well same = absurd of
 
   -- a granted call
-  pub indexes_granted : {T : Type 0} (call : Call) (answer : T) (told : Reply) → IsOfTable call → (InsertsNone old call → b ≡ a) → ((key : ℕ) (value : List ℕ) → call ≡ Put key value → told ≡ Fine)
-      → (let r : Result T TableFault = Ok answer in Indexed 0 call old new r) → Indexes (limits_of shape) call told (index_with a old) (index_with b new)
-  indexes_granted (Put key value) answer told of quiet fine indexed =
-      subst (λ (r : Reply). IndexesAt (limits_of shape) (of_main key) (old.slot_of (of_main key)) r (index_with a old) (index_with b new)) (sym (fine key value refl)) (granted_at (of_main key) (old.slot_of (of_main key)) refl quiet answer indexed)
-  indexes_granted (Get key) answer told of quiet fine same = both same (quiet tt)
-  indexes_granted (Del key) answer told of quiet fine same = both same (quiet tt)
-  indexes_granted (Scan low high) answer told of quiet fine same = both same (quiet tt)
+  pub indexes_granted : {T : Type 0} (call : Call) (answer : T) (told : Reply) → IsOfTable call → (InsertsNone old call → b ≡ a) → ((name : List ℕ) (key : ℕ) (value : List ℕ) → call ≡ Put name key value → told ≡ Fine)
+      → (let r : Result T TableFault = Ok answer in Indexed table call old new r) → Indexes (limits_of shape) call told (index_with names a old) (index_with names b new)
+  indexes_granted (Put name key value) answer told of quiet fine indexed =
+      subst (λ (r : Reply). IndexesAt (limits_of shape) (of_table name key) (old.slot_of (of_table name key)) r (index_with names a old) (index_with names b new)) (sym (fine name key value refl)) (granted_at (of_table name key) (old.slot_of (of_table name key)) refl quiet answer indexed)
+  indexes_granted (Get name key) answer told of quiet fine same = both same (quiet tt)
+  indexes_granted (Del name key) answer told of quiet fine same = both same (quiet tt)
+  indexes_granted (Scan name low high) answer told of quiet fine same = both same (quiet tt)
   indexes_granted Save answer told of quiet fine same = both same (quiet tt)
   indexes_granted (Back n) answer told of quiet fine same = both same (quiet tt)
   indexes_granted Commit answer told of quiet fine same = absurd of
@@ -118,6 +122,7 @@ inserts_slots limits key reply.Absent old new none (t, k) = inl k.slot_of
 inserts_slots limits key (reply.Listed rows) old new none (t, k) = inl k.slot_of
 inserts_slots limits key (reply.Saved n) old new none (t, k) = inl k.slot_of
 inserts_slots limits key (reply.Committed n) old new none (t, k) = inl k.slot_of
+inserts_slots limits key reply.NoTable old new none (t, k) = inl k.slot_of
 inserts_slots limits key reply.NoTransaction old new none (t, k) = inl k.slot_of
 inserts_slots limits key reply.Already old new none (t, k) = inl k.slot_of
 inserts_slots limits key (reply.NoSave n) old new none (t, k) = inl k.slot_of
@@ -134,7 +139,7 @@ at_slots limits key None answer old new is inserts = inserts_slots limits key an
 at_slots limits key (Some slot) answer old new is same = inl (ap (λ (x : Index). x.slot_of) same)
 
 pub indexes_slots : (limits : Limits) (call : Call) (answer : Reply) (old new : Index) → Indexes limits call answer old new → Slots limits old new
-indexes_slots limits (Put key value) answer old new indexes = at_slots limits (of_main key) (old.slot_of (of_main key)) answer old new refl indexes
+indexes_slots limits (Put name key value) answer old new indexes = at_slots limits (of_table name key) (old.slot_of (of_table name key)) answer old new refl indexes
 indexes_slots limits _ answer old new same = inl (ap (λ (x : Index). x.slot_of) same)
 
 -- after a granted put the index has the key, with the slot that it had or the one that was due

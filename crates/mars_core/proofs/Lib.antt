@@ -1,4 +1,5 @@
 pub mod Touching
+pub mod Idle
 pub mod Seating
 pub mod Mirroring
 pub mod Indexing
@@ -14,5 +15,8 @@ pub mod Opening
 pub mod Attaching
 pub mod Unwritten
 pub mod Clearing
+pub mod Passing
+pub mod Naming
 pub mod Purged
 pub mod Tabled
+pub mod GivingUp

@@ -40,8 +40,8 @@ pub apart : (s : TableState) (t : ℕ) (call : Call) (answer : Reply) (u : ℕ) 
 apart s t call answer u ne = with_one_apart s.logs t (own_after (s.logs t) call answer) u ne
 
 -- a scan changes nothing
-pub scan_after : (s : TableState) (t low high : ℕ) (answer : Reply) → after t (Scan low high) answer s ≡ s
-scan_after s t low high answer = ap (λ (logs : ℕ → Log). (let is : TableState = record { table = s.table; logs = logs } in is)) (with_same s.logs t)
+pub scan_after : (s : TableState) (t : ℕ) (name : List ℕ) (low high : ℕ) (answer : Reply) → after t (Scan name low high) answer s ≡ s
+scan_after s t name low high answer = ap (λ (logs : ℕ → Log). (let is : TableState = record { table = s.table; logs = logs } in is)) (with_same s.logs t)
 
 -- a call of a table, which is neither a begin nor the end of a transaction
 abbrev pub IsOfTable : Call → Type 0
@@ -51,10 +51,10 @@ IsOfTable Abort = ⊥
 IsOfTable _ = Unit {0}
 
 of_table : (call : TableCall) → IsOfTable (call_of call)
-of_table (table_call.Get key) = tt
-of_table (table_call.Put key value) = tt
-of_table (table_call.Del key) = tt
-of_table (table_call.Scan low high) = tt
+of_table (table_call.Get name key) = tt
+of_table (table_call.Put name key value) = tt
+of_table (table_call.Del name key) = tt
+of_table (table_call.Scan name low high) = tt
 of_table table_call.Save = tt
 of_table (table_call.Back n) = tt
 
@@ -63,10 +63,10 @@ is_of_table asked call said = subst IsOfTable said (of_table asked)
 
 -- it does not change the table
 pub same_table : (s : TableState) (t : ℕ) (call : Call) → IsOfTable call → table_after t call s ≡ s.table
-same_table s t (Get key) of = refl
-same_table s t (Put key value) of = refl
-same_table s t (Del key) of = refl
-same_table s t (Scan low high) of = refl
+same_table s t (Get name key) of = refl
+same_table s t (Put name key value) of = refl
+same_table s t (Del name key) of = refl
+same_table s t (Scan name low high) of = refl
 same_table s t Save of = refl
 same_table s t (Back n) of = refl
 same_table s t Commit of = absurd of
@@ -75,10 +75,10 @@ same_table s t Begin of = absurd of
 
 -- its number's log is then that of the history
 own_is : (l : Log) (call : Call) (answer : Reply) → IsOfTable call → own_after l call answer ≡ log_after l call answer
-own_is l (Get key) answer of = refl
-own_is l (Put key value) answer of = refl
-own_is l (Del key) answer of = refl
-own_is l (Scan low high) answer of = refl
+own_is l (Get name key) answer of = refl
+own_is l (Put name key value) answer of = refl
+own_is l (Del name key) answer of = refl
+own_is l (Scan name low high) answer of = refl
 own_is l Save answer of = refl
 own_is l (Back n) answer of = refl
 own_is l Commit answer of = absurd of
@@ -87,10 +87,10 @@ own_is l Begin answer of = absurd of
 
 -- and the reply is the table's
 replies_is : (s : TableState) (t : ℕ) (call : Call) (answer : Reply) → IsOfTable call → Replies s t call answer → Answers (work_of s t) call answer
-replies_is s t (Get key) answer of replies = replies
-replies_is s t (Put key value) answer of replies = replies
-replies_is s t (Del key) answer of replies = replies
-replies_is s t (Scan low high) answer of replies = replies
+replies_is s t (Get name key) answer of replies = replies
+replies_is s t (Put name key value) answer of replies = replies
+replies_is s t (Del name key) answer of replies = replies
+replies_is s t (Scan name low high) answer of replies = replies
 replies_is s t Save answer of replies = replies
 replies_is s t (Back n) answer of replies = replies
 replies_is s t Commit answer of replies = absurd of

@@ -1,23 +1,24 @@
 -- How a core begins: with the records of the store's data.
 use Rattle.std.proofs.Common.{◌≡◌, ◌≤◌, ◌<◌, ◌-◌, ◌^◌, ℕ, suc, inl, inr, Bool, false, cond, ◌&&◌, List, [], ◌∷◌, length, filter, IsTrue, Option, Some, None, unwrap_or, Result, Ok, Err, refl, sym, ap, subst, ◌∙◌, arith, eq-eqb, ne_eqb, le-leb}
 use Rattle.std.specs.FinMap.{get, entries, from_entries, get-entries, get-from_entries}
-use Rattle.std.proofs.lemmas.Bool.{cases_lt}
+use Rattle.std.proofs.lemmas.Bool.{cases_eq, cases_lt}
 use Rattle.array_shape.specs.declared.shape.Shape.{Shape}
-use Rattle.eaw_face.specs.State.{State as StoreState}
+use Rattle.eaw_face.specs.State.{State as StoreState, listed}
 use Rattle.eaw_face.specs.StoreView.{LeavesOnly}
 use Rattle.eaw_face.specs.Causes.{IsAlive}
 use Rattle.page_store.specs.Index as below
 use Rattle.page_store.specs.Shown.{PagesView}
-use Rattle.history.specs.Key.{main_name}
-use Rattle.history.specs.Rows.{all_keyed, table_of}
+use Rattle.history.specs.Rows.{NamedRows, records_in, table_of}
 use Rattle.history.specs.Writes.{Table, Write, all_written}
 use Rattle.history.specs.Table.{Granted}
 use Rattle.history.specs.declared.transaction.Done.{Done}
 use Rattle.history.proofs.Keys.{key_cmp_total}
-use Rattle.history.proofs.Tables.{same_table}
+use Rattle.history.proofs.Agreeing.{same_table}
 use Rattle.record_table.specs.State.{TableState, seen_by}
 use Rattle.record_table.specs.Does.{OpensWith, is_failed}
-use Rattle.record_table.specs.Shown.{state_of, pairs_of, keys_of, table_in}
+use Rattle.record_slots.specs.Names.{names_in}
+use Rattle.record_table.specs.Names.{names_of}
+use Rattle.record_table.specs.Shown.{state_of}
 use Rattle.record_table.specs.Shown as shown
 use Rattle.record_table.specs.Sought.{LooksAs}
 use Rattle.record_table.specs.Upgrading.{upgraded, OpensUpgraded, Upgrades}
@@ -33,11 +34,11 @@ use Rattle.mars_core.specs.Seats.{Seats, live_in}
 use Rattle.mars_core.proofs.Prefixes.{StoreLaws, safe_alive}
 
 -- the rows of a table are that table's
-module _ (m : Table) (rows : List (ℕ × List ℕ)) (is : all_keyed main_name rows ≡ entries m) where
+module _ (m : Table) (rows : List NamedRows) (is : records_in rows ≡ entries m) where
   pub base_is : table_of rows ≡ m
   base_is = ap from_entries is ∙ same_table (from_entries (entries m)) m (λ q. get-from_entries key_cmp_total (entries m) q ∙ sym (get-entries m q))
 
-  pub base_rows : entries (table_of rows) ≡ all_keyed main_name rows
+  pub base_rows : entries (table_of rows) ≡ records_in rows
   base_rows = ap (λ (table : Table). entries table) base_is ∙ sym is
 
 no_log : (new : State) → ((t : ℕ) → new.live t ≡ None) → (t : ℕ) → calls_of new t ≡ []
@@ -46,45 +47,56 @@ no_log new idle t = ap (λ (o : Option Granted). unwrap_or o []) (idle t)
 -- A core over records to which nobody has written, with their rows, once their data is in version 2.
 module _ (tells : Bool) (Opens : Shape → List ℕ → List ℕ → Type 0) (index : below.Index) (p r : PagesView) (new_laws : StoreLaws tells Opens r.store) (alive : IsAlive p.store) (sound : IsTrue tells → index.sound p.store.state.bytes)
     (idle : IsTrue tells → (t : ℕ) → ((state_of index p).logs t).writes ≡ []) (unsaved : IsTrue tells → (t : ℕ) → ((state_of index p).logs t).saved ≡ []) (upgrades : Upgrades tells (Opens p.store.shape) index p r (Ok tt))
-    (rows : List (ℕ × List ℕ)) (are : IsTrue tells → all_keyed main_name rows ≡ entries (shown.table_of index p.store.state.bytes))
-    (seats : Seats) (count : length seats ≡ p.store.shape.numbers) (none : (t : ℕ) → live_in seats t ≡ None) (history : List Done) (empty : history ≡ []) (doubt : List Done) (sure : doubt ≡ []) where
+    (rows : List NamedRows) (are : IsTrue tells → records_in rows ≡ entries (shown.table_of index p.store.state.bytes))
+    (free : (t : ℕ) → p.store.ranges t ≡ None) (seats : Seats) (named : IsTrue tells → seats.names ≡ names_of p.store.state.bytes) (count : length seats.live ≡ p.store.shape.numbers) (none : (t : ℕ) → live_in seats t ≡ None) (history : List Done) (empty : history ≡ []) (doubt : List Done) (sure : doubt ≡ []) where
   lives : IsAlive r.store
   lives = (upgrades.faults refl).0 ∙ alive
+
+  still_free : (t : ℕ) → r.store.ranges t ≡ None
+  still_free t = elim (cases_eq t 0) [
+    | inl e ↦ subst (λ (u : ℕ). r.store.ranges u ≡ None) (sym e) (upgrades.ranges refl ∙ free 0)
+    | inr ne ↦ upgrades.others t ne ∙ free t
+  ]
 
   module _ (told : IsTrue tells) where
     state_new : state_of index r ≡ state_of index p
     state_new = upgrades.state told refl
 
+    names_new : names_of r.store.state.bytes ≡ names_of p.store.state.bytes
+    names_new = ap names_in (upgrades.tables told refl)
+
     table_is : table_of rows ≡ shown.table_of index p.store.state.bytes
     table_is = base_is (shown.table_of index p.store.state.bytes) rows (are told)
 
     -- its state is that of a core that was just opened
-    opened_is : state_at index r.store (table_of rows) history (live_in seats) doubt ≡ opened (shown.table_of index p.store.state.bytes) (index_of index (upgraded p.store.state.bytes))
-    opened_is = λ i. record { base = table_is i; history = empty i; live = λ t. none t i; doubt = sure i; is_dead = lives i; index = index_of index (upgrades.bytes told i) }
+    opened_is : state_at index r.store seats.names (table_of rows) history (live_in seats) doubt ≡ opened (names_of p.store.state.bytes) (shown.table_of index p.store.state.bytes) (index_of index (upgraded p.store.state.bytes))
+    opened_is = λ i. record { names = named told i; base = table_is i; history = empty i; live = λ t. none t i; doubt = sure i; is_dead = lives i; index = index_of index (upgrades.bytes told i) }
 
-    mirrors : Mirrors (state_of index r) (state_at index r.store (table_of rows) history (live_in seats) doubt)
+    mirrors : Mirrors (state_of index r) (state_at index r.store seats.names (table_of rows) history (live_in seats) doubt)
     mirrors = subst (λ (s : State). Mirrors (state_of index r) s) (sym opened_is) (record {
       table = ap (λ (b : TableState). b.table) state_new;
       logs = λ t. ap (λ (b : TableState). b.logs t) state_new ∙ (λ i. record { writes = idle told t i; saved = unsaved told t i });
     })
 
-    tied_new : IsTied index r (state_at index r.store (table_of rows) history (live_in seats) doubt)
+    tied_new : IsTied index r (state_at index r.store seats.names (table_of rows) history (live_in seats) doubt)
     tied_new = record {
       index_sound = upgrades.sound told;
+      named = named told ∙ sym names_new;
       mirrors = mirrors;
-      sound = subst IsSound (sym opened_is) (opened_sound (shown.table_of index p.store.state.bytes) (index_of index (upgraded p.store.state.bytes)));
+      sound = subst IsSound (sym opened_is) (opened_sound (names_of p.store.state.bytes) (shown.table_of index p.store.state.bytes) (index_of index (upgraded p.store.state.bytes)));
       room = subst (HasHeld (limits_of r.store.shape)) (sym opened_is) (λ caller g. omega arith);
     }
 
-  pub opened_keeps : IsKept tells Opens index r (length seats) rows (state_at index r.store (table_of rows) history (live_in seats) doubt)
+  pub opened_keeps : IsKept tells Opens index r (length seats.live) rows (state_at index r.store seats.names (table_of rows) history (live_in seats) doubt)
   opened_keeps = record {
     seats = count ∙ sym (ap (λ (h : Shape). h.numbers) upgrades.shape);
     in_order = λ told. base_rows (shown.table_of index p.store.state.bytes) rows (are told);
+    idle = λ _ t none. ap (λ (o : Option (List (ℕ × ℕ))). listed o) (still_free t);
     tied = λ told _. tied_new told;
-    safe = λ told. safe_alive tells Opens index r new_laws (state_at index r.store (table_of rows) history (live_in seats) doubt) told lives (tied_new told);
+    safe = λ told. safe_alive tells Opens index r new_laws (state_at index r.store seats.names (table_of rows) history (live_in seats) doubt) told lives (tied_new told);
   }
 
-  pub opened_begins : Begins tells (Opens p.store.shape) index p.store r.store (core_over Opens index r.store (state_at index r.store (table_of rows) history (live_in seats) doubt))
+  pub opened_begins : Begins tells (Opens p.store.shape) index p.store r.store (core_over Opens index r.store (state_at index r.store seats.names (table_of rows) history (live_in seats) doubt))
   opened_begins = record {
     over = record {
       limits = refl;
@@ -95,11 +107,13 @@ module _ (tells : Bool) (Opens : Shape → List ℕ → List ℕ → Type 0) (in
       dead = refl;
       keys = λ told. refl;
       sound = λ told _. upgrades.sound told;
+      names = λ told _. names_new told ∙ sym (named told);
       table = λ told _. (mirrors told).table;
     };
     alive = lives;
     faults = (upgrades.faults refl).1;
     shape = upgrades.shape;
+    mirrors = upgrades.mirrors;
     state = opened_is;
     fresh = (empty, none, sure);
     sound = sound;

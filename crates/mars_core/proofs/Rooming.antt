@@ -10,7 +10,8 @@ use Rattle.page_store.specs.Index.{slots_of}
 use Rattle.page_store.specs.Index as below
 use Rattle.page_store.specs.Shown.{PagesView}
 use Rattle.record_slots.specs.Places.{used_slots, slot_due}
-use Rattle.history.specs.Key.{Key, of_main}
+use Rattle.history.specs.Key.{of_table}
+use Rattle.history.specs.declared.key.Key.{Key}
 use Rattle.history.specs.Writes.{Table, Write}
 use Rattle.history.specs.Table.{IsRight}
 use Rattle.history.specs.Log.{Log, log_of, log_after, save_at}
@@ -39,7 +40,7 @@ named_is index pairs [] same named = tt
 named_is index pairs (write ∷ writes) same named = (subst (λ (o : Option ℕ). IsSome o) (sym (same write.0)) named.0, named_is index pairs writes same named.1)
 
 -- A state s over what pages show, whose index is that of the data.
-module _ (index : below.Index) (p : PagesView) (s : State) (indexed : s.index ≡ index_of index p.store.state.bytes) (mirrors : Mirrors (state_of index p) s)
+module _ (index : below.Index) (table : ℕ) (p : PagesView) (s : State) (indexed : s.index ≡ index_of index p.store.state.bytes) (mirrors : Mirrors (state_of index p) s)
     (held : (t g : ℕ) → shown.held_on p t g ≡ length (filter (shown.is_write_on p.store.shape (pairs_of index p.store.state.bytes) g) ((state_of index p).logs t).writes)) where
   -- what a logger holds
   pub held_is : (t g : ℕ) → held_on (limits_of p.store.shape) s t g ≡ shown.held_on p t g
@@ -68,22 +69,22 @@ module _ (index : below.Index) (p : PagesView) (s : State) (indexed : s.index �
     seen_from : (key : Key) → IsSeen s t key → table_causes.IsSeen index p t key
     seen_from key = subst (λ (table : Table). IsSome (get table key)) (sym (seen_is (state_of index p) s mirrors t right))
 
-    put_fits : (key : ℕ) (o : Option ℕ) → table_causes.PutFits index 0 t key p o → HasEntry (limits_of p.store.shape) s t (of_main key) (unwrap_or o (slot_due p.store.state.bytes))
-    put_fits key None fits = has_entry t (of_main key) (slot_due p.store.state.bytes) fits.1
-    put_fits key (Some slot) room = has_entry t (of_main key) slot room
+    put_fits : (key : Key) (o : Option ℕ) → table_causes.PutFits index table t key p o → HasEntry (limits_of p.store.shape) s t key (unwrap_or o (slot_due p.store.state.bytes))
+    put_fits key None fits = has_entry t key (slot_due p.store.state.bytes) fits.1
+    put_fits key (Some slot) room = has_entry t key slot room
 
     slot_is : (key : Key) → unwrap_or (shown.found_key (pairs_of index p.store.state.bytes) key) (slot_due p.store.state.bytes) ≡ slot_for s.index key
     slot_is key = sym (ap (λ (ix : Index). slot_for ix key) indexed)
 
-    pub fits_is : (call : Call) → IsOfTable call → table_causes.Fits index 0 p t call → Fits (limits_of p.store.shape) s t call
-    fits_is (Put key value) of fits =
-        subst (λ (slot : ℕ). HasEntry (limits_of p.store.shape) s t (of_main key) slot) (slot_is (of_main key)) (put_fits key (shown.found_key (pairs_of index p.store.state.bytes) (of_main key)) fits)
-    fits_is (Del key) of fits = λ seen_there.
-        let at = fits (seen_from (of_main key) seen_there) in
-        subst (λ (slot : ℕ). HasEntry (limits_of p.store.shape) s t (of_main key) slot)
-        (sym (ap (λ (o : Option ℕ). unwrap_or o (slot_due p.store.state.bytes)) at.1) ∙ slot_is (of_main key)) (has_entry t (of_main key) at.0 at.2)
-    fits_is (Get key) of fits = tt
-    fits_is (Scan low high) of fits = tt
+    pub fits_is : (call : Call) → IsOfTable call → table_causes.Fits index table p t call → Fits (limits_of p.store.shape) s t call
+    fits_is (Put name key value) of fits =
+        subst (λ (slot : ℕ). HasEntry (limits_of p.store.shape) s t (of_table name key) slot) (slot_is (of_table name key)) (put_fits (of_table name key) (shown.found_key (pairs_of index p.store.state.bytes) (of_table name key)) fits)
+    fits_is (Del name key) of fits = λ seen_there.
+        let at = fits (seen_from (of_table name key) seen_there) in
+        subst (λ (slot : ℕ). HasEntry (limits_of p.store.shape) s t (of_table name key) slot)
+        (sym (ap (λ (o : Option ℕ). unwrap_or o (slot_due p.store.state.bytes)) at.1) ∙ slot_is (of_table name key)) (has_entry t (of_table name key) at.0 at.2)
+    fits_is (Get name key) of fits = tt
+    fits_is (Scan name low high) of fits = tt
     fits_is Save of fits = tt
     fits_is (Back n) of fits = tt
     fits_is Commit of fits = tt
@@ -127,29 +128,29 @@ module _ (index : below.Index) (p : PagesView) (s : State) (indexed : s.index �
       slot_left : used_slots p.store.state.bytes < slots_of p.store.shape → s.index.used_slots < (limits_of p.store.shape).slots
       slot_left left = subst (λ (ix : Index). ix.used_slots < slots_of p.store.shape) (sym indexed) left
 
-      put_lacks : (key g h n : ℕ) (o : Option ℕ) → table_causes.PutLacks index 0 t key p g h n o → table_causes.IsShort p t g h n → LacksAt (limits_of p.store.shape) s t (of_main key) o (reply.LogFull g h n)
+      put_lacks : (key : Key) (g h n : ℕ) (o : Option ℕ) → table_causes.PutLacks index table t key p g h n o → table_causes.IsShort p t g h n → LacksAt (limits_of p.store.shape) s t key o (reply.LogFull g h n)
       put_lacks key g h n None lacks short = (left lacks, full_is g h n short)
         where
-          left : table_causes.PutLacks index 0 t key p g h n None → s.index.used_slots < (limits_of p.store.shape).slots
+          left : table_causes.PutLacks index table t key p g h n None → s.index.used_slots < (limits_of p.store.shape).slots
           left (inl comes) = slot_left comes.0
           left (inr (comes, full)) = slot_left comes.0
-      put_lacks key g h n (Some slot) full short = slot_full (of_main key) slot g h n full short
+      put_lacks key g h n (Some slot) full short = slot_full key slot g h n full short
 
       found_is : (key : Key) → shown.found_key (pairs_of index p.store.state.bytes) key ≡ s.index.slot_of key
       found_is key = sym (ap (λ (ix : Index). ix.slot_of key) indexed)
 
-      pub log_lacks : (call : Call) (g h n : ℕ) → IsOfTable call → table_causes.Lacks index 0 p g h n t call → table_causes.MayLack p g h n t call
+      pub log_lacks : (call : Call) (g h n : ℕ) → IsOfTable call → table_causes.Lacks index table p g h n t call → table_causes.MayLack p g h n t call
           → Lacks (limits_of p.store.shape) s t call (reply.LogFull g h n)
-      log_lacks (Put key value) g h n of lacks short = subst (λ (o : Option ℕ). LacksAt (limits_of p.store.shape) s t (of_main key) o (reply.LogFull g h n)) (found_is (of_main key))
-          (put_lacks key g h n (shown.found_key (pairs_of index p.store.state.bytes) (of_main key)) lacks short)
-      log_lacks (Del key) g h n of (seen_there, slot, at, full) short = (
-        seen_to (of_main key) seen_there,
+      log_lacks (Put name key value) g h n of lacks short = subst (λ (o : Option ℕ). LacksAt (limits_of p.store.shape) s t (of_table name key) o (reply.LogFull g h n)) (found_is (of_table name key))
+          (put_lacks (of_table name key) g h n (shown.found_key (pairs_of index p.store.state.bytes) (of_table name key)) lacks short)
+      log_lacks (Del name key) g h n of (seen_there, slot, at, full) short = (
+        seen_to (of_table name key) seen_there,
         slot,
-        sym (found_is (of_main key)) ∙ at,
-        slot_full (of_main key) slot g h n full short,
+        sym (found_is (of_table name key)) ∙ at,
+        slot_full (of_table name key) slot g h n full short,
       )
-      log_lacks (Get key) g h n of lacks short = absurd short
-      log_lacks (Scan low high) g h n of lacks short = absurd short
+      log_lacks (Get name key) g h n of lacks short = absurd short
+      log_lacks (Scan name low high) g h n of lacks short = absurd short
       log_lacks Save g h n of lacks short = absurd short
       log_lacks (Back m) g h n of lacks short = absurd short
       log_lacks Commit g h n of lacks short = absurd short
@@ -158,23 +159,23 @@ module _ (index : below.Index) (p : PagesView) (s : State) (indexed : s.index �
 
       pub slot_lacks : (call : Call) (n : ℕ) → IsOfTable call → table_causes.LacksSlot index p n call → n ≡ slots_of p.store.shape
           → Lacks (limits_of p.store.shape) s t call (reply.SlotsFull n)
-      slot_lacks (Put key value) n of lacks most = subst (λ (o : Option ℕ). LacksAt (limits_of p.store.shape) s t (of_main key) o (reply.SlotsFull n)) (sym lacks.0 ∙ found_is (of_main key))
+      slot_lacks (Put name key value) n of lacks most = subst (λ (o : Option ℕ). LacksAt (limits_of p.store.shape) s t (of_table name key) o (reply.SlotsFull n)) (sym lacks.0 ∙ found_is (of_table name key))
           (ap (λ (ix : Index). ix.used_slots) indexed ∙ lacks.1 ∙ most, most)
-      slot_lacks (Get key) n of lacks most = absurd lacks
-      slot_lacks (Del key) n of lacks most = absurd lacks
-      slot_lacks (Scan low high) n of lacks most = absurd lacks
+      slot_lacks (Get name key) n of lacks most = absurd lacks
+      slot_lacks (Del name key) n of lacks most = absurd lacks
+      slot_lacks (Scan name low high) n of lacks most = absurd lacks
       slot_lacks Save n of lacks most = absurd lacks
       slot_lacks (Back m) n of lacks most = absurd lacks
       slot_lacks Commit n of lacks most = absurd lacks
       slot_lacks Abort n of lacks most = absurd lacks
       slot_lacks Begin n of lacks most = absurd lacks
 
-      pub page_lacks : (call : Call) (n : ℕ) → IsOfTable call → table_causes.LacksPage index 0 p t call → n ≡ (limits_of p.store.shape).index_pages - 1
+      pub page_lacks : (call : Call) (n : ℕ) → IsOfTable call → table_causes.LacksPage index table p t call → n ≡ (limits_of p.store.shape).index_pages - 1
           → Lacks (limits_of p.store.shape) s t call (reply.PagesFull n)
-      page_lacks (Put key value) n of lacks most = subst (λ (o : Option ℕ). LacksAt (limits_of p.store.shape) s t (of_main key) o (reply.PagesFull n)) (sym lacks.0 ∙ found_is (of_main key)) (slot_left lacks.1.0, most)
-      page_lacks (Get key) n of lacks most = absurd lacks
-      page_lacks (Del key) n of lacks most = absurd lacks
-      page_lacks (Scan low high) n of lacks most = absurd lacks
+      page_lacks (Put name key value) n of lacks most = subst (λ (o : Option ℕ). LacksAt (limits_of p.store.shape) s t (of_table name key) o (reply.PagesFull n)) (sym lacks.0 ∙ found_is (of_table name key)) (slot_left lacks.1.0, most)
+      page_lacks (Get name key) n of lacks most = absurd lacks
+      page_lacks (Del name key) n of lacks most = absurd lacks
+      page_lacks (Scan name low high) n of lacks most = absurd lacks
       page_lacks Save n of lacks most = absurd lacks
       page_lacks (Back m) n of lacks most = absurd lacks
       page_lacks Commit n of lacks most = absurd lacks

@@ -9,13 +9,14 @@ use Rattle.array_shape.specs.declared.shape.Shape.{Shape}
 use Rattle.eaw_face.specs.Causes.{IsAlive}
 use Rattle.page_store.specs.Index as below
 use Rattle.page_store.specs.Shown.{PagesView}
+use Rattle.history.specs.Rows.{NamedRows}
 use Rattle.history.specs.Table.{Granted, has_save}
-use Rattle.history.specs.Locks.{Meets}
+use Rattle.history.specs.Locks.{Meets, has_table}
 use Rattle.history.specs.Log.{log_of}
 use Rattle.history.specs.declared.call.Call.{Call}
 use Rattle.history.specs.declared.call.Call.TheVariants.{Begin, Get, Put, Del, Scan, Save, Back, Commit, Abort}
 use Rattle.history.specs.declared.call.Reply.{Reply}
-use Rattle.history.specs.declared.call.Reply.TheVariants.{Fine, Busy, NoMemory, SavesFull, NoSave, NoTransaction}
+use Rattle.history.specs.declared.call.Reply.TheVariants.{Fine, Busy, NoMemory, SavesFull, NoSave, NoTransaction, NoTable}
 use Rattle.record_table.specs.Shown.{state_of}
 use Rattle.caller_steps.specs.State.{State, calls_of, records_of, view_of, with_live}
 use Rattle.caller_steps.specs.Locked.{Blocks, IsFree, IsBusyWith}
@@ -26,7 +27,7 @@ use Rattle.caller_steps.specs.Core.{IsSafe, Steps}
 use Rattle.caller_steps.proofs.Sound.{step_sound}
 use Rattle.mars_core.specs.declared.table_call.TableCall.{TableCall}
 use Rattle.mars_core.specs.declared.table_call.TableCall.TheVariants as table_call
-use Rattle.mars_core.specs.TableCall.{call_of}
+use Rattle.mars_core.specs.TableCall.{call_of, number_for}
 use Rattle.mars_core.specs.Over.{limits_of}
 use Rattle.mars_core.specs.Held.{core_over}
 use Rattle.mars_core.specs.Kept.{IsTied, IsKept}
@@ -34,6 +35,7 @@ use Rattle.mars_core.specs.Works.{HasSaves, IsSaveRefusal, IsShown}
 use Rattle.mars_core.proofs.Touching.{both}
 use Rattle.mars_core.proofs.Mirroring.{IsOfTable, calls_there, mirrors_at, saves_are, has_saves}
 use Rattle.mars_core.proofs.Entering.{room_empty}
+use Rattle.mars_core.proofs.Idle.{no_calls, idle_after}
 use Rattle.mars_core.proofs.Prefixes.{StoreLaws, safe_alive}
 use Rattle.mars_core.proofs.Stepping.{ShowsPages, or_false, step_of, asks_at, steps_same, steps_of, counts_is, saves_at}
 
@@ -75,12 +77,12 @@ module _ (live : ℕ → Option Granted) (t : ℕ) where
   changed_twice x y mid new first second = second ∙ ap (λ (f : ℕ → Option Granted). update nat_eq f t y) first ∙ update_twice x y
 
 -- Which callers hold the keys of a call does not depend on what its own caller touched.
-module _ (s mid : State) (t : ℕ) (x : Option Granted) (live : mid.live ≡ update nat_eq s.live t x) (call : Call) where
+module _ (s mid : State) (t : ℕ) (x : Option Granted) (live : mid.live ≡ update nat_eq s.live t x) (names : mid.names ≡ s.names) (call : Call) where
   blocks_to : (holder : ℕ) → Blocks mid t call holder → Blocks s t call holder
-  blocks_to holder (ne, meets) = (ne, subst (λ (cs : Granted). Meets call cs) (calls_there s mid t x live holder ne) meets)
+  blocks_to holder (ne, meets) = (ne, subst (λ (y : List (List ℕ) × Granted). Meets y.0 call y.1) (λ i. (names i, calls_there s mid t x live holder ne i)) meets)
 
   blocks_from : (holder : ℕ) → Blocks s t call holder → Blocks mid t call holder
-  blocks_from holder (ne, meets) = (ne, subst (λ (cs : Granted). Meets call cs) (sym (calls_there s mid t x live holder ne)) meets)
+  blocks_from holder (ne, meets) = (ne, subst (λ (y : List (List ℕ) × Granted). Meets y.0 call y.1) (λ i. (sym names i, sym (calls_there s mid t x live holder ne) i)) meets)
 
   pub free_after : IsFree s t call → IsFree mid t call
   free_after free holder blocks = free holder (blocks_to holder blocks)
@@ -95,7 +97,7 @@ no_saves : {A : Type 0} (saves : List A) (n : ℕ) → ((0 < n) × (n ≤ length
 no_saves saves n none = false_from_ne_true (has_save saves n) (λ there.
     let parts = both (nat_lt 0 n) (nat_le n (length saves)) there in none (ltb-true 0 n parts.0, leb-true n (length saves) parts.1))
 
-module _ (tells : Bool) (Opens : Shape → List ℕ → List ℕ → Type 0) (index : below.Index) (p : PagesView) (s : State) (shows : ShowsPages index p s) (count : ℕ) (rows : List (ℕ × List ℕ))
+module _ (tells : Bool) (Opens : Shape → List ℕ → List ℕ → Type 0) (index : below.Index) (p : PagesView) (s : State) (shows : ShowsPages index p s) (count : ℕ) (rows : List NamedRows)
     (kept : IsKept tells Opens index p count rows s) (alive : IsAlive p.store) (tells_writes : IsShown tells index p) (t : ℕ) (call : Call) (calls : Granted) (is : s.live t ≡ Some calls) where
   module _ (told : IsTrue tells) where
     tied : IsTied index p s
@@ -112,10 +114,10 @@ module _ (tells : Bool) (Opens : Shape → List ℕ → List ℕ → Type 0) (in
           has_saves (state_of index p) s tied.mirrors t (tied.sound.right t) n ∙ no_saves (((state_of index p).logs t).saved) n (subst (λ (k : ℕ). (0 < n) × (n ≤ k) → ⊥) (sym (counts_is index p t)) refused.0),
           (refl, refl),
         )))
-    save_step (Get key) answer refused = absurd refused
-    save_step (Put key value) answer refused = absurd refused
-    save_step (Del key) answer refused = absurd refused
-    save_step (Scan low high) answer refused = absurd refused
+    save_step (Get name key) answer refused = absurd refused
+    save_step (Put name key value) answer refused = absurd refused
+    save_step (Del name key) answer refused = absurd refused
+    save_step (Scan name low high) answer refused = absurd refused
     save_step Commit answer refused = absurd refused
     save_step Abort answer refused = absurd refused
     save_step Begin answer refused = absurd refused
@@ -129,10 +131,10 @@ module _ (tells : Bool) (Opens : Shape → List ℕ → List ℕ → Type 0) (in
       refusal : (c : Call) (r : Reply) → IsSaveRefusal (length (p.counts t)) c r → (is_refusal r ≡ true) × (is_media r ≡ false) × (is_committed r ≡ false)
       refusal Save r refused = subst (λ (x : Reply). (is_refusal x ≡ true) × (is_media x ≡ false) × (is_committed x ≡ false)) (sym refused.1) (refl, refl, refl)
       refusal (Back n) r refused = subst (λ (x : Reply). (is_refusal x ≡ true) × (is_media x ≡ false) × (is_committed x ≡ false)) (sym refused.1) (refl, refl, refl)
-      refusal (Get key) r refused = absurd refused
-      refusal (Put key value) r refused = absurd refused
-      refusal (Del key) r refused = absurd refused
-      refusal (Scan low high) r refused = absurd refused
+      refusal (Get name key) r refused = absurd refused
+      refusal (Put name key value) r refused = absurd refused
+      refusal (Del name key) r refused = absurd refused
+      refusal (Scan name low high) r refused = absurd refused
       refusal Commit r refused = absurd refused
       refusal Abort r refused = absurd refused
       refusal Begin r refused = absurd refused
@@ -141,26 +143,42 @@ module _ (tells : Bool) (Opens : Shape → List ℕ → List ℕ → Type 0) (in
     has : HasSaves (length ((state_of index p).logs t).saved) call
     has = subst (λ (n : ℕ). HasSaves n call) (sym (counts_is index p t)) saves
 
+    -- since its table is not there
+    pub table_refused : number_for s.names call ≡ None → Steps tells t call (core_over Opens index p.store s) (core_over Opens index p.store new) NoTable
+    table_refused none = steps_same tells Opens index p s new t call NoTable same kept.safe refl refl refl (λ told.
+        step_of (limits_of p.store.shape) (Some calls) s s t call NoTable (shows.dead ∙ alive) is (none_at call none))
+      where
+        none_at : (c : Call) → number_for s.names c ≡ None → StepAt (limits_of p.store.shape) (Some calls) s t c NoTable s
+        none_at (Get name key) none = inl (ap is_some none, (refl, refl))
+        none_at (Put name key value) none = inl (ap is_some none, (refl, refl))
+        none_at (Del name key) none = inl (ap is_some none, (refl, refl))
+        none_at (Scan name low high) none = inl (ap is_some none, (refl, refl))
+        none_at Save none = absurd (cc)
+        none_at (Back n) none = absurd (cc)
+        none_at Commit none = absurd (cc)
+        none_at Abort none = absurd (cc)
+        none_at Begin none = absurd (cc)
+
     -- for lack of memory
-    pub memory_refused : Steps tells t call (core_over Opens index p.store s) (core_over Opens index p.store new) NoMemory
-    memory_refused = steps_same tells Opens index p s new t call NoMemory same kept.safe refl refl refl (λ told.
-        step_of (limits_of p.store.shape) (Some calls) s s t call NoMemory (shows.dead ∙ alive) is (asks_at (limits_of p.store.shape) calls s s t call NoMemory of
-        (saves_at index p s shows (tied told).mirrors (tells_writes.held told alive) t ((tied told).sound.right t) call has) (inl (refl, refl))))
+    pub memory_refused : has_table s.names call ≡ true → Steps tells t call (core_over Opens index p.store s) (core_over Opens index p.store new) NoMemory
+    memory_refused there = steps_same tells Opens index p s new t call NoMemory same kept.safe refl refl refl (λ told.
+        step_of (limits_of p.store.shape) (Some calls) s s t call NoMemory (shows.dead ∙ alive) is (asks_at (limits_of p.store.shape) calls s s t call NoMemory of there
+        (saves_at index 0 p s shows (tied told).mirrors (tells_writes.held told alive) t ((tied told).sound.right t) call has) (inl (refl, refl))))
 
     -- because another caller holds its keys
-    pub busy_refused : (holder : ℕ) → IsBusyWith s t call holder → Steps tells t call (core_over Opens index p.store s) (core_over Opens index p.store new) (Busy holder)
-    busy_refused holder busy = steps_same tells Opens index p s new t call (Busy holder) same kept.safe refl refl refl (λ told.
-        step_of (limits_of p.store.shape) (Some calls) s s t call (Busy holder) (shows.dead ∙ alive) is (asks_at (limits_of p.store.shape) calls s s t call (Busy holder) of
-        (saves_at index p s shows (tied told).mirrors (tells_writes.held told alive) t ((tied told).sound.right t) call has) (inr (inl (holder, busy, (refl, refl))))))
+    pub busy_refused : has_table s.names call ≡ true → (holder : ℕ) → IsBusyWith s t call holder → Steps tells t call (core_over Opens index p.store s) (core_over Opens index p.store new) (Busy holder)
+    busy_refused there holder busy = steps_same tells Opens index p s new t call (Busy holder) same kept.safe refl refl refl (λ told.
+        step_of (limits_of p.store.shape) (Some calls) s s t call (Busy holder) (shows.dead ∙ alive) is (asks_at (limits_of p.store.shape) calls s s t call (Busy holder) of there
+        (saves_at index 0 p s shows (tied told).mirrors (tells_writes.held told alive) t ((tied told).sound.right t) call has) (inr (inl (holder, busy, (refl, refl))))))
 
 -- the invariant holds after no change
-pub kept_same : (tells : Bool) (Opens : Shape → List ℕ → List ℕ → Type 0) (index : below.Index) (p : PagesView) (s new : State) (count count' : ℕ) (rows : List (ℕ × List ℕ))
+pub kept_same : (tells : Bool) (Opens : Shape → List ℕ → List ℕ → Type 0) (index : below.Index) (p : PagesView) (s new : State) (count count' : ℕ) (rows : List NamedRows)
     → IsKept tells Opens index p count rows s → count' ≡ count → new ≡ s → IsKept tells Opens index p count' rows new
 kept_same tells Opens index p s new count count' rows kept counts same =
     subst (λ (x : State). IsKept tells Opens index p count' rows x) (sym same) (subst (λ (n : ℕ). IsKept tells Opens index p n rows s) (sym counts) kept)
 
 module _ (tells : Bool) (Opens : Shape → List ℕ → List ℕ → Type 0) (index : below.Index) (p : PagesView) (laws : StoreLaws tells Opens p.store) (s new : State) (shows : ShowsPages index p s) (count count' : ℕ)
-    (same_count : count' ≡ count) (rows : List (ℕ × List ℕ)) (kept : IsKept tells Opens index p count rows s) (alive : IsAlive p.store) (t : ℕ) (none : s.live t ≡ None)
+    (same_count : count' ≡ count) (rows : List NamedRows) (kept : IsKept tells Opens index p count rows s) (alive : IsAlive p.store) (t : ℕ) (none : s.live t ≡ None)
     (begins : new ≡ with_live s t (Some [])) where
   live_is : new.live ≡ update nat_eq s.live t (Some [])
   live_is = ap (λ (x : State). x.live) begins
@@ -175,6 +193,7 @@ module _ (tells : Bool) (Opens : Shape → List ℕ → List ℕ → Type 0) (in
         let at : calls_of s t ≡ [] = ap (λ (o : Option Granted). unwrap_or o []) none in
         record {
           index_sound = was.index_sound;
+          named = ap (λ (x : State). x.names) begins ∙ was.named;
           mirrors = mirrors_at (state_of index p) s was.mirrors (state_of index p) new t (Some []) live_is (was.mirrors.table ∙ sym (ap records_of begins))
               (was.mirrors.logs t ∙ ap (λ (cs : Granted). log_of cs) at) (λ u ne. refl);
           sound = step_sound (limits_of p.store.shape) s t Begin Fine new was.sound step;
@@ -186,10 +205,17 @@ module _ (tells : Bool) (Opens : Shape → List ℕ → List ℕ → Type 0) (in
 
   -- a begin
   pub begun_keeps : IsKept tells Opens index p count' rows new
-  begun_keeps = record { seats = same_count ∙ kept.seats; in_order = kept.in_order; tied = λ told _. tied_new told; safe = safe_new }
+  begun_keeps = record {
+    seats = same_count ∙ kept.seats;
+    in_order = kept.in_order;
+    idle = λ living. idle_after p.store.ranges p.store.ranges s.live new.live t (λ u ne. refl) (kept.idle living) (Some []) live_is (λ e. absurd (no_calls [] e));
+    tied = λ told _. tied_new told;
+    safe = safe_new;
+  }
 
   pub begun_steps : Steps tells t Begin (core_over Opens index p.store s) (core_over Opens index p.store new) Fine
   begun_steps = steps_of tells Opens index p p s new t Begin Fine refl (record {
+    names = ap (λ (x : State). x.names) begins;
     base = ap (λ (x : State). x.base) begins;
     history = ap (λ (x : State). x.history) begins;
     dead = ap (λ (x : State). x.is_dead) begins ∙ sym (or_false s.is_dead);
@@ -200,17 +226,17 @@ module _ (tells : Bool) (Opens : Shape → List ℕ → List ℕ → Type 0) (in
 
 -- a call of the table outside of a transaction
 absent_at : (limits : Limits) (s : State) (t : ℕ) (call : TableCall) → StepAt limits None s t (call_of call) NoTransaction s
-absent_at limits s t (table_call.Get key) = (refl, refl)
-absent_at limits s t (table_call.Put key value) = (refl, refl)
-absent_at limits s t (table_call.Del key) = (refl, refl)
-absent_at limits s t (table_call.Scan low high) = (refl, refl)
+absent_at limits s t (table_call.Get name key) = (refl, refl)
+absent_at limits s t (table_call.Put name key value) = (refl, refl)
+absent_at limits s t (table_call.Del name key) = (refl, refl)
+absent_at limits s t (table_call.Scan name low high) = (refl, refl)
 absent_at limits s t table_call.Save = (refl, refl)
 absent_at limits s t (table_call.Back n) = (refl, refl)
 
 pub is_absent_at : (limits : Limits) (s : State) (t : ℕ) (asked : TableCall) (call : Call) → call_of asked ≡ call → StepAt limits None s t call NoTransaction s
 is_absent_at limits s t asked call said = subst (λ (c : Call). StepAt limits None s t c NoTransaction s) said (absent_at limits s t asked)
 
-pub absent_steps : (tells : Bool) (Opens : Shape → List ℕ → List ℕ → Type 0) (index : below.Index) (p : PagesView) (s : State) → ShowsPages index p s → (count : ℕ) (rows : List (ℕ × List ℕ)) → IsKept tells Opens index p count rows s
+pub absent_steps : (tells : Bool) (Opens : Shape → List ℕ → List ℕ → Type 0) (index : below.Index) (p : PagesView) (s : State) → ShowsPages index p s → (count : ℕ) (rows : List NamedRows) → IsKept tells Opens index p count rows s
     → IsAlive p.store → (t : ℕ) (call : Call) → s.live t ≡ None → StepAt (limits_of p.store.shape) None s t call NoTransaction s → (new : State) → new ≡ s
     → Steps tells t call (core_over Opens index p.store s) (core_over Opens index p.store new) NoTransaction
 absent_steps tells Opens index p s shows count rows kept alive t call none at new same = steps_same tells Opens index p s new t call NoTransaction same kept.safe refl refl refl (λ told.

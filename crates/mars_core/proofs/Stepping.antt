@@ -13,8 +13,9 @@ use Rattle.eaw_face.specs.StoreView.{LeavesOnly}
 use Rattle.page_store.specs.Index as below
 use Rattle.page_store.specs.Shown.{PagesView}
 use Rattle.history.specs.Writes.{Table, Write}
-use Rattle.history.specs.Key.{of_main}
+use Rattle.history.specs.Key.{of_table}
 use Rattle.history.specs.Table.{Granted, IsRight, has_save, removed}
+use Rattle.history.specs.Locks.{has_table}
 use Rattle.history.specs.Legal.{records}
 use Rattle.history.specs.Log.{Log, log_of}
 use Rattle.history.specs.declared.call.Call.{Call}
@@ -59,9 +60,10 @@ or_true true = refl
 or_true false = refl
 
 -- a refused call moves nothing
-pub moves_refused : (s new : State) (t : ℕ) (call : Call) (answer : Reply) → new.base ≡ s.base → new.history ≡ s.history → new.live ≡ s.live → new.is_dead ≡ (s.is_dead || is_media answer)
+pub moves_refused : (s new : State) (t : ℕ) (call : Call) (answer : Reply) → new.names ≡ s.names → new.base ≡ s.base → new.history ≡ s.history → new.live ≡ s.live → new.is_dead ≡ (s.is_dead || is_media answer)
     → is_refusal answer ≡ true → is_committed answer ≡ false → Moves s t call answer new
-moves_refused s new t call answer base history live dead refusal plain = record {
+moves_refused s new t call answer names base history live dead refusal plain = record {
+  names = names;
   base = base;
   history = history ∙ sym (ap (λ (b : Bool). if b then history_after s t (reply.Committed 0) else s.history) plain);
   dead = dead;
@@ -75,10 +77,10 @@ media_none reply.Media e = absurd (cc)
 media_none _ e = refl
 
 live_with_is : (calls : Granted) (call : Call) (answer : Reply) → IsOfTable call → live_with calls call answer ≡ Some (calls ++ (call, answer) ∷ [])
-live_with_is calls (Get key) answer of = refl
-live_with_is calls (Put key value) answer of = refl
-live_with_is calls (Del key) answer of = refl
-live_with_is calls (Scan low high) answer of = refl
+live_with_is calls (Get name key) answer of = refl
+live_with_is calls (Put name key value) answer of = refl
+live_with_is calls (Del name key) answer of = refl
+live_with_is calls (Scan name low high) answer of = refl
 live_with_is calls Save answer of = refl
 live_with_is calls (Back n) answer of = refl
 live_with_is calls Commit answer of = absurd of
@@ -86,9 +88,10 @@ live_with_is calls Abort answer of = absurd of
 live_with_is calls Begin answer of = absurd of
 
 -- what a granted call moves
-pub moves_granted : (s new : State) (t : ℕ) (calls : Granted) (call : Call) (answer : Reply) → new.base ≡ s.base → new.history ≡ s.history → new.is_dead ≡ s.is_dead
+pub moves_granted : (s new : State) (t : ℕ) (calls : Granted) (call : Call) (answer : Reply) → new.names ≡ s.names → new.base ≡ s.base → new.history ≡ s.history → new.is_dead ≡ s.is_dead
     → s.live t ≡ Some calls → new.live ≡ update nat_eq s.live t (Some (calls ++ (call, answer) ∷ [])) → IsOfTable call → is_refusal answer ≡ false → is_committed answer ≡ false → Moves s t call answer new
-moves_granted s new t calls call answer base history dead is live of granted plain = record {
+moves_granted s new t calls call answer names base history dead is live of granted plain = record {
+  names = names;
   base = base;
   history = history ∙ sym (ap (λ (b : Bool). if b then history_after s t (reply.Committed 0) else s.history) plain);
   dead = dead ∙ sym (ap (λ (b : Bool). s.is_dead || b) (media_none answer granted) ∙ or_false s.is_dead);
@@ -109,16 +112,16 @@ SavesAt s t Save = length (view_of s t).saves < most_saves
 SavesAt s t (Back n) = IsTrue (has_save (view_of s t).saves n)
 SavesAt s t _ = Unit {0}
 
-pub asks_at : (limits : Limits) (calls : Granted) (s new : State) (t : ℕ) (call : Call) (answer : Reply) → IsOfTable call → SavesAt s t call → Asks limits calls s t call answer new → StepAt limits (Some calls) s t call answer new
-asks_at limits calls s new t (Get key) answer of saves asks = asks
-asks_at limits calls s new t (Put key value) answer of saves asks = asks
-asks_at limits calls s new t (Del key) answer of saves asks = asks
-asks_at limits calls s new t (Scan low high) answer of saves asks = asks
-asks_at limits calls s new t Save answer of saves asks = inr (saves, asks)
-asks_at limits calls s new t (Back n) answer of saves asks = inr (saves, asks)
-asks_at limits calls s new t Commit answer of saves asks = absurd of
-asks_at limits calls s new t Abort answer of saves asks = absurd of
-asks_at limits calls s new t Begin answer of saves asks = absurd of
+pub asks_at : (limits : Limits) (calls : Granted) (s new : State) (t : ℕ) (call : Call) (answer : Reply) → IsOfTable call → has_table s.names call ≡ true → SavesAt s t call → Asks limits calls s t call answer new → StepAt limits (Some calls) s t call answer new
+asks_at limits calls s new t (Get name key) answer of there saves asks = inr (there, asks)
+asks_at limits calls s new t (Put name key value) answer of there saves asks = inr (there, asks)
+asks_at limits calls s new t (Del name key) answer of there saves asks = inr (there, asks)
+asks_at limits calls s new t (Scan name low high) answer of there saves asks = inr (there, asks)
+asks_at limits calls s new t Save answer of there saves asks = inr (saves, asks)
+asks_at limits calls s new t (Back n) answer of there saves asks = inr (saves, asks)
+asks_at limits calls s new t Commit answer of there saves asks = absurd of
+asks_at limits calls s new t Abort answer of there saves asks = absurd of
+asks_at limits calls s new t Begin answer of there saves asks = absurd of
 
 module _ (tells : Bool) (Opens : Shape → List ℕ → List ℕ → Type 0) (index : below.Index) where
   pub steps_of : (p q : PagesView) (s new : State) (t : ℕ) (call : Call) (answer : Reply) → q.store.shape ≡ p.store.shape → Moves s t call answer new
@@ -142,7 +145,7 @@ module _ (tells : Bool) (Opens : Shape → List ℕ → List ℕ → Type 0) (in
       → Steps tells t call (core_over Opens index p.store s) (core_over Opens index p.store new) answer
   steps_same p s new t call answer same safe refusal no_media plain step =
       subst (λ (x : State). Steps tells t call (core_over Opens index p.store s) (core_over Opens index p.store x) answer) (sym same)
-      (steps_of p p s s t call answer refl (moves_refused s s t call answer refl refl refl (sym (ap (λ (b : Bool). s.is_dead || b) no_media ∙ or_false s.is_dead)) refusal plain)
+      (steps_of p p s s t call answer refl (moves_refused s s t call answer refl refl refl refl (sym (ap (λ (b : Bool). s.is_dead || b) no_media ∙ or_false s.is_dead)) refusal plain)
       (λ failed. absurd (false≢true (sym no_media ∙ failed))) (λ _. refl) step (λ told. stays p.store.moment p.store.left_since _) safe)
 
   -- what a loss of power leaves within a call that does not change the table
@@ -166,16 +169,16 @@ module _ (tells : Bool) (Opens : Shape → List ℕ → List ℕ → Type 0) (in
 pub counts_is : (index : below.Index) (p : PagesView) (t : ℕ) → length ((state_of index p).logs t).saved ≡ length (p.counts t)
 counts_is index p t = length-map _ (shown.writes_of p.store.state.bytes) ∙ length-map (p.counts t) _
 
-module _ (index : below.Index) (p : PagesView) (s : State) (shows : ShowsPages index p s) (mirrors : Mirrors (state_of index p) s)
+module _ (index : below.Index) (table : ℕ) (p : PagesView) (s : State) (shows : ShowsPages index p s) (mirrors : Mirrors (state_of index p) s)
     (held : (t g : ℕ) → held_on p t g ≡ length (filter (is_write_on p.store.shape (pairs_of index p.store.state.bytes) g) ((state_of index p).logs t).writes)) (t : ℕ) (right : IsRight (records_of s) (calls_of s t)) where
   -- the saves that a call finds are its caller's
   pub saves_at : (call : Call) → HasSaves (length ((state_of index p).logs t).saved) call → SavesAt s t call
   saves_at Save saves = subst (λ (n : ℕ). n < 32) (saves_are (state_of index p) s mirrors t right) saves
   saves_at (Back n) saves = has_saves (state_of index p) s mirrors t right n ∙ has_save_is ((state_of index p).logs t).saved n saves.0 saves.1
-  saves_at (Get key) saves = tt
-  saves_at (Put key value) saves = tt
-  saves_at (Del key) saves = tt
-  saves_at (Scan low high) saves = tt
+  saves_at (Get name key) saves = tt
+  saves_at (Put name key value) saves = tt
+  saves_at (Del name key) saves = tt
+  saves_at (Scan name low high) saves = tt
   saves_at Commit saves = tt
   saves_at Abort saves = tt
   saves_at Begin saves = tt
@@ -183,30 +186,30 @@ module _ (index : below.Index) (p : PagesView) (s : State) (shows : ShowsPages i
   pub returns_at : (calls : Granted) → calls_of s t ≡ calls → (call : Call) → HasSaves (length ((state_of index p).logs t).saved) call → Returns (log_of calls).saved call
   returns_at calls at (Back n) saves =
       subst (λ (ls : List (List Write)). has_save ls n ≡ true) (ap (λ (l : Log). l.saved) (mirrors.logs t) ∙ ap (λ (cs : Granted). (log_of cs).saved) at) (has_save_is ((state_of index p).logs t).saved n saves.0 saves.1)
-  returns_at calls at (Get key) saves = tt
-  returns_at calls at (Put key value) saves = tt
-  returns_at calls at (Del key) saves = tt
-  returns_at calls at (Scan low high) saves = tt
+  returns_at calls at (Get name key) saves = tt
+  returns_at calls at (Put name key value) saves = tt
+  returns_at calls at (Del name key) saves = tt
+  returns_at calls at (Scan name low high) saves = tt
   returns_at calls at Save saves = tt
   returns_at calls at Commit saves = tt
   returns_at calls at Abort saves = tt
   returns_at calls at Begin saves = tt
 
   -- if a call writes, it finds an entry
-  pub enters_at : (call : Call) (answer : Reply) (ix : Index) → IsOfTable call → table_causes.Fits index 0 p t call → Replies (state_of index p) t call answer
+  pub enters_at : (call : Call) (answer : Reply) (ix : Index) → IsOfTable call → table_causes.Fits index table p t call → Replies (state_of index p) t call answer
       → Indexes (limits_of p.store.shape) call answer s.index ix → Enters (limits_of p.store.shape) s t ix call answer
-  enters_at (Put key value) answer ix of fits replies indexes =
-      let after = slot_after (limits_of p.store.shape) (of_main key) (s.index.slot_of (of_main key)) s.index ix refl (subst (λ (r : Reply). IndexesAt (limits_of p.store.shape) (of_main key) (s.index.slot_of (of_main key)) r s.index ix) replies indexes) in
-      (after.0, after.1, subst (λ (slot : ℕ). HasEntry (limits_of p.store.shape) s t (of_main key) slot) (sym after.2) (fits_is index p s shows.indexed mirrors held t right (Put key value) of fits))
-  enters_at (Del key) answer ix of fits replies indexes = subst (Enters (limits_of p.store.shape) s t ix (Del key)) (sym replies) (go (get (seen_by (state_of index p) t) (of_main key)) refl)
+  enters_at (Put name key value) answer ix of fits replies indexes =
+      let after = slot_after (limits_of p.store.shape) (of_table name key) (s.index.slot_of (of_table name key)) s.index ix refl (subst (λ (r : Reply). IndexesAt (limits_of p.store.shape) (of_table name key) (s.index.slot_of (of_table name key)) r s.index ix) replies indexes) in
+      (after.0, after.1, subst (λ (slot : ℕ). HasEntry (limits_of p.store.shape) s t (of_table name key) slot) (sym after.2) (fits_is index table p s shows.indexed mirrors held t right (Put name key value) of fits))
+  enters_at (Del name key) answer ix of fits replies indexes = subst (Enters (limits_of p.store.shape) s t ix (Del name key)) (sym replies) (go (get (seen_by (state_of index p) t) (of_table name key)) refl)
     where
-      go : (o : Option (List ℕ)) → get (seen_by (state_of index p) t) (of_main key) ≡ o → Enters (limits_of p.store.shape) s t ix (Del key) (removed o)
+      go : (o : Option (List ℕ)) → get (seen_by (state_of index p) t) (of_table name key) ≡ o → Enters (limits_of p.store.shape) s t ix (Del name key) (removed o)
       go None none = tt
       go (Some value) some =
           let at = fits (ap is_some some) in
-          (at.0, ap (λ (x : Index). x.slot_of (of_main key)) (indexes ∙ shows.indexed) ∙ at.1, has_entry index p s shows.indexed mirrors held t (of_main key) at.0 at.2)
-  enters_at (Get key) answer ix of fits replies indexes = tt
-  enters_at (Scan low high) answer ix of fits replies indexes = tt
+          (at.0, ap (λ (x : Index). x.slot_of (of_table name key)) (indexes ∙ shows.indexed) ∙ at.1, has_entry index table p s shows.indexed mirrors held t (of_table name key) at.0 at.2)
+  enters_at (Get name key) answer ix of fits replies indexes = tt
+  enters_at (Scan name low high) answer ix of fits replies indexes = tt
   enters_at Save answer ix of fits replies indexes = tt
   enters_at (Back n) answer ix of fits replies indexes = tt
   enters_at Commit answer ix of fits replies indexes = tt

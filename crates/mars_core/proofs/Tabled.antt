@@ -26,6 +26,7 @@ use Rattle.record_table.specs.declared.making.MakeFault.{MakeFault}
 use Rattle.record_table.specs.declared.making.MakeFault.TheVariants as make
 use Rattle.mars_core.specs.Making.{OpensAsNamed, OpensWithName, MakesTable}
 use Rattle.mars_core.proofs.Prefixes.{StoreLaws, sound_after}
+use Rattle.eaw_face.proofs.Mirroring.{sent_then}
 
 with_name : (Opens : List ℕ → List ℕ → Type 0) (index : Index) (image : List ℕ) (names : List (List ℕ)) (table : Table) → OpensNamed Opens index image names table → OpensWith Opens index image table
 with_name Opens index image names table o = record { bytes = o.bytes; opened = o.opened; sound = o.sound; shows = o.shows }
@@ -113,6 +114,7 @@ module _ (tells : Bool) (Opens : Shape → List ℕ → List ℕ → Type 0) (in
   pub made_table : (result : Result ℕ MakeFault) → Makes tells (Opens q.store.shape) index name q r result → MakesTable tells (Opens p.store.shape) index name p.store r.store result
   made_table result makes = record {
     shape = shape result makes;
+    mirrors = sent_then tells p.store q.store r.store attached.looks.mirrors makes.mirrors;
     sound = attached.sound;
     cause = moved_cause tells name p.store q.store attached.alive still.0 attached.looks.shape (λ told. bytes result makes told) result makes.cause;
     kept = λ well. ((makes.faults well).0 ∙ still.0, (makes.faults well).1 ∙ still.1);

@@ -8,7 +8,8 @@ use Rattle.std.proofs.lemmas.Nat.Bits.{bit_at-zero, bit_at_and, bit_at_or, bit_a
 use Rattle.history.specs.Table.{Granted}
 use Rattle.history.specs.declared.locks.Mode.{Mode}
 use Rattle.history.specs.declared.locks.Mode.TheVariants.{Shared, Exclusive}
-use Rattle.history.specs.Key.{Key, of_main}
+use Rattle.history.specs.Key.{of_table}
+use Rattle.history.specs.declared.key.Key.{Key}
 use Rattle.history.specs.Locks.{Touch, key_stripe, touches, touched, is_touch, clash}
 use Rattle.history.specs.declared.call.Call.{Call}
 use Rattle.history.specs.declared.call.Call.TheVariants.{Get, Put, Del, Scan}
@@ -17,10 +18,10 @@ use Rattle.history.proofs.OneMore.{touched-push}
 use Rattle.mars_core.specs.declared.masks.Masks.{Masks}
 use Rattle.mars_core.specs.Masks.{IsMaskOf, AreMasksOf}
 
-key_mask : (key : Key) (stripe : ℕ) → bit_at (2 ^ key_stripe key) stripe ≡ cond (nat_eq (key_stripe key) stripe) 1 0
-key_mask key stripe = elim (cases_eq stripe (key_stripe key)) [
-  | inl is ↦ ap (bit_at (2 ^ key_stripe key)) is ∙ bit_at-pow_same (key_stripe key) ∙ ap (λ (b : Bool). cond b 1 0) (sym (eq-eqb (key_stripe key) stripe (sym is)))
-  | inr ne ↦ bit_at-pow_other (key_stripe key) stripe ne ∙ ap (λ (b : Bool). cond b 1 0) (sym (ne_eqb (key_stripe key) stripe (λ e. ne (sym e))))
+key_mask : (names : List (List ℕ)) (key : Key) (stripe : ℕ) → bit_at (2 ^ key_stripe names key) stripe ≡ cond (nat_eq (key_stripe names key) stripe) 1 0
+key_mask names key stripe = elim (cases_eq stripe (key_stripe names key)) [
+  | inl is ↦ ap (bit_at (2 ^ key_stripe names key)) is ∙ bit_at-pow_same (key_stripe names key) ∙ ap (λ (b : Bool). cond b 1 0) (sym (eq-eqb (key_stripe names key) stripe (sym is)))
+  | inr ne ↦ bit_at-pow_other (key_stripe names key) stripe ne ∙ ap (λ (b : Bool). cond b 1 0) (sym (ne_eqb (key_stripe names key) stripe (λ e. ne (sym e))))
 ]
 
 scan_mask : (stripe : ℕ) → bit_at (2 ^ 64 - 1) stripe ≡ cond (nat_lt stripe 64) 1 0
@@ -33,17 +34,18 @@ scan_mask stripe = elim (cases_lt stripe 64) [
 pub none_masks : AreMasksOf (λ stripe mode. false) (record { reads = 0; writes = 0 })
 none_masks = record { reads = bit_at-zero; writes = bit_at-zero }
 
-pub get_masks : (key : ℕ) → AreMasksOf (touches (Get key)) (record { reads = 2 ^ key_stripe (of_main key); writes = 0 })
-get_masks key = record { reads = key_mask (of_main key); writes = bit_at-zero }
+module _ (names : List (List ℕ)) (name : List ℕ) where
+  pub get_masks : (key : ℕ) → AreMasksOf (touches names (Get name key)) (record { reads = 2 ^ key_stripe names (of_table name key); writes = 0 })
+  get_masks key = record { reads = key_mask names (of_table name key); writes = bit_at-zero }
 
-pub scan_masks : (low high : ℕ) → AreMasksOf (touches (Scan low high)) (record { reads = 2 ^ 64 - 1; writes = 0 })
-scan_masks low high = record { reads = scan_mask; writes = bit_at-zero }
+  pub scan_masks : (low high : ℕ) → AreMasksOf (touches names (Scan name low high)) (record { reads = 2 ^ 64 - 1; writes = 0 })
+  scan_masks low high = record { reads = scan_mask; writes = bit_at-zero }
 
-pub put_masks : (key : ℕ) (value : List ℕ) → AreMasksOf (touches (Put key value)) (record { reads = 0; writes = 2 ^ key_stripe (of_main key) })
-put_masks key value = record { reads = bit_at-zero; writes = key_mask (of_main key) }
+  pub put_masks : (key : ℕ) (value : List ℕ) → AreMasksOf (touches names (Put name key value)) (record { reads = 0; writes = 2 ^ key_stripe names (of_table name key) })
+  put_masks key value = record { reads = bit_at-zero; writes = key_mask names (of_table name key) }
 
-pub del_masks : (key : ℕ) → AreMasksOf (touches (Del key)) (record { reads = 0; writes = 2 ^ key_stripe (of_main key) })
-del_masks key = record { reads = bit_at-zero; writes = key_mask (of_main key) }
+  pub del_masks : (key : ℕ) → AreMasksOf (touches names (Del name key)) (record { reads = 0; writes = 2 ^ key_stripe names (of_table name key) })
+  del_masks key = record { reads = bit_at-zero; writes = key_mask names (of_table name key) }
 
 either : (a b : Bool) → max (cond a 1 0) (cond b 1 0) ≡ cond (a || b) 1 0
 either true true = refl
@@ -142,6 +144,6 @@ clash_word one other word true are none some = zero_word (λ stripe. clash (one 
 clash_word one other word false are none some = some_bit (λ stripe. clash (one stripe) (other stripe)) word are (some refl)
 
 -- one more call adds its masks
-pub masks-push : (calls : Granted) (masks : Masks) (call : Call) (reply : Reply) → AreMasksOf (λ stripe mode. touched calls stripe mode || touches call stripe mode) masks
-    → AreMasksOf (touched (calls ++ (call, reply) ∷ [])) masks
-masks-push calls masks call reply are = subst (λ (t : ℕ → Touch). AreMasksOf t masks) (λ i stripe. sym (touched-push calls call reply stripe) i) are
+pub masks-push : (names : List (List ℕ)) (calls : Granted) (masks : Masks) (call : Call) (reply : Reply) → AreMasksOf (λ stripe mode. touched names calls stripe mode || touches names call stripe mode) masks
+    → AreMasksOf (touched names (calls ++ (call, reply) ∷ [])) masks
+masks-push names calls masks call reply are = subst (λ (t : ℕ → Touch). AreMasksOf t masks) (λ i stripe. sym (touched-push names calls call reply stripe) i) are

@@ -3,7 +3,8 @@ use Rattle.std.proofs.Common.{◌≡◌, ℕ, zero, suc, ◌-◌, ◌||◌, ◌&
 use Rattle.std.specs.Prelude.{nat_eq, not, if◌then◌else◌, Some, None}
 use Rattle.std.specs.List.{fold, list_any}
 use Rattle.std.proofs.lemmas.Bool.{false_from_ne_true, true≢false, or_parts, or_from}
-use Rattle.history.specs.Key.{Key, is_same_key, of_main}
+use Rattle.history.specs.Key.{is_same_key, of_table}
+use Rattle.history.specs.declared.key.Key.{Key}
 use Rattle.history.proofs.Keys.{same_keys}
 use Rattle.history.specs.Locks.{key_stripe, touches, touched, is_touch, clash, Meets}
 use Rattle.history.specs.declared.locks.Mode.TheVariants.{Shared, Exclusive}
@@ -15,7 +16,7 @@ use Rattle.history.specs.declared.call.Call.TheVariants.{Begin, Get, Put, Del, S
 use Rattle.history.specs.declared.call.Reply.{Reply}
 use Rattle.history.specs.declared.call.Reply.TheVariants.{Fine}
 
-module _ (key : Key) where
+module _ (names : List (List ℕ)) (key : Key) where
   any : List Write → Bool
   any writes = list_any (is_of key) writes
 
@@ -76,24 +77,24 @@ module _ (key : Key) where
   wrote : (log : Log) (write : Write) → is_of key write ≡ false → IsSpared log → IsSpared (written log write)
   wrote log write apart spared = record { now = any-written write apart (floor_of log) log.writes spared.now; saved = spared.saved }
 
-  apart_of : (other : Key) → nat_eq (key_stripe other) (key_stripe key) ≡ false → is_same_key other key ≡ false
-  apart_of other ne = false_from_ne_true (is_same_key other key) (λ same. true≢false (sym (eq-eqb (key_stripe other) (key_stripe key) (ap key_stripe (same_keys other key same))) ∙ ne))
+  apart_of : (other : Key) → nat_eq (key_stripe names other) (key_stripe names key) ≡ false → is_same_key other key ≡ false
+  apart_of other ne = false_from_ne_true (is_same_key other key) (λ same. true≢false (sym (eq-eqb (key_stripe names other) (key_stripe names key) (ap (key_stripe names) (same_keys other key same))) ∙ ne))
 
   back : (b : Bool) (log : Log) (n : ℕ) → IsSpared log → IsSpared (cond b (record { writes = save_at log.saved n; saved = take n log.saved }) log)
   back true log n spared = record { now = spared-at (n - 1) log.saved spared.saved; saved = spared-take n log.saved spared.saved }
   back false log n spared = spared
 
-  after : (log : Log) (call : Call) (reply : Reply) → touches call (key_stripe key) Exclusive ≡ false → IsSpared log → IsSpared (log_after log call reply)
-  after log (Put other value) reply none spared = wrote log (of_main other, Some value) (apart_of (of_main other) none) spared
-  after log (Del other) Fine none spared = wrote log (of_main other, None) (apart_of (of_main other) none) spared
+  after : (log : Log) (call : Call) (reply : Reply) → touches names call (key_stripe names key) Exclusive ≡ false → IsSpared log → IsSpared (log_after log call reply)
+  after log (Put name other value) reply none spared = wrote log (of_table name other, Some value) (apart_of (of_table name other) none) spared
+  after log (Del name other) Fine none spared = wrote log (of_table name other, None) (apart_of (of_table name other) none) spared
   after log Save reply none spared = record { now = spared.now; saved = spared-append log.saved log.writes spared.saved spared.now }
   after log (Back n) reply none spared = back (has_save log.saved n) log n spared
   after log _ reply none spared = spared
 
-  all_after : (calls : Granted) (log : Log) → touched calls (key_stripe key) Exclusive ≡ false → IsSpared log → IsSpared (fold (λ was entry. log_after was entry.0 entry.1) log calls)
+  all_after : (calls : Granted) (log : Log) → touched names calls (key_stripe names key) Exclusive ≡ false → IsSpared log → IsSpared (fold (λ was entry. log_after was entry.0 entry.1) log calls)
   all_after [] log none spared = spared
   all_after (entry ∷ calls) log none spared =
-      let p = or_parts (touches entry.0 (key_stripe key) Exclusive) (touched calls (key_stripe key) Exclusive) none in
+      let p = or_parts (touches names entry.0 (key_stripe names key) Exclusive) (touched names calls (key_stripe names key) Exclusive) none in
       all_after calls (log_after log entry.0 entry.1) p.1 (after log entry.0 entry.1 p.0 spared)
 
   clashes : (x a b c : Bool) → a ≡ true → c ≡ true → ((a && (b || c)) || ((x || a) && c)) ≡ true
@@ -102,11 +103,11 @@ module _ (key : Key) where
   clashes x false b c p q = absurd (cc)
   clashes x true b false p q = absurd (cc)
 
-  pub unwritten : (calls : Granted) → (Meets (Del key.key) calls → ⊥) → list_any (is_of key) (log_of calls).writes ≡ false
+  pub unwritten : (calls : Granted) → (Meets names (Del key.table key.key) calls → ⊥) → list_any (is_of key) (log_of calls).writes ≡ false
   unfolding AreSpared
   unwritten calls none =
-      let untouched : touched calls (key_stripe key) Exclusive ≡ false = false_from_ne_true (touched calls (key_stripe key) Exclusive) (λ is. none (
-        key_stripe key,
-        clashes (touches (Del key.key) (key_stripe key) Shared) (touches (Del key.key) (key_stripe key) Exclusive) (touched calls (key_stripe key) Shared) (touched calls (key_stripe key) Exclusive) (eq-eqb (key_stripe key) (key_stripe key) refl) is,
+      let untouched : touched names calls (key_stripe names key) Exclusive ≡ false = false_from_ne_true (touched names calls (key_stripe names key) Exclusive) (λ is. none (
+        key_stripe names key,
+        clashes (touches names (Del key.table key.key) (key_stripe names key) Shared) (touches names (Del key.table key.key) (key_stripe names key) Exclusive) (touched names calls (key_stripe names key) Shared) (touched names calls (key_stripe names key) Exclusive) (eq-eqb (key_stripe names key) (key_stripe names key) refl) is,
       )) in
       (all_after calls (record { writes = []; saved = [] }) untouched (record { now = refl; saved = tt })).now

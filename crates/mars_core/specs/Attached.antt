@@ -10,6 +10,7 @@ use Rattle.record_table.specs.declared.fault.TableFault.{TableFault}
 use Rattle.record_table.specs.declared.fault.TableFault.TheVariants as fault
 use Rattle.mars_core.specs.declared.fault.CoreFault.{CoreFault}
 use Rattle.mars_core.specs.declared.fault.CoreFault.TheVariants.{Damaged, Media, NoMemory}
+use Rattle.eaw_face.specs.Mirroring.{Mirrors}
 
 abbrev pub is_media_fault : CoreFault → Bool
 is_media_fault Media = true
@@ -43,6 +44,7 @@ pub record LeftAsItWas (tells : Bool) (Opens : List ℕ → List ℕ → Type 0)
   pub unwritten : IsTrue tells → IsFalse failed → new.state.bytes ≡ old.state.bytes
   pub dies : IsTrue failed → (new.is_dead ≡ true) × Rose old.faults new.faults
   pub time : IsTrue tells → LeavesOnly (λ image. Opens image old.state.bytes) old new
+  pub mirrors : Mirrors tells old new
 
 -- The store that is given back, after a fault of the medium or none. Its data is as it was if there was none. Whatever a loss of power might
 -- have left meanwhile opens with that data, or, if the medium failed, with the same in version 2.
@@ -52,3 +54,4 @@ pub record GivesBack (tells : Bool) (Opens : List ℕ → List ℕ → Type 0) (
   pub unwritten : IsTrue tells → IsFalse failed → new.state.bytes ≡ old.state.bytes
   pub dies : IsTrue failed → (new.is_dead ≡ true) × Rose old.faults new.faults
   pub time : IsTrue tells → LeavesOnly (λ image. Opens image old.state.bytes ⊎ (IsTrue failed × Opens image (upgraded old.state.bytes))) old new
+  pub mirrors : Mirrors tells old new

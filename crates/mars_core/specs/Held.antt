@@ -6,7 +6,7 @@ use Rattle.page_store.specs.Index.{Index}
 use Rattle.page_store.specs.Shown.{Shown}
 use Rattle.record_table.specs.Does.{OpensWith}
 use Rattle.record_table.specs.Shown.{keys_of}
-use Rattle.history.specs.Rows.{table_of}
+use Rattle.history.specs.Rows.{NamedRows, table_of}
 use Rattle.history.specs.Table.{Granted}
 use Rattle.history.specs.Writes.{Table}
 use Rattle.history.specs.declared.transaction.Done.{Done}
@@ -19,14 +19,15 @@ use Rattle.mars_core.specs.Seats.{Seats, live_in}
 -- those in doubt.
 pub record Held (S : Type 0) : Type 0 where
   pub records : Shown S
-  pub base : List (ℕ × List ℕ)
+  pub base : List NamedRows
   pub seats : Seats
   pub history : List Done
   pub doubt : List Done
 
--- the state with these records at the opening, transactions committed since, live ones and ones in doubt, over what a store shows
-abbrev pub state_at : Index → StoreView → Table → List Done → (ℕ → Option Granted) → List Done → State
-state_at index store base history live doubt = record {
+-- the state with tables of these names, these records at the opening, transactions committed since, live ones and ones in doubt, over what a store shows
+abbrev pub state_at : Index → StoreView → List (List ℕ) → Table → List Done → (ℕ → Option Granted) → List Done → State
+state_at index store names base history live doubt = record {
+  names = names;
   base = base;
   history = history;
   live = live;
@@ -36,7 +37,7 @@ state_at index store base history live doubt = record {
 }
 
 abbrev pub state_over : {S : Type 0} → Index → StoreView → Held S → State
-state_over index store held = state_at index store (table_of held.base) held.history (live_in held.seats) held.doubt
+state_over index store held = state_at index store held.seats.names (table_of held.base) held.history (live_in held.seats) held.doubt
 
 -- a core in this state over a store
 abbrev pub core_over : (Shape → List ℕ → List ℕ → Type 0) → Index → StoreView → State → CoreView

@@ -1,14 +1,15 @@
 -- The invariant of a core.
-use Rattle.std.specs.Prelude.{ℕ, ◌≡◌, ◌≤◌, Bool, IsTrue, List, length}
+use Rattle.std.specs.Prelude.{ℕ, ◌≡◌, ◌≤◌, Bool, IsTrue, List, [], length, None}
 use Rattle.std.specs.FinMap.{entries}
 use Rattle.array_shape.specs.declared.shape.Shape.{Shape}
 use Rattle.eaw_face.specs.Causes.{IsAlive}
+use Rattle.eaw_face.specs.State.{listed}
 use Rattle.page_store.specs.Index.{Index}
 use Rattle.page_store.specs.Shown.{PagesView}
-use Rattle.history.specs.Key.{main_name}
 use Rattle.history.specs.Log.{log_of}
-use Rattle.history.specs.Rows.{all_keyed, table_of}
+use Rattle.history.specs.Rows.{NamedRows, records_in, table_of}
 use Rattle.record_table.specs.State.{TableState}
+use Rattle.record_table.specs.Names.{names_of}
 use Rattle.record_table.specs.Shown.{state_of}
 use Rattle.caller_steps.specs.State.{State, calls_of, records_of}
 use Rattle.caller_steps.specs.Room.{Limits, held_on}
@@ -26,17 +27,19 @@ pub record Mirrors (below : TableState) (state : State) : Type 0 where
 abbrev pub HasHeld : Limits → State → Type 0
 HasHeld limits state = (caller g : ℕ) → held_on limits state caller g ≤ limits.entries
 
--- what holds while the store is not dead
+-- what holds while the store is not dead; the names are those of the data
 pub record IsTied (index : Index) (pages : PagesView) (state : State) : Type 0 where
   pub index_sound : index.sound pages.store.state.bytes
+  pub named : state.names ≡ names_of pages.store.state.bytes
   pub mirrors : Mirrors (state_of index pages) state
   pub sound : IsSound state
   pub room : HasHeld (limits_of pages.store.shape) state
 
--- There is a seat for each number. The rows at the opening are those of a table. What the records show is tied to the state. Whatever may
--- be left now opens with the whole history.
-pub record IsKept (tells : Bool) (Opens : Shape → List ℕ → List ℕ → Type 0) (index : Index) (pages : PagesView) (count : ℕ) (rows : List (ℕ × List ℕ)) (state : State) : Type 0 where
+-- There is a seat for each number. The rows at the opening are those of a table. A caller without a live transaction has nothing logged, over
+-- any store. What the records show is tied to the state. Whatever may be left now opens with the whole history.
+pub record IsKept (tells : Bool) (Opens : Shape → List ℕ → List ℕ → Type 0) (index : Index) (pages : PagesView) (count : ℕ) (rows : List NamedRows) (state : State) : Type 0 where
   pub seats : count ≡ pages.store.shape.numbers
-  pub in_order : IsTrue tells → entries (table_of rows) ≡ all_keyed main_name rows
+  pub in_order : IsTrue tells → entries (table_of rows) ≡ records_in rows
+  pub idle : IsAlive pages.store → (t : ℕ) → state.live t ≡ None → listed (pages.store.ranges t) ≡ []
   pub tied : IsTrue tells → IsAlive pages.store → IsTied index pages state
   pub safe : IsTrue tells → IsSafe (core_over Opens index pages.store state) pages.store.moment (length state.history)

@@ -8,6 +8,7 @@ use Rattle.record_table.specs.Does.{OpensNamed}
 use Rattle.record_table.specs.Names.{names_of}
 use Rattle.record_table.specs.Shown.{table_of}
 use Rattle.record_table.specs.declared.making.MakeFault.{MakeFault}
+use Rattle.eaw_face.specs.Mirroring.{Mirrors}
 
 -- an image opens with the records of this data, under its names
 abbrev pub OpensAsNamed : (List ℕ → List ℕ → Type 0) → Index → List ℕ → List ℕ → Type 0
@@ -29,3 +30,4 @@ pub record MakesTable (tells : Bool) (Opens : List ℕ → List ℕ → Type 0) 
   pub time : IsTrue tells → LeavesOnly (λ image. OpensAsNamed Opens index old.state.bytes image ⊎ OpensWithName Opens index name old.state.bytes image) old new
   pub now : IsTrue tells → OnOk result ((image : List ℕ) → new.left_since new.moment image → OpensWithName Opens index name old.state.bytes image)
   pub same : IsTrue tells → IsFalse (is_make_failed result) → OnErr result ((image : List ℕ) → new.left_since new.moment image → OpensAsNamed Opens index old.state.bytes image)
+  pub mirrors : Mirrors tells old new

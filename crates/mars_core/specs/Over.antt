@@ -1,33 +1,46 @@
 -- A core over a store: what it shows of it, and how it begins.
-use Rattle.std.specs.Prelude.{ℕ, ◌≡◌, Bool, IsTrue, List, [], None}
+use Rattle.std.specs.Prelude.{ℕ, ◌≡◌, Bool, IsTrue, List, [], Option, Some, None}
 use Rattle.array_shape.specs.declared.shape.Shape.{Shape}
 use Rattle.eaw_face.specs.StoreView.{StoreView, LeavesOnly}
 use Rattle.eaw_face.specs.Causes.{IsAlive}
 use Rattle.page_store.specs.Index.{Index, slots_of, index_pages_of}
 use Rattle.record_slots.specs.Places.{version_of}
 use Rattle.record_table.specs.Does.{OpensWith}
+use Rattle.record_slots.specs.Names.{number_of}
+use Rattle.record_table.specs.Names.{names_of}
+use Rattle.record_table.specs.State.{Keys}
 use Rattle.record_table.specs.Shown.{table_of, keys_of, logger_of_slot}
 use Rattle.record_table.specs.Upgrading.{upgraded, OpensUpgraded}
 use Rattle.caller_steps.specs.State as face
 use Rattle.caller_steps.specs.State.{opened, records_of}
 use Rattle.caller_steps.specs.Room.{Limits}
 use Rattle.caller_steps.specs.Core.{CoreView}
+use Rattle.eaw_face.specs.Mirroring.{Mirrors}
 
 -- the limits of an array of this shape
 abbrev pub limits_of : Shape → Limits
 limits_of shape = record { callers = shape.numbers; slots = slots_of shape; index_pages = index_pages_of shape; loggers = shape.loggers; entries = shape.entries; logger_of = logger_of_slot shape }
 
--- the index of `main` in the data, and the data, as callers see them
-abbrev pub index_of : Index → List ℕ → face.Index
-index_of index bytes = let keys = keys_of index bytes in record {
+-- how many levels of inner pages the index of this table has; none if there is no such table
+abbrev pub level_of : Keys → Option ℕ → ℕ
+level_of keys None = 0
+level_of keys (Some table) = keys.levels table
+
+-- the indexes of all tables of these names
+abbrev pub index_with : List (List ℕ) → List ℕ → Keys → face.Index
+index_with names bytes keys = record {
   slot_of = keys.slot_of;
   due = keys.due;
   used_slots = keys.used_slots;
   used_pages = keys.used_pages;
   next_page = keys.next_page;
-  level = keys.levels 0;
+  levels = λ name. level_of keys (number_of names name);
   bytes = bytes;
 }
+
+-- the indexes of all tables in the data, and the data, as callers see them
+abbrev pub index_of : Index → List ℕ → face.Index
+index_of index bytes = index_with (names_of bytes) bytes (keys_of index bytes)
 
 -- The core shows its store. While the store is not dead, its data is a sound index with the records of the history.
 pub record IsOver (tells : Bool) (Opens : List ℕ → List ℕ → Type 0) (index : Index) (store : StoreView) (core : CoreView) : Type 0 where
@@ -39,6 +52,7 @@ pub record IsOver (tells : Bool) (Opens : List ℕ → List ℕ → Type 0) (ind
   pub dead : core.state.is_dead ≡ store.is_dead
   pub keys : IsTrue tells → core.state.index ≡ index_of index store.state.bytes
   pub sound : IsTrue tells → IsAlive store → index.sound store.state.bytes
+  pub names : IsTrue tells → IsAlive store → names_of store.state.bytes ≡ core.state.names
   pub table : IsTrue tells → IsAlive store → table_of index store.state.bytes ≡ records_of core.state
 
 -- The core begins with the records of the store's data, which is a sound index, and has brought that data to version 2. Whatever a loss of
@@ -48,10 +62,11 @@ pub record Begins (tells : Bool) (Opens : List ℕ → List ℕ → Type 0) (ind
   pub alive : IsAlive new
   pub faults : new.faults ≡ old.faults
   pub shape : new.shape ≡ old.shape
-  pub state : IsTrue tells → core.state ≡ opened (table_of index old.state.bytes) (index_of index (upgraded old.state.bytes))
+  pub state : IsTrue tells → core.state ≡ opened (names_of old.state.bytes) (table_of index old.state.bytes) (index_of index (upgraded old.state.bytes))
   pub fresh : (core.state.history ≡ []) × ((caller : ℕ) → core.state.live caller ≡ None) × (core.state.doubt ≡ [])
   pub sound : IsTrue tells → index.sound old.state.bytes
   pub bytes : IsTrue tells → new.state.bytes ≡ upgraded old.state.bytes
   pub version : IsTrue tells → version_of new.state.bytes ≡ 2
   pub keys : IsTrue tells → keys_of index new.state.bytes ≡ keys_of index old.state.bytes
   pub time : IsTrue tells → LeavesOnly (OpensUpgraded Opens old.state.bytes) old new
+  pub mirrors : Mirrors tells old new

@@ -1,4 +1,6 @@
 -- The calls that the records answer, and what a call asks for.
+use Rattle.std.specs.Prelude.{ℕ, List, Option, Some}
+use Rattle.record_slots.specs.Names.{number_of}
 use Rattle.history.specs.declared.call.Call.{Call}
 use Rattle.history.specs.declared.call.Call.TheVariants as call
 use Rattle.mars_core.specs.declared.table_call.Asked.{Asked}
@@ -8,10 +10,10 @@ use Rattle.mars_core.specs.declared.table_call.TableCall.TheVariants.{Get, Put, 
 
 -- the call of a transaction that is asked of the records
 abbrev pub call_of : TableCall → Call
-call_of (Get key) = call.Get key
-call_of (Put key value) = call.Put key value.now
-call_of (Del key) = call.Del key
-call_of (Scan low high) = call.Scan low high
+call_of (Get table key) = call.Get table.now key
+call_of (Put table key value) = call.Put table.now key value.now
+call_of (Del table key) = call.Del table.now key
+call_of (Scan table low high) = call.Scan table.now low high
 call_of Save = call.Save
 call_of (Back n) = call.Back n
 
@@ -21,3 +23,11 @@ asking Begin = call.Begin
 asking Commit = call.Commit
 asking Abort = call.Abort
 asking (Table asked) = call_of asked
+
+-- the number of the table that a call asks for, if there is one of that name; 0 if it asks for none
+abbrev pub number_for : List (List ℕ) → Call → Option ℕ
+number_for names (call.Get name key) = number_of names name
+number_for names (call.Put name key value) = number_of names name
+number_for names (call.Del name key) = number_of names name
+number_for names (call.Scan name low high) = number_of names name
+number_for names _ = Some 0

@@ -1,5 +1,5 @@
 -- A call of a transaction, as the records make it, and how it is then answered.
-use Rattle.std.specs.Prelude.{ℕ, ◌≡◌, ◌≤◌, ◌<◌, ◌⊎◌, Bool, IsTrue, IsFalse, List, [], ◌∷◌, ◌++◌, length, filter, Result, Ok, Err, IfOk, IsErrOf}
+use Rattle.std.specs.Prelude.{ℕ, ◌≡◌, ◌≤◌, ◌<◌, ◌⊎◌, Bool, IsTrue, IsFalse, List, [], ◌∷◌, ◌++◌, length, filter, Some, None, Result, Ok, Err, IfOk, IsErrOf}
 use Rattle.eaw_face.specs.Causes.{IsAlive}
 use Rattle.history.specs.Table.{Granted}
 use Rattle.history.specs.declared.call.Call.{Call}
@@ -17,10 +17,11 @@ use Rattle.caller_steps.specs.Fate.{is_refusal, is_committed}
 use Rattle.caller_steps.specs.Locked.{IsFree, IsBusyWith}
 use Rattle.caller_steps.specs.Step.{uses_index}
 use Rattle.mars_core.specs.Seats.{Seats, bare}
+use Rattle.mars_core.specs.TableCall.{number_for}
 
--- The records made the call as number t. A reply of theirs grants it, and only a call that uses the index meets a fault of the medium.
-pub record Works (tells : Bool) (Opens : List ℕ → List ℕ → Type 0) (index : Index) (t : ℕ) (call : Call) (old new : PagesView) (result : Result Reply TableFault) : Type 0 where
-  pub does : Does tells Opens index 0 t call old new result
+-- The records made the call as number t, on the table with that number. A reply of theirs grants it, and only a call that uses the index meets a fault of the medium.
+pub record Works (tells : Bool) (Opens : List ℕ → List ℕ → Type 0) (index : Index) (table t : ℕ) (call : Call) (old new : PagesView) (result : Result Reply TableFault) : Type 0 where
+  pub does : Does tells Opens index table t call old new result
   pub due : IsErrOf result Media → IsTrue (uses_index call)
   pub granted : IfOk result (λ answer. IsFalse (is_refusal answer))
   pub plain : IfOk result (λ answer. IsFalse (is_committed answer))
@@ -37,9 +38,11 @@ IsSaveRefusal saves Save answer = (32 ≤ saves) × (answer ≡ reply.SavesFull)
 IsSaveRefusal saves (Back n) answer = ((0 < n) × (n ≤ saves) → ⊥) × (answer ≡ reply.NoSave n)
 IsSaveRefusal saves _ answer = ⊥
 
--- The call was not made, and this is why: it lacks a save, there is no memory to keep it, or another caller holds a stripe of it.
+-- The call was not made, and this is why: it lacks a save, its table is not there, there is no memory to keep it, or another caller holds a
+-- stripe of it.
 abbrev pub Unmade : ℕ → Seats → ℕ → Call → Reply → Type 0
-Unmade saves seats t call answer = IsSaveRefusal saves call answer ⊎ (HasSaves saves call × ((answer ≡ reply.NoMemory) ⊎ ((holder : ℕ) × (answer ≡ reply.Busy holder) × IsBusyWith (bare seats) t call holder)))
+Unmade saves seats t call answer = IsSaveRefusal saves call answer ⊎ (HasSaves saves call × (((number_for seats.names call ≡ None) × (answer ≡ reply.NoTable))
+    ⊎ ((table : ℕ) × (number_for seats.names call ≡ Some table) × ((answer ≡ reply.NoMemory) ⊎ ((holder : ℕ) × (answer ≡ reply.Busy holder) × IsBusyWith (bare seats) t call holder)))))
 
 -- What becomes of the transaction with these calls, and how the caller is answered, given what the records made of the call: their reply is
 -- told and kept with it, or, if there is no memory to keep the rows of a scan, neither. A refusal is told.
@@ -51,8 +54,10 @@ IsAnswered calls call (Err fault) left answer = (left ≡ calls) × (answer ≡ 
 pub record Made (tells : Bool) (Opens : List ℕ → List ℕ → Type 0) (index : Index) (saves : ℕ) (seats : Seats) (t : ℕ) (calls : Granted) (call : Call) (old new : PagesView) (left : Granted) (answer : Reply) : Type 0 where
   pub saves_there : HasSaves saves call
   pub free : IsFree (bare seats) t call
+  pub table : ℕ
+  pub number : number_for seats.names call ≡ Some table
   pub result : Result Reply TableFault
-  pub works : Works tells Opens index t call old new result
+  pub works : Works tells Opens index table t call old new result
   pub answered : IsAnswered calls call result left answer
 
 -- what records show of the writes that numbers have not committed, while their store is not dead: how many each logger holds, and that the

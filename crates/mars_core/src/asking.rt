@@ -1,10 +1,13 @@
 // Makes the calls of a transaction on the records.
-ghost use Rattle.std.specs.Prelude.{◌≡◌, ◌<◌, ◌≤◌, ◌⊎◌, length, IfSome, IfNone};
+ghost use Rattle.std.specs.Prelude.{◌≡◌, ◌<◌, ◌≤◌, ◌⊎◌, length, Some, IfSome, IfNone, IsTrue};
+ghost use Rattle.eaw_face.specs.Causes.{IsAlive};
 ghost use Rattle.page_store.specs.Shown.{counts_in, pages_of};
+ghost use Rattle.history.specs.Locks.{has_table};
 ghost use Rattle.caller_steps.specs.Locked.{IsFree};
 ghost use Rattle.mars_core.specs.declared.locks.Locks.TheVariants.{Held};
-ghost use Rattle.mars_core.specs.Seats.{bare};
-ghost use Rattle.mars_core.specs.TableCall.{call_of};
+ghost use Rattle.record_table.specs.Names.{KeepsNames, names_of};
+ghost use Rattle.mars_core.specs.Seats.{bare, IsMasked};
+ghost use Rattle.mars_core.specs.TableCall.{call_of, number_for};
 ghost use Rattle.mars_core.specs.Works.{Works, HasSaves, IsSaveRefusal, Unmade, Made};
 
 use crate::live::Live;
@@ -44,32 +47,43 @@ pub fn refused_save(saves: u32, call: &Call) -> Option<Reply>
     }
 }
 
-/// Makes a call of a transaction as this number.
+/// Makes a call of a transaction as this number, on the table with that number.
 pub fn work<S: EawStore, K: KeyIndex>(
     alloc: Global,
     records: &mut Records<S, K>,
     tid: u8,
+    table: u8,
     asked: TableCall<'_>,
 ) -> Result<Reply, TableFault>
     requires tid { tid < (S.view records.old.store).shape.numbers }
+    requires table { table < 8 }
+    requires asked { IsTrue S.tells → IsAlive (S.view records.old.store) → number_for (names_of (S.view records.old.store).state.bytes) (call_of asked) ≡ Some table }
     requires saves { HasSaves (length (counts_in records.old.marks tid)) (call_of asked) }
-    ensures works { Works S.tells (S.opens (S.view records.old.store).shape) K.index tid (call_of asked.entry)
+    ensures works { Works S.tells (S.opens (S.view records.old.store).shape) K.index table tid (call_of asked.entry)
         (pages_of (S.view records.old.store) records.old) (pages_of (S.view records.new.store) records.new) result }
 {
     match asked {
-        TableCall::Get { key } => match records.get(tid, key) {
+        TableCall::Get { table: _, key } => match records.get(tid, table, key) {
             Ok(value) => Ok(found(&value)),
             Err(fault) => Err(fault),
         },
-        TableCall::Put { key, value } => match records.put(tid, key, *value) {
+        TableCall::Put {
+            table: _,
+            key,
+            value,
+        } => match records.put(tid, table, key, *value) {
             Ok(()) => Ok(Reply::Fine),
             Err(fault) => Err(fault),
         },
-        TableCall::Del { key } => match records.del(tid, key) {
+        TableCall::Del { table: _, key } => match records.del(tid, table, key) {
             Ok(was) => Ok(removed(was)),
             Err(fault) => Err(fault),
         },
-        TableCall::Scan { low, high } => match records.scan(alloc, tid, low, high) {
+        TableCall::Scan {
+            table: _,
+            low,
+            high,
+        } => match records.scan(alloc, tid, table, low, high) {
             Ok(rows) => Ok(Reply::Listed(rows)),
             Err(fault) => Err(fault),
         },
@@ -98,35 +112,46 @@ pub fn answer<S: EawStore, K: KeyIndex>(
 ) -> (Live, Reply)
     requires said { call_of asked ≡ call.now }
     requires inside { caller < (S.view records.old.store).shape.numbers }
-    requires few { length seats.now ≤ 64 }
-    requires locked { locks ≡ Held → IsFree (bare seats.now) caller call.now }
-    ensures answered { ((records.new ≡ records.old) × (result.0 ≡ live) × Unmade (length (counts_in records.old.marks caller)) seats.now caller call.now result.1)
-        ⊎ Made S.tells (S.opens (S.view records.old.store).shape) K.index (length (counts_in records.old.marks caller)) seats.now caller live call.now
-        (pages_of (S.view records.old.store) records.old) (pages_of (S.view records.new.store) records.new) result.0 result.1 }
+    requires few { length seats.now.live ≤ 64 }
+    requires named { KeepsNames S.tells (pages_of (S.view records.old.store) records.old) seats.now.names }
+    requires masked { IsMasked seats.now.names live }
+    requires locked { locks ≡ Held → IsTrue (has_table seats.now.names call.now) → IsFree (bare seats.now) caller call.now }
+    ensures answered { ((records.new ≡ records.old) × (result.0.calls ≡ live.calls) × Unmade (length (counts_in records.old.marks caller)) seats.now caller call.now result.1)
+        ⊎ Made S.tells (S.opens (S.view records.old.store).shape) K.index (length (counts_in records.old.marks caller)) seats.now caller live.calls call.now
+        (pages_of (S.view records.old.store) records.old) (pages_of (S.view records.new.store) records.new) result.0.calls result.1 }
+    ensures masked { IsMasked seats.now.names result.0 }
 {
     if let Some(refusal) = refused_save(records.saves(caller), call) {
         return (live, refusal);
     }
-    let masks = live.touched();
+    let Some(table) = seats.number_for(call) else {
+        return (live, Reply::NoTable);
+    };
+    let Live { calls, masks } = live;
     // Room is reserved before the call is made, so that nothing is written that there is no memory to keep.
-    let calls = match live.into_calls().with_room() {
+    let calls = match calls.with_room() {
         Ok(calls) => calls,
-        Err(calls) => return (Live::of(calls, masks), Reply::NoMemory),
+        Err(calls) => return (Live { calls, masks }, Reply::NoMemory),
     };
     if let Some(holder) = seats.holder_if(locks, caller, call) {
-        return (Live::of(calls.into_calls(), masks), Reply::Busy { holder });
+        let calls = calls.into_calls();
+        return (Live { calls, masks }, Reply::Busy { holder });
     }
-    match work(alloc, records, caller, asked) {
+    match work(alloc, records, caller, table, asked) {
         Ok(reply) => match copy_of(&reply) {
             Ok(kept) => {
                 let calls = calls.push(*call, kept);
-                (
-                    Live::of(calls, masks.merged(Masks::touched_by(call))),
-                    reply,
-                )
+                let masks = masks.merged(Masks::touched_by(seats.names(), call));
+                (Live { calls, masks }, reply)
             }
-            Err(_) => (Live::of(calls.into_calls(), masks), Reply::NoMemory),
+            Err(_) => {
+                let calls = calls.into_calls();
+                (Live { calls, masks }, Reply::NoMemory)
+            }
         },
-        Err(fault) => (Live::of(calls.into_calls(), masks), Reply::from(fault)),
+        Err(fault) => {
+            let calls = calls.into_calls();
+            (Live { calls, masks }, Reply::from(fault))
+        }
     }
 }

@@ -1,10 +1,11 @@
 // The stripes that calls touch, as the bits of numbers.
 ghost use Rattle.std.specs.Prelude.{◌≡◌, ◌^◌, ◌||◌, false, ℕ, MatchBool, IsTrue, IsFalse};
-ghost use Rattle.history.specs.Key.{of_main};
+ghost use Rattle.history.specs.Key.{of_table};
 ghost use Rattle.history.specs.Locks.{Touch, key_stripe, touches, clash};
 ghost use Rattle.mars_core.specs.Masks.{AreMasksOf};
 
-use history::{Call, MAIN_TABLE, stripe_of};
+use history::{Call, stripe_of};
+use record_slots::{Name, Names};
 
 /// A bit for each stripe that is touched for reading, and for each that is touched for writing.
 #[derive(Clone, Copy)]
@@ -23,15 +24,23 @@ impl Masks {
         }
     }
 
-    /// What a call touches. A scan touches all stripes.
-    pub fn touched_by(call: &Call) -> Masks
-        ensures { AreMasksOf (touches call.now) result }
+    /// What a call touches, where the tables have these names. A scan touches all stripes.
+    pub fn touched_by(names: &Names, call: &Call) -> Masks
+        ensures { AreMasksOf (touches names.now call.now) result }
     {
         match call {
-            Call::Get { key } => Masks::reading(key_mask(*key)),
-            Call::Scan { low: _, high: _ } => Masks::reading(u64::MAX),
-            Call::Put { key, value: _ } => Masks::writing(key_mask(*key)),
-            Call::Del { key } => Masks::writing(key_mask(*key)),
+            Call::Get { table, key } => Masks::reading(key_mask(names, table, *key)),
+            Call::Scan {
+                table: _,
+                low: _,
+                high: _,
+            } => Masks::reading(u64::MAX),
+            Call::Put {
+                table,
+                key,
+                value: _,
+            } => Masks::writing(key_mask(names, table, *key)),
+            Call::Del { table, key } => Masks::writing(key_mask(names, table, *key)),
             Call::Begin => Masks::none(),
             Call::Save => Masks::none(),
             Call::Back { save: _ } => Masks::none(),
@@ -75,9 +84,13 @@ impl Masks {
     }
 }
 
-// The bit of a key's stripe.
-fn key_mask(key: u64) -> u64
-    ensures { result ≡ 2 ^ key_stripe (of_main key) }
+// The bit of a key's stripe. A name that no table has counts as that of one table more.
+fn key_mask(names: &Names, table: &Name, key: u64) -> u64
+    ensures { result ≡ 2 ^ key_stripe names.now (of_table table.now key) }
 {
-    1 << stripe_of(MAIN_TABLE, key)
+    let number = match names.number(table) {
+        Some(number) => number,
+        None => names.count(),
+    };
+    1 << stripe_of(number, key)
 }

@@ -1,67 +1,77 @@
 // Takes keys without records out of the index, but those that live transactions touch.
-ghost use Rattle.std.specs.Prelude.{◌≡◌, ◌<◌, ◌≤◌, [], IsTrue, length};
+ghost use Rattle.std.specs.Prelude.{◌≡◌, ◌<◌, ◌≤◌, [], Some, IsTrue, length, slice_get};
 ghost use Rattle.eaw_face.specs.Causes.{IsAlive};
-ghost use Rattle.history.specs.Key.{of_main};
+ghost use Rattle.eaw_face.specs.State.{listed};
+ghost use Rattle.history.specs.Key.{of_table};
 ghost use Rattle.page_store.specs.Shown.{pages_of};
 ghost use Rattle.record_table.specs.Removing.{IsAbsent};
-ghost use Rattle.mars_core.specs.Purging.{IsReady, Tries, Clears};
+ghost use Rattle.mars_core.specs.Purging.{IsReady, IsOfTable, IsOfFirst, Tries, Clears, IsStop, stopped};
 ghost use Rattle.mars_core.specs.Seats.{calls_at};
 
 use crate::seats::Seats;
+use caller_steps::PurgeFault;
 use eaw_face::EawStore;
 use history::Call;
 use page_store::KeyIndex;
+use record_slots::Name;
 use record_table::{Records, TableFault};
-
-// The number of the table `main`.
-const MAIN: u8 = 0;
 
 // Tries a key without a record, unless a live transaction touches its stripe. Returns whether it was taken out.
 fn try_key<S: EawStore, K: KeyIndex>(
     records: &mut Records<S, K>,
     seats: &Seats,
     caller: u8,
+    table: u8,
+    name: &Name,
     key: u64,
 ) -> Result<bool, TableFault>
     requires inside { caller < (S.view records.old.store).shape.numbers }
-    requires few { length seats.now ≤ 64 }
+    requires few { length seats.now.live ≤ 64 }
     requires alive { IsAlive (S.view records.old.store) }
     requires idle { calls_at seats.now caller ≡ [] }
+    requires unheld { listed ((S.view records.old.store).ranges caller) ≡ [] }
     requires ready { IsTrue S.tells → IsReady K.index seats.now caller (pages_of (S.view records.old.store) records.old) }
-    requires absent { IsTrue S.tells → IsAbsent K.index (S.view records.old.store).state.bytes (of_main key) }
-    ensures tries { Tries S.tells (S.opens (S.view records.old.store).shape) K.index seats.now key
+    requires table { table < 8 }
+    requires named { slice_get seats.now.names table ≡ Some name.now }
+    requires absent { IsTrue S.tells → IsAbsent K.index (S.view records.old.store).state.bytes (of_table name.now key) }
+    ensures tries { Tries S.tells (S.opens (S.view records.old.store).shape) K.index seats.now table (of_table name.now key)
         (pages_of (S.view records.old.store) records.old) (pages_of (S.view records.new.store) records.new) result }
 {
-    match seats.holder(caller, &Call::Del { key }) {
+    let call = Call::Del { table: *name, key };
+    match seats.holder(caller, &call) {
         Some(_) => Ok(false),
-        None => records.remove(caller, MAIN, key),
+        None => records.remove(caller, table, key),
     }
 }
 
-/// Tries each key of `main` that has no record, and whose stripe no live transaction touches, once, by rising key, as this caller's number.
-/// Returns how many were taken out.
-pub fn clear<S: EawStore, K: KeyIndex>(
+// The same with each key of a table, by rising key. Returns how many were taken out.
+fn clear_table<S: EawStore, K: KeyIndex>(
     records: &mut Records<S, K>,
     seats: &Seats,
     caller: u8,
+    table: u8,
+    name: &Name,
 ) -> Result<u32, TableFault>
     requires inside { caller < (S.view records.old.store).shape.numbers }
-    requires few { length seats.now ≤ 64 }
+    requires few { length seats.now.live ≤ 64 }
     requires alive { IsAlive (S.view records.old.store) }
     requires idle { calls_at seats.now caller ≡ [] }
+    requires unheld { listed ((S.view records.old.store).ranges caller) ≡ [] }
     requires ready { IsTrue S.tells → IsReady K.index seats.now caller (pages_of (S.view records.old.store) records.old) }
-    ensures clears { Clears S.tells (S.opens (S.view records.old.store).shape) K.index seats.now
+    requires table { table < 8 }
+    requires named { slice_get seats.now.names table ≡ Some name.now }
+    ensures clears { Clears S.tells (S.opens (S.view records.old.store).shape) K.index seats.now caller (IsOfTable name.now)
         (pages_of (S.view records.old.store) records.old) (pages_of (S.view records.new.store) records.new) result }
 {
     let mut taken: u32 = 0;
     let mut from = 0;
     loop {
-        let key = match records.next_absent(MAIN, from) {
+        let key = match records.next_absent(table, from) {
             Ok(Some(key)) => key,
             Ok(None) => return Ok(taken),
             Err(fault) => return Err(fault),
         };
-        match try_key(records, seats, caller, key) {
+        match try_key(records, seats, caller, table, name, key) {
             Ok(was) => taken = taken.saturating_add(u32::from(was)),
             Err(fault) => return Err(fault),
         }
@@ -69,5 +79,51 @@ pub fn clear<S: EawStore, K: KeyIndex>(
             return Ok(taken);
         }
         from = key + 1;
+    }
+}
+
+/// Tries each key that has no record, and whose stripe no live transaction touches, once, by rising table and key, as this caller's number.
+/// Returns how many were taken out.
+pub fn clear<S: EawStore, K: KeyIndex>(
+    records: &mut Records<S, K>,
+    seats: &Seats,
+    caller: u8,
+) -> Result<u32, TableFault>
+    requires inside { caller < (S.view records.old.store).shape.numbers }
+    requires few { length seats.now.live ≤ 64 }
+    requires alive { IsAlive (S.view records.old.store) }
+    requires idle { calls_at seats.now caller ≡ [] }
+    requires unheld { listed ((S.view records.old.store).ranges caller) ≡ [] }
+    requires ready { IsTrue S.tells → IsReady K.index seats.now caller (pages_of (S.view records.old.store) records.old) }
+    ensures clears { Clears S.tells (S.opens (S.view records.old.store).shape) K.index seats.now caller (IsOfFirst seats.now.names (length seats.now.names))
+        (pages_of (S.view records.old.store) records.old) (pages_of (S.view records.new.store) records.new) result }
+{
+    let mut taken: u32 = 0;
+    for table in 0..seats.names().count() {
+        let Some(name) = seats.names().name(table) else {
+            unreachable!();
+        };
+        match clear_table(records, seats, caller, table, &name) {
+            Ok(more) => taken = taken.saturating_add(more),
+            Err(fault) => return Err(fault),
+        }
+    }
+    Ok(taken)
+}
+
+// What stopped a purge on its way.
+pub fn stopped(fault: TableFault) -> PurgeFault
+    requires { IsStop fault }
+    ensures { result ≡ stopped fault }
+{
+    match fault {
+        TableFault::Media => PurgeFault::Media,
+        TableFault::Damaged { page } => PurgeFault::Damaged { page },
+        TableFault::Dead
+        | TableFault::NoMemory
+        | TableFault::SavesFull
+        | TableFault::SlotsFull { .. }
+        | TableFault::PagesFull { .. }
+        | TableFault::LogFull { .. } => unreachable!(),
     }
 }

@@ -1,48 +1,77 @@
-// The callers, each with its live transaction if it has one.
-ghost use Rattle.std.specs.Prelude.{◌≡◌, ◌<◌, ◌≤◌, [], ◌∷◌, ◌++◌, List, ℕ, Some, None, IfOk, IfSome, IfNone, OnOk, OnErr, is_some, length};
-ghost use Rattle.history.specs.Table.{Granted};
+// The callers, each with its live transaction if it has one, and the names of the tables that they ask for.
+ghost use Rattle.std.specs.Prelude.{◌≡◌, ◌<◌, ◌≤◌, [], List, ℕ, Some, None, IfOk, IfSome, IfNone, is_some, length};
 ghost use Rattle.caller_steps.specs.Locked.{IsFree, IsBusyWith};
 ghost use Rattle.history.specs.Locks.{touched};
 ghost use Rattle.mars_core.specs.Masks.{AreMasksOf};
 ghost use Rattle.mars_core.specs.declared.locks.Locks.TheVariants.{Held};
-ghost use Rattle.mars_core.specs.Seats.{live_in, calls_at, Seated, bare};
+ghost use Rattle.mars_core.specs.Seats.{live_in, calls_at, calls_in, IsMasked, Seated, bare};
+ghost use Rattle.mars_core.specs.TableCall.{number_for};
 
 use crate::live::Live;
 use crate::locks::Locks;
 use crate::masks::Masks;
-use history::{Call, Calls};
+use history::Call;
 use mars_base::NoMemory;
+use record_slots::Names;
 use std::alloc::Global;
 use std::marker::Model;
 
 #[derive(Drop)]
 pub struct Seats {
+    names: Names,
     live: Vec<Option<Live>>,
 }
 
 impl Model for Seats {
-    ghost use Rattle.std.specs.Prelude.{List, Option};
-    ghost use Rattle.history.specs.Table.{Granted};
+    ghost use Rattle.std.specs.Prelude.{◌≤◌, length};
+    ghost use Rattle.mars_core.specs.Seats as seats;
 
-    ghost Value = { List (Option Granted) };
+    ghost Value = { seats.Seats };
 
-    ghost view = { λ s. s.live.items };
+    ghost view = { λ s. record { names = s.names; live = s.live.items } };
+
+    ghost invariant = { λ s. seats.AreMasked s.names s.live.items × (length s.names ≤ 8) };
 }
 
 impl Seats {
-    /// `count` callers without a live transaction.
-    pub fn new(alloc: Global, count: u8) -> Result<Seats, NoMemory>
-        ensures { IfOk result (λ seats. (length seats ≡ count) × ((caller : ℕ) → live_in seats caller ≡ None)) }
+    /// `count` callers without a live transaction, beside tables of these names.
+    pub fn new(alloc: Global, names: Names, count: u8) -> Result<Seats, NoMemory>
+        ensures names { IfOk result (λ seats. seats.names ≡ names) }
+        ensures count { IfOk result (λ seats. length seats.live ≡ count) }
+        ensures none { IfOk result (λ seats. (caller : ℕ) → live_in seats caller ≡ None) }
     {
+        // There are at most eight names.
+        let _few = names.count();
         let mut live = Vec::with_capacity(alloc, usize::from(count))?;
         for _caller in 0..count {
             live.push(None)?;
         }
-        Ok(Seats { live })
+        Ok(Seats { names, live })
+    }
+
+    /// The names of the tables, by their numbers.
+    pub fn names(&self) -> &Names
+        ensures { result.now ≡ self.now.names }
+    {
+        &self.names
+    }
+
+    /// The number of the table that a call asks for, or 0 if it asks for none; `None` if there is no table of the name.
+    pub fn number_for(&self, call: &Call) -> Option<u8>
+        ensures number { result ≡ number_for self.now.names call.now }
+        ensures few { IfSome result (λ table. table < 8) }
+    {
+        match call {
+            Call::Get { table, .. }
+            | Call::Put { table, .. }
+            | Call::Del { table, .. }
+            | Call::Scan { table, .. } => self.names.number(table),
+            _ => Some(0),
+        }
     }
 
     pub fn is_live(&self, caller: u8) -> bool
-        requires { caller < length self.now }
+        requires { caller < length self.now.live }
         ensures { result ≡ is_some (live_in self.now caller) }
     {
         self.live[usize::from(caller)].is_some()
@@ -50,18 +79,18 @@ impl Seats {
 
     /// The stripes that the caller's live transaction touched.
     pub fn touched(&self, caller: u8) -> Masks
-        requires { caller < length self.now }
-        ensures { AreMasksOf (touched (calls_at self.now caller)) result }
+        requires { caller < length self.now.live }
+        ensures { AreMasksOf (touched self.now.names (calls_at self.now caller)) result }
     {
         match &self.live[usize::from(caller)] {
-            Some(live) => live.touched(),
+            Some(live) => live.masks,
             None => Masks::none(),
         }
     }
 
     /// Begins a transaction. It takes no memory.
     pub fn begin(&mut self, alloc: Global, caller: u8)
-        requires { caller < length self.old }
+        requires { caller < length self.old.live }
         ensures { Seated self.old caller (Some []) self.new }
     {
         self.live[usize::from(caller)] = Some(Live::new(alloc));
@@ -69,8 +98,9 @@ impl Seats {
 
     /// Removes and returns the caller's live transaction.
     pub fn take(&mut self, caller: u8) -> Option<Live>
-        requires { caller < length self.old }
-        ensures live { result ≡ live_in self.old caller }
+        requires { caller < length self.old.live }
+        ensures live { calls_in result ≡ live_in self.old caller }
+        ensures masked { IfSome result (IsMasked self.old.names) }
         ensures out { Seated self.old caller None self.new }
     {
         self.live[usize::from(caller)].take()
@@ -78,7 +108,7 @@ impl Seats {
 
     /// Ends the caller's live transaction.
     pub fn end(&mut self, caller: u8)
-        requires { caller < length self.old }
+        requires { caller < length self.old.live }
         ensures { Seated self.old caller None self.new }
     {
         self.live[usize::from(caller)] = None;
@@ -86,19 +116,20 @@ impl Seats {
 
     /// Makes this the caller's live transaction.
     pub fn put(&mut self, caller: u8, live: Live)
-        requires { caller < length self.old }
-        ensures { Seated self.old caller (Some live) self.new }
+        requires inside { caller < length self.old.live }
+        requires masked { IsMasked self.old.names live }
+        ensures { Seated self.old caller (Some live.calls) self.new }
     {
         self.live[usize::from(caller)] = Some(live);
     }
 
     /// The lowest other caller whose live transaction has touched a stripe of the call, where one of the two touches is for writing.
     pub fn holder(&self, caller: u8, call: &Call) -> Option<u8>
-        requires { length self.now ≤ 64 }
+        requires { length self.now.live ≤ 64 }
         ensures busy { IfSome result (IsBusyWith (bare self.now) caller call.now) }
         ensures free { IfNone result (IsFree (bare self.now) caller call.now) }
     {
-        let masks = Masks::touched_by(call);
+        let masks = Masks::touched_by(&self.names, call);
         for other in 0..self.live.len() as u8 {
             if other != caller && masks.clash(self.touched(other)) {
                 return Some(other);
@@ -109,7 +140,7 @@ impl Seats {
 
     /// The same where it is not known that there is none.
     pub fn holder_if(&self, locks: Locks, caller: u8, call: &Call) -> Option<u8>
-        requires few { length self.now ≤ 64 }
+        requires few { length self.now.live ≤ 64 }
         requires locked { locks ≡ Held → IsFree (bare self.now) caller call.now }
         ensures busy { IfSome result (IsBusyWith (bare self.now) caller call.now) }
         ensures free { IfNone result (IsFree (bare self.now) caller call.now) }

@@ -3,17 +3,33 @@ ghost use Rattle.std.specs.Prelude.{◌≡◌};
 ghost use Rattle.mars_core.specs.TableCall.{asking};
 
 use history::Call;
-use record_slots::Value;
+use record_slots::{Name, Value};
 
-/// A call that is neither a begin nor the end of a transaction. It borrows a value.
+/// A call that is neither a begin nor the end of a transaction. It borrows the name of its table and a value.
 #[derive(Clone, Copy)]
 pub enum TableCall<'a> {
-    Get { key: u64 },
-    Put { key: u64, value: &'a Value },
-    Del { key: u64 },
-    Scan { low: u64, high: u64 },
+    Get {
+        table: &'a Name,
+        key: u64,
+    },
+    Put {
+        table: &'a Name,
+        key: u64,
+        value: &'a Value,
+    },
+    Del {
+        table: &'a Name,
+        key: u64,
+    },
+    Scan {
+        table: &'a Name,
+        low: u64,
+        high: u64,
+    },
     Save,
-    Back { save: u32 },
+    Back {
+        save: u32,
+    },
 }
 
 /// What a call asks for: of the callers, or of the records.
@@ -33,10 +49,15 @@ impl<'a> Asked<'a> {
             Call::Begin => Asked::Begin,
             Call::Commit => Asked::Commit,
             Call::Abort => Asked::Abort,
-            Call::Get { key } => Asked::Table(TableCall::Get { key: *key }),
-            Call::Put { key, value } => Asked::Table(TableCall::Put { key: *key, value }),
-            Call::Del { key } => Asked::Table(TableCall::Del { key: *key }),
-            Call::Scan { low, high } => Asked::Table(TableCall::Scan {
+            Call::Get { table, key } => Asked::Table(TableCall::Get { table, key: *key }),
+            Call::Put { table, key, value } => Asked::Table(TableCall::Put {
+                table,
+                key: *key,
+                value,
+            }),
+            Call::Del { table, key } => Asked::Table(TableCall::Del { table, key: *key }),
+            Call::Scan { table, low, high } => Asked::Table(TableCall::Scan {
+                table,
                 low: *low,
                 high: *high,
             }),

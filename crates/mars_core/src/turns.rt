@@ -1,11 +1,11 @@
 // Callers by turns over records.
-ghost use Rattle.std.specs.Prelude.{◌≡◌, ◌<◌, ◌≤◌, ◌⊎◌, [], ℕ, None, Ok, IfOk, IfErr, IsTrue, IsFalse, is_some, length};
+ghost use Rattle.std.specs.Prelude.{◌≡◌, ◌<◌, ◌≤◌, ◌⊎◌, [], ℕ, None, Ok, IfOk, IfErr, IsTrue, IsFalse, is_some, length, slice_index_or};
 ghost use Rattle.std.specs.FinMap.{entries};
-ghost use Rattle.history.specs.Key.{main_name};
-ghost use Rattle.history.specs.Rows.{all_keyed};
+ghost use Rattle.history.specs.Rows.{records_in};
 ghost use Rattle.eaw_face.specs.Causes.{IsAlive};
+ghost use Rattle.eaw_face.specs.Mirroring.{Mirrors, GivesUp};
 ghost use Rattle.page_store.specs.Shown.{pages_of};
-ghost use Rattle.history.specs.Locks.{touched};
+ghost use Rattle.history.specs.Locks.{touched, has_table};
 ghost use Rattle.history.specs.declared.call.Call.TheVariants.{Begin, Commit, Abort};
 ghost use Rattle.history.specs.declared.locks.Mode.TheVariants.{Shared, Exclusive};
 ghost use Rattle.history.specs.declared.call.Reply.TheVariants.{Dead};
@@ -15,6 +15,7 @@ ghost use Rattle.caller_steps.specs.Purging.{Purges};
 ghost use Rattle.caller_steps.specs.Locked.{IsLocked};
 ghost use Rattle.caller_steps.specs.State.{calls_of};
 ghost use Rattle.record_slots.specs.Places.{version_of};
+ghost use Rattle.record_table.specs.Names.{KeepsNames};
 ghost use Rattle.record_table.specs.Shown.{state_of};
 ghost use Rattle.record_table.specs.Upgrading.{Upgrades};
 ghost use Rattle.mars_core.specs.Attached.{CoreCause, GivesBack, is_media_fault};
@@ -32,24 +33,26 @@ use crate::doubt::Doubt;
 use crate::fault::CoreFault;
 use crate::live::Live;
 use crate::locks::Locks;
-use crate::purging::clear;
+use crate::purging::{clear, stopped};
 use crate::seats::Seats;
 use crate::table_call::{Asked, TableCall};
-use caller_steps::Core as Steps;
+use caller_steps::{Core as Steps, PurgeFault};
 use eaw_face::EawStore;
-use history::{Call, Done, History, Reply, Rows};
+use history::{Call, Done, History, Reply, Rows, Tables};
+use mars_base::NoMemory;
 use page_store::{KeyIndex, Pages, SaveRoom};
+use record_slots::{Name, Names};
 use record_table::Records;
 use std::alloc::Global;
 use std::marker::Model;
 
-/// Callers that take turns on records over a store, under an index. Each call locks the stripe of its key (of 64), and a scan all
+/// Callers that take turns on records over a store, under an index. Each call locks the stripe of its key in its table (of 64), and a scan all
 /// stripes, until the transaction ends: a get and a scan beside other readers, a put and a removal alone.
 #[derive(Drop)]
 pub struct Core<S: EawStore, K: KeyIndex> {
     alloc: Global,
     records: Records<S, K>,
-    base: Rows,
+    base: Tables,
     seats: Seats,
     history: History,
     /// The transactions whose commit met a fault of the medium. They may be durable or not.
@@ -66,7 +69,7 @@ impl<S: EawStore, K: KeyIndex> Model for Core<S, K> {
 
     ghost view = { λ c. record { records = c.records; base = c.base; seats = c.seats; history = c.history; doubt = c.doubt } };
 
-    ghost invariant = { λ c. IsKept S.tells S.opens K.index (pages_of (S.view c.records.store) c.records) (length c.seats) c.base
+    ghost invariant = { λ c. IsKept S.tells S.opens K.index (pages_of (S.view c.records.store) c.records) (length c.seats.live) c.base
         (state_over K.index (S.view c.records.store) (record { records = c.records; base = c.base; seats = c.seats; history = c.history; doubt = c.doubt })) };
 }
 
@@ -81,17 +84,17 @@ impl<S: EawStore, K: KeyIndex> Core<S, K> {
         ensures cause { IfErr result (λ failed. CoreCause S.tells K.index (S.view store) failed.0) }
         ensures gives_back { IfErr result (λ failed. GivesBack S.tells (S.opens (S.view store).shape) (is_media_fault failed.0) (S.view store) (S.view failed.1)) }
     {
-        let (records, base) = match Records::attach(alloc, Pages::attach_in(room, store)) {
+        let (records, tables) = match Records::attach(alloc, Pages::attach_in(room, store)) {
             Ok(attached) => attached,
             Err((fault, pages)) => return Err((CoreFault::from(fault), pages.into_store())),
         };
-        begin_over(alloc, records, base)
+        begin_over(alloc, records, tables)
     }
 
-    /// The records at the opening, in the order of their keys.
-    pub fn base(&self) -> &Rows
+    /// The records at the opening, in the order of their keys: of each table its rows.
+    pub fn base(&self) -> &Tables
         ensures base { result.now ≡ self.now.base }
-        ensures entries { IsTrue S.tells → all_keyed main_name result.now ≡ entries (core_of S.opens K.index (S.view self.now.records.store) self.now).state.base }
+        ensures entries { IsTrue S.tells → records_in result.now ≡ entries (core_of S.opens K.index (S.view self.now.records.store) self.now).state.base }
     {
         &self.base
     }
@@ -115,7 +118,7 @@ impl<S: EawStore, K: KeyIndex> Core<S, K> {
     /// A bit for each stripe that the caller's live transaction touched for reading.
     pub fn touched_read(&self, caller: u8) -> u64
         requires { caller < (S.view self.now.records.store).shape.numbers }
-        ensures { IsMaskOf Shared (touched (calls_of (core_of S.opens K.index (S.view self.now.records.store) self.now).state caller)) result }
+        ensures { IsMaskOf Shared (touched self.now.seats.names (calls_of (core_of S.opens K.index (S.view self.now.records.store) self.now).state caller)) result }
     {
         self.seats.touched(caller).reads
     }
@@ -123,9 +126,31 @@ impl<S: EawStore, K: KeyIndex> Core<S, K> {
     /// A bit for each stripe that the caller's live transaction touched for writing.
     pub fn touched_write(&self, caller: u8) -> u64
         requires { caller < (S.view self.now.records.store).shape.numbers }
-        ensures { IsMaskOf Exclusive (touched (calls_of (core_of S.opens K.index (S.view self.now.records.store) self.now).state caller)) result }
+        ensures { IsMaskOf Exclusive (touched self.now.seats.names (calls_of (core_of S.opens K.index (S.view self.now.records.store) self.now).state caller)) result }
     {
         self.seats.touched(caller).writes
+    }
+
+    /// The oldest frame that the store below has sent and not yet given up. It is empty if there is none.
+    pub fn first_frame(&self) -> &[u8]
+        ensures { IsTrue (S.view self.now.records.store).sending.told → result.now ≡ slice_index_or (S.view self.now.records.store).sending.frames 0 [] }
+    {
+        self.records.first_frame()
+    }
+
+    /// Gives that frame up. If there is none, it does nothing.
+    pub fn drop_frame(&mut self)
+        ensures gives_up { GivesUp (S.view self.old.records.store) (S.view self.new.records.store) }
+        ensures rest { self.new ≡ record self.old { records = self.new.records } }
+    {
+        self.records.drop_frame();
+    }
+
+    /// Whether the sending of frames has ended.
+    pub fn link_down(&self) -> bool
+        ensures { result ≡ (S.view self.now.records.store).sending.is_down }
+    {
+        self.records.link_down()
     }
 
     /// The store below. What live transactions have written is still logged in it.
@@ -144,32 +169,37 @@ impl<S: EawStore, K: KeyIndex> Core<S, K> {
         records.into_pages().into_store()
     }
 
-    /// Takes keys without records out of the index, so that their slots are given again: each key of `main` whose stripe no live transaction
-    /// touches is tried once, by rising key. Returns how many were taken out. A key stays whose pair its page keeps as the last one. What
-    /// callers see stays as it is. It is refused with `Dead`, then with `Already` if the caller has a live transaction, and with `Media`.
-    pub fn purge(&mut self, caller: u8) -> Result<u32, Reply>
+    /// Takes keys without records out of the index, so that their slots are given again: each key whose stripe no live transaction touches
+    /// is tried once, by rising table and key. Returns how many were taken out. A key stays whose pair its page keeps as the last one. What
+    /// callers see stays as it is. It is refused with `Dead`, then with `Already` if the caller has a live transaction. A fault of the medium
+    /// stops it, and so does a damaged page, which only a core that does not tell its records meets.
+    #[tactic(auto, using(crate::proofs::GivingUp::sends_none))]
+    pub fn purge(&mut self, caller: u8) -> Result<u32, PurgeFault>
         requires inside { caller < (S.view self.old.records.store).shape.numbers }
         requires lists { IsTrue S.tells → IsAlive (S.view self.old.records.store) → version_of (S.view self.old.records.store).state.bytes ≡ 2 }
         ensures purges { Purges S.tells (Keeps K.index) caller (core_of S.opens K.index (S.view self.old.records.store) self.old)
             (core_of S.opens K.index (S.view self.new.records.store) self.new) result }
+        ensures sends { Mirrors S.tells (S.view self.old.records.store) (S.view self.new.records.store) }
     {
         if self.records.is_dead() {
-            return Err(Reply::Dead);
+            return Err(PurgeFault::Dead);
         }
         if self.seats.is_live(caller) {
-            return Err(Reply::Already);
+            return Err(PurgeFault::Already);
         }
         match clear(&mut self.records, &self.seats, caller) {
             Ok(taken) => Ok(taken),
-            Err(fault) => Err(Reply::from(fault)),
+            Err(fault) => Err(stopped(fault)),
         }
     }
 
+    #[tactic(auto, using(crate::proofs::GivingUp::sends_none))]
     fn begin(&mut self, caller: u8) -> Reply
         requires inside { caller < (S.view self.old.records.store).shape.numbers }
         requires alive { IsAlive (S.view self.old.records.store) }
         ensures steps { Steps S.tells caller Begin (core_of S.opens K.index (S.view self.old.records.store) self.old)
             (core_of S.opens K.index (S.view self.new.records.store) self.new) result }
+        ensures sends { Mirrors S.tells (S.view self.old.records.store) (S.view self.new.records.store) }
         ensures not_busy { IsFalse (is_busy result) }
     {
         if self.seats.is_live(caller) {
@@ -180,6 +210,7 @@ impl<S: EawStore, K: KeyIndex> Core<S, K> {
     }
 
     // Answers a call that the one-thread table answers. Meanwhile the transaction is out of its seat.
+    #[tactic(auto, using(crate::proofs::GivingUp::sends_none))]
     fn ask(&mut self, caller: u8, call: &Call, asked: TableCall<'_>, locks: Locks) -> Reply
         requires said { call_of asked ≡ call.now }
         requires inside { caller < (S.view self.old.records.store).shape.numbers }
@@ -188,8 +219,10 @@ impl<S: EawStore, K: KeyIndex> Core<S, K> {
         requires locked { locks ≡ Held → IsLocked (core_of S.opens K.index (S.view self.old.records.store) self.old).state caller call.now }
         ensures steps { Steps S.tells caller call.now (core_of S.opens K.index (S.view self.old.records.store) self.old)
             (core_of S.opens K.index (S.view self.new.records.store) self.new) result }
+        ensures sends { Mirrors S.tells (S.view self.old.records.store) (S.view self.new.records.store) }
         ensures not_busy { locks ≡ Held → IsFalse (is_busy result) }
         ensures begun { IsFalse (is_refusal result) → IsTrue (is_some ((core_of S.opens K.index (S.view self.old.records.store) self.old).state.live caller)) }
+        ensures tabled { IsFalse (is_refusal result) → IsTrue (has_table self.old.seats.names call.now) }
     {
         let Some(live) = self.seats.take(caller) else {
             return Reply::NoTransaction;
@@ -208,11 +241,13 @@ impl<S: EawStore, K: KeyIndex> Core<S, K> {
         reply
     }
 
+    #[tactic(auto, using(crate::proofs::GivingUp::sends_none))]
     fn commit(&mut self, caller: u8) -> Reply
         requires inside { caller < (S.view self.old.records.store).shape.numbers }
         requires alive { IsAlive (S.view self.old.records.store) }
         ensures steps { Steps S.tells caller Commit (core_of S.opens K.index (S.view self.old.records.store) self.old)
             (core_of S.opens K.index (S.view self.new.records.store) self.new) result }
+        ensures sends { Mirrors S.tells (S.view self.old.records.store) (S.view self.new.records.store) }
         ensures not_busy { IsFalse (is_busy result) }
         ensures begun { IsFalse (is_refusal result) → IsTrue (is_some ((core_of S.opens K.index (S.view self.old.records.store) self.old).state.live caller)) }
     {
@@ -220,16 +255,13 @@ impl<S: EawStore, K: KeyIndex> Core<S, K> {
         let Some(live) = self.seats.take(caller) else {
             return Reply::NoTransaction;
         };
-        let masks = live.touched();
+        let Live { calls, masks } = live;
         // The history takes the transaction first, so that nothing is committed that there is no memory to keep.
-        match self.history.push(Done {
-            caller,
-            calls: live.into_calls(),
-            at,
-        }) {
+        match self.history.push(Done { caller, calls, at }) {
             Ok(()) => {}
             Err(failed) => {
-                self.seats.put(caller, Live::of(failed.value.calls, masks));
+                let calls = failed.value.calls;
+                self.seats.put(caller, Live { calls, masks });
                 return Reply::NoMemory;
             }
         }
@@ -242,11 +274,13 @@ impl<S: EawStore, K: KeyIndex> Core<S, K> {
         }
     }
 
+    #[tactic(auto, using(crate::proofs::GivingUp::sends_none))]
     fn abort(&mut self, caller: u8) -> Reply
         requires inside { caller < (S.view self.old.records.store).shape.numbers }
         requires alive { IsAlive (S.view self.old.records.store) }
         ensures steps { Steps S.tells caller Abort (core_of S.opens K.index (S.view self.old.records.store) self.old)
             (core_of S.opens K.index (S.view self.new.records.store) self.new) result }
+        ensures sends { Mirrors S.tells (S.view self.old.records.store) (S.view self.new.records.store) }
         ensures not_busy { IsFalse (is_busy result) }
         ensures begun { IsFalse (is_refusal result) → IsTrue (is_some ((core_of S.opens K.index (S.view self.old.records.store) self.old).state.live caller)) }
     {
@@ -262,14 +296,17 @@ impl<S: EawStore, K: KeyIndex> Core<S, K> {
         }
     }
 
+    #[tactic(auto, using(crate::proofs::GivingUp::sends_none))]
     fn make(&mut self, caller: u8, call: &Call, locks: Locks) -> Reply
         requires inside { caller < (S.view self.old.records.store).shape.numbers }
         requires locked { locks ≡ Held → IsLocked (core_of S.opens K.index (S.view self.old.records.store) self.old).state caller call.now }
         ensures steps { Steps S.tells caller call.now (core_of S.opens K.index (S.view self.old.records.store) self.old)
             (core_of S.opens K.index (S.view self.new.records.store) self.new) result }
+        ensures sends { Mirrors S.tells (S.view self.old.records.store) (S.view self.new.records.store) }
         ensures dead { IsTrue (S.view self.old.records.store).is_dead → (result ≡ Dead) × (self.new ≡ self.old) }
         ensures not_busy { locks ≡ Held → IsFalse (is_busy result) }
         ensures begun { IsFalse (is_refusal result) → IsTrue (is_some ((core_of S.opens K.index (S.view self.old.records.store) self.old).state.live caller)) ⊎ (call.now ≡ Begin) }
+        ensures tabled { IsFalse (is_refusal result) → IsTrue (has_table self.old.seats.names call.now) }
     {
         if self.records.is_dead() {
             return Reply::Dead;
@@ -284,11 +321,14 @@ impl<S: EawStore, K: KeyIndex> Core<S, K> {
 }
 
 impl<S: EawStore, K: KeyIndex> Steps for Core<S, K> {
+    ghost use Rattle.eaw_face.specs.Mirroring.{Mirrors};
     ghost use Rattle.mars_core.specs.Held.{core_of};
 
     ghost tells = { S.tells };
 
     ghost view = { λ core. core_of S.opens K.index (S.view core.records.store) core };
+
+    ghost sends = { λ old new. Mirrors S.tells (S.view old.records.store) (S.view new.records.store) };
 
     fn step(&mut self, caller: u8, call: &Call) -> Reply {
         self.make(caller, call, Locks::Asked)
@@ -296,6 +336,10 @@ impl<S: EawStore, K: KeyIndex> Steps for Core<S, K> {
 
     fn step_locked(&mut self, caller: u8, call: &Call) -> Reply {
         self.make(caller, call, Locks::Held)
+    }
+
+    fn names(&self) -> &Names {
+        self.seats.names()
     }
 
     fn told(&self) -> u64 {
@@ -311,12 +355,12 @@ impl<S: EawStore, K: KeyIndex> Steps for Core<S, K> {
 fn begin_over<S: EawStore, K: KeyIndex>(
     alloc: Global,
     records: Records<S, K>,
-    base: Rows,
+    tables: Vec<(Name, Rows)>,
 ) -> Result<Core<S, K>, (CoreFault, S)>
     requires alive { IsAlive (S.view records.store) }
-    requires free { (S.view records.store).ranges 0 ≡ None }
+    requires free { (t : ℕ) → (S.view records.store).ranges t ≡ None }
     requires sound { IsTrue S.tells → K.index.sound (S.view records.store).state.bytes }
-    requires base { IsTrue S.tells → all_keyed main_name base ≡ entries (state_of K.index (pages_of (S.view records.store) records)).table }
+    requires base { IsTrue S.tells → records_in tables.items ≡ entries (state_of K.index (pages_of (S.view records.store) records)).table }
     requires idle { IsTrue S.tells → (t : ℕ) → ((state_of K.index (pages_of (S.view records.store) records)).logs t).writes ≡ [] }
     requires unsaved { IsTrue S.tells → (t : ℕ) → ((state_of K.index (pages_of (S.view records.store) records)).logs t).saved ≡ [] }
     ensures begins { IfOk result (λ core. Begins S.tells (S.opens (S.view records.store).shape) K.index (S.view records.store) (S.view core.records.store)
@@ -324,7 +368,11 @@ fn begin_over<S: EawStore, K: KeyIndex>(
     ensures cause { IfErr result (λ failed. CoreCause S.tells K.index (S.view records.store) failed.0) }
     ensures gives_back { IfErr result (λ failed. GivesBack S.tells (S.opens (S.view records.store).shape) (is_media_fault failed.0) (S.view records.store) (S.view failed.1)) }
 {
-    let seats = match Seats::new(alloc, records.shape().numbers) {
+    let base = match gathered(alloc, tables) {
+        Ok(base) => base,
+        Err(_) => return Err((CoreFault::NoMemory, records.into_pages().into_store())),
+    };
+    let seats = match Seats::new(alloc, records.names(), records.shape().numbers) {
         Ok(seats) => seats,
         Err(_) => return Err((CoreFault::NoMemory, records.into_pages().into_store())),
     };
@@ -340,6 +388,17 @@ fn begin_over<S: EawStore, K: KeyIndex>(
         history: History::new(alloc),
         doubt: Doubt::none(),
     })
+}
+
+// Tables with their names, as they stand.
+fn gathered(alloc: Global, tables: Vec<(Name, Rows)>) -> Result<Tables, NoMemory>
+    ensures { IfOk result (λ all. all ≡ tables.items) }
+{
+    let mut all = Tables::new(alloc);
+    for (name, rows) in tables {
+        all.push(name, rows)?;
+    }
+    Ok(all)
 }
 
 // Records whose data was brought to version 2.

@@ -1,13 +1,15 @@
 -- Who asked for what: what steps add, and what stays.
 use Rattle.std.proofs.Common.{◌≡◌, ◌⊎◌, ℕ, zero, suc, ◌+◌, ◌<◌, Bool, true, false, List, [], ◌∷◌, ◌++◌, refl, sym, ap, ◌∙◌, subst, inl, inr, ⊎_elim, arith, append_assoc}
-use Rattle.std.specs.Prelude.{Contains}
+use Rattle.std.specs.Prelude.{nat_lt, nat_eq, is_some, length, unwrap_or, ◌&&◌, Option, Some, None, Contains}
+use Rattle.record_slots.specs.Names.{number_of}
+use Rattle.history.specs.Key.{of_table}
 use Rattle.std.specs.Int.{bit_at}
 use mathlib.Core.List.{append-nil}
 use Rattle.std.proofs.lemmas.List.Elements.{Contains-append_left, Contains-append_right, Contains-append_cases}
-use Rattle.history.specs.Locks.{touches}
+use Rattle.history.specs.Locks.{has_table, touches, key_stripe, stripe_of}
 use Rattle.history.specs.declared.call.Call.{Call}
-use Rattle.history.specs.declared.call.Call.TheVariants.{Scan}
-use Rattle.std.proofs.lemmas.Bool.{lt-ltb}
+use Rattle.history.specs.declared.call.Call.TheVariants.{Begin, Get, Put, Del, Scan, Save, Back, Commit, Abort}
+use Rattle.std.proofs.lemmas.Bool.{lt-ltb, eq-eqb, and_from}
 use Rattle.history.specs.declared.locks.Mode.{Mode}
 use Rattle.history.specs.declared.locks.Mode.TheVariants as mode
 use Rattle.stripe_words.specs.declared.hold.Hold.{Hold}
@@ -15,7 +17,7 @@ use Rattle.stripe_words.specs.declared.hold.Hold.TheVariants.{Free, Shared, Excl
 use Rattle.stripe_words.specs.Words.{Stands, gained, marked, HasLock, Refuses}
 use Rattle.mars_manager.specs.declared.view.Met.{Met}
 use Rattle.mars_manager.specs.declared.view.Known.{Known}
-use Rattle.mars_manager.specs.Locks.{met}
+use Rattle.mars_manager.specs.Locks.{number_asked, locks, met}
 use Rattle.mars_manager.specs.Asked.{bit_for, set_for, AsksFor, HasAsked, IsCaused, against, IsStepFor, IsReadingBelow, IsStepOf, Meets}
 
 pub only_one : {A : Type 0} (x y : A) → Contains (x ∷ []) y → x ≡ y
@@ -51,13 +53,46 @@ refused_caused mode.Exclusive found n h met step is c r = ⊎_elim
     (λ (lock : HasLock found h). asked_less step.stripe (met h) (c mode.Exclusive h r.small r.other (ap (λ w. bit_at w (32 + h)) is ∙ lock)))
     r.it_has
 
--- a step for a stripe that a call touches in this mode
-pub step_of : (call : Call) (asked : Mode) (t : ℕ) → touches call t asked ≡ true → (step : Met) → IsStepFor asked t step → IsStepOf call step
-step_of call asked t touch step (same, up) = (asked, subst (λ i. touches call i asked ≡ true) (sym same) touch, up)
+-- a call that asks for no table that is there locks nothing
+pub locks_none : (names : List (List ℕ)) (call : Call) (t : ℕ) (m : Mode) → number_asked names call ≡ None → locks names call t m ≡ false
+locks_none names Begin t m none = refl
+locks_none names (Get name key) t m none = ap (λ (o : Option ℕ). is_some o && touches names (Get name key) t m) none
+locks_none names (Put name key value) t m none = ap (λ (o : Option ℕ). is_some o && touches names (Put name key value) t m) none
+locks_none names (Del name key) t m none = ap (λ (o : Option ℕ). is_some o && touches names (Del name key) t m) none
+locks_none names (Scan name low high) t m none = ap (λ (o : Option ℕ). is_some o && touches names (Scan name low high) t m) none
+locks_none names Save t m none = refl
+locks_none names (Back save) t m none = refl
+locks_none names Commit t m none = refl
+locks_none names Abort t m none = refl
+
+-- one of a table that is there locks the stripe of its key
+pub locks_key : (names : List (List ℕ)) (name : List ℕ) (key table : ℕ) → number_of names name ≡ Some table → (t : ℕ) → (is_some (number_of names name) && nat_eq (key_stripe names (of_table name key)) t) ≡ nat_eq (stripe_of table key) t
+locks_key names name key table is t = ap (λ (o : Option ℕ). is_some o && nat_eq (stripe_of (unwrap_or o (length names)) key) t) is
+
+-- so what each call locks of the stripe of its key
+pub locks_get : (names : List (List ℕ)) (call : Call) (name : List ℕ) (key table t : ℕ) → call ≡ Get name key → number_asked names call ≡ Some table → t ≡ stripe_of table key → locks names call t mode.Shared ≡ true
+locks_get names call name key table t is there at =
+    subst (λ (c : Call). number_asked names c ≡ Some table → locks names c t mode.Shared ≡ true) (sym is) (λ n. locks_key names name key table n t ∙ eq-eqb (stripe_of table key) t (sym at)) there
+
+pub locks_put : (names : List (List ℕ)) (call : Call) (name : List ℕ) (key : ℕ) (value : List ℕ) (table t : ℕ) → call ≡ Put name key value → number_asked names call ≡ Some table → t ≡ stripe_of table key → locks names call t mode.Exclusive ≡ true
+locks_put names call name key value table t is there at =
+    subst (λ (c : Call). number_asked names c ≡ Some table → locks names c t mode.Exclusive ≡ true) (sym is) (λ n. locks_key names name key table n t ∙ eq-eqb (stripe_of table key) t (sym at)) there
+
+pub locks_del : (names : List (List ℕ)) (call : Call) (name : List ℕ) (key table t : ℕ) → call ≡ Del name key → number_asked names call ≡ Some table → t ≡ stripe_of table key → locks names call t mode.Exclusive ≡ true
+locks_del names call name key table t is there at =
+    subst (λ (c : Call). number_asked names c ≡ Some table → locks names c t mode.Exclusive ≡ true) (sym is) (λ n. locks_key names name key table n t ∙ eq-eqb (stripe_of table key) t (sym at)) there
+
+pub scan_there : (names : List (List ℕ)) (call : Call) (name : List ℕ) (low high table : ℕ) → call ≡ Scan name low high → number_asked names call ≡ Some table → has_table names call ≡ true
+scan_there names call name low high table is there = subst (λ (c : Call). number_asked names c ≡ Some table → has_table names c ≡ true) (sym is) (λ n. ap is_some n) there
+
+-- a step for a stripe that a call locks in this mode
+pub step_of : (names : List (List ℕ)) (call : Call) (asked : Mode) (t : ℕ) → locks names call t asked ≡ true → (step : Met) → IsStepFor asked t step → IsStepOf names call step
+step_of names call asked t touch step (same, up) = (asked, subst (λ i. locks names call i asked ≡ true) (sym same) touch, up)
 
 -- a step of a scan
-pub scan_step : (call : Call) (low high : ℕ) → call ≡ Scan low high → (step : Met) → IsReadingBelow 64 step → IsStepOf call step
-scan_step call low high is step (less, up) = subst (λ (c : Call). IsStepOf c step) (sym is) (mode.Shared, lt-ltb step.stripe 64 less, up)
+pub scan_step : (names : List (List ℕ)) (call : Call) (name : List ℕ) (low high : ℕ) → call ≡ Scan name low high → has_table names call ≡ true → (step : Met) → IsReadingBelow 64 step → IsStepOf names call step
+scan_step names call name low high is there step (less, up) = subst (λ (c : Call). IsStepOf names c step) (sym is)
+    (mode.Shared, and_from (has_table names (Scan name low high)) (nat_lt step.stripe 64) (ap (has_table names) (sym is) ∙ there) (lt-ltb step.stripe 64 less), up)
 
 module _ {C : Type 0} where
   -- what a step that found the word w adds to the steps of its pass, which then has x of the stripe

@@ -22,10 +22,11 @@ use Rattle.atomic_table.specs.Table.{rest}
 use Rattle.mars_manager.specs.declared.view.Known.{Known}
 use Rattle.mars_manager.specs.declared.view.Met.{Met}
 use Rattle.mars_manager.specs.declared.setup.Setup.{Setup}
-use Rattle.mars_manager.specs.Pass.{Fits, AllFit, live_of, finds, told_of}
+use Rattle.mars_manager.specs.Pass.{Fits, AllFit, names_of, live_of, finds, told_of}
 use Rattle.mars_manager.specs.Locks.{with_locks, IsAgain, HasAfter}
 use Rattle.mars_manager.specs.Sharing.{CanShare, Since, Called, IsLegalIn, done_of, mine_of, HasCommitted, Commits}
-use Rattle.mars_manager.specs.Seat.{SeatOf, shared_view, Makes}
+use Rattle.mars_manager.specs.Seat.{SeatOf, first_of, shared_view, Makes}
+use Rattle.history.specs.Locks.{has_table}
 use Rattle.mars_manager.specs.Rule.{Face, shown, Took, Told}
 use Rattle.mars_manager.proofs.Past.{since_step}
 use Rattle.mars_manager.proofs.Turns.{out, top_of, some_same, found_fit, live_at, Moved}
@@ -54,9 +55,10 @@ module _ {C : Type 0} (f : Face C) where
   }
 
   pub moved : (setup : Setup C) (n : ℕ) (call : Call) (reply : Reply) (old new : C) → Steps f.tells n call (f.show old) (f.show new) reply → (IsTrue (f.show old).state.is_dead → (reply ≡ Dead) × (new ≡ old)) → (IsFalse (is_refusal reply) → IsTrue (is_some ((f.show old).state.live n)) ⊎ (call ≡ Begin))
-      → Moved f setup n call reply old new
-  moved setup n call reply old new s dead begun = record {
+      → (IsFalse (is_refusal reply) → IsTrue (has_table (f.show old).state.names call)) → Moved f setup n call reply old new
+  moved setup n call reply old new s dead begun tabled = record {
     begun = begun;
+    tabled = tabled;
     grows = subst (λ h. Grows (f.show old).state.history h) (sym s.moves.history) (after_grows (f.show old).state n reply);
     since = since_step f.tells n call reply (f.show setup.first) (f.show old) (f.show new) s;
     goes = goes_on setup n call reply old new s dead;
@@ -147,12 +149,16 @@ module _ {C : Type 0} (f : Face C) where
         back ∙ ap F out_is ∙ ap (λ (m : SeatOf C). F (G m)) took.now ∙ (λ i. F (G (H (core_is m0 m1 core home took taken is i) (idle i))))
 
     module _ (n : ℕ) (call : Call) (reply : Reply) (number : k.number ≡ n) (steps : Steps f.tells n call (f.show core) (f.show new) reply) (dead : IsTrue (f.show core).state.is_dead → (reply ≡ Dead) × (new ≡ core))
-        (begun : IsFalse (is_refusal reply) → IsTrue (is_some ((f.show core).state.live n)) ⊎ (call ≡ Begin)) (sure : IsFalse (is_busy reply)) where
+        (begun : IsFalse (is_refusal reply) → IsTrue (is_some ((f.show core).state.live n)) ⊎ (call ≡ Begin)) (tabled : IsFalse (is_refusal reply) → IsTrue (has_table (f.show core).state.names call)) (sure : IsFalse (is_busy reply)) where
       steps_as : Steps f.tells k.number call (f.show core) (f.show new) reply
       steps_as = subst (λ n. Steps f.tells n call (f.show core) (f.show new) reply) (sym number) steps
 
       pub moves : (setup : Setup C) → Moved f setup k.number call reply core new
-      moves setup = moved setup k.number call reply core new steps_as dead (subst (λ (i : ℕ). IsFalse (is_refusal reply) → IsTrue (is_some ((f.show core).state.live i)) ⊎ (call ≡ Begin)) (sym number) begun)
+      moves setup = moved setup k.number call reply core new steps_as dead (subst (λ (i : ℕ). IsFalse (is_refusal reply) → IsTrue (is_some ((f.show core).state.live i)) ⊎ (call ≡ Begin)) (sym number) begun) tabled
+
+      tabled_at : IsFalse (is_refusal reply) → IsTrue (has_table (names_of k) call)
+      tabled_at granted = subst (λ (names : List (List ℕ)). has_table names call ≡ true)
+          (sym ((λ i. names_of (first_of (sym idle i).0.passes)) ∙ took.named ∙ ap (λ (c : C). (f.show c).state.names) (core_is m0 m1 core home took taken is))) (tabled granted)
 
       begun_at : (setup : Setup C) (turns : List Turn) → Fits f.tells f.show setup turns (f.show core).state k → (f.show setup.first).state.live k.number ≡ None → (b : Bool) → (f.show core).state.is_dead ≡ b → IsFalse (is_refusal reply) → IsTrue (is_some (live_of k)) ⊎ (call ≡ Begin)
       begun_at setup turns fit fresh true is granted = absurd (true≢false (sym (ap is_refusal (dead is).0) ∙ granted))
@@ -180,6 +186,8 @@ module _ {C : Type 0} (f : Face C) where
               is = give ∙ ap F told_seat;
               made = record {
                 number = refl;
+                setup = refl;
+                tabled = tabled_at;
                 holds = refl;
                 met = refl;
                 sure = sure;

@@ -24,7 +24,7 @@ use Rattle.mars_manager.specs.declared.view.View.{View}
 use Rattle.mars_manager.specs.declared.setup.Setup.{Setup}
 use Rattle.caller_steps.specs.Run.{Turn, GoesAlong, AreOf, LastTurn}
 use Rattle.caller_steps.proofs.Running.{turn_none}
-use Rattle.mars_manager.specs.Pass.{AllFit, live_of, AreSo, times, newcomer, PassView, PassesView, AllOf, dealt, known_of}
+use Rattle.mars_manager.specs.Pass.{AllFit, names_of, live_of, AreSo, times, newcomer, PassView, PassesView, AllOf, dealt, known_of}
 use Rattle.mars_manager.specs.Sharing.{CanShare, Since}
 use Rattle.mars_manager.specs.Seat.{TableOf, SeatOf, IsIdle, first_of, seat_of, view, shared_view, opener, newcomers, behind, front, joined, spent}
 use Rattle.history.specs.Table.{Granted}
@@ -132,9 +132,9 @@ module _ {C : Type 0} (f : Face C) (setup : Setup C) where
   fresh_have m zero = tt
   fresh_have m (suc n) = ((refl, refl), fresh_have (suc m) n)
 
-  pub opens_keeps : (slots id : ℕ) → CanShare f.tells setup.callers (f.show setup.first) → setup.callers ≤ 32
+  pub opens_keeps : (slots id : ℕ) → CanShare f.tells setup.callers (f.show setup.first) → setup.names ≡ (f.show setup.first).state.names → setup.callers ≤ 32
       → Allows (Rule f setup) slots id (opener Opening setup, (0, Some setup.first) ∷ []) 64 (λ _. 0) (λ _. gives_turn (step slots 64 0 0 none) (opener Opening setup, (0, Some setup.first) ∷ []) 0)
-  opens_keeps slots id can few s rule wide at _ =
+  opens_keeps slots id can named few s rule wide at _ =
       let core = setup.first in
       let x = is_opening s id (opener Opening setup) rule at refl in
       let w : View C = opener Shared setup in
@@ -157,7 +157,7 @@ module _ {C : Type 0} (f : Face C) (setup : Setup C) where
             caused = λ n step there. none_here step there;
             long = λ n. refl;
             stripes = λ t l. subst (λ w. Stands w (λ n. get_or (replicate 64 Free) t Free)) (sym (ap (λ ws. get_or ws t 0) words ∙ repeated 66 t 0)) (stands_free (λ n. get_or (replicate 64 Free) t Free) (λ h. repeated 64 t Free));
-            covered = λ alive n. subst (λ (live : Option Granted). IsCovered (touched (unwrap_or live [])) (replicate 64 Free)) (sym (can.live n)) (covered_none (replicate 64 Free));
+            covered = λ alive n. subst (λ (live : Option Granted). IsCovered (touched setup.names (unwrap_or live [])) (replicate 64 Free)) (sym (can.live n)) (covered_none setup.names (replicate 64 Free));
           };
           one = length-set s.homes 0 (some (Some core)) ∙ x.0.one;
           told = ap (λ l. get_or l 65 0) words ∙ sym (ap length can.history);
@@ -171,6 +171,7 @@ module _ {C : Type 0} (f : Face C) (setup : Setup C) where
           once = λ n. (let t : count n (set s.views id w) ≡ times n w.passes + 0 = ap (count n) views in let o = once_each setup n 0 setup.callers in omega arith);
           below = λ n b. (let t : count n (set s.views id w) ≡ times n w.passes + 0 = ap (count n) views in let o = none_above setup n 0 setup.callers (omega arith) in omega arith);
           few = few;
+          named = named;
           ready = can;
           since = since_shared f.tells setup.callers (f.show core) can;
           run = refl;
@@ -318,12 +319,12 @@ module _ {C : Type 0} (f : Face C) (setup : Setup C) where
   pub begins_as : (slots id : ℕ) (m : SeatOf C) → m ≡ (opener Vacant setup, []) → Allows (Rule f setup) slots id m 64 (λ _. 1) (λ _. began (step slots 64 1 0 none) m 1)
   begins_as slots id m e = subst (λ (m : SeatOf C). Allows (Rule f setup) slots id m 64 (λ _. 1) (λ _. began (step slots 64 1 0 none) m 1)) (sym e) (begins_keeps slots id)
 
-  pub opens_as : (slots id : ℕ) (core : C) (m : SeatOf C) → m ≡ (opener Opening setup, out core) → core ≡ setup.first → CanShare f.tells setup.callers (f.show core) → setup.callers ≤ 32
+  pub opens_as : (slots id : ℕ) (core : C) (m : SeatOf C) → m ≡ (opener Opening setup, out core) → core ≡ setup.first → CanShare f.tells setup.callers (f.show core) → setup.names ≡ (f.show setup.first).state.names → setup.callers ≤ 32
       → Allows (Rule f setup) slots id m 64 (λ _. 0) (λ _. gives_turn (step slots 64 0 0 none) m 0)
-  opens_as slots id core m e same can few =
+  opens_as slots id core m e same can named few =
       let now : C → SeatOf C = λ c. (opener Opening setup, out c) in
       subst (λ (m : SeatOf C). Allows (Rule f setup) slots id m 64 (λ _. 0) (λ _. gives_turn (step slots 64 0 0 none) m 0)) (sym (e ∙ ap now same))
-      (opens_keeps slots id (subst (λ c. CanShare f.tells setup.callers (f.show c)) same can) few)
+      (opens_keeps slots id (subst (λ c. CanShare f.tells setup.callers (f.show c)) same can) named few)
 
   pub deals_as : (id : ℕ) (k : Known C) (ks : List (Known C)) (v : View C) → v ≡ shared_view (k ∷ ks) None → Splits (Rule f setup) id v (view v.stage (behind v.passes) v.held) (view v.stage (front v.passes) None)
   deals_as id k ks v e = subst (λ (v : View C). Splits (Rule f setup) id v (view v.stage (behind v.passes) v.held) (view v.stage (front v.passes) None)) (sym e) (deals_keeps id k ks)
@@ -341,9 +342,10 @@ module _ {C : Type 0} where
       ap (λ c. newcomers setup n c) more ∙ ap (λ m. newcomer setup n ∷ newcomers setup m (callers - (n + 1))) one
 
   -- a pass that was just dealt out
-  pub new_idle : (setup : Setup C) (n : ℕ) (m : SeatOf C) → m ≡ seat_of (newcomer setup n) → n < 32 → IsIdle n (replicate 64 Free) false m
+  pub new_idle : (setup : Setup C) (n : ℕ) (m : SeatOf C) → m ≡ seat_of (newcomer setup n) → n < 32 → IsIdle n setup.names (replicate 64 Free) false m
   new_idle setup n m e l = record {
-    seat = record { known = newcomer setup n; is = e; number = refl; small = l; long = refl; covered = covered_none (replicate 64 Free) };
+    seat = record { known = newcomer setup n; is = e; number = refl; small = l; long = refl; covered = covered_none setup.names (replicate 64 Free) };
+    named = ap (λ (m : SeatOf C). names_of (first_of m.0.passes)) e;
     same = ap (λ (m : SeatOf C). (first_of m.0.passes).holds) e;
     settled = λ t z. no_try (sym (ap (λ (m : SeatOf C). hold_of t (first_of m.0.passes)) e ∙ repeated 64 t Free) ∙ z);
     live_is = ap (λ (m : SeatOf C). is_some (live_of (first_of m.0.passes))) e;

@@ -1,14 +1,15 @@
 -- What passes have of the stripes covers what their live transactions touched.
 use Rattle.std.proofs.Common.{◌≡◌, ◌≢◌, ◌⊎◌, ℕ, ◌+◌, ◌*◌, ◌%◌, ◌<◌, mod-lt, Bool, true, false, List, [], ◌∷◌, ◌++◌, get_or, Option, unwrap_or, refl, sym, ap, ◌∙◌, subst, ⊎_elim, arith}
-use Rattle.std.specs.Prelude.{IsTrue, IsFalse, is_some}
-use Rattle.std.proofs.lemmas.Bool.{eqb-true, ltb-true, false≢true, or_cases, or_parts}
+use Rattle.std.specs.Prelude.{nat_eq, length, IsTrue, IsFalse, is_some}
+use Rattle.record_slots.specs.Names.{number_of}
+use Rattle.std.proofs.lemmas.Bool.{and_from, eqb-true, ltb-true, false≢true, or_cases, or_parts}
 use mathlib.Core.Logic.{dite}
 use mathlib.Core.Option.{some}
 use native.Mathlib.Decide.{ℕ_discrete}
 use lib.ListN.{get_elem?}
-use Rattle.history.specs.Key.{of_main}
+use Rattle.history.specs.Key.{of_table}
 use Rattle.history.specs.Table.{Granted}
-use Rattle.history.specs.Locks.{Touch, touches, touched, key_stripe, clash, is_touch}
+use Rattle.history.specs.Locks.{Touch, touches, touched, key_stripe, has_table, clash, is_touch}
 use Rattle.history.proofs.Modes.{clash_parts}
 use Rattle.history.specs.declared.call.Call.{Call}
 use Rattle.history.specs.declared.call.Call.TheVariants.{Begin, Get, Put, Del, Scan, Save, Back, Commit, Abort}
@@ -25,8 +26,8 @@ use Rattle.stripe_words.specs.Words.{granted, locked, Stands}
 use Rattle.mars_manager.specs.declared.view.Known.{Known}
 use Rattle.mars_manager.specs.declared.view.Met.{Met}
 use Rattle.mars_manager.specs.declared.view.View.{View}
-use Rattle.mars_manager.specs.Pass.{live_of}
-use Rattle.mars_manager.specs.Locks.{IsCovered, hold_of}
+use Rattle.mars_manager.specs.Pass.{live_of, names_of}
+use Rattle.mars_manager.specs.Locks.{locks, IsCovered, hold_of}
 use Rattle.mars_manager.specs.Rule.{Face, HasAlone, AllHave, AreLocked}
 
 pub locked_granted : (x : Hold) → locked x ≡ 1 → granted x ≡ 1
@@ -36,83 +37,98 @@ locked_granted Shared e = absurd (omega arith)
 locked_granted Exclusive e = refl
 
 -- nothing is touched by no call
-pub covered_none : (holds : List Hold) → IsCovered (touched []) holds
-covered_none holds = record { reads = λ t e. absurd (false≢true e); writes = λ t e. absurd (false≢true e) }
+pub covered_none : (names : List (List ℕ)) (holds : List Hold) → IsCovered (touched names []) holds
+covered_none names holds = record { reads = λ t e. absurd (false≢true e); writes = λ t e. absurd (false≢true e) }
 
-touched_parts : (calls : Granted) (call : Call) (reply : Reply) (t : ℕ) (m : Mode) → touched (calls ++ (call, reply) ∷ []) t m ≡ true → (touched calls t m ≡ true) ⊎ (touches call t m ≡ true)
-touched_parts calls call reply t m e = or_cases (touched calls t m) (touches call t m) (sym (ap (λ (f : Touch). f m) (touched-push calls call reply t)) ∙ e)
+touched_parts : (names : List (List ℕ)) (calls : Granted) (call : Call) (reply : Reply) (t : ℕ) (m : Mode) → touched names (calls ++ (call, reply) ∷ []) t m ≡ true → (touched names calls t m ≡ true) ⊎ (touches names call t m ≡ true)
+touched_parts names calls call reply t m e = or_cases (touched names calls t m) (touches names call t m) (sym (ap (λ (f : Touch). f m) (touched-push names calls call reply t)) ∙ e)
 
-covered_more : (calls : Granted) (call : Call) (reply : Reply) (holds : List Hold) → IsCovered (touched calls) holds → IsCovered (touches call) holds → IsCovered (touched (calls ++ (call, reply) ∷ [])) holds
-covered_more calls call reply holds a b = record {
-  reads = λ t e. ⊎_elim (a.reads t) (b.reads t) (touched_parts calls call reply t mode.Shared e);
-  writes = λ t e. ⊎_elim (a.writes t) (b.writes t) (touched_parts calls call reply t mode.Exclusive e);
+covered_more : (names : List (List ℕ)) (calls : Granted) (call : Call) (reply : Reply) (holds : List Hold) → IsCovered (touched names calls) holds → IsCovered (touches names call) holds → IsCovered (touched names (calls ++ (call, reply) ∷ [])) holds
+covered_more names calls call reply holds a b = record {
+  reads = λ t e. ⊎_elim (a.reads t) (b.reads t) (touched_parts names calls call reply t mode.Shared e);
+  writes = λ t e. ⊎_elim (a.writes t) (b.writes t) (touched_parts names calls call reply t mode.Exclusive e);
 }
 
 -- a call that was done
-pub covered_with : (calls : Granted) (call : Call) (reply : Reply) (holds : List Hold) → IsCovered (touched calls) holds → IsCovered (touches call) holds → IsCovered (touched (unwrap_or (live_with calls call reply) [])) holds
-covered_with calls Begin reply holds a b = covered_none holds
-covered_with calls (Get key) reply holds a b = covered_more calls (Get key) reply holds a b
-covered_with calls (Put key value) reply holds a b = covered_more calls (Put key value) reply holds a b
-covered_with calls (Del key) reply holds a b = covered_more calls (Del key) reply holds a b
-covered_with calls (Scan low high) reply holds a b = covered_more calls (Scan low high) reply holds a b
-covered_with calls Save reply holds a b = covered_more calls Save reply holds a b
-covered_with calls (Back save) reply holds a b = covered_more calls (Back save) reply holds a b
-covered_with calls Commit reply holds a b = covered_none holds
-covered_with calls Abort reply holds a b = covered_none holds
+pub covered_with : (names : List (List ℕ)) (calls : Granted) (call : Call) (reply : Reply) (holds : List Hold) → IsCovered (touched names calls) holds → IsCovered (touches names call) holds → IsCovered (touched names (unwrap_or (live_with calls call reply) [])) holds
+covered_with names calls Begin reply holds a b = covered_none names holds
+covered_with names calls (Get name key) reply holds a b = covered_more names calls (Get name key) reply holds a b
+covered_with names calls (Put name key value) reply holds a b = covered_more names calls (Put name key value) reply holds a b
+covered_with names calls (Del name key) reply holds a b = covered_more names calls (Del name key) reply holds a b
+covered_with names calls (Scan name low high) reply holds a b = covered_more names calls (Scan name low high) reply holds a b
+covered_with names calls Save reply holds a b = covered_more names calls Save reply holds a b
+covered_with names calls (Back save) reply holds a b = covered_more names calls (Back save) reply holds a b
+covered_with names calls Commit reply holds a b = covered_none names holds
+covered_with names calls Abort reply holds a b = covered_none names holds
 
-untouching : (call : Call) (holds : List Hold) → call ≡ Begin → IsCovered (touches call) holds
-untouching call holds e = subst (λ (c : Call). IsCovered (touches c) holds) (sym e) (record { reads = λ t z. absurd (false≢true z); writes = λ t z. absurd (false≢true z) })
+untouching : (names : List (List ℕ)) (call : Call) (holds : List Hold) → call ≡ Begin → IsCovered (touches names call) holds
+untouching names call holds e = subst (λ (c : Call). IsCovered (touches names c) holds) (sym e) (record { reads = λ t z. absurd (false≢true z); writes = λ t z. absurd (false≢true z) })
 
--- the call is covered if it was done: its caller is live, or it is a begin
-pub covered_call : (call : Call) (live : Option Granted) (holds : List Hold) → (IsTrue (is_some live) → IsCovered (touches call) holds) → IsTrue (is_some live) ⊎ (call ≡ Begin) → IsCovered (touches call) holds
-covered_call call live holds a b = ⊎_elim a (untouching call holds) b
+-- what covers what a call locks covers what it touches, if its table is there
+pub covered_locks : (names : List (List ℕ)) (call : Call) (holds : List Hold) → has_table names call ≡ true → IsCovered (locks names call) holds → IsCovered (touches names call) holds
+covered_locks names call holds there c = record {
+  reads = λ t e. c.reads t (and_from (has_table names call) (touches names call t mode.Shared) there e);
+  writes = λ t e. c.writes t (and_from (has_table names call) (touches names call t mode.Exclusive) there e);
+}
+
+-- the call is covered if it was done: its table is there, and its caller is live, or it is a begin
+pub covered_call : (names : List (List ℕ)) (call : Call) (live : Option Granted) (holds : List Hold) → has_table names call ≡ true → (IsTrue (is_some live) → IsCovered (locks names call) holds) → IsTrue (is_some live) ⊎ (call ≡ Begin) → IsCovered (touches names call) holds
+covered_call names call live holds there a b = ⊎_elim (λ lives. covered_locks names call holds there (a lives)) (untouching names call holds) b
+
+small_stripe : (names : List (List ℕ)) (name : List ℕ) (key t : ℕ) → nat_eq (key_stripe names (of_table name key)) t ≡ true → t < 64
+small_stripe names name key t e = (let same = eqb-true (key_stripe names (of_table name key)) t e in let small : key_stripe names (of_table name key) < 64 = mod-lt (key % 64 + 8 * unwrap_or (number_of names name) (length names)) (omega arith) in omega arith)
 
 -- only stripes are touched
-pub small_touch : (call : Call) (t : ℕ) (m : Mode) → touches call t m ≡ true → t < 64
-small_touch Begin t m e = absurd (false≢true e)
-small_touch (Get key) t mode.Shared e = (let same = eqb-true (key_stripe (of_main key)) t e in let small : (key % 64 + 8 * 0) % 64 < 64 = mod-lt (key % 64 + 8 * 0) (omega arith) in omega arith)
-small_touch (Get key) t mode.Exclusive e = absurd (false≢true e)
-small_touch (Put key value) t mode.Shared e = absurd (false≢true e)
-small_touch (Put key value) t mode.Exclusive e = (let same = eqb-true (key_stripe (of_main key)) t e in let small : (key % 64 + 8 * 0) % 64 < 64 = mod-lt (key % 64 + 8 * 0) (omega arith) in omega arith)
-small_touch (Del key) t mode.Shared e = absurd (false≢true e)
-small_touch (Del key) t mode.Exclusive e = (let same = eqb-true (key_stripe (of_main key)) t e in let small : (key % 64 + 8 * 0) % 64 < 64 = mod-lt (key % 64 + 8 * 0) (omega arith) in omega arith)
-small_touch (Scan low high) t mode.Shared e = ltb-true t 64 e
-small_touch (Scan low high) t mode.Exclusive e = absurd (false≢true e)
-small_touch Save t m e = absurd (false≢true e)
-small_touch (Back save) t m e = absurd (false≢true e)
-small_touch Commit t m e = absurd (false≢true e)
-small_touch Abort t m e = absurd (false≢true e)
+pub small_touch : (names : List (List ℕ)) (call : Call) (t : ℕ) (m : Mode) → touches names call t m ≡ true → t < 64
+small_touch names Begin t m e = absurd (false≢true e)
+small_touch names (Get name key) t mode.Shared e = small_stripe names name key t e
+small_touch names (Get name key) t mode.Exclusive e = absurd (false≢true e)
+small_touch names (Put name key value) t mode.Shared e = absurd (false≢true e)
+small_touch names (Put name key value) t mode.Exclusive e = small_stripe names name key t e
+small_touch names (Del name key) t mode.Shared e = absurd (false≢true e)
+small_touch names (Del name key) t mode.Exclusive e = small_stripe names name key t e
+small_touch names (Scan name low high) t mode.Shared e = ltb-true t 64 e
+small_touch names (Scan name low high) t mode.Exclusive e = absurd (false≢true e)
+small_touch names Save t m e = absurd (false≢true e)
+small_touch names (Back save) t m e = absurd (false≢true e)
+small_touch names Commit t m e = absurd (false≢true e)
+small_touch names Abort t m e = absurd (false≢true e)
 
 -- what a pass has that covers its call locks out all other live transactions
-module _ {C : Type 0} (f : Face C) (core : C) (k : Known C) (call : Call) (alone : HasAlone f core k) (c : IsCovered (touches call) k.holds) where
-  no_clash : (h t : ℕ) → h ≢ k.number → (writes reads : Bool) → touches call t mode.Exclusive ≡ writes → touches call t mode.Shared ≡ reads → clash (touches call t) (touched (calls_of (f.show core).state h) t) ≡ true → ⊥
+module _ {C : Type 0} (f : Face C) (core : C) (k : Known C) (call : Call) (alone : HasAlone f core k) (c : IsCovered (touches (f.show core).state.names call) k.holds) where
+  no_clash : (h t : ℕ) → h ≢ k.number → (writes reads : Bool) → touches (f.show core).state.names call t mode.Exclusive ≡ writes → touches (f.show core).state.names call t mode.Shared ≡ reads
+      → clash (touches (f.show core).state.names call t) (touched (f.show core).state.names (calls_of (f.show core).state h) t) ≡ true → ⊥
   no_clash h t ne writes reads w r e =
-      let theirs : Touch = touched (calls_of (f.show core).state h) t in
+      let theirs : Touch = touched (f.show core).state.names (calls_of (f.show core).state h) t in
       ⊎_elim
-      (λ (p : (touches call t mode.Exclusive ≡ true) × (is_touch theirs ≡ true)). false≢true (sym (alone.writes t h (small_touch call t mode.Exclusive p.0) ne (c.writes t p.0)) ∙ p.1))
-      (λ (p : (is_touch (touches call t) ≡ true) × (theirs mode.Exclusive ≡ true)).
+      (λ (p : (touches (f.show core).state.names call t mode.Exclusive ≡ true) × (is_touch theirs ≡ true)). false≢true (sym (alone.writes t h (small_touch (f.show core).state.names call t mode.Exclusive p.0) ne (c.writes t p.0)) ∙ p.1))
+      (λ (p : (is_touch (touches (f.show core).state.names call t) ≡ true) × (theirs mode.Exclusive ≡ true)).
       ⊎_elim
-      (λ (read : touches call t mode.Shared ≡ true). false≢true (sym (alone.reads t h (small_touch call t mode.Shared read) ne (c.reads t read)) ∙ p.1))
-      (λ (write : touches call t mode.Exclusive ≡ true). false≢true (sym (alone.reads t h (small_touch call t mode.Exclusive write) ne (locked_granted (hold_of t k) (c.writes t write))) ∙ p.1))
-      (or_cases (touches call t mode.Shared) (touches call t mode.Exclusive) p.0))
-      (clash_parts (touches call t) theirs e)
+      (λ (read : touches (f.show core).state.names call t mode.Shared ≡ true). false≢true (sym (alone.reads t h (small_touch (f.show core).state.names call t mode.Shared read) ne (c.reads t read)) ∙ p.1))
+      (λ (write : touches (f.show core).state.names call t mode.Exclusive ≡ true). false≢true (sym (alone.reads t h (small_touch (f.show core).state.names call t mode.Exclusive write) ne (locked_granted (hold_of t k) (c.writes t write))) ∙ p.1))
+      (or_cases (touches (f.show core).state.names call t mode.Shared) (touches (f.show core).state.names call t mode.Exclusive) p.0))
+      (clash_parts (touches (f.show core).state.names call t) theirs e)
 
 module _ {C : Type 0} (f : Face C) (core : C) (k : Known C) (call : Call) where
-  pub locked_by : (IsFalse (f.show core).state.is_dead → HasAlone f core k) → (IsTrue (is_some (live_of k)) → IsCovered (touches call) k.holds) → IsLocked (f.show core).state k.number call
-  locked_by alone has alive live h b =
+  pub locked_by : names_of k ≡ (f.show core).state.names → (IsFalse (f.show core).state.is_dead → HasAlone f core k) → (IsTrue (is_some (live_of k)) → IsCovered (locks (names_of k) call) k.holds) → IsLocked (f.show core).state k.number call
+  locked_by named alone has alive live there h b =
       let a = alone alive in
-      no_clash f core k call a (has (subst (λ (o : Option Granted). is_some o ≡ true) a.mine live)) h b.1.0 b.0 (touches call b.1.0 mode.Exclusive) (touches call b.1.0 mode.Shared) refl refl b.1.1
+      let mine = subst (λ (names : List (List ℕ)). IsCovered (locks names call) k.holds) named (has (subst (λ (o : Option Granted). is_some o ≡ true) a.mine live)) in
+      no_clash f core k call a (covered_locks (f.show core).state.names call k.holds there mine) h b.1.0 b.0
+      (touches (f.show core).state.names call b.1.0 mode.Exclusive) (touches (f.show core).state.names call b.1.0 mode.Shared) refl refl b.1.1
 
-own_covered : (old new : State) (n : ℕ) (call : Call) (reply : Reply) (holds : List Hold) → Moves old n call reply new → (IsTrue (is_some (old.live n)) → IsCovered (touches call) holds)
-    → (IsFalse (is_refusal reply) → IsTrue (is_some (old.live n)) ⊎ (call ≡ Begin)) → is_media reply ≡ false → (b : Bool) → is_refusal reply ≡ b → IsCovered (touched (calls_of old n)) holds → IsCovered (touched (calls_of new n)) holds
-own_covered old new n call reply holds m call_covered begun sure true is c = subst (λ (live : Option Granted). IsCovered (touched (unwrap_or live [])) holds) (sym (ap (λ (f : ℕ → Option Granted). f n) (m.refused is sure))) c
-own_covered old new n call reply holds m call_covered begun sure false is c = subst (λ (live : Option Granted). IsCovered (touched (unwrap_or live [])) holds) (sym (m.own is))
-    (covered_with (calls_of old n) call reply holds c (covered_call call (old.live n) holds call_covered (begun is)))
+own_covered : (names : List (List ℕ)) (old new : State) (n : ℕ) (call : Call) (reply : Reply) (holds : List Hold) → Moves old n call reply new → (IsTrue (is_some (old.live n)) → IsCovered (locks names call) holds)
+    → (IsFalse (is_refusal reply) → IsTrue (is_some (old.live n)) ⊎ (call ≡ Begin)) → (IsFalse (is_refusal reply) → has_table names call ≡ true) → is_media reply ≡ false → (b : Bool) → is_refusal reply ≡ b
+    → IsCovered (touched names (calls_of old n)) holds → IsCovered (touched names (calls_of new n)) holds
+own_covered names old new n call reply holds m call_covered begun tabled sure true is c =
+    subst (λ (live : Option Granted). IsCovered (touched names (unwrap_or live [])) holds) (sym (ap (λ (f : ℕ → Option Granted). f n) (m.refused is sure))) c
+own_covered names old new n call reply holds m call_covered begun tabled sure false is c = subst (λ (live : Option Granted). IsCovered (touched names (unwrap_or live [])) holds) (sym (m.own is))
+    (covered_with names (calls_of old n) call reply holds c (covered_call names call (old.live n) holds (tabled is) call_covered (begun is)))
 
-module _ {C : Type 0} (callers : ℕ) where
+module _ {C : Type 0} (callers : ℕ) (names : List (List ℕ)) where
   -- the words of the stripes stay, and the passes have what they had
-  pub locked_same : (state : State) (holds : ℕ → List Hold) (met : ℕ → List Met) (words words' : List ℕ) (views views' : List (View C)) → AreLocked callers state holds met words views → ((t : ℕ) → t < 64 → get_or words' t 0 ≡ get_or words t 0)
-      → ((i : ℕ) (v : View C) → get_elem? views' i ≡ some v → AllHave holds met v.passes) → AreLocked callers state holds met words' views'
+  pub locked_same : (state : State) (holds : ℕ → List Hold) (met : ℕ → List Met) (words words' : List ℕ) (views views' : List (View C)) → AreLocked callers names state holds met words views → ((t : ℕ) → t < 64 → get_or words' t 0 ≡ get_or words t 0)
+      → ((i : ℕ) (v : View C) → get_elem? views' i ≡ some v → AllHave holds met v.passes) → AreLocked callers names state holds met words' views'
   locked_same state holds met words words' views views' h same have = record {
     have = have;
     strangers = h.strangers;
@@ -124,9 +140,9 @@ module _ {C : Type 0} (callers : ℕ) where
   }
 
   -- a call of the pass n, which has what the call touches
-  pub locked_step : (old new : State) (holds : ℕ → List Hold) (met : ℕ → List Met) (words : List ℕ) (views : List (View C)) (n : ℕ) (call : Call) (reply : Reply) → AreLocked callers old holds met words views → Moves old n call reply new
-      → (IsFalse old.is_dead → IsTrue (is_some (old.live n)) → IsCovered (touches call) (holds n)) → (IsFalse (is_refusal reply) → IsTrue (is_some (old.live n)) ⊎ (call ≡ Begin)) → AreLocked callers new holds met words views
-  locked_step old new holds met words views n call reply h m call_covered begun = record {
+  pub locked_step : (old new : State) (holds : ℕ → List Hold) (met : ℕ → List Met) (words : List ℕ) (views : List (View C)) (n : ℕ) (call : Call) (reply : Reply) → AreLocked callers names old holds met words views → Moves old n call reply new
+      → (IsFalse old.is_dead → IsTrue (is_some (old.live n)) → IsCovered (locks names call) (holds n)) → (IsFalse (is_refusal reply) → IsTrue (is_some (old.live n)) ⊎ (call ≡ Begin)) → (IsFalse (is_refusal reply) → has_table names call ≡ true) → AreLocked callers names new holds met words views
+  locked_step old new holds met words views n call reply h m call_covered begun tabled = record {
     have = h.have;
     strangers = h.strangers;
     asked = h.asked;
@@ -135,6 +151,6 @@ module _ {C : Type 0} (callers : ℕ) where
     stripes = h.stripes;
     covered = λ alive k. (let both = or_parts old.is_dead (is_media reply) (sym m.dead ∙ alive) in
         dite (ℕ_discrete k n)
-        (λ (e : k ≡ n). subst (λ i. IsCovered (touched (calls_of new i)) (holds i)) (sym e) (own_covered old new n call reply (holds n) m (call_covered both.0) begun both.1 (is_refusal reply) refl (h.covered both.0 n)))
-        (λ (ne : k ≢ n). subst (λ (live : Option Granted). IsCovered (touched (unwrap_or live [])) (holds k)) (sym (m.others k ne)) (h.covered both.0 k)));
+        (λ (e : k ≡ n). subst (λ i. IsCovered (touched names (calls_of new i)) (holds i)) (sym e) (own_covered names old new n call reply (holds n) m (call_covered both.0) begun tabled both.1 (is_refusal reply) refl (h.covered both.0 n)))
+        (λ (ne : k ≢ n). subst (λ (live : Option Granted). IsCovered (touched names (unwrap_or live [])) (holds k)) (sym (m.others k ne)) (h.covered both.0 k)));
   }

@@ -19,7 +19,7 @@ use Rattle.caller_steps.proofs.Numbering.{turns_number, behind_numbered}
 use Rattle.atomic_table.specs.Table.{rest}
 use Rattle.mars_manager.specs.declared.view.Known.{Known}
 use Rattle.mars_manager.specs.declared.setup.Setup.{Setup}
-use Rattle.mars_manager.specs.Pass.{Fits, AllFit, known_at, finds, told_of, live_of, IsOther}
+use Rattle.mars_manager.specs.Pass.{Fits, AllFit, known_at, names_in, finds, told_of, live_of, IsOther}
 use Rattle.mars_manager.specs.Sharing.{IsLegalIn, mine_of, Reads}
 use Rattle.mars_manager.specs.Seat.{SeatOf, shared_view, seat_of, first_of, IsIdle}
 use Rattle.mars_manager.specs.Rule.{Face, Took, HasRead}
@@ -76,6 +76,7 @@ module _ {C : Type 0} (f : Face C) (m0 m1 m2 m3 : SeatOf C) (k : Known C) (core 
 -- what a pass keeps that has read the history, or has tried to
 pub record Kept {C : Type 0} (was now : Known C) : Type 0 where
   pub number : now.number ≡ was.number
+  pub setup : now.setup ≡ was.setup
   pub holds : now.holds ≡ was.holds
   pub told : told_of now ≡ told_of was
   pub mine : mine_of now ≡ mine_of was
@@ -85,6 +86,7 @@ module _ {C : Type 0} (tells : Bool) (show : C → CoreView) (was : Known C) whe
   kept_read : (now : Known C) → Reads tells show was now → Kept was now
   kept_read now r = record {
     number = ap (λ (j : Known C). j.number) r.after;
+    setup = ap (λ (j : Known C). j.setup) r.after;
     holds = ap (λ (j : Known C). j.holds) r.after;
     told = ap told_of r.after ∙ sym (turn_told tells (show r.setup.first).limits was.number was.past was.seen (show r.setup.first).state (show r.core).state r.turns r.last);
     mine = ap mine_of r.after ∙ sym (turn_commits tells (show r.setup.first).limits was.number was.past was.seen (show r.setup.first).state (show r.core).state r.turns r.last);
@@ -92,7 +94,7 @@ module _ {C : Type 0} (tells : Bool) (show : C → CoreView) (was : Known C) whe
   }
 
   kept_found : (n : ℕ) → Kept was (finds n was)
-  kept_found n = record { number = refl; holds = refl; told = refl; mine = refl; seen = grows_none was.seen }
+  kept_found n = record { number = refl; setup = refl; holds = refl; told = refl; mine = refl; seen = grows_none was.seen }
 
   pub read_kept : {A : Type 0} (r : Result A Again) (m : SeatOf C) → IfOk r (λ _. m ≡ seat_of (first_of m.0.passes)) → IfOk r (λ _. Reads tells show was (first_of m.0.passes))
       → IfErr r (λ a. IsOther was a.holder × (m ≡ seat_of (finds (a.holder + 1) was))) → (m ≡ seat_of (first_of m.0.passes)) × Kept was (first_of m.0.passes)
@@ -109,11 +111,11 @@ module _ {C : Type 0} (tells : Bool) (show : C → CoreView) (was : Known C) whe
       (subst (λ b. IsLegal b (show r.core).state.history) r.since.base (r.since.continues told).sound.legal))
 
 -- the pass keeps what is so of it between two calls
-pub idle_kept : {C : Type 0} (n : ℕ) (hs : List Hold) (live : Bool) (m new : SeatOf C) → IsIdle n hs live m → new ≡ seat_of (first_of new.0.passes) → Kept (first_of m.0.passes) (first_of new.0.passes) → IsIdle n hs live new
-idle_kept {C} n hs live m new i one k =
+pub idle_kept : {C : Type 0} (n : ℕ) (names : List (List ℕ)) (hs : List Hold) (live : Bool) (m new : SeatOf C) → IsIdle n names hs live m → new ≡ seat_of (first_of new.0.passes) → Kept (first_of m.0.passes) (first_of new.0.passes) → IsIdle n names hs live new
+idle_kept {C} n names hs live m new i one k =
     let was = first_of m.0.passes in
     let now = first_of new.0.passes in
-    let old = pass_is n hs live m i in
+    let old = pass_is n names hs live m i in
     let same : live_of now ≡ live_of was = (λ j. live_by (k.number j) (k.told j)) in record {
       seat = record {
         known = now;
@@ -121,8 +123,9 @@ idle_kept {C} n hs live m new i one k =
         number = k.number ∙ number_is n m i.seat;
         small = i.seat.small;
         long = ap (λ (xs : List Hold). length xs) k.holds ∙ long_is n m i.seat;
-        covered = subst (λ (o : Option Granted). IsCovered (touched (unwrap_or o [])) now.holds) (sym same) (subst (λ (xs : List Hold). IsCovered (touched_by was) xs) (sym k.holds) old.covered);
+        covered = subst (λ (p : Option (Setup C) × Option Granted). IsCovered (touched (names_in p.0) (unwrap_or p.1 [])) now.holds) (λ j. (sym k.setup j, sym same j)) (subst (λ (xs : List Hold). IsCovered (touched_by was) xs) (sym k.holds) old.covered);
       };
+      named = ap names_in k.setup ∙ i.named;
       same = k.holds ∙ i.same;
       settled = λ t e. i.settled t (ap (λ (xs : List Hold). get_or xs t Free) (sym k.holds) ∙ e);
       live_is = ap (λ (o : Option Granted). is_some o) same ∙ i.live_is;

@@ -17,8 +17,8 @@ use Rattle.stripe_words.specs.declared.hold.Hold.{Hold}
 use Rattle.stripe_words.specs.declared.hold.Hold.TheVariants.{Free, Trying, Shared, Exclusive}
 use Rattle.stripe_words.specs.Words.{granted, locked, raised}
 use Rattle.mars_manager.specs.declared.view.Known.{Known}
-use Rattle.mars_manager.specs.Pass.{told_of, live_of, known_after}
-use Rattle.mars_manager.specs.Locks.{IsCovered, IsBelow, raised_for, is_end, is_live_after, touched_by, hold_of, with_holds, with_locks, HasLockedFor, HasReadied, HasAfter}
+use Rattle.mars_manager.specs.Pass.{told_of, live_of, names_in, names_of, known_after}
+use Rattle.mars_manager.specs.Locks.{locks, IsCovered, IsBelow, raised_for, is_end, is_live_after, touched_by, hold_of, with_holds, with_locks, HasLockedFor, HasReadied, HasAfter}
 use Rattle.mars_manager.specs.Sharing.{Called}
 use Rattle.mars_manager.specs.Seat.{HasMade}
 use Rattle.mars_manager.proofs.Knowns.{below_raised, below_same}
@@ -50,10 +50,10 @@ raised_writes touch x e = go (touch mode.Exclusive) (touch mode.Shared) x e
 -- whether a caller is live after a call
 live_some : (calls : Granted) (call : Call) (reply : Reply) → is_some (live_with calls call reply) ≡ not (is_end call)
 live_some calls Begin reply = refl
-live_some calls (Get key) reply = refl
-live_some calls (Put key value) reply = refl
-live_some calls (Del key) reply = refl
-live_some calls (Scan low high) reply = refl
+live_some calls (Get name key) reply = refl
+live_some calls (Put name key value) reply = refl
+live_some calls (Del name key) reply = refl
+live_some calls (Scan name low high) reply = refl
 live_some calls Save reply = refl
 live_some calls (Back save) reply = refl
 live_some calls Commit reply = refl
@@ -74,12 +74,12 @@ lives o call reply = go (is_media reply) (is_commit call) (is_refusal reply) (is
     go false commit false live e = live_some (unwrap_or o []) call reply
 
 -- what covers a transaction before a call that is refused, or what it touches too, covers it after the call
-covered_live : (o : Option Granted) (call : Call) (reply : Reply) (hs : List Hold) → IsCovered (touched (unwrap_or o [])) hs → (is_refusal reply ≡ false → IsCovered (touches call) hs) → (media_ commit refused : Bool) → is_refusal reply ≡ refused
-    → IsCovered (touched (unwrap_or (if media_ then (if commit then None else o) else (if refused then o else live_with (unwrap_or o []) call reply)) [])) hs
-covered_live o call reply hs a b true true refused e = covered_none hs
-covered_live o call reply hs a b true false refused e = a
-covered_live o call reply hs a b false commit true e = a
-covered_live o call reply hs a b false commit false e = covered_with (unwrap_or o []) call reply hs a (b e)
+covered_live : (names : List (List ℕ)) (o : Option Granted) (call : Call) (reply : Reply) (hs : List Hold) → IsCovered (touched names (unwrap_or o [])) hs → (is_refusal reply ≡ false → IsCovered (touches names call) hs) → (media_ commit refused : Bool) → is_refusal reply ≡ refused
+    → IsCovered (touched names (unwrap_or (if media_ then (if commit then None else o) else (if refused then o else live_with (unwrap_or o []) call reply)) [])) hs
+covered_live names o call reply hs a b true true refused e = covered_none names hs
+covered_live names o call reply hs a b true false refused e = a
+covered_live names o call reply hs a b false commit true e = a
+covered_live names o call reply hs a b false commit false e = covered_with names (unwrap_or o []) call reply hs a (b e)
 
 pub if_ok : {A B : Type 0} (P Q : A → Type 0) (r : Result A B) → ((a : A) → P a → Q a) → IfOk r P → IfOk r Q
 if_ok P Q (Ok a) h p = h a p
@@ -94,19 +94,19 @@ module _ {C : Type 0} where
   pub lives_on : (was now : Known C) (call : Call) (reply : Reply) → now.number ≡ was.number → told_of now ≡ told_of was ++ (call, reply) ∷ [] → is_some (live_of now) ≡ is_live_after (is_some (live_of was)) call reply
   lives_on was now call reply number told = ap (λ (o : Option Granted). is_some o) (live_on was now call reply number told) ∙ lives (live_of was) call reply
 
-  pub covered_on : (was now : Known C) (call : Call) (reply : Reply) (hs : List Hold) → now.number ≡ was.number → told_of now ≡ told_of was ++ (call, reply) ∷ [] → IsCovered (touched_by was) hs → (is_refusal reply ≡ false → IsCovered (touches call) hs) → IsCovered (touched_by now) hs
-  covered_on was now call reply hs number told a b = subst (λ (o : Option Granted). IsCovered (touched (unwrap_or o [])) hs) (sym (live_on was now call reply number told))
-      (covered_live (live_of was) call reply hs a b (is_media reply) (is_commit call) (is_refusal reply) refl)
+  pub covered_on : (was now : Known C) (call : Call) (reply : Reply) (hs : List Hold) → now.number ≡ was.number → now.setup ≡ was.setup → told_of now ≡ told_of was ++ (call, reply) ∷ [] → IsCovered (touched_by was) hs → (is_refusal reply ≡ false → IsCovered (touches (names_of was) call) hs) → IsCovered (touched_by now) hs
+  covered_on was now call reply hs number setup told a b = subst (λ (p : List (List ℕ) × Option Granted). IsCovered (touched p.0 (unwrap_or p.1 [])) hs) (λ j. (names_in (sym setup j), sym (live_on was now call reply number told) j))
+      (covered_live (names_of was) (live_of was) call reply hs a b (is_media reply) (is_commit call) (is_refusal reply) refl)
 
   -- what a call locks
   pub readied : (call : Call) (was now : Known C) → ((t : ℕ) → hold_of t was ≢ Trying) → HasLockedFor call was now → IsTrue (is_some (live_of was)) → HasReadied call was now
   readied call was now settled h live = record {
     more = h.more;
     same = h.same;
-    below = λ t. subst (IsBelow (hold_of t was)) (sym (h.each t)) (below_raised (touches call t) (hold_of t was) (settled t));
+    below = λ t. subst (IsBelow (hold_of t was)) (sym (h.each t)) (below_raised (locks (names_of was) call t) (hold_of t was) (settled t));
     covered = λ _. record {
-      reads = λ t e. ap granted (h.each t) ∙ raised_reads (touches call t) (hold_of t was) e;
-      writes = λ t e. ap locked (h.each t) ∙ raised_writes (touches call t) (hold_of t was) e;
+      reads = λ t e. ap granted (h.each t) ∙ raised_reads (locks (names_of was) call t) (hold_of t was) e;
+      writes = λ t e. ap locked (h.each t) ∙ raised_writes (locks (names_of was) call t) (hold_of t was) e;
     };
     each = λ _ t. h.each t;
     idle = λ dead. absurd (true≢false (sym live ∙ dead));
@@ -145,23 +145,23 @@ module _ {C : Type 0} where
         }
 
     pub after_refusal : (k3 : Known C) → is_refusal reply ≡ true → k3.holds ≡ k.holds → HasAfter call reply k k3
-    after_refusal k3 e h = subst (λ b. MatchBool b (k3.holds ≡ k.holds) (MatchBool (is_end call) (k3.holds ≡ replicate 64 Free) ((t : ℕ) → hold_of t k3 ≡ raised_for (touches call t) (hold_of t k)))) (sym e) h
+    after_refusal k3 e h = subst (λ b. MatchBool b (k3.holds ≡ k.holds) (MatchBool (is_end call) (k3.holds ≡ replicate 64 Free) ((t : ℕ) → hold_of t k3 ≡ raised_for (locks (names_of k) call t) (hold_of t k)))) (sym e) h
 
     pub after_end : (k3 : Known C) → is_refusal reply ≡ false → is_end call ≡ true → k3.holds ≡ replicate 64 Free → HasAfter call reply k k3
-    after_end k3 e d h = subst (λ b. MatchBool b (k3.holds ≡ k.holds) (MatchBool (is_end call) (k3.holds ≡ replicate 64 Free) ((t : ℕ) → hold_of t k3 ≡ raised_for (touches call t) (hold_of t k)))) (sym e)
-        (subst (λ b. MatchBool b (k3.holds ≡ replicate 64 Free) ((t : ℕ) → hold_of t k3 ≡ raised_for (touches call t) (hold_of t k))) (sym d) h)
+    after_end k3 e d h = subst (λ b. MatchBool b (k3.holds ≡ k.holds) (MatchBool (is_end call) (k3.holds ≡ replicate 64 Free) ((t : ℕ) → hold_of t k3 ≡ raised_for (locks (names_of k) call t) (hold_of t k)))) (sym e)
+        (subst (λ b. MatchBool b (k3.holds ≡ replicate 64 Free) ((t : ℕ) → hold_of t k3 ≡ raised_for (locks (names_of k) call t) (hold_of t k))) (sym d) h)
 
     same_live : live_of k1 ≡ live_of k
     same_live = ap (λ (j : Known C). live_of j) r.same
 
-    each_if : (b : Bool) → is_some (live_of k) ≡ b → is_refusal reply ≡ false → (t : ℕ) → hold_of t k2 ≡ raised_for (touches call t) (hold_of t k)
+    each_if : (b : Bool) → is_some (live_of k) ≡ b → is_refusal reply ≡ false → (t : ℕ) → hold_of t k2 ≡ raised_for (locks (names_of k) call t) (hold_of t k)
     each_if true live e t = ap (λ hs. get_or hs t Free) m.holds ∙ r.each live t
     each_if false dead e t = ap (λ hs. get_or hs t Free) m.holds ∙ ap (λ hs. get_or hs t Free) (r.idle dead)
         ∙ sym (⊎_elim
         (λ (live : IsTrue (is_some (live_of k1))). absurd (true≢false (sym live ∙ ap (λ (o : Option Granted). is_some o) same_live ∙ dead)))
-        (λ (begin : call ≡ Begin). ap (λ (c : Call). raised_for (touches c t) (hold_of t k)) begin)
+        (λ (begin : call ≡ Begin). ap (λ (c : Call). raised_for (locks (names_of k) c t) (hold_of t k)) begin)
         (m.begun e))
 
     pub after_done : is_refusal reply ≡ false → is_end call ≡ false → HasAfter call reply k k2
-    after_done e d = subst (λ b. MatchBool b (k2.holds ≡ k.holds) (MatchBool (is_end call) (k2.holds ≡ replicate 64 Free) ((t : ℕ) → hold_of t k2 ≡ raised_for (touches call t) (hold_of t k)))) (sym e)
-        (subst (λ b. MatchBool b (k2.holds ≡ replicate 64 Free) ((t : ℕ) → hold_of t k2 ≡ raised_for (touches call t) (hold_of t k))) (sym d) (each_if (is_some (live_of k)) refl e))
+    after_done e d = subst (λ b. MatchBool b (k2.holds ≡ k.holds) (MatchBool (is_end call) (k2.holds ≡ replicate 64 Free) ((t : ℕ) → hold_of t k2 ≡ raised_for (locks (names_of k) call t) (hold_of t k)))) (sym e)
+        (subst (λ b. MatchBool b (k2.holds ≡ replicate 64 Free) ((t : ℕ) → hold_of t k2 ≡ raised_for (locks (names_of k) call t) (hold_of t k))) (sym d) (each_if (is_some (live_of k)) refl e))

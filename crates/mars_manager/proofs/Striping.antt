@@ -26,7 +26,7 @@ use Rattle.mars_manager.specs.Asked.{bit_for, set_for, HasAsked, AreCaused}
 use Rattle.mars_manager.specs.declared.view.Stage.TheVariants as stage
 use Rattle.mars_manager.specs.declared.view.View.{View}
 use Rattle.mars_manager.specs.declared.setup.Setup.{Setup}
-use Rattle.mars_manager.specs.Pass.{Fits, AllFit, times}
+use Rattle.mars_manager.specs.Pass.{Fits, AllFit, names_in, live_of, times}
 use Rattle.mars_manager.specs.Locks.{IsCovered, IsPass, touched_by, hold_of, with_hold, noted, marked_by, excluded_by, IsUnwritten, IsUntouched}
 use Rattle.mars_manager.specs.Seat.{TableOf, SeatOf, IsSeat, IsIdle, first_of, seat_of, shared_view}
 use Rattle.mars_manager.specs.Rule.{Face, AllHave, IsFree, IsHeld, IsKept, Rule, marks, excludes, releases, backs}
@@ -72,8 +72,8 @@ module _ {C : Type 0} where
   pub long_is : (n : ℕ) (m : SeatOf C) (i : IsSeat n m) → length (first_of m.0.passes).holds ≡ 64
   long_is n m i = ap (λ (k : Known C). length k.holds) (first_is n m i) ∙ i.long
 
-  pub pass_is : (n : ℕ) (hs : List Hold) (live : Bool) (m : SeatOf C) → IsIdle n hs live m → IsPass (first_of m.0.passes)
-  pass_is n hs live m i = record { long = long_is n m i.seat; covered = subst (λ (k : Known C). IsCovered (touched_by k) k.holds) (sym (first_is n m i.seat)) i.seat.covered; settled = i.settled }
+  pub pass_is : (n : ℕ) (names : List (List ℕ)) (hs : List Hold) (live : Bool) (m : SeatOf C) → IsIdle n names hs live m → IsPass (first_of m.0.passes)
+  pass_is n names hs live m i = record { long = long_is n m i.seat; covered = subst (λ (k : Known C). IsCovered (touched_by k) k.holds) (sym (first_is n m i.seat)) i.seat.covered; settled = i.settled }
 
   -- a seat after its pass has moved
   pub seated : (n t : ℕ) (x : Hold) (m m' : SeatOf C) (i : IsSeat n m) (F : Known C → Known C) → m' ≡ seat_of (F (first_of m.0.passes)) → Moves t x i.known (F i.known) → IsSeat n m'
@@ -183,6 +183,7 @@ module _ {C : Type 0} (f : Face C) (setup : Setup C) where
         once = λ n. (let t = counts n in let o = h.once n in omega arith);
         below = λ n b. counts n ∙ h.below n b;
         few = h.few;
+        named = h.named;
         ready = h.ready;
         since = h.since;
         run = h.run;
@@ -205,9 +206,10 @@ module _ {C : Type 0} (f : Face C) (setup : Setup C) where
               (stands_same (get_or s.words r 0) (λ n. get_or (h.holds n) r Free) (λ n. get_or (now_of h.holds k.number k'.holds n) r Free)
               (each_now (λ n hs. get_or hs r Free ≡ get_or (h.holds n) r Free) h.holds k.number k'.holds (m.there r ne ∙ ap (λ hs. get_or hs r Free) own) (λ n. refl))
               (h.locks.stripes r lr)));
-          covered = λ alive. each_now (λ n hs. IsCovered (touched (unwrap_or ((f.show h.core).state.live n) [])) hs) h.holds k.number k'.holds
-              (subst (λ (live : Option Granted). IsCovered (touched (unwrap_or live [])) k'.holds)
-              (sym (ap (λ (i : ℕ). (f.show h.core).state.live i) (sym number) ∙ live_at f setup h.turns h.core k' (h.ready.live k'.number) fit alive)) m.covered)
+          covered = λ alive. each_now (λ n hs. IsCovered (touched setup.names (unwrap_or ((f.show h.core).state.live n) [])) hs) h.holds k.number k'.holds
+              (subst (λ (live : Option Granted). IsCovered (touched setup.names (unwrap_or live [])) k'.holds)
+              (sym (ap (λ (i : ℕ). (f.show h.core).state.live i) (sym number) ∙ live_at f setup h.turns h.core k' (h.ready.live k'.number) fit alive))
+              (subst (λ (given : Option (Setup C)). IsCovered (touched (names_in given) (unwrap_or (live_of k') [])) k'.holds) fit.setup_is m.covered))
               (h.locks.covered alive);
         };
       }

@@ -1,5 +1,5 @@
 -- Each step keeps the rule.
-use Rattle.std.proofs.Common.{◌||◌, Bool, ◌≡◌, ◌≢◌, ◌⊎◌, ℕ, ◌+◌, ◌<◌, ◌≤◌, eqb, List, [], ◌∷◌, ◌++◌, length, set, get_or, Option, Some, None, refl, sym, ap, ◌∙◌, subst, inl, inr, ⊎_elim, arith, length-set, get_or-set_same, get_or-set_other}
+use Rattle.std.proofs.Common.{◌||◌, true, Bool, ◌≡◌, ◌≢◌, ◌⊎◌, ℕ, ◌+◌, ◌<◌, ◌≤◌, eqb, List, [], ◌∷◌, ◌++◌, length, set, get_or, Option, Some, None, refl, sym, ap, ◌∙◌, subst, inl, inr, ⊎_elim, arith, length-set, get_or-set_same, get_or-set_other}
 use mathlib.Core.Logic.{dite}
 use mathlib.Core.Option.{Option as Home, some, none, some-injective}
 use native.Mathlib.Decide.{dec_le, ℕ_discrete}
@@ -11,23 +11,23 @@ use Rattle.caller_steps.specs.Room.{Limits}
 use Rattle.caller_steps.specs.Prefix.{Grows}
 use Rattle.caller_steps.specs.Run.{Turn, Goes}
 use Rattle.caller_steps.proofs.Continuing.{grows_longer}
-use Rattle.caller_steps.proofs.Running.{all_of_append, turns_one, turn_own, turn_other, turn_grows, turn_run, turn_told}
+use Rattle.caller_steps.proofs.Running.{turns_names, all_of_append, turns_one, turn_own, turn_other, turn_grows, turn_run, turn_told}
 use Rattle.atomic_table.specs.Table.{step, Act, keeps, takes, gives, stepped, Valid, carried_after, Allows}
 use Rattle.atomic_table.proofs.Lists.{set_here, set_else, exchanged}
 use Rattle.mars_manager.specs.declared.view.Known.{Known}
 use Rattle.mars_manager.specs.declared.view.Stage.TheVariants.{Vacant, Opening, Shared}
 use Rattle.mars_manager.specs.declared.view.View.{View}
 use Rattle.mars_manager.specs.declared.setup.Setup.{Setup}
-use Rattle.mars_manager.specs.Pass.{Fits, AllFit, known_at, live_of, times, finds, hears}
+use Rattle.mars_manager.specs.Pass.{Fits, AllFit, known_at, names_in, names_of, live_of, times, finds, hears}
 use Rattle.mars_manager.specs.Sharing.{Since}
 use Rattle.mars_manager.specs.Seat.{TableOf, SeatOf, shared_view, opener}
 use Rattle.mars_manager.specs.Rule.{Face, AllHave, HasAlone, count, IsFree, IsHeld, IsKept, IsFresh, IsOpening, Rule, takes_turn, shown, tells_length, gives_turn, gives_read, looks}
-use Rattle.mars_manager.specs.Locks.{IsCovered, hold_of}
+use Rattle.mars_manager.specs.Locks.{locks, IsCovered, hold_of}
 use Rattle.mars_manager.proofs.Locked.{locked_same, locked_step, locked_granted}
 use Rattle.stripe_words.specs.declared.hold.Hold.{Hold}
 use Rattle.stripe_words.specs.declared.hold.Hold.TheVariants.{Free}
 use Rattle.stripe_words.specs.Words.{granted, locked}
-use Rattle.history.specs.Locks.{touches, touched}
+use Rattle.history.specs.Locks.{touched, has_table}
 use Rattle.history.specs.declared.call.Call.TheVariants.{Begin}
 use Rattle.history.specs.declared.locks.Mode.TheVariants as mode
 use Rattle.caller_steps.specs.State.{calls_of}
@@ -70,6 +70,7 @@ pub record Moved {C : Type 0} (f : Face C) (setup : Setup C) (n : ℕ) (call : C
   pub since : Since f.tells (f.show setup.first) (f.show core) → Since f.tells (f.show setup.first) (f.show new)
   pub goes : Since f.tells (f.show setup.first) (f.show core) → Goes f.tells (f.show setup.first).limits (f.show core).state n call reply (f.show new).state
   pub begun : IsFalse (is_refusal reply) → IsTrue (is_some ((f.show core).state.live n)) ⊎ (call ≡ Begin)
+  pub tabled : IsFalse (is_refusal reply) → IsTrue (has_table (f.show core).state.names call)
 
 module _ {C : Type 0} (f : Face C) (setup : Setup C) where
   pub is_open : (s : TableOf C) (id : ℕ) (v : View C) → Rule f setup s → get_elem? s.views id ≡ some v → v.stage ≡ Shared → IsKept f setup s
@@ -128,7 +129,7 @@ module _ {C : Type 0} (f : Face C) (setup : Setup C) where
     turns = h.turns;
     holds = h.holds;
     met = h.met;
-    locks = locked_same setup.callers (f.show h.core).state h.holds h.met s.words words s.views views h.locks stripes have;
+    locks = locked_same setup.callers setup.names (f.show h.core).state h.holds h.met s.words words s.views views h.locks stripes have;
     wide = wide;
     one = one;
     told = told;
@@ -138,6 +139,7 @@ module _ {C : Type 0} (f : Face C) (setup : Setup C) where
     once = λ n. (let t = counts n in let o = h.once n in omega arith);
     below = λ n b. counts n ∙ h.below n b;
     few = h.few;
+    named = h.named;
     ready = h.ready;
     since = h.since;
     run = h.run;
@@ -185,6 +187,10 @@ module _ {C : Type 0} (f : Face C) (setup : Setup C) where
       (turn_run f.tells (f.show setup.first).limits k.number k.past k.seen (f.show setup.first).state (f.show core).state turns fit.last) (inr alive) fresh
       ∙ ap (live_by k.number) (sym (turn_told f.tells (f.show setup.first).limits k.number k.past k.seen (f.show setup.first).state (f.show core).state turns fit.last))
 
+  -- the names are those of the core
+  pub named_at : (s : TableOf C) (h : IsKept f setup s) → setup.names ≡ (f.show h.core).state.names
+  named_at s h = h.named ∙ sym (turns_names f.tells (f.show setup.first).limits (f.show setup.first).state (f.show h.core).state h.turns h.run)
+
   unread : (touch : Bool) (x y : Hold) → (IsTrue touch → locked y ≡ 1) → locked y + granted x ≤ 1 → granted x ≡ 1 → IsFalse touch
   unread touch x y c apart has = false_from_ne_true touch (λ e. let l = c e in absurd (omega arith))
 
@@ -194,12 +200,14 @@ module _ {C : Type 0} (f : Face C) (setup : Setup C) where
   alone_at : (s : TableOf C) (id : ℕ) (k : Known C) (h : IsKept f setup s) → get_elem? s.views id ≡ some (shared_view (k ∷ []) None) → IsFalse (f.show h.core).state.is_dead → HasAlone f h.core k
   alone_at s id k h at alive =
       let mine = (h.locks.have id (shared_view (k ∷ []) None) at).0.0 in
+      let names : List (List ℕ) = (f.show h.core).state.names in
+      let covered : (i : ℕ) → IsCovered (touched (f.show h.core).state.names (calls_of (f.show h.core).state i)) (h.holds i) = λ i. subst (λ ns. IsCovered (touched ns (calls_of (f.show h.core).state i)) (h.holds i)) (named_at s h) (h.locks.covered alive i) in
       let has : (t : ℕ) → hold_of t k ≡ get_or (h.holds k.number) t Free = λ t. ap (λ (hs : List Hold). get_or hs t Free) mine in record {
         mine = live_at h.turns h.core k (h.ready.live k.number) (h.fit id (shared_view (k ∷ []) None) at).0 alive;
-        reads = λ t i l ne g. unread (touched (calls_of (f.show h.core).state i) t mode.Exclusive) (get_or (h.holds k.number) t Free) (get_or (h.holds i) t Free)
-            ((h.locks.covered alive i).writes t) ((h.locks.stripes t l).apart i k.number (λ e. ne (sym e))) (sym (ap granted (has t)) ∙ g);
-        writes = λ t i l ne g. untouched (touched (calls_of (f.show h.core).state i) t mode.Shared) (touched (calls_of (f.show h.core).state i) t mode.Exclusive) (get_or (h.holds k.number) t Free) (get_or (h.holds i) t Free)
-            ((h.locks.covered alive i).reads t) ((h.locks.covered alive i).writes t) ((h.locks.stripes t l).apart k.number i ne) ((h.locks.stripes t l).apart i k.number (λ e. ne (sym e)))
+        reads = λ t i l ne g. unread (touched names (calls_of (f.show h.core).state i) t mode.Exclusive) (get_or (h.holds k.number) t Free) (get_or (h.holds i) t Free)
+            ((covered i).writes t) ((h.locks.stripes t l).apart i k.number (λ e. ne (sym e))) (sym (ap granted (has t)) ∙ g);
+        writes = λ t i l ne g. untouched (touched names (calls_of (f.show h.core).state i) t mode.Shared) (touched names (calls_of (f.show h.core).state i) t mode.Exclusive) (get_or (h.holds k.number) t Free) (get_or (h.holds i) t Free)
+            ((covered i).reads t) ((covered i).writes t) ((h.locks.stripes t l).apart k.number i ne) ((h.locks.stripes t l).apart i k.number (λ e. ne (sym e)))
             (sym (ap locked (has t)) ∙ g) (locked_granted (get_or (h.holds k.number) t Free) (sym (ap locked (has t)) ∙ g));
       }
 
@@ -219,6 +227,7 @@ module _ {C : Type 0} (f : Face C) (setup : Setup C) where
           λ _. record {
             core = h.core;
             now = refl;
+            named = ap names_in (h.fit id (shared_view (k ∷ []) None) at).0.setup_is ∙ named_at s h;
             alone = λ alive. alone_at s id k h at alive;
             seen = grows_longer k.seen (f.show h.core).state.history (turn_grows f.tells (f.show setup.first).limits k.number k.past k.seen (f.show setup.first).state (f.show h.core).state h.turns (h.fit id (shared_view (k ∷ []) None) at).0.last);
             few = λ n has. (let m = h.ready.enough in let same = ap (λ (l : Limits). l.callers) h.since.limits in let l = number_below s h n id (shared_view (k ∷ []) None) at has in omega arith);
@@ -301,7 +310,7 @@ module _ {C : Type 0} (f : Face C) (setup : Setup C) where
       (λ (ne : id ≢ x.seat). some≢none core (sym held ∙ x.others id v ne at)))
       h.place
 
-  told_by : (s : TableOf C) (id told : ℕ) (k : Known C) (call : Call) (reply : Reply) (old new : C) (h : IsKept f setup s) → Moved f setup k.number call reply h.core new → (IsFalse (f.show h.core).state.is_dead → IsTrue (is_some ((f.show h.core).state.live k.number)) → IsCovered (touches call) k.holds) → told ≡ length ((f.show new).state.history) → get_elem? s.views id ≡ some (shared_view (k ∷ []) (Some old))
+  told_by : (s : TableOf C) (id told : ℕ) (k : Known C) (call : Call) (reply : Reply) (old new : C) (h : IsKept f setup s) → Moved f setup k.number call reply h.core new → (IsFalse (f.show h.core).state.is_dead → IsTrue (is_some ((f.show h.core).state.live k.number)) → IsCovered (locks (names_of k) call) k.holds) → told ≡ length ((f.show new).state.history) → get_elem? s.views id ≡ some (shared_view (k ∷ []) (Some old))
       → (x : IsHeld h.core s) → x.seat ≡ id → x.holder ≡ shared_view (k ∷ []) (Some old)
       → IsKept f setup (stepped s 65 told id ((0, Some new) ∷ []) (shared_view (shown f call reply h.turns new k ∷ []) (Some new)) keeps)
   told_by s id told k call reply old new h m has is at x seat holder =
@@ -317,9 +326,10 @@ module _ {C : Type 0} (f : Face C) (setup : Setup C) where
         turns = turns;
         holds = h.holds;
         met = h.met;
-        locks = locked_same setup.callers (f.show new).state h.holds h.met s.words (set s.words 65 told) s.views (set s.views id w)
-            (locked_step setup.callers (f.show h.core).state (f.show new).state h.holds h.met s.words s.views k.number call reply h.locks goes.moves
-            (λ alive live. subst (λ (hs : List Hold). IsCovered (touches call) hs) (h.locks.have id v at).0.0 (has alive live)) m.begun)
+        locks = locked_same setup.callers setup.names (f.show new).state h.holds h.met s.words (set s.words 65 told) s.views (set s.views id w)
+            (locked_step setup.callers setup.names (f.show h.core).state (f.show new).state h.holds h.met s.words s.views k.number call reply h.locks goes.moves
+            (λ alive live. subst (λ (hs : List Hold). IsCovered (locks setup.names call) hs) (h.locks.have id v at).0.0 (subst (λ (given : Option (Setup C)). IsCovered (locks (names_in given) call) k.holds) mine.setup_is (has alive live))) m.begun
+            (λ done. subst (λ (ns : List (List ℕ)). has_table ns call ≡ true) (sym (named_at s h)) (m.tabled done)))
             (λ t l. beside s.words 65 told t (omega arith) l) (each_set (λ i u. AllHave h.holds h.met u.passes) s.views id w ((h.locks.have id v at).0, tt) (λ j u _ e. h.locks.have j u e));
         wide = length-set s.words 65 told ∙ h.wide;
         one = h.one;
@@ -349,13 +359,14 @@ module _ {C : Type 0} (f : Face C) (setup : Setup C) where
         once = λ n. (let t = same_count n s.views id v w at refl in let o = h.once n in omega arith);
         below = λ n b. same_count n s.views id v w at refl ∙ h.below n b;
         few = h.few;
+        named = h.named;
         ready = h.ready;
         since = m.since h.since;
         run = run;
         whose = all_of_append setup.callers h.turns ((k.number, call, reply) ∷ []) h.whose (few, tt);
       }
 
-  pub tells_keeps : (slots id told : ℕ) (k : Known C) (call : Call) (reply : Reply) (old new : C) → Moved f setup k.number call reply old new → (IsFalse (f.show old).state.is_dead → IsTrue (is_some ((f.show old).state.live k.number)) → IsCovered (touches call) k.holds) → told ≡ length ((f.show new).state.history)
+  pub tells_keeps : (slots id told : ℕ) (k : Known C) (call : Call) (reply : Reply) (old new : C) → Moved f setup k.number call reply old new → (IsFalse (f.show old).state.is_dead → IsTrue (is_some ((f.show old).state.live k.number)) → IsCovered (locks (names_of k) call) k.holds) → told ≡ length ((f.show new).state.history)
       → Allows (Rule f setup) slots id (shared_view (k ∷ []) (Some old), (0, Some new) ∷ []) 65 (λ _. told) (λ _. tells_length f call reply (step slots 65 told 0 none) (shared_view (k ∷ []) (Some old), (0, Some new) ∷ []) told)
   tells_keeps slots id told k call reply old new m has is s rule wide at _ =
       let v : View C = shared_view (k ∷ []) (Some old) in
@@ -364,7 +375,7 @@ module _ {C : Type 0} (f : Face C) (setup : Setup C) where
         shared_view (shown f call reply h.turns new k ∷ []) (Some new),
         keeps,
         tt,
-        inr (inr (told_by s id told k call reply old new h (subst (λ c. Moved f setup k.number call reply c new) (sym x.3) m) (subst (λ c. IsFalse (f.show c).state.is_dead → IsTrue (is_some ((f.show c).state.live k.number)) → IsCovered (touches call) k.holds) (sym x.3) has) is at x.0 x.1 x.2)),
+        inr (inr (told_by s id told k call reply old new h (subst (λ c. Moved f setup k.number call reply c new) (sym x.3) m) (subst (λ c. IsFalse (f.show c).state.is_dead → IsTrue (is_some ((f.show c).state.live k.number)) → IsCovered (locks (names_of k) call) k.holds) (sym x.3) has) is at x.0 x.1 x.2)),
         λ was core held e. let now : C → SeatOf C = λ c. (shared_view (shown f call reply h.turns c k ∷ []) (Some c), (0, Some new) ∷ []) in
             let old_is : h.core ≡ was = x.3 ∙ some_same old was held in record {
               setup = setup;
@@ -487,7 +498,7 @@ module _ {C : Type 0} (f : Face C) (setup : Setup C) where
       → Allows (Rule f setup) slots id m 64 (λ n. either (eqb n 0) turn n) (takes_turn f (step slots 64 0 turn none) m)
   takes_turn_as slots id turn k m e is = subst (λ (m : SeatOf C). Allows (Rule f setup) slots id m 64 (λ n. either (eqb n 0) turn n) (takes_turn f (step slots 64 0 turn none) m)) (sym e) (takes_turn_keeps slots id turn k is)
 
-  pub tells_as : (slots id told : ℕ) (k : Known C) (call : Call) (reply : Reply) (old new : C) (m : SeatOf C) → m ≡ (shared_view (k ∷ []) (Some old), (0, Some new) ∷ []) → Moved f setup k.number call reply old new → (IsFalse (f.show old).state.is_dead → IsTrue (is_some ((f.show old).state.live k.number)) → IsCovered (touches call) k.holds) → told ≡ length ((f.show new).state.history)
+  pub tells_as : (slots id told : ℕ) (k : Known C) (call : Call) (reply : Reply) (old new : C) (m : SeatOf C) → m ≡ (shared_view (k ∷ []) (Some old), (0, Some new) ∷ []) → Moved f setup k.number call reply old new → (IsFalse (f.show old).state.is_dead → IsTrue (is_some ((f.show old).state.live k.number)) → IsCovered (locks (names_of k) call) k.holds) → told ≡ length ((f.show new).state.history)
       → Allows (Rule f setup) slots id m 65 (λ _. told) (λ _. tells_length f call reply (step slots 65 told 0 none) m told)
   tells_as slots id told k call reply old new m e moved has is = subst (λ (m : SeatOf C). Allows (Rule f setup) slots id m 65 (λ _. told) (λ _. tells_length f call reply (step slots 65 told 0 none) m told)) (sym e) (tells_keeps slots id told k call reply old new moved has is)
 

@@ -1,7 +1,6 @@
 -- What passes ask for of the stripes, and whom each word shows that stands in another's way.
 use Rattle.std.specs.Prelude.{ℕ, ◌≡◌, ◌≢◌, ◌<◌, ◌≤◌, ◌+◌, IsTrue, List, [], ◌∷◌, ◌++◌, Contains}
 use Rattle.std.specs.Int.{bit_at}
-use Rattle.history.specs.Locks.{touches}
 use Rattle.history.specs.declared.call.Call.{Call}
 use Rattle.history.specs.declared.locks.Mode.{Mode}
 use Rattle.history.specs.declared.locks.Mode.TheVariants as mode
@@ -10,6 +9,7 @@ use Rattle.stripe_words.specs.Words.{marked, locked}
 use Rattle.mars_manager.specs.declared.view.Met.{Met}
 use Rattle.mars_manager.specs.declared.view.Known.{Known}
 use Rattle.mars_manager.specs.Pass.{PassView}
+use Rattle.mars_manager.specs.Locks.{locks}
 
 -- the bit of a word that a pass sets when it asks in this mode: its mark for reading, its exclusive lock for writing
 abbrev pub bit_for : Mode → ℕ → ℕ
@@ -56,9 +56,9 @@ IsStepFor asked stripe step = (step.stripe ≡ stripe) × IsUpTo step.asked aske
 abbrev pub IsReadingBelow : ℕ → Met → Type 0
 IsReadingBelow n step = (step.stripe < n) × IsUpTo step.asked mode.Shared
 
--- a step for what a call touches
-abbrev pub IsStepOf : Call → Met → Type 0
-IsStepOf call step = (asked : Mode) × IsTrue (touches call step.stripe asked) × IsUpTo step.asked asked
+-- a step for what a call locks
+abbrev pub IsStepOf : List (List ℕ) → Call → Met → Type 0
+IsStepOf names call step = (asked : Mode) × IsTrue (locks names call step.stripe asked) × IsUpTo step.asked asked
 
 module _ {C : Type 0} where
   -- a pass made more steps on words of stripes, each of this kind

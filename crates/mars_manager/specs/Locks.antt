@@ -1,10 +1,11 @@
 -- What a pass has of the stripes of keys, and how its steps change that.
-use Rattle.std.specs.Prelude.{ℕ, ◌≡◌, ◌≢◌, ◌<◌, ◌≤◌, ◌+◌, ◌/◌, ◌^◌, ◌==◌, Bool, true, false, not, ◌&&◌, IsTrue, IsFalse, MatchBool, is_some, filter, None, if◌then◌else◌, List, [], ◌∷◌, ◌++◌, length, replicate, slice_index_or, slice_set, unwrap_or}
+use Rattle.std.specs.Prelude.{ℕ, ◌≡◌, ◌≢◌, ◌<◌, ◌≤◌, ◌+◌, ◌/◌, ◌^◌, ◌==◌, Bool, true, false, not, ◌&&◌, IsTrue, IsFalse, MatchBool, is_some, filter, Option, None, if◌then◌else◌, List, [], ◌∷◌, ◌++◌, length, replicate, slice_index_or, slice_set, unwrap_or}
 use Rattle.std.specs.Int.{bit_at}
+use Rattle.record_slots.specs.Names.{number_of}
 use Rattle.history.specs.Table.{Granted}
-use Rattle.history.specs.Locks.{Touch, touches, touched}
+use Rattle.history.specs.Locks.{Touch, touches, touched, has_table}
 use Rattle.history.specs.declared.call.Call.{Call}
-use Rattle.history.specs.declared.call.Call.TheVariants.{Commit, Abort}
+use Rattle.history.specs.declared.call.Call.TheVariants.{Get, Put, Del, Scan, Commit, Abort}
 use Rattle.history.specs.declared.call.Reply.{Reply}
 use Rattle.history.specs.declared.call.Reply.TheVariants as says
 use Rattle.history.specs.declared.locks.Mode.{Mode}
@@ -18,7 +19,7 @@ use Rattle.mars_manager.specs.declared.locking.Lock.{Lock}
 use Rattle.mars_manager.specs.declared.locking.Lock.TheVariants.{Held, Busy, NoTransaction}
 use Rattle.mars_manager.specs.declared.view.Met.{Met}
 use Rattle.mars_manager.specs.declared.view.Known.{Known}
-use Rattle.mars_manager.specs.Pass.{live_of, finds}
+use Rattle.mars_manager.specs.Pass.{live_of, names_of, finds}
 
 -- what is touched for reading is shared or exclusive, and what is touched for writing is exclusive
 pub record IsCovered (touch : ℕ → Touch) (holds : List Hold) : Type 0 where
@@ -35,7 +36,19 @@ IsBelow Exclusive y = locked y ≡ 1
 abbrev pub met : ℕ → Mode → ℕ → Met
 met stripe asked found = record { stripe = stripe; asked = asked; found = found }
 
--- what a pass has of a stripe once it has what a call touches
+-- the number of the table that a call asks for, if it asks for one that is there
+abbrev pub number_asked : List (List ℕ) → Call → Option ℕ
+number_asked names (Get name key) = number_of names name
+number_asked names (Put name key value) = number_of names name
+number_asked names (Del name key) = number_of names name
+number_asked names (Scan name low high) = number_of names name
+number_asked names call = None
+
+-- what a call locks: what it touches, if the table that it asks for is there
+abbrev pub locks : List (List ℕ) → Call → ℕ → Touch
+locks names call stripe mode = has_table names call && touches names call stripe mode
+
+-- what a pass has of a stripe once it has what a call locks
 abbrev pub raised_for : Touch → Hold → Hold
 raised_for touch has = if touch mode.Exclusive then raised mode.Exclusive has else if touch mode.Shared then raised mode.Shared has else has
 
@@ -71,7 +84,7 @@ pub record FindsOther (n found : ℕ) : Type 0 where
 module _ {C : Type 0} where
   -- how the live transaction of its caller has touched a stripe
   abbrev pub touched_by : Known C → ℕ → Touch
-  touched_by known = touched (unwrap_or (live_of known) [])
+  touched_by known = touched (names_of known) (unwrap_or (live_of known) [])
 
   abbrev pub hold_of : ℕ → Known C → Hold
   hold_of t known = slice_index_or known.holds t Free
@@ -132,26 +145,26 @@ module _ {C : Type 0} where
     pub each : (t : ℕ) → t < n → hold_of t now ≡ raised mode.Shared (hold_of t was)
     pub others : (t : ℕ) → n ≤ t → hold_of t now ≡ hold_of t was
 
-  -- what a call touches was locked, or was before
+  -- what a call locks was locked, or was before
   pub record HasLockedFor (call : Call) (was now : Known C) : Type 0 where
     pub more : List Met
     pub same : now ≡ with_locks now.holds (was.met ++ more) was
-    pub each : (t : ℕ) → hold_of t now ≡ raised_for (touches call t) (hold_of t was)
+    pub each : (t : ℕ) → hold_of t now ≡ raised_for (locks (names_of was) call t) (hold_of t was)
 
-  -- A pass with a live transaction has what a call touches. One without has what it had.
+  -- A pass with a live transaction has what a call locks. One without has what it had.
   pub record HasReadied (call : Call) (was now : Known C) : Type 0 where
     pub more : List Met
     pub same : now ≡ with_locks now.holds (was.met ++ more) was
     pub below : (t : ℕ) → IsBelow (hold_of t was) (hold_of t now)
-    pub covered : IsTrue (is_some (live_of was)) → IsCovered (touches call) now.holds
-    pub each : IsTrue (is_some (live_of was)) → (t : ℕ) → hold_of t now ≡ raised_for (touches call t) (hold_of t was)
+    pub covered : IsTrue (is_some (live_of was)) → IsCovered (locks (names_of was) call) now.holds
+    pub each : IsTrue (is_some (live_of was)) → (t : ℕ) → hold_of t now ≡ raised_for (locks (names_of was) call t) (hold_of t was)
     pub idle : IsFalse (is_some (live_of was)) → now.holds ≡ was.holds
 
-  -- one of the stripes that a call touches was refused
+  -- one of the stripes that a call locks was refused
   pub record IsRefusedFor (call : Call) (h : ℕ) (was now : Known C) : Type 0 where
     pub stripe : ℕ
     pub asked : Mode
-    pub touches_it : IsTrue (touches call stripe asked)
+    pub touches_it : IsTrue (locks (names_of was) call stripe asked)
     pub refused : IsRefused asked stripe h was now
 
   -- a `Busy` comes where the pass has a live transaction, of a word that was in the call's way at its own step
@@ -164,9 +177,9 @@ module _ {C : Type 0} where
     pub more : List Met
     pub is : now ≡ finds n (with_locks was.holds (was.met ++ more) was)
 
-  -- What a pass has after a call: what it had if the call was refused, nothing if it ended the transaction, and else also what it touches.
+  -- What a pass has after a call: what it had if the call was refused, nothing if it ended the transaction, and else also what it locks.
   abbrev pub HasAfter : Call → Reply → Known C → Known C → Type 0
-  HasAfter call reply was now = MatchBool (is_refusal reply) (now.holds ≡ was.holds) (MatchBool (is_end call) (now.holds ≡ replicate 64 Free) ((t : ℕ) → hold_of t now ≡ raised_for (touches call t) (hold_of t was)))
+  HasAfter call reply was now = MatchBool (is_refusal reply) (now.holds ≡ was.holds) (MatchBool (is_end call) (now.holds ≡ replicate 64 Free) ((t : ℕ) → hold_of t now ≡ raised_for (locks (names_of was) call t) (hold_of t was)))
 
   -- what a try to lock a stripe comes to, by the live transaction of the pass and the word that it found
   abbrev pub Locks : Mode → ℕ → Known C → Lock → Known C → Type 0

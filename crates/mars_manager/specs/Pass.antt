@@ -1,5 +1,5 @@
 -- What a pass knows.
-use Rattle.std.specs.Prelude.{ℕ, zero, suc, ◌≡◌, ◌≢◌, ◌+◌, ◌<◌, ◌≤◌, ◌==◌, if◌then◌else◌, Bool, List, [], ◌∷◌, ◌++◌, map, length, replicate, Option, Some}
+use Rattle.std.specs.Prelude.{ℕ, zero, suc, ◌≡◌, ◌≢◌, ◌+◌, ◌<◌, ◌≤◌, ◌==◌, if◌then◌else◌, Bool, List, [], ◌∷◌, ◌++◌, map, length, replicate, Option, Some, None}
 use Rattle.atomic_table.specs.Seated.{TableId}
 use Rattle.history.specs.Table.{Granted}
 use Rattle.history.specs.declared.call.Call.{Call}
@@ -12,7 +12,16 @@ use Rattle.stripe_words.specs.declared.hold.Hold.TheVariants.{Free}
 use Rattle.mars_manager.specs.declared.setup.Setup.{Setup}
 use Rattle.mars_manager.specs.declared.view.Known.{Known}
 
+-- the names of the tables of a core that is shared so
+abbrev pub names_in : {C : Type 0} → Option (Setup C) → List (List ℕ)
+names_in None = []
+names_in (Some setup) = setup.names
+
 module _ {C : Type 0} where
+  -- the names of the tables, as a pass knows them
+  abbrev pub names_of : Known C → List (List ℕ)
+  names_of known = names_in known.setup
+
   -- What a pass knows is true of a run that the shared core has made: its past is the run up to its caller's last turn, it has seen the
   -- history then, and the history is no shorter than it heard.
   pub record Fits (tells : Bool) (show : C → CoreView) (setup : Setup C) (turns : List Turn) (state : State) (known : Known C) : Type 0 where

@@ -13,7 +13,7 @@ use Rattle.mars_manager.specs.declared.view.Stage.TheVariants.{Vacant, Opening, 
 use Rattle.mars_manager.specs.declared.view.View.{View}
 use Rattle.mars_manager.specs.declared.setup.Setup.{Setup}
 use Rattle.caller_steps.specs.Run.{Turn, GoesAlong, AreOf}
-use Rattle.mars_manager.specs.Pass.{AllFit, known_after, known_at, live_of, finds, hears, times}
+use Rattle.mars_manager.specs.Pass.{names_of, AllFit, known_after, known_at, live_of, finds, hears, times}
 use Rattle.mars_manager.specs.Sharing.{CanShare, Since}
 use Rattle.mars_manager.specs.Seat.{TableOf, SeatOf, view, shared_view, seat_of, first_of, opener}
 use Rattle.mars_manager.specs.Locks.{IsCovered, Finds, FindsOther, hold_of, with_hold, marked_by, excluded_by, noted}
@@ -83,14 +83,14 @@ module _ {C : Type 0} where
   -- what all have of it. While the medium has not failed, what a live transaction reads its pass has shared or exclusive, and what it writes
   -- its pass has exclusive. Whoever has a mark has asked for the stripe, and whoever has it exclusive has asked for it for writing; and so has
   -- each other pass whose bit was in a word that a step found.
-  pub record AreLocked (callers : ℕ) (state : State) (holds : ℕ → List Hold) (met : ℕ → List Met) (words : List ℕ) (views : List (View C)) : Type 0 where
+  pub record AreLocked (callers : ℕ) (names : List (List ℕ)) (state : State) (holds : ℕ → List Hold) (met : ℕ → List Met) (words : List ℕ) (views : List (View C)) : Type 0 where
     pub have : (i : ℕ) (v : View C) → get_elem? views i ≡ some v → AllHave holds met v.passes
     pub strangers : (n : ℕ) → callers ≤ n → (holds n ≡ replicate 64 hold.Free) × (met n ≡ [])
     pub asked : (mode : Mode) (n t : ℕ) → set_for mode (slice_index_or (holds n) t hold.Free) ≡ 1 → HasAsked mode t (met n)
     pub caused : AreCaused met
     pub long : (n : ℕ) → length (holds n) ≡ 64
     pub stripes : (t : ℕ) → t < 64 → Stands (slice_index words t) (λ n. slice_index_or (holds n) t hold.Free)
-    pub covered : IsFalse state.is_dead → (n : ℕ) → IsCovered (touched (calls_of state n)) (holds n)
+    pub covered : IsFalse state.is_dead → (n : ℕ) → IsCovered (touched names (calls_of state n)) (holds n)
 
   -- nothing has happened yet: the only seat is the opener's
   pub record IsFresh (setup : Setup C) (s : TableOf C) : Type 0 where
@@ -121,7 +121,8 @@ module _ {C : Type 0} where
       pub once : (n : ℕ) → count n s.views ≤ 1
       pub below : (n : ℕ) → setup.callers ≤ n → count n s.views ≡ 0
       pub few : setup.callers ≤ 32
-      pub locks : AreLocked setup.callers (f.show core).state holds met s.words s.views
+      pub named : setup.names ≡ (f.show setup.first).state.names
+      pub locks : AreLocked setup.callers setup.names (f.show core).state holds met s.words s.views
       pub ready : CanShare f.tells setup.callers (f.show setup.first)
       pub since : Since f.tells (f.show setup.first) (f.show core)
       pub run : GoesAlong f.tells (f.show setup.first).limits (f.show setup.first).state turns (f.show core).state
@@ -138,8 +139,8 @@ module _ {C : Type 0} where
     -- no stripe that the pass may read, and touches none that it may write.
     pub record HasAlone (core : C) (known : Known C) : Type 0 where
       pub mine : (f.show core).state.live known.number ≡ live_of known
-      pub reads : (t h : ℕ) → t < 64 → h ≢ known.number → granted (hold_of t known) ≡ 1 → IsFalse (touched (calls_of (f.show core).state h) t mode.Exclusive)
-      pub writes : (t h : ℕ) → t < 64 → h ≢ known.number → locked (hold_of t known) ≡ 1 → IsFalse (is_touch (touched (calls_of (f.show core).state h) t))
+      pub reads : (t h : ℕ) → t < 64 → h ≢ known.number → granted (hold_of t known) ≡ 1 → IsFalse (touched (f.show core).state.names (calls_of (f.show core).state h) t mode.Exclusive)
+      pub writes : (t h : ℕ) → t < 64 → h ≢ known.number → locked (hold_of t known) ≡ 1 → IsFalse (is_touch (touched (f.show core).state.names (calls_of (f.show core).state h) t))
 
     -- the turn was taken, with this core
     pub record Took (m n : SeatOf C) : Type 0 where
@@ -147,6 +148,7 @@ module _ {C : Type 0} where
       pub now : n ≡ (shared_view (map (finds 0) m.0.passes) (Some core), (0, Some core) ∷ [])
       pub few : (k : ℕ) → 0 < times k m.0.passes → k < (f.show core).limits.callers
       pub seen : length (first_of m.0.passes).seen ≤ length (f.show core).state.history
+      pub named : names_of (first_of m.0.passes) ≡ (f.show core).state.names
       pub alone : IsFalse (f.show core).state.is_dead → HasAlone core (first_of m.0.passes)
 
     -- The step from one core to another was recorded as the last turn of a run. The shared core had come to the first of them by the turns

@@ -2,13 +2,15 @@
 ghost use Rattle.std.specs.Prelude.{ℕ, ◌≡◌, ◌<◌, IfOk, IfErr, slice_index_or};
 ghost use Rattle.history.specs.declared.locks.Mode.TheVariants as mode;
 ghost use Rattle.stripe_words.specs.declared.hold.Hold.TheVariants.{Free, Shared};
+ghost use Rattle.mars_manager.specs.Pass.{names_of};
 ghost use Rattle.mars_manager.specs.Asked.{IsStepFor, IsReadingBelow, IsStepOf, Meets};
-ghost use Rattle.mars_manager.specs.Locks.{IsCovered, IsBelow, Locks, HasReadable, HasLocked, HasLockedFor, IsRefused, IsRefusedFor, FindsOther, hold_of, touched_by, with_hold, with_holds, noted, excluded_by};
+ghost use Rattle.mars_manager.specs.Locks.{number_asked, IsCovered, IsBelow, Locks, HasReadable, HasLocked, HasLockedFor, IsRefused, IsRefusedFor, FindsOther, hold_of, touched_by, with_hold, with_holds, noted, excluded_by};
 
 use crate::mars::Mars;
 use crate::pass::Pass;
 use caller_steps::Core;
-use history::{Call, MAIN_TABLE, Mode, stripe_of};
+use history::{Call, Mode, stripe_of};
+use record_slots::Names;
 use stripe_words::{Hold, lowest_locked, lowest_marked, mark_bit};
 
 /// What becomes of a try to lock a stripe.
@@ -24,6 +26,19 @@ pub enum Lock {
 #[derive(Clone, Copy)]
 pub struct InWay {
     pub holder: u8,
+}
+
+// The number of the table that a call asks for, if it asks for one that is there.
+fn table_asked(names: &Names, call: &Call) -> Option<u8>
+    ensures { result ≡ number_asked names.now call.now }
+{
+    match call {
+        Call::Get { table, .. }
+        | Call::Put { table, .. }
+        | Call::Del { table, .. }
+        | Call::Scan { table, .. } => names.number(table),
+        _ => None,
+    }
 }
 
 impl<C: Core + Drop> Mars<C> {
@@ -186,26 +201,35 @@ impl<C: Core + Drop> Mars<C> {
         Ok(())
     }
 
-    // Tries to lock what a call touches. At a refusal the pass has what it had.
+    // Tries to lock what a call touches, if the table that it asks for is there. At a refusal the pass has what it had.
     pub(crate) fn lock_for(&self, pass: &mut Pass<C>, call: &Call) -> Result<(), InWay>
         requires own { pass.old.table ≡ self.now.table }
         ensures table { pass.new.table ≡ pass.old.table }
         ensures held { IfOk result (λ _. HasLockedFor call.now pass.old.known pass.new.known) }
         ensures busy { IfErr result (λ b. IsRefusedFor call.now b.holder pass.old.known pass.new.known) }
-        ensures steps { Meets (IsStepOf call.now) pass.old.known pass.new.known }
+        ensures steps { Meets (IsStepOf (names_of pass.old.known) call.now) pass.old.known pass.new.known }
     {
         pass.number();
+        let Some(table) = table_asked(&pass.names, call) else {
+            return Ok(());
+        };
         match call {
-            Call::Get { key } => {
-                self.try_lock(pass, stripe_of(MAIN_TABLE, *key) as u8, Mode::Shared)
+            Call::Get { table: _, key } => {
+                self.try_lock(pass, stripe_of(table, *key) as u8, Mode::Shared)
             }
-            Call::Put { key, value: _ } => {
-                self.try_lock(pass, stripe_of(MAIN_TABLE, *key) as u8, Mode::Exclusive)
+            Call::Put {
+                table: _,
+                key,
+                value: _,
+            } => self.try_lock(pass, stripe_of(table, *key) as u8, Mode::Exclusive),
+            Call::Del { table: _, key } => {
+                self.try_lock(pass, stripe_of(table, *key) as u8, Mode::Exclusive)
             }
-            Call::Del { key } => {
-                self.try_lock(pass, stripe_of(MAIN_TABLE, *key) as u8, Mode::Exclusive)
-            }
-            Call::Scan { low: _, high: _ } => self.lock_all(pass).map_err(|refused| refused.1),
+            Call::Scan {
+                table: _,
+                low: _,
+                high: _,
+            } => self.lock_all(pass).map_err(|refused| refused.1),
             _ => Ok(()),
         }
     }

@@ -1,5 +1,5 @@
 -- What comes of one line, given what comes of its call.
-use Rattle.std.proofs.Common.{◌≡◌, ℕ, Bool, List, [], ◌∷◌, ◌++◌, Result, Ok, Err, inl, inr, refl, sym, ap, subst, ◌∙◌}
+use Rattle.std.proofs.Common.{◌≡◌, ℕ, Bool, true, List, [], ◌∷◌, ◌++◌, Result, Ok, Err, inl, inr, refl, sym, ap, subst, ◌∙◌}
 use Rattle.std.specs.Prelude.{IsTrue}
 use Rattle.std.proofs.lemmas.List.{append-nil}
 use Rattle.history.specs.declared.call.Call.{Call}
@@ -8,7 +8,10 @@ use Rattle.history.specs.declared.call.Reply.TheVariants as said
 use Rattle.caller_steps.specs.Core.{CoreView, Steps, Continues}
 use Rattle.caller_steps.specs.Room.{Limits}
 use Rattle.caller_steps.specs.Run.{Turn}
+use Rattle.caller_steps.specs.State.{State}
+use Rattle.caller_steps.specs.Step.{Runs}
 use Rattle.caller_steps.proofs.Continuing.{continues_none, continues_step}
+use Rattle.caller_steps.proofs.Running.{turns_on, turns_tell, turns_of_runs}
 use Rattle.script_text.specs.Line.{LineSays}
 use Rattle.script_text.specs.Replies.{reply_line, bad_line}
 use Rattle.script_text.specs.declared.line.Line.{Line}
@@ -17,15 +20,15 @@ use Rattle.script_run.specs.Answers.{Answers}
 use Rattle.script_run.specs.declared.responder.Stop.{Stop}
 use Rattle.script_run.specs.declared.responder.Stop.TheVariants.{Media, NoMemory}
 use Rattle.mars_shell.specs.Lines.{Replied}
-use Rattle.mars_shell.specs.Standing.{Progress, line_script, IsReady, Stands, Comes}
+use Rattle.mars_shell.specs.Standing.{Progress, callers_of, line_script, IsReady, Stands, Comes}
 
 -- what a responder answers
 abbrev pub Answer : Type 0
 Answer = Result (Unit {0}) Stop
 
 module _ (core : CoreView) (callers n : ℕ) (line : List ℕ) (progress : Progress) (ready : IsReady callers core) (stands : Stands core progress) where
-  says_here : (what : Line) → LineSays callers line what → LineSays progress.callers line what
-  says_here what says = subst (λ (k : ℕ). LineSays k line what) (ready.callers_are ∙ sym stands.callers_are) says
+  says_here : (what : Line) → LineSays callers line what → LineSays (callers_of progress) line what
+  says_here what says = subst (λ (k : ℕ). LineSays k line what) (ready.callers_are ∙ sym (ap (λ (l : Limits). l.callers) stands.limits_are)) says
 
   no_turn : Comes core progress core progress
   no_turn = record { more = []; turns_are = sym (append-nil progress.turns); runs = refl; continues = continues_none core stands.sound stands.safe }
@@ -42,7 +45,7 @@ module _ (core : CoreView) (callers n : ℕ) (line : List ℕ) (progress : Progr
 
   module _ (tells : Bool) (told : IsTrue tells) (later : CoreView) (caller : ℕ) (call : Call) (reply : Reply) (says : LineSays callers line (Told caller call)) (steps : Steps tells caller call core later reply) where
     abbrev after : Progress
-    after = record { callers = progress.callers; turns = progress.turns ++ (caller, call, reply) ∷ [] }
+    after = record { start = progress.start; turns = progress.turns ++ (caller, call, reply) ∷ []; state = later.state }
 
     on : Continues core later
     on = continues_step tells caller call core later reply stands.sound steps told
@@ -50,8 +53,18 @@ module _ (core : CoreView) (callers n : ℕ) (line : List ℕ) (progress : Progr
     come : Comes core progress later after
     come = record { more = (caller, call, reply) ∷ []; turns_are = refl; runs = (later.state, steps.step told, refl); continues = on }
 
+    -- the turns with this one
+    led : Runs progress.start.limits progress.start.state (progress.turns ++ (caller, call, reply) ∷ []) later.state
+    led =
+        let limits = progress.start.limits in
+        let one : Runs limits progress.state ((caller, call, reply) ∷ []) later.state =
+        subst (λ (l : Limits). Runs l progress.state ((caller, call, reply) ∷ []) later.state) (sym stands.limits_are)
+        (subst (λ (s : State). Runs core.limits s ((caller, call, reply) ∷ []) later.state) (sym stands.state_is) (later.state, steps.step told, refl)) in
+        turns_tell true limits progress.start.state later.state (progress.turns ++ (caller, call, reply) ∷ []) refl (turns_on true limits progress.start.state progress.state later.state progress.turns ((caller, call, reply) ∷ [])
+        (turns_of_runs limits progress.start.state progress.state progress.turns stands.runs) (turns_of_runs limits progress.state later.state ((caller, call, reply) ∷ []) one))
+
     stand : Stands later after
-    stand = record { callers_are = stands.callers_are ∙ sym (ap (λ (l : Limits). l.callers) steps.limits); sound = on.sound; safe = on.now }
+    stand = record { limits_are = stands.limits_are ∙ sym steps.limits; state_is = refl; runs = led; sound = on.sound; safe = on.now }
 
     -- a turn that is told with another caller or reply
     as_told : (c : ℕ) (r : Reply) → c ≡ caller → reply ≡ r → progress.turns ++ (caller, call, reply) ∷ [] ≡ progress.turns ++ (c, call, r) ∷ []
@@ -62,6 +75,6 @@ module _ (core : CoreView) (callers n : ℕ) (line : List ℕ) (progress : Progr
     called before text (Ok x) none replied =
         (after, (refl, inr (inr (caller, reply, (call, says_here (Told caller call) says, refl), replied.0, replied.1 ∙ ap (λ (front : List ℕ). front ++ reply_line caller reply) none))), stand, come)
     called before text (Err (Media number)) none replied =
-        (after, (refl, (call, subst (λ (c : ℕ). LineSays progress.callers line (Told c call)) (sym replied.0) (says_here (Told caller call) says), as_told number said.Media replied.0 replied.1)), come)
+        (after, (refl, (call, subst (λ (c : ℕ). LineSays (callers_of progress) line (Told c call)) (sym replied.0) (says_here (Told caller call) says), as_told number said.Media replied.0 replied.1)), come)
     called before text (Err NoMemory) none (inl short) = (after, (refl, inl (caller, (call, says_here (Told caller call) says, as_told caller said.NoMemory refl short))), come)
     called before text (Err NoMemory) none (inr goes) = (after, (refl, inr (reply_line caller reply, inr (inr (caller, reply, (call, says_here (Told caller call) says, refl), goes, refl)))), come)

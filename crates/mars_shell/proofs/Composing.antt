@@ -1,6 +1,6 @@
 -- What a run leaves is what the next one needs.
 use Rattle.std.proofs.Common.{◌≡◌, ℕ, ◌*◌, ◌^◌, ◌<◌, ◌≤◌, ◌⊎◌, inl, inr, ⊎_elim, List, length, Bool, true, false, sym, ap, subst, ◌∙◌, arith}
-use Rattle.std.specs.Prelude.{IsTrue}
+use Rattle.std.specs.Prelude.{IsTrue, ⊤}
 use Rattle.pcm_media.specs.Images.{MayLeave}
 use Rattle.pcm_media.specs.View.{View}
 use Rattle.pcm_media.proofs.Left.{left_as_read}
@@ -14,10 +14,17 @@ use Rattle.array_image.proofs.Data.{length-data_of, all_fit_in}
 use Rattle.array_image.proofs.Parts.{decided_placed}
 use Rattle.row_bytes.proofs.OneShape.{one_shape}
 use Rattle.device_recovery.proofs.Goods.{good_rows}
+use Rattle.command_words.specs.declared.words.EawOptions.{EawOptions}
 use Rattle.command_words.specs.declared.words.FormatNumbers.{FormatNumbers}
 use Rattle.command_words.specs.declared.words.Words.{Words}
 use Rattle.command_words.specs.declared.words.Words.TheVariants.{Run, Callers, Eaw, Dump, Drill, Format, Make, Purge, Follow}
 use Rattle.eaw_face.specs.Mirroring.{followed}
+use Rattle.eaw_face.specs.State.{State as Stored}
+use Rattle.frame_lines.specs.Framed.{Framed}
+use Rattle.eaw_script.specs.Lines.{raw_script}
+use Rattle.eaw_script.specs.Mirrored.{framed_script, framed_begun}
+use Rattle.eaw_script.specs.Progress.{Progress, begun}
+use Rattle.script_run.specs.Script.{Script}
 use Rattle.eaw_device.specs.Opens.{header_of, Opens, AllOpen, IsArray, HoldsArray}
 use Rattle.page_store.specs.Index.{Index}
 use Rattle.record_table.specs.Does.{OpensNamed}
@@ -30,22 +37,25 @@ use Rattle.frame_lines.specs.declared.ended.FollowEnd.{FollowEnd}
 use Rattle.script_run.specs.declared.ended.Ended.{Ended}
 use Rattle.script_run.specs.declared.ended.Ended.TheVariants as script
 use Rattle.mars_shell.specs.Asked.{OutcomeFor}
-use Rattle.mars_shell.specs.Commands.{Obeys}
+use Rattle.mars_shell.specs.Commands.{ObeysBy, ObeysAs}
 use Rattle.mars_shell.specs.Drill.{Drills}
-use Rattle.mars_shell.specs.Dump.{Dumps, Spares}
-use Rattle.mars_shell.specs.Follow.{Follows, FollowOutcome}
+use Rattle.told_commands.specs.Dump.{DumpsRecords}
+use Rattle.mars_shell.specs.Follow.{Follows}
 use Rattle.mars_shell.specs.Formats.{IsFormatted, FormatOutcome}
-use Rattle.mars_shell.specs.Forms.{index_of_form, index_in}
+use Rattle.array_runs.specs.Forms.{index_of_form, index_in}
+use Rattle.reader_work.specs.Readership.{passes_for}
 use Rattle.mars_shell.specs.Joint.{JointWork}
 use Rattle.mars_shell.specs.Late.{is_late}
 use Rattle.mars_shell.specs.Next.{AllSound, IsOfRecords, LeavesFresh}
-use Rattle.mars_shell.specs.Outcome.{Idle, OutcomeOf}
-use Rattle.mars_shell.specs.Run.{HoldsRecords, TakesTurns, Answers, IsDamaged, Exceeds, OverRecords}
-use Rattle.mars_shell.specs.Tables.{Tries, MadeBy, MakeOutcome}
-use Rattle.mars_shell.specs.Purge.{Clears, PurgedBy}
-use Rattle.mars_shell.specs.declared.status.Status.{Status}
-use Rattle.mars_shell.specs.declared.status.Status.TheVariants.{Good, Usage, TooLong, ReadFault, WriteFault, MediaFault, NoMemory, Damaged, BadRow, NotMars, BadShape, Refused, BadFrame, Gap}
-use Rattle.mars_shell.proofs.Forming.{sound_is_own}
+use Rattle.array_runs.specs.Outcome.{Idle, OutcomeOf}
+use Rattle.array_runs.specs.Records.{HoldsRecords, IsDamaged, Exceeds, OverRecords}
+use Rattle.mars_shell.specs.Run.{TakesTurns, Answers}
+use Rattle.mars_shell.specs.FramedRun.{RunsAs}
+use Rattle.told_commands.specs.Tables.{Tries, MadeBy, MakeOutcome}
+use Rattle.told_commands.specs.Purge.{Clears, PurgedBy}
+use Rattle.array_runs.specs.declared.status.Status.{Status}
+use Rattle.array_runs.specs.declared.status.Status.TheVariants.{Good, Usage, TooLong, ReadFault, WriteFault, MediaFault, NoMemory, Damaged, BadRow, NotMars, BadShape, Refused, BadFrame, Gap}
+use Rattle.array_runs.proofs.Forming.{sound_is_own}
 
 -- ---- what is asked for
 
@@ -114,11 +124,16 @@ module _ (tells : Bool) (told : IsTrue tells) (old new : View) (counts_now : (t 
     first_opens = (all old.content.bytes (left_as_read old.content)).1
 
     -- and so does one that raw commands were done on
-    obeyed_open : (input : List ℕ) (cut : Bool) (text : List ℕ) (ended : Ended) → Obeys old input ended new cut text → AllOpen shape new.content
-    obeyed_open input cut text ended obeys image left =
+    obeyed_open : {S : Type 0} (script : Script S) (first : Shape → Stored → S) (progress : S → Progress) (input : List ℕ) (cut : Bool) (text : List ℕ) (ended : Ended) → ObeysBy script first progress old input ended new cut text → AllOpen shape new.content
+    obeyed_open script first progress input cut text ended obeys image left =
         let now = obeys.now image left in
         let same : obeys.shape ≡ shape = one_shape (header_of old.content.bytes) obeys.shape shape obeys.array.header first_opens.header in
         (now.0, subst (λ (s : Shape). Opens s image now.0) same now.1)
+
+    obeyed_as : (frames : Bool) (input : List ℕ) (cut : Bool) (text : List ℕ) (ended : Ended) → ObeysAs frames old input ended new cut text → AllOpen shape new.content
+    obeyed_as false input cut text ended obeys = obeyed_open raw_script begun (λ (p : Progress). p) input cut text ended obeys
+    obeyed_as true input cut text ended (inl obeys) = obeyed_open framed_script framed_begun (λ (f : Framed Progress). f.inner) input cut text ended obeys
+    obeyed_as true input cut text ended (inr none) = idle_open cut text true (HoldsArray old) ⊤ none.1
 
     -- and so does one that frames were applied to
     followed_open : (input : List ℕ) (cut : Bool) (text : List ℕ) (ended : FollowEnd) → Follows old input ended new cut text → AllOpen shape new.content
@@ -133,9 +148,9 @@ module _ (tells : Bool) (told : IsTrue tells) (old new : View) (counts_now : (t 
         (λ unopened. outcome_gives (AllOpen shape new.content) true (λ ended. ⊥) (λ page. ⊥) ⊥ ⊥ old status new cut text (idle_open cut text) (λ ended none. absurd none) unopened)
         (λ ran. followed_open input cut text ran.0 ran.2) outcome
 
-    pub next_open : (status : Status) (input : List ℕ) (cut : Bool) (text : List ℕ) → OutcomeFor Eaw old status new input cut text → AllOpen shape new.content
-    next_open status input cut text outcome =
-        outcome_gives (AllOpen shape new.content) true (λ ended. Obeys old input ended new cut text) (λ page. ⊥) ⊥ ⊥ old status new cut text (idle_open cut text) (obeyed_open input cut text) outcome
+    pub next_open : (given : EawOptions) (status : Status) (input : List ℕ) (cut : Bool) (text : List ℕ) → OutcomeFor (Eaw given) old status new input cut text → AllOpen shape new.content
+    next_open given status input cut text outcome =
+        outcome_gives (AllOpen shape new.content) true (λ ended. ObeysAs given.frames old input ended new cut text) (λ page. ⊥) ⊥ ⊥ old status new cut text (idle_open cut text) (obeyed_as given.frames input cut text) outcome
 
   module _ (form : ℕ) (sound : AllSound shape form old.content)
       (in_two : (form : ℕ) (bytes : List ℕ) → (index_of_form form).sound bytes → length bytes < 2 ^ 32 → (index_of_form form).sound (upgraded bytes)) where
@@ -207,14 +222,25 @@ module _ (tells : Bool) (told : IsTrue tells) (old new : View) (counts_now : (t 
     purged_by_sound cut text script.MediaFault purged = cleared_sound purged.1.0 purged.1.1
     purged_by_sound cut text script.NoMemory purged = absurd purged
 
+    -- a dump leaves the data that was opened
+    dumped_sound : (cut : Bool) (text : List ℕ) (ended : Ended) → DumpsRecords ended old new cut text → AllSound shape form new.content
+    dumped_sound cut text ended dumps image left =
+        let same : dumps.shape ≡ shape = one_shape (header_of old.content.bytes) dumps.shape shape dumps.holds.array.header opened.header in
+        let bytes = settled_data dumps.shape old.content.bytes in
+        (bytes, subst (λ (s : Shape). Opens s image bytes) same (dumps.spares.now image left), subst (λ (i : Index). i.sound bytes) (ap (λ (s : Shape). index_in s old) same ∙ own_index old shape form sound) dumps.holds.sound)
+
+    run_sound : (frames late : Bool) (input : List ℕ) (cut : Bool) (text : List ℕ) (ended : Ended) → RunsAs frames late input cut text old ended new → AllSound shape form new.content
+    run_sound true late input cut text ended framed = turns_sound false late _ ended framed.taken
+    run_sound false late input cut text ended taken = turns_sound false late (Answers input ended cut text) ended taken
+
     pub next_sound : (asked : Words) (status : Status) (input : List ℕ) (cut : Bool) (text : List ℕ) → IsOfRecords asked → OutcomeFor asked old status new input cut text → AllSound shape form new.content
-    next_sound (Run given) status input cut text of outcome = records_sound false 0 (λ ended. TakesTurns false (is_late given.writing) (Answers input ended cut text) old ended new) status cut text (λ ended taken. turns_sound false (is_late given.writing) (Answers input ended cut text) ended taken) outcome
-    next_sound (Callers numbers) status input cut text of outcome = records_sound false numbers.callers (λ ended. TakesTurns false (is_late numbers.writing) (JointWork numbers.callers numbers.tries input ended cut text) old ended new) status cut text (λ ended taken. turns_sound false (is_late numbers.writing) (JointWork numbers.callers numbers.tries input ended cut text) ended taken) outcome
-    next_sound Dump status input cut text of outcome = records_sound true 0 (λ ended. (taken : TakesTurns true false (Dumps ended cut text) old ended new) × Spares taken.shape old new) status cut text (λ ended taken. turns_sound true false (Dumps ended cut text) ended taken.0) outcome
+    next_sound (Run given) status input cut text of outcome = records_sound false 0 (λ ended. RunsAs given.frames (is_late given.writing) input cut text old ended new) status cut text (λ ended taken. run_sound given.frames (is_late given.writing) input cut text ended taken) outcome
+    next_sound (Callers numbers) status input cut text of outcome = records_sound false (passes_for numbers.callers numbers.readers) (λ ended. TakesTurns false (is_late numbers.writing) (JointWork numbers.callers numbers.readers numbers.tries input ended cut text) old ended new) status cut text (λ ended taken. turns_sound false (is_late numbers.writing) (JointWork numbers.callers numbers.readers numbers.tries input ended cut text) ended taken) outcome
+    next_sound Dump status input cut text of outcome = records_sound true 0 (λ ended. DumpsRecords ended old new cut text) status cut text (dumped_sound cut text) outcome
     next_sound (Drill numbers) status input cut text of outcome = records_sound false 0 (λ ended. TakesTurns false (is_late numbers.writing) (Drills numbers ended cut text) old ended new) status cut text (λ ended taken. turns_sound false (is_late numbers.writing) (Drills numbers ended cut text) ended taken) outcome
     next_sound (Make name) status input cut text of outcome = made_sound name status cut text outcome
     next_sound Purge status input cut text of outcome = records_sound false 0 (PurgedBy old new cut text) status cut text (purged_by_sound cut text) outcome
-    next_sound Eaw status input cut text of outcome = absurd of
+    next_sound (Eaw given) status input cut text of outcome = absurd of
     next_sound Follow status input cut text of outcome = absurd of
     next_sound (Format numbers) status input cut text of outcome = absurd of
 

@@ -1,44 +1,15 @@
--- What the kinds of a status give.
-use Rattle.std.proofs.Common.{◌≡◌, ◌⊎◌, ℕ, inl, inr, refl, ap, subst, sym, Result, Ok, Err, List, [], length, ◌≤◌}
-use Rattle.std.specs.Result.{IfErr, IfOk}
+-- What the kinds of a status give, of a format and of work over records.
+use Rattle.std.proofs.Common.{◌≡◌, ℕ, refl, Result, Ok, Err}
 use Rattle.command_words.specs.declared.words.FormatNumbers.{FormatNumbers}
-use Rattle.mars_shell.specs.Formats.{FormatSays}
 use Rattle.mars_core.specs.declared.fault.CoreFault.{CoreFault}
 use Rattle.mars_core.specs.declared.fault.CoreFault.TheVariants as core
-use Rattle.script_run.specs.Counts.{Counts as ScriptCounts}
 use Rattle.script_run.specs.declared.ended.Ended.{Ended}
-use Rattle.script_run.specs.declared.ended.Ended.TheVariants as script
-use Rattle.script_run.specs.Input.{input_limit}
-use Rattle.mars_shell.specs.Input.{InputSays}
-use Rattle.mars_shell.specs.Opening.{IsUnread, IsUnopened}
+use Rattle.mars_shell.specs.Formats.{FormatSays}
 use Rattle.mars_shell.specs.Served.{ServedCounts}
-use Rattle.mars_shell.specs.Statuses.{Counts, IsEarly, IsRefusal, script_status, served_status}
-use Rattle.mars_shell.specs.declared.status.Status.{Status}
-use Rattle.mars_shell.specs.declared.status.Status.TheVariants.{Good, Usage, TooLong, ReadFault, WriteFault, MediaFault, NoMemory, Damaged, BadRow, NotMars, BadShape, Refused, BadFrame, Gap}
-
-pub read_fault_early : (status : Status) → status ≡ ReadFault → IsEarly status
-read_fault_early status is = subst IsEarly (sym is) tt
-
-pub is_early : (status : Status) → (status ≡ TooLong) ⊎ (status ≡ ReadFault) → IsEarly status
-is_early status (inl is) = subst IsEarly (sym is) tt
-is_early status (inr is) = read_fault_early status is
-
--- a command that reads nothing leaves the source's count
-pub counts_unread : (status : Status) (s k k' m m' : ℕ) → (IsEarly status → ⊥) → Counts status 0 0 k k' m m' → Counts status s s k k' m m'
-counts_unread ReadFault s k k' m m' late counts = absurd (late tt)
-counts_unread Good s k k' m m' late counts = (refl, counts.1, counts.2)
-counts_unread Usage s k k' m m' late counts = (refl, counts.1, counts.2)
-counts_unread TooLong s k k' m m' late counts = (refl, counts.1, counts.2)
-counts_unread WriteFault s k k' m m' late counts = (refl, counts.1, counts.2)
-counts_unread MediaFault s k k' m m' late counts = (refl, counts.1)
-counts_unread NoMemory s k k' m m' late counts = (refl, counts.1, counts.2)
-counts_unread (Damaged page) s k k' m m' late counts = (refl, counts.1, counts.2)
-counts_unread (BadRow logger tid) s k k' m m' late counts = (refl, counts.1, counts.2)
-counts_unread NotMars s k k' m m' late counts = (refl, counts.1, counts.2)
-counts_unread (BadShape which given) s k k' m m' late counts = (refl, counts.1, counts.2)
-counts_unread (Refused refusal) s k k' m m' late counts = (refl, counts.1, counts.2)
-counts_unread (BadFrame n) s k k' m m' late counts = (refl, counts.1, counts.2)
-counts_unread (Gap expected got) s k k' m m' late counts = (refl, counts.1, counts.2)
+use Rattle.array_runs.specs.Statuses.{Counts, IsEarly, served_status}
+use Rattle.array_runs.specs.declared.status.Status.{Status}
+use Rattle.array_runs.specs.declared.status.Status.TheVariants.{Good, Usage, TooLong, ReadFault, WriteFault, MediaFault, NoMemory, Damaged, BadRow, NotMars, BadShape, Refused, BadFrame, Gap}
+use Rattle.array_runs.proofs.Endings.{script_counts}
 
 -- a format ends late
 pub format_late : (asked : FormatNumbers) (size : ℕ) (status : Status) (Untold Untouched : Type 0) → FormatSays asked size status Untold Untouched → IsEarly status → ⊥
@@ -57,136 +28,13 @@ format_late asked size (Refused refusal) Untold Untouched says early = early
 format_late asked size (BadFrame n) Untold Untouched says early = early
 format_late asked size (Gap expected got) Untold Untouched says early = early
 
--- nothing is written before the array is opened
-pub counts_unwritten : (status : Status) (s s' k m m' : ℕ) → IsUnopened status → Counts status s s' 0 0 m m' → Counts status s s' k k m m'
-counts_unwritten Good s s' k m m' kind counts = absurd kind
-counts_unwritten Usage s s' k m m' kind counts = absurd kind
-counts_unwritten TooLong s s' k m m' kind counts = (counts.0, refl, counts.2)
-counts_unwritten ReadFault s s' k m m' kind counts = (counts.0, refl, counts.2)
-counts_unwritten WriteFault s s' k m m' kind counts = absurd kind
-counts_unwritten MediaFault s s' k m m' kind counts = counts
-counts_unwritten NoMemory s s' k m m' kind counts = (counts.0, refl, counts.2)
-counts_unwritten (Damaged page) s s' k m m' kind counts = absurd kind
-counts_unwritten (BadRow logger tid) s s' k m m' kind counts = (counts.0, refl, counts.2)
-counts_unwritten NotMars s s' k m m' kind counts = (counts.0, refl, counts.2)
-counts_unwritten (BadShape which given) s s' k m m' kind counts = (counts.0, refl, counts.2)
-counts_unwritten (Refused refusal) s s' k m m' kind counts = absurd kind
-counts_unwritten (BadFrame n) s s' k m m' kind counts = absurd kind
-counts_unwritten (Gap expected got) s s' k m m' kind counts = absurd kind
-
--- work over an array that was opened does not end early
-pub script_late : (ended : Ended) → IsEarly (script_status ended) → ⊥
-script_late script.All early = early
-script_late script.WriteFault early = early
-script_late script.MediaFault early = early
-script_late script.NoMemory early = early
-
-pub served_late : (result : Result Ended CoreFault) → IsEarly (served_status result) → ⊥
-served_late (Ok ended) early = script_late ended early
-served_late (Err (core.Damaged page)) early = early
-served_late (Err core.Media) early = early
-served_late (Err core.NoMemory) early = early
-
--- it ends with a refusal only if the records were not taken
-pub script_accepted : (ended : Ended) → IsRefusal (script_status ended) → ⊥
-script_accepted script.All refusal = refusal
-script_accepted script.WriteFault refusal = refusal
-script_accepted script.MediaFault refusal = refusal
-script_accepted script.NoMemory refusal = refusal
-
-pub served_refused : (Silent : Type 0) (result : Result Ended CoreFault) → IfErr result (λ fault. Silent) → IsRefusal (served_status result) → Silent
-served_refused Silent (Ok ended) silent refusal = absurd (script_accepted ended refusal)
-served_refused Silent (Err fault) silent refusal = silent
-
--- it is no wrong use
-pub served_usage : (result : Result Ended CoreFault) → served_status result ≡ Usage → ⊥
-served_usage (Ok script.All) is = cc is
-served_usage (Ok script.WriteFault) is = cc is
-served_usage (Ok script.MediaFault) is = cc is
-served_usage (Ok script.NoMemory) is = cc is
-served_usage (Err (core.Damaged page)) is = cc is
-served_usage (Err core.Media) is = cc is
-served_usage (Err core.NoMemory) is = cc is
-
--- nothing is told of work that is written at its end and did not come to it
-told_late : (Silent : Type 0) (ended : Ended) → (ended ≡ script.All) ⊎ (ended ≡ script.WriteFault) → (script_status ended ≡ MediaFault) ⊎ (script_status ended ≡ NoMemory) → Silent
-told_late Silent ended (inl is) (inl status) = absurd (cc (ap script_status is, status))
-told_late Silent ended (inl is) (inr status) = absurd (cc (ap script_status is, status))
-told_late Silent ended (inr is) (inl status) = absurd (cc (ap script_status is, status))
-told_late Silent ended (inr is) (inr status) = absurd (cc (ap script_status is, status))
-
-pub served_untold : (Silent : Type 0) (result : Result Ended CoreFault) → IfErr result (λ fault. Silent) → IfOk result (λ ended. (ended ≡ script.All) ⊎ (ended ≡ script.WriteFault))
-    → (served_status result ≡ MediaFault) ⊎ (served_status result ≡ NoMemory) → Silent
-served_untold Silent (Ok ended) silent end either = told_late Silent ended end either
-served_untold Silent (Err fault) silent end either = silent
-
--- the status says which count rose, that of the medium through its store
-script_counts : (ended : Ended) (s k k' m m' : ℕ) → ScriptCounts ended k k' m m' → Counts (script_status ended) s s k k' m m'
-script_counts script.All s k k' m m' counts = (refl, counts.0, counts.1)
-script_counts script.WriteFault s k k' m m' counts = (refl, counts.0, counts.1)
-script_counts script.MediaFault s k k' m m' counts = (refl, counts)
-script_counts script.NoMemory s k k' m m' counts = (refl, counts.0, counts.1)
-
+-- the status of work says which count rose, that of the medium through its store
 served_counts : (result : Result Ended CoreFault) (s k k' m m' : ℕ) → ServedCounts result k k' m m' → Counts (served_status result) s s k k' m m'
 served_counts (Ok ended) s k k' m m' counts = script_counts ended s k k' m m' counts
 served_counts (Err (core.Damaged page)) s k k' m m' counts = (refl, counts.0, counts.1)
 served_counts (Err core.Media) s k k' m m' counts = (refl, counts.1)
 served_counts (Err core.NoMemory) s k k' m m' counts = (refl, counts.0, counts.1)
 
-pub scripted : (ended : Ended) (status : Status) (s s' k k' m m' n n' : ℕ) → status ≡ script_status ended → s' ≡ s → n ≡ m → m' ≡ n' → ScriptCounts ended k k' n n' → Counts status s s' k k' m m'
-scripted ended status s s' k k' m m' n n' is read before after counts = rw (is, read, ← before, after) (script_counts ended s k k' n n' counts)
-
 pub served : (result : Result Ended CoreFault) (status : Status) (s s' k k' m m' n n' : ℕ) → status ≡ served_status result → s' ≡ s → n ≡ m → m' ≡ n' → ServedCounts result k k' n n'
     → Counts status s s' k k' m m'
 served result status s s' k k' m m' n n' is read before after counts = rw (is, read, ← before, after) (served_counts result s k k' n n' counts)
-
--- an input that was read, at a status that is not early
-pub input_read : (status : Status) (given left : List ℕ) → (IsEarly status → ⊥) → length given ≤ input_limit → left ≡ [] → InputSays status given left
-input_read Good given left late short done = (short, done)
-input_read Usage given left late short done = (short, done)
-input_read TooLong given left late short done = absurd (late tt)
-input_read ReadFault given left late short done = tt
-input_read WriteFault given left late short done = (short, done)
-input_read MediaFault given left late short done = (short, done)
-input_read NoMemory given left late short done = tt
-input_read (Damaged page) given left late short done = (short, done)
-input_read (BadRow logger tid) given left late short done = (short, done)
-input_read NotMars given left late short done = (short, done)
-input_read (BadShape which given') given left late short done = (short, done)
-input_read (Refused refusal) given left late short done = (short, done)
-input_read (BadFrame n) given left late short done = (short, done)
-input_read (Gap expected got) given left late short done = (short, done)
-
--- an input that is not taken
-pub unread_unopened : (status : Status) → IsUnread status → IsUnopened status
-unread_unopened TooLong kind = tt
-unread_unopened ReadFault kind = tt
-unread_unopened NoMemory kind = tt
-unread_unopened Good kind = kind
-unread_unopened Usage kind = kind
-unread_unopened WriteFault kind = kind
-unread_unopened MediaFault kind = absurd kind
-unread_unopened (Damaged page) kind = kind
-unread_unopened (BadRow logger tid) kind = absurd kind
-unread_unopened NotMars kind = absurd kind
-unread_unopened (BadShape which given) kind = absurd kind
-unread_unopened (Refused refusal) kind = absurd kind
-unread_unopened (BadFrame n) kind = absurd kind
-unread_unopened (Gap expected got) kind = absurd kind
-
--- leaves the medium's count
-pub counts_unlooked : (status : Status) (s s' m : ℕ) → IsUnread status → Counts status s s' 0 0 0 0 → Counts status s s' 0 0 m m
-counts_unlooked TooLong s s' m kind counts = (counts.0, refl, refl)
-counts_unlooked ReadFault s s' m kind counts = (counts.0, refl, refl)
-counts_unlooked NoMemory s s' m kind counts = (counts.0, refl, refl)
-counts_unlooked Good s s' m kind counts = absurd kind
-counts_unlooked Usage s s' m kind counts = absurd kind
-counts_unlooked WriteFault s s' m kind counts = absurd kind
-counts_unlooked MediaFault s s' m kind counts = absurd kind
-counts_unlooked (Damaged page) s s' m kind counts = absurd kind
-counts_unlooked (BadRow logger tid) s s' m kind counts = absurd kind
-counts_unlooked NotMars s s' m kind counts = absurd kind
-counts_unlooked (BadShape which given) s s' m kind counts = absurd kind
-counts_unlooked (Refused refusal) s s' m kind counts = absurd kind
-counts_unlooked (BadFrame n) s s' m kind counts = absurd kind
-counts_unlooked (Gap expected got) s s' m kind counts = absurd kind

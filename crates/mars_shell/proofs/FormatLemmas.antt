@@ -7,8 +7,8 @@ use Rattle.array_shape.specs.declared.shape.Shape.{Shape}
 use Rattle.eaw_device.specs.Fresh.{IsHalfFresh}
 use Rattle.command_words.specs.declared.words.FormatNumbers.{FormatNumbers}
 use Rattle.mars_shell.specs.Formats.{FormatSays}
-use Rattle.mars_shell.specs.declared.status.Status.{Status}
-use Rattle.mars_shell.specs.declared.status.Status.TheVariants.{Usage}
+use Rattle.array_runs.specs.declared.status.Status.{Status}
+use Rattle.array_runs.specs.declared.status.Status.TheVariants.{Usage}
 
 -- what may be left at first has its own header
 pub half_fresh : (tells : Bool) (told : IsTrue tells) (shape : Shape) (old new : View)

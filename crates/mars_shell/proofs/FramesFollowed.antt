@@ -17,13 +17,13 @@ use Rattle.frame_lines.specs.declared.ended.FollowEnd.{FollowEnd}
 use Rattle.frame_lines.specs.declared.ended.FollowEnd.TheVariants as follow
 use Rattle.script_run.specs.Input.{input_limit}
 use Rattle.script_run.specs.Lines.{lines_of}
-use Rattle.mars_shell.specs.Follow.{LeavesFollowed, Follows, FollowOutcome}
-use Rattle.mars_shell.specs.Input.{InputSays}
-use Rattle.mars_shell.specs.Statuses.{Counts, IsEarly, IsRefusal, IsUnfollowed, follow_status}
-use Rattle.mars_shell.specs.declared.status.Status.{Status}
-use Rattle.mars_shell.specs.declared.status.Status.TheVariants.{Good, Usage, NoMemory}
-use Rattle.mars_shell.proofs.Completing.{complete_of}
-use Rattle.mars_shell.proofs.Running.{array, at_entry}
+use Rattle.mars_shell.specs.Follow.{LeavesFollowed, Follows, FollowOutcome, follow_status}
+use Rattle.array_runs.specs.Input.{InputSays}
+use Rattle.array_runs.specs.Statuses.{Counts, IsEarly, IsRefusal, IsUnfollowed}
+use Rattle.array_runs.specs.declared.status.Status.{Status}
+use Rattle.array_runs.specs.declared.status.Status.TheVariants.{Good, NoMemory}
+use Rattle.array_runs.proofs.Completing.{complete_of}
+use Rattle.array_runs.proofs.Opened.{array, at_entry}
 
 module _ (tells : Bool) (told : IsTrue tells) (old : View) (only_now : (image : List ℕ) → IsTrue tells → old.left_since old.moment image → MayLeave old.content image)
     (store : StoreView) (attached : Attached tells old store) (keeps : KeepsData tells old store.moment store.left_since)

@@ -1,5 +1,5 @@
 -- A fresh array is a sound tree without records.
-use Rattle.std.proofs.Common.{◌≡◌, ℕ, ◌*◌, ◌<◌, ◌≤◌, List, [], ◌∷◌, refl, sym, ap, subst, ◌∙◌, arith}
+use Rattle.std.proofs.Common.{◌≡◌, ℕ, ◌*◌, ◌<◌, ◌≤◌, List, [], ◌∷◌, ◌++◌, map, take, refl, sym, ap, subst, ◌∙◌, arith}
 use Rattle.std.proofs.Math.Nat.{le-mul_of_pos_right}
 use Rattle.array_shape.specs.declared.shape.Shape.{Shape}
 use Rattle.array_shape.specs.Places.{page_count}
@@ -11,12 +11,11 @@ use Rattle.record_slots.proofs.MainAlone.{says_main}
 use Rattle.page_store.specs.Pairs.{Pair}
 use Rattle.record_slots.specs.Places.{page_bytes, next_page, tables_of, IsSuper}
 use Rattle.record_slots.specs.Super.{SaysSuper, HasTables, main_table, tables_in, tables_said}
-use Rattle.record_table.specs.Shown.{table_of, table_in}
+use Rattle.record_slots.specs.declared.super_page.TableEntry.{TableEntry}
+use Rattle.record_table.specs.Shown.{KeyPair, asked_tables, in_table, pairs_from, pairs_of, table_of, table_in}
 use Rattle.index_pages.specs.Page.{kind_said, level_said, count_said, link_said}
-use Rattle.record_table.proofs.Sharing.{main_pairs}
 use Rattle.record_table.proofs.Upgraded.{main_used, has_main}
 use Rattle.btree_pages.specs.Index.{tree}
-use Rattle.btree_pages.specs.Trees.{trees_count}
 use Rattle.btree_pages.proofs.Fresh.{HasNoneFree, fresh_trees}
 use Rattle.mars_shell.specs.Formats.{HasNone}
 
@@ -57,9 +56,16 @@ module _ (shape : Shape) (bytes : List ℕ) (pages : HasPages shape (page_count 
   free : HasNoneFree (data_of shape bytes)
   free = record { slot = sym first.free_slot; page = sym first.free_page; slots = sym first.free_slots; pages = sym first.free_pages }
 
+  -- where the table `main` has no pairs, no table has any
+  no_pairs : tree.pairs (data_of shape bytes) 1 ≡ [] → pairs_of tree (data_of shape bytes) ≡ []
+  unfolding pairs_of
+  no_pairs none =
+      ap (λ (tables : List TableEntry). pairs_from tree (data_of shape bytes) (take asked_tables tables)) alone
+      ∙ ap (λ (pairs : List Pair). map (in_table main_table.name) pairs ++ []) none
+
   pub fresh_none : HasNone (data_of shape bytes)
   unfolding table_of
   fresh_none =
       let here = has_page 1 (omega arith) in
       let fresh = fresh_trees (data_of shape bytes) front alone free (ap kind_said here ∙ root_fresh.0) (ap level_said here ∙ root_fresh.1) (ap link_said here ∙ root_fresh.2) (ap count_said here ∙ root_fresh.3) in
-      record { sound = fresh.0; none = ap (λ (pairs : List Pair). table_in (data_of shape bytes) pairs) (main_pairs tree (data_of shape bytes) (trees_count (data_of shape bytes) fresh.0).main ∙ fresh.1) }
+      record { sound = fresh.0; none = ap (λ (pairs : List KeyPair). table_in (data_of shape bytes) pairs) (no_pairs fresh.1) }

@@ -1,8 +1,10 @@
 -- The work of callers on threads over the records of a store, from what a core makes of it.
-use Rattle.std.proofs.Common.{◌≡◌, ◌≢◌, ◌↔◌, ℕ, zero, suc, ◌+◌, ◌<◌, ◌≤◌, List, None, get_or, length, ◌++◌, Bool, true, false, refl, sym, ap, subst, ◌∙◌, arith}
-use Rattle.std.specs.Prelude.{IsTrue}
+use Rattle.std.proofs.Common.{◌≡◌, ◌≢◌, ◌↔◌, ℕ, zero, suc, ◌+◌, ◌<◌, ◌≤◌, List, None, get_or, length, [], ◌∷◌, ◌++◌, Bool, true, false, refl, sym, ap, subst, ◌∙◌, arith}
+use Rattle.std.specs.Prelude.{IsTrue, Result, Ok, Err, IfOk, IsOk}
+use Rattle.std.specs.Global.{Vec}
+use Rattle.mars_base.specs.declared.NoMemory.{NoMemory}
 use Rattle.history.specs.Key.{main_name}
-use Rattle.history.specs.Writes.{rows_of}
+use Rattle.history.specs.Writes.{Table, rows_of}
 use Rattle.std.specs.List.{flat_map}
 use Rattle.std.proofs.lemmas.Bool.{true≢false}
 use Rattle.history.specs.Rows as rows
@@ -25,35 +27,67 @@ use Rattle.caller_work.specs.Worked.{Worked, is_fault, of_caller}
 use Rattle.history_text.specs.Text.{done_lines, work_text}
 use Rattle.script_run.specs.Lines.{lines_of}
 use Rattle.texts.specs.MediaFault.{media_line}
-use Rattle.script_text.specs.declared.line.Line.{Line}
+use Rattle.script_text.specs.declared.joint_line.JointLine.{JointLine}
+use Rattle.caller_plans.specs.Asks.{keys_from}
+use Rattle.reader_work.specs.Answers.{AllAnswer}
+use Rattle.reader_work.specs.Readership.{passes_for}
+use Rattle.reader_work.specs.declared.answer.Answer.{Answer}
 use Rattle.script_run.specs.declared.ended.Ended.{Ended}
 use Rattle.script_run.specs.declared.ended.Ended.TheVariants as ends
 use Rattle.mars_shell.specs.Joint.{JointWork}
 use Rattle.mars_shell.specs.OnCore.{TurnsOn}
-use Rattle.mars_shell.specs.Told.{TellsEnd}
+use Rattle.mars_shell.specs.Told.{TellsEnd, answers_in}
 
 -- each caller has its plans
-pub as_many : (caller callers : ℕ) (said : List Line) → length (plans_from caller callers said) ≡ callers
+pub as_many : (caller callers : ℕ) (said : List JointLine) → length (plans_from caller callers said) ≡ callers
 as_many caller zero said = refl
 as_many caller (suc callers) said = ap suc (as_many (suc caller) callers said)
 
+-- and each reader what it asks for
+pub as_many_asks : (reader readers : ℕ) (said : List JointLine) → length (keys_from reader readers said) ≡ readers
+as_many_asks reader zero said = refl
+as_many_asks reader (suc readers) said = ap suc (as_many_asks (suc reader) readers said)
+
+-- there is an answer list for each reader
+pub as_many_answers : (base : Table) (list : List Done) (asks : List (List ℕ)) (told : List (List Answer)) → AllAnswer base list asks told → length told ≡ length asks
+as_many_answers base list [] [] all = refl
+as_many_answers base list [] (one ∷ told) all = absurd all
+as_many_answers base list (keys ∷ asks) [] all = absurd all
+as_many_answers base list (keys ∷ asks) (one ∷ told) all = ap suc (as_many_answers base list asks told all.1)
+
+-- so there are few, as there are few readers
+pub few_answers : (answers : Result (Vec (List Answer)) NoMemory) (base : Table) (list : List Done) (asks : List (List ℕ)) → IfOk answers (λ told. AllAnswer base list asks told.items) → length asks ≤ 255 → length (answers_in answers) ≤ 255
+few_answers (Ok told) base list asks all few = omega (arith, as_many_answers base list asks told.items all, few)
+few_answers (Err none) base list asks all few = omega arith
+
+-- the same answers for equal things
+pub answered_in : (answers : Result (Vec (List Answer)) NoMemory) (base base' : Table) (list list' : List Done) (asks asks' : List (List ℕ)) → base ≡ base' → list ≡ list' → asks ≡ asks'
+    → IfOk answers (λ told. AllAnswer base list asks told.items) → IsOk answers → AllAnswer base' list' asks' (answers_in answers)
+answered_in (Ok told) base base' list list' asks asks' b l a all ok = subst (λ (x : Table × List Done × List (List ℕ)). AllAnswer x.0 x.1 x.2 told.items) (λ i. (b i, l i, a i)) all
+answered_in (Err none) base base' list list' asks asks' b l a all ok = absurd (cc ok)
+
+-- the callers alone need no more passes
+pub callers_within : (callers readers most : ℕ) → passes_for callers readers ≤ most → callers ≤ most
+callers_within callers zero most within = within
+callers_within callers (suc readers) most within = omega (arith, within)
+
 -- and these are a caller's plans
-pub plans_at : (first callers caller at : ℕ) (said : List Line) → caller < callers → first + caller ≡ at → of_caller (plans_from first callers said) caller ≡ planned None (calls_by at said)
+pub plans_at : (first callers caller at : ℕ) (said : List JointLine) → caller < callers → first + caller ≡ at → of_caller (plans_from first callers said) caller ≡ planned None (calls_by at said)
 plans_at first zero caller at said less is = absurd (omega arith)
 plans_at first (suc callers) zero at said less is = ap (λ (n : ℕ). planned None (calls_by n said)) (let e : first ≡ at = omega arith in e)
 plans_at first (suc callers) (suc caller) at said less is = plans_at (suc first) callers caller at said (omega arith) (omega arith)
 
 -- the same text for equal things
-pub retold : (ended : Ended) (cut : Bool) (text : List ℕ) (faults faults' : List LineFault) (history history' : List Done) (base base' : List (ℕ × List ℕ)) (fates fates' : List (List Fate))
+pub retold : (ended : Ended) (cut : Bool) (text : List ℕ) (faults faults' : List LineFault) (history history' : List Done) (base base' : List (ℕ × List ℕ)) (fates fates' : List (List Fate)) (told : List (List Answer))
     → faults ≡ faults' → history ≡ history' → base ≡ base' → fates ≡ fates'
-    → TellsEnd ended cut text (work_text faults history fates (rows_of main_name (records (rows.table_of base) history))) (flat_map done_lines history ++ media_line)
-    → TellsEnd ended cut text (work_text faults' history' fates' (rows_of main_name (records (rows.table_of base') history'))) (flat_map done_lines history' ++ media_line)
-retold ended cut text faults faults' history history' base base' fates fates' f h b t tells =
-    subst (λ (lines : List ℕ). TellsEnd ended cut text (work_text faults' history' fates' (rows_of main_name (records (rows.table_of base') history'))) lines) (ap (λ (l : List Done). flat_map done_lines l ++ media_line) h)
-    (subst (λ (whole : List ℕ). TellsEnd ended cut text whole (flat_map done_lines history ++ media_line)) (λ i. work_text (f i) (h i) (t i) (rows_of main_name (records (rows.table_of (b i)) (h i)))) tells)
+    → TellsEnd ended cut text (work_text faults history fates (rows_of main_name (records (rows.table_of base) history)) told) (flat_map done_lines history ++ media_line)
+    → TellsEnd ended cut text (work_text faults' history' fates' (rows_of main_name (records (rows.table_of base') history')) told) (flat_map done_lines history' ++ media_line)
+retold ended cut text faults faults' history history' base base' fates fates' told f h b t tells =
+    subst (λ (lines : List ℕ). TellsEnd ended cut text (work_text faults' history' fates' (rows_of main_name (records (rows.table_of base') history')) told) lines) (ap (λ (l : List Done). flat_map done_lines l ++ media_line) h)
+    (subst (λ (whole : List ℕ). TellsEnd ended cut text whole (flat_map done_lines history ++ media_line)) (λ i. work_text (f i) (h i) (t i) (rows_of main_name (records (rows.table_of (b i)) (h i))) told) tells)
 
-module _ (tells : Bool) (core last : CoreView) (callers tries : ℕ) (input : List ℕ) (said : List Line) (says : AllSay callers (lines_of input) said)
-    (plans : List (List Plan)) (plans_are : plans ≡ plans_from 0 callers said) (fates : List (List Fate)) (end : WorkEnd) (worked : Worked tells tries plans core last fates end) (enough : callers ≤ core.limits.callers) where
+module _ (tells : Bool) (core last : CoreView) (callers readers tries : ℕ) (input : List ℕ) (said : List JointLine) (says : AllSay callers readers (lines_of input) said)
+    (plans : List (List Plan)) (plans_are : plans ≡ plans_from 0 callers said) (fates : List (List Fate)) (end : WorkEnd) (worked : Worked tells tries plans core last fates end) (enough : passes_for callers readers ≤ core.limits.callers) (told : List (List Answer)) where
   counted : length plans ≡ callers
   counted = ap length plans_are ∙ as_many 0 callers said
 
@@ -99,9 +133,10 @@ module _ (tells : Bool) (core last : CoreView) (callers tries : ℕ) (input : Li
       }
 
   joint_work : (ended : Ended) (cut : Bool) (text : List ℕ) → (ended ≢ ends.MediaFault → ended ≢ ends.NoMemory → end ≡ work.All) → (ended ≡ ends.MediaFault) ↔ (end ≡ work.MediaFault)
-      → TellsEnd ended cut text (work_text (faults_from 1 (λ caller. false) said) last.state.history fates (rows_of main_name (records last.state.base last.state.history))) (flat_map done_lines last.state.history ++ media_line)
-      → JointWork callers tries input ended cut text core.limits worked.turns last.state
-  joint_work ended cut text whole fault tells_work = record {
+      → (ended ≢ ends.MediaFault → ended ≢ ends.NoMemory → AllAnswer last.state.base last.state.history (keys_from 0 readers said) told)
+      → TellsEnd ended cut text (work_text (faults_from 1 (λ caller. false) said) last.state.history fates (rows_of main_name (records last.state.base last.state.history)) told) (flat_map done_lines last.state.history ++ media_line)
+      → JointWork callers readers tries input ended cut text core.limits worked.turns last.state
+  joint_work ended cut text whole fault answered tells_work = record {
     enough = enough;
     said = said;
     says = says;
@@ -115,16 +150,19 @@ module _ (tells : Bool) (core last : CoreView) (callers tries : ℕ) (input : Li
     );
     causes = λ caller less call holder there. caused caller less call holder there;
     fault = (λ is. worked.dead ∙ ap is_fault (fault.0 is), λ has. fault.1 (fault_of end (sym worked.dead ∙ has)));
+    told = told;
+    answered = answered;
     tells = tells_work;
   }
 
   pub joint_turns : IsTrue tells → (ended : Ended) (cut : Bool) (text : List ℕ) → (ended ≢ ends.MediaFault → ended ≢ ends.NoMemory → end ≡ work.All) → (ended ≡ ends.MediaFault) ↔ (end ≡ work.MediaFault)
-      → TellsEnd ended cut text (work_text (faults_from 1 (λ caller. false) said) last.state.history fates (rows_of main_name (records last.state.base last.state.history))) (flat_map done_lines last.state.history ++ media_line)
-      → TurnsOn (JointWork callers tries input ended cut text) core ended last
-  joint_turns told ended cut text whole fault tells_work = record {
+      → (ended ≢ ends.MediaFault → ended ≢ ends.NoMemory → AllAnswer last.state.base last.state.history (keys_from 0 readers said) told)
+      → TellsEnd ended cut text (work_text (faults_from 1 (λ caller. false) said) last.state.history fates (rows_of main_name (records last.state.base last.state.history)) told) (flat_map done_lines last.state.history ++ media_line)
+      → TurnsOn (JointWork callers readers tries input ended cut text) core ended last
+  joint_turns tells_all ended cut text whole fault answered tells_work = record {
     turns = worked.turns;
-    runs = runs told;
-    does = joint_work ended cut text whole fault tells_work;
-    continues = worked.since.continues told;
+    runs = runs tells_all;
+    does = joint_work ended cut text whole fault answered tells_work;
+    continues = worked.since.continues tells_all;
     alive = λ unfailed. worked.dead ∙ no_fault end (λ is. unfailed (fault.1 is));
   }

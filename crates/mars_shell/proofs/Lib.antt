@@ -3,24 +3,22 @@ pub mod FateTexts
 pub mod FormatLemmas
 pub mod FreshRecords
 pub mod Answering
+pub mod GivingUp
+pub mod Framing
+pub mod Below
+pub mod FramedOutcomes
 pub mod Acknowledged
-pub mod Shapes
 pub mod Forming
 pub mod Serving
 pub mod Lining
 pub mod Joining
 pub mod Making
 pub mod Summing
-pub mod Unopened
 pub mod Running
 pub mod Composing
-pub mod Completing
 pub mod Waiting
+mod Saying
 mod Endings
 pub mod Commanding
 pub mod FramesFollowed
-pub mod Statuses
 pub mod Outcomes
-pub mod Dumping
-pub mod Tabling
-pub mod Clearing

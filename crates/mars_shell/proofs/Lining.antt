@@ -13,19 +13,19 @@ use Rattle.script_run.specs.declared.ended.Ended.TheVariants.{All as Done, Write
 use Rattle.mars_shell.specs.Lines.{LineGives, LineStops, call_script}
 use Rattle.mars_shell.specs.OnCore.{TurnsOn}
 use Rattle.mars_shell.specs.Run.{Answers}
-use Rattle.mars_shell.specs.Standing.{Progress, line_script, Stands, Comes}
+use Rattle.mars_shell.specs.Standing.{Start, Progress, callers_of, line_script, Stands, Comes}
 use Rattle.mars_shell.proofs.Acknowledged.{committed_kept}
 use Rattle.mars_shell.proofs.Making.{no_fault, clean_more, living}
 
 -- ---- turns without a fault of the medium
 
 module _ (callers : ℕ) where
-  gives_clean : (old : List Turn) (n : ℕ) (bytes text : List ℕ) (new : List Turn) → LineGives callers old n bytes text new → has_fault old ≡ false → has_fault new ≡ false
+  pub gives_clean : (old : List Turn) (n : ℕ) (bytes text : List ℕ) (new : List Turn) → LineGives callers old n bytes text new → has_fault old ≡ false → has_fault new ≡ false
   gives_clean old n bytes text new (inl over) none = ap has_fault over.2 ∙ none
   gives_clean old n bytes text new (inr (inl bad)) none = ap has_fault bad.2 ∙ none
   gives_clean old n bytes text new (inr (inr told)) none = ap has_fault told.2.2 ∙ clean_more old (told.0, told.2.0, told.1) none (no_fault told.1 told.3)
 
-  stops_clean : (old : List Turn) (n : ℕ) (bytes : List ℕ) (new : List Turn) → LineStops callers old n bytes new → has_fault old ≡ false → has_fault new ≡ false
+  pub stops_clean : (old : List Turn) (n : ℕ) (bytes : List ℕ) (new : List Turn) → LineStops callers old n bytes new → has_fault old ≡ false → has_fault new ≡ false
   stops_clean old n bytes new (inl short) none = ap has_fault short.1.2 ∙ clean_more old (short.0, short.1.0, reply.NoMemory) none refl
   stops_clean old n bytes new (inr done) none = gives_clean old n bytes done.0 new done.1 none
 
@@ -48,21 +48,21 @@ module _ (callers : ℕ) where
 
 -- The lines that a responder answers act on the turns alone, since the number of callers stays.
 ends_turns : (old : Progress) (n : ℕ) (line : List ℕ) (ended : Ended) (cut : Bool) (rest : List ℕ) (new : Progress) → Ends line_script old n line ended cut rest new
-    → Ends (call_script old.callers) old.turns n line ended cut rest new.turns
+    → Ends (call_script (callers_of old)) old.turns n line ended cut rest new.turns
 ends_turns old n line WriteFault cut rest new ends = (ends.0, ends.1, ends.2.1, ends.3)
 ends_turns old n line MediaFault cut rest new ends = (ends.0, ends.1.1, ends.2)
 ends_turns old n line NoMemory cut rest new ends = (ends.0, ends.1, ends.2.1)
 ends_turns old n line Done cut rest new ends = absurd ends
 
 answered_turns : (old : Progress) (n : ℕ) (lines : List (List ℕ)) (ended : Ended) (cut : Bool) (answers : List (List ℕ)) (rest : List ℕ) (new : Progress)
-    → Answered line_script old n lines ended cut answers rest new → Answered (call_script old.callers) old.turns n lines ended cut answers rest new.turns
+    → Answered line_script old n lines ended cut answers rest new → Answered (call_script (callers_of old)) old.turns n lines ended cut answers rest new.turns
 answered_turns old n [] ended cut [] rest new is = (is.0, is.1, is.2, ap (λ (progress : Progress). progress.turns) is.3)
 answered_turns old n [] ended cut (answer ∷ answers) rest new is = absurd is
 answered_turns old n (line ∷ lines) ended cut [] rest new ends = ends_turns old n line ended cut rest new ends
 answered_turns old n (line ∷ lines) ended cut (answer ∷ answers) rest new more = (
   more.0.turns,
   more.1.1,
-  subst (λ (callers : ℕ). Answered (call_script callers) more.0.turns (n + 1) lines ended cut answers rest new.turns) more.1.0
+  subst (λ (start : Start). Answered (call_script start.limits.callers) more.0.turns (n + 1) lines ended cut answers rest new.turns) more.1.0
       (answered_turns more.0 (n + 1) lines ended cut answers rest new more.2),
 )
 
@@ -75,10 +75,10 @@ module _ (tells : Bool) (callers : ℕ) (core : CoreView) (ready : CanShare tell
 
   -- no caller has had a turn yet
   abbrev pub begun : Progress
-  begun = record { callers = core.limits.callers; turns = [] }
+  begun = record { start = record { limits = core.limits; state = core.state }; turns = []; state = core.state }
 
   pub stands : Stands core begun
-  stands = record { callers_are = refl; sound = ready.sound told; safe = safe_now }
+  stands = record { limits_are = refl; state_is = refl; runs = refl; sound = ready.sound told; safe = safe_now }
 
   pub by_turns : (later : CoreView) → core.limits.callers ≤ 255 → (input : List ℕ) (ended : Ended) (cut : Bool) (text : List ℕ) → Ran line_script (Stands later) (Comes core begun later) begun (lines_of input) ended cut text
       → TurnsOn (Answers input ended cut text) core ended later

@@ -10,14 +10,15 @@ use Rattle.caller_steps.specs.Room.{Limits}
 use Rattle.caller_steps.specs.Run.{Turn}
 use Rattle.mars_core.specs.declared.fault.CoreFault.{CoreFault}
 use Rattle.script_run.specs.declared.ended.Ended.{Ended}
-use Rattle.mars_shell.specs.Dump.{Spares}
-use Rattle.mars_shell.specs.Forms.{index_at}
-use Rattle.mars_shell.specs.Run.{TakesTurns, IsDamaged, Exceeds, OverRecords}
-use Rattle.mars_shell.specs.Served.{Serves, TakesTurnsFor}
-use Rattle.mars_shell.specs.Statuses.{served_status}
-use Rattle.mars_shell.specs.declared.status.Status.{Status}
-use Rattle.mars_shell.proofs.Running.{untaken_outcome, turns_taken}
-use Rattle.mars_shell.proofs.Statuses.{outcome_of, outcome_as, outcome_spared}
+use Rattle.array_runs.specs.Forms.{index_at}
+use Rattle.mars_shell.specs.Run.{TakesTurns}
+use Rattle.array_runs.specs.Records.{IsDamaged, Exceeds, OverRecords}
+use Rattle.mars_shell.specs.Served.{Serves}
+use Rattle.array_runs.specs.Statuses.{served_status}
+use Rattle.array_runs.specs.declared.status.Status.{Status}
+use Rattle.array_runs.proofs.Opened.{untaken_outcome}
+use Rattle.mars_shell.proofs.Running.{takes_turns}
+use Rattle.array_runs.proofs.Statuses.{outcome_of, outcome_as, outcome_spared}
 
 module _ (tells : Bool) (told : IsTrue tells) (old : View) (only_now : (image : List ℕ) → IsTrue tells → old.left_since old.moment image → MayLeave old.content image)
     (store : StoreView) (attached : Attached tells old store) (keeps : KeepsData tells old store.moment store.left_since)
@@ -25,26 +26,16 @@ module _ (tells : Bool) (told : IsTrue tells) (old : View) (only_now : (image : 
   -- callers took turns, or the records were not taken
   pub records_outcome : (callers : ℕ) → callers ≤ store.shape.numbers → (spares : Bool) (Does : Ended → Limits → List Turn → State → Type 0) (result : Result Ended CoreFault) (cut : Bool) (text : List ℕ)
       → Serves spares Does Opens (index_at store.state.bytes) store result cut text later
-      → OverRecords spares callers (λ ended. TakesTurnsFor spares defers (Does ended) old ended new) old (served_status result) new cut text
+      → OverRecords spares callers (λ ended. TakesTurns spares defers (Does ended) old ended new) old (served_status result) new cut text
   records_outcome callers enough spares Does (Ok ended) cut text served =
-      outcome_of spares (λ ended. TakesTurnsFor spares defers (Does ended) old ended new) (λ page. IsDamaged old page × (Exceeds callers old → ⊥)) (HoldsArray old × (Exceeds callers old → ⊥))
-      (Exceeds callers old) old new cut text ended (turns_taken tells told old only_now store attached keeps defers later new behind counts_now spares (Does ended) ended served)
+      outcome_of spares (λ ended. TakesTurns spares defers (Does ended) old ended new) (λ page. IsDamaged old page × (Exceeds callers old → ⊥)) (HoldsArray old × (Exceeds callers old → ⊥))
+      (Exceeds callers old) old new cut text ended (takes_turns tells told old only_now store attached keeps defers later new behind counts_now spares (Does ended) ended served)
   records_outcome callers enough spares Does (Err fault) cut text off = untaken_outcome tells told old only_now store attached keeps defers later new behind
-      spares (λ ended. TakesTurnsFor spares defers (Does ended) old ended new) callers enough fault cut text off
+      spares (λ ended. TakesTurns spares defers (Does ended) old ended new) callers enough fault cut text off
 
 module _ (callers : ℕ) (defers : Bool) (Does : Ended → Limits → List Turn → State → Type 0) (old : View) (status : Status) (new : View) (cut : Bool) (text : List ℕ) where
   abbrev With : Bool → Ended → Type 0
-  With spares ended = TakesTurnsFor spares defers (Does ended) old ended new
-
-  -- of all that only that callers took turns
-  pub turns_only : OverRecords false callers (With false) old status new cut text → OverRecords false callers (λ ended. TakesTurns false defers (Does ended) old ended new) old status new cut text
-  turns_only outcome = outcome_as false (With false) (λ ended. TakesTurns false defers (Does ended) old ended new) (λ page. IsDamaged old page × (Exceeds callers old → ⊥)) (HoldsArray old × (Exceeds callers old → ⊥))
-      (Exceeds callers old) old status new cut text (λ ended taken. taken.0) outcome
-
-  -- or also that what was opened stays, if no commit may wait
-  pub turns_spared : IsFalse defers → OverRecords true callers (With true) old status new cut text → OverRecords true callers (λ ended. (taken : TakesTurns true defers (Does ended) old ended new) × Spares taken.shape old new) old status new cut text
-  turns_spared at_once outcome = outcome_as true (With true) (λ ended. (taken : TakesTurns true defers (Does ended) old ended new) × Spares taken.shape old new) (λ page. IsDamaged old page × (Exceeds callers old → ⊥))
-      (HoldsArray old × (Exceeds callers old → ⊥)) (Exceeds callers old) old status new cut text (λ ended taken. (taken.0, taken.1 refl at_once)) outcome
+  With spares ended = TakesTurns spares defers (Does ended) old ended new
 
   -- the work was not begun
   pub turns_none : (spares : Bool) → OverRecords true callers (λ none. ⊥) old status new cut text → OverRecords spares callers (With spares) old status new cut text

@@ -1,5 +1,5 @@
 -- The work over the records of a store, from what it makes of a core.
-use Rattle.std.proofs.Common.{◌≡◌, ℕ, ◌≤◌, ◌⊎◌, inl, inr, ⊎_elim, List, [], ◌++◌, length, take, Bool, false, refl, sym, ap, subst, ◌∙◌, arith}
+use Rattle.std.proofs.Common.{◌≡◌, ℕ, ◌≤◌, inl, inr, ⊎_elim, List, [], ◌++◌, length, take, Bool, false, refl, sym, ap, subst, ◌∙◌, arith}
 use Rattle.std.specs.Prelude.{IsTrue}
 use Rattle.std.proofs.lemmas.Bool.{false≢true}
 use Rattle.mars_base.proofs.Going as going
@@ -20,51 +20,21 @@ use Rattle.caller_steps.specs.Prefix.{HasPrefixOf}
 use Rattle.caller_steps.specs.Core.{CoreView, Continues}
 use Rattle.caller_steps.proofs.Reading.{reads_leave}
 use Rattle.caller_steps.proofs.Sound.{opened_sound}
-use Rattle.mars_core.specs.Attached.{CoreCause, LeftAsItWas, GivesBack, is_media_fault}
 use Rattle.mars_core.specs.Over.{limits_of, index_of, IsOver, Begins}
-use Rattle.mars_core.specs.declared.fault.CoreFault.{CoreFault}
-use Rattle.mars_core.specs.declared.fault.CoreFault.TheVariants.{Damaged, Media, NoMemory}
+use Rattle.mars_core.specs.declared.fault.CoreFault.TheVariants.{NoMemory}
 use Rattle.mars_manager.specs.Sharing.{CanShare}
 use Rattle.script_run.specs.declared.ended.Ended.{Ended}
 use Rattle.mars_shell.specs.OnCore.{TurnsOn}
-use Rattle.mars_shell.specs.Run.{begun_on}
-use Rattle.mars_shell.specs.Served.{OpensAs, spares_at, opens_of, Untaken, Served}
-use Rattle.mars_shell.proofs.Shapes.{same_limits}
-
--- an image opens as a core leaves it that was not begun
-untaken_as : (Opens : List ℕ → List ℕ → Type 0) (bytes image : List ℕ) (fault : CoreFault) → Opens image bytes ⊎ (IsTrue (is_media_fault fault) × Opens image (upgraded bytes)) → OpensAs (spares_at false fault) Opens bytes image
-untaken_as Opens bytes image (Damaged page) (inl was) = inl was
-untaken_as Opens bytes image (Damaged page) (inr is) = absurd (false≢true is.0)
-untaken_as Opens bytes image Media (inl was) = inl was
-untaken_as Opens bytes image Media (inr is) = inr (refl, is.1)
-untaken_as Opens bytes image NoMemory (inl was) = inl was
-untaken_as Opens bytes image NoMemory (inr is) = inr (refl, is.1)
-
--- the records were not taken
-pub untaken : (tells : Bool) (Opens : Shape → List ℕ → List ℕ → Type 0) (index : Index) (old new : StoreView) (fault : CoreFault) → IsTrue tells → CoreCause tells index old fault
-    → GivesBack tells (Opens old.shape) (is_media_fault fault) old new → Untaken false Opens index old fault false [] new
-untaken tells Opens index old new fault told cause back = record {
-  whole = refl;
-  silent = refl;
-  cause = subst (λ (b : Bool). CoreCause b index old fault) told cause;
-  time = going.weaker (λ image either. untaken_as (Opens old.shape) old.state.bytes image fault either) (back.time told);
-}
-
--- a store that is left as it was
-pub unread : (spares tells : Bool) (Opens : Shape → List ℕ → List ℕ → Type 0) (index : Index) (old new : StoreView) (failed : Bool) (fault : CoreFault) → IsTrue tells → CoreCause tells index old fault
-    → LeftAsItWas tells (Opens old.shape) failed old new → Untaken spares Opens index old fault false [] new
-unread spares tells Opens index old new failed fault told cause left = record {
-  whole = refl;
-  silent = refl;
-  cause = subst (λ (b : Bool). CoreCause b index old fault) told cause;
-  time = going.weaker (λ image opens. inl opens) (left.time told);
-}
+use Rattle.array_runs.specs.Records.{begun_on}
+use Rattle.array_runs.specs.Untaken.{OpensAs, Untaken}
+use Rattle.mars_shell.specs.Served.{opens_of, Served}
+use Rattle.array_runs.proofs.Shapes.{same_limits}
 
 module _ (tells : Bool) (Opens : Shape → List ℕ → List ℕ → Type 0) (index : Index) (old mid : StoreView) (core : CoreView) (begins : Begins tells (Opens old.shape) index old mid core) where
-  limits_are : core.limits ≡ limits_of old.shape
+  pub limits_are : core.limits ≡ limits_of old.shape
   limits_are = begins.over.limits ∙ ap limits_of begins.shape
 
-  begun_is : IsTrue tells → core.state ≡ begun_on false index old.state.bytes
+  pub begun_is : IsTrue tells → core.state ≡ begun_on false index old.state.bytes
   begun_is told = begins.state told
 
   -- memory ran out before the work
@@ -160,7 +130,6 @@ module _ (tells : Bool) (Opens : Shape → List ℕ → List ℕ → Type 0) (in
           (living, record { sound = over.sound told living; table = over.table told living; keys = over.keys told });
       unwritten = λ unfailed reads. ap (λ (x : caller.Index). x.bytes) (sym (over.keys told)
           ∙ reads_leave (limits_of old.shape) (begun_on false index old.state.bytes) later.state turns.turns (of_first (λ l s. Runs l s turns.turns later.state) turns.runs) (λ caller. refl) reads (turns.alive unfailed));
-      spared = λ is. absurd (false≢true is);
     }
 
   -- callers took turns

@@ -6,7 +6,7 @@ use Rattle.std.proofs.lemmas.List.{append_assoc, append-nil, length-map}
 use Rattle.history.specs.Key.{main_name}
 use Rattle.history.specs.Writes.{rows_of}
 use Rattle.history.specs.declared.call.Call.{Call}
-use Rattle.caller_steps.specs.State.{State, records_of}
+use Rattle.caller_steps.specs.State.{records_of}
 use Rattle.caller_steps.specs.Core.{CoreView}
 use Rattle.caller_steps.specs.Run.{Turn, has_fault}
 use Rattle.mars_manager.specs.Sharing.{CanShare}
@@ -17,7 +17,7 @@ use Rattle.texts.specs.Written.{IsWritten}
 use Rattle.script_run.specs.declared.ended.Ended.{Ended}
 use Rattle.script_run.specs.declared.ended.Ended.TheVariants.{All, WriteFault, MediaFault, NoMemory}
 use Rattle.script_run.specs.declared.responder.Stop.TheVariants as stop
-use Rattle.mars_shell.specs.Dump.{number_line}
+use Rattle.history_text.specs.Text.{number_line}
 use Rattle.mars_shell.specs.Drill.{summary_text, AreMade, Drills}
 use Rattle.mars_shell.specs.Made.{without_reply, GoOn, Made, EndsEarly, SummedUp}
 use Rattle.mars_shell.specs.OnCore.{TurnsOn}

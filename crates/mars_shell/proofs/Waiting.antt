@@ -1,5 +1,5 @@
 -- How many commits may wait for their write-back, by what words ask for.
-use Rattle.std.proofs.Common.{ℕ, ◌≤◌, List, Option, Some, None, arith}
+use Rattle.std.proofs.Common.{◌≡◌, ℕ, zero, suc, ◌<◌, ◌≤◌, List, Option, Some, None, arith}
 use Rattle.command_words.specs.Asked.{IsNumber, GivesWriting, AsksFor}
 use Rattle.command_words.specs.declared.words.CallersNumbers.{CallersNumbers}
 use Rattle.command_words.specs.declared.words.DrillNumbers.{DrillNumbers}
@@ -7,6 +7,7 @@ use Rattle.command_words.specs.declared.words.RunOptions.{RunOptions}
 use Rattle.command_words.specs.declared.words.Writing.{Writing}
 use Rattle.command_words.specs.declared.words.Writing.TheVariants.{AtOnce, Late}
 use Rattle.command_words.specs.declared.words.Words.TheVariants.{Run, Callers, Drill}
+use Rattle.reader_work.specs.Readership.{passes_for}
 use Rattle.mars_shell.specs.Late.{HasDepth}
 
 given_depth : (first : Option (List ℕ)) (writing : Writing) → GivesWriting first writing → HasDepth writing
@@ -24,8 +25,19 @@ given_few : (first : Option (List ℕ)) (number : ℕ) → IsNumber 1 32 None fi
 given_few None number gives = absurd (cc gives)
 given_few (Some value) number gives = gives.1
 
-pub callers_few : (words : List (List ℕ)) (numbers : CallersNumbers) → AsksFor words (Callers numbers) → numbers.callers ≤ 32
-callers_few words numbers asks = given_few _ numbers.callers asks.4.1.callers
+one_left : (callers readers : ℕ) → callers ≤ 32 → (0 < readers → callers ≤ 31) → passes_for callers readers ≤ 32
+one_left callers zero few room = few
+one_left callers (suc readers) few room = (let most = room (omega arith) in omega (arith, most))
+
+pub callers_few : (words : List (List ℕ)) (numbers : CallersNumbers) → AsksFor words (Callers numbers) → passes_for numbers.callers numbers.readers ≤ 32
+callers_few words numbers asks = one_left numbers.callers numbers.readers (given_few _ numbers.callers asks.4.1.callers) asks.4.1.room
+
+given_readers : (first : Option (List ℕ)) (number : ℕ) → IsNumber 1 8 (Some 0) first number → number ≤ 8
+given_readers None number gives = (let none : 0 ≡ number = cc gives in omega (arith, none))
+given_readers (Some value) number gives = gives.1
+
+pub readers_few : (words : List (List ℕ)) (numbers : CallersNumbers) → AsksFor words (Callers numbers) → numbers.readers ≤ 8
+readers_few words numbers asks = given_readers _ numbers.readers asks.4.1.readers
 
 pub drill_depth : (words : List (List ℕ)) (numbers : DrillNumbers) → AsksFor words (Drill numbers) → HasDepth numbers.writing
 drill_depth words numbers asks = given_depth _ numbers.writing asks.4.1.writing

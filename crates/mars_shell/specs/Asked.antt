@@ -7,20 +7,23 @@ use Rattle.command_words.specs.declared.words.Words.{Words}
 use Rattle.command_words.specs.declared.words.Words.TheVariants.{Run, Callers, Eaw, Dump, Drill, Format, Make, Purge, Follow}
 use Rattle.eaw_device.specs.Opens.{HoldsArray}
 use Rattle.script_run.specs.Input.{input_limit}
-use Rattle.mars_shell.specs.Commands.{Obeys}
+use Rattle.mars_shell.specs.Commands.{ObeysAs}
 use Rattle.mars_shell.specs.Follow.{FollowOutcome}
 use Rattle.mars_shell.specs.Formats.{GiveLength, FormatOutcome}
+use Rattle.reader_work.specs.Readership.{passes_for}
 use Rattle.mars_shell.specs.Joint.{JointWork}
 use Rattle.mars_shell.specs.Late.{is_late}
-use Rattle.mars_shell.specs.Outcome.{OutcomeOf}
+use Rattle.array_runs.specs.Outcome.{OutcomeOf}
 use Rattle.mars_shell.specs.Drill.{Drills}
-use Rattle.mars_shell.specs.Dump.{Dumps, Spares}
-use Rattle.mars_shell.specs.Run.{HoldsRecords, TakesTurns, Answers, OverRecords}
-use Rattle.mars_shell.specs.Statuses.{IsRefused, IsUnfollowed}
-use Rattle.mars_shell.specs.Tables.{MakeOutcome}
-use Rattle.mars_shell.specs.Purge.{PurgeOutcome}
-use Rattle.mars_shell.specs.declared.status.Status.{Status}
-use Rattle.mars_shell.specs.declared.status.Status.TheVariants.{Good, Usage, NoMemory}
+use Rattle.told_commands.specs.Dump.{DumpOutcome}
+use Rattle.array_runs.specs.Records.{HoldsRecords, OverRecords}
+use Rattle.mars_shell.specs.Run.{TakesTurns}
+use Rattle.mars_shell.specs.FramedRun.{RunsAs}
+use Rattle.array_runs.specs.Statuses.{IsRefused, IsUnfollowed}
+use Rattle.told_commands.specs.Tables.{MakeOutcome}
+use Rattle.told_commands.specs.Purge.{PurgeOutcome}
+use Rattle.array_runs.specs.declared.status.Status.{Status}
+use Rattle.array_runs.specs.declared.status.Status.TheVariants.{Good, Usage, NoMemory}
 
 -- the words ask for callers, for whom an array may have too few numbers
 abbrev pub IsOfCallers : Words → Type 0
@@ -38,19 +41,19 @@ WordsSay words _ Unread Holds = (asked : Words) × AsksFor words asked × Holds 
 abbrev pub IfReads : Words → Type 0 → Type 0 → Type 0
 IfReads (Run given) Without Reads = Reads
 IfReads (Callers numbers) Without Reads = Reads
-IfReads Eaw Without Reads = Reads
+IfReads (Eaw given) Without Reads = Reads
 IfReads Follow Without Reads = Reads
 IfReads _ Without Reads = Without
 
 -- What was written and done, by what is asked for. `run`, `callers`, `drill`, `dump`, `make` and `purge` read the records of an array that was opened.
 -- `eaw` and `follow` do not. Only `callers` need numbers.
 abbrev pub OutcomeFor : Words → View → Status → View → List ℕ → Bool → List ℕ → Type 0
-OutcomeFor (Run given) old status new input cut text = OverRecords false 0 (λ ended. TakesTurns false (is_late given.writing) (Answers input ended cut text) old ended new) old status new cut text
+OutcomeFor (Run given) old status new input cut text = OverRecords false 0 (λ ended. RunsAs given.frames (is_late given.writing) input cut text old ended new) old status new cut text
 OutcomeFor (Callers numbers) old status new input cut text =
-    OverRecords false numbers.callers (λ ended. TakesTurns false (is_late numbers.writing) (JointWork numbers.callers numbers.tries input ended cut text) old ended new) old status new cut text
-OutcomeFor Eaw old status new input cut text = OutcomeOf true (λ ended. Obeys old input ended new cut text) (λ page. ⊥) ⊥ ⊥ old status new cut text
+    OverRecords false (passes_for numbers.callers numbers.readers) (λ ended. TakesTurns false (is_late numbers.writing) (JointWork numbers.callers numbers.readers numbers.tries input ended cut text) old ended new) old status new cut text
+OutcomeFor (Eaw given) old status new input cut text = OutcomeOf true (λ ended. ObeysAs given.frames old input ended new cut text) (λ page. ⊥) ⊥ ⊥ old status new cut text
 OutcomeFor Follow old status new input cut text = FollowOutcome old status new input cut text
-OutcomeFor Dump old status new input cut text = OverRecords true 0 (λ ended. (taken : TakesTurns true false (Dumps ended cut text) old ended new) × Spares taken.shape old new) old status new cut text
+OutcomeFor Dump old status new input cut text = DumpOutcome old status new cut text
 OutcomeFor (Drill numbers) old status new input cut text = OverRecords false 0 (λ ended. TakesTurns false (is_late numbers.writing) (Drills numbers ended cut text) old ended new) old status new cut text
 OutcomeFor (Format numbers) old status new input cut text = FormatOutcome numbers old status new cut text
 OutcomeFor (Make name) old status new input cut text = MakeOutcome name old status new cut text
@@ -67,8 +70,8 @@ abbrev pub IsFit : Words → Bool → List ℕ → Bool → View → Type 0
 IsFit (Format numbers) source_tells input media_tells media = GiveLength numbers media.size
 IsFit (Run given) source_tells input media_tells media = IsShortInput source_tells input × IsTrue media_tells × ((shape : Shape) × HoldsRecords shape media)
 IsFit (Callers numbers) source_tells input media_tells media =
-    IsShortInput source_tells input × IsTrue media_tells × ((shape : Shape) × HoldsRecords shape media × (numbers.callers ≤ shape.numbers))
-IsFit Eaw source_tells input media_tells media = IsShortInput source_tells input × IsTrue media_tells × HoldsArray media
+    IsShortInput source_tells input × IsTrue media_tells × ((shape : Shape) × HoldsRecords shape media × (passes_for numbers.callers numbers.readers ≤ shape.numbers))
+IsFit (Eaw given) source_tells input media_tells media = IsShortInput source_tells input × IsTrue media_tells × HoldsArray media
 IsFit Follow source_tells input media_tells media = IsShortInput source_tells input × IsTrue media_tells × HoldsArray media
 IsFit Dump source_tells input media_tells media = IsTrue media_tells × ((shape : Shape) × HoldsRecords shape media)
 IsFit (Drill numbers) source_tells input media_tells media = IsTrue media_tells × ((shape : Shape) × HoldsRecords shape media)

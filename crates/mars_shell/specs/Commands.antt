@@ -1,34 +1,51 @@
 -- What a run of raw commands does on a medium that tells its bytes.
 use Rattle.array_image.specs.Decided.{settled_data}
-use Rattle.std.specs.Prelude.{ℕ, ◌≡◌, ◌⊎◌, List, [], ◌++◌, Bool, None, Contains}
+use Rattle.std.specs.Prelude.{ℕ, ◌≡◌, ◌⊎◌, List, ◌++◌, Bool, true, false, None, Contains, ⊤}
 use Rattle.std.specs.List.{concat}
 use Rattle.pcm_media.specs.Images.{MayLeave}
 use Rattle.pcm_media.specs.View.{View}
 use Rattle.array_shape.specs.declared.shape.Shape.{Shape}
 use Rattle.device_recovery.specs.Recovered.{HasNoVote}
-use Rattle.eaw_device.specs.Opens.{Opens, AllOpen, OpensLike, IsArray}
+use Rattle.eaw_device.specs.Opens.{Opens, AllOpen, OpensLike, IsArray, HoldsArray}
+use Rattle.eaw_face.specs.State.{State}
 use Rattle.eaw_script.specs.Lines.{raw_script}
-use Rattle.eaw_script.specs.Progress.{Progress, MayStand}
+use Rattle.eaw_script.specs.Progress.{Progress, MayStand, begun}
+use Rattle.eaw_script.specs.Mirrored.{framed_script, framed_begun}
+use Rattle.script_run.specs.Script.{Script}
 use Rattle.script_run.specs.Lines.{lines_of}
 use Rattle.script_run.specs.Transcript.{Answered}
 use Rattle.script_run.specs.declared.ended.Ended.{Ended}
-use Rattle.script_run.specs.declared.ended.Ended.TheVariants.{All}
+use Rattle.script_run.specs.declared.ended.Ended.TheVariants.{All, NoMemory}
+use Rattle.array_runs.specs.Outcome.{Idle}
 
--- The lines of the input were answered by the model, starting from the data of the array with no number live. What a loss of power may
--- leave at the end opens with data that the script may have reached. What it might have left since the start opens with data that the
--- script has made, or with that of an image that could be left at first, if all of those open.
-pub record Obeys (old : View) (input : List ℕ) (ended : Ended) (new : View) (cut : Bool) (text : List ℕ) : Type 0 where
+-- The lines of the input were answered by a script whose states have this progress, starting from the data of the array with no number live.
+-- What a loss of power may leave at the end opens with data that the script may have reached. What it might have left since the start opens
+-- with data that the script has made, or with that of an image that could be left at first, if all of those open.
+pub record ObeysBy {S : Type 0} (script : Script S) (first : Shape → State → S) (progress : S → Progress) (old : View) (input : List ℕ) (ended : Ended) (new : View) (cut : Bool) (text : List ℕ) : Type 0 where
   pub shape : Shape
   pub array : IsArray shape old
   pub answers : List (List ℕ)
   pub rest : List ℕ
   pub text_is : text ≡ concat answers ++ rest
-  pub final : Progress
-  pub answered : Answered raw_script
-      (record { shape = shape; state = record { bytes = settled_data shape old.content.bytes; logs = λ t. None }; past = []; doubt = None })
-      1 (lines_of input) ended cut answers rest final
-  pub now : (image : List ℕ) → MayLeave new.content image → (bytes : List ℕ) × Opens shape image bytes × MayStand final bytes
+  pub final : S
+  pub answered : Answered script (first shape (record { bytes = settled_data shape old.content.bytes; logs = λ t. None })) 1 (lines_of input) ended cut answers rest final
+  pub now : (image : List ℕ) → MayLeave new.content image → (bytes : List ℕ) × Opens shape image bytes × MayStand (progress final) bytes
   pub since : AllOpen shape old.content → (image : List ℕ) → new.left_since old.moment image
-      → OpensLike shape old.content image ⊎ ((bytes : List ℕ) × Opens shape image bytes × (MayStand final bytes ⊎ Contains final.past bytes))
+      → OpensLike shape old.content image ⊎ ((bytes : List ℕ) × Opens shape image bytes × (MayStand (progress final) bytes ⊎ Contains (progress final).past bytes))
   pub quiet : ended ≡ All → HasNoVote shape new.content.bytes
-  pub left : ended ≡ All → settled_data shape new.content.bytes ≡ final.state.bytes
+  pub left : ended ≡ All → settled_data shape new.content.bytes ≡ (progress final).state.bytes
+
+-- the commands were answered by the model
+abbrev pub Obeys : View → List ℕ → Ended → View → Bool → List ℕ → Type 0
+Obeys = ObeysBy raw_script begun (λ progress. progress)
+
+-- So, and the frames that each command sends stand before its reply: in sequence from 1, and at each whole reply those so far, applied in order
+-- to the data that was opened, give the committed data. Or memory ran out before the first line.
+abbrev pub ObeysMirrored : View → List ℕ → Ended → View → Bool → List ℕ → Type 0
+ObeysMirrored old input ended new cut text =
+    ObeysBy framed_script framed_begun (λ state. state.inner) old input ended new cut text ⊎ ((ended ≡ NoMemory) × Idle true (HoldsArray old) ⊤ old new cut text)
+
+-- with frames or without
+abbrev pub ObeysAs : Bool → View → List ℕ → Ended → View → Bool → List ℕ → Type 0
+ObeysAs true = ObeysMirrored
+ObeysAs false = Obeys

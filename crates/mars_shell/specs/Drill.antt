@@ -16,7 +16,7 @@ use Rattle.command_words.specs.declared.words.DrillNumbers.{DrillNumbers}
 use Rattle.texts.specs.MediaFault.{media_line}
 use Rattle.script_run.specs.declared.ended.Ended.{Ended}
 use Rattle.script_run.specs.declared.ended.Ended.TheVariants.{MediaFault, NoMemory}
-use Rattle.mars_shell.specs.Dump.{number_line}
+use Rattle.history_text.specs.Text.{number_line}
 use Rattle.mars_shell.specs.Lines.{goes_on}
 use Rattle.mars_shell.specs.Told.{TellsEnd}
 

@@ -9,16 +9,25 @@ use Rattle.eaw_face.specs.Mirroring.{followed}
 use Rattle.eaw_device.specs.Opens.{Opens, AllOpen, OpensLike, IsArray}
 use Rattle.frame_lines.specs.Followed.{FollowedLines, OpensFirst}
 use Rattle.frame_lines.specs.declared.ended.FollowEnd.{FollowEnd}
-use Rattle.frame_lines.specs.declared.ended.FollowEnd.TheVariants.{MediaFault, NoMemory}
+use Rattle.frame_lines.specs.declared.ended.FollowEnd.TheVariants as follow
 use Rattle.script_run.specs.Lines.{lines_of}
-use Rattle.mars_shell.specs.Outcome.{OutcomeOf}
-use Rattle.mars_shell.specs.Statuses.{follow_status}
-use Rattle.mars_shell.specs.declared.status.Status.{Status}
+use Rattle.array_runs.specs.Outcome.{OutcomeOf}
+use Rattle.array_runs.specs.declared.status.Status.{Status}
+use Rattle.array_runs.specs.declared.status.Status.TheVariants.{Good, WriteFault, MediaFault, NoMemory, BadFrame, Gap}
+
+-- the status of lines that say frames
+abbrev pub follow_status : FollowEnd → Status
+follow_status follow.All = Good
+follow_status (follow.BadFrame n) = BadFrame n
+follow_status (follow.Gap expected got) = Gap expected got
+follow_status follow.WriteFault = WriteFault
+follow_status follow.MediaFault = MediaFault
+follow_status follow.NoMemory = NoMemory
 
 -- the array settles to its data before with these frames applied, and no row is voted, unless the medium failed or memory ran out
 abbrev pub LeavesFollowed : Shape → View → View → FollowEnd → List Frame → Type 0
-LeavesFollowed shape old new MediaFault frames = Unit {0}
-LeavesFollowed shape old new NoMemory frames = Unit {0}
+LeavesFollowed shape old new follow.MediaFault frames = Unit {0}
+LeavesFollowed shape old new follow.NoMemory frames = Unit {0}
 LeavesFollowed shape old new _ frames = HasNoVote shape new.content.bytes × (settled_data shape new.content.bytes ≡ followed frames (settled_data shape old.content.bytes))
 
 -- The frames that the lines of the input say were applied to the data of the array. Whatever a loss of power might have left since the start

@@ -17,8 +17,8 @@ use Rattle.btree_pages.specs.Index.{tree}
 use Rattle.record_table.specs.Shown.{table_of}
 use Rattle.texts.specs.Written.{IsWritten}
 use Rattle.command_words.specs.declared.words.FormatNumbers.{FormatNumbers}
-use Rattle.mars_shell.specs.declared.status.Status.{Status}
-use Rattle.mars_shell.specs.declared.status.Status.TheVariants.{Good, WriteFault, MediaFault, BadShape}
+use Rattle.array_runs.specs.declared.status.Status.{Status}
+use Rattle.array_runs.specs.declared.status.Status.TheVariants.{Good, WriteFault, MediaFault, BadShape}
 
 -- the numbers of some array
 abbrev pub CanBe : FormatNumbers → Type 0

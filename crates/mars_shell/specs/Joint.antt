@@ -17,20 +17,25 @@ use Rattle.caller_work.specs.Worked.{of_caller}
 use Rattle.history_text.specs.Text.{done_lines, work_text}
 use Rattle.script_run.specs.Lines.{lines_of}
 use Rattle.texts.specs.MediaFault.{media_line}
-use Rattle.script_text.specs.declared.line.Line.{Line}
+use Rattle.script_text.specs.declared.joint_line.JointLine.{JointLine}
+use Rattle.caller_plans.specs.Asks.{keys_from}
+use Rattle.reader_work.specs.Answers.{AllAnswer}
+use Rattle.reader_work.specs.Readership.{passes_for}
+use Rattle.reader_work.specs.declared.answer.Answer.{Answer}
 use Rattle.script_run.specs.declared.ended.Ended.{Ended}
 use Rattle.script_run.specs.declared.ended.Ended.TheVariants.{MediaFault, NoMemory}
 use Rattle.mars_shell.specs.Told.{TellsEnd}
 
--- What comes of the callers' work on a core of these limits, which has at least as many callers: what the lines of the input say, and that
--- each caller's turns are those that its plans ask for, of which its fates are told. Each `Busy` that a caller was told names another one that
+-- What comes of the callers' work on a core of these limits, which has at least as many callers, and one more if there are readers: what the
+-- lines of the input say, and that each caller's turns are those that its plans ask for, of which its fates are told. Each `Busy` that a caller was told names another one that
 -- plans a call on the same stripe, one of the two for writing. The work ended at a fault of the medium exactly if the
--- medium has failed. If neither that was so nor memory ran out, each caller came to the end of its plans. The text has all of this, or, if the
+-- medium has failed. If neither that was so nor memory ran out, each caller came to the end of its plans, and each reader was answered for each key that it asks for:
+-- the value after some first transactions of the history, no fewer from one of its answers to the next. The text has all of this, or, if the
 -- medium failed, the history and a line that says so.
-pub record JointWork (callers tries : ℕ) (input : List ℕ) (ended : Ended) (cut : Bool) (text : List ℕ) (limits : Limits) (turns : List Turn) (final : State) : Type 0 where
-  pub enough : callers ≤ limits.callers
-  pub said : List Line
-  pub says : AllSay callers (lines_of input) said
+pub record JointWork (callers readers tries : ℕ) (input : List ℕ) (ended : Ended) (cut : Bool) (text : List ℕ) (limits : Limits) (turns : List Turn) (final : State) : Type 0 where
+  pub enough : passes_for callers readers ≤ limits.callers
+  pub said : List JointLine
+  pub says : AllSay callers readers (lines_of input) said
   pub whose : AreOf callers turns
   pub fates : List (List Fate)
   pub each : length fates ≡ callers
@@ -38,5 +43,7 @@ pub record JointWork (callers tries : ℕ) (input : List ℕ) (ended : Ended) (c
       × (ended ≢ MediaFault → ended ≢ NoMemory → stopped ≡ None)
   pub causes : (caller : ℕ) (within : caller < callers) → HaveCauses callers (λ other. planned None (calls_by other said)) caller (works caller within).1.0
   pub fault : (ended ≡ MediaFault) ↔ IsTrue final.is_dead
-  pub tells : TellsEnd ended cut text (work_text (faults_from 1 (λ caller. false) said) final.history fates (rows_of main_name (records final.base final.history)))
+  pub told : List (List Answer)
+  pub answered : ended ≢ MediaFault → ended ≢ NoMemory → AllAnswer final.base final.history (keys_from 0 readers said) told
+  pub tells : TellsEnd ended cut text (work_text (faults_from 1 (λ caller. false) said) final.history fates (rows_of main_name (records final.base final.history)) told)
       (flat_map done_lines final.history ++ media_line)

@@ -1,15 +1,10 @@
 pub mod Lines
 pub mod Standing
-pub mod Statuses
-pub mod Input
-pub mod Outcome
-pub mod Opening
 pub mod OnCore
-pub mod Forms
 pub mod Late
 pub mod PrefixLaw
 pub mod Run
-pub mod Dump
+pub mod FramedRun
 pub mod Told
 pub mod Served
 pub mod Tally
@@ -19,9 +14,6 @@ pub mod Commands
 pub mod Follow
 pub mod Formats
 pub mod Joint
-pub mod Tables
-pub mod Purge
 pub mod Asked
 pub mod Next
-pub mod Fault
 pub mod Room

@@ -7,7 +7,7 @@ use Rattle.command_words.specs.declared.words.Words.{Words}
 use Rattle.command_words.specs.declared.words.Words.TheVariants.{Eaw, Format, Follow}
 use Rattle.eaw_device.specs.Opens.{Opens}
 use Rattle.mars_shell.specs.Formats.{HasAsked}
-use Rattle.mars_shell.specs.Forms.{index_of_form}
+use Rattle.array_runs.specs.Forms.{index_of_form}
 
 -- each image that a loss of power may leave opens with data that is a sound index of this form
 abbrev pub AllSound : Shape → ℕ → Content → Type 0
@@ -15,7 +15,7 @@ AllSound shape form content = (image : List ℕ) → MayLeave content image → 
 
 -- the words ask for a command that reads the records, or works on them
 abbrev pub IsOfRecords : Words → Type 0
-IsOfRecords Eaw = ⊥
+IsOfRecords (Eaw given) = ⊥
 IsOfRecords (Format numbers) = ⊥
 IsOfRecords Follow = ⊥
 IsOfRecords asked = Unit {0}

@@ -8,7 +8,7 @@ use Rattle.page_store.specs.Index.{Index}
 use Rattle.record_table.specs.Does.{OpensWith}
 use Rattle.caller_steps.specs.State.{State}
 use Rattle.caller_steps.specs.Prefix.{HasPrefixOf}
-use Rattle.mars_shell.specs.Forms.{index_in}
+use Rattle.array_runs.specs.Forms.{index_in}
 
 -- the image opens with data that is sound under this index and has the records of the first transactions, at least so many
 abbrev pub Recovers : Shape → Index → State → ℕ → List ℕ → Type 0

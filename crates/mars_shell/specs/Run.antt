@@ -1,65 +1,27 @@
 -- What a run over records does on a medium that tells its bytes.
-use Rattle.std.specs.Prelude.{ℕ, ◌≡◌, ◌≢◌, ◌^◌, ◌<◌, ◌≤◌, List, [], ◌++◌, length, Bool, true, false, IsFalse, Contains}
+use Rattle.std.specs.Prelude.{ℕ, ◌≡◌, ◌≢◌, ◌^◌, ◌<◌, ◌≤◌, List, [], ◌++◌, length, Bool, IsFalse, Contains}
 use Rattle.std.specs.List.{concat}
 use Rattle.pcm_media.specs.View.{View}
 use Rattle.array_shape.specs.declared.shape.Shape.{Shape}
 use Rattle.array_image.specs.Decided.{settled_data}
 use Rattle.device_recovery.specs.Recovered.{HasNoVote}
-use Rattle.eaw_device.specs.Opens.{IsArray, HoldsArray}
-use Rattle.page_store.specs.Index.{Index}
 use Rattle.record_table.specs.Shown.{table_of}
-use Rattle.record_table.specs.Upgrading.{upgraded}
-use Rattle.history.specs.Legal.{IsLegal, records}
+use Rattle.history.specs.Legal.{IsLegal}
 use Rattle.history.specs.declared.call.Reply.TheVariants.{Committed}
-use Rattle.caller_steps.specs.State.{State, opened}
+use Rattle.caller_steps.specs.State.{State}
 use Rattle.caller_steps.specs.Room.{Limits}
 use Rattle.caller_steps.specs.Run.{Turn, has_write}
 use Rattle.caller_steps.specs.Step.{Runs}
-use Rattle.mars_core.specs.Over.{limits_of, index_of}
+use Rattle.mars_core.specs.Over.{limits_of}
 use Rattle.script_run.specs.Lines.{lines_of}
 use Rattle.script_run.specs.Transcript.{Answered}
 use Rattle.script_run.specs.declared.ended.Ended.{Ended}
 use Rattle.script_run.specs.declared.ended.Ended.TheVariants.{MediaFault}
 use Rattle.script_text.specs.Replies.{reply_line}
-use Rattle.mars_shell.specs.Forms.{index_in}
+use Rattle.array_runs.specs.Forms.{index_in}
+use Rattle.array_runs.specs.Records.{HasAll, HoldsRecords, begun_on, worked_on}
 use Rattle.mars_shell.specs.Lines.{call_script}
-use Rattle.mars_shell.specs.Outcome.{OutcomeOf}
 use Rattle.mars_shell.specs.PrefixLaw.{PrefixLaw}
-use Rattle.mars_shell.specs.declared.status.Status.{Status}
-
--- the medium holds an array whose records are sound under the index that its data names
-pub record HoldsRecords (shape : Shape) (media : View) : Type 0 where
-  pub array : IsArray shape media
-  pub sound : (index_in shape media).sound (settled_data shape media.content.bytes)
-
--- the medium holds an array in whose data this is the first page that is not sound
-abbrev pub IsDamaged : View → ℕ → Type 0
-IsDamaged media page = (shape : Shape) × IsArray shape media × (index_in shape media).fails (settled_data shape media.content.bytes) page
-
--- the medium holds an array with fewer transaction numbers than callers
-abbrev pub Exceeds : ℕ → View → Type 0
-Exceeds callers media = (shape : Shape) × IsArray shape media × (shape.numbers < callers)
-
--- What comes of work over the records of an array, by the status. Whether it has numbers for so many callers is tested after the opening and
--- before the records are read.
-abbrev pub OverRecords : Bool → ℕ → (Ended → Type 0) → View → Status → View → Bool → List ℕ → Type 0
-OverRecords spares callers Works old status new cut text =
-    OutcomeOf spares Works (λ page. IsDamaged old page × (Exceeds callers old → ⊥)) (HoldsArray old × (Exceeds callers old → ⊥)) (Exceeds callers old) old status new cut text
-
--- the data that is worked on: what was opened, in version 2 unless it is spared
-abbrev pub worked_on : Bool → List ℕ → List ℕ
-worked_on true bytes = bytes
-worked_on false bytes = upgraded bytes
-
--- the callers before the first line, over this data under an index
-abbrev pub begun_on : Bool → Index → List ℕ → State
-begun_on spares index bytes = opened (table_of index bytes) (index_of index (worked_on spares bytes))
-
--- the data has the records and the keys of a state, under an index
-pub record HasAll (index : Index) (bytes : List ℕ) (state : State) : Type 0 where
-  pub sound : index.sound bytes
-  pub table : table_of index bytes ≡ records state.base state.history
-  pub keys : state.index ≡ index_of index bytes
 
 -- Callers took turns over an array whose records are sound: there is a run of steps from the state that was opened to the last one. Says
 -- tells, of the limits of the array, the turns and the last state, what was written. The history, also with what is in doubt, is legal on

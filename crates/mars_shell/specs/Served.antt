@@ -1,16 +1,13 @@
 -- What is done over a store whose records are read first.
-use Rattle.std.specs.Prelude.{ℕ, ◌≡◌, ◌≢◌, ◌⊎◌, List, [], ◌++◌, length, Bool, true, false, IsTrue, IsFalse, Result, Ok, Err}
+use Rattle.std.specs.Prelude.{ℕ, ◌≡◌, ◌≢◌, List, ◌++◌, length, Bool, IsTrue, IsFalse, Result, Ok, Err}
 use Rattle.mars_base.specs.Causes.{Rose}
 use Rattle.pcm_media.specs.View.{View}
 use Rattle.array_shape.specs.declared.shape.Shape.{Shape}
 use Rattle.eaw_face.specs.Causes.{IsAlive}
 use Rattle.eaw_face.specs.StoreView.{StoreView, LeavesOnly}
-use Rattle.record_slots.specs.Places.{page_bytes}
-use Rattle.record_slots.specs.Super.{form_said}
 use Rattle.page_store.specs.Index.{Index}
 use Rattle.record_table.specs.Does.{OpensWith}
 use Rattle.record_table.specs.Shown.{table_of}
-use Rattle.record_table.specs.Upgrading.{upgraded}
 use Rattle.history.specs.Legal.{IsLegal}
 use Rattle.caller_steps.specs.State.{State}
 use Rattle.caller_steps.specs.Room.{Limits}
@@ -18,55 +15,21 @@ use Rattle.caller_steps.specs.Run.{Turn, has_write}
 use Rattle.caller_steps.specs.Step.{Runs}
 use Rattle.caller_steps.specs.Prefix.{HasPrefixOf}
 use Rattle.mars_core.specs.Over.{limits_of}
-use Rattle.mars_core.specs.Attached.{CoreCause}
 use Rattle.mars_core.specs.declared.fault.CoreFault.{CoreFault}
-use Rattle.mars_core.specs.declared.fault.CoreFault.TheVariants.{Damaged, Media}
+use Rattle.mars_core.specs.declared.fault.CoreFault.TheVariants.{Media}
 use Rattle.script_run.specs.Counts.{Counts}
 use Rattle.script_run.specs.declared.ended.Ended.{Ended}
 use Rattle.script_run.specs.declared.ended.Ended.TheVariants.{MediaFault}
-use Rattle.mars_shell.specs.Dump.{Spares}
-use Rattle.mars_shell.specs.Run.{worked_on, begun_on, HasAll, TakesTurns}
-
--- The super page of the store's data names this form. Nothing was written, and whatever a loss of power might have left meanwhile opens
--- with that data.
-pub record SaysForm (tells : Bool) (Opens : List ℕ → List ℕ → Type 0) (form : ℕ) (old new : StoreView) : Type 0 where
-  pub is : IsTrue tells → form_said (page_bytes old.state.bytes 0) ≡ form
-  pub shape : new.shape ≡ old.shape
-  pub ranges : (t : ℕ) → new.ranges t ≡ old.ranges t
-  pub alive : IsAlive new
-  pub faults : new.faults ≡ old.faults
-  pub state : IsTrue tells → new.state ≡ old.state
-  pub time : IsTrue tells → LeavesOnly (λ image. Opens image old.state.bytes) old new
+use Rattle.array_runs.specs.Untaken.{Untaken}
+use Rattle.array_runs.specs.Records.{worked_on, begun_on, HasAll}
+use Rattle.mars_shell.specs.Run.{TakesTurns}
 
 -- how images of an array of this shape open with records, under an index
 abbrev pub opens_of : (Shape → List ℕ → List ℕ → Type 0) → Shape → Index → State → ℕ → List ℕ → Type 0
 opens_of Opens shape index final least image = HasPrefixOf (OpensWith (Opens shape) index) final least image
 
--- an image opens with this data, or, unless it is spared, with the same in version 2
-abbrev pub OpensAs : Bool → (List ℕ → List ℕ → Type 0) → List ℕ → List ℕ → Type 0
-OpensAs spares Opens bytes image = Opens image bytes ⊎ (IsFalse spares × Opens image (upgraded bytes))
-
--- no data is brought to version 2 if it is spared, or if a page of it is damaged
-abbrev pub spares_at : Bool → CoreFault → Bool
-spares_at spares (Damaged page) = true
-spares_at spares fault = spares
-
--- Nothing was done over the records. Whatever a loss of power might have left meanwhile opens with the store's data, or with the same in
--- version 2 if it may have been brought to that.
-pub record Untaken (spares : Bool) (Opens : Shape → List ℕ → List ℕ → Type 0) (index : Index) (old : StoreView) (fault : CoreFault) (cut : Bool) (text : List ℕ) (new : StoreView) : Type 0 where
-  pub whole : cut ≡ false
-  pub silent : text ≡ []
-  pub cause : CoreCause true index old fault
-  pub time : LeavesOnly (λ image. OpensAs (spares_at spares fault) (Opens old.shape) old.state.bytes image) old new
-
--- The store is alive, and whatever a loss of power might have left meanwhile or may leave now opens with the data that it had.
-pub record Spared (Opens : Shape → List ℕ → List ℕ → Type 0) (old new : StoreView) : Type 0 where
-  pub alive : IsAlive new
-  pub time : LeavesOnly (λ image. Opens old.shape image old.state.bytes) old new
-  pub now : (image : List ℕ) → new.left_since new.moment image → Opens old.shape image old.state.bytes
-
 -- Callers took turns over the records of the store's data, which are sound under an index. This is what is said of a run, in terms of the
--- store, which may be one that was spared.
+-- store.
 pub record Served (spares : Bool) (Says : Limits → List Turn → State → Type 0) (Opens : Shape → List ℕ → List ℕ → Type 0) (index : Index) (old : StoreView) (ended : Ended) (new : StoreView) : Type 0 where
   pub sound : index.sound old.state.bytes
   pub shape : new.shape ≡ old.shape
@@ -80,7 +43,6 @@ pub record Served (spares : Bool) (Says : Limits → List Turn → State → Typ
   pub now : (image : List ℕ) → new.left_since new.moment image → opens_of Opens old.shape index final (length final.history) image
   pub left : ended ≢ MediaFault → IsAlive new × HasAll index new.state.bytes final
   pub unwritten : ended ≢ MediaFault → IsFalse (has_write turns) → new.state.bytes ≡ worked_on spares old.state.bytes
-  pub spared : IsTrue spares → Spared Opens old new
 
 -- that, or the records were not taken
 abbrev pub Serves : Bool → (Ended → Limits → List Turn → State → Type 0) → (Shape → List ℕ → List ℕ → Type 0) → Index → StoreView → Result Ended CoreFault → Bool → List ℕ → StoreView → Type 0
@@ -92,7 +54,3 @@ abbrev pub ServedCounts : Result Ended CoreFault → ℕ → ℕ → ℕ → ℕ
 ServedCounts (Ok ended) sink sink' media media' = Counts ended sink sink' media media'
 ServedCounts (Err Media) sink sink' media media' = (sink' ≡ sink) × Rose media media'
 ServedCounts (Err fault) sink sink' media media' = (sink' ≡ sink) × (media' ≡ media)
-
--- The same in terms of the medium: callers took turns, and if the work spares the records and no commit may wait, what was opened stays.
-abbrev pub TakesTurnsFor : (spares late : Bool) → (Limits → List Turn → State → Type 0) → View → Ended → View → Type 0
-TakesTurnsFor spares late Says old ended new = (taken : TakesTurns spares late Says old ended new) × (IsTrue spares → IsFalse late → Spares taken.shape old new)

@@ -1,5 +1,7 @@
 -- The state that callers' turns over a core stand in, and how it goes on.
 use Rattle.std.specs.Prelude.{ℕ, ◌≡◌, List, ◌++◌, false, length}
+use Rattle.caller_steps.specs.State.{State}
+use Rattle.caller_steps.specs.Room.{Limits}
 use Rattle.caller_steps.specs.Core.{CoreView, IsSafe, Continues}
 use Rattle.caller_steps.specs.Run.{Turn}
 use Rattle.caller_steps.specs.Sound.{IsSound}
@@ -8,17 +10,32 @@ use Rattle.history.specs.declared.call.Reply.TheVariants.{Media}
 use Rattle.script_run.specs.Script.{Script}
 use Rattle.mars_shell.specs.Lines.{LineGives, LineMeets, LineStops}
 
--- how many callers there are, and their turns so far
+-- the limits of a core, and its state before the first line
+pub record Start : Type 0 where
+  pub limits : Limits
+  pub state : State
+
+-- the start, the turns of callers so far, and the state that they have led to
 pub record Progress : Type 0 where
-  pub callers : ℕ
+  pub start : Start
   pub turns : List Turn
+  pub state : State
+
+-- how many callers there are
+abbrev pub callers_of : Progress → ℕ
+callers_of progress = progress.start.limits.callers
+
+-- the turns so far have led to a state with this data
+pub record HasData (progress : Progress) (bytes : List ℕ) : Type 0 where
+  pub runs : Runs progress.start.limits progress.start.state progress.turns progress.state
+  pub bytes_are : progress.state.index.bytes ≡ bytes
 
 -- what lines do to the turns of so many callers
 abbrev pub line_script : Script Progress
 line_script = record {
-  gives = λ old n bytes text new. (new.callers ≡ old.callers) × LineGives old.callers old.turns n bytes text new.turns;
-  breaks = λ old bytes caller new. (new.callers ≡ old.callers) × LineMeets old.callers Media old.turns bytes caller new.turns;
-  stops = λ old n bytes new. (new.callers ≡ old.callers) × LineStops old.callers old.turns n bytes new.turns;
+  gives = λ old n bytes text new. (new.start ≡ old.start) × LineGives (callers_of old) old.turns n bytes text new.turns;
+  breaks = λ old bytes caller new. (new.start ≡ old.start) × LineMeets (callers_of old) Media old.turns bytes caller new.turns;
+  stops = λ old n bytes new. (new.start ≡ old.start) × LineStops (callers_of old) old.turns n bytes new.turns;
 }
 
 -- the core can answer a further line
@@ -26,9 +43,11 @@ pub record IsReady (callers : ℕ) (core : CoreView) : Type 0 where
   pub callers_are : callers ≡ core.limits.callers
   pub alive : core.state.is_dead ≡ false
 
--- The core has so many callers. Its state is sound, and each image that a loss of power may leave now has all of its history.
+-- The core is in the state to which the turns have led. That is sound, and each image that a loss of power may leave now has all of its history.
 pub record Stands (core : CoreView) (progress : Progress) : Type 0 where
-  pub callers_are : progress.callers ≡ core.limits.callers
+  pub limits_are : progress.start.limits ≡ core.limits
+  pub state_is : progress.state ≡ core.state
+  pub runs : Runs progress.start.limits progress.start.state progress.turns progress.state
   pub sound : IsSound core.state
   pub safe : IsSafe core core.moment (length core.state.history)
 

@@ -10,7 +10,7 @@ use Rattle.script_run.specs.declared.responder.Stop.{Stop}
 use Rattle.script_run.specs.declared.responder.Stop.TheVariants as stop
 use Rattle.command_words.specs.declared.words.DrillNumbers.{DrillNumbers}
 use Rattle.mars_shell.specs.Drill.{word_of}
-use Rattle.mars_shell.specs.Dump.{number_line}
+use Rattle.history_text.specs.Text.{number_line}
 use Rattle.mars_shell.specs.Lines.{goes_on}
 use Rattle.mars_shell.specs.declared.tally.Tally.{Tally}
 

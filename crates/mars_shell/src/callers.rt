@@ -4,26 +4,26 @@ ghost use Rattle.command_words.specs.declared.words.Words.TheVariants.{Callers};
 ghost use Rattle.eaw_face.specs.Causes.{IsAlive};
 ghost use Rattle.mars_core.specs.Held.{core_of};
 ghost use Rattle.mars_manager.specs.Sharing.{CanShare};
+ghost use Rattle.reader_work.specs.Readership.{passes_for};
 ghost use Rattle.texts.specs.Written.{Wrote};
 ghost use Rattle.script_run.specs.Counts.{Counts as WorkCounts};
 ghost use Rattle.mars_shell.specs.Asked.{OutcomeFor};
-ghost use Rattle.mars_shell.specs.Forms.{index_at};
-ghost use Rattle.mars_shell.specs.Input.{InputSays};
+ghost use Rattle.array_runs.specs.Forms.{index_at};
+ghost use Rattle.array_runs.specs.Input.{InputSays};
 ghost use Rattle.mars_shell.specs.Joint.{JointWork};
 ghost use Rattle.mars_shell.specs.Late.{HasDepth};
 ghost use Rattle.mars_shell.specs.OnCore.{Works};
-ghost use Rattle.mars_shell.specs.Run.{TakesTurns, OverRecords};
+ghost use Rattle.mars_shell.specs.Run.{TakesTurns};
+ghost use Rattle.array_runs.specs.Records.{OverRecords};
 ghost use Rattle.mars_shell.specs.Served.{Serves, ServedCounts};
-ghost use Rattle.mars_shell.specs.Statuses.{Counts, IsEarly, IsRefusal};
+ghost use Rattle.array_runs.specs.Statuses.{Counts, IsEarly, IsRefusal};
 
-use crate::forms::find_form;
-use crate::joint::tell_end;
-use crate::opening::open_for;
-use crate::status::{Status, served_status};
+use crate::joint::{WorkLines, tell_end};
+use array_runs::{Status, find_form, open_for, served_status};
 use btree_pages::BTreePages;
 use caller_plans::{Script, read_script};
 use caller_steps::Core as Steps;
-use caller_work::{Gate, work};
+use caller_work::Gate;
 use command_words::{CallersNumbers, Writing};
 use eaw_device::{AtOnce, Late, WriteBack};
 use eaw_face::EawStore;
@@ -33,6 +33,7 @@ use mars_core::{Core, CoreFault};
 use outside::{Sink, Source};
 use page_store::{KeyIndex, SaveRoom};
 use pcm_media::Media;
+use reader_work::{open_readership, passes_for, work_with};
 use record_table::Form;
 use script_run::Ended;
 use std::alloc::Global;
@@ -47,8 +48,9 @@ pub struct Crew<'a, R, G> {
     pub gate: &'a G,
 }
 
-/// Gives each caller's transactions in the source to a worker of its own on a thread, which calls the gate between its calls, over the array
-/// that the medium holds, if its records are sound. Answers `Usage` if the array has fewer transaction numbers than there are callers.
+/// Gives each caller's transactions in the source to a worker of its own on a thread, and what each reader asks for too, which call the gate
+/// between their calls, over the array that the medium holds, if its records are sound. Answers `Usage` if the array has fewer transaction
+/// numbers than there are callers, and one more if there are readers.
 pub fn run_callers<
     R: Threads + Wait + Sync,
     S: Source,
@@ -57,7 +59,8 @@ pub fn run_callers<
     G: Gate + Sync,
 >(alloc: Global, source: &mut S, sink: &mut K, media: M, crew: &Crew<R, G>) -> (Status, M)
     requires some { 0 < crew.now.numbers.callers }
-    requires few { crew.now.numbers.callers ≤ 32 }
+    requires few { passes_for crew.now.numbers.callers crew.now.numbers.readers ≤ 32 }
+    requires readers { crew.now.numbers.readers ≤ 8 }
     requires tries { 1 ≤ crew.now.numbers.tries }
     requires depth { HasDepth crew.now.numbers.writing }
     ensures early { IsEarly result.0 → result.1 ≡ media }
@@ -94,7 +97,8 @@ fn run_callers_on<
     crew: &Crew<R, G>,
 ) -> (Status, M)
     requires some { 0 < crew.now.numbers.callers }
-    requires few { crew.now.numbers.callers ≤ 32 }
+    requires few { passes_for crew.now.numbers.callers crew.now.numbers.readers ≤ 32 }
+    requires readers { crew.now.numbers.readers ≤ 8 }
     requires tries { 1 ≤ crew.now.numbers.tries }
     ensures early { IsEarly result.0 → result.1 ≡ media }
     ensures silent { IsEarly result.0 ⊎ IsRefusal result.0 → sink.new ≡ sink.old }
@@ -102,12 +106,12 @@ fn run_callers_on<
     ensures steady { IsTrue (S.steady source.old) → result.0 ≡ Status.ReadFault → ⊥ }
     ensures input { IsTrue S.tells → InputSays result.0 (S.left source.old) (S.left source.new) }
     ensures ran { Wrote K.tells (K.written sink.old) (K.written sink.new) (K.faults sink.old) (K.faults sink.new)
-        (λ cut text. (input : List ℕ) × (IsTrue S.tells → S.left source.old ≡ input) × (IsTrue M.tells → OverRecords false crew.now.numbers.callers
-        (λ ended. TakesTurns false B.defers (JointWork crew.now.numbers.callers crew.now.numbers.tries input ended cut text) (M.view media) ended (M.view result.1))
+        (λ cut text. (input : List ℕ) × (IsTrue S.tells → S.left source.old ≡ input) × (IsTrue M.tells → OverRecords false (passes_for crew.now.numbers.callers crew.now.numbers.readers)
+        (λ ended. TakesTurns false B.defers (JointWork crew.now.numbers.callers crew.now.numbers.readers crew.now.numbers.tries input ended cut text) (M.view media) ended (M.view result.1))
         (M.view media) result.0 (M.view result.1) cut text)) }
 {
-    let callers = crew.numbers.callers;
-    let (room, input, store) = match open_for(alloc, true, callers, source, media, write_back) {
+    let passes = passes_for(crew.numbers.callers, crew.numbers.readers);
+    let (room, input, store) = match open_for(alloc, true, passes, source, media, write_back) {
         Ok(opened) => opened,
         Err(ended) => return ended,
     };
@@ -128,11 +132,12 @@ fn serve_jointly<R: Threads + Wait + Sync, K: Sink, S: EawStore + Drop + Send, G
     requires alive { IsAlive (S.view store) }
     requires free { (t : ℕ) → (S.view store).ranges t ≡ None }
     requires some { 0 < crew.now.numbers.callers }
-    requires few { crew.now.numbers.callers ≤ 32 }
-    requires enough { crew.now.numbers.callers ≤ (S.view store).shape.numbers }
+    requires few { passes_for crew.now.numbers.callers crew.now.numbers.readers ≤ 32 }
+    requires enough { passes_for crew.now.numbers.callers crew.now.numbers.readers ≤ (S.view store).shape.numbers }
+    requires readers { crew.now.numbers.readers ≤ 8 }
     requires tries { 1 ≤ crew.now.numbers.tries }
     ensures served { Wrote K.tells (K.written sink.old) (K.written sink.new) (K.faults sink.old) (K.faults sink.new)
-        (λ cut text. IsTrue S.tells → Serves false (λ ended. JointWork crew.now.numbers.callers crew.now.numbers.tries input.now ended cut text) S.opens (index_at (S.view store).state.bytes) (S.view store)
+        (λ cut text. IsTrue S.tells → Serves false (λ ended. JointWork crew.now.numbers.callers crew.now.numbers.readers crew.now.numbers.tries input.now ended cut text) S.opens (index_at (S.view store).state.bytes) (S.view store)
         result.0 cut text (S.view result.1)) }
     ensures untold { IfErr result.0 (λ fault. sink.new ≡ sink.old) }
     ensures counts { ServedCounts result.0 (K.faults sink.old) (K.faults sink.new) (S.view store).faults (S.view result.1).faults }
@@ -167,11 +172,12 @@ fn work_under<
     requires alive { IsAlive (S.view store) }
     requires free { (t : ℕ) → (S.view store).ranges t ≡ None }
     requires some { 0 < crew.now.numbers.callers }
-    requires few { crew.now.numbers.callers ≤ 32 }
-    requires enough { crew.now.numbers.callers ≤ (S.view store).shape.numbers }
+    requires few { passes_for crew.now.numbers.callers crew.now.numbers.readers ≤ 32 }
+    requires enough { passes_for crew.now.numbers.callers crew.now.numbers.readers ≤ (S.view store).shape.numbers }
+    requires readers { crew.now.numbers.readers ≤ 8 }
     requires tries { 1 ≤ crew.now.numbers.tries }
     ensures served { Wrote K.tells (K.written sink.old) (K.written sink.new) (K.faults sink.old) (K.faults sink.new)
-        (λ cut text. IsTrue S.tells → Serves false (λ ended. JointWork crew.now.numbers.callers crew.now.numbers.tries input.now ended cut text) S.opens I.index (S.view store) result.0 cut text (S.view result.1)) }
+        (λ cut text. IsTrue S.tells → Serves false (λ ended. JointWork crew.now.numbers.callers crew.now.numbers.readers crew.now.numbers.tries input.now ended cut text) S.opens I.index (S.view store) result.0 cut text (S.view result.1)) }
     ensures untold { IfErr result.0 (λ fault. sink.new ≡ sink.old) }
     ensures counts { ServedCounts result.0 (K.faults sink.old) (K.faults sink.new) (S.view store).faults (S.view result.1).faults }
 {
@@ -202,11 +208,12 @@ fn work_jointly<
     crew: &Crew<R, G>,
 ) -> (Result<Ended, NoMemory>, Core<S, I>)
     requires some { 0 < crew.now.numbers.callers }
-    requires few { crew.now.numbers.callers ≤ 32 }
+    requires few { passes_for crew.now.numbers.callers crew.now.numbers.readers ≤ 32 }
+    requires readers { crew.now.numbers.readers ≤ 8 }
     requires tries { 1 ≤ crew.now.numbers.tries }
-    requires ready { CanShare S.tells crew.now.numbers.callers (core_of S.opens I.index (S.view core.records.store) core) }
+    requires ready { CanShare S.tells (passes_for crew.now.numbers.callers crew.now.numbers.readers) (core_of S.opens I.index (S.view core.records.store) core) }
     ensures works { Wrote K.tells (K.written sink.old) (K.written sink.new) (K.faults sink.old) (K.faults sink.new)
-        (λ cut text. IsTrue S.tells → Works (λ ended. JointWork crew.now.numbers.callers crew.now.numbers.tries input.now ended cut text) (core_of S.opens I.index (S.view core.records.store) core) result.0
+        (λ cut text. IsTrue S.tells → Works (λ ended. JointWork crew.now.numbers.callers crew.now.numbers.readers crew.now.numbers.tries input.now ended cut text) (core_of S.opens I.index (S.view core.records.store) core) result.0
         cut text (core_of S.opens I.index (S.view result.1.records.store) result.1)) }
     ensures untold { IfErr result.0 (λ fault. sink.new ≡ sink.old) }
     ensures given_back { IfErr result.0 (λ fault. result.1 ≡ core) }
@@ -216,28 +223,41 @@ fn work_jointly<
         callers,
         tries,
         writing: _,
+        readers,
     } = crew.numbers;
-    let Ok(script) = read_script(alloc, input, callers) else {
+    let Ok(script) = read_script(alloc, input, callers, readers) else {
         return (Err(NoMemory), core);
     };
-    let Script { faults, plans } = script;
+    let Script {
+        faults,
+        plans,
+        asks,
+    } = script;
     // Behind a pointer the core goes from thread to thread without a copy.
     let core = match Box::new(alloc, core) {
         Ok(core) => core,
         Err(full) => return (Err(NoMemory), full.value),
     };
-    match work(crew.rt, alloc, core, plans, u64::from(tries), crew.gate) {
-        Ok((core, fates, end)) => {
+    let Ok(readership) = open_readership(crew.rt, alloc, core.as_ref().base(), asks) else {
+        return (Err(NoMemory), Box::into_inner(core));
+    };
+    match work_with(
+        crew.rt,
+        alloc,
+        core,
+        readership,
+        plans,
+        u64::from(tries),
+        crew.gate,
+    ) {
+        Ok((core, fates, answers, end)) => {
             let core = Box::into_inner(core);
-            let ended = tell_end(
-                alloc,
-                sink,
-                faults.as_slice(),
-                core.history(),
-                core.base(),
-                &fates,
-                end,
-            );
+            let lines = WorkLines {
+                faults,
+                fates,
+                answers,
+            };
+            let ended = tell_end(alloc, sink, &lines, core.history(), core.base(), end);
             (Ok(ended), core)
         }
         Err((NoMemory, core)) => (Err(NoMemory), Box::into_inner(core)),

@@ -3,23 +3,25 @@ ghost use Rattle.std.specs.Prelude.{◌≡◌, ◌⊎◌, ℕ, List, IsTrue};
 ghost use Rattle.texts.specs.Written.{Wrote};
 ghost use Rattle.command_words.specs.declared.words.Words.TheVariants.{Eaw};
 ghost use Rattle.mars_shell.specs.Asked.{OutcomeFor};
-ghost use Rattle.mars_shell.specs.Input.{InputSays};
-ghost use Rattle.mars_shell.specs.Statuses.{Counts, IsEarly, IsRefusal};
+ghost use Rattle.array_runs.specs.Input.{InputSays};
+ghost use Rattle.array_runs.specs.Statuses.{Counts, IsEarly, IsRefusal};
 
-use crate::opening::open;
-use crate::status::{Status, script_status};
+use array_runs::{Status, open, script_status};
+use command_words::EawOptions;
 use eaw_device::AtOnce;
-use eaw_script::answer_commands;
+use eaw_script::answer_script;
 use outside::{Sink, Source};
 use pcm_media::Media;
 use std::alloc::Global;
 
-/// Answers the raw commands of the source over the array that the medium holds, whatever its records are.
+/// Answers the raw commands of the source over the array that the medium holds, whatever its records are, and writes the frames that they send
+/// if that is asked for.
 pub(crate) fn run_commands<S: Source, K: Sink, M: Media>(
     alloc: Global,
     source: &mut S,
     sink: &mut K,
     media: M,
+    options: EawOptions,
 ) -> (Status, M)
     ensures no_usage { result.0 ≡ Status.Usage → ⊥ }
     ensures early { IsEarly result.0 → result.1 ≡ media }
@@ -28,12 +30,12 @@ pub(crate) fn run_commands<S: Source, K: Sink, M: Media>(
     ensures steady { IsTrue (S.steady source.old) → result.0 ≡ Status.ReadFault → ⊥ }
     ensures input { IsTrue S.tells → InputSays result.0 (S.left source.old) (S.left source.new) }
     ensures ran { Wrote K.tells (K.written sink.old) (K.written sink.new) (K.faults sink.old) (K.faults sink.new)
-        (λ cut text. (input : List ℕ) × (IsTrue S.tells → S.left source.old ≡ input) × (IsTrue M.tells → OutcomeFor Eaw (M.view media) result.0 (M.view result.1) input cut text)) }
+        (λ cut text. (input : List ℕ) × (IsTrue S.tells → S.left source.old ≡ input) × (IsTrue M.tells → OutcomeFor (Eaw options) (M.view media) result.0 (M.view result.1) input cut text)) }
 {
     let (input, store) = match open(alloc, true, source, media, AtOnce) {
         Ok(opened) => opened,
         Err(ended) => return ended,
     };
-    let (ended, store) = answer_commands(alloc, &input, sink, store);
+    let (ended, store) = answer_script(alloc, options.frames, &input, sink, store);
     (script_status(ended), store.into_media())
 }

@@ -60,11 +60,7 @@ pub struct OnCore<W: CoreWork> {
 }
 
 impl<W: CoreWork> RecordWork for OnCore<W> {
-    ghost use Rattle.std.specs.Prelude.{false};
-
     ghost reads = { W.reads };
-
-    ghost spares = { false };
 
     ghost can_be_done = { λ on. W.can_be_done on.work };
 

@@ -7,10 +7,10 @@ ghost use Rattle.script_run.specs.Answers.{HasStopCause};
 ghost use Rattle.mars_shell.specs.Made.{SummedUp, EndsEarly};
 
 use crate::core_work::CoreWork;
-use crate::ending::write_ended;
 use crate::final_rows::final_rows;
 use crate::summary::summary_text;
 use crate::turns::make_turns;
+use array_runs::write_ended;
 use caller_steps::Core as Steps;
 use command_words::DrillNumbers;
 use drill_gen::script;

@@ -1,14 +1,13 @@
 // A run of lines that say frames.
 ghost use Rattle.std.specs.Prelude.{◌≡◌, ◌⊎◌, ℕ, List, IsTrue};
 ghost use Rattle.texts.specs.Written.{Wrote};
-ghost use Rattle.mars_shell.specs.Follow.{FollowOutcome};
-ghost use Rattle.mars_shell.specs.Input.{InputSays};
-ghost use Rattle.mars_shell.specs.Statuses.{Counts, IsEarly, IsRefusal};
+ghost use Rattle.mars_shell.specs.Follow.{FollowOutcome, follow_status};
+ghost use Rattle.array_runs.specs.Input.{InputSays};
+ghost use Rattle.array_runs.specs.Statuses.{Counts, IsEarly, IsRefusal};
 
-use crate::opening::open;
-use crate::status::{Status, follow_status};
+use array_runs::{Status, open};
 use eaw_device::AtOnce;
-use frame_lines::follow_lines;
+use frame_lines::{FollowEnd, follow_lines};
 use outside::{Sink, Source};
 use pcm_media::Media;
 use std::alloc::Global;
@@ -35,4 +34,18 @@ pub(crate) fn run_follow<S: Source, K: Sink, M: Media>(
     };
     let (ended, store) = follow_lines(alloc, &input, sink, store);
     (follow_status(ended), store.into_media())
+}
+
+// The status of lines that say frames.
+fn follow_status(ended: FollowEnd) -> Status
+    ensures { result ≡ follow_status ended }
+{
+    match ended {
+        FollowEnd::All => Status::Good,
+        FollowEnd::BadFrame { line } => Status::BadFrame { line },
+        FollowEnd::Gap { expected, got } => Status::Gap { expected, got },
+        FollowEnd::WriteFault => Status::WriteFault,
+        FollowEnd::MediaFault => Status::MediaFault,
+        FollowEnd::NoMemory => Status::NoMemory,
+    }
 }

@@ -4,10 +4,10 @@ ghost use Rattle.array_shape.specs.declared.shape.Shape.{Shape};
 ghost use Rattle.array_shape.specs.Numbers.{IsFirstBad};
 ghost use Rattle.array_shape.specs.Places.{media_len};
 ghost use Rattle.mars_shell.specs.Formats.{CanBe, HasAsked, asked_for, formatted_line, FormatSays, FormatOutcome};
-ghost use Rattle.mars_shell.specs.Statuses.{Counts, IsRefusal};
+ghost use Rattle.array_runs.specs.Statuses.{Counts, IsRefusal};
 ghost use Rattle.texts.specs.Written.{Wrote};
 
-use crate::status::Status;
+use array_runs::Status;
 use array_shape::{BadShape, Shape, ShapeNumber};
 use command_words::FormatNumbers;
 use eaw_device::{FormatFault, format};

@@ -1,5 +1,5 @@
 // What is told of the work of callers on threads.
-ghost use Rattle.std.specs.Prelude.{◌≡◌, ◌≢◌, ◌++◌, ◌≤◌, ◌↔◌, length, IfOk, OnOk};
+ghost use Rattle.std.specs.Prelude.{◌≡◌, ◌≢◌, ◌++◌, ◌≤◌, ◌↔◌, length, IfOk, IsOk, OnOk};
 ghost use Rattle.history.specs.Key.{main_name};
 ghost use Rattle.history.specs.Writes.{rows_of};
 ghost use Rattle.std.specs.List.{flat_map};
@@ -8,38 +8,47 @@ ghost use Rattle.history.specs.Rows.{table_of};
 ghost use Rattle.history_text.specs.Text.{done_lines, work_text, fate_line, numbered};
 ghost use Rattle.texts.specs.MediaFault.{media_line};
 ghost use Rattle.texts.specs.Written.{Appends, IsWritten, Wrote};
-ghost use Rattle.mars_shell.specs.Told.{TellsEnd};
+ghost use Rattle.mars_shell.specs.Told.{TellsEnd, answers_in};
 
-use crate::ending::write_ended;
 use crate::final_rows::final_rows;
-use caller_plans::LineFault;
+use array_runs::write_ended;
+use caller_plans::LineFaults;
 use caller_work::{Fates, WorkEnd};
 use history::{History, Rows};
-use history_text::{put_history, write_fates, write_faults, write_records};
+use history_text::{put_history, write_answers, write_fates, write_faults, write_records};
 use mars_base::NoMemory;
 use outside::Sink;
+use reader_work::Answers;
 use script_run::Ended;
 use std::alloc::Global;
 use texts::{MEDIA_LINE, TextOut};
+
+/// What is told of work beside the history and the records. The answers are missing if memory was short.
+#[derive(Drop)]
+pub struct WorkLines {
+    pub faults: LineFaults,
+    pub fates: Vec<Fates>,
+    pub answers: Result<Vec<Answers>, NoMemory>,
+}
 
 /// Writes what came of the work, by how it ended.
 pub fn tell_end<K: Sink>(
     alloc: Global,
     sink: &mut K,
-    faults: &[LineFault],
+    lines: &WorkLines,
     history: &History,
     base: &Rows,
-    fates: &[Fates],
     end: WorkEnd,
 ) -> Ended
-    requires few { length fates.now ≤ 255 }
+    requires few { length lines.now.fates.items ≤ 255 }
+    requires readers { length (answers_in lines.now.answers) ≤ 255 }
     ensures told { Wrote K.tells (K.written sink.old) (K.written sink.new) (K.faults sink.old) (K.faults sink.new)
-        (λ cut text. TellsEnd result cut text (work_text faults.now history.now fates.now (rows_of main_name (records (table_of base.now) history.now))) (flat_map done_lines history.now ++ media_line)) }
-    ensures whole { result ≢ Ended.MediaFault → result ≢ Ended.NoMemory → end ≡ WorkEnd.All }
+        (λ cut text. TellsEnd result cut text (work_text lines.now.faults history.now lines.now.fates.items (rows_of main_name (records (table_of base.now) history.now)) (answers_in lines.now.answers)) (flat_map done_lines history.now ++ media_line)) }
+    ensures whole { result ≢ Ended.MediaFault → result ≢ Ended.NoMemory → (end ≡ WorkEnd.All) × IsOk lines.now.answers }
     ensures fault { (result ≡ Ended.MediaFault) ↔ (end ≡ WorkEnd.MediaFault) }
 {
     match end {
-        WorkEnd::All => match work_text(alloc, faults, history, base, fates) {
+        WorkEnd::All => match work_text(alloc, lines, history, base) {
             Ok(text) => write_ended(sink, &text),
             Err(NoMemory) => Ended::NoMemory,
         },
@@ -54,20 +63,25 @@ pub fn tell_end<K: Sink>(
 // The text of work that came to its end. All of it is formed before any of it is written.
 fn work_text(
     alloc: Global,
-    faults: &[LineFault],
+    lines: &WorkLines,
     history: &History,
     base: &Rows,
-    fates: &[Fates],
 ) -> Result<Vec<u8>, NoMemory>
-    requires { length fates.now ≤ 255 }
-    ensures { IfOk result (λ text. text.items ≡ work_text faults.now history.now fates.now (rows_of main_name (records (table_of base.now) history.now))) }
+    requires few { length lines.now.fates.items ≤ 255 }
+    requires readers { length (answers_in lines.now.answers) ≤ 255 }
+    ensures text { IfOk result (λ text. text.items ≡ work_text lines.now.faults history.now lines.now.fates.items (rows_of main_name (records (table_of base.now) history.now)) (answers_in lines.now.answers)) }
+    ensures answers { OnOk result (IsOk lines.now.answers) }
 {
+    let Ok(answers) = &lines.answers else {
+        return Err(NoMemory);
+    };
     let rows = final_rows(history, base, alloc)?;
     let mut text = Vec::new(alloc);
-    write_faults(&mut text, faults)?;
+    write_faults(&mut text, lines.faults.as_slice())?;
     put_history(&mut text, history)?;
-    write_all_fates(&mut text, fates)?;
+    write_all_fates(&mut text, &lines.fates)?;
     write_records(&mut text, &rows)?;
+    write_answers(&mut text, answers)?;
     Ok(text)
 }
 

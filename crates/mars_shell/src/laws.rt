@@ -12,14 +12,15 @@ ghost use Rattle.script_run.specs.declared.ended.Ended.{Ended};
 ghost use Rattle.array_shape.specs.declared.shape.Shape.{Shape};
 ghost use Rattle.command_words.specs.declared.words.FormatNumbers.{FormatNumbers};
 ghost use Rattle.command_words.specs.declared.words.Words.{Words};
+ghost use Rattle.command_words.specs.declared.words.EawOptions.{EawOptions};
 ghost use Rattle.command_words.specs.declared.words.Words.TheVariants.{Eaw, Follow};
 ghost use Rattle.eaw_device.specs.Opens.{AllOpen};
 ghost use Rattle.mars_shell.specs.Asked.{OutcomeFor};
 ghost use Rattle.mars_shell.specs.Formats.{FormatOutcome};
 ghost use Rattle.mars_shell.specs.Joint.{JointWork};
 ghost use Rattle.mars_shell.specs.Next.{AllSound, IsOfRecords, LeavesFresh};
-ghost use Rattle.mars_shell.specs.Run.{HoldsRecords};
-ghost use Rattle.mars_shell.specs.declared.status.Status.{Status};
+ghost use Rattle.array_runs.specs.Records.{HoldsRecords};
+ghost use Rattle.array_runs.specs.declared.status.Status.{Status};
 
 use btree_pages::BTreePages;
 use key_list::KeyList;
@@ -30,10 +31,10 @@ use record_table::version_two_keeps;
 /// in their order and each once, with just the calls of the plan and under the number that was told. No other caller has any.
 pub fn what_callers_are_told()
     ensures fated { (base : Table) (index : Index) (limits : Limits) (turns : List Turn) (final : State) → Runs limits (opened base index) turns final
-        → (callers tries : ℕ) (input text : List ℕ) (ended : Ended) (cut : Bool) (work : JointWork callers tries input ended cut text limits turns final)
+        → (callers readers tries : ℕ) (input text : List ℕ) (ended : Ended) (cut : Bool) (work : JointWork callers readers tries input ended cut text limits turns final)
         → (caller : ℕ) → caller < callers → AreFated caller (planned None (calls_by caller work.said)) (of_caller work.fates caller) (commits_of caller final.history) }
     ensures others { (base : Table) (index : Index) (limits : Limits) (turns : List Turn) (final : State) → Runs limits (opened base index) turns final
-        → (callers tries : ℕ) (input text : List ℕ) (ended : Ended) (cut : Bool) → JointWork callers tries input ended cut text limits turns final → HasNoOthers callers final }
+        → (callers readers tries : ℕ) (input text : List ℕ) (ended : Ended) (cut : Bool) → JointWork callers readers tries input ended cut text limits turns final → HasNoOthers callers final }
 {}
 
 /// Runs compose, over a medium that tells its bytes. If all that a loss of power may leave is sound, then that is so after a run too, whatever
@@ -43,8 +44,8 @@ pub fn runs_compose<M: Media>()
     ensures premises { (media : M) (shape : Shape) (form : ℕ) → IsTrue M.tells → AllSound shape form (M.view media).content → AllOpen shape (M.view media).content × HoldsRecords shape (M.view media) }
     ensures run { (old new : M) (shape : Shape) (form : ℕ) (asked : Words) (status : Status) (input text : List ℕ) (cut : Bool) → IsTrue M.tells → IsOfRecords asked
         → AllSound shape form (M.view old).content → OutcomeFor asked (M.view old) status (M.view new) input cut text → AllSound shape form (M.view new).content }
-    ensures raw { (old new : M) (shape : Shape) (status : Status) (input text : List ℕ) (cut : Bool) → IsTrue M.tells
-        → AllOpen shape (M.view old).content → OutcomeFor Eaw (M.view old) status (M.view new) input cut text → AllOpen shape (M.view new).content }
+    ensures raw { (old new : M) (shape : Shape) (given : EawOptions) (status : Status) (input text : List ℕ) (cut : Bool) → IsTrue M.tells
+        → AllOpen shape (M.view old).content → OutcomeFor (Eaw given) (M.view old) status (M.view new) input cut text → AllOpen shape (M.view new).content }
     ensures follow { (old new : M) (shape : Shape) (status : Status) (input text : List ℕ) (cut : Bool) → IsTrue M.tells
         → AllOpen shape (M.view old).content → OutcomeFor Follow (M.view old) status (M.view new) input cut text → AllOpen shape (M.view new).content }
     ensures fresh { (old new : M) (numbers : FormatNumbers) (status : Status) (text : List ℕ) (cut : Bool) → (status ≡ Status.Good) ⊎ (status ≡ Status.WriteFault)

@@ -16,7 +16,7 @@ pub fn room(alloc: Global, words: &[String]) -> Result<u64, NoMemory>
         Ok(
             Words::Run(_)
             | Words::Callers(_)
-            | Words::Eaw
+            | Words::Eaw(_)
             | Words::Dump
             | Words::Drill(_)
             | Words::Make(_)

@@ -1,5 +1,5 @@
 // The trait of what is done over the records of an array.
-ghost use Rattle.std.specs.Prelude.{◌≡◌, ◌⊎◌, ℕ, Bool, List, None, IsTrue, IfOk, IfErr};
+ghost use Rattle.std.specs.Prelude.{◌≡◌, ℕ, Bool, false, List, None, IsTrue, IfErr};
 ghost use Rattle.eaw_face.specs.Causes.{IsAlive};
 ghost use Rattle.caller_steps.specs.State.{State};
 ghost use Rattle.caller_steps.specs.Room.{Limits};
@@ -15,13 +15,10 @@ use page_store::{KeyIndex, SaveRoom};
 use script_run::Ended;
 use std::alloc::Global;
 
-/// Work over the records of an array.
+/// Work over the records of an array, in version 2.
 pub trait RecordWork {
     /// Whether it reads the input.
     ghost reads: { Bool };
-
-    /// Whether it leaves the data as it was, and writes nothing but at its end. Other work is done on data in version 2.
-    ghost spares: { Bool };
 
     /// It can be done.
     ghost can_be_done: { Self → Type 0 };
@@ -45,8 +42,7 @@ pub trait RecordWork {
         requires alive { IsAlive (S.view store) }
         requires free { (t : ℕ) → (S.view store).ranges t ≡ None }
         ensures served { Wrote K.tells (K.written sink.old) (K.written sink.new) (K.faults sink.old) (K.faults sink.new)
-            (λ cut text. IsTrue S.tells → Serves spares (λ ended. does self.now input.now ended cut text) S.opens I.index (S.view store) result.0 cut text (S.view result.1)) }
+            (λ cut text. IsTrue S.tells → Serves false (λ ended. does self.now input.now ended cut text) S.opens I.index (S.view store) result.0 cut text (S.view result.1)) }
         ensures untold { IfErr result.0 (λ fault. sink.new ≡ sink.old) }
-        ensures end { IsTrue spares → IfOk result.0 (λ ended. (ended ≡ Ended.All) ⊎ (ended ≡ Ended.WriteFault)) }
         ensures counts { ServedCounts result.0 (K.faults sink.old) (K.faults sink.new) (S.view store).faults (S.view result.1).faults };
 }

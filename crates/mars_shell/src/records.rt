@@ -1,18 +1,17 @@
 // Work over the records of the array that a medium holds.
-ghost use Rattle.std.specs.Prelude.{◌≡◌, ◌⊎◌, ℕ, List, None, IsTrue, IsFalse, IfOk, IfErr};
+ghost use Rattle.std.specs.Prelude.{◌≡◌, ◌⊎◌, ℕ, List, None, false, IsTrue, IsFalse, IfErr};
 ghost use Rattle.eaw_face.specs.Causes.{IsAlive};
 ghost use Rattle.texts.specs.Written.{Wrote};
-ghost use Rattle.mars_shell.specs.Forms.{index_at};
-ghost use Rattle.mars_shell.specs.Input.{InputSays};
+ghost use Rattle.array_runs.specs.Forms.{index_at};
+ghost use Rattle.array_runs.specs.Input.{InputSays};
 ghost use Rattle.mars_shell.specs.Late.{is_late, HasDepth};
-ghost use Rattle.mars_shell.specs.Run.{OverRecords};
-ghost use Rattle.mars_shell.specs.Served.{Serves, ServedCounts, TakesTurnsFor};
-ghost use Rattle.mars_shell.specs.Statuses.{Counts, IsEarly, IsRefusal};
+ghost use Rattle.array_runs.specs.Records.{OverRecords};
+ghost use Rattle.mars_shell.specs.Run.{TakesTurns};
+ghost use Rattle.mars_shell.specs.Served.{Serves, ServedCounts};
+ghost use Rattle.array_runs.specs.Statuses.{Counts, IsEarly, IsRefusal};
 
-use crate::forms::find_form;
-use crate::opening::open_for;
 use crate::record_work::RecordWork;
-use crate::status::{Status, served_status};
+use array_runs::{Status, find_form, open_for, served_status};
 use btree_pages::BTreePages;
 use command_words::Writing;
 use eaw_device::{AtOnce, Late, WriteBack};
@@ -41,14 +40,13 @@ pub fn over_records<S: Source, K: Sink, M: Media + Drop + Send, W: RecordWork>(
     ensures no_usage { result.0 ≡ Status.Usage → ⊥ }
     ensures early { IsEarly result.0 → IsTrue W.reads × (result.1 ≡ media) }
     ensures silent { IsEarly result.0 ⊎ IsRefusal result.0 → sink.new ≡ sink.old }
-    ensures untold { IsTrue W.spares → (result.0 ≡ Status.MediaFault) ⊎ (result.0 ≡ Status.NoMemory) → sink.new ≡ sink.old }
     ensures counts { Counts result.0 (S.faults source.old) (S.faults source.new) (K.faults sink.old) (K.faults sink.new) (M.view media).faults (M.view result.1).faults }
     ensures steady { IsTrue (S.steady source.old) → result.0 ≡ Status.ReadFault → ⊥ }
     ensures input { IsTrue W.reads → IsTrue S.tells → InputSays result.0 (S.left source.old) (S.left source.new) }
     ensures unread { IsFalse W.reads → source.new ≡ source.old }
     ensures ran { Wrote K.tells (K.written sink.old) (K.written sink.new) (K.faults sink.old) (K.faults sink.new)
-        (λ cut text. (input : List ℕ) × (IsTrue W.reads → IsTrue S.tells → S.left source.old ≡ input) × (IsTrue M.tells → OverRecords W.spares 0
-        (λ ended. TakesTurnsFor W.spares (is_late writing) (W.does work.now input ended cut text) (M.view media) ended (M.view result.1))
+        (λ cut text. (input : List ℕ) × (IsTrue W.reads → IsTrue S.tells → S.left source.old ≡ input) × (IsTrue M.tells → OverRecords false 0
+        (λ ended. TakesTurns false (is_late writing) (W.does work.now input ended cut text) (M.view media) ended (M.view result.1))
         (M.view media) result.0 (M.view result.1) cut text)) }
 {
     match writing {
@@ -72,14 +70,13 @@ fn over_records_on<S: Source, K: Sink, M: Media + Drop + Send, B: WriteBack + Se
     ensures no_usage { result.0 ≡ Status.Usage → ⊥ }
     ensures early { IsEarly result.0 → IsTrue W.reads × (result.1 ≡ media) }
     ensures silent { IsEarly result.0 ⊎ IsRefusal result.0 → sink.new ≡ sink.old }
-    ensures untold { IsTrue W.spares → (result.0 ≡ Status.MediaFault) ⊎ (result.0 ≡ Status.NoMemory) → sink.new ≡ sink.old }
     ensures counts { Counts result.0 (S.faults source.old) (S.faults source.new) (K.faults sink.old) (K.faults sink.new) (M.view media).faults (M.view result.1).faults }
     ensures steady { IsTrue (S.steady source.old) → result.0 ≡ Status.ReadFault → ⊥ }
     ensures input { IsTrue W.reads → IsTrue S.tells → InputSays result.0 (S.left source.old) (S.left source.new) }
     ensures unread { IsFalse W.reads → source.new ≡ source.old }
     ensures ran { Wrote K.tells (K.written sink.old) (K.written sink.new) (K.faults sink.old) (K.faults sink.new)
-        (λ cut text. (input : List ℕ) × (IsTrue W.reads → IsTrue S.tells → S.left source.old ≡ input) × (IsTrue M.tells → OverRecords W.spares 0
-        (λ ended. TakesTurnsFor W.spares B.defers (W.does work.now input ended cut text) (M.view media) ended (M.view result.1))
+        (λ cut text. (input : List ℕ) × (IsTrue W.reads → IsTrue S.tells → S.left source.old ≡ input) × (IsTrue M.tells → OverRecords false 0
+        (λ ended. TakesTurns false B.defers (W.does work.now input ended cut text) (M.view media) ended (M.view result.1))
         (M.view media) result.0 (M.view result.1) cut text)) }
 {
     let (room, input, store) = match open_for(alloc, work.reads(), 0, source, media, write_back) {
@@ -104,9 +101,8 @@ fn serve<K: Sink, S: EawStore + Drop + Send, W: RecordWork>(
     requires alive { IsAlive (S.view store) }
     requires free { (t : ℕ) → (S.view store).ranges t ≡ None }
     ensures served { Wrote K.tells (K.written sink.old) (K.written sink.new) (K.faults sink.old) (K.faults sink.new)
-        (λ cut text. IsTrue S.tells → Serves W.spares (λ ended. W.does work.now input.now ended cut text) S.opens (index_at (S.view store).state.bytes) (S.view store) result.0 cut text (S.view result.1)) }
+        (λ cut text. IsTrue S.tells → Serves false (λ ended. W.does work.now input.now ended cut text) S.opens (index_at (S.view store).state.bytes) (S.view store) result.0 cut text (S.view result.1)) }
     ensures untold { IfErr result.0 (λ fault. sink.new ≡ sink.old) }
-    ensures end { IsTrue W.spares → IfOk result.0 (λ ended. (ended ≡ Ended.All) ⊎ (ended ≡ Ended.WriteFault)) }
     ensures counts { ServedCounts result.0 (K.faults sink.old) (K.faults sink.new) (S.view store).faults (S.view result.1).faults }
 {
     let mut store = store;

@@ -14,7 +14,7 @@ pub struct LineCore<C: Core> {
 }
 
 impl<C: Core> Responder for LineCore<C> {
-    ghost use Rattle.std.specs.Prelude.{◌++◌, [], List, true};
+    ghost use Rattle.std.specs.Prelude.{◌≡◌, ◌⊎◌, ◌++◌, [], List, true};
     ghost use Rattle.std.proofs.Common.{refl, sym, ap, subst, ◌∙◌};
     ghost use Rattle.std.proofs.lemmas.List.{append-nil, append_assoc};
     ghost use Rattle.caller_steps.proofs.Continuing.{continues_none, continues_on};
@@ -22,7 +22,7 @@ impl<C: Core> Responder for LineCore<C> {
     ghost use Rattle.caller_steps.specs.Room.{Limits};
     ghost use Rattle.caller_steps.specs.Run.{Turn};
     ghost use Rattle.caller_steps.specs.Step.{Runs};
-    ghost use Rattle.mars_shell.specs.Standing.{Progress, line_script, IsReady, Stands, Comes};
+    ghost use Rattle.mars_shell.specs.Standing.{Progress, HasData, line_script, IsReady, Stands, Comes};
 
     ghost tells = { C.tells };
 
@@ -37,6 +37,10 @@ impl<C: Core> Responder for LineCore<C> {
     ghost comes = { λ old before new. Comes (C.view old.core) before (C.view new.core) };
 
     ghost faults = { λ lines. (C.view lines.core).faults };
+
+    ghost holds = { HasData };
+
+    ghost sends = { λ old new. (new.core ≡ old.core) ⊎ C.sends old.core new.core };
 
     ghost comes_none = { λ lines progress told ready stands. record {
       more = [];

@@ -1,13 +1,13 @@
 // The text of a drill.
 ghost use Rattle.std.specs.Prelude.{◌≡◌, ◌++◌, codes, IfOk, OnOk};
 ghost use Rattle.std.specs.Fmt.{decimal};
-ghost use Rattle.mars_shell.specs.Dump.{number_line};
+ghost use Rattle.history_text.specs.Text.{number_line};
 ghost use Rattle.mars_shell.specs.Tally.{key_sum, tally_text};
 
-use crate::number_line::append_number;
 use crate::tally::Tally;
 use command_words::DrillNumbers;
 use history::Rows;
+use history_text::append_number;
 use mars_base::NoMemory;
 use record_slots::Value;
 use std::alloc::Global;

@@ -7,27 +7,25 @@ ghost use Rattle.command_words.specs.declared.words.FormatNumbers.{FormatNumbers
 ghost use Rattle.command_words.specs.declared.words.Words.TheVariants.{Format};
 ghost use Rattle.mars_shell.specs.Asked.{WordsSay, IfReads, OutcomeFor, IsComplete, IsFit, TellsLate};
 ghost use Rattle.mars_shell.specs.Formats.{FormatSays};
-ghost use Rattle.mars_shell.specs.Input.{InputSays};
-ghost use Rattle.mars_shell.specs.Statuses.{Counts, IsEarly, IsRefusal};
+ghost use Rattle.array_runs.specs.Input.{InputSays};
+ghost use Rattle.array_runs.specs.Statuses.{Counts, IsEarly, IsRefusal};
 
 use crate::callers::{Crew, run_callers};
 use crate::commands::run_commands;
 use crate::core_work::OnCore;
 use crate::drilling::DrawnScript;
-use crate::dump::RecordDump;
 use crate::following::run_follow;
 use crate::formatting::run_format;
-use crate::lines::ByTurns;
-use crate::purging::run_purge;
+use crate::framed_run::run_lines;
 use crate::records::over_records;
-use crate::status::Status;
-use crate::tables::run_make;
+use array_runs::Status;
 use caller_work::Gate;
-use command_words::{Words, WordsFault, Writing, read_words};
+use command_words::{Words, WordsFault, read_words};
 use outside::{Sink, Source};
 use pcm_media::Media;
 use std::sync::Wait;
 use std::thread::Threads;
+use told_commands::{Dump, NewTable, Purge, run_told};
 
 /// Does all that the program does with the words after the image's, and returns the medium.
 ///
@@ -35,6 +33,7 @@ use std::thread::Threads;
 /// caller's transactions are made by a worker of its own on a thread, which calls the gate between its calls. `eaw` does not read the
 /// records, nor does `follow`, which applies frames that lines say. `drill`, `dump`, `make`, `purge` and `format` read no input. Only `callers` may wait. In `run`, `callers` and `drill` commits may be answered before
 /// their data is written to its place, if the words say so.
+#[tactic(auto, using(crate::proofs::Waiting::run_depth, crate::proofs::Waiting::drill_depth))]
 pub fn run<
     R: AllocGlobal + Threads + Wait + Sync,
     S: Source,
@@ -62,8 +61,8 @@ pub fn run<
     ensures untold { WordsSay (map string_bytes words.now) result.0 (sink.new ≡ sink.old) (λ asked. TellsLate asked → (result.0 ≡ Status.MediaFault) ⊎ (result.0 ≡ Status.NoMemory) → sink.new ≡ sink.old) }
     // What the words ask for was done, and each status has its cause. For `run` the text answers the lines of the input one by one, and for
     // `drill` it is the summary of the replies. For both the history is legal and obeys the prefix law. For `dump` the text is the records,
-    // for `make` the number of the new table, for `purge` how many keys were taken out, for `eaw` it answers the commands by the model, and for `follow` it
-    // counts the frames that are applied.
+    // for `make` the number of the new table, for `purge` how many keys were taken out, for `eaw` it answers the commands by the model, with the
+    // frames that they send if that is asked for, and for `follow` it counts the frames that are applied.
     ensures ran { WordsSay (map string_bytes words.now) result.0 ((source.new ≡ source.old) × (sink.new ≡ sink.old) × (result.1 ≡ media)) (λ asked. Wrote K.tells (K.written sink.old) (K.written sink.new) (K.faults sink.old) (K.faults sink.new)
         (λ cut text. (input : List ℕ) × (IsTrue S.tells → S.left source.old ≡ input) × (IsTrue M.tells → OutcomeFor asked (M.view media) result.0 (M.view result.1) input cut text))) }
     // What can be done is done, unless memory runs out.
@@ -74,26 +73,14 @@ pub fn run<
     match read_words(rt.alloc(), words) {
         Err(WordsFault::NoCommand) => (Status::Usage, media),
         Err(WordsFault::NoMemory) => (Status::NoMemory, media),
-        Ok(Words::Run(options)) => {
-            over_records(
-                rt.alloc(),
-                source,
-                sink,
-                media,
-                options.writing,
-                &OnCore { work: ByTurns },
-            )
-        }
+        Ok(Words::Run(options)) => run_lines(rt.alloc(), source, sink, media, options),
         Ok(Words::Callers(numbers)) => {
             let crew = Crew { rt, numbers, gate };
             run_callers(rt.alloc(), source, sink, media, &crew)
         }
-        Ok(Words::Eaw) => run_commands(rt.alloc(), source, sink, media),
+        Ok(Words::Eaw(options)) => run_commands(rt.alloc(), source, sink, media, options),
         Ok(Words::Follow) => run_follow(rt.alloc(), source, sink, media),
-        Ok(Words::Dump) => {
-            let writing = Writing::AtOnce;
-            over_records(rt.alloc(), source, sink, media, writing, &RecordDump)
-        }
+        Ok(Words::Dump) => run_told(rt.alloc(), source, sink, media, &Dump),
         Ok(Words::Drill(numbers)) => {
             let work = OnCore {
                 work: DrawnScript { numbers },
@@ -101,7 +88,9 @@ pub fn run<
             over_records(rt.alloc(), source, sink, media, numbers.writing, &work)
         }
         Ok(Words::Format(numbers)) => run_format(sink, media, &numbers),
-        Ok(Words::Make(ref name)) => run_make(rt.alloc(), source, sink, media, name),
-        Ok(Words::Purge) => run_purge(rt.alloc(), source, sink, media),
+        Ok(Words::Make(ref name)) => {
+            run_told(rt.alloc(), source, sink, media, &NewTable { name: *name })
+        }
+        Ok(Words::Purge) => run_told(rt.alloc(), source, sink, media, &Purge),
     }
 }

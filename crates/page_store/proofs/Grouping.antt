@@ -1,24 +1,23 @@
 -- The end of a group of numbers.
-use Rattle.std.proofs.Common.{◌≡◌, ℕ, ◌<◌, ◌≤◌, Bool, true, false, inl, inr, List, [], ◌∷◌, length, Result, Ok, Err, refl, sym, ◌∙◌, ap, subst, arith}
-use Rattle.std.specs.Prelude.{Option, Some, None, IsTrue, IfErr, OnOk, OnErr, IsErrOf, is_some, filter}
+use Rattle.std.proofs.Common.{◌≡◌, ℕ, ◌≤◌, Bool, true, inl, inr, List, Result, Ok, Err, refl, sym, ◌∙◌, ap, subst, arith}
+use Rattle.std.specs.Prelude.{Some, None, IsTrue, IfErr, OnOk, OnErr, IsErrOf, is_some, filter}
 use Rattle.std.proofs.lemmas.Bool.{cases_lt, false≢true}
-use Rattle.std.proofs.lemmas.Result.{IfErr-at_err}
 use Rattle.eaw_face.specs.State.{is_one_of}
 use Rattle.eaw_face.specs.StoreView.{StoreView, IsLive}
-use Rattle.eaw_face.specs.Command.{Command, commit_group}
+use Rattle.eaw_face.specs.Command.{commit_group}
 use Rattle.eaw_face.specs.Causes as causes
 use Rattle.eaw_face.specs.Does as does_store
 use Rattle.eaw_face.specs.declared.fault.EawFault.{EawFault}
 use Rattle.eaw_face.specs.declared.fault.EawFault.TheVariants as fault
 use Rattle.eaw_face.proofs.Groups.{one_of_all, none_unknown}
 use Rattle.page_store.specs.Command.{end_group}
-use Rattle.page_store.specs.Does.{Does, Becomes}
+use Rattle.page_store.specs.Does.{Does}
 use Rattle.page_store.specs.Kept.{IsOrdered, IsAllowed}
 use Rattle.page_store.specs.Outline.{outline_after}
 use Rattle.page_store.specs.Shown.{PagesView, outline_of}
 use Rattle.page_store.specs.Told.{IsKnown, TellsAs}
 use Rattle.page_store.specs.declared.fault.PageFault.{PageFault}
-use Rattle.page_store.specs.declared.fault.PageFault.TheVariants.{LogFull, Media, Dead}
+use Rattle.page_store.specs.declared.fault.PageFault.TheVariants.{Media}
 use Rattle.page_store.proofs.Lifting.{Makes, lifted}
 use Rattle.page_store.proofs.Shown.{IsTold}
 

@@ -1,5 +1,5 @@
 -- A part that is laid over bytes that were read.
-use Rattle.std.proofs.Common.{◌≡◌, ℕ, zero, suc, ◌+◌, ◌-◌, ◌<◌, ◌≤◌, max, min, ◌⊎◌, inl, inr, List, [], ◌∷◌, length, get_or, take, drop, refl, sym, ◌∙◌, ap, subst, arith}
+use Rattle.std.proofs.Common.{◌≡◌, ℕ, zero, suc, ◌+◌, ◌-◌, ◌<◌, ◌≤◌, max, min, ◌⊎◌, inl, inr, List, [], ◌∷◌, length, take, refl, sym, ◌∙◌, ap, subst, arith}
 use Rattle.std.specs.Prelude.{Option}
 use Rattle.std.specs.Option.{option_map}
 use Rattle.std.proofs.lemmas.List.{ext_get_or, get_or-take, length-take-le}

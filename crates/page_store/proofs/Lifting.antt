@@ -1,15 +1,13 @@
 -- A command of the store, seen as the command of pages that makes it.
-use Rattle.std.proofs.Common.{◌≡◌, ℕ, ◌<◌, ◌≤◌, Bool, true, false, inl, inr, ⊎_elim, List, [], ◌∷◌, length, Result, Ok, Err, refl, sym, ◌∙◌, ap, subst}
-use Rattle.std.specs.Prelude.{Option, Some, None, IsTrue, IsSome, IfSome, OnOk, OnErr, IsErrOf, IsOk}
+use Rattle.std.proofs.Common.{◌≡◌, ℕ, Bool, true, false, inl, inr, ⊎_elim, List, Result, Ok, Err, refl, sym, ◌∙◌, ap, subst}
+use Rattle.std.specs.Prelude.{Option, Some, None, IsTrue, OnOk, OnErr, IsErrOf, IsOk}
 use Rattle.std.specs.Option.{option_map}
 use Rattle.std.proofs.lemmas.Bool.{false≢true}
 use Rattle.std.proofs.lemmas.Result.{IfErr-at_err}
-use Rattle.mars_base.specs.Causes.{Rose}
 use Rattle.mars_base.proofs.Going.{stays, weaker}
-use Rattle.array_shape.specs.declared.shape.Shape.{Shape}
-use Rattle.array_shape.specs.Parts.{parts_of_write}
-use Rattle.array_shape.specs.Logged.{Part, ranges_of}
-use Rattle.eaw_face.specs.State.{State, Logs, listed}
+use Rattle.eaw_face.specs.State.{State}
+use Rattle.eaw_face.specs.Mirroring.{Mirrors}
+use Rattle.eaw_face.proofs.Mirroring.{none_sent}
 use Rattle.eaw_face.specs.StoreView.{StoreView, LeavesOnly}
 use Rattle.eaw_face.specs.Command.{Command}
 use Rattle.eaw_face.specs.Command as model
@@ -17,7 +15,6 @@ use Rattle.eaw_face.specs.Causes as causes
 use Rattle.eaw_face.specs.Does as does_store
 use Rattle.eaw_face.specs.declared.fault.EawFault.{EawFault}
 use Rattle.eaw_face.specs.declared.fault.EawFault.TheVariants as fault
-use Rattle.page_store.specs.State.{PagesState}
 use Rattle.page_store.specs.Command.{PageCommand, after}
 use Rattle.page_store.specs.Device.{device, done, ranges_done, if_live}
 use Rattle.page_store.specs.Outline.{Outline, outline_after}
@@ -26,7 +23,7 @@ use Rattle.page_store.specs.Does.{Does, Becomes, Cause, HasRoom, IsFull, Names}
 use Rattle.page_store.specs.Shown.{PagesView, outline_of, state_of}
 use Rattle.page_store.specs.Told.{IsKnown, told_as, TellsAs, DoesWhereLive}
 use Rattle.page_store.specs.declared.fault.PageFault.{PageFault}
-use Rattle.page_store.specs.declared.fault.PageFault.TheVariants.{LogFull, SavesFull, Media, Dead, Damaged}
+use Rattle.page_store.specs.declared.fault.PageFault.TheVariants.{Media}
 use Rattle.page_store.proofs.Device.{device_does, device_does_ranges}
 use Rattle.page_store.proofs.Ordered.{ordered_after}
 use Rattle.page_store.proofs.Shown.{IsTold, outlined, kept, state_after}
@@ -125,6 +122,7 @@ module _ (tells : Bool) (Opens : List ℕ → List ℕ → Type 0) (c : PageComm
     time = λ tell alive. weaker
         (λ image either. ⊎_elim (λ before. inl before) (λ after'. inr (subst (λ (st : State). Opens image st.bytes) (data_after tell alive) after')) either)
         (does.time tell alive);
+    mirrors = does.mirrors;
   }
 
   -- counts stay ordered, whatever the answer, if the command changes no marks
@@ -186,6 +184,7 @@ module _ (tells : Bool) (Opens : List ℕ → List ℕ → Type 0) (c : PageComm
     others = λ u ne. ap (λ (st : StoreView). st.ranges u) same;
     time = λ tell living. subst (λ (st : StoreView). LeavesOnly (does_store.IsEither Opens old.store.state.bytes (after c (state_of old)).store.bytes) old.store st) (sym same)
         (stays old.store.moment old.store.left_since _);
+    mirrors = subst (λ (st : StoreView). Mirrors tells old.store st) (sym same) (none_sent tells old.store old.store refl refl (λ fine. fine) (λ told mirrors fine. refl));
   }
 
 -- a refusal that changes nothing
@@ -200,6 +199,7 @@ unchanged tells Opens c old p other cause = record {
   dies = λ is. absurd (other (IfErr-at_err (λ q. p ≡ q) is refl));
   others = λ u ne. refl;
   time = λ tell living. stays old.store.moment old.store.left_since _;
+  mirrors = none_sent tells old.store old.store refl refl (λ fine. fine) (λ told mirrors fine. refl);
 }
 
 -- A command that makes one of the store if its number is live, and none otherwise.

@@ -7,7 +7,7 @@ use Rattle.std.proofs.lemmas.List.{get_or_append_left, get_or_push, get_or-take,
 use Rattle.array_shape.specs.declared.shape.Shape.{Shape}
 use Rattle.array_shape.specs.Places.{IsPlaced}
 use Rattle.eaw_face.specs.State.{listed}
-use Rattle.eaw_face.specs.Command.{Command, commit, commit_group, abort, nested_top, partial_abort}
+use Rattle.eaw_face.specs.Command.{Command, commit, abort, nested_top, partial_abort}
 use Rattle.eaw_face.proofs.Groups.{with_each_two, passes_in}
 use Rattle.page_store.specs.Edit.{edit_pos, with_range}
 use Rattle.page_store.specs.Command.{PageCommand, write_as, save, back, top_begin, top_end, end, end_group, atomic_write, read_as, read}

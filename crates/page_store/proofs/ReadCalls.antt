@@ -1,12 +1,13 @@
 -- Reads of a store one after another, and as reads of pages.
-use Rattle.std.proofs.Common.{◌≡◌, ℕ, Bool, true, false, inl, inr, ⊎_elim, List, Result, Ok, Err, refl, sym, ◌∙◌, ap, subst, arith}
-use Rattle.std.specs.Prelude.{Option, Some, None, IsTrue, IsOk, OnOk, OnErr, IsErrOf}
+use Rattle.std.proofs.Common.{◌≡◌, ℕ, Bool, true, false, inl, ⊎_elim, List, Result, Ok, Err, refl, sym, ◌∙◌, ap, subst, arith}
+use Rattle.std.specs.Prelude.{Some, IsOk, OnOk, OnErr, IsErrOf}
 use Rattle.std.proofs.lemmas.Bool.{false≢true}
 use Rattle.std.proofs.lemmas.Result.{IfErr-at_err}
 use Rattle.mars_base.specs.Causes.{Rose}
 use Rattle.mars_base.proofs.Going.{weaker, then}
 use Rattle.eaw_face.specs.State.{State, Logs}
-use Rattle.eaw_face.specs.StoreView.{StoreView, LeavesOnly}
+use Rattle.eaw_face.proofs.Mirroring.{none_sent, sent_then}
+use Rattle.eaw_face.specs.StoreView.{StoreView}
 use Rattle.eaw_face.specs.Command.{Command}
 use Rattle.eaw_face.specs.Command as model
 use Rattle.eaw_face.specs.Causes as causes
@@ -21,7 +22,7 @@ use Rattle.page_store.specs.Reads.{Reads, IsRead, ReadCause}
 use Rattle.page_store.specs.Shown.{PagesView, outline_of, state_of}
 use Rattle.page_store.specs.Told.{IsKnown, told_as, TellsAs}
 use Rattle.page_store.specs.declared.fault.PageFault.{PageFault}
-use Rattle.page_store.specs.declared.fault.PageFault.TheVariants.{LogFull, SavesFull, Media, Dead, Damaged}
+use Rattle.page_store.specs.declared.fault.PageFault.TheVariants.{Media}
 
 abbrev NotMedia : PageFault → Type 0
 NotMedia Media = ⊥
@@ -54,6 +55,7 @@ module _ (tells : Bool) (Opens : List ℕ → List ℕ → Type 0) (t : ℕ) (d 
     dies = does.dies;
     others = others;
     time = λ tell alive. weaker (λ image either. ⊎_elim (λ b. b) (λ a. subst (λ (st : State). Opens image st.bytes) (same old.state) a) either) (does.time tell alive);
+    mirrors = does.mirrors;
   }
 
 -- one read that succeeded, and others
@@ -99,6 +101,7 @@ module _ {T : Type 0} (tells : Bool) (Opens : List ℕ → List ℕ → Type 0) 
     others = λ u ne. more.others u ne ∙ first.others u ne;
     time = λ tell alive. then (first.time tell alive)
         (weaker (λ image opens. subst (λ (st : State). Opens image st.bytes) ((done_first r ok first.done).state tell) opens) (more.time tell (done_first r ok first.done).alive));
+    mirrors = sent_then tells old mid new first.mirrors more.mirrors;
   }
 
 -- a fault of a read, passed on
@@ -112,6 +115,7 @@ reads_err {T} {U} tells Opens t old new f reads = record {
   dies = λ is. reads.dies (ap Err (IfErr-at_err (λ q. f ≡ q) is refl));
   others = reads.others;
   time = reads.time;
+  mirrors = reads.mirrors;
 }
   where
     cause : (f : EawFault) → (let r : Result T EawFault = Err f in ReadCause old new.faults r) → (let s : Result U EawFault = Err f in ReadCause old new.faults s)
@@ -131,6 +135,7 @@ reads_ok tells Opens t old new y reads = record {
   dies = λ is. absurd (IfErr-at_err (λ q. ⊥) is tt);
   others = reads.others;
   time = reads.time;
+  mirrors = reads.mirrors;
 }
 
 -- nothing was read
@@ -143,6 +148,7 @@ reads_none tells Opens t old x alive = record {
   dies = λ is. absurd (IfErr-at_err (λ q. ⊥) is tt);
   others = λ u ne. refl;
   time = λ tell living. record { later = omega arith; keeps = λ t image le left. left; only = λ t image le left. inl left };
+  mirrors = none_sent tells old old refl refl (λ fine. fine) (λ told mirrors fine. refl);
 }
 
 -- As a command of pages that changes nothing.
@@ -206,4 +212,5 @@ module _ (tells : Bool) (Opens : List ℕ → List ℕ → Type 0) (t : ℕ) (c 
     dies = page_dies r s as_told reads.dies;
     others = number;
     time = λ tell alive. weaker (λ image opens. inl opens) (reads.time tell alive);
+    mirrors = reads.mirrors;
   }

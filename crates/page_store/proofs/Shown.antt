@@ -1,5 +1,5 @@
 -- The model's state that pages stand for.
-use Rattle.std.proofs.Common.{◌≡◌, ℕ, zero, suc, ◌<◌, ◌≤◌, min, List, [], ◌∷◌, length, get_or, take, refl, sym, ◌∙◌, ap, subst, arith}
+use Rattle.std.proofs.Common.{◌≡◌, ℕ, zero, suc, ◌<◌, ◌≤◌, List, [], ◌∷◌, length, get_or, take, refl, sym, ◌∙◌, ap, subst, arith}
 use Rattle.std.specs.Prelude.{Option, Some, None, map}
 use Rattle.std.specs.Option.{option_map, unwrap_or}
 use Rattle.std.proofs.lemmas.List.{length-take, length-take-le, take_min}
@@ -8,10 +8,10 @@ use Rattle.array_shape.specs.Places.{data_len}
 use Rattle.array_shape.specs.Logged.{Part, ranges_of, AllPlaced}
 use Rattle.eaw_face.specs.State.{State, listed}
 use Rattle.eaw_face.specs.StoreView.{StoreView, ArePlaced}
-use Rattle.page_store.specs.State.{PagesState, log_of}
+use Rattle.page_store.specs.State.{log_of}
 use Rattle.page_store.specs.Command.{PageCommand, after}
 use Rattle.page_store.specs.Outline.{Outline, outline, outline_after}
-use Rattle.page_store.specs.Kept.{IsFront, IsKeptOf, IsKept, IsOrderedOf, IsOrdered, IsAllowed}
+use Rattle.page_store.specs.Kept.{IsFront, IsKeptOf, IsKept, IsOrdered, IsAllowed}
 use Rattle.page_store.specs.Shown.{PagesView, saved_of, outline_of, state_of}
 use Rattle.page_store.proofs.Keeping.{kept_after}
 use Rattle.page_store.proofs.Outline.{outline_does, listed-ranges}

@@ -1,11 +1,12 @@
 -- What a call of pages does, and when each answer comes.
-use Rattle.std.specs.Prelude.{ℕ, ◌≡◌, ◌<◌, ◌⊎◌, Bool, true, false, IsTrue, List, [], ◌∷◌, length, Option, Some, None, Result, Ok, Err, OnOk, OnErr, IsErrOf}
+use Rattle.std.specs.Prelude.{ℕ, ◌≡◌, ◌<◌, Bool, true, false, IsTrue, List, [], ◌∷◌, length, Option, Some, None, Result, Ok, Err, OnOk, OnErr, IsErrOf}
 use Rattle.mars_base.specs.Causes.{Rose}
 use Rattle.array_shape.specs.Parts.{parts_of_write}
 use Rattle.array_shape.specs.Logged.{ranges_of}
 use Rattle.eaw_face.specs.State.{listed}
-use Rattle.eaw_face.specs.StoreView.{StoreView, LeavesOnly}
+use Rattle.eaw_face.specs.StoreView.{LeavesOnly}
 use Rattle.eaw_face.specs.Causes.{IsAlive, fit}
+use Rattle.eaw_face.specs.Mirroring.{Mirrors}
 use Rattle.eaw_face.specs.Does.{IsEither}
 use Rattle.page_store.specs.Edit.{edit_pos}
 use Rattle.page_store.specs.Outline.{outline_after, floor_in}
@@ -59,7 +60,8 @@ Names command u = WorksFor command u
 -- A call of pages over a store, where `Opens` says which data an image opens with. Each answer has its cause. An Ok is the model's
 -- command, and hides no fault. A refusal leaves saves and open top actions. A fault of the medium leaves the store dead. Whatever the
 -- answer, other numbers keep what they have logged, and a loss of power during a call on a store that was not dead leaves what it
--- might have left before, or an image that opens with the data before the command or after it.
+-- might have left before, or an image that opens with the data before the command or after it. Frames are added at the end, as the store
+-- below sends them.
 pub record Does {T : Type 0} (tells : Bool) (Opens : List ℕ → List ℕ → Type 0) (command : PageCommand) (old new : PagesView) (result : Result T PageFault) : Type 0 where
   pub shape : new.store.shape ≡ old.store.shape
   pub cause : Cause old command new.store.faults result
@@ -69,3 +71,4 @@ pub record Does {T : Type 0} (tells : Bool) (Opens : List ℕ → List ℕ → T
   pub dies : IsErrOf result Media → new.store.is_dead ≡ true
   pub others : (u : ℕ) → (Names command u → ⊥) → new.store.ranges u ≡ old.store.ranges u
   pub time : IsTrue tells → old.store.is_dead ≡ false → LeavesOnly (IsEither Opens old.store.state.bytes (after command (state_of old)).store.bytes) old.store new.store
+  pub mirrors : Mirrors tells old.store new.store

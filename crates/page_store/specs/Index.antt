@@ -18,8 +18,9 @@ pub record Action : Type 0 where
 
 -- What an index makes of data that has one for each table: which data is sound, and which page fails first. And for the index of one table,
 -- told by its root: its pairs (key, slot); how many levels of inner pages stand above its leaves; which pages it has; the actions that the
--- insertion of a key makes, splits first; the pages that the parts of a key's removal lie in, or none if the key's pair is the last of
--- its page and stays there; and how a look goes that finds the slot of a key, and one that finds the pairs that come next from a key on.
+-- insertion of a key makes, splits first; whether a page of level 0 with this link and these pairs is the one that the key goes into, and no page on
+-- the way there is full; the pages that the parts of a key's removal lie in, or none if the key's pair is the last of its page and stays there; and
+-- how a look goes that finds the slot of a key, and one that finds the pairs that come next from a key on.
 pub record Index : Type 1 where
   pub sound : List ℕ → Type 0
   pub fails : List ℕ → ℕ → Type 0
@@ -27,6 +28,7 @@ pub record Index : Type 1 where
   pub level : List ℕ → ℕ → ℕ
   pub has_page : List ℕ → ℕ → ℕ → Type 0
   pub actions : List ℕ → ℕ → ℕ → List Action
+  pub fits : List ℕ → (root key page link : ℕ) → List Pair → Type 0
   pub removal : List ℕ → ℕ → ℕ → Option (List ℕ)
   pub finding : ℕ → ℕ → Course (Option ℕ)
   pub nexting : ℕ → ℕ → Course (List Pair)

@@ -3,6 +3,7 @@ use Rattle.std.specs.Prelude.{ℕ, ◌≡◌, ◌≢◌, ◌-◌, ◌<◌, ◌�
 use Rattle.mars_base.specs.Causes.{Rose}
 use Rattle.eaw_face.specs.State.{listed}
 use Rattle.eaw_face.specs.StoreView.{StoreView, LeavesOnly}
+use Rattle.eaw_face.specs.Mirroring.{Mirrors}
 use Rattle.eaw_face.specs.Causes.{IsAlive}
 use Rattle.array_shape.specs.declared.shape.Shape.{Shape}
 use Rattle.record_slots.specs.Places.{used_slots, used_pages, slot_due}
@@ -86,6 +87,7 @@ pub record KeepsLogs (tells : Bool) (old new : PagesView) : Type 0 where
 -- An insertion of a key of a table into the index of its root, as number t. Saves stay, and other numbers keep what they have logged,
 -- whatever the answer; so does t itself, except at a fault of the medium, which leaves the store dead. A loss of power during it, if the
 -- store was not dead, leaves what it might have left before, or an image that opens with sound data that has the pairs before it or after it.
+-- What the store sends is added at the end of what it has sent, and gives its data.
 pub record Inserts (tells : Bool) (Opens : List ℕ → List ℕ → Type 0) (index : Index) (t root table key : ℕ) (old new : PagesView) (result : Result ℕ IndexFault) : Type 0 where
   pub shape : new.store.shape ≡ old.store.shape
   pub cause : InsertCause tells index t root key old.store result
@@ -96,3 +98,4 @@ pub record Inserts (tells : Bool) (Opens : List ℕ → List ℕ → Type 0) (in
   pub dies : IsTrue (is_insert_failed result) → (new.store.is_dead ≡ true) × Rose old.store.faults new.store.faults
   pub time : IsTrue tells → IsAlive old.store
       → LeavesOnly (λ image. (bytes : List ℕ) × Opens image bytes × MayBecome index root table key old.store.state.bytes bytes) old.store new.store
+  pub mirrors : Mirrors tells old.store new.store

@@ -22,3 +22,5 @@ pub mod Follows
 pub mod Records
 pub mod Inserts
 pub mod Removes
+pub mod Works
+pub mod Placed

@@ -2,6 +2,7 @@
 use Rattle.std.specs.Prelude.{ℕ, ◌≡◌, Bool, true, false, IsTrue, IsFalse, List, Result, Ok, Err}
 use Rattle.mars_base.specs.Causes.{Rose}
 use Rattle.eaw_face.specs.StoreView.{StoreView, LeavesOnly}
+use Rattle.eaw_face.specs.Mirroring.{Mirrors}
 use Rattle.eaw_face.specs.Causes.{IsAlive}
 use Rattle.page_store.specs.Shown.{PagesView}
 use Rattle.page_store.specs.Index.{Index}
@@ -17,7 +18,8 @@ pub record IsStill (tells : Bool) (old new : StoreView) : Type 0 where
   pub state : IsTrue tells → new.state ≡ old.state
 
 -- A look at a store, in which its medium failed or not: what numbers have logged, their saves and open top actions are as they were,
--- and a loss of power during it, if the store was not dead, leaves what it might have left before, or an image that opens with the data.
+-- and a loss of power during it, if the store was not dead, leaves what it might have left before, or an image that opens with the data. What
+-- the store sends is added at the end of what it has sent, and gives its data.
 pub record Looks (tells : Bool) (Opens : List ℕ → List ℕ → Type 0) (failed : Bool) (old new : PagesView) : Type 0 where
   pub shape : new.store.shape ≡ old.store.shape
   pub ranges : new.store.ranges ≡ old.store.ranges
@@ -26,6 +28,7 @@ pub record Looks (tells : Bool) (Opens : List ℕ → List ℕ → Type 0) (fail
   pub still : IsFalse failed → IsStill tells old.store new.store
   pub dies : IsTrue failed → (new.store.is_dead ≡ true) × Rose old.store.faults new.store.faults
   pub time : IsTrue tells → IsAlive old.store → LeavesOnly (λ image. Opens image old.store.state.bytes) old.store new.store
+  pub mirrors : Mirrors tells old.store new.store
 
 -- whether the medium failed
 abbrev pub is_failed : {T : Type 0} → Result T PageFault → Bool

@@ -1,5 +1,5 @@
 -- Lists of pairs, each of a key and what the key leads to, in the order of the keys.
-use Rattle.std.specs.Prelude.{ℕ, suc, ◌≡◌, ◌<◌, ◌≤◌, nat_eq, nat_lt, nat_le, if◌then◌else◌, List, [], ◌∷◌, Option, Some, None}
+use Rattle.std.specs.Prelude.{ℕ, suc, ◌≡◌, ◌^◌, ◌<◌, ◌≤◌, nat_eq, nat_lt, nat_le, if◌then◌else◌, List, [], ◌∷◌, Option, Some, None}
 
 abbrev pub Pair : Type 0
 Pair = ℕ × ℕ
@@ -33,6 +33,11 @@ AreNext pairs from (p ∷ ps) = InTurn pairs from (p ∷ ps)
 abbrev pub AreInside : ℕ → ℕ → List Pair → Type 0
 AreInside from bound [] = Unit {0}
 AreInside from bound (p ∷ ps) = (from ≤ p.0) × (p.1 < bound) × AreInside (suc p.0) bound ps
+
+-- keys, and what they lead to, are numbers of 64 bits
+abbrev pub AreSmall : List Pair → Type 0
+AreSmall [] = Unit {0}
+AreSmall (p ∷ ps) = (p.0 < 2 ^ 64) × (p.1 < 2 ^ 64) × AreSmall ps
 
 -- the pairs with one more, in its place
 abbrev pub inserted : List Pair → ℕ → ℕ → List Pair

@@ -1,7 +1,8 @@
 -- What reads do to a store, and what they cost.
-use Rattle.std.specs.Prelude.{◌≡◌, ◌≤◌, ◌+◌, min, max, nat_lt, if◌then◌else◌, Bool, true, false, IsTrue, List, [], ◌∷◌, ℕ, Result, Ok, Err, OnOk, IsErrOf}
+use Rattle.std.specs.Prelude.{◌≡◌, ◌+◌, min, max, nat_lt, if◌then◌else◌, Bool, true, false, IsTrue, List, [], ◌∷◌, ℕ, Result, Ok, Err, OnOk, IsErrOf}
 use Rattle.mars_base.specs.Causes.{Rose}
 use Rattle.eaw_face.specs.Command.{Command, log_read, read}
+use Rattle.eaw_face.specs.Mirroring.{Mirrors}
 use Rattle.eaw_face.specs.StoreView.{StoreView, LeavesOnly}
 use Rattle.eaw_face.specs.declared.fault.EawFault.{EawFault}
 use Rattle.eaw_face.specs.declared.fault.EawFault.TheVariants.{Media, Dead}
@@ -28,6 +29,7 @@ pub record Reads {T : Type 0} (tells : Bool) (Opens : List ℕ → List ℕ → 
   pub dies : IsErrOf result Media → new.is_dead ≡ true
   pub others : (u : ℕ) → (u ≡ t → ⊥) → new.ranges u ≡ old.ranges u
   pub time : IsTrue tells → old.is_dead ≡ false → LeavesOnly (λ image. Opens image old.state.bytes) old new
+  pub mirrors : Mirrors tells old new
 
 -- whether two ranges share a byte
 abbrev pub overlap : ℕ × ℕ → ℕ × ℕ → Bool

@@ -1,11 +1,11 @@
 -- What a removal does, and when each answer comes.
-use Rattle.std.specs.Prelude.{ℕ, suc, ◌≡◌, ◌≢◌, ◌<◌, ◌≤◌, ◌⊎◌, Bool, true, false, IsTrue, IsFalse, List, length, Option, Some, None, IsSome, Result, Ok, Err}
+use Rattle.std.specs.Prelude.{ℕ, suc, ◌≡◌, ◌≢◌, ◌≤◌, ◌⊎◌, Bool, true, false, IsTrue, IsFalse, List, length, Some, None, IsSome, Result, Ok, Err}
 use Rattle.mars_base.specs.Causes.{Rose}
 use Rattle.eaw_face.specs.StoreView.{StoreView, LeavesOnly}
+use Rattle.eaw_face.specs.Mirroring.{Mirrors}
 use Rattle.eaw_face.specs.Causes.{IsAlive}
 use Rattle.record_slots.specs.Slots.{slot_said}
 use Rattle.record_slots.specs.Places.{slot_of, next_slot, next_page, version_of, tables_of, free_slot, free_page, free_slots, free_pages, free_slot_of, free_page_of}
-use Rattle.record_slots.specs.declared.free.Free.{Free}
 use Rattle.record_slots.specs.declared.slot.Slot.TheVariants.{Absent}
 use Rattle.page_store.specs.Fits.{FitAll, IsFirstLacking}
 use Rattle.page_store.specs.Index.{Index, IsTable, IsUntouched, IsFreePage}
@@ -89,7 +89,8 @@ Removed index root key old new _ = new ≡ old
 
 -- A removal of a key from the index of this root, as number t. Saves stay, and other numbers keep what they have logged, whatever the
 -- answer; so does t itself, except at a fault of the medium, which leaves the store dead. A loss of power during it, if the store was not
--- dead, leaves what it might have left before, or an image that opens with the data before it or with data that lacks the pair.
+-- dead, leaves what it might have left before, or an image that opens with the data before it or with data that lacks the pair. What the
+-- store sends is added at the end of what it has sent, and gives its data.
 pub record Removes (tells : Bool) (Opens : List ℕ → List ℕ → Type 0) (index : Index) (t root key : ℕ) (old new : PagesView) (result : Result Bool PageFault) : Type 0 where
   pub shape : new.store.shape ≡ old.store.shape
   pub cause : RemoveCause tells index t root key old.store result
@@ -100,3 +101,4 @@ pub record Removes (tells : Bool) (Opens : List ℕ → List ℕ → Type 0) (in
   pub dies : IsTrue (is_failed result) → (new.store.is_dead ≡ true) × Rose old.store.faults new.store.faults
   pub time : IsTrue tells → IsAlive old.store
       → LeavesOnly (λ image. Opens image old.store.state.bytes ⊎ ((bytes : List ℕ) × Opens image bytes × LosesKey index root key old.store.state.bytes bytes)) old.store new.store
+  pub mirrors : Mirrors tells old.store new.store

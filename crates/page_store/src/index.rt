@@ -1,5 +1,5 @@
 // An index over pages, as the layers above see it.
-ghost use Rattle.std.specs.Prelude.{◌≡◌, ◌^◌, ◌<◌, ◌≤◌, ◌++◌, List, [], ℕ, None, IfOk, IfSome, OnOk, IsErrOf, IsTrue};
+ghost use Rattle.std.specs.Prelude.{◌≡◌, ◌^◌, ◌<◌, ◌≤◌, ◌++◌, List, [], ℕ, None, is_some, IfOk, IfSome, OnOk, IsErrOf, IsTrue};
 ghost use Rattle.array_shape.specs.Places.{page_count};
 ghost use Rattle.eaw_face.specs.Causes.{IsAlive};
 ghost use Rattle.record_slots.specs.Places.{next_page, page_bytes, version_of, AreGiven};
@@ -9,11 +9,14 @@ ghost use Rattle.page_store.specs.Inserts.{Inserts};
 ghost use Rattle.page_store.specs.Removes.{HasAbsent, Removes};
 ghost use Rattle.page_store.specs.Looks.{Looks, LookCause, CheckCause, is_failed, is_check_failed};
 ghost use Rattle.page_store.specs.Pairs.{Rise, AreInside, AreNext, found};
+ghost use Rattle.page_store.specs.Placed.{IsPlaceIn, IsSoughtFor, IsSoughtIn, slot_sought};
 ghost use Rattle.page_store.specs.Records.{records_of};
 ghost use Rattle.page_store.specs.Shown.{pages_of, top_in};
+ghost use Rattle.page_store.specs.Works.{Works, blamed, blamed_index, insertion_limits, is_done, removal_actions, removal_limits};
 
 use crate::fault::PageFault;
 use crate::index_fault::{CheckFault, IndexFault};
+use crate::leaf_page::{LeafPage, Sought};
 use crate::pages::Pages;
 use crate::table_rows::TableRows;
 use arrayvec::ArrayVec;
@@ -73,6 +76,28 @@ pub trait KeyIndex {
         ensures inside { IfOk result (λ slot. IfSome slot (λ slot. slot < slots_of (S.view pages.old.store).shape)) }
         ensures dead { IsErrOf result PageFault.Dead → pages.new ≡ pages.old };
 
+    /// The slot of a key of a table, if its index has the key, and else the place where it goes, for an insertion that comes right behind. It
+    /// reads just what `find` does.
+    fn find_place<S: EawStore>(
+        pages: &mut Pages<S>,
+        root: u32,
+        table: u8,
+        key: u64,
+    ) -> Result<Sought, PageFault>
+        requires table { table < 8 }
+        requires root { root < page_count (S.view pages.old.store).shape }
+        requires sound { IsTrue S.tells → IsAlive (S.view pages.old.store) → index.sound (S.view pages.old.store).state.bytes }
+        requires named { IsTrue S.tells → IsAlive (S.view pages.old.store) → IsTable (S.view pages.old.store).state.bytes table root }
+        ensures looks { Looks S.tells (S.opens (S.view pages.old.store).shape) (is_failed result)
+            (pages_of (S.view pages.old.store) pages.old) (pages_of (S.view pages.new.store) pages.new) }
+        ensures cause { LookCause S.tells (S.view pages.old.store) result }
+        ensures follows { Follows S.tells (S.calls pages.old.store) (S.calls pages.new.store) (index.finding root key) slot_sought
+            (S.view pages.old.store) (S.view pages.new.store) result }
+        ensures found { IsTrue S.tells → IfOk result (λ sought. slot_sought sought ≡ found (index.pairs (S.view pages.old.store).state.bytes root) key) }
+        ensures place { IsTrue S.tells → IfOk result (IsSoughtFor index (S.view pages.old.store).state.bytes root key) }
+        ensures inside { IfOk result (IsSoughtIn (S.view pages.old.store).shape) }
+        ensures dead { IsErrOf result PageFault.Dead → pages.new ≡ pages.old };
+
     /// The pairs of a table that come next from the key `from` on, one after another, as far as one page has them: none only if the table has
     /// none from there on.
     fn next_pairs<S: EawStore>(
@@ -97,12 +122,16 @@ pub trait KeyIndex {
     /// Inserts a key that is not there, as number `tid`, and returns its slot: the first free one, or the next if none is free. It is then
     /// absent and carries the key. Splits of full pages come first, each a nested top action of its own, and take free pages first. They
     /// stay if the insertion is refused after them.
+    ///
+    /// It reads the super page, the pages on the way of the key, each once, and the first of a list of what is free for each page and slot that it
+    /// takes from one. With a place, at which the data is still what it was when that was found, it reads no page of the way.
     fn insert<S: EawStore>(
         pages: &mut Pages<S>,
         tid: u8,
         root: u32,
         table: u8,
         key: u64,
+        place: Option<LeafPage>,
     ) -> Result<u32, IndexFault>
         requires tid { tid < (S.view pages.old.store).shape.numbers }
         requires table { table < 8 }
@@ -111,13 +140,20 @@ pub trait KeyIndex {
         requires sound { IsTrue S.tells → IsAlive (S.view pages.old.store) → index.sound (S.view pages.old.store).state.bytes }
         requires named { IsTrue S.tells → IsAlive (S.view pages.old.store) → IsTable (S.view pages.old.store).state.bytes table root }
         requires absent { IsTrue S.tells → IsAlive (S.view pages.old.store) → found (index.pairs (S.view pages.old.store).state.bytes root) key ≡ None }
+        requires place { IfSome place (λ leaf. IsPlaceIn (S.view pages.old.store).shape leaf.page leaf.pairs.items) }
+        requires fits { IsTrue S.tells → IsAlive (S.view pages.old.store)
+            → IfSome place (λ leaf. index.fits (S.view pages.old.store).state.bytes root key leaf.page leaf.link leaf.pairs.items) }
         ensures inserts { Inserts S.tells (S.opens (S.view pages.old.store).shape) index tid root table key
             (pages_of (S.view pages.old.store) pages.old) (pages_of (S.view pages.new.store) pages.new) result }
+        ensures works { Works (IsTrue S.tells) S.tells (is_done result) S.view S.calls tid (index.finding root key).goes
+            (insertion_limits (is_some place) (index.finding root key) (S.view pages.old.store).shape) (index.actions (S.view pages.old.store).state.bytes root key)
+            (blamed_index result) (S.view pages.old.store) (S.view pages.new.store) }
         ensures dead { IsErrOf result IndexFault.Dead → pages.new ≡ pages.old };
 
     /// Takes out the pair of a key, whose slot is absent, as number `tid`, and frees the slot. A page that would be left without pairs is
     /// freed too, or it keeps its last pair: `false` is returned exactly then, and nothing is changed. All of it is one nested top action of
-    /// at most five parts. What is free is kept from version 2 on.
+    /// at most five parts. What is free is kept from version 2 on. It reads the super page, the pages on the way of the key, each once, and at most
+    /// one page beside them.
     fn remove<S: EawStore>(
         pages: &mut Pages<S>,
         tid: u8,
@@ -135,6 +171,9 @@ pub trait KeyIndex {
         requires absent { IsTrue S.tells → IsAlive (S.view pages.old.store) → HasAbsent index root table key (S.view pages.old.store).state.bytes }
         ensures removes { Removes S.tells (S.opens (S.view pages.old.store).shape) index tid root key
             (pages_of (S.view pages.old.store) pages.old) (pages_of (S.view pages.new.store) pages.new) result }
+        ensures works { Works (Unit {0}) S.tells (is_done result) S.view S.calls tid (index.finding root key).goes
+            (removal_limits (index.finding root key) (S.view pages.old.store).shape) (removal_actions (index.removal (S.view pages.old.store).state.bytes root key))
+            (blamed result) (S.view pages.old.store) (S.view pages.new.store) }
         ensures dead { IsErrOf result PageFault.Dead → pages.new ≡ pages.old };
 
     /// Keys of a table rise strictly.

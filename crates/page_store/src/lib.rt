@@ -8,6 +8,7 @@ mod fault;
 mod index;
 mod index_fault;
 mod laws;
+mod leaf_page;
 mod marks;
 mod pages;
 mod room;
@@ -20,6 +21,7 @@ pub use laws::{
     a_top_is_one_write, a_write_is_seen, back_restores, commands_are_the_stores, commands_keep,
     others_stay, parts_are_read, top_end_keeps_views, writes_edit_exactly,
 };
+pub use leaf_page::{LeafPage, Sought};
 pub use marks::SAVES_MAX;
 pub use pages::Pages;
 pub use room::SaveRoom;

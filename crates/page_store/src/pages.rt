@@ -1,5 +1,5 @@
 // Pages over a store of editable atomic writes.
-ghost use Rattle.std.specs.Prelude.{◌≡◌, ◌≢◌, ◌↔◌, ◌+◌, ◌^◌, ◌<◌, ◌≤◌, ℕ, [], true, List, None, Some, is_some, filter, if◌then◌else◌, IsTrue, IsOk, IfOk, IfErr, OnErr, OnOk, IsErrOf, length};
+ghost use Rattle.std.specs.Prelude.{◌≡◌, ◌≢◌, ◌↔◌, ◌+◌, ◌^◌, ◌<◌, ◌≤◌, ℕ, [], true, List, None, Some, is_some, slice_index_or, filter, if◌then◌else◌, IsTrue, IsOk, IfOk, IfErr, OnErr, OnOk, IsErrOf, length};
 ghost use Rattle.std.specs.Option.{option_map};
 ghost use Rattle.mars_base.specs.Bytes.{put, range};
 ghost use Rattle.mars_base.specs.Costs.{Costs};
@@ -11,6 +11,7 @@ ghost use Rattle.eaw_face.specs.Command.{Command, commit, abort, nested_top, par
 ghost use Rattle.eaw_face.specs.Command as model;
 ghost use Rattle.eaw_face.specs.State.{listed, group_log, is_one_of, with_each, part_at, range_at};
 ghost use Rattle.eaw_face.specs.StoreView.{log_len};
+ghost use Rattle.eaw_face.specs.Mirroring.{GivesUp};
 ghost use Rattle.page_store.specs.Command.{write_as, save, back, top_begin, top_end, end, end_group, atomic_write, read_as, read};
 ghost use Rattle.page_store.specs.Device.{device, device_cost};
 ghost use Rattle.page_store.specs.Does.{Becomes, Does};
@@ -120,6 +121,28 @@ impl<S: EawStore> Pages<S> {
         ensures ordered { IsAlive (S.view self.now.store) → IsOrdered (outline_of (pages_of (S.view self.now.store) self.now)) }
     {
         self.store.is_dead()
+    }
+
+    /// The oldest frame that the store below has sent and not yet given up. It is empty if there is none.
+    pub fn first_frame(&self) -> &[u8]
+        ensures { IsTrue (S.view self.now.store).sending.told → result.now ≡ slice_index_or (S.view self.now.store).sending.frames 0 [] }
+    {
+        self.store.first_frame()
+    }
+
+    /// Gives that frame up. If there is none, it does nothing.
+    pub fn drop_frame(&mut self)
+        ensures gives_up { GivesUp (S.view self.old.store) (S.view self.new.store) }
+        ensures marks { self.new.marks ≡ self.old.marks }
+    {
+        self.store.drop_frame();
+    }
+
+    /// Whether the sending of frames has ended.
+    pub fn link_down(&self) -> bool
+        ensures { result ≡ (S.view self.now.store).sending.is_down }
+    {
+        self.store.link_down()
     }
 
     /// Fills the buffer with committed data of a page, from byte `at` of the page on.

@@ -38,6 +38,13 @@ impl TableRows {
         Ok(())
     }
 
+    /// Those of each table.
+    pub fn into_rows(self) -> Vec<Rows>
+        ensures { result.items ≡ self }
+    {
+        self.tables
+    }
+
     /// Those of the first table, if there is one.
     pub fn into_first(self) -> Option<Rows>
         ensures { result ≡ slice_get self 0 }

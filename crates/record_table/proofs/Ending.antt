@@ -1,6 +1,6 @@
 -- Calls on records that are one call of pages: saves, ways back and ends.
 use Rattle.std.proofs.Common.{◌≡◌, ◌≢◌, ℕ, ◌-◌, ◌+◌, ◌<◌, ◌≤◌, ◌⊎◌, Bool, true, false, inl, inr, IsTrue, List, [], ◌∷◌, ◌++◌, length, take, Result, Ok, Err, ◌&&◌, nat_le, refl, sym, ◌∙◌, ap, subst, arith, lt-ltb, le-leb}
-use Rattle.std.specs.Prelude.{Some, map, IfOk, IfErr, OnErr}
+use Rattle.std.specs.Prelude.{None, map, IfOk, IfErr, OnOk, OnErr}
 use Rattle.std.proofs.lemmas.Bool.{false≢true}
 use Rattle.std.proofs.lemmas.List.{length-append, length-take-le, length-map}
 use Rattle.mars_base.proofs.Going.{stays, weaker}
@@ -43,6 +43,7 @@ use Rattle.record_table.proofs.Doing.{does_dead, holds_dead, holds_same, indexed
 use Rattle.record_table.proofs.Sharing.{Laws}
 use Rattle.record_table.proofs.SlotParts.{applied_parts}
 use Rattle.record_table.proofs.States.{shown_save, shown_back, shown_commit, shown_abort, parts_back, parts_abort, parts_commit}
+use Rattle.eaw_face.proofs.Mirroring.{none_sent}
 
 -- only a fault of the medium is told as one
 pub media_told : {T : Type 0} (r : Result T PageFault) (s : Result T TableFault) → s ≡ told_as r → s ≡ Err refusal.Media → r ≡ Err fault.Media
@@ -94,6 +95,7 @@ module _ (tells : Bool) (Opens : List ℕ → List ℕ → Type 0) (index : Inde
       let now = λ (told : IsTrue tells). does.done.state told in (
         record {
           shape = does.shape;
+          mirrors = does.mirrors;
           cause = (alive, is.may_save does.cause.1, λ told. is.fits);
           faults = λ _. (does.done.alive ∙ sym alive, does.kept);
           dies = λ failed. absurd (false≢true failed);
@@ -121,6 +123,7 @@ module _ (tells : Bool) (Opens : List ℕ → List ℕ → Type 0) (index : Inde
       let is = call alive in (
         record {
           shape = does.shape;
+          mirrors = does.mirrors;
           cause = alive;
           faults = λ well. absurd (false≢true (sym well));
           dies = λ _. (does.dies refl, does.cause.2);
@@ -143,6 +146,7 @@ module _ (tells : Bool) (Opens : List ℕ → List ℕ → Type 0) (index : Inde
       let alive = does.cause.0 in (
         subst (λ (v : PagesView). Does tells Opens index table t c old v (Err SavesFull)) (sym e) (record {
           shape = refl;
+          mirrors = none_sent tells old.store old.store refl refl (λ fine. fine) (λ told mirrors fine. refl);
           cause = (alive, (call alive).saved_out does.cause.1);
           faults = λ _. (refl, refl);
           dies = λ failed. absurd (false≢true failed);
@@ -161,6 +165,13 @@ module _ (tells : Bool) (Opens : List ℕ → List ℕ → Type 0) (index : Inde
       )
   ends (Err (fault.LogFull g h n)) does same right = absurd ((call does.cause.0).no_log g h n does.cause.1)
   ends (Err (fault.Damaged bad)) does same right = absurd does.cause
+
+-- a number that has ended is free
+pub freed : (tells : Bool) (Opens : List ℕ → List ℕ → Type 0) (t : ℕ) (commits : Bool) (old new : PagesView) (r : Result (Unit {0}) PageFault) (s : Result (Unit {0}) TableFault)
+    → page_does.Does tells Opens (page.end t commits) old new r → s ≡ told_as r → OnOk s (new.store.ranges t ≡ None)
+freed tells Opens t commits old new (Ok answer) s does is =
+    subst (λ (x : Result (Unit {0}) TableFault). OnOk x (new.store.ranges t ≡ None)) (sym is) (ap (λ (o : Outline). o.ranges t) does.done.outline ∙ with_here old.store.ranges t None)
+freed tells Opens t commits old new (Err fault) s does is = subst (λ (x : Result (Unit {0}) TableFault). OnOk x (new.store.ranges t ≡ None)) (sym is) tt
 
 -- what holds of every answer
 pub always : {T E P : Type 0} (r : Result T E) → P → IfOk r (λ answer. P)

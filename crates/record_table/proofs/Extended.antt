@@ -1,14 +1,14 @@
 -- Data of version 2 once a table was made: an empty root in the page that was next, and a super page that names it.
-use Rattle.std.proofs.Common.{◌≡◌, ◌≢◌, ℕ, zero, suc, ◌+◌, ◌-◌, ◌*◌, ◌/◌, ◌<◌, ◌≤◌, ◌⊎◌, inl, inr, IsTrue, List, [], ◌∷◌, ◌++◌, length, map, take, Option, Some, None, refl, sym, ◌∙◌, ap, subst, arith}
+use Rattle.std.proofs.Common.{◌≡◌, ◌≢◌, ℕ, zero, suc, ◌+◌, ◌-◌, ◌*◌, ◌/◌, ◌<◌, ◌≤◌, ◌⊎◌, inl, inr, IsTrue, List, [], ◌∷◌, ◌++◌, length, map, Option, Some, None, refl, sym, ◌∙◌, ap, subst, arith}
 use Rattle.std.specs.Prelude.{nat_eq, if◌then◌else◌, slice_get}
 use Rattle.std.specs.Option.{option_map}
 use Rattle.mars_base.specs.Bytes.{range, put}
 use Rattle.mars_base.proofs.Puts.{length-put}
 use Rattle.pcm_media.proofs.Ranges.{range-put}
-use Rattle.array_shape.specs.Logged.{Part, applied}
+use Rattle.array_shape.specs.Logged.{applied}
 use Rattle.record_slots.specs.Fresh.{fresh_page, fresh_root}
 use Rattle.record_slots.specs.IndexHead.{index_head_said}
-use Rattle.record_slots.specs.Names.{names_in, with_last, with_entries}
+use Rattle.record_slots.specs.Names.{with_last, with_entries}
 use Rattle.record_slots.specs.Super.{SaysSuper, HasTables, super_bytes, tables_in, tables_used, tables_said}
 use Rattle.record_slots.specs.Places.{page_bytes, slot_of, next_slot, next_page, tables_of, root_of, version_of, first_slot_page, free_slot, free_page, free_slots, free_pages}
 use Rattle.record_slots.specs.declared.super_page.Super.{Super}
@@ -17,7 +17,7 @@ use Rattle.page_store.specs.Index.{Index, IsTable, IsEmptyRoot, HasCounts, Exten
 use Rattle.page_store.proofs.Reading.{part_missed}
 use Rattle.index_pages.proofs.Fronts.{IsWritable}
 use Rattle.record_table.specs.Making.{IsFit, with_page}
-use Rattle.record_table.specs.Shown.{found_key, in_table, pairs_from, asked_tables, level_under, table_in, table_of, pairs_of, keys_of}
+use Rattle.record_table.specs.Shown.{found_key, in_table, pairs_from, level_under, table_in, table_of, pairs_of, keys_of}
 use Rattle.record_table.specs.State.{Keys}
 use Rattle.record_table.proofs.Sharing.{Laws}
 use Rattle.record_table.proofs.SuperPages.{length-super_bytes, says_written}
@@ -43,17 +43,11 @@ root_of_last [] t = refl
 root_of_last (u ∷ ts) t = root_of_last ts t
 
 -- an empty index adds no pairs
-pairs_last : (index : Index) (d e : List ℕ) (t : TableEntry) → index.pairs e t.root ≡ [] → (n : ℕ) (ts : List TableEntry) → ((j root : ℕ) → root_in ts j ≡ Some root → index.pairs e root ≡ index.pairs d root)
-    → pairs_from index e (take n (ts ++ t ∷ [])) ≡ pairs_from index d (take n ts)
-pairs_last index d e t none zero ts same = refl
-pairs_last index d e t none (suc n) [] same =
-    (λ i. map (in_table t.name) (none i) ++ pairs_from index e (take-none n i))
-  where
-    take-none : (n : ℕ) → take {A = TableEntry} n [] ≡ []
-    take-none zero = refl
-    take-none (suc n) = refl
-pairs_last index d e t none (suc n) (u ∷ ts) same =
-    (λ i. map (in_table u.name) (same 0 u.root refl i) ++ pairs_last index d e t none n ts (λ j root is. same (suc j) root is) i)
+pairs_last : (index : Index) (d e : List ℕ) (t : TableEntry) → index.pairs e t.root ≡ [] → (ts : List TableEntry) → ((j root : ℕ) → root_in ts j ≡ Some root → index.pairs e root ≡ index.pairs d root)
+    → pairs_from index e (ts ++ t ∷ []) ≡ pairs_from index d ts
+pairs_last index d e t none [] same = (λ i. map (in_table t.name) (none i) ++ [])
+pairs_last index d e t none (u ∷ ts) same =
+    (λ i. map (in_table u.name) (same 0 u.root refl i) ++ pairs_last index d e t none ts (λ j root is. same (suc j) root is) i)
 
 empty_leaf : index_head_said (fresh_page 1) ≡ fresh_root
 unfolding index_head_said
@@ -206,8 +200,8 @@ module _ (index : Index) (laws : Laws index) (d : List ℕ) (front after : Super
   pairs_same : pairs_of index e ≡ pairs_of index d
   unfolding pairs_of
   pairs_same =
-      ap (λ (ts : List TableEntry). pairs_from index e (take asked_tables ts)) tables_more
-      ∙ pairs_last index d e new last_empty.0 asked_tables (tables_of d) (λ j root is. (its_laws.1 j root is).0)
+      ap (pairs_from index e) tables_more
+      ∙ pairs_last index d e new last_empty.0 (tables_of d) (λ j root is. (its_laws.1 j root is).0)
 
   records_same : table_of index e ≡ table_of index d
   unfolding table_of

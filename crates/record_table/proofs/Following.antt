@@ -14,9 +14,10 @@ use Rattle.page_store.specs.Records.{value_of}
 use Rattle.page_store.specs.Shown.{PagesView}
 use Rattle.record_table.specs.Invariant.{Holds}
 use Rattle.record_table.specs.Removing.{HasNoAbsent, IsNextAbsent, ComesNext}
-use Rattle.record_table.specs.Shown.{found_key, table_of, asked_tables, pairs_of}
+use Rattle.record_table.specs.Shown.{found_key, table_of, pairs_of}
+use Rattle.record_table.specs.Names.{IsCalled}
 use Rattle.record_table.specs.declared.scanning.Next.{Next}
-use Rattle.history.specs.Key.{of_main}
+use Rattle.history.specs.Key.{of_table}
 use Rattle.record_table.proofs.Joint.{rise_bounds}
 use Rattle.record_table.proofs.Looking.{looks_as}
 use Rattle.record_table.proofs.Lost.{found_below}
@@ -74,28 +75,28 @@ first_from low high from key slot (p ∷ ps) rise is = elim (cases_Bool (nat_le 
       }
 ]
 
-module _ (index : Index) (laws : Laws index) (table root from : ℕ) (asked : table < asked_tables) (d : List ℕ) (sound : index.sound d) (named : IsTable d table root) where
-  in_table_too : (k : ℕ) → found (index.pairs d root) k ≡ None → found_key (pairs_of index d) (of_main k) ≡ None
-  in_table_too k none = found_in index laws d table root k sound asked named ∙ none
+module _ (index : Index) (laws : Laws index) (table root from : ℕ) (name : List ℕ) (d : List ℕ) (called : IsCalled d table name) (sound : index.sound d) (named : IsTable d table root) where
+  in_table_too : (k : ℕ) → found (index.pairs d root) k ≡ None → found_key (pairs_of index d) (of_table name k) ≡ None
+  in_table_too k none = found_in index laws d table root k name sound called named ∙ none
 
   -- the table has no further key
-  pub comes_none : next (index.pairs d root) from ≡ None → ComesNext index d from None
+  pub comes_none : next (index.pairs d root) from ≡ None → ComesNext index d name from None
   comes_none none k le small = in_table_too k (none_from (index.pairs d root) from none k le)
 
   module _ (key slot : ℕ) (is : next (index.pairs d root) from ≡ Some (key, slot)) where
     pub it : IsFirst (index.pairs d root) (2 ^ 64) from key slot
     it = first_from 0 (2 ^ 64) from key slot (index.pairs d root) (laws.rises d table root sound named) is
 
-    here : found_key (pairs_of index d) (of_main key) ≡ Some slot
-    here = found_in index laws d table root key sound asked named ∙ it.has
+    here : found_key (pairs_of index d) (of_table name key) ≡ Some slot
+    here = found_in index laws d table root key name sound called named ∙ it.has
 
-    record_is : get (table_of index d) (of_main key) ≡ value_of (slot_said (slot_of d slot))
+    record_is : get (table_of index d) (of_table name key) ≡ value_of (slot_said (slot_of d slot))
     unfolding table_of
-    record_is = get-table_in d (pairs_of index d) (of_main key) ∙ ap (record_at d) here
+    record_is = get-table_in d (pairs_of index d) (of_table name key) ∙ ap (record_at d) here
 
     -- its next key, with what its slot says
-    pub comes_some : (said : Option Slot) → said ≡ slot_said (slot_of d slot) → (from ≤ key) × IsSome (found_key (pairs_of index d) (of_main key)) × (get (table_of index d) (of_main key) ≡ value_of said)
-        × ((k : ℕ) → from ≤ k → k < key → found_key (pairs_of index d) (of_main k) ≡ None)
+    pub comes_some : (said : Option Slot) → said ≡ slot_said (slot_of d slot) → (from ≤ key) × IsSome (found_key (pairs_of index d) (of_table name key)) × (get (table_of index d) (of_table name key) ≡ value_of said)
+        × ((k : ℕ) → from ≤ k → k < key → found_key (pairs_of index d) (of_table name k) ≡ None)
     comes_some said read = (it.le, subst (λ (o : Option ℕ). IsSome o) (sym here) refl, record_is ∙ ap value_of (sym read), λ k le lt. in_table_too k (it.none k le lt))
 
     -- a pair's slot says something
@@ -110,23 +111,23 @@ not_there : (o : Option ℕ) → o ≡ None → IsSome o → ⊥
 not_there None none some = absurd (cc)
 not_there (Some slot) none some = absurd (cc)
 
-module _ (index : Index) (d : List ℕ) (from low : ℕ) (before : HasNoAbsent index d from low) where
+module _ (index : Index) (d : List ℕ) (name : List ℕ) (from low : ℕ) (before : HasNoAbsent index d name from low) where
   -- none is absent up to a key before which there is none
-  none_to : (to : ℕ) → ((k : ℕ) → low ≤ k → k < to → found_key (pairs_of index d) (of_main k) ≡ None) → HasNoAbsent index d from to
-  none_to to none k le lt is = elim (cases_lt k low) [ inl less ↦ before k le less is | inr more ↦ not_there (found_key (pairs_of index d) (of_main k)) (none k (omega (arith, more)) lt) is.0 ]
+  none_to : (to : ℕ) → ((k : ℕ) → low ≤ k → k < to → found_key (pairs_of index d) (of_table name k) ≡ None) → HasNoAbsent index d name from to
+  none_to to none k le lt is = elim (cases_lt k low) [ inl less ↦ before k le less is | inr more ↦ not_there (found_key (pairs_of index d) (of_table name k)) (none k (omega (arith, more)) lt) is.0 ]
 
-  pub none_left : ComesNext index d low None → HasNoAbsent index d from (2 ^ 64)
+  pub none_left : ComesNext index d name low None → HasNoAbsent index d name from (2 ^ 64)
   none_left none = none_to (2 ^ 64) none
 
-  module _ (next : Next) (comes : ComesNext index d low (Some next)) where
+  module _ (next : Next) (comes : ComesNext index d name low (Some next)) where
     -- the next key is the first that is absent, if it has no record
-    pub first_absent : from ≤ low → next.value ≡ None → IsNextAbsent index d from (Some next.key)
+    pub first_absent : from ≤ low → next.value ≡ None → IsNextAbsent index d name from (Some next.key)
     first_absent le none = (omega (arith, le, comes.0), (comes.1, comes.2 ∙ none), none_to next.key comes.3)
 
     -- and otherwise none is absent up to it
-    pub none_past : IsSome next.value → HasNoAbsent index d from (suc next.key)
+    pub none_past : IsSome next.value → HasNoAbsent index d name from (suc next.key)
     none_past some k le lt is = elim (cases_eq k next.key) [
-      | inl same ↦ has_record (next.value) some (sym comes.2 ∙ ap (λ (x : ℕ). get (table_of index d) (of_main x)) (sym same) ∙ is.1)
+      | inl same ↦ has_record (next.value) some (sym comes.2 ∙ ap (λ (x : ℕ). get (table_of index d) (of_table name x)) (sym same) ∙ is.1)
       | inr ne ↦ none_to next.key comes.3 k le (omega (arith, lt, ne)) is
     ]
       where

@@ -1,6 +1,6 @@
 -- A commit of several numbers, as one call of pages.
 use Rattle.std.proofs.Common.{◌≡◌, ◌≢◌, ℕ, ◌⊎◌, Bool, true, false, cond, inl, inr, IsTrue, List, [], ◌∷◌, ◌++◌, length, map, Result, Ok, Err, refl, sym, ◌∙◌, ap, subst, arith}
-use Rattle.std.specs.Prelude.{None, OnOk, IfOk, flat_map}
+use Rattle.std.specs.Prelude.{None, flat_map}
 use Rattle.std.specs.Option.{option_map}
 use Rattle.std.proofs.lemmas.Bool.{false≢true}
 use Rattle.std.proofs.lemmas.List.{length-append}
@@ -25,16 +25,17 @@ use Rattle.page_store.specs.declared.fault.PageFault.TheVariants as fault
 use Rattle.record_table.specs.Does.{OpensWith}
 use Rattle.record_table.specs.Faults.{told_as}
 use Rattle.record_table.specs.Groups.{group_writes, after_group, CommitsGroup}
-use Rattle.record_table.specs.Invariant.{AreSlotParts, Rests, Holds}
+use Rattle.record_table.specs.Invariant.{AreSlotParts, Holds}
 use Rattle.record_table.specs.Shown.{table_of, write_of, writes_of, state_of, shown_by, keys_of}
 use Rattle.record_table.specs.State.{TableState}
 use Rattle.record_table.specs.declared.fault.TableFault.{TableFault}
 use Rattle.record_table.specs.declared.fault.TableFault.TheVariants.{Dead}
 use Rattle.record_table.proofs.Ending.{no_parts}
 use Rattle.record_table.proofs.Holding.{as_many_writes}
-use Rattle.record_table.proofs.Sharing.{Laws}
+use Rattle.record_table.proofs.Sharing.{Laws, called_same}
 use Rattle.record_table.proofs.SlotParts.{IsWritten, applied_parts, parts_carry}
 use Rattle.record_table.proofs.States.{logs_same}
+use Rattle.eaw_face.proofs.Mirroring.{none_sent}
 
 parts_append : (index : Index) (d : List ℕ) (ps qs : List Part) → AreSlotParts index d ps → AreSlotParts index d qs → AreSlotParts index d (ps ++ qs)
 parts_append index d [] qs one other = other
@@ -62,7 +63,7 @@ module _ (index : Index) (laws : Laws index) (s : PagesState) (ts : List ℕ) (s
     where
       go : (b : Bool) → AreSlotParts index (applied (group_log s.store.logs ts) s.store.bytes) (listed (cond b None (s.store.logs u)))
       go true = tt
-      go false = parts_carry index laws s.store.bytes (applied (group_log s.store.logs ts) s.store.bytes) sound group_written.sound group_written.pairs group_written.size (log_of s u) (parts u)
+      go false = parts_carry index laws s.store.bytes (applied (group_log s.store.logs ts) s.store.bytes) (called_same s.store.bytes (applied (group_log s.store.logs ts) s.store.bytes) group_written.tables) group_written.pairs group_written.size (log_of s u) (parts u)
 
   group_logs : (λ (u : ℕ). let log : Log = record { writes = writes_of s.store.bytes (listed (with_each s.store.logs ts None u)); saved = map (writes_of s.store.bytes) (with_each s.saved ts [] u) } in log)
       ≡ with_each (λ (u : ℕ). let log : Log = record { writes = writes_of s.store.bytes (log_of s u); saved = map (writes_of s.store.bytes) (s.saved u) } in log) ts (record { writes = []; saved = [] })
@@ -130,6 +131,7 @@ module _ (tells : Bool) (Opens : List ℕ → List ℕ → Type 0) (index : Inde
       let now = λ (told : IsTrue tells). does.done.state told in (
         record {
           shape = does.shape;
+          mirrors = does.mirrors;
           cause = alive;
           faults = λ _. (does.done.alive ∙ sym alive, does.kept);
           dies = λ failed. absurd (false≢true failed);
@@ -158,6 +160,7 @@ module _ (tells : Bool) (Opens : List ℕ → List ℕ → Type 0) (index : Inde
       let alive = does.cause.0 in (
         record {
           shape = does.shape;
+          mirrors = does.mirrors;
           cause = alive;
           faults = λ well. absurd (false≢true (sym well));
           dies = λ _. (does.dies refl, does.cause.2);
@@ -176,6 +179,7 @@ module _ (tells : Bool) (Opens : List ℕ → List ℕ → Type 0) (index : Inde
   group_ends (Err fault.Dead) does same = let e = same fault.Dead refl (λ x. cc) in (
     subst (λ (v : PagesView). CommitsGroup tells Opens index ts old v (let r : Result (Unit {0}) TableFault = Err Dead in r)) (sym e) (record {
       shape = refl;
+      mirrors = none_sent tells old.store old.store refl refl (λ fine. fine) (λ told mirrors fine. refl);
       cause = does.cause;
       faults = λ _. (refl, refl);
       dies = λ failed. absurd (false≢true failed);

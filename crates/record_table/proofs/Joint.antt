@@ -1,16 +1,17 @@
--- The pairs of the tables that can be asked for, under their keys: those of the table `main`.
+-- The pairs of all tables, under their keys.
 use Rattle.std.proofs.Common.{◌≡◌, ◌≢◌, ◌^◌, ℕ, zero, suc, ◌+◌, ◌<◌, ◌≤◌, ◌⊎◌, Bool, true, false, cond, inl, inr, ◌&&◌, List, [], ◌∷◌, ◌++◌, refl, sym, ◌∙◌, ap, subst, arith}
-use Rattle.std.specs.Prelude.{nat_eq, nat_lt, map, take, slice_get, Option, Some, None, IsTrue}
+use Rattle.std.specs.Prelude.{nat_eq, nat_lt, map, slice_get, Option, Some, None, IsTrue}
 use Rattle.std.specs.Option.{option_map}
-use Rattle.std.proofs.lemmas.Bool.{cases_eq, cases_Bool, eq-eqb, ne_eqb}
-use Rattle.std.proofs.lemmas.List.{append-nil}
+use Rattle.std.proofs.lemmas.Bool.{cases_eq, cases_Bool, eq-eqb, ne_eqb, false_from_ne_true}
 use Rattle.record_slots.specs.Places.{page_bytes, version_of, tables_of}
-use Rattle.record_slots.specs.Super.{main_table, tables_in, tables_said, tables_used, entries_said, version_said, AreTables, IsMain}
+use Rattle.record_slots.specs.Super.{main_table, tables_in, tables_said, tables_used, entries_said, IsMain}
 use Rattle.record_slots.specs.declared.super_page.TableEntry.{TableEntry}
-use Rattle.history.specs.Key.{Key, main_name, of_main, is_same_key, is_of_table}
+use Rattle.history.specs.declared.key.Key.{Key}
+use Rattle.history.specs.Key.{of_table, is_same_key, is_of_table}
+use Rattle.history.proofs.Keys.{name_decides}
 use Rattle.page_store.specs.Index.{Index, HasCounts}
 use Rattle.page_store.specs.Pairs.{Pair, Rise, found, inserted}
-use Rattle.record_table.specs.Shown.{KeyPair, found_key, in_table, pairs_from, pairs_of, asked_tables}
+use Rattle.record_table.specs.Shown.{KeyPair, found_key, in_table, pairs_from}
 
 -- the root of a table among these
 abbrev pub root_in : List TableEntry → ℕ → Option ℕ
@@ -51,18 +52,103 @@ main_first d counts = by_version (version_of d) refl
           ∙ is_it (slice_get (tables_used (entries_said (page_bytes d 0))) 0) (counts.tables (omega (arith, is, other, counts.oldest, counts.newest))).1.main
     ]
 
--- so those are its pairs
-pub main_pairs : (index : Index) (d : List ℕ) → HasCounts d → pairs_of index d ≡ map (in_table main_name) (index.pairs d 1)
-unfolding pairs_of
-main_pairs index d counts = go (tables_of d) (main_first d counts)
-  where
-    go : (tables : List TableEntry) → slice_get tables 0 ≡ Some main_table → pairs_from index d (take asked_tables tables) ≡ map (in_table main_name) (index.pairs d 1)
-    go [] none = absurd (cc)
-    go (entry ∷ entries) has = append-nil (map (in_table entry.name) (index.pairs d entry.root)) ∙ (let here : entry ≡ main_table = cc in ap (λ (e : TableEntry). map (in_table e.name) (index.pairs d e.root)) here)
+-- no two tables have one name
+abbrev pub AreApart : List TableEntry → Type 0
+AreApart tables = (i j : ℕ) (one two : TableEntry) → i < j → slice_get tables i ≡ Some one → slice_get tables j ≡ Some two → one.name ≢ two.name
 
--- what is found under a key
-pub found_main : (index : Index) (d : List ℕ) → HasCounts d → (q : Key) → found_key (pairs_of index d) q ≡ cond (is_of_table main_name q) (found (index.pairs d 1) q.key) None
-found_main index d counts q = ap (λ (l : List KeyPair). found_key l q) (main_pairs index d counts) ∙ found_named main_name (index.pairs d 1) q
+-- so it is with the tables of sound data
+pub tables_apart : (d : List ℕ) → HasCounts d → AreApart (tables_of d)
+unfolding tables_said
+tables_apart d counts = by_version (version_of d) refl
+  where
+    alone : AreApart (main_table ∷ [])
+    alone i zero one two lt x y = absurd (omega (arith, lt))
+    alone i (suc j) one two lt x y = absurd (cc)
+
+    by_version : (version : ℕ) → version_of d ≡ version → AreApart (tables_in version (entries_said (page_bytes d 0)))
+    by_version version is = elim (cases_eq version 1) [
+      | inl one ↦ subst (λ (v : ℕ). AreApart (tables_in v (entries_said (page_bytes d 0)))) (sym one) alone
+      | inr other ↦
+          subst (λ (b : Bool). AreApart (cond b (main_table ∷ []) (tables_used (entries_said (page_bytes d 0))))) (sym (ne_eqb version 1 other))
+          (λ i j one two lt x y. ((counts.tables (omega (arith, is, other, counts.oldest, counts.newest))).1.other j i one two lt x y).0)
+    ]
+
+rest_apart : (entry : TableEntry) (entries : List TableEntry) → AreApart (entry ∷ entries) → AreApart entries
+rest_apart entry entries apart i j one two lt x y = apart (suc i) (suc j) one two (omega (arith, lt)) x y
+
+-- the first of two, or else the second
+abbrev or_else : Option ℕ → Option ℕ → Option ℕ
+or_else None other = other
+or_else (Some x) other = Some x
+
+or_none : (o : Option ℕ) → or_else o None ≡ o
+or_none None = refl
+or_none (Some x) = refl
+
+found_append : (ps qs : List KeyPair) (q : Key) → found_key (ps ++ qs) q ≡ or_else (found_key ps q) (found_key qs q)
+found_append [] qs q = refl
+found_append (p ∷ ps) qs q = go (is_same_key p.0 q) (found_append ps qs q)
+  where
+    go : (b : Bool) → found_key (ps ++ qs) q ≡ or_else (found_key ps q) (found_key qs q) → cond b (Some p.1) (found_key (ps ++ qs) q) ≡ or_else (cond b (Some p.1) (found_key ps q)) (found_key qs q)
+    go true rest = refl
+    go false rest = rest
+
+-- what is found among the pairs of some tables
+found_first : (index : Index) (d : List ℕ) (q : Key) (entry : TableEntry) (entries : List TableEntry)
+    → found_key (pairs_from index d (entry ∷ entries)) q ≡ or_else (cond (is_of_table entry.name q) (found (index.pairs d entry.root) q.key) None) (found_key (pairs_from index d entries) q)
+found_first index d q entry entries =
+    found_append (map (in_table entry.name) (index.pairs d entry.root)) (pairs_from index d entries) q
+    ∙ ap (λ (o : Option ℕ). or_else o (found_key (pairs_from index d entries) q)) (found_named entry.name (index.pairs d entry.root) q)
+
+-- a key that is found is one of a table
+pub record FoundIn (index : Index) (d : List ℕ) (q : Key) (slot : ℕ) (tables : List TableEntry) : Type 0 where
+  pub number : ℕ
+  pub entry : TableEntry
+  pub there : slice_get tables number ≡ Some entry
+  pub named : entry.name ≡ q.table
+  pub has : found (index.pairs d entry.root) q.key ≡ Some slot
+
+pub found_some : (index : Index) (d : List ℕ) (q : Key) (slot : ℕ) (tables : List TableEntry) → found_key (pairs_from index d tables) q ≡ Some slot → FoundIn index d q slot tables
+found_some index d q slot [] is = absurd (cc)
+found_some index d q slot (entry ∷ entries) is = go (λ rest. found_some index d q slot entries rest) (is_of_table entry.name q) (found (index.pairs d entry.root) q.key) refl refl (sym (found_first index d q entry entries) ∙ is)
+  where
+    later : FoundIn index d q slot entries → FoundIn index d q slot (entry ∷ entries)
+    later f = record { number = suc f.number; entry = f.entry; there = f.there; named = f.named; has = f.has }
+
+    go : (found_key (pairs_from index d entries) q ≡ Some slot → FoundIn index d q slot entries) → (b : Bool) (o : Option ℕ) → is_of_table entry.name q ≡ b → found (index.pairs d entry.root) q.key ≡ o → or_else (cond b o None) (found_key (pairs_from index d entries) q) ≡ Some slot
+        → FoundIn index d q slot (entry ∷ entries)
+    go below true (Some s) named has is = record { number = 0; entry = entry; there = refl; named = (name_decides entry.name q.table).0 named; has = has ∙ is }
+    go below true None named has is = later (below is)
+    go below false o named has is = later (below is)
+
+-- what is found for a key of a table is what its index has
+pub found_from : (index : Index) (d : List ℕ) (tables : List TableEntry) (number : ℕ) (entry : TableEntry) (key : ℕ) → AreApart tables → slice_get tables number ≡ Some entry
+    → found_key (pairs_from index d tables) (of_table entry.name key) ≡ found (index.pairs d entry.root) key
+found_from index d [] number entry key apart is = absurd (cc)
+found_from index d (first ∷ entries) zero entry key apart is =
+    found_first index d (of_table entry.name key) first entries
+    ∙ (λ i. or_else (cond (mine i) (found (index.pairs d first.root) key) None) (none (found_key (pairs_from index d entries) (of_table entry.name key)) refl i))
+    ∙ or_none (found (index.pairs d first.root) key)
+    ∙ ap (λ (e : TableEntry). found (index.pairs d e.root) key) same
+  where
+    same : first ≡ entry
+    same = cc
+
+    mine : is_of_table first.name (of_table entry.name key) ≡ true
+    mine = (name_decides first.name entry.name).1 (ap (λ (e : TableEntry). e.name) same)
+
+    none : (o : Option ℕ) → found_key (pairs_from index d entries) (of_table entry.name key) ≡ o → found_key (pairs_from index d entries) (of_table entry.name key) ≡ None
+    none None is = is
+    none (Some slot) is =
+        let f = found_some index d (of_table entry.name key) slot entries is in
+        absurd (apart 0 (suc f.number) first f.entry (omega arith) refl f.there (ap (λ (e : TableEntry). e.name) same ∙ sym f.named))
+found_from index d (first ∷ entries) (suc number) entry key apart is =
+    found_first index d (of_table entry.name key) first entries
+    ∙ ap (λ (b : Bool). or_else (cond b (found (index.pairs d first.root) key) None) (found_key (pairs_from index d entries) (of_table entry.name key))) away
+    ∙ found_from index d entries number entry key (rest_apart first entries apart) is
+  where
+    away : is_of_table first.name (of_table entry.name key) ≡ false
+    away = false_from_ne_true (is_of_table first.name (of_table entry.name key)) (λ same. apart 0 (suc number) first entry (omega arith) refl is ((name_decides first.name entry.name).0 same))
 
 -- the bounds of keys that rise
 pub rise_bounds : (low high : ℕ) (ps : List Pair) → Rise low high ps → low ≤ high

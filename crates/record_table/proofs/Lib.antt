@@ -13,9 +13,11 @@ pub mod Doing
 pub mod Ending
 pub mod Grouping
 pub mod Putting
+pub mod Rooted
 pub mod RowsOf
 pub mod Gathering
-pub mod Opened
+mod AllRows
+mod ByName
 pub mod Holding
 pub mod Fronts
 pub mod Main

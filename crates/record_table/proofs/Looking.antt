@@ -1,6 +1,5 @@
 -- Looks as a number: none, one by the index, one read, and one after another.
 use Rattle.std.proofs.Common.{◌≡◌, ◌≢◌, ℕ, Bool, false, inl, inr, List, Result, Ok, Err, refl, sym, ◌∙◌, ap, subst}
-use Rattle.std.specs.Prelude.{Some}
 use Rattle.std.proofs.lemmas.Bool.{false≢true}
 use Rattle.mars_base.specs.Causes.{Rose}
 use Rattle.mars_base.proofs.Going.{stays, then, weaker}
@@ -15,11 +14,17 @@ use Rattle.page_store.specs.Looks.{Looks, is_failed, LookCause}
 use Rattle.page_store.specs.declared.fault.PageFault.{PageFault}
 use Rattle.page_store.specs.declared.fault.PageFault.TheVariants.{LogFull, SavesFull, Media, Dead, Damaged}
 use Rattle.record_table.specs.Sought.{LooksAs}
+use Rattle.record_table.specs.Attached.{is_refused_by_media}
+use Rattle.record_table.specs.Does as answers
+use Rattle.record_table.specs.Faults.{as_table, as_attach}
+use Rattle.record_table.specs.declared.fault.TableFault.{TableFault}
+use Rattle.eaw_face.proofs.Mirroring.{none_sent, sent_then}
 
 module _ (tells : Bool) (Opens : List ℕ → List ℕ → Type 0) (t : ℕ) where
   pub looks_as : (failed : Bool) (old new : PagesView) → Looks tells Opens failed old new → LooksAs tells Opens t failed old new
   looks_as failed old new looks = record {
     shape = looks.shape;
+    mirrors = looks.mirrors;
     saves = looks.saves;
     tops = looks.tops;
     others = λ u ne i. looks.ranges i u;
@@ -31,6 +36,7 @@ module _ (tells : Bool) (Opens : List ℕ → List ℕ → Type 0) (t : ℕ) whe
   pub looks_none : (old : PagesView) → LooksAs tells Opens t false old old
   looks_none old = record {
     shape = refl;
+    mirrors = none_sent tells old.store old.store refl refl (λ fine. fine) (λ told mirrors fine. refl);
     saves = refl;
     tops = refl;
     others = λ u ne. refl;
@@ -47,6 +53,7 @@ module _ (tells : Bool) (Opens : List ℕ → List ℕ → Type 0) (t : ℕ) whe
       let was = first.same refl in
       record {
         shape = second.shape ∙ first.shape;
+        mirrors = sent_then tells old.store mid.store new.store first.mirrors second.mirrors;
         saves = second.saves ∙ first.saves;
         tops = second.tops ∙ first.tops;
         others = λ u ne. second.others u ne ∙ first.others u ne;
@@ -67,6 +74,7 @@ module _ (tells : Bool) (Opens : List ℕ → List ℕ → Type 0) (t : ℕ) whe
         let out = does.done.outline in (
           record {
             shape = does.shape;
+            mirrors = does.mirrors;
             saves = ap (λ (o : Outline). o.counts) out;
             tops = ap (λ (o : Outline). o.top) out;
             others = λ u ne i. (out i).ranges u;
@@ -82,6 +90,7 @@ module _ (tells : Bool) (Opens : List ℕ → List ℕ → Type 0) (t : ℕ) whe
     looks_read (Err Media) does same = (
       record {
         shape = does.shape;
+        mirrors = does.mirrors;
         saves = does.marks.0;
         tops = does.marks.1;
         others = λ u ne. does.others u ne;
@@ -101,3 +110,18 @@ pub looks_next : (tells : Bool) (Opens : Shape → List ℕ → List ℕ → Typ
     → LooksAs tells (Opens mid.store.shape) t failed mid new → LooksAs tells (Opens old.store.shape) t failed old new
 looks_next tells Opens t failed old mid new first second =
     looks_then tells (Opens old.store.shape) t failed old mid new first (subst (λ (s : Shape). LooksAs tells (Opens s) t failed mid new) first.shape second)
+
+-- refusals of a look, told as those of records and of an attach
+pub failed_told : (f : PageFault) → (let r : Result (Unit {0}) TableFault = Err (as_table f) in answers.is_failed r) ≡ (let r : Result (Unit {0}) PageFault = Err f in is_failed r)
+failed_told (LogFull g h n) = refl
+failed_told SavesFull = refl
+failed_told Media = refl
+failed_told Dead = refl
+failed_told (Damaged page) = refl
+
+pub failed_attach : (f : PageFault) → is_refused_by_media (as_attach f) ≡ (let r : Result (Unit {0}) PageFault = Err f in is_failed r)
+failed_attach (LogFull g h n) = refl
+failed_attach SavesFull = refl
+failed_attach Media = refl
+failed_attach Dead = refl
+failed_attach (Damaged page) = refl

@@ -1,30 +1,34 @@
 -- Data from which the pair of a key without a record was taken out: it has the same records, and all other keys.
 use Rattle.std.proofs.Common.{◌≡◌, ◌≢◌, ◌^◌, ℕ, suc, ◌+◌, ◌-◌, ◌*◌, ◌/◌, ◌<◌, ◌≤◌, Bool, true, false, cond, inl, inr, List, [], ◌∷◌, refl, sym, ◌∙◌, ap, subst, arith}
 use Rattle.std.specs.Prelude.{nat_eq, slice_get, Option, Some, None, IsSome}
-use Rattle.std.specs.Option.{option_map}
+use Rattle.std.specs.Option.{option_map, unwrap_or}
 use Rattle.std.specs.List.{list_any}
 use Rattle.std.specs.FinMap.{get}
 use Rattle.std.proofs.lemmas.Bool.{cases_eq, eq-eqb, ne_eqb, true≢false, or_parts}
 use Rattle.std.proofs.lemmas.Bool.Decides.{eqb_tells}
+use Rattle.std.proofs.lemmas.Option.{same_Some}
 use Rattle.array_shape.specs.Logged.{Part}
 use Rattle.record_slots.specs.Slots.{slot_said}
-use Rattle.record_slots.specs.Places.{slot_of, next_slot, slot_due, free_slot, free_slots, free_pages, IsOfKey, Carries}
+use Rattle.record_slots.specs.Places.{tables_of, slot_of, next_slot, slot_due, free_slot, free_slots, free_pages, IsOfKey, Carries}
+use Rattle.record_slots.specs.Names.{names_in}
 use Rattle.record_slots.specs.declared.super_page.TableEntry.{TableEntry}
 use Rattle.record_slots.specs.declared.slot.Slot.{Slot}
 use Rattle.record_slots.specs.declared.slot.Slot.TheVariants.{Absent, Present}
-use Rattle.history.specs.Key.{Key, is_same_key, of_main}
-use Rattle.history.specs.Writes.{is_of}
+use Rattle.history.specs.declared.key.Key.{Key}
+use Rattle.history.specs.Key.{is_same_key, of_table}
+use Rattle.record_table.specs.Names.{IsCalled}
+use Rattle.history.specs.Writes.{Write, is_of}
 use Rattle.history.proofs.Keys.{cases_key, same_key, other_key}
-use Rattle.history.proofs.Tables.{same_table}
+use Rattle.history.proofs.Agreeing.{same_table}
 use Rattle.page_store.specs.Index.{Index, IsTable}
 use Rattle.page_store.specs.Pairs.{Pair, Rise, found, removed}
 use Rattle.page_store.specs.Removes.{HasAbsent, Shrinks}
 use Rattle.page_store.specs.Records.{value_of}
 use Rattle.record_table.specs.Invariant.{AreSlotParts}
 use Rattle.record_table.specs.Removing.{IsKept, removal_under, Loses}
-use Rattle.record_table.specs.Shown.{found_key, table_in, table_of, write_of, writes_of, asked_tables, pairs_of, keys_of}
+use Rattle.record_table.specs.Shown.{found_key, table_in, table_of, write_of, writes_of, pairs_of, keys_of}
 use Rattle.record_table.specs.State.{LosesKey}
-use Rattle.record_table.proofs.Sharing.{Laws, Placed, placed, found_given, found_in, carries_one, level_same}
+use Rattle.record_table.proofs.Sharing.{Laws, Placed, placed, root_called, called_same, found_given, found_in, carries_one, level_same}
 use Rattle.record_table.proofs.SlotParts.{said_same, one_slot}
 use Rattle.record_table.proofs.Tables.{record_at, get-table_in}
 
@@ -73,16 +77,16 @@ some_of : (o : Option ℕ) → IsSome o → (slot : ℕ) × (o ≡ Some slot)
 some_of None some = absurd (cc)
 some_of (Some slot) some = (slot, refl)
 
-module _ (index : Index) (laws : Laws index) (table root key : ℕ) (asked : table < asked_tables) (small : key < 2 ^ 64) (d : List ℕ) (sound : index.sound d) (named : IsTable d table root) where
+module _ (index : Index) (laws : Laws index) (table root key : ℕ) (name : List ℕ) (d : List ℕ) (called : IsCalled d table name) (sound : index.sound d) (named : IsTable d table root) where
   -- a key that the indexes have, and that has no record, has an absent slot
-  pub has_absent : IsSome (found_key (pairs_of index d) (of_main key)) → get (table_of index d) (of_main key) ≡ None → HasAbsent index root table key d
+  pub has_absent : IsSome (found_key (pairs_of index d) (of_table name key)) → get (table_of index d) (of_table name key) ≡ None → HasAbsent index root table key d
   unfolding table_of Carries
   has_absent some none =
-      let it = some_of (found_key (pairs_of index d) (of_main key)) some in
-      let has : found (index.pairs d root) key ≡ Some it.0 = sym (found_in index laws d table root key sound asked named) ∙ it.1 in
+      let it = some_of (found_key (pairs_of index d) (of_table name key)) some in
+      let has : found (index.pairs d root) key ≡ Some it.0 = sym (found_in index laws d table root key name sound called named) ∙ it.1 in
       let given = found_given d table (index.pairs d root) key it.0 (laws.given d table root sound named) has in
       let value : value_of (slot_said (slot_of d it.0)) ≡ None =
-      sym (ap (record_at d) it.1) ∙ sym (get-table_in d (pairs_of index d) (of_main key)) ∙ none in
+      sym (ap (record_at d) it.1) ∙ sym (get-table_in d (pairs_of index d) (of_table name key)) ∙ none in
       (it.0, has, absent_said table key (slot_said (slot_of d it.0)) given.1 value)
 
   module _ (e : List ℕ) (slot : ℕ) (has : found (index.pairs d root) key ≡ Some slot) (shrinks : Shrinks index root key slot d e) where
@@ -92,41 +96,43 @@ module _ (index : Index) (laws : Laws index) (table root key : ℕ) (asked : tab
     named_then : (number other : ℕ) → IsTable e number other → IsTable d number other
     named_then number other is = ap (λ (ts : List TableEntry). option_map (λ entry. entry.root) (slice_get ts number)) (sym shrinks.tables) ∙ is
 
-    here : found_key (pairs_of index d) (of_main key) ≡ Some slot
-    here = found_in index laws d table root key sound asked named ∙ has
+    called_now : IsCalled e table name
+    called_now = called_same d e shrinks.tables table name called
+
+    here : found_key (pairs_of index d) (of_table name key) ≡ Some slot
+    here = found_in index laws d table root key name sound called named ∙ has
 
     found_now : (k : ℕ) → found (index.pairs e root) k ≡ cond (nat_eq key k) None (found (index.pairs d root) k)
     found_now k = ap (λ (l : List Pair). found l k) shrinks.pairs ∙ found_removed 0 (2 ^ 64) key k (index.pairs d root) (laws.rises d table root sound named)
 
-    gone : found_key (pairs_of index e) (of_main key) ≡ None
+    gone : found_key (pairs_of index e) (of_table name key) ≡ None
     gone =
-        found_in index laws e table root key shrinks.sound asked (named_now table root named) ∙ found_now key
+        found_in index laws e table root key name shrinks.sound called_now (named_now table root named) ∙ found_now key
         ∙ ap (λ (b : Bool). cond b None (found (index.pairs d root) key)) (eq-eqb key key refl)
 
-    -- no other table has this root
-    one_table : (number one s : ℕ) → Carries d number (one, s) → found (index.pairs d root) one ≡ Some s → number ≡ table
-    one_table number one s carries is = (carries_one d number table one one s carries (found_given d table (index.pairs d root) one s (laws.given d table root sound named) is).1).0
-
-    still_there : (q : Key) (s : ℕ) → q ≢ of_main key → (p : Placed index laws d q s) → found (index.pairs e p.root) p.key ≡ Some s
+    still_there : (q : Key) (s : ℕ) → q ≢ of_table name key → (p : Placed index laws d q s) → found (index.pairs e p.root) q.key ≡ Some s
     still_there q s ne p = elim (cases_eq p.root root) [
       | inl same ↦
-          let it : found (index.pairs d root) p.key ≡ Some s = ap (λ (r : ℕ). found (index.pairs d r) p.key) (sym same) ∙ p.has in
-          let apart : key ≢ p.key = λ x. ne (p.is ∙ ap of_main (sym x)) in
-          ap (λ (r : ℕ). found (index.pairs e r) p.key) same ∙ found_now p.key ∙ ap (λ (b : Bool). cond b None (found (index.pairs d root) p.key)) (ne_eqb key p.key apart) ∙ it
-      | inr differs ↦ ap (λ (l : List Pair). found l p.key) (shrinks.others p.table p.root p.there differs).pairs ∙ p.has
+          let it : found (index.pairs d root) q.key ≡ Some s = ap (λ (r : ℕ). found (index.pairs d r) q.key) (sym same) ∙ p.has in
+          let carried = (found_given d table (index.pairs d root) q.key s (laws.given d table root sound named) it).1 in
+          let number : p.table ≡ table = (carries_one d p.table table q.key q.key s p.carries carried).0 in
+          let name_is : q.table ≡ name = same_Some q.table name (sym p.called ∙ ap (λ (n : ℕ). slice_get (names_in (tables_of d)) n) number ∙ called) in
+          let apart : key ≢ q.key = λ x. ne (λ i. of_table (name_is i) (sym x i)) in
+          ap (λ (r : ℕ). found (index.pairs e r) q.key) same ∙ found_now q.key ∙ ap (λ (b : Bool). cond b None (found (index.pairs d root) q.key)) (ne_eqb key q.key apart) ∙ it
+      | inr differs ↦ ap (λ (l : List Pair). found l q.key) (shrinks.others p.table p.root p.there differs).pairs ∙ p.has
     ]
 
-    pub still : (q : Key) (s : ℕ) → q ≢ of_main key → found_key (pairs_of index d) q ≡ Some s → found_key (pairs_of index e) q ≡ Some s
+    pub still : (q : Key) (s : ℕ) → q ≢ of_table name key → found_key (pairs_of index d) q ≡ Some s → found_key (pairs_of index e) q ≡ Some s
     still q s ne is =
         let p = placed index laws d sound q s is in
-        ap (found_key (pairs_of index e)) p.is ∙ found_in index laws e p.table p.root p.key shrinks.sound p.asked (named_now p.table p.root p.there) ∙ still_there q s ne p
+        found_in index laws e p.table p.root q.key q.table shrinks.sound (called_same d e shrinks.tables p.table q.table p.called) (named_now p.table p.root p.there) ∙ still_there q s ne p
 
-    was_there : (q : Key) (s : ℕ) → (p : Placed index laws e q s) → found (index.pairs d p.root) p.key ≡ Some s
+    was_there : (q : Key) (s : ℕ) → (p : Placed index laws e q s) → found (index.pairs d p.root) q.key ≡ Some s
     was_there q s p = elim (cases_eq p.root root) [
       | inl same ↦
-          ap (λ (r : ℕ). found (index.pairs d r) p.key) same
-          ∙ of_cond (nat_eq key p.key) (found (index.pairs d root) p.key) (sym (found_now p.key) ∙ ap (λ (r : ℕ). found (index.pairs e r) p.key) (sym same) ∙ p.has)
-      | inr differs ↦ ap (λ (l : List Pair). found l p.key) (sym (shrinks.others p.table p.root (named_then p.table p.root p.there) differs).pairs) ∙ p.has
+          ap (λ (r : ℕ). found (index.pairs d r) q.key) same
+          ∙ of_cond (nat_eq key q.key) (found (index.pairs d root) q.key) (sym (found_now q.key) ∙ ap (λ (r : ℕ). found (index.pairs e r) q.key) (sym same) ∙ p.has)
+      | inr differs ↦ ap (λ (l : List Pair). found l q.key) (sym (shrinks.others p.table p.root (named_then p.table p.root p.there) differs).pairs) ∙ p.has
     ]
       where
         of_cond : (b : Bool) (o : Option ℕ) → cond b None o ≡ Some s → o ≡ Some s
@@ -136,7 +142,7 @@ module _ (index : Index) (laws : Laws index) (table root key : ℕ) (asked : tab
     was : (q : Key) (s : ℕ) → found_key (pairs_of index e) q ≡ Some s → found_key (pairs_of index d) q ≡ Some s
     was q s is =
         let p = placed index laws e shrinks.sound q s is in
-        ap (found_key (pairs_of index d)) p.is ∙ found_in index laws d p.table p.root p.key sound p.asked (named_then p.table p.root p.there) ∙ was_there q s p
+        found_in index laws d p.table p.root q.key q.table sound (called_same e d (sym shrinks.tables) p.table q.table p.called) (named_then p.table p.root p.there) ∙ was_there q s p
 
     none_came : (q : Key) → found_key (pairs_of index d) q ≡ None → found_key (pairs_of index e) q ≡ None
     none_came q none = go (found_key (pairs_of index e) q) refl
@@ -145,49 +151,48 @@ module _ (index : Index) (laws : Laws index) (table root key : ℕ) (asked : tab
         go None is = refl
         go (Some s) is = sym (was q s is) ∙ none
 
-    other_same : (q : Key) → q ≢ of_main key → found_key (pairs_of index e) q ≡ found_key (pairs_of index d) q
+    other_same : (q : Key) → q ≢ of_table name key → found_key (pairs_of index e) q ≡ found_key (pairs_of index d) q
     other_same q ne = go (found_key (pairs_of index d) q) refl
       where
         go : (o : Option ℕ) → found_key (pairs_of index d) q ≡ o → found_key (pairs_of index e) q ≡ o
         go None is = none_came q is
         go (Some s) is = still q s ne is
 
-    lost : (q : Key) → found_key (pairs_of index e) q ≡ cond (is_same_key (of_main key) q) None (found_key (pairs_of index d) q)
-    lost q = elim (cases_key (of_main key) q) [
-      | inl same ↦ ap (found_key (pairs_of index e)) (sym same) ∙ gone ∙ sym (ap (λ (b : Bool). cond b None (found_key (pairs_of index d) q)) (same_key (of_main key) q same))
-      | inr ne ↦ other_same q (λ x. ne (sym x)) ∙ sym (ap (λ (b : Bool). cond b None (found_key (pairs_of index d) q)) (other_key (of_main key) q ne))
+    lost : (q : Key) → found_key (pairs_of index e) q ≡ cond (is_same_key (of_table name key) q) None (found_key (pairs_of index d) q)
+    lost q = elim (cases_key (of_table name key) q) [
+      | inl same ↦ ap (found_key (pairs_of index e)) (sym same) ∙ gone ∙ sym (ap (λ (b : Bool). cond b None (found_key (pairs_of index d) q)) (same_key (of_table name key) q same))
+      | inr ne ↦ other_same q (λ x. ne (sym x)) ∙ sym (ap (λ (b : Bool). cond b None (found_key (pairs_of index d) q)) (other_key (of_table name key) q ne))
     ]
 
-    record_kept : (o : Option ℕ) (q : Key) → q ≢ of_main key → found_key (pairs_of index d) q ≡ o → record_at e o ≡ record_at d o
+    record_kept : (o : Option ℕ) (q : Key) → q ≢ of_table name key → found_key (pairs_of index d) q ≡ o → record_at e o ≡ record_at d o
     record_kept None q ne is = refl
-    record_kept (Some s) q ne is = ap (λ (b : List ℕ). value_of (slot_said b)) (shrinks.slots s (λ same. ne (one_slot index laws d sound q (of_main key) s is (here ∙ ap Some (sym same)))))
+    record_kept (Some s) q ne is = ap (λ (b : List ℕ). value_of (slot_said b)) (shrinks.slots s (λ same. ne (one_slot index laws d sound q (of_table name key) s is (here ∙ ap Some (sym same)))))
 
-    pub records_same : get (table_of index d) (of_main key) ≡ None → table_of index e ≡ table_of index d
+    pub records_same : get (table_of index d) (of_table name key) ≡ None → table_of index e ≡ table_of index d
     unfolding table_of
     records_same none = same_table (table_in e (pairs_of index e)) (table_in d (pairs_of index d)) (λ q.
         get-table_in e (pairs_of index e) q ∙ ap (record_at e) (lost q)
-        ∙ elim (cases_key (of_main key) q) [
+        ∙ elim (cases_key (of_table name key) q) [
           | inl same ↦
-              ap (λ (b : Bool). record_at e (cond b None (found_key (pairs_of index d) q))) (same_key (of_main key) q same)
+              ap (λ (b : Bool). record_at e (cond b None (found_key (pairs_of index d) q))) (same_key (of_table name key) q same)
               ∙ sym (ap (get (table_in d (pairs_of index d))) (sym same) ∙ none)
           | inr ne ↦
-              ap (λ (b : Bool). record_at e (cond b None (found_key (pairs_of index d) q))) (other_key (of_main key) q ne)
+              ap (λ (b : Bool). record_at e (cond b None (found_key (pairs_of index d) q))) (other_key (of_table name key) q ne)
               ∙ record_kept (found_key (pairs_of index d) q) q (λ x. ne (sym x)) refl ∙ sym (get-table_in d (pairs_of index d) q)
         ])
 
-    pub parts_kept : (log : List Part) → AreSlotParts index d log → list_any (is_of (of_main key)) (writes_of d log) ≡ false → AreSlotParts index e log
+    pub parts_kept : (log : List Part) → AreSlotParts index d log → list_any (is_of (of_table name key)) (writes_of d log) ≡ false → AreSlotParts index e log
     parts_kept [] parts other = tt
     parts_kept (p ∷ ps) parts other =
-        let apart = or_parts (is_of (of_main key) (write_of d p)) (list_any (is_of (of_main key)) (writes_of d ps)) other in (
+        let apart = or_parts (is_of (of_table name key) (write_of d p)) (list_any (is_of (of_table name key)) (writes_of d ps)) other in (
           record {
             slot = parts.0.slot;
-            named = (λ i. found_key (pairs_of index e) (said_same d e shrinks.tables (slot_said p.1) i).0) ∙ still (write_of d p).0 parts.0.slot (λ e. true≢false (sym (same_key (write_of d p).0 (of_main key) e) ∙ apart.0)) parts.0.named;
+            named = (λ i. found_key (pairs_of index e) (said_same d e shrinks.tables (slot_said p.1) i).0) ∙ still (write_of d p).0 parts.0.slot (λ e. true≢false (sym (same_key (write_of d p).0 (of_table name key) e) ∙ apart.0)) parts.0.named;
             place = parts.0.place ∙ ap (λ (n : ℕ). 64 * (4 * (n / 512) + parts.0.slot)) (sym shrinks.size);
             size = parts.0.size;
             table = parts.0.table;
             key = parts.0.key;
-            asked = parts.0.asked;
-            small = parts.0.small;
+            called = subst (λ (w : Write). IsCalled e parts.0.table w.0.table) (sym (said_same d e shrinks.tables (slot_said p.1))) (called_same d e shrinks.tables parts.0.table (write_of d p).0.table parts.0.called);
             says = parts.0.says;
           },
           parts_kept ps parts.1 apart.1,
@@ -210,7 +215,7 @@ module _ (index : Index) (laws : Laws index) (table root key : ℕ) (asked : tab
       | inr one ↦ (omega (arith, one.2.more), omega (arith, one.2.more))
     ]
 
-    loses_key : LosesKey (of_main key) (keys_of index d) (keys_of index e)
+    loses_key : LosesKey (of_table name key) (keys_of index d) (keys_of index e)
     loses_key =
         let now = laws.counts e shrinks.sound in
         let few = pages_fewer in
@@ -225,11 +230,16 @@ module _ (index : Index) (laws : Laws index) (table root key : ℕ) (asked : tab
         }
 
     -- a last pair that is kept is kept still
-    kept_still : (one : ℕ) → one < 2 ^ 64 → IsSome (found_key (pairs_of index e) (of_main one)) → IsKept index table d one → IsKept index table e one
-    kept_still one fits some kept =
-        let there : IsSome (found (index.pairs e root) one) = subst (λ (o : Option ℕ). IsSome o) (found_in index laws e table root one shrinks.sound asked (named_now table root named)) some in
-        let before : index.removal d root one ≡ None = sym (ap (removal_under index d one) named) ∙ kept in
-        ap (removal_under index e one) (named_now table root named) ∙ shrinks.last table root one named there before
+    kept_still : (number one : ℕ) (other : List ℕ) → IsCalled d number other → IsSome (found_key (pairs_of index e) (of_table other one)) → IsKept index number d one → IsKept index number e one
+    kept_still number one other its some kept =
+        let r = root_called d number other its in
+        let there : IsSome (found (index.pairs e r.0) one) =
+        subst (λ (o : Option ℕ). IsSome o) (found_in index laws e number r.0 one other shrinks.sound (called_same d e shrinks.tables number other its) (named_now number r.0 r.1)) some in
+        let before : index.removal d r.0 one ≡ None = sym (ap (removal_under index d one) r.1) ∙ kept in
+        ap (removal_under index e one) (named_now number r.0 r.1) ∙ shrinks.last number r.0 one r.1 there before
 
     pub loses : Loses index table key d e
-    loses = record { keys = loses_key; kept = kept_still }
+    loses = record {
+      keys = subst (λ (k : Key). LosesKey k (keys_of index d) (keys_of index e)) (sym (ap (λ (o : Option (List ℕ)). of_table (unwrap_or o []) key) called)) loses_key;
+      kept = kept_still;
+    }

@@ -1,16 +1,15 @@
 -- The making of a table: an upgrade, a look at the super page, a nested top action, and the end of its number.
-use Rattle.std.proofs.Common.{◌≡◌, ◌≢◌, ℕ, suc, ◌+◌, ◌-◌, ◌*◌, ◌<◌, ◌≤◌, ◌⊎◌, Bool, true, false, cond, inl, inr, IsTrue, List, [], ◌∷◌, ◌++◌, length, map, Option, Some, None, Result, Ok, Err, refl, sym, ◌∙◌, ap, subst, arith}
+use Rattle.std.proofs.Common.{◌≡◌, ◌≢◌, ℕ, suc, ◌+◌, ◌-◌, ◌*◌, ◌<◌, ◌≤◌, ◌⊎◌, Bool, true, false, cond, inl, inr, IsTrue, List, [], ◌∷◌, ◌++◌, length, map, Option, Some, None, Result, Ok, Err, refl, sym, ◌∙◌, ap, subst, arith, zero}
 use Rattle.std.specs.Prelude.{IsFalse, filter, OnOk, OnErr, slice_get}
 use Rattle.std.specs.Option.{option_map}
 use Rattle.std.proofs.lemmas.Bool.{false≢true}
 use Rattle.std.proofs.lemmas.List.{map-append}
 use Rattle.mars_base.specs.Causes.{Rose}
-use Rattle.mars_base.proofs.Going.{stays, then, weaker}
-use Rattle.array_shape.specs.declared.shape.Shape.{Shape}
+use Rattle.mars_base.proofs.Going.{then, weaker}
 use Rattle.array_shape.specs.Logged.{Part, applied}
 use Rattle.array_shape.specs.Places.{data_len}
 use Rattle.eaw_face.specs.State.{State, listed, count_on}
-use Rattle.eaw_face.specs.StoreView.{StoreView, LeavesOnly}
+use Rattle.eaw_face.specs.StoreView.{LeavesOnly}
 use Rattle.eaw_face.specs.Causes.{IsAlive}
 use Rattle.history.specs.declared.call.Call.TheVariants.{Abort}
 use Rattle.history.specs.declared.call.Reply.TheVariants.{Fine}
@@ -30,23 +29,20 @@ use Rattle.page_store.specs.Looks.{LookCause}
 use Rattle.page_store.specs.Looks as look
 use Rattle.page_store.specs.Outline.{Outline}
 use Rattle.page_store.specs.Shown.{PagesView}
-use Rattle.page_store.specs.Shown as pages
-use Rattle.page_store.specs.State.{PagesState}
 use Rattle.page_store.specs.declared.fault.PageFault.{PageFault}
 use Rattle.page_store.specs.declared.fault.PageFault.TheVariants as fault
 use Rattle.page_store.proofs.Numbers.{with_here, with_there}
 use Rattle.record_table.specs.Calls as calls
 use Rattle.record_table.specs.Faults.{told_as}
-use Rattle.record_table.specs.Invariant.{AreSlotParts, Holds, Rests}
+use Rattle.record_table.specs.Invariant.{AreSlotParts, Holds}
 use Rattle.record_table.specs.Making.{as_make, IsFit, IsOfMake, names_said, PlaceCause, MakeCause, Makes, is_make_failed, with_page}
-use Rattle.record_table.specs.Names.{names_of, IsNew}
+use Rattle.record_table.specs.Names.{names_of, IsCalled, IsNew}
 use Rattle.record_table.specs.Does.{OpensNamed}
 use Rattle.record_table.specs.Shown.{state_of, keys_of, table_of}
 use Rattle.record_table.specs.Sought.{LooksAs}
 use Rattle.record_table.specs.State.{TableState, Keys}
 use Rattle.record_table.specs.Upgrading.{Upgrades}
 use Rattle.record_table.specs.declared.fault.TableFault.{TableFault}
-use Rattle.record_table.specs.declared.fault.TableFault.TheVariants as refusal
 use Rattle.record_table.specs.declared.making.MakeFault.{MakeFault}
 use Rattle.record_table.specs.declared.making.MakeFault.TheVariants as unmade
 use Rattle.record_table.proofs.Ending.{ends, abort_is}
@@ -54,6 +50,14 @@ use Rattle.record_table.proofs.Extended.{Extended, extended}
 use Rattle.record_table.proofs.Moving.{shown_same, moved_by_look, rests_moved}
 use Rattle.record_table.proofs.Sharing.{Laws}
 use Rattle.record_table.proofs.SlotParts.{parts_carry, log_carried}
+use Rattle.eaw_face.specs.Mirroring.{Mirrors}
+use Rattle.eaw_face.proofs.Mirroring.{none_sent, sent_then}
+
+-- with a table more, each has the name that it had
+first_name : (tables : List TableEntry) (last : TableEntry) (table : ℕ) (name : List ℕ) → slice_get (names_in tables) table ≡ Some name → slice_get (names_in (tables ++ last ∷ [])) table ≡ Some name
+first_name [] last table name called = absurd (cc)
+first_name (entry ∷ entries) last zero name called = called
+first_name (entry ∷ entries) last (suc table) name called = first_name entries last table name called
 
 -- a super page as it is read, that of version 2
 module _ (d : List ℕ) (front : Super) (says : SaysSuper (page_bytes d 0) front) where
@@ -101,15 +105,17 @@ module _ (tells : Bool) (Opens : List ℕ → List ℕ → Type 0) (index : Inde
     pub state : IsTrue tells → state_of index now ≡ state_of index old
     pub quiet : IsTrue tells → version_of old.store.state.bytes ≡ 2 → now.store.state.bytes ≡ old.store.state.bytes
     pub time : IsTrue tells → Before old now
+    pub mirrors : Mirrors tells old.store now.store
 
   holds_dead : (new : PagesView) → new.store.is_dead ≡ true → Holds tells index new
   holds_dead new dead = λ alive. absurd (false≢true (sym alive ∙ dead))
 
   -- the medium failed
-  failed : (old new : PagesView) → IsAlive old.store → new.store.shape ≡ old.store.shape → (new.store.is_dead ≡ true) × Rose old.store.faults new.store.faults
+  failed : (old new : PagesView) → IsAlive old.store → new.store.shape ≡ old.store.shape → Mirrors tells old.store new.store → (new.store.is_dead ≡ true) × Rose old.store.faults new.store.faults
       → ((u : ℕ) → u ≢ 0 → (new.store.ranges u ≡ old.store.ranges u) × (new.counts u ≡ old.counts u)) → (IsTrue tells → Either old new) → Makes tells Opens index name old new (Err unmade.Media)
-  failed old new alive shape dies others time = record {
+  failed old new alive shape mirrors dies others time = record {
     shape = shape;
+    mirrors = mirrors;
     cause = alive;
     faults = λ well. absurd (false≢true (sym well));
     dies = λ _. dies;
@@ -133,6 +139,7 @@ module _ (tells : Bool) (Opens : List ℕ → List ℕ → Type 0) (index : Inde
   was_dead : (old : PagesView) → old.store.is_dead ≡ true → Makes tells Opens index name old old (Err unmade.Dead)
   was_dead old dead = record {
     shape = refl;
+    mirrors = none_sent tells old.store old.store refl refl (λ fine. fine) (λ told mirrors fine. refl);
     cause = dead;
     faults = λ _. (refl, refl);
     dies = λ failed. absurd (false≢true failed);
@@ -153,12 +160,13 @@ module _ (tells : Bool) (Opens : List ℕ → List ℕ → Type 0) (index : Inde
   }
 
   -- at most the version has changed
-  refused_by : (old now : PagesView) (f : MakeFault) → (let r : Result ℕ MakeFault = Err f in IsFalse (is_make_failed r) × MakeCause tells name old.store r) → now.store.shape ≡ old.store.shape → now.store.is_dead ≡ old.store.is_dead
+  refused_by : (old now : PagesView) (f : MakeFault) → (let r : Result ℕ MakeFault = Err f in IsFalse (is_make_failed r) × MakeCause tells name old.store r) → now.store.shape ≡ old.store.shape → Mirrors tells old.store now.store → now.store.is_dead ≡ old.store.is_dead
       → now.store.faults ≡ old.store.faults → now.counts ≡ old.counts → now.store.ranges 0 ≡ old.store.ranges 0 → ((u : ℕ) → u ≢ 0 → now.store.ranges u ≡ old.store.ranges u)
       → (IsTrue tells → tables_of now.store.state.bytes ≡ tables_of old.store.state.bytes) → (IsTrue tells → keys_of index now.store.state.bytes ≡ keys_of index old.store.state.bytes) → (IsTrue tells → state_of index now ≡ state_of index old)
       → (IsTrue tells → version_of old.store.state.bytes ≡ 2 → now.store.state.bytes ≡ old.store.state.bytes) → (IsTrue tells → IsAlive old.store → Before old now) → Makes tells Opens index name old now (Err f)
-  refused_by old now f well shape dead faults counts ranges others tables keys state quiet time = record {
+  refused_by old now f well shape mirrors dead faults counts ranges others tables keys state quiet time = record {
     shape = shape;
+    mirrors = mirrors;
     cause = well.1;
     faults = λ _. (dead, faults);
     dies = λ failed. absurd (false≢true (sym well.0 ∙ failed));
@@ -180,15 +188,15 @@ module _ (tells : Bool) (Opens : List ℕ → List ℕ → Type 0) (index : Inde
 
   refused_ready : (old now : PagesView) (f : MakeFault) → Ready old now → (let r : Result ℕ MakeFault = Err f in IsFalse (is_make_failed r) × MakeCause tells name old.store r) → Makes tells Opens index name old now (Err f)
   refused_ready old now f ready well =
-      refused_by old now f well ready.shape ready.dead ready.faults ready.counts ready.ranges ready.others ready.tables ready.keys ready.state ready.quiet (λ told _. ready.time told)
+      refused_by old now f well ready.shape ready.mirrors ready.dead ready.faults ready.counts ready.ranges ready.others ready.tables ready.keys ready.state ready.quiet (λ told _. ready.time told)
 
   -- the upgrade was refused
   pub not_upgraded : (old mid : PagesView) (f : PageFault) → (let r : Result (Unit {0}) PageFault = Err f in Upgrades tells Opens index old mid (told_as r)) → (f ≡ fault.Dead → mid ≡ old) → Makes tells Opens index name old mid (Err (as_make f))
   not_upgraded old mid fault.Media up same =
-      failed old mid up.cause up.shape (up.dies refl) (λ u ne. (up.others u ne, ap (λ (f : ℕ → List ℕ). f u) up.saves)) (λ told. either old mid (up.named told up.cause))
+      failed old mid up.cause up.shape up.mirrors (up.dies refl) (λ u ne. (up.others u ne, ap (λ (f : ℕ → List ℕ). f u) up.saves)) (λ told. either old mid (up.named told up.cause))
   not_upgraded old mid fault.Dead up same = subst (λ (v : PagesView). Makes tells Opens index name old v (Err unmade.Dead)) (sym (same refl)) (was_dead old up.cause)
   not_upgraded old mid (fault.Damaged bad) up same =
-      refused_by old mid (unmade.Damaged bad) (refl, up.cause) up.shape (up.faults refl).0 (up.faults refl).1 up.saves (up.ranges refl) up.others (λ told. up.tables told refl) (λ told. up.keys told refl) (λ told. up.state told refl)
+      refused_by old mid (unmade.Damaged bad) (refl, up.cause) up.shape up.mirrors (up.faults refl).0 (up.faults refl).1 up.saves (up.ranges refl) up.others (λ told. up.tables told refl) (λ told. up.keys told refl) (λ told. up.state told refl)
       (λ told two. up.quiet told refl two) up.named
   not_upgraded old mid fault.SavesFull up same = absurd up.cause
   not_upgraded old mid (fault.LogFull g h n) up same = absurd up.cause
@@ -223,6 +231,7 @@ module _ (tells : Bool) (Opens : List ℕ → List ℕ → Type 0) (index : Inde
         record {
           alive = up.cause;
           shape = looks.shape ∙ up.shape;
+          mirrors = sent_then tells old.store mid.store now.store up.mirrors looks.mirrors;
           dead = still.dead ∙ (up.faults refl).0;
           faults = still.faults ∙ (up.faults refl).1;
           counts = looks.saves ∙ up.saves;
@@ -240,7 +249,7 @@ module _ (tells : Bool) (Opens : List ℕ → List ℕ → Type 0) (index : Inde
 
     pub not_read : (f : PageFault) → (let r : Result Super PageFault = Err f in LooksAs tells Opens 0 (look.is_failed r) mid now × LookCause tells mid.store r) → Makes tells Opens index name old now (Err (as_make f)) × Holds tells index now × IsOfMake f
     not_read fault.Media both = (
-      failed old now up.cause (both.0.shape ∙ up.shape) ((both.0.dies refl).0, subst (λ (n : ℕ). Rose n now.store.faults) (up.faults refl).1 (both.0.dies refl).1)
+      failed old now up.cause (both.0.shape ∙ up.shape) (sent_then tells old.store mid.store now.store up.mirrors both.0.mirrors) ((both.0.dies refl).0, subst (λ (n : ℕ). Rose n now.store.faults) (up.faults refl).1 (both.0.dies refl).1)
           (λ u ne. (both.0.others u ne ∙ up.others u ne, ap (λ (f : ℕ → List ℕ). f u) (both.0.saves ∙ up.saves))) (λ told. either old now (look_time true both.0 told)),
       holds_dead now (both.0.dies refl).0,
       tt,
@@ -334,7 +343,7 @@ module _ (tells : Bool) (Opens : List ℕ → List ℕ → Type 0) (index : Inde
       pub not_written : 8 ≤ now.store.shape.entries → old.store.ranges 0 ≡ None → (f : PageFault) → (let r : Result (Unit {0}) PageFault = Err f in Acts tells Opens 0 (front.next_page ∷ 0 ∷ []) parts now far r)
           → Makes tells Opens index name old far (Err (as_make f)) × Holds tells index far × IsOfMake f
       not_written entries free fault.Media acts = (
-        failed old far ready.alive (acts.shape ∙ ready.shape) ((acts.dies refl).0, subst (λ (n : ℕ). Rose n far.store.faults) ready.faults (acts.dies refl).1)
+        failed old far ready.alive (acts.shape ∙ ready.shape) (sent_then tells old.store now.store far.store ready.mirrors acts.mirrors) ((acts.dies refl).0, subst (λ (n : ℕ). Rose n far.store.faults) ready.faults (acts.dies refl).1)
             (λ u ne. (acts.others u ne ∙ ready.others u ne, ap (λ (f : ℕ → List ℕ). f u) (acts.saves ∙ ready.counts))) (act_time (Err fault.Media) acts),
         holds_dead far (acts.dies refl).0,
         tt,
@@ -362,20 +371,23 @@ module _ (tells : Bool) (Opens : List ℕ → List ℕ → Type 0) (index : Inde
         far_alive : IsAlive far.store
         far_alive = (acts.kept refl).dead ∙ now_alive
 
+        stays_called : IsTrue tells → (table : ℕ) (name : List ℕ) → IsCalled now.store.state.bytes table name → IsCalled (applied parts now.store.state.bytes) table name
+        stays_called told table other called = ap (λ (ts : List TableEntry). slice_get (names_in ts) table) (facts told).tables ∙ first_name (tables_of now.store.state.bytes) (record { name = name; root = next_page now.store.state.bytes }) table other called
+
         pub far_holds : Holds tells index far
         far_holds living = record {
           closed = λ u. ap (λ (f : ℕ → Option ℕ). f u) (acts.kept refl).tops ∙ (ready.holds now_alive).closed u;
           tied = λ told. record {
             sound = subst index.sound (sym (far_is told)) (facts told).sound;
             parts = λ u. subst (λ (b : List ℕ). AreSlotParts index b (listed (far.store.state.logs u))) (sym (far_is told)) (subst (AreSlotParts index (applied parts now.store.state.bytes)) (sym ((acts.kept refl).logs told u))
-                (parts_carry index laws now.store.state.bytes (applied parts now.store.state.bytes) ((ready.holds now_alive).tied told).sound (facts told).sound (facts told).pairs (facts told).size (listed (now.store.state.logs u)) (((ready.holds now_alive).tied told).parts u)));
+                (parts_carry index laws now.store.state.bytes (applied parts now.store.state.bytes) (stays_called told) (facts told).pairs (facts told).size (listed (now.store.state.logs u)) (((ready.holds now_alive).tied told).parts u)));
           };
         }
 
         far_state : IsTrue tells → state_of index far ≡ state_of index now
         far_state told i = record {
           table = (ap (table_of index) (far_is told) ∙ (facts told).records) i;
-          logs = λ u. log_carried index laws now.store.state.bytes (applied parts now.store.state.bytes) far.store.state.bytes (far_is told) ((ready.holds now_alive).tied told).sound (facts told).sound
+          logs = λ u. log_carried index laws now.store.state.bytes (applied parts now.store.state.bytes) far.store.state.bytes (far_is told) (stays_called told)
               _ _ ((acts.kept refl).logs told u) (((ready.holds now_alive).tied told).parts u) _ _ (λ j. acts.saves j u) i;
         }
 
@@ -389,6 +401,7 @@ module _ (tells : Bool) (Opens : List ℕ → List ℕ → Type 0) (index : Inde
             let bytes_are : IsTrue tells → new.store.state.bytes ≡ applied parts now.store.state.bytes = λ told. both.0.quiet told refl tt ∙ far_is told in (
               record {
                 shape = does.shape ∙ acts.shape ∙ ready.shape;
+                mirrors = sent_then tells old.store far.store new.store (sent_then tells old.store now.store far.store ready.mirrors acts.mirrors) does.mirrors;
                 cause = (
                   ready.alive,
                   λ told. (

@@ -1,7 +1,7 @@
 -- Calls below that leave records, writes and saves as they were: looks and insertions, one after another, and one that fails.
-use Rattle.std.proofs.Common.{◌≡◌, ◌≢◌, ◌^◌, ℕ, ◌+◌, ◌*◌, ◌/◌, ◌<◌, ◌⊎◌, Bool, true, false, cond, inl, inr, IsTrue, List, [], ◌∷◌, Result, Ok, Err, refl, sym, ◌∙◌, ap, subst, arith}
-use Rattle.std.specs.Prelude.{nat_eq, nat_lt, map, Option, Some, None, IsFalse}
-use Rattle.std.proofs.lemmas.Bool.{cases_eq, false≢true, cases_Bool, eq-eqb, ne_eqb}
+use Rattle.std.proofs.Common.{◌≡◌, ◌≢◌, ◌^◌, ℕ, ◌+◌, ◌*◌, ◌/◌, ◌<◌, ◌⊎◌, Bool, true, false, cond, inl, inr, IsTrue, List, [], ◌∷◌, Result, Ok, Err, refl, sym, ◌∙◌, ap, subst}
+use Rattle.std.specs.Prelude.{map, Option, Some, None, IsFalse}
+use Rattle.std.proofs.lemmas.Bool.{cases_eq, false≢true}
 use Rattle.mars_base.specs.Causes.{Rose}
 use Rattle.mars_base.proofs.Going.{stays, then, weaker}
 use Rattle.array_shape.specs.Logged.{Part}
@@ -9,7 +9,7 @@ use Rattle.eaw_face.specs.State.{State, listed}
 use Rattle.eaw_face.specs.StoreView.{LeavesOnly}
 use Rattle.eaw_face.specs.Causes.{IsAlive}
 use Rattle.record_slots.specs.Slots.{slot_said, slot_bytes}
-use Rattle.record_slots.specs.Places.{slot_of, next_slot, slot_due, tables_of}
+use Rattle.record_slots.specs.Places.{slot_of, slot_due, tables_of}
 use Rattle.record_slots.specs.declared.slot.Slot.TheVariants.{Absent}
 use Rattle.page_store.specs.Index.{Index, IsTable, Grows, Gains}
 use Rattle.page_store.specs.Index as face
@@ -21,15 +21,20 @@ use Rattle.page_store.specs.declared.index_fault.IndexFault.{IndexFault}
 use Rattle.page_store.specs.declared.index_fault.IndexFault.TheVariants as fault
 use Rattle.record_table.specs.Does.{OpensWith}
 use Rattle.record_table.specs.Invariant.{AreSlotParts, IsTied, Rests}
-use Rattle.record_table.specs.Shown.{KeyPair, found_key, table_in, table_of, write_of, writes_of, state_of, asked_tables, pairs_of}
+use Rattle.record_table.specs.Shown.{KeyPair, found_key, table_in, table_of, write_of, writes_of, state_of, pairs_of}
+use Rattle.record_table.specs.Names.{IsCalled}
 use Rattle.record_table.specs.Sought.{LooksAs}
 use Rattle.record_table.specs.State.{TableState}
-use Rattle.history.specs.Key.{Key, is_same_key, of_main}
+use Rattle.history.specs.declared.key.Key.{Key}
+use Rattle.history.specs.Key.{is_same_key, of_table}
+use Rattle.history.specs.Writes.{Write}
 use Rattle.history.proofs.Keys.{cases_key, same_key, other_key}
-use Rattle.history.proofs.Tables.{same_table}
+use Rattle.history.proofs.Agreeing.{same_table}
 use Rattle.record_table.proofs.Tables.{record_at, get-table_in}
-use Rattle.record_table.proofs.Sharing.{Laws, placed, found_in, pairs_kept, gained}
+use Rattle.record_table.proofs.Sharing.{Laws, placed, called_same, found_in, pairs_kept, gained}
 use Rattle.record_table.proofs.SlotParts.{said_same, log_kept, one_slot}
+use Rattle.eaw_face.specs.Mirroring.{Mirrors}
+use Rattle.eaw_face.proofs.Mirroring.{none_sent, sent_then}
 
 -- records, writes and saves are as they were, and the invariant holds
 pub record Moved (tells : Bool) (Opens : List ℕ → List ℕ → Type 0) (index : Index) (t : ℕ) (old new : PagesView) : Type 0 where
@@ -44,6 +49,7 @@ pub record Moved (tells : Bool) (Opens : List ℕ → List ℕ → Type 0) (inde
   pub state : IsTrue tells → state_of index new ≡ state_of index old
   pub tied : IsTrue tells → IsTied index new
   pub time : IsTrue tells → LeavesOnly (λ image. OpensWith Opens index image (state_of index old).table) old.store new.store
+  pub mirrors : Mirrors tells old.store new.store
 
 -- the medium failed
 pub record Failed (tells : Bool) (Opens : List ℕ → List ℕ → Type 0) (index : Index) (t : ℕ) (old new : PagesView) : Type 0 where
@@ -52,6 +58,7 @@ pub record Failed (tells : Bool) (Opens : List ℕ → List ℕ → Type 0) (ind
   pub counts : new.counts ≡ old.counts
   pub others : (u : ℕ) → u ≢ t → new.store.ranges u ≡ old.store.ranges u
   pub time : IsTrue tells → LeavesOnly (λ image. OpensWith Opens index image (state_of index old).table) old.store new.store
+  pub mirrors : Mirrors tells old.store new.store
 
 -- the state of records is determined by data, logs and counts
 pub shown_same : (index : Index) (old new : PagesView) → new.store.state ≡ old.store.state → new.counts ≡ old.counts → state_of index new ≡ state_of index old
@@ -64,6 +71,7 @@ module _ (tells : Bool) (Opens : List ℕ → List ℕ → Type 0) (index : Inde
   pub moved_none : (old : PagesView) → IsAlive old.store → Rests tells index old → Moved tells Opens index t old old
   moved_none old alive rests = record {
     shape = refl;
+    mirrors = none_sent tells old.store old.store refl refl (λ fine. fine) (λ told mirrors fine. refl);
     dead = refl;
     faults = refl;
     counts = refl;
@@ -82,6 +90,7 @@ module _ (tells : Bool) (Opens : List ℕ → List ℕ → Type 0) (index : Inde
   pub moved_then : (old mid new : PagesView) → Moved tells Opens index t old mid → Moved tells Opens index t mid new → Moved tells Opens index t old new
   moved_then old mid new a b = record {
     shape = b.shape ∙ a.shape;
+    mirrors = sent_then tells old.store mid.store new.store a.mirrors b.mirrors;
     dead = b.dead ∙ a.dead;
     faults = b.faults ∙ a.faults;
     counts = b.counts ∙ a.counts;
@@ -97,6 +106,7 @@ module _ (tells : Bool) (Opens : List ℕ → List ℕ → Type 0) (index : Inde
   pub failed_then : (old mid new : PagesView) → Moved tells Opens index t old mid → Failed tells Opens index t mid new → Failed tells Opens index t old new
   failed_then old mid new a b = record {
     shape = b.shape ∙ a.shape;
+    mirrors = sent_then tells old.store mid.store new.store a.mirrors b.mirrors;
     dies = (b.dies.0, subst (λ (n : ℕ). Rose n new.store.faults) a.faults b.dies.1);
     counts = b.counts ∙ a.counts;
     others = λ u ne. b.others u ne ∙ a.others u ne;
@@ -112,6 +122,7 @@ module _ (tells : Bool) (Opens : List ℕ → List ℕ → Type 0) (index : Inde
         let same = looks.same refl in
         record {
           shape = looks.shape;
+          mirrors = looks.mirrors;
           dead = same.still.dead;
           faults = same.still.faults;
           counts = looks.saves;
@@ -128,13 +139,13 @@ module _ (tells : Bool) (Opens : List ℕ → List ℕ → Type 0) (index : Inde
         }
 
     pub failed_by_look : LooksAs tells Opens t true old new → Failed tells Opens index t old new
-    failed_by_look looks = record { shape = looks.shape; dies = looks.dies refl; counts = looks.saves; others = looks.others; time = looks_time true looks }
+    failed_by_look looks = record { shape = looks.shape; mirrors = looks.mirrors; dies = looks.dies refl; counts = looks.saves; others = looks.others; time = looks_time true looks }
 
-module _ (index : Index) (laws : Laws index) (table root key : ℕ) (asked : table < asked_tables) (small : key < 2 ^ 64) (d e : List ℕ) (sound : index.sound d) (named : IsTable d table root) (absent : found (index.pairs d root) key ≡ None)
+module _ (index : Index) (laws : Laws index) (table root key : ℕ) (name : List ℕ) (d e : List ℕ) (called : IsCalled d table name) (sound : index.sound d) (named : IsTable d table root) (absent : found (index.pairs d root) key ≡ None)
     (grows : Grows index root d e) where
   -- the key, which is new, among those of all tables
-  new_key : found_key (pairs_of index d) (of_main key) ≡ None
-  new_key = found_in index laws d table root key sound asked named ∙ absent
+  new_key : found_key (pairs_of index d) (of_table name key) ≡ None
+  new_key = found_in index laws d table root key name sound called named ∙ absent
 
   -- given slots are as they were
   record_kept : ((q : Key) (slot : ℕ) → found_key (pairs_of index d) q ≡ Some slot → slot_of e slot ≡ slot_of d slot) → (o : Option ℕ) (q : Key) → found_key (pairs_of index d) q ≡ o → record_at e o ≡ record_at d o
@@ -151,8 +162,7 @@ module _ (index : Index) (laws : Laws index) (table root key : ℕ) (asked : tab
       size = parts.0.size;
       table = parts.0.table;
       key = parts.0.key;
-      asked = parts.0.asked;
-      small = parts.0.small;
+      called = subst (λ (w : Write). IsCalled e parts.0.table w.0.table) (sym (said_same d e grows.tables (slot_said p.1))) (called_same d e grows.tables parts.0.table (write_of d p).0.table parts.0.called);
       says = parts.0.says;
     },
     part_kept pairs ps parts.1,
@@ -174,38 +184,38 @@ module _ (index : Index) (laws : Laws index) (table root key : ℕ) (asked : tab
         part_kept (λ q slot is. ap (λ (l : List KeyPair). found_key l q) pairs ∙ is),
       )
 
-  other_than : (q : Key) (slot : ℕ) → found_key (pairs_of index d) q ≡ Some slot → of_main key ≢ q
+  other_than : (q : Key) (slot : ℕ) → found_key (pairs_of index d) q ≡ Some slot → of_table name key ≢ q
   other_than q slot is same = let x : Some slot ≡ None = sym is ∙ ap (found_key (pairs_of index d)) (sym same) ∙ new_key in absurd (cc)
 
   module _ (gains : Gains index root table key d e) where
     found_still : (q : Key) (slot : ℕ) → found_key (pairs_of index d) q ≡ Some slot → found_key (pairs_of index e) q ≡ Some slot
     found_still q slot is =
-        gained index laws d e table root sound named grows asked key absent gains q
-        ∙ ap (λ (b : Bool). cond b (Some (slot_due d)) (found_key (pairs_of index d) q)) (other_key (of_main key) q (other_than q slot is)) ∙ is
+        gained index laws d e table root sound named grows name called key absent gains q
+        ∙ ap (λ (b : Bool). cond b (Some (slot_due d)) (found_key (pairs_of index d) q)) (other_key (of_table name key) q (other_than q slot is)) ∙ is
 
-    pub found_due : found_key (pairs_of index e) (of_main key) ≡ Some (slot_due d)
+    pub found_due : found_key (pairs_of index e) (of_table name key) ≡ Some (slot_due d)
     found_due =
-        gained index laws d e table root sound named grows asked key absent gains (of_main key)
-        ∙ ap (λ (b : Bool). cond b (Some (slot_due d)) (found_key (pairs_of index d) (of_main key))) (same_key (of_main key) (of_main key) refl)
+        gained index laws d e table root sound named grows name called key absent gains (of_table name key)
+        ∙ ap (λ (b : Bool). cond b (Some (slot_due d)) (found_key (pairs_of index d) (of_table name key))) (same_key (of_table name key) (of_table name key) refl)
 
     -- the slot of another key is not the one that was due
     gaining_slot : (q : Key) (slot : ℕ) → found_key (pairs_of index d) q ≡ Some slot → slot_of e slot ≡ slot_of d slot
     gaining_slot q slot is =
         grows.slots slot (placed index laws d sound q slot is).given
-        (λ same. other_than q slot is (one_slot index laws e grows.sound (of_main key) q slot (found_due ∙ ap Some (sym same)) (found_still q slot is)))
+        (λ same. other_than q slot is (one_slot index laws e grows.sound (of_table name key) q slot (found_due ∙ ap Some (sym same)) (found_still q slot is)))
 
     gaining : slot_said (slot_bytes (Absent table key)) ≡ Some (Absent table key) → (table_of index e ≡ table_of index d) × ((log : List Part) → AreSlotParts index d log → AreSlotParts index e log)
     unfolding table_of
     gaining reads = (
       same_table (table_in e (pairs_of index e)) (table_in d (pairs_of index d)) (λ q.
-          get-table_in e (pairs_of index e) q ∙ ap (record_at e) (gained index laws d e table root sound named grows asked key absent gains q)
-          ∙ elim (cases_key (of_main key) q) [
+          get-table_in e (pairs_of index e) q ∙ ap (record_at e) (gained index laws d e table root sound named grows name called key absent gains q)
+          ∙ elim (cases_key (of_table name key) q) [
             | inl same ↦
-                ap (λ (b : Bool). record_at e (cond b (Some (slot_due d)) (found_key (pairs_of index d) q))) (same_key (of_main key) q same)
+                ap (λ (b : Bool). record_at e (cond b (Some (slot_due d)) (found_key (pairs_of index d) q))) (same_key (of_table name key) q same)
                 ∙ ap (λ (b : List ℕ). value_of (slot_said b)) gains.fresh ∙ ap value_of reads
                 ∙ sym (ap (λ (k : Key). record_at d (found_key (pairs_of index d) k)) (sym same) ∙ ap (record_at d) new_key)
             | inr ne ↦
-                ap (λ (b : Bool). record_at e (cond b (Some (slot_due d)) (found_key (pairs_of index d) q))) (other_key (of_main key) q ne)
+                ap (λ (b : Bool). record_at e (cond b (Some (slot_due d)) (found_key (pairs_of index d) q))) (other_key (of_table name key) q ne)
                 ∙ record_kept gaining_slot (found_key (pairs_of index d) q) q refl
           ]
           ∙ sym (get-table_in d (pairs_of index d) q)),
@@ -226,24 +236,25 @@ either_of index table root key d e (Err (fault.LogFull g h n)) well made = (made
 either_of index table root key d e (Err fault.Dead) well made = (made.0, inl made.1)
 either_of index table root key d e (Err (fault.Damaged p)) well made = (made.0, inl made.1)
 
-module _ (tells : Bool) (Opens : List ℕ → List ℕ → Type 0) (index : Index) (laws : Laws index) (t table root key : ℕ) (asked : table < asked_tables) (small : key < 2 ^ 64) (reads : slot_said (slot_bytes (Absent table key)) ≡ Some (Absent table key)) (old new : PagesView) (alive : IsAlive old.store)
-    (rests : Rests tells index old) (named : IsTrue tells → IsTable old.store.state.bytes table root) (absent : IsTrue tells → found (index.pairs old.store.state.bytes root) key ≡ None) (r : Result ℕ IndexFault)
+module _ (tells : Bool) (Opens : List ℕ → List ℕ → Type 0) (index : Index) (laws : Laws index) (t table root key : ℕ) (name : List ℕ) (reads : slot_said (slot_bytes (Absent table key)) ≡ Some (Absent table key)) (old new : PagesView) (alive : IsAlive old.store)
+    (rests : Rests tells index old) (called : IsTrue tells → IsCalled old.store.state.bytes table name) (named : IsTrue tells → IsTable old.store.state.bytes table root) (absent : IsTrue tells → found (index.pairs old.store.state.bytes root) key ≡ None) (r : Result ℕ IndexFault)
     (does : Inserts tells Opens index t root table key old new r) where
   insert_time : IsTrue tells → LeavesOnly (λ image. OpensWith Opens index image (state_of index old).table) old.store new.store
   insert_time told = weaker (λ image left. record {
     bytes = left.0;
     opened = left.1;
     sound = left.2.0.sound;
-    shows = (insertion_keeps index laws table root key asked small old.store.state.bytes left.0 (rests.tied told).sound (named told) (absent told) left.2.0 reads left.2.1).0;
+    shows = (insertion_keeps index laws table root key name old.store.state.bytes left.0 (called told) (rests.tied told).sound (named told) (absent told) left.2.0 reads left.2.1).0;
   }) (does.time told alive)
 
   pub moved_by_insert : IsFalse (is_insert_failed r) → Moved tells Opens index t old new
   moved_by_insert well =
       let kept = does.kept well in
       let made = λ (told : IsTrue tells). either_of index table root key old.store.state.bytes new.store.state.bytes r well (does.made told alive) in
-      let keeps = λ (told : IsTrue tells). insertion_keeps index laws table root key asked small old.store.state.bytes new.store.state.bytes (rests.tied told).sound (named told) (absent told) (made told).0 reads (made told).1 in
+      let keeps = λ (told : IsTrue tells). insertion_keeps index laws table root key name old.store.state.bytes new.store.state.bytes (called told) (rests.tied told).sound (named told) (absent told) (made told).0 reads (made told).1 in
       record {
         shape = does.shape;
+        mirrors = does.mirrors;
         dead = kept.dead;
         faults = kept.faults;
         counts = does.saves;
@@ -263,4 +274,4 @@ module _ (tells : Bool) (Opens : List ℕ → List ℕ → Type 0) (index : Inde
       }
 
   pub failed_by_insert : IsTrue (is_insert_failed r) → Failed tells Opens index t old new
-  failed_by_insert failed = record { shape = does.shape; dies = does.dies failed; counts = does.saves; others = does.others; time = insert_time }
+  failed_by_insert failed = record { shape = does.shape; mirrors = does.mirrors; dies = does.dies failed; counts = does.saves; others = does.others; time = insert_time }

@@ -9,7 +9,8 @@ use Rattle.eaw_face.specs.State.{listed}
 use Rattle.eaw_face.specs.StoreView.{LeavesOnly}
 use Rattle.eaw_face.specs.Causes.{IsAlive}
 use Rattle.record_slots.specs.Places.{version_of, tables_of}
-use Rattle.history.specs.Key.{Key, of_main}
+use Rattle.history.specs.declared.key.Key.{Key}
+use Rattle.history.specs.Key.{of_table}
 use Rattle.history.specs.Writes.{is_of}
 use Rattle.page_store.specs.Fits.{FitAll, IsFirstLacking}
 use Rattle.page_store.specs.Index.{Index, IsTable}
@@ -23,12 +24,14 @@ use Rattle.record_table.specs.Does as answers
 use Rattle.record_table.specs.Faults.{told_as}
 use Rattle.record_table.specs.Invariant.{AreSlotParts, Holds}
 use Rattle.record_table.specs.Removing.{IsAbsent, IsUnwritten, Takes, RemoveCause, Lost, Removes, removal_under}
-use Rattle.record_table.specs.Shown.{table_of, writes_of, state_of, asked_tables}
+use Rattle.record_table.specs.Shown.{table_of, writes_of, state_of}
+use Rattle.record_table.specs.Names.{IsCalled}
 use Rattle.record_table.specs.declared.fault.TableFault.TheVariants as refusal
 use Rattle.record_table.proofs.Moving.{Moved, Failed, rests_moved}
 use Rattle.record_table.proofs.Sharing.{Laws}
 use Rattle.record_table.proofs.SlotParts.{log_kept}
 use Rattle.record_table.proofs.Lost.{has_absent, records_same, parts_kept, loses}
+use Rattle.eaw_face.proofs.Mirroring.{none_sent}
 
 -- sound data of the same version, with the same tables and records, and with the slots of all parts that are not the key's
 record Alike (index : Index) (key : Key) (d e : List ℕ) : Type 0 where
@@ -41,31 +44,31 @@ record Alike (index : Index) (key : Key) (d e : List ℕ) : Type 0 where
 alike_same : (index : Index) (key : Key) (d e : List ℕ) → index.sound d → e ≡ d → Alike index key d e
 alike_same index key d e sound same = subst (λ (x : List ℕ). Alike index key d x) (sym same) (record { sound = sound; version = refl; tables = refl; records = refl; parts = λ log parts other. parts })
 
-module _ (tells : Bool) (Opens : List ℕ → List ℕ → Type 0) (index : Index) (laws : Laws index) (t table root key : ℕ) (asked : table < asked_tables) (small : key < 2 ^ 64) (old : PagesView) (named : IsTrue tells → IsAlive old.store → IsTable old.store.state.bytes table root)
-    (holds : Holds tells index old) (absent : IsTrue tells → IsAlive old.store → IsAbsent index old.store.state.bytes (of_main key)) (unwritten : IsTrue tells → IsAlive old.store → IsUnwritten index old (of_main key)) where
+module _ (tells : Bool) (Opens : List ℕ → List ℕ → Type 0) (index : Index) (laws : Laws index) (t table root key : ℕ) (name : List ℕ) (old : PagesView) (called : IsTrue tells → IsAlive old.store → IsCalled old.store.state.bytes table name) (named : IsTrue tells → IsAlive old.store → IsTable old.store.state.bytes table root)
+    (holds : Holds tells index old) (absent : IsTrue tells → IsAlive old.store → IsAbsent index old.store.state.bytes (of_table name key)) (unwritten : IsTrue tells → IsAlive old.store → IsUnwritten index old (of_table name key)) where
   -- the slot that the index below asks about
   pub absent_below : IsTrue tells → IsAlive old.store → face.HasAbsent index root table key old.store.state.bytes
   absent_below told alive =
       let is = absent told alive in
-      has_absent index laws table root key asked small old.store.state.bytes ((holds alive).tied told).sound (named told alive) is.0 is.1
+      has_absent index laws table root key name old.store.state.bytes (called told alive) ((holds alive).tied told).sound (named told alive) is.0 is.1
 
   module _ (new : PagesView) (alive : IsAlive old.store) where
-    alike_less : IsTrue tells → (e : List ℕ) → face.LosesKey index root key old.store.state.bytes e → Alike index (of_main key) old.store.state.bytes e
+    alike_less : IsTrue tells → (e : List ℕ) → face.LosesKey index root key old.store.state.bytes e → Alike index (of_table name key) old.store.state.bytes e
     alike_less told e less =
         let sound = ((holds alive).tied told).sound in
         record {
           sound = less.2.sound;
           version = less.2.version;
           tables = less.2.tables;
-          records = records_same index laws table root key asked small old.store.state.bytes sound (named told alive) e less.0 less.1 less.2 (absent told alive).1;
-          parts = parts_kept index laws table root key asked small old.store.state.bytes sound (named told alive) e less.0 less.1 less.2;
+          records = records_same index laws table root key name old.store.state.bytes (called told alive) sound (named told alive) e less.0 less.1 less.2 (absent told alive).1;
+          parts = parts_kept index laws table root key name old.store.state.bytes (called told alive) sound (named told alive) e less.0 less.1 less.2;
         }
 
-    alike_equal : IsTrue tells → (e : List ℕ) → e ≡ old.store.state.bytes → Alike index (of_main key) old.store.state.bytes e
-    alike_equal told e same = alike_same index (of_main key) old.store.state.bytes e ((holds alive).tied told).sound same
+    alike_equal : IsTrue tells → (e : List ℕ) → e ≡ old.store.state.bytes → Alike index (of_table name key) old.store.state.bytes e
+    alike_equal told e same = alike_same index (of_table name key) old.store.state.bytes e ((holds alive).tied told).sound same
 
     -- what is left by a removal that met no fault
-    alike : IsTrue tells → (r : Result Bool PageFault) → IsFalse (is_failed r) → face.Removed index root key old.store.state.bytes new.store.state.bytes r → Alike index (of_main key) old.store.state.bytes new.store.state.bytes
+    alike : IsTrue tells → (r : Result Bool PageFault) → IsFalse (is_failed r) → face.Removed index root key old.store.state.bytes new.store.state.bytes r → Alike index (of_table name key) old.store.state.bytes new.store.state.bytes
     alike told (Ok true) well made = alike_less told new.store.state.bytes made
     alike told (Ok false) well made = alike_equal told new.store.state.bytes made
     alike told (Err fault.Media) well made = absurd (false≢true (sym well))
@@ -87,6 +90,7 @@ module _ (tells : Bool) (Opens : List ℕ → List ℕ → Type 0) (index : Inde
           let same = λ (told : IsTrue tells). alike told r well (does.made told alive) in
           record {
             shape = does.shape;
+            mirrors = does.mirrors;
             dead = kept.dead;
             faults = kept.faults;
             counts = does.saves;
@@ -107,7 +111,7 @@ module _ (tells : Bool) (Opens : List ℕ → List ℕ → Type 0) (index : Inde
           }
 
       failed_by_remove : IsTrue (is_failed r) → Failed tells Opens index t old new
-      failed_by_remove failed = record { shape = does.shape; dies = does.dies failed; counts = does.saves; others = does.others; time = remove_time }
+      failed_by_remove failed = record { shape = does.shape; mirrors = does.mirrors; dies = does.dies failed; counts = does.saves; others = does.others; time = remove_time }
 
   -- what it takes, in terms of the table
   takes_so : (Ends : List ℕ → Type 0) → IsTable old.store.state.bytes table root → face.Takes index root key old.store Ends → Takes index table key old Ends
@@ -124,7 +128,7 @@ module _ (tells : Bool) (Opens : List ℕ → List ℕ → Type 0) (index : Inde
 
   lost_so : (new : PagesView) → IsTrue tells → IsAlive old.store → (r : Result Bool PageFault) → face.Removed index root key old.store.state.bytes new.store.state.bytes r
       → Lost index table key old.store.state.bytes new.store.state.bytes (told_as r)
-  lost_so new told alive (Ok true) made = loses index laws table root key asked small old.store.state.bytes ((holds alive).tied told).sound (named told alive) new.store.state.bytes made.0 made.1 made.2
+  lost_so new told alive (Ok true) made = loses index laws table root key name old.store.state.bytes (called told alive) ((holds alive).tied told).sound (named told alive) new.store.state.bytes made.0 made.1 made.2
   lost_so new told alive (Ok false) made = made
   lost_so new told alive (Err (fault.LogFull g h n)) made = made
   lost_so new told alive (Err fault.Media) made = made
@@ -143,6 +147,7 @@ module _ (tells : Bool) (Opens : List ℕ → List ℕ → Type 0) (index : Inde
   dead_same : old.store.is_dead ≡ true → Removes tells Opens index table t key old old (Err refusal.Dead)
   dead_same dead = record {
     shape = refl;
+    mirrors = none_sent tells old.store old.store refl refl (λ fine. fine) (λ told mirrors fine. refl);
     cause = dead;
     faults = λ _. (refl, refl);
     dies = λ failed. absurd (false≢true failed);
@@ -167,6 +172,7 @@ module _ (tells : Bool) (Opens : List ℕ → List ℕ → Type 0) (index : Inde
         let same = λ (told : IsTrue tells). alike new alive told r well (does.made told alive) in (
           record {
             shape = moved.shape;
+            mirrors = moved.mirrors;
             cause = cause_so r does.cause;
             faults = λ _. (moved.dead, moved.faults);
             dies = λ failed. absurd (false≢true (sym well ∙ sym (still_failed r) ∙ failed));
@@ -189,6 +195,7 @@ module _ (tells : Bool) (Opens : List ℕ → List ℕ → Type 0) (index : Inde
         let failed = failed_by_remove new does.cause (Err fault.Media) does refl in (
           record {
             shape = failed.shape;
+            mirrors = failed.mirrors;
             cause = does.cause;
             faults = λ well. absurd (false≢true (sym well));
             dies = λ _. failed.dies;

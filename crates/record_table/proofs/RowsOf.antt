@@ -1,24 +1,20 @@
 -- The records of pairs as rows, and the next of them.
 use Rattle.std.proofs.Common.{◌≡◌, ℕ, suc, ◌<◌, ◌≤◌, Bool, true, false, cond, ◌&&◌, inl, inr, List, [], ◌∷◌, ◌++◌, refl, sym, ◌∙◌, ap, subst, arith}
-use Rattle.std.specs.Prelude.{nat_eq, nat_le, map, filter, Option, Some, None}
+use Rattle.std.specs.Prelude.{nat_eq, nat_le, filter, Option, Some, None}
 use Rattle.std.specs.declared.cmp.Ordering.{Ordering}
 use Rattle.std.specs.declared.cmp.Ordering.TheVariants.{Less}
 use Rattle.std.specs.Ordering.{nat_cmp, eq_by_cmp, is_lt}
 use Rattle.std.specs.Cmp.{nat_cmp_is, nat_eq_equiv, unsigned_tied}
-use Rattle.std.specs.FinMap.{get, entries, find, is_sorted, from_entries, get-from_entries}
+use Rattle.std.specs.FinMap.{find, is_sorted}
 use Rattle.std.specs.FinMap.Entries.{below_all}
 use lib.Dec.{T}
 use Rattle.std.proofs.lemmas.Bool.{cases_eq, cases_Bool, eq-eqb, ne_eqb}
-use Rattle.history.specs.Key.{Key, key_cmp, main_name, of_main, is_of_table}
+use Rattle.history.specs.Key.{of_table}
 use Rattle.history.specs.Writes.{is_within, rows_of as rows_in_table}
-use Rattle.history.specs.Rows.{all_keyed}
-use Rattle.history.proofs.Keys.{key_cmp_total}
-use Rattle.history.proofs.Keyed.{entries-from_entries, find-keyed, rows_of-found, sorted-keyed}
+use Rattle.history.proofs.Keyed.{rows_of-found}
 use Rattle.page_store.specs.Pairs.{Pair, Rise, found, next}
 use Rattle.page_store.specs.Records.{row_at, rows_of}
-use Rattle.record_table.specs.Shown.{in_table, table_in}
-use Rattle.history.proofs.Tables.{same_table}
-use Rattle.record_table.proofs.Joint.{found_named}
+use Rattle.record_table.specs.Shown.{KeyPair, found_key, table_in}
 use Rattle.record_table.proofs.Tables.{record_at, get-table_in}
 
 tied : (q k : ℕ) → eq_by_cmp nat_cmp q k ≡ nat_eq k q
@@ -69,7 +65,7 @@ module _ (d : List ℕ) where
   sorted_row key None rest a b = b
   sorted_row key (Some v) rest a b = both _ _ a b
 
-  sorted : (low high : ℕ) (ps : List Pair) → Rise low high ps → T (is_sorted nat_cmp (rows_of d ps))
+  pub sorted : (low high : ℕ) (ps : List Pair) → Rise low high ps → T (is_sorted nat_cmp (rows_of d ps))
   sorted low high [] rise = tt
   sorted low high (p ∷ ps) rise = sorted_row p.0 (record_at d (Some p.1)) (rows_of d ps) (below p.0 (suc p.0) high ps (omega arith) rise.1) (sorted (suc p.0) high ps rise.1)
 
@@ -85,7 +81,7 @@ module _ (d : List ℕ) where
       go false = refl
   find_row key q (Some v) rest = ap (λ (b : Bool). cond b (Some v) (find nat_cmp q rest)) (tied q key)
 
-  find_rows : (low high q : ℕ) (ps : List Pair) → Rise low high ps → find nat_cmp q (rows_of d ps) ≡ record_at d (found ps q)
+  pub find_rows : (low high q : ℕ) (ps : List Pair) → Rise low high ps → find nat_cmp q (rows_of d ps) ≡ record_at d (found ps q)
   find_rows low high q [] rise = refl
   find_rows low high q (p ∷ ps) rise = find_row p.0 q (record_at d (Some p.1)) (rows_of d ps) ∙ elim (cases_eq p.0 q) [
     | inl same ↦
@@ -98,26 +94,10 @@ module _ (d : List ℕ) where
       here None none = none
       here (Some v) none = refl
 
-  -- what the table of the pairs has under a key
-  got : (low high : ℕ) (ps : List Pair) → Rise low high ps → (q : Key) → get (table_in d (map (in_table main_name) ps)) q ≡ cond (is_of_table main_name q) (find nat_cmp q.key (rows_of d ps)) None
-  got low high ps rise q =
-      get-table_in d (map (in_table main_name) ps) q ∙ ap (record_at d) (found_named main_name ps q) ∙ go (is_of_table main_name q) (found ps q.key)
-      ∙ ap (λ (o : Option (List ℕ)). cond (is_of_table main_name q) o None) (sym (find_rows low high q.key ps rise))
-    where
-      go : (b : Bool) (o : Option ℕ) → record_at d (cond b o None) ≡ cond b (record_at d o) None
-      go true o = refl
-      go false o = refl
-
-  -- its rows
-  pub rows_are : (low high : ℕ) (ps : List Pair) → Rise low high ps → rows_in_table main_name (table_in d (map (in_table main_name) ps)) ≡ rows_of d ps
-  rows_are low high ps rise = rows_of-found main_name (table_in d (map (in_table main_name) ps)) (rows_of d ps) (sorted low high ps rise) (λ k. got low high ps rise (of_main k))
-
-  -- and it has no other records
-  pub entries_are : (low high : ℕ) (ps : List Pair) → Rise low high ps → entries (table_in d (map (in_table main_name) ps)) ≡ all_keyed main_name (rows_of d ps)
-  entries_are low high ps rise =
-      ap entries (same_table (table_in d (map (in_table main_name) ps)) (from_entries {R = key_cmp} (all_keyed main_name (rows_of d ps))) (λ q.
-      got low high ps rise q ∙ sym (get-from_entries key_cmp_total (all_keyed main_name (rows_of d ps)) q ∙ find-keyed main_name (rows_of d ps) q)))
-      ∙ entries-from_entries (all_keyed main_name (rows_of d ps)) (subst T (sorted-keyed main_name (rows_of d ps)) (sorted low high ps rise))
+  -- the rows of a table of which these are the pairs
+  pub rows_are : (name : List ℕ) (pairs : List KeyPair) (low high : ℕ) (ps : List Pair) → Rise low high ps → ((k : ℕ) → found_key pairs (of_table name k) ≡ found ps k) → rows_in_table name (table_in d pairs) ≡ rows_of d ps
+  rows_are name pairs low high ps rise has = rows_of-found name (table_in d pairs) (rows_of d ps) (sorted low high ps rise)
+      (λ k. get-table_in d pairs (of_table name k) ∙ ap (record_at d) (has k) ∙ sym (find_rows low high k ps rise))
 
   -- no key from this one on
   pub none_from : (from high : ℕ) (ps : List Pair) → next ps from ≡ None → filter (is_within from high) (rows_of d ps) ≡ []

@@ -1,7 +1,6 @@
 -- What a look-up of a key and of its slot reads and costs, from what its two parts do.
-use Rattle.std.proofs.Common.{◌≡◌, ℕ, ◌+◌, ◌*◌, ◌/◌, ◌<◌, ◌≤◌, ◌⊎◌, inl, inr, Bool, true, false, List, [], ◌∷◌, length, Option, Some, None, Result, Ok, Err, refl, sym, ◌∙◌, ap, subst, arith}
-use Rattle.std.specs.Prelude.{if◌then◌else◌, IsTrue}
-use Rattle.std.specs.Option.{option_map}
+use Rattle.std.proofs.Common.{◌≡◌, ℕ, ◌+◌, ◌*◌, ◌/◌, ◌<◌, ◌⊎◌, inl, inr, Bool, true, false, List, [], ◌∷◌, Option, Some, None, Result, Ok, Err, refl, sym, ◌∙◌, ap, subst, arith}
+use Rattle.std.specs.Prelude.{if◌then◌else◌}
 use Rattle.std.proofs.lemmas.Bool.{false≢true}
 use Rattle.mars_base.specs.Costs.{Costs}
 use Rattle.array_shape.specs.declared.shape.Shape.{Shape}
@@ -10,8 +9,8 @@ use Rattle.eaw_face.specs.Command as store
 use Rattle.eaw_face.specs.Causes.{IsAlive}
 use Rattle.eaw_face.specs.State.{Logs, listed}
 use Rattle.eaw_face.specs.StoreView.{StoreView}
-use Rattle.page_store.specs.Course.{Reading, Course}
-use Rattle.page_store.specs.Follows.{Follows, reads_cost}
+use Rattle.page_store.specs.Course.{Course}
+use Rattle.page_store.specs.Follows.{Follows}
 use Rattle.page_store.specs.Index.{slots_of, index_pages_of}
 use Rattle.page_store.specs.Looks.{LookCause, is_failed}
 use Rattle.page_store.specs.Reads.{overlap, lay_cost, laid_cost, seen_cost}

@@ -14,7 +14,7 @@ use Rattle.record_slots.specs.Places.{slot_of, IsOfKey, Carries}
 use Rattle.record_slots.specs.declared.slot.Slot.{Slot}
 use Rattle.page_store.specs.Index.{Index, slots_of}
 use Rattle.page_store.specs.Looks.{Looks}
-use Rattle.history.specs.Key.{Key}
+use Rattle.history.specs.declared.key.Key.{Key}
 use Rattle.page_store.specs.Records.{value_of}
 use Rattle.page_store.specs.Shown.{PagesView}
 use Rattle.page_store.specs.Shown as pages
@@ -62,7 +62,7 @@ module _ (index : Index) (laws : Laws index) (t : ℕ) (key : Key) (old : PagesV
     some_slot read =
         let w = applied_parts index laws (listed (old.store.state.logs t)) old.store.state.bytes tied.sound (tied.parts t) in
         let p = placed index laws (applied (listed (old.store.state.logs t)) old.store.state.bytes) w.sound key slot (ap (λ (l : List KeyPair). found_key l key) w.pairs ∙ is) in
-        no_slot p.table p.key (slot_said (slot_of (applied (listed (old.store.state.logs t)) old.store.state.bytes) slot)) (sym (read ∙ read_is)) p.carries
+        no_slot p.table key.key (slot_said (slot_of (applied (listed (old.store.state.logs t)) old.store.state.bytes) slot)) (sym (read ∙ read_is)) p.carries
 
 -- the value of what was found
 pub found_value : (index : Index) (t : ℕ) (key : Key) (old : PagesView) (found : Option Place) → Finds index t key old found → get (seen_by (state_of index old) t) key ≡ value_at found

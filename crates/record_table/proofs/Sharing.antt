@@ -1,25 +1,26 @@
--- What an index guarantees of the pairs of the tables that can be asked for.
+-- What an index guarantees of the pairs of all tables.
 use Rattle.std.proofs.Common.{◌≡◌, ◌≢◌, ◌^◌, ℕ, ◌+◌, ◌-◌, ◌<◌, ◌≤◌, ◌⊎◌, Bool, true, false, cond, inl, inr, List, [], ◌∷◌, length, refl, sym, ◌∙◌, ap, subst, arith}
-use Rattle.std.specs.Prelude.{zero, suc, nat_eq, if◌then◌else◌, ◌&&◌, slice_get, map, take, Option, Some, None}
+use Rattle.std.specs.Prelude.{zero, suc, nat_eq, if◌then◌else◌, ◌&&◌, slice_get, map, Option, Some, None}
 use Rattle.std.specs.Option.{option_map, unwrap_or}
-use Rattle.std.proofs.lemmas.Bool.{cases_eq, eq-eqb}
+use Rattle.std.proofs.lemmas.Bool.{cases_eq, cases_lt, eq-eqb, ne_eqb}
 use Rattle.std.proofs.lemmas.Bool.Decides.{eqb_tells}
 use Rattle.std.proofs.lemmas.Option.{same_Some}
 use Rattle.record_slots.specs.Slots.{slot_said}
 use Rattle.record_slots.specs.Names.{names_in}
-use Rattle.record_slots.specs.Super.{main_table, next_slot_said, next_page_said, tables_said, free_slot_in, free_slots_in, free_pages_in}
+use Rattle.record_slots.specs.Super.{next_slot_said, next_page_said, tables_said, free_slot_in, free_slots_in, free_pages_in}
 use Rattle.record_slots.specs.Places.{page_bytes, slot_of, next_slot, next_page, tables_of, root_of, slot_due, used_slots, IsOfKey, Carries, AreGiven}
 use Rattle.record_slots.specs.declared.super_page.TableEntry.{TableEntry}
 use Rattle.record_slots.specs.declared.slot.Slot.{Slot}
 use Rattle.record_slots.specs.declared.slot.Slot.TheVariants.{Absent, Present}
-use Rattle.history.specs.Key.{Key, main_name, of_main, is_same_key, is_of_table}
-use Rattle.history.proofs.Keys.{name_decides, cases_key, same_key, other_key}
+use Rattle.history.specs.declared.key.Key.{Key}
+use Rattle.history.specs.Key.{of_table, is_same_key}
+use Rattle.history.proofs.Keys.{cases_key, same_key, other_key}
 use Rattle.page_store.specs.Pairs.{Pair, Rise, found}
 use Rattle.page_store.specs.Index.{Index, IsTable, HasCounts, KeepsIndex, Grows, Rests, Gains, IsEmptyRoot, Extends}
 use Rattle.record_table.specs.State.{GainsKey, KeepsKeys, TakesPages}
-use Rattle.record_table.specs.Names.{name_at, key_in}
-use Rattle.record_table.specs.Shown.{KeyPair, found_key, write_said, asked_tables, pairs_from, pairs_of, level_under, keys_of}
-use Rattle.record_table.proofs.Joint.{root_in, pairs_same, found_main, main_first, found_inside, found_inserted}
+use Rattle.record_table.specs.Names.{IsCalled, names_of, name_at, key_in}
+use Rattle.record_table.specs.Shown.{KeyPair, found_key, write_said, pairs_from, pairs_of, level_under, keys_of}
+use Rattle.record_table.proofs.Joint.{root_in, pairs_same, tables_apart, found_some, found_from, found_inserted}
 
 -- what an index guarantees about its data
 pub record Laws (index : Index) : Type 0 where
@@ -42,29 +43,65 @@ pub carries_one : (bytes : List ℕ) (t u a b slot : ℕ) → Carries bytes t (a
 unfolding Carries
 carries_one bytes t u a b slot x y = one_key (slot_said (slot_of bytes slot)) t u a b x y
 
--- the table that can be asked for is `main`, whose root is page 1
-main_called : (d : List ℕ) → HasCounts d → name_at d 0 ≡ main_name
-main_called d counts = go (tables_of d) (main_first d counts)
+-- the table of a number, by its name and its root
+entry_there : (tables : List TableEntry) (table root : ℕ) (name : List ℕ) → slice_get (names_in tables) table ≡ Some name → root_in tables table ≡ Some root → slice_get tables table ≡ Some (record { name = name; root = root })
+entry_there [] table root name called is = absurd (cc)
+entry_there (entry ∷ entries) zero root name called is = λ i. Some (record { name = same_Some entry.name name called i; root = same_Some entry.root root is i })
+entry_there (entry ∷ entries) (suc table) root name called is = entry_there entries table root name called is
+
+pub name_there : (tables : List TableEntry) (table : ℕ) (entry : TableEntry) → slice_get tables table ≡ Some entry → slice_get (names_in tables) table ≡ Some entry.name
+name_there [] table entry is = absurd (cc)
+name_there (first ∷ entries) zero entry is = ap (option_map (λ entry. entry.name)) is
+name_there (first ∷ entries) (suc table) entry is = name_there entries table entry is
+
+-- the table of a number that has a name
+has_entry : (tables : List TableEntry) (table : ℕ) (name : List ℕ) → slice_get (names_in tables) table ≡ Some name → (entry : TableEntry) × (slice_get tables table ≡ Some entry) × (entry.name ≡ name)
+has_entry [] table name called = absurd (cc)
+has_entry (entry ∷ entries) zero name called = (entry, refl, same_Some entry.name name called)
+has_entry (entry ∷ entries) (suc table) name called = has_entry entries table name called
+
+pub root_called : (d : List ℕ) (table : ℕ) (name : List ℕ) → IsCalled d table name → (root : ℕ) × IsTable d table root
+root_called d table name called = let e = has_entry (tables_of d) table name called in (e.0.root, ap (option_map (λ entry. entry.root)) e.1)
+
+-- a table of a number has a name
+pub called_at : (d : List ℕ) (table root : ℕ) → IsTable d table root → IsCalled d table (name_at d table)
+called_at d table root is = go (tables_of d) table is
   where
-    go : (tables : List TableEntry) → slice_get tables 0 ≡ Some main_table → unwrap_or (slice_get (names_in tables) 0) [] ≡ main_name
-    go [] none = absurd (cc)
-    go (entry ∷ entries) has = (let here : entry ≡ main_table = cc in ap (λ (e : TableEntry). e.name) here)
+    go : (tables : List TableEntry) (n : ℕ) → root_in tables n ≡ Some root → slice_get (names_in tables) n ≡ Some (unwrap_or (slice_get (names_in tables) n) [])
+    go [] n none = absurd (cc)
+    go (entry ∷ entries) zero has = refl
+    go (entry ∷ entries) (suc n) has = go entries n has
 
-pub asked_key : (d : List ℕ) → HasCounts d → (table key : ℕ) → table < asked_tables → key_in d table key ≡ of_main key
-asked_key d counts table key asked =
-    let zeroth : table ≡ 0 = omega arith in
-    (λ i. record { table = (ap (name_at d) zeroth ∙ main_called d counts) i; key = key })
+pub called_below : (d : List ℕ) (table : ℕ) → table < length (names_of d) → IsCalled d table (name_at d table)
+called_below d table lt = go (names_of d) table lt
+  where
+    go : (names : List (List ℕ)) (n : ℕ) → n < length names → slice_get names n ≡ Some (unwrap_or (slice_get names n) [])
+    go [] n lt = absurd (omega (arith, lt))
+    go (name ∷ names) zero lt = refl
+    go (name ∷ names) (suc n) lt = go names n (omega (arith, lt))
 
-pub asked_root : (d : List ℕ) → HasCounts d → (table root : ℕ) → table < asked_tables → IsTable d table root → root ≡ 1
-asked_root d counts table root asked is =
-    let zeroth : table ≡ 0 = omega arith in
-    same_Some root 1 (sym is ∙ ap (root_of d) zeroth ∙ counts.main)
+-- a name is that of one table
+pub one_number : (d : List ℕ) → HasCounts d → (one two : ℕ) (name : List ℕ) → IsCalled d one name → IsCalled d two name → one ≡ two
+one_number d counts one two name x y =
+    let a = has_entry (tables_of d) one name x in
+    let b = has_entry (tables_of d) two name y in
+    elim (cases_eq one two) [
+      | inl same ↦ same
+      | inr differ ↦ elim (cases_lt one two) [
+        | inl less ↦ absurd (tables_apart d counts one two a.0 b.0 less a.1 b.1 (a.2 ∙ sym b.2))
+        | inr more ↦ absurd (tables_apart d counts two one b.0 a.0 (omega (arith, more, differ)) b.1 a.1 (b.2 ∙ sym a.2))
+      ]
+    ]
 
--- the key of a slot of a table that can be asked for
-pub key_said : (d : List ℕ) → HasCounts d → (said : Option Slot) (table key : ℕ) → table < asked_tables → IsOfKey table key said → (write_said d said).0 ≡ of_main key
-key_said d counts None table key asked is = absurd is
-key_said d counts (Some (Absent j k)) table key asked is = (λ i. key_in d (is.0 i) (is.1 i)) ∙ asked_key d counts table key asked
-key_said d counts (Some (Present j k v)) table key asked is = (λ i. key_in d (is.0 i) (is.1 i)) ∙ asked_key d counts table key asked
+-- the same tables have the same names
+pub called_same : (d e : List ℕ) → tables_of e ≡ tables_of d → (table : ℕ) (name : List ℕ) → IsCalled d table name → IsCalled e table name
+called_same d e tables table name called = ap (λ (ts : List TableEntry). slice_get (names_in ts) table) tables ∙ called
+
+-- the key of a slot of a table
+pub key_said : (d : List ℕ) (said : Option Slot) (table key : ℕ) (name : List ℕ) → IsCalled d table name → IsOfKey table key said → (write_said d said).0 ≡ of_table name key
+key_said d None table key name called is = absurd is
+key_said d (Some (Absent j k)) table key name called is = (λ i. key_in d (is.0 i) (is.1 i)) ∙ (λ i. of_table (unwrap_or (called i) []) key)
+key_said d (Some (Present j k v)) table key name called is = (λ i. key_in d (is.0 i) (is.1 i)) ∙ (λ i. of_table (unwrap_or (called i) []) key)
 
 -- the slot of a key that is found
 pub found_given : (bytes : List ℕ) (table : ℕ) (ps : List Pair) (key slot : ℕ) → AreGiven bytes table ps → found ps key ≡ Some slot → (slot < next_slot bytes) × Carries bytes table (key, slot)
@@ -79,66 +116,43 @@ found_given bytes table (p ∷ ps) key slot given is = elim (eqb_tells p.0 key) 
       found_given bytes table ps key slot given.2 (sym (ap (λ (x : Bool). cond x (Some p.1) (found ps key)) b) ∙ is)
 ]
 
--- the first tables are among all
-first_there : (n : ℕ) (tables : List TableEntry) (j root : ℕ) → root_in (take n tables) j ≡ Some root → root_in tables j ≡ Some root
-first_there zero tables j root is = absurd (cc)
-first_there (suc n) [] j root is = is
-first_there (suc n) (entry ∷ entries) zero root is = is
-first_there (suc n) (entry ∷ entries) (suc j) root is = first_there n entries j root is
-
--- the tables that can be asked for
-abbrev pub asked_of : List ℕ → List TableEntry
-asked_of d = take asked_tables (tables_of d)
-
 module _ (index : Index) (laws : Laws index) where
   -- a key that the indexes have is one of a table, whose slot was given and carries it
   pub record Placed (d : List ℕ) (q : Key) (slot : ℕ) : Type 0 where
     pub table : ℕ
     pub root : ℕ
-    pub key : ℕ
-    pub asked : table < asked_tables
+    pub called : IsCalled d table q.table
     pub there : IsTable d table root
-    pub is : q ≡ of_main key
-    pub small : key < 2 ^ 64
-    pub has : found (index.pairs d root) key ≡ Some slot
+    pub has : found (index.pairs d root) q.key ≡ Some slot
     pub given : slot < next_slot d
-    pub carries : Carries d table (key, slot)
+    pub carries : Carries d table (q.key, slot)
 
   pub placed : (d : List ℕ) → index.sound d → (q : Key) (slot : ℕ) → found_key (pairs_of index d) q ≡ Some slot → Placed d q slot
+  unfolding pairs_of
   placed d sound q slot is =
-      let counts = laws.counts d sound in
-      let both = named (is_of_table main_name q) (found (index.pairs d 1) q.key) (sym (found_main index d counts q) ∙ is) in
-      let name : main_name ≡ q.table = (name_decides main_name q.table).0 both.0 in
-      let g = found_given d 0 (index.pairs d 1) q.key slot (laws.given d 0 1 sound counts.main) both.1 in
+      let f = found_some index d q slot (tables_of d) is in
+      let there : IsTable d f.number f.entry.root = ap (option_map (λ entry. entry.root)) f.there in
+      let g = found_given d f.number (index.pairs d f.entry.root) q.key slot (laws.given d f.number f.entry.root sound there) f.has in
       record {
-        table = 0;
-        root = 1;
-        key = q.key;
-        asked = omega arith;
-        there = counts.main;
-        is = λ i. record { table = sym name i; key = q.key };
-        small = (found_inside 0 (2 ^ 64) (index.pairs d 1) q.key slot (laws.rises d 0 1 sound counts.main) both.1).1;
-        has = both.1;
+        table = f.number;
+        root = f.entry.root;
+        called = name_there (tables_of d) f.number f.entry f.there ∙ ap Some f.named;
+        there = there;
+        has = f.has;
         given = g.0;
         carries = g.1;
       }
-    where
-      named : (b : Bool) (o : Option ℕ) → cond b o None ≡ Some slot → (b ≡ true) × (o ≡ Some slot)
-      named true o is = (refl, is)
-      named false o is = absurd (cc)
 
   -- what is found for a key of a table
-  pub found_in : (d : List ℕ) (table root key : ℕ) → index.sound d → table < asked_tables → IsTable d table root → found_key (pairs_of index d) (of_main key) ≡ found (index.pairs d root) key
-  found_in d table root key sound asked is =
-      let counts = laws.counts d sound in
-      found_main index d counts (of_main key) ∙ ap (λ (r : ℕ). found (index.pairs d r) key) (sym (asked_root d counts table root asked is))
+  pub found_in : (d : List ℕ) (table root key : ℕ) (name : List ℕ) → index.sound d → IsCalled d table name → IsTable d table root → found_key (pairs_of index d) (of_table name key) ≡ found (index.pairs d root) key
+  unfolding pairs_of
+  found_in d table root key name sound called is = found_from index d (tables_of d) table (record { name = name; root = root }) key (tables_apart d (laws.counts d sound)) (entry_there (tables_of d) table root name called is)
 
 -- the tables and their pairs stay
 pub pairs_rest : (index : Index) (d e : List ℕ) → tables_of e ≡ tables_of d → ((table root : ℕ) → IsTable d table root → index.pairs e root ≡ index.pairs d root) → pairs_of index e ≡ pairs_of index d
 unfolding pairs_of
 pairs_rest index d e tables same =
-    ap (λ (ts : List TableEntry). pairs_from index e (take asked_tables ts)) tables
-    ∙ pairs_same index d e (asked_of d) (λ j root is. same j root (first_there asked_tables (tables_of d) j root is))
+    ap (pairs_from index e) tables ∙ pairs_same index d e (tables_of d) same
 
 pub level_same : (index : Index) (d e : List ℕ) (table : ℕ) → tables_of e ≡ tables_of d → ((root : ℕ) → IsTable d table root → index.level e root ≡ index.level d root)
     → level_under index e (root_of e table) ≡ level_under index d (root_of d table)
@@ -200,23 +214,71 @@ module _ (index : Index) (laws : Laws index) (d e : List ℕ) (table root : ℕ)
   pub keeps : Rests index root d e → KeepsKeys (keys_of index d) (keys_of index e)
   keeps rests = record { slot_of = ap found_key (pairs_kept rests); slots = rests.slots; due = rests.due }
 
-  module _ (asked : table < asked_tables) (key : ℕ) (absent : found (index.pairs d root) key ≡ None) (gains : Gains index root table key d e) where
+  module _ (name : List ℕ) (called : IsCalled d table name) (key : ℕ) (absent : found (index.pairs d root) key ≡ None) (gains : Gains index root table key d e) where
     gained_here : (k : ℕ) → found (index.pairs e root) k ≡ cond (nat_eq key k) (Some (slot_due d)) (found (index.pairs d root) k)
     gained_here k = ap (λ (l : List Pair). found l k) gains.pairs ∙ found_inserted (index.pairs d root) key (slot_due d) k absent
 
-    pub gained : (q : Key) → found_key (pairs_of index e) q ≡ cond (is_same_key (of_main key) q) (Some (slot_due d)) (found_key (pairs_of index d) q)
-    gained q =
-        let counts = laws.counts d sound in
-        let one : root ≡ 1 = asked_root d counts table root asked named in
-        found_main index e (laws.counts e grows.sound) q
-        ∙ ap (λ (r : ℕ). cond (is_of_table main_name q) (found (index.pairs e r) q.key) None) (sym one)
-        ∙ ap (λ (o : Option ℕ). cond (is_of_table main_name q) o None) (gained_here q.key)
-        ∙ go (is_of_table main_name q) (nat_eq key q.key) (found (index.pairs d root) q.key)
-        ∙ ap (cond (is_same_key (of_main key) q) (Some (slot_due d))) (ap (λ (r : ℕ). cond (is_of_table main_name q) (found (index.pairs d r) q.key) None) one ∙ sym (found_main index d counts q))
-      where
-        go : (b c : Bool) (o : Option ℕ) → cond b (cond c (Some (slot_due d)) o) None ≡ cond (b && c) (Some (slot_due d)) (cond b o None)
-        go true c o = refl
-        go false c o = refl
+    called_now : IsCalled e table name
+    called_now = called_same d e grows.tables table name called
 
-    pub gains_key : GainsKey (of_main key) (keys_of index d) (keys_of index e)
+    new_here : found (index.pairs e root) key ≡ Some (slot_due d)
+    new_here = gained_here key ∙ ap (λ (b : Bool). cond b (Some (slot_due d)) (found (index.pairs d root) key)) (eq-eqb key key refl)
+
+    still_there : (q : Key) (s : ℕ) → (p : Placed index laws d q s) → found (index.pairs e p.root) q.key ≡ Some s
+    still_there q s p = elim (cases_eq p.root root) [
+      | inl same ↦
+          let it : found (index.pairs d root) q.key ≡ Some s = ap (λ (r : ℕ). found (index.pairs d r) q.key) (sym same) ∙ p.has in
+          let apart : key ≢ q.key = λ x. (let no : Some s ≡ None = sym it ∙ ap (found (index.pairs d root)) (sym x) ∙ absent in absurd (cc)) in
+          ap (λ (r : ℕ). found (index.pairs e r) q.key) same ∙ gained_here q.key ∙ ap (λ (b : Bool). cond b (Some (slot_due d)) (found (index.pairs d root) q.key)) (ne_eqb key q.key apart) ∙ it
+      | inr differs ↦ ap (λ (l : List Pair). found l q.key) (grows.others p.table p.root p.there differs).pairs ∙ p.has
+    ]
+
+    still : (q : Key) (s : ℕ) → found_key (pairs_of index d) q ≡ Some s → found_key (pairs_of index e) q ≡ Some s
+    still q s is =
+        let p = placed index laws d sound q s is in
+        found_in index laws e p.table p.root q.key q.table grows.sound (called_same d e grows.tables p.table q.table p.called) (named_there p.table p.root p.there) ∙ still_there q s p
+
+    named_before : (number other : ℕ) → IsTable e number other → IsTable d number other
+    named_before number other is = ap (λ (ts : List TableEntry). option_map (λ entry. entry.root) (slice_get ts number)) (sym grows.tables) ∙ is
+
+    -- no other table has this root
+    was_there : (q : Key) (s : ℕ) → q ≢ of_table name key → (p : Placed index laws e q s) → found (index.pairs d p.root) q.key ≡ Some s
+    was_there q s ne p = elim (cases_eq p.root root) [
+      | inl same ↦ elim (cases_eq key q.key) [
+        | inl its ↦
+            let carried = (found_given e table (index.pairs e root) key (slot_due d) (laws.given e table root grows.sound (named_there table root named)) new_here).1 in
+            let slot : s ≡ slot_due d = same_Some s (slot_due d) (sym p.has ∙ (λ i. found (index.pairs e (same i)) (sym its i)) ∙ new_here) in
+            let number : p.table ≡ table = (carries_one e p.table table q.key key s p.carries (subst (λ (x : ℕ). Carries e table (key, x)) (sym slot) carried)).0 in
+            let name_is : q.table ≡ name = same_Some q.table name (sym p.called ∙ ap (λ (n : ℕ). slice_get (names_in (tables_of e)) n) number ∙ called_now) in
+            absurd (ne (λ i. of_table (name_is i) (sym its i)))
+        | inr apart ↦
+            ap (λ (r : ℕ). found (index.pairs d r) q.key) same
+            ∙ sym (gained_here q.key ∙ ap (λ (b : Bool). cond b (Some (slot_due d)) (found (index.pairs d root) q.key)) (ne_eqb key q.key apart))
+            ∙ ap (λ (r : ℕ). found (index.pairs e r) q.key) (sym same) ∙ p.has
+      ]
+      | inr differs ↦ ap (λ (l : List Pair). found l q.key) (sym (grows.others p.table p.root (named_before p.table p.root p.there) differs).pairs) ∙ p.has
+    ]
+
+    was : (q : Key) (s : ℕ) → q ≢ of_table name key → found_key (pairs_of index e) q ≡ Some s → found_key (pairs_of index d) q ≡ Some s
+    was q s ne is =
+        let p = placed index laws e grows.sound q s is in
+        found_in index laws d p.table p.root q.key q.table sound (called_same e d (sym grows.tables) p.table q.table p.called) (named_before p.table p.root p.there) ∙ was_there q s ne p
+
+    other_same : (q : Key) → q ≢ of_table name key → found_key (pairs_of index e) q ≡ found_key (pairs_of index d) q
+    other_same q ne = go (found_key (pairs_of index d) q) refl (found_key (pairs_of index e) q) refl
+      where
+        go : (o : Option ℕ) → found_key (pairs_of index d) q ≡ o → (n : Option ℕ) → found_key (pairs_of index e) q ≡ n → n ≡ o
+        go (Some s) is n now = sym now ∙ still q s is
+        go None is None now = refl
+        go None is (Some s) now = sym (was q s ne now) ∙ is
+
+    pub gained : (q : Key) → found_key (pairs_of index e) q ≡ cond (is_same_key (of_table name key) q) (Some (slot_due d)) (found_key (pairs_of index d) q)
+    gained q = elim (cases_key (of_table name key) q) [
+      | inl same ↦
+          ap (found_key (pairs_of index e)) (sym same) ∙ found_in index laws e table root key name grows.sound called_now (named_there table root named) ∙ new_here
+          ∙ sym (ap (λ (b : Bool). cond b (Some (slot_due d)) (found_key (pairs_of index d) q)) (same_key (of_table name key) q same))
+      | inr ne ↦ other_same q (λ x. ne (sym x)) ∙ sym (ap (λ (b : Bool). cond b (Some (slot_due d)) (found_key (pairs_of index d) q)) (other_key (of_table name key) q ne))
+    ]
+
+    pub gains_key : GainsKey (of_table name key) (keys_of index d) (keys_of index e)
     gains_key = record { slot_of = λ i q. gained q i; slots = gains.slots }

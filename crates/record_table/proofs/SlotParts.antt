@@ -1,10 +1,9 @@
 -- What parts that are whole slots do to the data.
-use Rattle.std.proofs.Common.{◌≡◌, ◌≢◌, ◌^◌, ℕ, zero, suc, take, ◌+◌, ◌*◌, ◌/◌, ◌<◌, ◌≤◌, ◌⊎◌, Bool, true, false, cond, inl, inr, List, [], ◌∷◌, length, refl, sym, ◌∙◌, ap, subst, arith}
-use Rattle.std.specs.Prelude.{nat_eq, map, slice_get, Option, Some, None}
+use Rattle.std.proofs.Common.{◌≡◌, ◌≢◌, ℕ, zero, suc, take, ◌+◌, ◌*◌, ◌/◌, ◌<◌, ◌≤◌, ◌⊎◌, inl, inr, List, [], ◌∷◌, length, refl, sym, ◌∙◌, ap, subst, arith}
+use Rattle.std.specs.Prelude.{map, slice_get, Option, Some, None}
 use Rattle.std.specs.Option.{unwrap_or}
 use Rattle.std.specs.FinMap.{get}
-use Rattle.std.proofs.lemmas.Bool.{cases_eq, eq-eqb}
-use Rattle.std.proofs.lemmas.Bool.Decides.{eqb_tells}
+use Rattle.std.proofs.lemmas.Bool.{cases_eq}
 use Rattle.std.proofs.lemmas.Option.{same_Some}
 use Rattle.mars_base.specs.Bytes.{put, range}
 use Rattle.mars_base.proofs.Puts.{length-put}
@@ -18,8 +17,9 @@ use Rattle.record_slots.specs.declared.free.Free.{Free}
 use Rattle.record_slots.specs.declared.slot.Slot.{Slot}
 use Rattle.record_slots.specs.declared.slot.Slot.TheVariants.{Absent, Present}
 use Rattle.record_slots.proofs.SlotLemmas.{free_says_none}
-use Rattle.history.specs.Key.{Key, of_main}
-use Rattle.history.specs.Writes.{Table, all_written, write_into}
+use Rattle.history.specs.declared.key.Key.{Key}
+use Rattle.history.specs.Key.{of_table}
+use Rattle.history.specs.Writes.{Table, Write, all_written, write_into}
 use Rattle.history.proofs.Keys.{cases_key}
 use Rattle.page_store.specs.Pairs.{Pair}
 use Rattle.page_store.specs.Index.{Index, IsTable, KeepsIndex}
@@ -29,8 +29,9 @@ use Rattle.page_store.specs.Shown.{saved_of}
 use Rattle.history.specs.Log.{Log}
 use Rattle.record_table.specs.Shown.{KeyPair, found_key, table_in, table_of, write_said, write_of, writes_of, pairs_of, keys_of}
 use Rattle.record_table.specs.Invariant.{IsSlotPart, AreSlotParts}
-use Rattle.history.proofs.Tables.{get-set_here, get-set_there, same_table}
-use Rattle.record_table.proofs.Sharing.{Laws, carries_one, placed, key_said, pairs_rest, keys_same}
+use Rattle.record_table.specs.Names.{IsCalled}
+use Rattle.history.proofs.Agreeing.{get-set_here, get-set_there, same_table}
+use Rattle.record_table.proofs.Sharing.{Laws, carries_one, placed, one_number, called_same, key_said, pairs_rest, keys_same}
 use Rattle.record_table.proofs.Tables.{record_at, get-table_in, value_is}
 
 -- a free slot carries none
@@ -61,63 +62,67 @@ log_kept d e tables now was parts counts before same = λ i. record {
   saved = (saves_same d e tables (saved_of now counts) ∙ (λ j. map (writes_of d) (saved_of (parts j) (same j)))) i;
 }
 
+-- each table has the name that it had
+abbrev pub KeepsCalls : List ℕ → List ℕ → Type 0
+KeepsCalls d e = (table : ℕ) (name : List ℕ) → IsCalled d table name → IsCalled e table name
+
 module _ (index : Index) (laws : Laws index) where
   -- two keys with the same slot are equal
   pub one_slot : (d : List ℕ) → index.sound d → (a b : Key) (slot : ℕ) → found_key (pairs_of index d) a ≡ Some slot → found_key (pairs_of index d) b ≡ Some slot → a ≡ b
   one_slot d sound a b slot x y =
       let p = placed index laws d sound a slot x in
       let q = placed index laws d sound b slot y in
-      let one = carries_one d p.table q.table p.key q.key slot p.carries q.carries in
-      p.is ∙ ap of_main one.1 ∙ sym q.is
+      let one = carries_one d p.table q.table a.key b.key slot p.carries q.carries in
+      let name : a.table ≡ b.table = same_Some a.table b.table (sym p.called ∙ ap (λ (n : ℕ). slice_get (names_in (tables_of d)) n) one.0 ∙ q.called) in
+      λ i. of_table (name i) (one.1 i)
 
   -- the key of a part is one of its table
-  pub part_key : (d : List ℕ) → index.sound d → (part : Part) (is : IsSlotPart index d part) → (write_of d part).0 ≡ of_main is.key
-  part_key d sound part is = key_said d (laws.counts d sound) (slot_said part.1) is.table is.key is.asked is.says
+  pub part_key : (d : List ℕ) (part : Part) (is : IsSlotPart index d part) → (write_of d part).0 ≡ of_table (write_of d part).0.table is.key
+  part_key d part is = key_said d (slot_said part.1) is.table is.key (write_of d part).0.table is.called is.says
 
-  -- a part stands for the same write in all sound data
-  part_same : (d e : List ℕ) → index.sound d → index.sound e → (p : Part) → IsSlotPart index d p → write_of e p ≡ write_of d p
-  part_same d e sound sound' p is =
+  -- a part stands for the same write in all data in which each table has its name still
+  part_same : (d e : List ℕ) → KeepsCalls d e → (p : Part) → IsSlotPart index d p → write_of e p ≡ write_of d p
+  part_same d e stays p is =
       let key : (write_of e p).0 ≡ (write_of d p).0 =
-      key_said e (laws.counts e sound') (slot_said p.1) is.table is.key is.asked is.says ∙ sym (part_key d sound p is) in
+      key_said e (slot_said p.1) is.table is.key (write_of d p).0.table (stays is.table (write_of d p).0.table is.called) is.says ∙ sym (part_key d p is) in
       λ i. (key i, (sym (value_is e (slot_said p.1)) ∙ value_is d (slot_said p.1)) i)
 
-  pub parts_same : (d e : List ℕ) → index.sound d → index.sound e → (log : List Part) → AreSlotParts index d log → writes_of e log ≡ writes_of d log
-  parts_same d e sound sound' [] parts = refl
-  parts_same d e sound sound' (p ∷ ps) parts = λ i. part_same d e sound sound' p parts.0 i ∷ parts_same d e sound sound' ps parts.1 i
+  pub parts_same : (d e : List ℕ) → KeepsCalls d e → (log : List Part) → AreSlotParts index d log → writes_of e log ≡ writes_of d log
+  parts_same d e stays [] parts = refl
+  parts_same d e stays (p ∷ ps) parts = λ i. part_same d e stays p parts.0 i ∷ parts_same d e stays ps parts.1 i
 
   pub parts_take : (d : List ℕ) (n : ℕ) (log : List Part) → AreSlotParts index d log → AreSlotParts index d (take n log)
   parts_take d zero log parts = tt
   parts_take d (suc n) [] parts = tt
   parts_take d (suc n) (p ∷ ps) parts = (parts.0, parts_take d n ps parts.1)
 
-  saves_so : (d e : List ℕ) → index.sound d → index.sound e → (log : List Part) → AreSlotParts index d log → (counts : List ℕ) → map (writes_of e) (saved_of log counts) ≡ map (writes_of d) (saved_of log counts)
-  saves_so d e sound sound' log parts [] = refl
-  saves_so d e sound sound' log parts (n ∷ counts) = λ i. parts_same d e sound sound' (take n log) (parts_take d n log parts) i ∷ saves_so d e sound sound' log parts counts i
+  saves_so : (d e : List ℕ) → KeepsCalls d e → (log : List Part) → AreSlotParts index d log → (counts : List ℕ) → map (writes_of e) (saved_of log counts) ≡ map (writes_of d) (saved_of log counts)
+  saves_so d e stays log parts [] = refl
+  saves_so d e stays log parts (n ∷ counts) = λ i. parts_same d e stays (take n log) (parts_take d n log parts) i ∷ saves_so d e stays log parts counts i
 
   -- so a log of the same slot parts is the same
-  pub log_carried : (d e far : List ℕ) → far ≡ e → index.sound d → index.sound e → (now was : List Part) → now ≡ was → AreSlotParts index d was → (counts before : List ℕ) → counts ≡ before
+  pub log_carried : (d e far : List ℕ) → far ≡ e → KeepsCalls d e → (now was : List Part) → now ≡ was → AreSlotParts index d was → (counts before : List ℕ) → counts ≡ before
       → ◌≡◌ {A = Log} (record { writes = writes_of far now; saved = map (writes_of far) (saved_of now counts) }) (record { writes = writes_of d was; saved = map (writes_of d) (saved_of was before) })
-  log_carried d e far at sound sound' now was same parts counts before equal = λ i. record {
-    writes = ((λ j. writes_of (at j) (same j)) ∙ parts_same d e sound sound' was parts) i;
-    saved = ((λ j. map (writes_of (at j)) (saved_of (same j) (equal j))) ∙ saves_so d e sound sound' was parts before) i;
+  log_carried d e far at stays now was same parts counts before equal = λ i. record {
+    writes = ((λ j. writes_of (at j) (same j)) ∙ parts_same d e stays was parts) i;
+    saved = ((λ j. map (writes_of (at j)) (saved_of (same j) (equal j))) ∙ saves_so d e stays was parts before) i;
   }
 
-  -- parts stay slot parts in sound data with the same pairs and the same length
-  pub parts_carry : (d e : List ℕ) → index.sound d → index.sound e → pairs_of index e ≡ pairs_of index d → length e ≡ length d → (log : List Part) → AreSlotParts index d log → AreSlotParts index e log
-  parts_carry d e sound sound' pairs long [] parts = tt
-  parts_carry d e sound sound' pairs long (p ∷ ps) parts = (
+  -- parts stay slot parts in data with the same pairs and the same length, in which each table has its name still
+  pub parts_carry : (d e : List ℕ) → KeepsCalls d e → pairs_of index e ≡ pairs_of index d → length e ≡ length d → (log : List Part) → AreSlotParts index d log → AreSlotParts index e log
+  parts_carry d e stays pairs long [] parts = tt
+  parts_carry d e stays pairs long (p ∷ ps) parts = (
     record {
       slot = parts.0.slot;
-      named = (λ i. found_key (pairs i) (part_same d e sound sound' p parts.0 i).0) ∙ parts.0.named;
+      named = (λ i. found_key (pairs i) (part_same d e stays p parts.0 i).0) ∙ parts.0.named;
       place = parts.0.place ∙ ap (λ (n : ℕ). 64 * (4 * (n / 512) + parts.0.slot)) (sym long);
       size = parts.0.size;
       table = parts.0.table;
       key = parts.0.key;
-      asked = parts.0.asked;
-      small = parts.0.small;
+      called = subst (λ (w : Write). IsCalled e parts.0.table w.0.table) (sym (part_same d e stays p parts.0)) (stays parts.0.table (write_of d p).0.table parts.0.called);
       says = parts.0.says;
     },
-    parts_carry d e sound sound' pairs long ps parts.1,
+    parts_carry d e stays pairs long ps parts.1,
   )
 
   module _ (d : List ℕ) (sound : index.sound d) (part : Part) (is : IsSlotPart index d part) where
@@ -127,8 +132,8 @@ module _ (index : Index) (laws : Laws index) where
     here : (is.slot < next_slot d) × Carries d is.table (is.key, is.slot) × (next_slot d ≤ slot_count d)
     here =
         let p = placed index laws d sound (write_of d part).0 is.slot is.named in
-        let table : p.table ≡ is.table = omega (arith, p.asked, is.asked) in
-        let key : p.key ≡ is.key = ap (λ (k : Key). k.key) (sym p.is ∙ part_key d sound part is) in
+        let table : p.table ≡ is.table = one_number d (laws.counts d sound) p.table is.table (write_of d part).0.table p.called is.called in
+        let key : (write_of d part).0.key ≡ is.key = ap (λ (k : Key). k.key) (part_key d part is) in
         (p.given, subst (λ (t : ℕ). Carries d t (is.key, is.slot)) table (subst (λ (k : ℕ). Carries d p.table (k, is.slot)) key p.carries), (laws.counts d sound).slots)
 
     pub part_fits : part.0 + length part.1 ≤ length d
@@ -225,7 +230,7 @@ module _ (index : Index) (laws : Laws index) where
   applied_parts (p ∷ ps) d sound parts =
       let one = part_sound d sound p parts.0 in
       let long = part_long d sound p parts.0 in
-      let rest = applied_parts ps (put d p.0 p.1) one.0 (parts_carry d (put d p.0 p.1) sound one.0 one.1 long ps parts.1) in
+      let rest = applied_parts ps (put d p.0 p.1) one.0 (parts_carry d (put d p.0 p.1) (called_same d (put d p.0 p.1) (part_tables d sound p parts.0)) one.1 long ps parts.1) in
       record {
         sound = rest.sound;
         pairs = rest.pairs ∙ one.1;

@@ -13,7 +13,7 @@ use Rattle.page_store.specs.Command as page
 use Rattle.page_store.specs.Kept.{IsFront}
 use Rattle.page_store.proofs.Views.{saved_or_none}
 use Rattle.record_slots.specs.Places.{tables_of}
-use Rattle.history.specs.Key.{Key}
+use Rattle.history.specs.declared.key.Key.{Key}
 use Rattle.history.specs.Writes.{Write}
 use Rattle.history.specs.Table.{has_save}
 use Rattle.history.specs.Log.{Log, save_at, floor_of, log_after}
@@ -24,7 +24,7 @@ use Rattle.record_table.specs.State.{TableState}
 use Rattle.record_table.specs.Calls.{after}
 use Rattle.record_table.specs.Shown.{table_of, write_of, writes_of, shown_by}
 use Rattle.record_table.specs.Invariant.{IsSlotPart, AreSlotParts}
-use Rattle.record_table.proofs.Sharing.{Laws}
+use Rattle.record_table.proofs.Sharing.{Laws, called_same}
 use Rattle.record_table.proofs.SlotParts.{IsWritten, writes_same, saves_same, applied_parts, parts_carry, parts_take}
 use Rattle.record_table.proofs.Writing.{writes_after, parts_after}
 
@@ -147,4 +147,4 @@ module _ (index : Index) (laws : Laws index) (s : PagesState) (t : ℕ) (sound :
   pub parts_commit : (u : ℕ) → AreSlotParts index (applied (log_of s t) s.store.bytes) (log_of (page.after (page.end t true) s) u)
   parts_commit =
       let w = applied_parts index laws (log_of s t) s.store.bytes sound (parts t) in
-      parts_one index (applied (log_of s t) s.store.bytes) s.store.logs t None tt (λ u. parts_carry index laws s.store.bytes (applied (log_of s t) s.store.bytes) sound w.sound w.pairs w.size (log_of s u) (parts u))
+      parts_one index (applied (log_of s t) s.store.bytes) s.store.logs t None tt (λ u. parts_carry index laws s.store.bytes (applied (log_of s t) s.store.bytes) (called_same s.store.bytes (applied (log_of s t) s.store.bytes) w.tables) w.pairs w.size (log_of s u) (parts u))

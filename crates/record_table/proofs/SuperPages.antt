@@ -1,5 +1,5 @@
 -- A super page of version 2 that was written whole.
-use Rattle.std.proofs.Common.{◌≡◌, ℕ, ◌+◌, ◌≤◌, List, [], ◌∷◌, ◌++◌, length, take, drop, replicate, refl, sym, ◌∙◌, ap, subst, arith}
+use Rattle.std.proofs.Common.{◌≡◌, ℕ, List, ◌∷◌, ◌++◌, length, replicate, refl, sym, ap, subst, arith}
 use Rattle.std.proofs.lemmas.List.{take_all, take_at, length-append, length-replicate}
 use Rattle.mars_base.specs.Bytes.{range}
 use Rattle.record_slots.specs.Super.{SaysSuper, main_super, part_bytes, super_bytes, super_mark}

@@ -6,8 +6,9 @@ use Rattle.record_slots.specs.Slots.{slot_said}
 use Rattle.record_slots.specs.Places.{slot_of}
 use Rattle.record_slots.specs.declared.slot.Slot.{Slot}
 use Rattle.record_slots.specs.declared.slot.Slot.TheVariants.{Absent, Present}
-use Rattle.history.specs.Key.{Key, key_cmp, is_same_key}
-use Rattle.history.proofs.Tables.{get-set}
+use Rattle.history.specs.declared.key.Key.{Key}
+use Rattle.history.specs.Key.{key_cmp, is_same_key}
+use Rattle.history.proofs.Agreeing.{get-set}
 use Rattle.page_store.specs.Records.{value_of}
 use Rattle.record_table.specs.Shown.{KeyPair, found_key, write_said, table_in}
 

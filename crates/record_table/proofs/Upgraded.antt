@@ -1,23 +1,22 @@
 -- Data of version 1 once its super page is of version 2.
 use Rattle.std.proofs.Common.{◌≡◌, ◌≢◌, ◌^◌, ℕ, zero, suc, ◌+◌, ◌-◌, ◌*◌, ◌/◌, ◌<◌, ◌≤◌, true, false, inl, inr, IsTrue, List, [], ◌∷◌, length, refl, sym, ◌∙◌, ap, subst, arith, eq-eqb, ne_eqb}
-use Rattle.std.specs.Prelude.{nat_eq, if◌then◌else◌, slice_get, Option, Some, None}
+use Rattle.std.specs.Prelude.{nat_eq, if◌then◌else◌, slice_get, Some}
 use Rattle.std.specs.Option.{option_map}
 use Rattle.std.proofs.lemmas.Bool.{cases_eq}
 use Rattle.mars_base.specs.Bytes.{range, put}
 use Rattle.mars_base.proofs.Puts.{length-put}
 use Rattle.pcm_media.proofs.Ranges.{range-put}
 use Rattle.record_slots.specs.Slots.{slot_said}
-use Rattle.record_slots.specs.Super.{SaysSuper, HasTables, AreTables, main_entries, main_super, main_table, are_named, tables_in, tables_used, tables_said, version_said, form_said, super_bytes, entries_said, next_slot_said, next_page_said, free_in, free_slot_in, free_page_in, free_slots_in, free_pages_in}
+use Rattle.record_slots.specs.Super.{SaysSuper, HasTables, AreTables, main_entries, main_super, main_table, are_named, tables_in, tables_used, tables_said, version_said, form_said, super_bytes, entries_said, free_in, free_slot_in, free_page_in, free_slots_in, free_pages_in}
 use Rattle.record_slots.specs.Places.{page_bytes, slot_of, next_slot, next_page, tables_of, version_of, free_slot, free_page, free_slots, free_pages}
 use Rattle.record_slots.proofs.MainAlone.{says_main, length-main}
 use Rattle.record_slots.specs.declared.super_page.Super.{Super}
 use Rattle.record_slots.specs.declared.super_page.TableEntry.{TableEntry}
 use Rattle.page_store.specs.Index.{Index, IsTable, HasCounts, Extends}
 use Rattle.page_store.proofs.Reading.{part_missed}
-use Rattle.history.specs.Writes.{Table, write_into}
+use Rattle.history.specs.Writes.{write_into}
 use Rattle.page_store.specs.Records.{value_of}
 use Rattle.record_table.specs.Shown.{KeyPair, found_key, table_in, table_of, pairs_of, keys_of}
-use Rattle.record_table.specs.State.{Keys}
 use Rattle.record_table.specs.Upgrading.{upgraded}
 use Rattle.record_table.proofs.Sharing.{Laws, pairs_rest, level_same}
 

@@ -1,10 +1,9 @@
 -- An upgrade of the super page, by a look at it and a write of it.
-use Rattle.std.proofs.Common.{◌≡◌, ◌≢◌, ℕ, zero, suc, ◌+◌, ◌-◌, ◌<◌, ◌≤◌, Bool, true, false, cond, inl, inr, IsTrue, List, [], ◌∷◌, length, take, drop, Result, Ok, Err, refl, sym, ◌∙◌, ap, subst, arith}
-use Rattle.std.specs.Prelude.{nat_eq, Option, Some, None, IsFalse, OnOk}
+use Rattle.std.proofs.Common.{◌≡◌, ◌≢◌, ℕ, zero, suc, ◌≤◌, Bool, true, false, cond, inl, inr, IsTrue, List, [], ◌∷◌, length, take, drop, Result, Ok, Err, refl, sym, ◌∙◌, ap, subst, arith}
+use Rattle.std.specs.Prelude.{nat_eq, Some, IsFalse, OnOk}
 use Rattle.std.proofs.lemmas.Bool.{false≢true}
 use Rattle.std.proofs.lemmas.List.{drop_all}
 use Rattle.mars_base.specs.Bytes.{put}
-use Rattle.mars_base.specs.Causes.{Rose}
 use Rattle.mars_base.proofs.Going.{stays, weaker, then}
 use Rattle.array_shape.specs.declared.shape.Shape.{Shape}
 use Rattle.array_shape.specs.Places.{logger_of}
@@ -35,14 +34,14 @@ use Rattle.record_table.specs.Names.{names_of}
 use Rattle.record_table.specs.Shown.{table_of, state_of, shown_by, keys_of}
 use Rattle.record_table.proofs.States.{logs_same}
 use Rattle.record_table.specs.Sought.{LooksAs}
-use Rattle.record_table.specs.State.{TableState}
 use Rattle.record_table.specs.Upgrading.{upgraded, OpensUpgraded, Upgrades, UpgradeCause}
 use Rattle.record_table.specs.declared.fault.TableFault.{TableFault}
 use Rattle.record_table.specs.declared.fault.TableFault.TheVariants as refusal
 use Rattle.record_table.proofs.Moving.{Moved, Failed, moved_by_look, failed_by_look, moved_then, failed_then, rests_moved}
-use Rattle.record_table.proofs.Sharing.{Laws}
+use Rattle.record_table.proofs.Sharing.{Laws, called_same}
 use Rattle.record_table.proofs.SlotParts.{parts_carry}
 use Rattle.record_table.proofs.Upgraded.{Upgraded, front_of, two_upgraded, older_upgraded, is_upgraded}
+use Rattle.eaw_face.proofs.Mirroring.{none_sent}
 
 -- a write of one page is one part, which any log has room for
 no_parts : (n at : ℕ) → first_parts_of_write n at [] ≡ []
@@ -90,6 +89,7 @@ module _ (tells : Bool) (Opens : List ℕ → List ℕ → Type 0) (index : Inde
       → (IsTrue tells → (table root : ℕ) → IsTable old.store.state.bytes table root → index.pairs new.store.state.bytes root ≡ index.pairs old.store.state.bytes root) → Upgrades tells Opens index old new r
   moved_upgrades old new r well cause moved bytes_are version tables keys quiet exact ranges named indexes = record {
     shape = moved.shape;
+    mirrors = moved.mirrors;
     cause = cause;
     faults = λ _. (moved.dead, moved.faults);
     dies = λ failed. absurd (false≢true (sym well ∙ failed));
@@ -113,6 +113,7 @@ module _ (tells : Bool) (Opens : List ℕ → List ℕ → Type 0) (index : Inde
       → (IsTrue tells → LeavesOnly (OpensUpgraded Opens old.store.state.bytes) old.store new.store) → (IsTrue tells → IsNamedTime old new) → Upgrades tells Opens index old new (Err refusal.Media)
   failed_upgrades old new alive failed exact named = record {
     shape = failed.shape;
+    mirrors = failed.mirrors;
     cause = alive;
     faults = λ well. absurd (false≢true (sym well));
     dies = λ _. failed.dies;
@@ -135,6 +136,7 @@ module _ (tells : Bool) (Opens : List ℕ → List ℕ → Type 0) (index : Inde
   dead_upgrades : (old : PagesView) → old.store.is_dead ≡ true → Upgrades tells Opens index old old (Err refusal.Dead)
   dead_upgrades old dead = record {
     shape = refl;
+    mirrors = none_sent tells old.store old.store refl refl (λ fine. fine) (λ told mirrors fine. refl);
     cause = dead;
     faults = λ _. (refl, refl);
     dies = λ failed. absurd (false≢true failed);
@@ -269,6 +271,7 @@ module _ (tells : Bool) (Opens : List ℕ → List ℕ → Type 0) (index : Inde
         let now = λ (told : IsTrue tells). does.done.state told in
         record {
           shape = does.shape;
+          mirrors = does.mirrors;
           dead = does.done.alive ∙ sym living;
           faults = does.kept;
           counts = ap (λ (o : Outline). o.counts) out;
@@ -280,7 +283,7 @@ module _ (tells : Bool) (Opens : List ℕ → List ℕ → Type 0) (index : Inde
           tied = λ told. record {
             sound = subst (λ (s : PagesState). index.sound s.store.bytes) (sym (now told)) (facts told).sound;
             parts = λ u. subst (λ (s : PagesState). AreSlotParts index s.store.bytes (log_of s u)) (sym (now told))
-                (parts_carry index laws mid.store.state.bytes (put mid.store.state.bytes 0 bytes) (rests.tied told).sound (facts told).sound (facts told).pairs (facts told).size (listed (mid.store.state.logs u)) ((rests.tied told).parts u));
+                (parts_carry index laws mid.store.state.bytes (put mid.store.state.bytes 0 bytes) (called_same mid.store.state.bytes (put mid.store.state.bytes 0 bytes) (facts told).tables) (facts told).pairs (facts told).size (listed (mid.store.state.logs u)) ((rests.tied told).parts u));
           };
           time = time_of (Ok tt) does;
         }
@@ -288,6 +291,7 @@ module _ (tells : Bool) (Opens : List ℕ → List ℕ → Type 0) (index : Inde
     broken : page_does.Does {T = Unit {0}} tells Opens (page.atomic_write 0 0 bytes) mid new (Err fault.Media) → Failed tells Opens index 0 mid new
     broken does = record {
       shape = does.shape;
+      mirrors = does.mirrors;
       dies = (does.dies refl, does.cause.2);
       counts = does.marks.0;
       others = λ u ne. does.others u ne;

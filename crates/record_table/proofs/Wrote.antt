@@ -29,14 +29,17 @@ use Rattle.page_store.proofs.Shown.{IsTold, outlined}
 use Rattle.record_table.specs.Causes.{HasRoom, IsFull, IsShort}
 use Rattle.record_table.specs.Does.{OpensWith}
 use Rattle.record_table.specs.Invariant.{IsSlotPart, AreSlotParts, IsTied, Rests}
-use Rattle.record_table.specs.Shown.{found_key, write_of, asked_tables, state_of, shown_by, pairs_of, held_on}
-use Rattle.history.specs.Key.{Key, of_main}
+use Rattle.record_table.specs.Shown.{found_key, write_of, state_of, shown_by, pairs_of, held_on}
+use Rattle.history.specs.declared.key.Key.{Key}
+use Rattle.history.specs.Key.{of_table}
+use Rattle.record_table.specs.Names.{IsCalled}
 use Rattle.history.specs.Log.{floor_of, is_rewritten}
 use Rattle.record_table.proofs.Sharing.{Laws, key_said}
 use Rattle.record_table.proofs.Tables.{value_is}
 use Rattle.record_table.proofs.Writing.{rewrites}
 use Rattle.record_table.proofs.States.{written, floors, shown_write, parts_write}
 use Rattle.record_table.proofs.Moving.{Failed}
+use Rattle.eaw_face.specs.Mirroring.{Mirrors}
 
 -- a write was logged
 pub record Wrote (tells : Bool) (Opens : List ℕ → List ℕ → Type 0) (index : Index) (t : ℕ) (key : Key) (value : Option (List ℕ)) (slot : ℕ) (old new : PagesView) : Type 0 where
@@ -51,6 +54,7 @@ pub record Wrote (tells : Bool) (Opens : List ℕ → List ℕ → Type 0) (inde
   pub tied : IsTrue tells → IsTied index new
   pub room : IsTrue tells → HasRoom index t old key slot
   pub time : IsTrue tells → LeavesOnly (λ image. OpensWith Opens index image (state_of index old).table) old.store new.store
+  pub mirrors : Mirrors tells old.store new.store
 
 pub none_is : {A : Type 0} (o : Option A) → is_some o ≡ false → o ≡ None
 none_is None e = refl
@@ -68,7 +72,7 @@ at_most_one true = omega arith
 at_most_one false = omega arith
 
 module _ (tells : Bool) (Opens : List ℕ → List ℕ → Type 0) (index : Index) (laws : Laws index) (t slot : ℕ) (said : Slot) (old new : PagesView) (alive : IsAlive old.store) (rests : Rests tells index old)
-    (table key : ℕ) (asked : table < asked_tables) (small : key < 2 ^ 64) (of : IsOfKey table key (Some said)) (told_by : IsTrue tells → IsTold old.store) (ordered : IsOrdered (outline_of old)) (named : IsTrue tells → found_key (pairs_of index old.store.state.bytes) (of_main key) ≡ Some slot)
+    (table key : ℕ) (name : List ℕ) (called : IsTrue tells → IsCalled old.store.state.bytes table name) (of : IsOfKey table key (Some said)) (told_by : IsTrue tells → IsTold old.store) (ordered : IsOrdered (outline_of old)) (named : IsTrue tells → found_key (pairs_of index old.store.state.bytes) (of_table name key) ≡ Some slot)
     (reads : slot_said (slot_bytes said) ≡ Some said) (whole : length (slot_bytes said) ≡ 64) where
   addr : ℕ
   addr = 64 * (slots_of old.store.shape + slot)
@@ -76,8 +80,8 @@ module _ (tells : Bool) (Opens : List ℕ → List ℕ → Type 0) (index : Inde
   says_it : IsOfKey table key (slot_said (slot_bytes said))
   says_it = subst (λ (s : Option Slot). IsOfKey table key s) (sym reads) of
 
-  key_is : IsTrue tells → (write_of old.store.state.bytes (64 * (slots_of old.store.shape + slot), slot_bytes said)).0 ≡ of_main key
-  key_is told = key_said old.store.state.bytes (laws.counts old.store.state.bytes (rests.tied told).sound) (slot_said (slot_bytes said)) table key asked says_it
+  key_is : IsTrue tells → (write_of old.store.state.bytes (64 * (slots_of old.store.shape + slot), slot_bytes said)).0 ≡ of_table name key
+  key_is told = key_said old.store.state.bytes (slot_said (slot_bytes said)) table key name (called told) says_it
 
   part_is : IsTrue tells → IsSlotPart index old.store.state.bytes (64 * (slots_of old.store.shape + slot), slot_bytes said)
   part_is told = record {
@@ -87,8 +91,7 @@ module _ (tells : Bool) (Opens : List ℕ → List ℕ → Type 0) (index : Inde
     size = whole;
     table = table;
     key = key;
-    asked = asked;
-    small = small;
+    called = subst (λ (k : Key). IsCalled old.store.state.bytes table k.table) (sym (key_is told)) (called told);
     says = says_it;
   }
 
@@ -96,7 +99,7 @@ module _ (tells : Bool) (Opens : List ℕ → List ℕ → Type 0) (index : Inde
   floor_is told =
       ap (λ (o : Outline). floor_in o t) (sym (outlined old (told_by told) ordered)) ∙ outline.floors (pages.state_of old) t ∙ floors index (pages.state_of old) t (rests.closed t)
 
-  edits_is : IsTrue tells → is_some (edit_pos (floor_in (outline_of old) t) (64 * (slots_of old.store.shape + slot), length (slot_bytes said)) (listed (old.store.ranges t))) ≡ is_rewritten ((state_of index old).logs t) (of_main key)
+  edits_is : IsTrue tells → is_some (edit_pos (floor_in (outline_of old) t) (64 * (slots_of old.store.shape + slot), length (slot_bytes said)) (listed (old.store.ranges t))) ≡ is_rewritten ((state_of index old).logs t) (of_table name key)
   edits_is told =
       (λ i. is_some (edit_pos (floor_is told i) (64 * (slots_of old.store.shape + slot), length (slot_bytes said)) ((ap listed ((told_by told).outlines t) ∙ listed-ranges (old.store.state.logs t)) i)))
       ∙ rewrites index laws old.store.state.bytes (rests.tied told).sound (64 * (slots_of old.store.shape + slot), slot_bytes said) (part_is told) (floor_of ((state_of index old).logs t)) (listed (old.store.state.logs t)) ((rests.tied told).parts t)
@@ -112,12 +115,13 @@ module _ (tells : Bool) (Opens : List ℕ → List ℕ → Type 0) (index : Inde
   }) (does.time told alive)
 
   pub wrote : {T : Type 0} (answer : T) → (let r : Result T PageFault = Ok answer in Does tells Opens (write_as t (64 * (slots_of old.store.shape + slot)) (slot_bytes said)) old new r)
-      → Wrote tells Opens index t (of_main key) (value_of (Some said)) slot old new
+      → Wrote tells Opens index t (of_table name key) (value_of (Some said)) slot old new
   wrote {T} answer does =
       let out = does.done.outline in
       let now = λ (told : IsTrue tells). does.done.state told in
       record {
         shape = does.shape;
+        mirrors = does.mirrors;
         dead = does.done.alive ∙ sym alive;
         faults = does.kept;
         counts = ap (λ (o : Outline). o.counts) out;
@@ -141,6 +145,7 @@ module _ (tells : Bool) (Opens : List ℕ → List ℕ → Type 0) (index : Inde
   pub write_failed : {T : Type 0} → (let r : Result T PageFault = Err Media in Does tells Opens (write_as t (64 * (slots_of old.store.shape + slot)) (slot_bytes said)) old new r) → Failed tells Opens index t old new
   write_failed {T} does = record {
     shape = does.shape;
+    mirrors = does.mirrors;
     dies = (does.dies refl, does.cause.2);
     counts = does.marks.0;
     others = λ u ne. does.others u ne;
@@ -149,7 +154,7 @@ module _ (tells : Bool) (Opens : List ℕ → List ℕ → Type 0) (index : Inde
 
   -- no logger has room
   pub write_short : {T : Type 0} (g h n : ℕ) → (let r : Result T PageFault = Err (LogFull g h n) in Does tells Opens (write_as t (64 * (slots_of old.store.shape + slot)) (slot_bytes said)) old new r)
-      → IsShort old t g h n × (IsTrue tells → IsFull index t old (of_main key) slot g h n)
+      → IsShort old t g h n × (IsTrue tells → IsFull index t old (of_table name key) slot g h n)
   write_short g h n does =
       let full = does.cause.1.1 in
       let one = one_on old.store.shape g (64 * (slots_of old.store.shape + slot)) (length (slot_bytes said)) in

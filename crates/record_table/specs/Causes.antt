@@ -5,7 +5,8 @@ use Rattle.mars_base.specs.Room.{HaveRoom, IsFirstFull}
 use Rattle.eaw_face.specs.Causes.{IsAlive}
 use Rattle.eaw_face.specs.StoreView.{StoreView}
 use Rattle.record_slots.specs.Places.{used_slots, slot_due, root_of}
-use Rattle.history.specs.Key.{Key, of_main}
+use Rattle.history.specs.declared.key.Key.{Key}
+use Rattle.history.specs.Key.{of_table}
 use Rattle.history.specs.Log.{is_rewritten}
 use Rattle.history.specs.declared.call.Call.{Call}
 use Rattle.history.specs.declared.call.Call.TheVariants.{Get, Put, Del, Scan, Save}
@@ -52,25 +53,25 @@ ComesTo index table key old Ends =
 
 -- There is room for a value in the slot of its key. If the index lacks the key, there is room first for its insertion and then for the
 -- value in the slot that is due.
-abbrev pub PutFits : Index → ℕ → ℕ → ℕ → PagesView → Option ℕ → Type 0
-PutFits index table t key old None = ComesTo index table key old.store (AllFit old.store t) × HasRoom index t old (of_main key) (slot_due old.store.state.bytes)
-PutFits index table t key old (Some slot) = HasRoom index t old (of_main key) slot
+abbrev pub PutFits : Index → ℕ → ℕ → Key → PagesView → Option ℕ → Type 0
+PutFits index table t key old None = ComesTo index table key.key old.store (AllFit old.store t) × HasRoom index t old key (slot_due old.store.state.bytes)
+PutFits index table t key old (Some slot) = HasRoom index t old key slot
 
-abbrev pub PutLacks : Index → ℕ → ℕ → ℕ → PagesView → ℕ → ℕ → ℕ → Option ℕ → Type 0
-PutLacks index table t key old g h n None = ComesTo index table key old.store (LackRoom old.store t g h n)
-    ⊎ (ComesTo index table key old.store (AllFit old.store t) × IsFull index t old (of_main key) (slot_due old.store.state.bytes) g h n)
-PutLacks index table t key old g h n (Some slot) = IsFull index t old (of_main key) slot g h n
+abbrev pub PutLacks : Index → ℕ → ℕ → Key → PagesView → ℕ → ℕ → ℕ → Option ℕ → Type 0
+PutLacks index table t key old g h n None = ComesTo index table key.key old.store (LackRoom old.store t g h n)
+    ⊎ (ComesTo index table key.key old.store (AllFit old.store t) × IsFull index t old key (slot_due old.store.state.bytes) g h n)
+PutLacks index table t key old g h n (Some slot) = IsFull index t old key slot g h n
 
 -- a call that writes finds room
 abbrev pub Fits : Index → ℕ → PagesView → ℕ → Call → Type 0
-Fits index table old t (Put key value) = PutFits index table t key old (slot_in index old (of_main key))
-Fits index table old t (Del key) = IsSeen index old t (of_main key) → (slot : ℕ) × (slot_in index old (of_main key) ≡ Some slot) × HasRoom index t old (of_main key) slot
+Fits index table old t (Put name key value) = PutFits index table t (of_table name key) old (slot_in index old (of_table name key))
+Fits index table old t (Del name key) = IsSeen index old t (of_table name key) → (slot : ℕ) × (slot_in index old (of_table name key) ≡ Some slot) × HasRoom index t old (of_table name key) slot
 Fits index table old t call = Unit {0}
 
 -- a call that writes finds no room at logger g
 abbrev pub Lacks : Index → ℕ → PagesView → ℕ → ℕ → ℕ → ℕ → Call → Type 0
-Lacks index table old g h n t (Put key value) = PutLacks index table t key old g h n (slot_in index old (of_main key))
-Lacks index table old g h n t (Del key) = IsSeen index old t (of_main key) × (slot : ℕ) × (slot_in index old (of_main key) ≡ Some slot) × IsFull index t old (of_main key) slot g h n
+Lacks index table old g h n t (Put name key value) = PutLacks index table t (of_table name key) old g h n (slot_in index old (of_table name key))
+Lacks index table old g h n t (Del name key) = IsSeen index old t (of_table name key) × (slot : ℕ) × (slot_in index old (of_table name key) ≡ Some slot) × IsFull index t old (of_table name key) slot g h n
 Lacks index table old g h n t call = ⊥
 
 -- logger g is the first without room for what some write needs, at most four
@@ -79,22 +80,22 @@ IsShort old t g h n = (n ≤ 4) × (needed : ℕ → ℕ) × IsFirstFull old.sto
 
 -- a write that finds no room, on any store
 abbrev pub MayLack : PagesView → ℕ → ℕ → ℕ → ℕ → Call → Type 0
-MayLack old g h n t (Put key value) = IsShort old t g h n
-MayLack old g h n t (Del key) = IsShort old t g h n
+MayLack old g h n t (Put name key value) = IsShort old t g h n
+MayLack old g h n t (Del name key) = IsShort old t g h n
 MayLack old g h n t call = ⊥
 
 -- an insertion is due, and all n slots are in use
 abbrev pub LacksSlot : Index → PagesView → ℕ → Call → Type 0
-LacksSlot index old n (Put key value) = (slot_in index old (of_main key) ≡ None) × (used_slots old.store.state.bytes ≡ n)
+LacksSlot index old n (Put name key value) = (slot_in index old (of_table name key) ≡ None) × (used_slots old.store.state.bytes ≡ n)
 LacksSlot index old n call = ⊥
 
 -- an insertion is due that splits a page for which no pages are left
 abbrev pub LacksPage : Index → ℕ → PagesView → ℕ → Call → Type 0
-LacksPage index table old t (Put key value) = (slot_in index old (of_main key) ≡ None) × ComesTo index table key old.store (LackPages old.store t)
+LacksPage index table old t (Put name key value) = (slot_in index old (of_table name key) ≡ None) × ComesTo index table key old.store (LackPages old.store t)
 LacksPage index table old t call = ⊥
 
 abbrev pub IsPut : Call → Type 0
-IsPut (Put key value) = Unit {0}
+IsPut (Put name key value) = Unit {0}
 IsPut call = ⊥
 
 -- if the call is a save, the number has fewer than 32
@@ -108,14 +109,14 @@ IsSavedOut old t call = ⊥
 
 -- a call that uses the index
 abbrev pub IsSought : Call → Type 0
-IsSought (Get key) = Unit {0}
-IsSought (Put key value) = Unit {0}
-IsSought (Del key) = Unit {0}
-IsSought (Scan low high) = Unit {0}
+IsSought (Get name key) = Unit {0}
+IsSought (Put name key value) = Unit {0}
+IsSought (Del name key) = Unit {0}
+IsSought (Scan name low high) = Unit {0}
 IsSought call = ⊥
 
 abbrev pub IsScan : Call → Type 0
-IsScan (Scan low high) = Unit {0}
+IsScan (Scan name low high) = Unit {0}
 IsScan call = ⊥
 
 -- The cause of each answer. If the store tells its data, each comes exactly then, except for faults of the medium and a lack of memory.

@@ -3,7 +3,8 @@ use Rattle.std.specs.Prelude.{ℕ, ◌≡◌, ◌≢◌, ◌≤◌, ◌⊎◌, B
 use Rattle.mars_base.specs.Causes.{Rose}
 use Rattle.eaw_face.specs.StoreView.{LeavesOnly}
 use Rattle.eaw_face.specs.Causes.{IsAlive}
-use Rattle.history.specs.Key.{Key, of_main}
+use Rattle.history.specs.declared.key.Key.{Key}
+use Rattle.history.specs.Key.{of_table}
 use Rattle.history.specs.Writes.{Table}
 use Rattle.history.specs.declared.call.Call.{Call}
 use Rattle.history.specs.declared.call.Call.TheVariants.{Put, Commit}
@@ -18,6 +19,7 @@ use Rattle.record_table.specs.Shown.{table_of, state_of, keys_of}
 use Rattle.record_table.specs.Causes.{Cause, slot_in}
 use Rattle.record_table.specs.declared.fault.TableFault.{TableFault}
 use Rattle.record_table.specs.declared.fault.TableFault.TheVariants.{LogFull, PagesFull, Media}
+use Rattle.eaw_face.specs.Mirroring.{Mirrors}
 
 -- an image opens with sound data whose tables have these records
 pub record OpensWith (Opens : List ℕ → List ℕ → Type 0) (index : Index) (image : List ℕ) (table : Table) : Type 0 where
@@ -58,16 +60,16 @@ IndexedAt table key (Some slot) old new result = new ≡ old
 
 -- what a call makes of the indexes: a put of a key that they lack inserts the key into that of its table
 abbrev pub Indexed : {T : Type 0} → ℕ → Call → Keys → Keys → Result T TableFault → Type 0
-Indexed table (Put key value) old new result = IndexedAt table (of_main key) (old.slot_of (of_main key)) old new result
+Indexed table (Put name key value) old new result = IndexedAt table (of_table name key) (old.slot_of (of_table name key)) old new result
 Indexed table call old new result = new ≡ old
 
 -- the call writes nothing into the data: a put does where the index lacks the key, and a commit what the number has written
 abbrev pub IsQuiet : Index → PagesView → ℕ → Call → Type 0
-IsQuiet index old t (Put key value) = IsSome (slot_in index old (of_main key))
+IsQuiet index old t (Put name key value) = IsSome (slot_in index old (of_table name key))
 IsQuiet index old t Commit = ((state_of index old).logs t).writes ≡ []
 IsQuiet index old t call = Unit {0}
 
--- A caller's call as number t on a table, which is `main`, on records over a store whose images open as Opens says. Each answer has its cause. An Ok is answered as the
+-- A caller's call as number t on a table, which it names, on records over a store whose images open as Opens says. Each answer has its cause. An Ok is answered as the
 -- model says, leaves what it says, and hides no fault. After a refusal other than Media, the records and the logs of every number are as
 -- before, and the tables always. Media leaves the store dead. A call that writes nothing into the data leaves it byte for byte, also if it is refused. Other
 -- numbers keep what they have logged, whatever the answer. At each moment of a store that was not dead, a loss of power leaves what it might
@@ -88,3 +90,4 @@ pub record Does (tells : Bool) (Opens : List ℕ → List ℕ → Type 0) (index
   pub others : (u : ℕ) → u ≢ t → (new.store.ranges u ≡ old.store.ranges u) × (new.counts u ≡ old.counts u)
   pub time : IsTrue tells → IsAlive old.store
       → LeavesOnly (λ image. OpensWith Opens index image (state_of index old).table ⊎ OpensWith Opens index image (table_after t call (state_of index old))) old.store new.store
+  pub mirrors : Mirrors tells old.store new.store

@@ -13,6 +13,7 @@ use Rattle.record_table.specs.Shown.{state_of, keys_of}
 use Rattle.record_table.specs.Does.{OpensWith, is_failed}
 use Rattle.record_table.specs.declared.fault.TableFault.{TableFault}
 use Rattle.record_table.specs.declared.fault.TableFault.TheVariants.{Media, Dead}
+use Rattle.eaw_face.specs.Mirroring.{Mirrors}
 
 -- what these numbers have written, that of one after that of another
 abbrev pub group_writes : TableState → List ℕ → List Write
@@ -49,3 +50,4 @@ pub record CommitsGroup (tells : Bool) (Opens : List ℕ → List ℕ → Type 0
   pub others : (u : ℕ) → is_one_of ts u ≡ false → (new.store.ranges u ≡ old.store.ranges u) × (new.counts u ≡ old.counts u)
   pub time : IsTrue tells → IsAlive old.store
       → LeavesOnly (λ image. OpensWith Opens index image (state_of index old).table ⊎ OpensWith Opens index image (after_group ts (state_of index old)).table) old.store new.store
+  pub mirrors : Mirrors tells old.store new.store

@@ -1,5 +1,5 @@
 -- The invariant of records.
-use Rattle.std.specs.Prelude.{ℕ, ◌≡◌, ◌<◌, ◌^◌, Bool, IsTrue, List, [], ◌∷◌, length, Some, None}
+use Rattle.std.specs.Prelude.{ℕ, ◌≡◌, Bool, IsTrue, List, [], ◌∷◌, length, Some, None}
 use Rattle.array_shape.specs.Logged.{Part}
 use Rattle.eaw_face.specs.State.{listed}
 use Rattle.eaw_face.specs.Causes.{IsAlive}
@@ -7,7 +7,8 @@ use Rattle.record_slots.specs.Slots.{slot_said}
 use Rattle.record_slots.specs.Places.{slot_at, IsOfKey}
 use Rattle.page_store.specs.Index.{Index}
 use Rattle.page_store.specs.Shown.{PagesView}
-use Rattle.record_table.specs.Shown.{found_key, asked_tables, pairs_of, write_of}
+use Rattle.record_table.specs.Names.{IsCalled}
+use Rattle.record_table.specs.Shown.{found_key, pairs_of, write_of}
 
 -- a logged part is a whole slot, that of the key of the table that it names
 pub record IsSlotPart (index : Index) (bytes : List ℕ) (part : Part) : Type 0 where
@@ -17,8 +18,7 @@ pub record IsSlotPart (index : Index) (bytes : List ℕ) (part : Part) : Type 0 
   pub size : length part.1 ≡ 64
   pub table : ℕ
   pub key : ℕ
-  pub asked : table < asked_tables
-  pub small : key < 2 ^ 64
+  pub called : IsCalled bytes table (write_of bytes part).0.table
   pub says : IsOfKey table key (slot_said part.1)
 
 abbrev pub AreSlotParts : Index → List ℕ → List Part → Type 0

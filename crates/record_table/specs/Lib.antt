@@ -7,6 +7,7 @@ pub mod Does
 pub mod Groups
 pub mod Invariant
 pub mod Attached
+pub mod AllTables
 pub mod Sought
 pub mod Faults
 pub mod Seeks
@@ -15,3 +16,4 @@ pub mod Form
 pub mod Upgrading
 pub mod Removing
 pub mod Making
+pub mod Placing

@@ -1,5 +1,5 @@
 -- What the making of a table does.
-use Rattle.std.specs.Prelude.{ℕ, suc, ◌≡◌, ◌≢◌, ◌-◌, ◌<◌, ◌≤◌, ◌⊎◌, Bool, true, false, IsTrue, IsFalse, List, [], ◌∷◌, ◌++◌, length, Option, Some, None, slice_get, Result, Ok, Err, OnOk, OnErr}
+use Rattle.std.specs.Prelude.{ℕ, suc, ◌≡◌, ◌≢◌, ◌-◌, ◌<◌, ◌≤◌, ◌⊎◌, Bool, true, false, IsTrue, IsFalse, List, [], ◌∷◌, ◌++◌, length, Some, None, slice_get, Result, Ok, Err, OnOk, OnErr}
 use Rattle.mars_base.specs.Causes.{Rose}
 use Rattle.eaw_face.specs.StoreView.{StoreView, LeavesOnly}
 use Rattle.eaw_face.specs.Causes.{IsAlive}
@@ -20,6 +20,7 @@ use Rattle.record_table.specs.Shown.{state_of, keys_of}
 use Rattle.record_table.specs.State.{Keys}
 use Rattle.record_table.specs.declared.making.MakeFault.{MakeFault}
 use Rattle.record_table.specs.declared.making.MakeFault.TheVariants.{Exists, TablesFull, PagesFull, Media, Dead, Damaged}
+use Rattle.eaw_face.specs.Mirroring.{Mirrors}
 
 -- a refusal of pages, which is not for want of room for a number's writes or saves
 abbrev pub as_make : PageFault → MakeFault
@@ -98,3 +99,4 @@ pub record Makes (tells : Bool) (Opens : List ℕ → List ℕ → Type 0) (inde
   pub time : IsTrue tells → IsAlive old.store
       → LeavesOnly (λ image. OpensNamed Opens index image (names_of old.store.state.bytes) (state_of index old).table
       ⊎ OpensNamed Opens index image (names_of old.store.state.bytes ++ name ∷ []) (state_of index old).table) old.store new.store
+  pub mirrors : Mirrors tells old.store new.store

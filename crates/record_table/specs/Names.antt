@@ -1,15 +1,21 @@
 -- The names of the tables in the data.
-use Rattle.std.specs.Prelude.{ℕ, ◌≡◌, ◌≢◌, Bool, IsTrue, List, [], Some, slice_get}
+use Rattle.std.specs.Prelude.{ℕ, ◌≡◌, ◌≢◌, ◌<◌, Bool, IsTrue, List, [], length, Some, get_or, slice_get}
 use Rattle.std.specs.Option.{unwrap_or}
+use Rattle.array_shape.specs.Places.{page_count}
 use Rattle.eaw_face.specs.Causes.{IsAlive}
-use Rattle.history.specs.Key.{Key}
+use Rattle.history.specs.declared.key.Key.{Key}
 use Rattle.record_slots.specs.Names.{names_in}
 use Rattle.record_slots.specs.Places.{tables_of}
+use Rattle.page_store.specs.Index.{IsTable}
 use Rattle.page_store.specs.Shown.{PagesView}
 
 -- the names by the numbers of their tables
 abbrev pub names_of : List ℕ → List (List ℕ)
 names_of bytes = names_in (tables_of bytes)
+
+-- the table of this number has this name
+abbrev pub IsCalled : List ℕ → ℕ → List ℕ → Type 0
+IsCalled bytes table name = slice_get (names_of bytes) table ≡ Some name
 
 -- the name of a table, or the empty text if there is no such table
 abbrev pub name_at : List ℕ → ℕ → List ℕ
@@ -26,3 +32,19 @@ IsNew name names = (j : ℕ) → slice_get names j ≢ Some name
 -- the names that are kept are those of the data, while the store tells its data and is not dead
 abbrev pub KeepsNames : Bool → PagesView → List (List ℕ) → Type 0
 KeepsNames tells pages names = IsTrue tells → IsAlive pages.store → names ≡ names_of pages.store.state.bytes
+
+-- so it is with the roots of their indexes, each of which is a page of the array over any store
+abbrev pub AreRootsOf : List ℕ → List ℕ → Type 0
+AreRootsOf bytes roots = (table root : ℕ) → table < 8 → IsTable bytes table root → get_or roots table 0 ≡ root
+
+abbrev pub ArePages : ℕ → List ℕ → Type 0
+ArePages pages roots = (table : ℕ) → table < 8 → get_or roots table 0 < pages
+
+pub record KeepsRoots (tells : Bool) (pages : PagesView) (roots : List ℕ) : Type 0 where
+  pub long : length roots ≡ 8
+  pub inside : ArePages (page_count pages.store.shape) roots
+  pub are : IsTrue tells → IsAlive pages.store → AreRootsOf pages.store.state.bytes roots
+
+-- the tables that are kept
+abbrev pub KeepsTables : Bool → PagesView → List (List ℕ) → List ℕ → Type 0
+KeepsTables tells pages names roots = KeepsNames tells pages names × KeepsRoots tells pages roots

@@ -1,5 +1,5 @@
 -- Which keys may be taken out of the indexes, how they are found, and what taking one out does.
-use Rattle.std.specs.Prelude.{ℕ, ◌≡◌, ◌≢◌, ◌^◌, ◌<◌, ◌≤◌, Bool, true, false, IsTrue, IsFalse, List, [], ◌∷◌, Option, Some, None, IsSome, Result, Ok, Err}
+use Rattle.std.specs.Prelude.{ℕ, ◌≡◌, ◌≢◌, ◌^◌, ◌<◌, ◌≤◌, Bool, true, false, IsTrue, IsFalse, List, Option, Some, None, IsSome, Result, Ok, Err}
 use Rattle.std.specs.List.{list_any}
 use Rattle.std.specs.FinMap.{get}
 use Rattle.mars_base.specs.Causes.{Rose}
@@ -7,18 +7,21 @@ use Rattle.eaw_face.specs.State.{listed}
 use Rattle.eaw_face.specs.StoreView.{LeavesOnly}
 use Rattle.eaw_face.specs.Causes.{IsAlive}
 use Rattle.record_slots.specs.Places.{version_of, tables_of, root_of}
-use Rattle.history.specs.Key.{Key, of_main}
+use Rattle.history.specs.declared.key.Key.{Key}
+use Rattle.history.specs.Key.{of_table}
 use Rattle.history.specs.Writes.{is_of}
 use Rattle.page_store.specs.Fits.{FitAll, IsFirstLacking}
 use Rattle.page_store.specs.Index.{Index}
 use Rattle.page_store.specs.Removes.{IsLogFull}
 use Rattle.page_store.specs.Shown.{PagesView}
+use Rattle.record_table.specs.Names.{IsCalled, key_in}
 use Rattle.record_table.specs.State.{LosesKey}
 use Rattle.record_table.specs.Shown.{table_of, found_key, pairs_of, state_of, keys_of}
 use Rattle.record_table.specs.Does.{OpensWith, is_failed}
 use Rattle.record_table.specs.declared.fault.TableFault.{TableFault}
 use Rattle.record_table.specs.declared.fault.TableFault.TheVariants.{LogFull, Media, Dead, Damaged}
 use Rattle.record_table.specs.declared.scanning.Next.{Next}
+use Rattle.eaw_face.specs.Mirroring.{Mirrors}
 
 -- the indexes of this data have the key, and the table has no record of it: its slot is absent
 abbrev pub IsAbsent : Index → List ℕ → Key → Type 0
@@ -28,21 +31,21 @@ IsAbsent index bytes key = IsSome (found_key (pairs_of index bytes) key) × (get
 abbrev pub IsUnwritten : Index → PagesView → Key → Type 0
 IsUnwritten index old key = (t : ℕ) → IsFalse (list_any (is_of key) ((state_of index old).logs t).writes)
 
--- no key of the table `main` from one to below another is absent
-abbrev pub HasNoAbsent : Index → List ℕ → ℕ → ℕ → Type 0
-HasNoAbsent index bytes from to = (key : ℕ) → from ≤ key → key < to → IsAbsent index bytes (of_main key) → ⊥
+-- no key of the table of this name from one to below another is absent
+abbrev pub HasNoAbsent : Index → List ℕ → List ℕ → ℕ → ℕ → Type 0
+HasNoAbsent index bytes name from to = (key : ℕ) → from ≤ key → key < to → IsAbsent index bytes (of_table name key) → ⊥
 
 -- the least key of it from this one on that is absent, if there is one
-abbrev pub IsNextAbsent : Index → List ℕ → ℕ → Option ℕ → Type 0
-IsNextAbsent index bytes from None = HasNoAbsent index bytes from (2 ^ 64)
-IsNextAbsent index bytes from (Some key) = (from ≤ key) × IsAbsent index bytes (of_main key) × HasNoAbsent index bytes from key
+abbrev pub IsNextAbsent : Index → List ℕ → List ℕ → ℕ → Option ℕ → Type 0
+IsNextAbsent index bytes name from None = HasNoAbsent index bytes name from (2 ^ 64)
+IsNextAbsent index bytes name from (Some key) = (from ≤ key) × IsAbsent index bytes (of_table name key) × HasNoAbsent index bytes name from key
 
--- The index of the table `main` has no key from this one on. Or the first is this one, and the table has this record of it, if any.
-abbrev pub ComesNext : Index → List ℕ → ℕ → Option Next → Type 0
-ComesNext index bytes from None = (key : ℕ) → from ≤ key → key < 2 ^ 64 → found_key (pairs_of index bytes) (of_main key) ≡ None
-ComesNext index bytes from (Some next) =
-    (from ≤ next.key) × IsSome (found_key (pairs_of index bytes) (of_main next.key)) × (get (table_of index bytes) (of_main next.key) ≡ next.value)
-    × ((key : ℕ) → from ≤ key → key < next.key → found_key (pairs_of index bytes) (of_main key) ≡ None)
+-- The index of the table of this name has no key from this one on. Or the first is this one, and the table has this record of it, if any.
+abbrev pub ComesNext : Index → List ℕ → List ℕ → ℕ → Option Next → Type 0
+ComesNext index bytes name from None = (key : ℕ) → from ≤ key → key < 2 ^ 64 → found_key (pairs_of index bytes) (of_table name key) ≡ None
+ComesNext index bytes name from (Some next) =
+    (from ≤ next.key) × IsSome (found_key (pairs_of index bytes) (of_table name next.key)) × (get (table_of index bytes) (of_table name next.key) ≡ next.value)
+    × ((key : ℕ) → from ≤ key → key < next.key → found_key (pairs_of index bytes) (of_table name key) ≡ None)
 
 -- why the search for it gets this answer: over a store that tells its data no page is answered as damaged
 abbrev pub SearchCause : {T : Type 0} → Bool → PagesView → Result T TableFault → Type 0
@@ -80,10 +83,11 @@ RemoveCause tells index table t key old (Err Dead) = old.store.is_dead ≡ true
 RemoveCause tells index table t key old (Err (Damaged page)) = IsAlive old.store × ¬ IsTrue tells
 RemoveCause tells index table t key old (Err fault) = ⊥
 
--- what it makes of the data: just this key is lost, and a key that stays as the last of its page would stay still; or it is as it was
+-- What it makes of the data: just this key is lost, and a key of any table that stays as the last of its page would stay still; or it is as
+-- it was.
 pub record Loses (index : Index) (table key : ℕ) (old new : List ℕ) : Type 0 where
-  pub keys : LosesKey (of_main key) (keys_of index old) (keys_of index new)
-  pub kept : (one : ℕ) → one < 2 ^ 64 → IsSome ((keys_of index new).slot_of (of_main one)) → IsKept index table old one → IsKept index table new one
+  pub keys : LosesKey (key_in old table key) (keys_of index old) (keys_of index new)
+  pub kept : (number one : ℕ) (name : List ℕ) → IsCalled old number name → IsSome ((keys_of index new).slot_of (of_table name one)) → IsKept index number old one → IsKept index number new one
 
 abbrev pub Lost : Index → ℕ → ℕ → List ℕ → List ℕ → Result Bool TableFault → Type 0
 Lost index table key old new (Ok true) = Loses index table key old new
@@ -107,3 +111,4 @@ pub record Removes (tells : Bool) (Opens : List ℕ → List ℕ → Type 0) (in
   pub ranges : IsFalse (is_failed result) → (u : ℕ) → listed (new.store.ranges u) ≡ listed (old.store.ranges u)
   pub others : (u : ℕ) → u ≢ t → new.store.ranges u ≡ old.store.ranges u
   pub time : IsTrue tells → IsAlive old.store → LeavesOnly (λ image. OpensWith Opens index image (state_of index old).table) old.store new.store
+  pub mirrors : Mirrors tells old.store new.store

@@ -1,5 +1,5 @@
 -- What a look-up of a key and of its slot reads, over any store, and what it costs.
-use Rattle.std.specs.Prelude.{ℕ, ◌≡◌, ◌+◌, ◌*◌, ◌/◌, ◌<◌, ◌≤◌, Bool, IsTrue, IsFalse, List, length, Option, Some, None, IfSome, IfOk, Result, Ok, Err}
+use Rattle.std.specs.Prelude.{ℕ, ◌≡◌, ◌+◌, ◌*◌, ◌/◌, ◌<◌, ◌≤◌, IsFalse, List, length, Option, Some, None, IfSome, IfOk, Result, Ok, Err}
 use Rattle.std.specs.Option.{option_map}
 use Rattle.array_shape.specs.Places.{page_count}
 use Rattle.array_shape.specs.declared.shape.Shape.{Shape}

@@ -1,5 +1,5 @@
 -- What pages show in terms of records.
-use Rattle.std.specs.Prelude.{Bool, false, ℕ, ◌+◌, ◌*◌, nat_eq, if◌then◌else◌, List, [], ◌∷◌, ◌++◌, map, take, Option, Some, None, IsSome}
+use Rattle.std.specs.Prelude.{Bool, false, ℕ, ◌+◌, ◌*◌, nat_eq, if◌then◌else◌, List, [], ◌∷◌, ◌++◌, map, Option, Some, None, IsSome}
 use Rattle.std.specs.FinMap.{empty}
 use Rattle.array_shape.specs.declared.shape.Shape.{Shape}
 use Rattle.array_shape.specs.Places.{logger_of}
@@ -10,7 +10,8 @@ use Rattle.record_slots.specs.Places.{slot_of, next_page, used_slots, used_pages
 use Rattle.record_slots.specs.declared.super_page.TableEntry.{TableEntry}
 use Rattle.record_slots.specs.declared.slot.Slot.{Slot}
 use Rattle.record_slots.specs.declared.slot.Slot.TheVariants.{Absent, Present}
-use Rattle.history.specs.Key.{Key, is_same_key, of_main}
+use Rattle.history.specs.declared.key.Key.{Key}
+use Rattle.history.specs.Key.{is_same_key, of_main}
 use Rattle.history.specs.Writes.{Table, Write, write_into}
 use Rattle.page_store.specs.Pairs.{Pair}
 use Rattle.page_store.specs.Index.{Index, slots_of}
@@ -45,13 +46,9 @@ abbrev pub pairs_from : Index → List ℕ → List TableEntry → List KeyPair
 pairs_from index bytes [] = []
 pairs_from index bytes (entry ∷ entries) = map (in_table entry.name) (index.pairs bytes entry.root) ++ pairs_from index bytes entries
 
--- Of the tables of an array, so many can be asked for: the first, which is `main`.
-abbrev pub asked_tables : ℕ
-asked_tables = 1
-
--- the pairs of the tables that can be asked for
+-- the pairs of all tables
 unfoldable pub pairs_of : Index → List ℕ → List KeyPair
-pairs_of index bytes = pairs_from index bytes (take asked_tables (tables_of bytes))
+pairs_of index bytes = pairs_from index bytes (tables_of bytes)
 
 -- how many levels of inner pages an index with this root has; none if there is no such table
 abbrev pub level_under : Index → List ℕ → Option ℕ → ℕ
@@ -63,7 +60,7 @@ abbrev pub table_in : List ℕ → List KeyPair → Table
 table_in bytes [] = empty
 table_in bytes (pair ∷ pairs) = write_into (table_in bytes pairs) (pair.0, value_of (slot_said (slot_of bytes pair.1)))
 
--- the records of the data, those of all tables that can be asked for
+-- the records of the data, those of all tables
 unfoldable pub table_of : Index → List ℕ → Table
 table_of index bytes = table_in bytes (pairs_of index bytes)
 

@@ -4,7 +4,7 @@ use Rattle.std.specs.FinMap.{get}
 use Rattle.mars_base.specs.Causes.{Rose}
 use Rattle.eaw_face.specs.StoreView.{LeavesOnly}
 use Rattle.eaw_face.specs.Causes.{IsAlive}
-use Rattle.history.specs.Key.{Key}
+use Rattle.history.specs.declared.key.Key.{Key}
 use Rattle.page_store.specs.Index.{Index}
 use Rattle.page_store.specs.Looks.{IsStill}
 use Rattle.page_store.specs.Shown.{PagesView}
@@ -12,6 +12,7 @@ use Rattle.record_table.specs.State.{seen_by}
 use Rattle.record_table.specs.Shown.{state_of}
 use Rattle.record_table.specs.Causes.{slot_in}
 use Rattle.record_table.specs.declared.slots.Place.{Place}
+use Rattle.eaw_face.specs.Mirroring.{Mirrors}
 
 -- data, logs and the places of their parts are as they were, and no fault was met
 pub record IsAsBefore (tells : Bool) (old new : PagesView) : Type 0 where
@@ -28,6 +29,7 @@ pub record LooksAs (tells : Bool) (Opens : List ℕ → List ℕ → Type 0) (t 
   pub same : IsFalse failed → IsAsBefore tells old new
   pub dies : IsTrue failed → (new.store.is_dead ≡ true) × Rose old.store.faults new.store.faults
   pub time : IsTrue tells → IsAlive old.store → LeavesOnly (λ image. Opens image old.store.state.bytes) old.store new.store
+  pub mirrors : Mirrors tells old.store new.store
 
 -- the slot of the key with the value that the number sees there; or nothing, if the index lacks the key
 abbrev pub Finds : Index → ℕ → Key → PagesView → Option Place → Type 0

@@ -1,7 +1,8 @@
 -- The model of records: a table, and what numbers have logged over it.
 use Rattle.std.specs.Prelude.{ℕ, suc, ◌≡◌, ◌≤◌, ◌+◌, map, Option, Some, None}
 use Rattle.std.specs.Map.{update}
-use Rattle.history.specs.Key.{Key, is_same_key}
+use Rattle.history.specs.declared.key.Key.{Key}
+use Rattle.history.specs.Key.{is_same_key}
 use Rattle.history.specs.Writes.{Table, all_written}
 use Rattle.history.specs.Table.{Work}
 use Rattle.history.specs.Log.{Log}

@@ -1,5 +1,5 @@
 -- What an upgrade of the super page to version 2 does.
-use Rattle.std.specs.Prelude.{ℕ, ◌≡◌, ◌≢◌, ◌⊎◌, nat_eq, if◌then◌else◌, Bool, true, false, IsTrue, IsFalse, List, Result, Ok, Err, OnOk}
+use Rattle.std.specs.Prelude.{ℕ, ◌≡◌, ◌≢◌, ◌⊎◌, nat_eq, if◌then◌else◌, Bool, true, IsTrue, IsFalse, List, Result, Ok, Err, OnOk}
 use Rattle.mars_base.specs.Bytes.{put}
 use Rattle.mars_base.specs.Causes.{Rose}
 use Rattle.eaw_face.specs.StoreView.{LeavesOnly}
@@ -13,6 +13,7 @@ use Rattle.record_table.specs.Does.{OpensWith, OpensNamed, is_failed}
 use Rattle.record_table.specs.Names.{names_of}
 use Rattle.record_table.specs.declared.fault.TableFault.{TableFault}
 use Rattle.record_table.specs.declared.fault.TableFault.TheVariants.{Media, Dead, Damaged}
+use Rattle.eaw_face.specs.Mirroring.{Mirrors}
 
 -- Data in version 2: that of version 2 is as it is, and that of version 1 gets a super page with the table `main` and with the form and the
 -- counts that it had.
@@ -56,3 +57,4 @@ pub record Upgrades (tells : Bool) (Opens : List ℕ → List ℕ → Type 0) (i
   pub time : IsTrue tells → IsAlive old.store → LeavesOnly (λ image. OpensWith Opens index image (state_of index old).table) old.store new.store
   pub exact : IsTrue tells → IsAlive old.store → LeavesOnly (OpensUpgraded Opens old.store.state.bytes) old.store new.store
   pub named : IsTrue tells → IsAlive old.store → LeavesOnly (λ image. OpensNamed Opens index image (names_of old.store.state.bytes) (state_of index old).table) old.store new.store
+  pub mirrors : Mirrors tells old.store new.store

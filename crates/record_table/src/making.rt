@@ -1,11 +1,13 @@
 // The making of a table.
-ghost use Rattle.std.specs.Prelude.{◌≡◌, ◌≢◌, ◌+◌, ◌*◌, ◌<◌, ◌≤◌, None, Ok, Err, [], ◌∷◌, IsErrOf, IsTrue};
+ghost use Rattle.std.specs.Prelude.{◌≡◌, ◌≢◌, ◌+◌, ◌*◌, ◌<◌, ◌≤◌, None, Ok, Err, [], ◌∷◌, IfOk, OnOk, IsErrOf, IsTrue};
+ghost use Rattle.array_shape.specs.Places.{page_count};
 ghost use Rattle.eaw_face.specs.Causes.{IsAlive};
 ghost use Rattle.index_pages.specs.Acts.{Acts};
 ghost use Rattle.page_store.specs.Index.{index_pages_of};
 ghost use Rattle.page_store.specs.Shown.{pages_of, top_in};
 ghost use Rattle.record_slots.specs.Fresh.{fresh_page};
 ghost use Rattle.record_slots.specs.Super.{super_bytes};
+ghost use Rattle.record_slots.specs.Places.{next_page};
 ghost use Rattle.record_table.specs.Invariant.{Holds};
 ghost use Rattle.record_table.specs.Making.{IsOfMake, Makes, PlaceCause, as_make};
 
@@ -111,12 +113,20 @@ fn write_table<S: EawStore>(pages: &mut Pages<S>, front: &Super, root: u32) -> R
 }
 
 // Makes a table of this name, behind those that there are, and returns its number.
-pub fn make<S: EawStore, K: KeyIndex>(pages: &mut Pages<S>, name: &Name) -> Result<u8, MakeFault>
+// That of its index is put in `root`.
+pub fn make<S: EawStore, K: KeyIndex>(
+    pages: &mut Pages<S>,
+    name: &Name,
+    root: &mut u32,
+) -> Result<u8, MakeFault>
     requires free { (S.view pages.old.store).ranges 0 ≡ None }
     requires holds { Holds S.tells K.index (pages_of (S.view pages.old.store) pages.old) }
     ensures makes { Makes S.tells (S.opens (S.view pages.old.store).shape) K.index name.now
         (pages_of (S.view pages.old.store) pages.old) (pages_of (S.view pages.new.store) pages.new) result }
     ensures holds { Holds S.tells K.index (pages_of (S.view pages.new.store) pages.new) }
+    ensures root { IsTrue S.tells → OnOk result (root.new ≡ next_page (S.view pages.old.store).state.bytes) }
+    ensures inside { OnOk result (root.new < page_count (S.view pages.old.store).shape) }
+    ensures number { IfOk result (λ number. number < 8) }
     ensures dead { IsErrOf result MakeFault.Dead → pages.new ≡ pages.old }
 {
     match upgrade::<S, K>(pages) {
@@ -136,7 +146,10 @@ pub fn make<S: EawStore, K: KeyIndex>(pages: &mut Pages<S>, name: &Name) -> Resu
         Err(fault) => return Err(refusal(fault)),
     }
     match pages.end(MAKER, false) {
-        Ok(()) => Ok(number),
+        Ok(()) => {
+            *root = front.next_page;
+            Ok(number)
+        }
         Err(fault) => Err(refusal(fault)),
     }
 }

@@ -1,14 +1,14 @@
 // Records over pages, under an index.
-ghost use Rattle.std.specs.Prelude.{◌≡◌, ◌<◌, ◌≤◌, ℕ, [], Some, None, IfOk, IfErr, IfSome, IfNone, OnErr, IsErrOf, IsTrue, if◌then◌else◌, filter, length, slice_get};
+ghost use Rattle.std.specs.Prelude.{List, ◌≡◌, ◌<◌, ◌≤◌, ℕ, [], Some, None, IfOk, IfErr, IfSome, IfNone, OnOk, OnErr, IsErrOf, IsTrue, if◌then◌else◌, filter, length, slice_get, slice_index_or};
 ghost use Rattle.std.specs.FinMap.{entries};
-ghost use Rattle.std.specs.Option.{unwrap_or};
 ghost use Rattle.array_shape.specs.NumberSet.{members};
 ghost use Rattle.eaw_face.specs.Causes.{IsAlive};
 ghost use Rattle.eaw_face.specs.State.{listed};
+ghost use Rattle.eaw_face.specs.Mirroring.{GivesUp};
+ghost use Rattle.page_store.specs.Index.{IsTable};
 ghost use Rattle.page_store.specs.Looks.{Looks};
 ghost use Rattle.page_store.specs.Shown.{counts_in, top_in, pages_of};
-ghost use Rattle.history.specs.Key.{main_name, of_main};
-ghost use Rattle.history.specs.Rows.{all_keyed};
+ghost use Rattle.history.specs.Rows.{records_in};
 ghost use Rattle.history.specs.Table.{found};
 ghost use Rattle.history.specs.declared.call.Call.TheVariants.{Get, Put, Del, Scan, Save, Back, Commit, Abort};
 ghost use Rattle.history.specs.declared.call.Reply.TheVariants.{Fine, Absent, Listed, Saved, Committed};
@@ -18,15 +18,17 @@ ghost use Rattle.record_table.specs.Removing.{IsAbsent, IsUnwritten, IsNextAbsen
 ghost use Rattle.record_table.specs.Groups.{CommitsGroup, group_writes};
 ghost use Rattle.record_table.specs.Does.{Does, replied, is_failed};
 ghost use Rattle.record_table.specs.Seeks.{Gets};
-ghost use Rattle.record_table.specs.Shown.{asked_tables, state_of, table_of, pairs_of, held_on, is_write_on, AreNamed};
+ghost use Rattle.record_table.specs.Shown.{state_of, table_of, pairs_of, held_on, is_write_on, AreNamed};
 ghost use Rattle.record_table.specs.Sought.{LooksAs};
 ghost use Rattle.record_table.specs.Upgrading.{Upgrades};
 ghost use Rattle.record_table.specs.Making.{Makes};
-ghost use Rattle.record_table.specs.Names.{IsNew, names_of};
+ghost use Rattle.record_table.specs.Names.{IsNew, IsCalled, names_of, name_at, key_in};
 
-use crate::fault::{AttachRecords, TableFault, unattached};
+use crate::fault::{AttachRecords, TableFault};
 use crate::making::{MakeFault, make};
-use crate::names::read_names;
+use crate::names::Roots;
+use crate::placing::{place_of, slot_of};
+use crate::reading::{Whole, read_whole};
 use crate::removing::{next_absent, remove};
 use crate::scanning::gather;
 use crate::slots::{seek, value_at, write_as};
@@ -35,16 +37,10 @@ use crate::upgrading::upgrade;
 use array_shape::{NumberSet, Shape};
 use eaw_face::EawStore;
 use history::Rows;
-use page_store::{CheckFault, KeyIndex, Pages, TableRows};
+use page_store::{KeyIndex, Pages};
 use record_slots::{Name, Names, Slot, Value};
 use std::alloc::Global;
 use std::marker::{Model, PhantomData};
-
-// The number of the table `main`.
-const MAIN: u8 = 0;
-
-// The root of its index.
-const MAIN_ROOT: u32 = 1;
 
 /// Records under u64 keys over pages, under any index: tables and, over them, what each transaction number has written and not committed.
 ///
@@ -55,59 +51,57 @@ const MAIN_ROOT: u32 = 1;
 pub struct Records<S: EawStore, K: KeyIndex> {
     pages: Pages<S>,
     names: Names,
+    // The roots of their indexes.
+    roots: Roots,
     index: PhantomData<K>,
 }
 
 impl<S: EawStore, K: KeyIndex> Model for Records<S, K> {
     ghost use Rattle.page_store.specs.Shown.{Shown, pages_of};
     ghost use Rattle.record_table.specs.Invariant.{Holds};
-    ghost use Rattle.record_table.specs.Names.{KeepsNames};
+    ghost use Rattle.record_table.specs.Names.{KeepsTables};
 
     ghost Value = { Shown S };
 
     ghost view = { λ r. r.pages };
 
-    ghost invariant = { λ r. Holds S.tells K.index (pages_of (S.view r.pages.store) r.pages) × KeepsNames S.tells (pages_of (S.view r.pages.store) r.pages) r.names };
+    ghost invariant = { λ r. Holds S.tells K.index (pages_of (S.view r.pages.store) r.pages) × KeepsTables S.tells (pages_of (S.view r.pages.store) r.pages) r.names r.roots.at };
 }
 
 impl<S: EawStore, K: KeyIndex> Records<S, K> {
-    /// Records over pages, once the whole index has been tested, and the rows of the table `main`, which that test met on its way. An error
-    /// returns the pages.
+    /// Records over pages, once the whole index has been tested, and the records of all tables, which that test met on its way: each table's
+    /// name with its rows, in the order of the names. An error returns the pages.
     pub fn attach(
         alloc: Global,
         pages: Pages<S>,
-    ) -> Result<(Records<S, K>, Rows), (AttachRecords, Pages<S>)>
+    ) -> Result<(Records<S, K>, Vec<(Name, Rows)>), (AttachRecords, Pages<S>)>
         requires idle { IsAlive (S.view pages.store) → (t : ℕ) → listed ((S.view pages.store).ranges t) ≡ [] }
         requires closed { IsAlive (S.view pages.store) → (t : ℕ) → top_in pages.marks t ≡ None }
         ensures attached { IfOk result (λ attached. Attached S.tells (S.opens (S.view pages.store).shape) K.index
             (pages_of (S.view pages.store) pages) (pages_of (S.view attached.0.store) attached.0)) }
-        ensures rows { IsTrue S.tells → IfOk result (λ attached. all_keyed main_name attached.1 ≡ entries (table_of K.index (S.view pages.store).state.bytes)) }
+        ensures rows { IsTrue S.tells → IfOk result (λ attached. records_in attached.1.items ≡ entries (table_of K.index (S.view pages.store).state.bytes)) }
         ensures cause { IfErr result (λ failed. AttachCause S.tells K.index (S.view pages.store) failed.0) }
         ensures looks { IfErr result (λ failed. Looks S.tells (S.opens (S.view pages.store).shape) (is_refused_by_media failed.0)
             (pages_of (S.view pages.store) pages) (pages_of (S.view failed.1.store) failed.1)) }
         ensures dead { IfErr result (λ failed. failed.0 ≡ AttachRecords.Dead → failed.1 ≡ pages) }
     {
         let mut pages = pages;
-        let mut tables = TableRows::new(alloc);
-        match K::check(alloc, &mut pages, &mut tables) {
-            Ok(()) => {}
-            Err(CheckFault::Damaged { page }) => {
-                return Err((AttachRecords::Damaged { page }, pages));
-            }
-            Err(CheckFault::Media) => return Err((AttachRecords::Media, pages)),
-            Err(CheckFault::Dead) => return Err((AttachRecords::Dead, pages)),
-            Err(CheckFault::NoMemory) => return Err((AttachRecords::NoMemory, pages)),
-        }
-        match read_names(&mut pages) {
-            Ok(names) => {
+        match read_whole::<S, K>(alloc, &mut pages) {
+            Ok(whole) => {
+                let Whole {
+                    names,
+                    roots,
+                    tables,
+                } = whole;
                 let records = Records {
                     pages,
                     names,
+                    roots,
                     index: PhantomData,
                 };
-                Ok((records, first_rows(alloc, tables)))
+                Ok((records, tables))
             }
-            Err(fault) => Err((unattached(fault), pages)),
+            Err(fault) => Err((fault, pages)),
         }
     }
 
@@ -129,9 +123,11 @@ impl<S: EawStore, K: KeyIndex> Records<S, K> {
             (pages_of (S.view self.old.store) self.old) (pages_of (S.view self.new.store) self.new) result }
         ensures dead { IsErrOf result MakeFault.Dead → self.new ≡ self.old }
     {
-        match make::<S, K>(&mut self.pages, name) {
+        let mut root = 0;
+        match make::<S, K>(&mut self.pages, name, &mut root) {
             Ok(number) => {
                 self.names.push(name);
+                self.roots.at[usize::from(number)] = root;
                 Ok(number)
             }
             Err(fault) => Err(fault),
@@ -153,6 +149,13 @@ impl<S: EawStore, K: KeyIndex> Records<S, K> {
         self.names.name(table)
     }
 
+    /// The names of the tables, by their numbers.
+    pub fn names(&self) -> Names
+        ensures { IsTrue S.tells → IsAlive (S.view self.now.store) → result ≡ names_of (S.view self.now.store).state.bytes }
+    {
+        self.names.copy()
+    }
+
     /// The pages below. What numbers have written is still in them.
     pub fn into_pages(self) -> Pages<S>
         ensures { result ≡ self }
@@ -160,6 +163,7 @@ impl<S: EawStore, K: KeyIndex> Records<S, K> {
         let Records {
             pages,
             names: _,
+            roots: _,
             index: _,
         } = self;
         pages
@@ -185,6 +189,28 @@ impl<S: EawStore, K: KeyIndex> Records<S, K> {
         self.pages.is_dead()
     }
 
+    /// The oldest frame that the store below has sent and not yet given up. It is empty if there is none.
+    pub fn first_frame(&self) -> &[u8]
+        ensures { IsTrue (S.view self.now.store).sending.told → result.now ≡ slice_index_or (S.view self.now.store).sending.frames 0 [] }
+    {
+        self.pages.first_frame()
+    }
+
+    /// Gives that frame up. If there is none, it does nothing.
+    pub fn drop_frame(&mut self)
+        ensures gives_up { GivesUp (S.view self.old.store) (S.view self.new.store) }
+        ensures marks { self.new.marks ≡ self.old.marks }
+    {
+        self.pages.drop_frame();
+    }
+
+    /// Whether the sending of frames has ended.
+    pub fn link_down(&self) -> bool
+        ensures { result ≡ (S.view self.now.store).sending.is_down }
+    {
+        self.pages.link_down()
+    }
+
     /// How many saves the number has, at most 32.
     pub fn saves(&self, tid: u8) -> u32
         requires { tid < (S.view self.now.store).shape.numbers }
@@ -195,50 +221,62 @@ impl<S: EawStore, K: KeyIndex> Records<S, K> {
     }
 
     /// The value of a key, as the number sees it. It reads the pages of the index that lead to the key's slot, each once, and that slot.
-    pub fn get(&mut self, tid: u8, key: u64) -> Result<Option<Value>, TableFault>
-        requires { tid < (S.view self.old.store).shape.numbers }
-        ensures does { Does S.tells (S.opens (S.view self.old.store).shape) K.index 0 tid (Get key)
+    pub fn get(&mut self, tid: u8, table: u8, key: u64) -> Result<Option<Value>, TableFault>
+        requires tid { tid < (S.view self.old.store).shape.numbers }
+        requires table { table < 8 }
+        requires there { IsTrue S.tells → IsAlive (S.view self.old.store) → table < length (names_of (S.view self.old.store).state.bytes) }
+        ensures does { (name : List ℕ) → (IsTrue S.tells → IsAlive (S.view self.old.store) → IsCalled (S.view self.old.store).state.bytes table name)
+            → Does S.tells (S.opens (S.view self.old.store).shape) K.index table tid (Get name key)
             (pages_of (S.view self.old.store) self.old) (pages_of (S.view self.new.store) self.new) (replied found result) }
-        ensures gets { Gets (K.index.finding 1 key) tid (S.calls self.old.store) (S.view self.old.store) (S.view self.new.store) result }
+        ensures gets { (root : ℕ) × Gets (K.index.finding root key) tid (S.calls self.old.store) (S.view self.old.store) (S.view self.new.store) result × (IsTrue S.tells → IsAlive (S.view self.old.store) → IsTable (S.view self.old.store).state.bytes table root) }
         ensures dead { IsErrOf result TableFault.Dead → self.new ≡ self.old }
     {
-        match seek::<S, K>(&mut self.pages, tid, MAIN, MAIN_ROOT, key) {
+        let root = self.roots.of_table(table);
+        match seek::<S, K>(&mut self.pages, tid, table, root, key) {
             Ok(found) => Ok(value_at(&found)),
             Err(fault) => Err(TableFault::from(fault)),
         }
     }
 
     /// Gives the key this value, at once in the number's own view, and in the table once it commits. A key that the index lacks is inserted
-    /// first, and stays there whatever becomes of the number.
-    pub fn put(&mut self, tid: u8, key: u64, value: Value) -> Result<(), TableFault>
-        requires { tid < (S.view self.old.store).shape.numbers }
-        ensures does { Does S.tells (S.opens (S.view self.old.store).shape) K.index 0 tid (Put key value)
+    /// first, at the place where the look-up ended, and stays there whatever becomes of the number.
+    pub fn put(&mut self, tid: u8, table: u8, key: u64, value: Value) -> Result<(), TableFault>
+        requires tid { tid < (S.view self.old.store).shape.numbers }
+        requires table { table < 8 }
+        requires there { IsTrue S.tells → IsAlive (S.view self.old.store) → table < length (names_of (S.view self.old.store).state.bytes) }
+        ensures does { (name : List ℕ) → (IsTrue S.tells → IsAlive (S.view self.old.store) → IsCalled (S.view self.old.store).state.bytes table name)
+            → Does S.tells (S.opens (S.view self.old.store).shape) K.index table tid (Put name key value)
             (pages_of (S.view self.old.store) self.old) (pages_of (S.view self.new.store) self.new) (replied (λ done. Fine) result) }
         ensures dead { IsErrOf result TableFault.Dead → self.new ≡ self.old }
     {
-        let present = Slot::Present {
-            table: MAIN,
-            key,
-            value,
+        let root = self.roots.of_table(table);
+        let present = Slot::Present { table, key, value };
+        let sought = match K::find_place(&mut self.pages, root, table, key) {
+            Ok(sought) => sought,
+            Err(fault) => return Err(TableFault::from(fault)),
         };
-        match K::find(&mut self.pages, MAIN_ROOT, MAIN, key) {
-            Ok(Some(slot)) => told(write_as(&mut self.pages, tid, slot, &present)),
-            Ok(None) => match K::insert(&mut self.pages, tid, MAIN_ROOT, MAIN, key) {
-                Ok(slot) => told(write_as(&mut self.pages, tid, slot, &present)),
-                Err(fault) => Err(TableFault::from(fault)),
-            },
+        if let Some(slot) = slot_of(&sought) {
+            return told(write_as(&mut self.pages, tid, slot, &present));
+        }
+        let place = place_of(sought);
+        match K::insert(&mut self.pages, tid, root, table, key, place) {
+            Ok(slot) => told(write_as(&mut self.pages, tid, slot, &present)),
             Err(fault) => Err(TableFault::from(fault)),
         }
     }
 
     /// Removes the record of a key, at once in the number's own view, and in the table once it commits. Returns whether the number saw one.
-    pub fn del(&mut self, tid: u8, key: u64) -> Result<bool, TableFault>
-        requires { tid < (S.view self.old.store).shape.numbers }
-        ensures does { Does S.tells (S.opens (S.view self.old.store).shape) K.index 0 tid (Del key)
+    pub fn del(&mut self, tid: u8, table: u8, key: u64) -> Result<bool, TableFault>
+        requires tid { tid < (S.view self.old.store).shape.numbers }
+        requires table { table < 8 }
+        requires there { IsTrue S.tells → IsAlive (S.view self.old.store) → table < length (names_of (S.view self.old.store).state.bytes) }
+        ensures does { (name : List ℕ) → (IsTrue S.tells → IsAlive (S.view self.old.store) → IsCalled (S.view self.old.store).state.bytes table name)
+            → Does S.tells (S.opens (S.view self.old.store).shape) K.index table tid (Del name key)
             (pages_of (S.view self.old.store) self.old) (pages_of (S.view self.new.store) self.new) (replied (λ was. if was then Fine else Absent) result) }
         ensures dead { IsErrOf result TableFault.Dead → self.new ≡ self.old }
     {
-        let place = match seek::<S, K>(&mut self.pages, tid, MAIN, MAIN_ROOT, key) {
+        let root = self.roots.of_table(table);
+        let place = match seek::<S, K>(&mut self.pages, tid, table, root, key) {
             Ok(Some(place)) => place,
             Ok(None) => return Ok(false),
             Err(fault) => return Err(TableFault::from(fault)),
@@ -250,7 +288,7 @@ impl<S: EawStore, K: KeyIndex> Records<S, K> {
             &mut self.pages,
             tid,
             place.slot,
-            &Slot::Absent { table: MAIN, key },
+            &Slot::Absent { table, key },
         ) {
             Ok(()) => Ok(true),
             Err(fault) => Err(TableFault::from(fault)),
@@ -258,9 +296,19 @@ impl<S: EawStore, K: KeyIndex> Records<S, K> {
     }
 
     /// The records from one key to another, both included, as the number sees them. The memory for them is taken here.
-    pub fn scan(&mut self, alloc: Global, tid: u8, low: u64, high: u64) -> Result<Rows, TableFault>
-        requires { tid < (S.view self.old.store).shape.numbers }
-        ensures does { Does S.tells (S.opens (S.view self.old.store).shape) K.index 0 tid (Scan low high)
+    pub fn scan(
+        &mut self,
+        alloc: Global,
+        tid: u8,
+        table: u8,
+        low: u64,
+        high: u64,
+    ) -> Result<Rows, TableFault>
+        requires tid { tid < (S.view self.old.store).shape.numbers }
+        requires table { table < 8 }
+        requires there { IsTrue S.tells → IsAlive (S.view self.old.store) → table < length (names_of (S.view self.old.store).state.bytes) }
+        ensures does { (name : List ℕ) → (IsTrue S.tells → IsAlive (S.view self.old.store) → IsCalled (S.view self.old.store).state.bytes table name)
+            → Does S.tells (S.opens (S.view self.old.store).shape) K.index table tid (Scan name low high)
             (pages_of (S.view self.old.store) self.old) (pages_of (S.view self.new.store) self.new) (replied Listed result) }
         ensures looks { LooksAs S.tells (S.opens (S.view self.old.store).shape) tid (is_failed result)
             (pages_of (S.view self.old.store) self.old) (pages_of (S.view self.new.store) self.new) }
@@ -270,7 +318,8 @@ impl<S: EawStore, K: KeyIndex> Records<S, K> {
             return Err(TableFault::Dead);
         }
         let mut rows = Rows::new(alloc);
-        match gather::<S, K>(&mut self.pages, tid, MAIN, MAIN_ROOT, low, high, &mut rows) {
+        let root = self.roots.of_table(table);
+        match gather::<S, K>(&mut self.pages, tid, table, root, low, high, &mut rows) {
             Ok(()) => Ok(rows),
             Err(fault) => Err(fault),
         }
@@ -305,7 +354,7 @@ impl<S: EawStore, K: KeyIndex> Records<S, K> {
         told(self.pages.back(tid, n))
     }
 
-    /// Makes what the number has written part of the table, all at once, and forgets its saves.
+    /// Makes what the number has written part of the table, all at once, and forgets its saves. The number is then free.
     pub fn commit(&mut self, tid: u8) -> Result<(), TableFault>
         requires { tid < (S.view self.old.store).shape.numbers }
         // Whatever number its caller tells it with.
@@ -314,6 +363,7 @@ impl<S: EawStore, K: KeyIndex> Records<S, K> {
         // A commit of nothing uses no medium.
         ensures due { IsTrue S.tells → IsAlive (S.view self.old.store) → IsErrOf result TableFault.Media
             → 0 < length ((state_of K.index (pages_of (S.view self.old.store) self.old)).logs tid).writes }
+        ensures free { OnOk result ((S.view self.new.store).ranges tid ≡ None) }
         ensures dead { IsErrOf result TableFault.Dead → self.new ≡ self.old }
     {
         told(self.pages.end(tid, true))
@@ -332,57 +382,52 @@ impl<S: EawStore, K: KeyIndex> Records<S, K> {
         told(self.pages.end_group(tids))
     }
 
-    /// The least key of a table, which is `main`, from `from` on that has no record in the data, while the index of the table still has the key. Nothing is
+    /// The least key of a table from `from` on that has no record in the data, while the index of the table still has the key. Nothing is
     /// changed.
     pub fn next_absent(&mut self, table: u8, from: u64) -> Result<Option<u64>, TableFault>
-        requires { table < asked_tables }
+        requires table { table < 8 }
+        requires there { IsTrue S.tells → IsAlive (S.view self.old.store) → table < length (names_of (S.view self.old.store).state.bytes) }
         ensures looks { Looks S.tells (S.opens (S.view self.old.store).shape) (is_failed result)
             (pages_of (S.view self.old.store) self.old) (pages_of (S.view self.new.store) self.new) }
         ensures cause { SearchCause S.tells (pages_of (S.view self.old.store) self.old) result }
-        ensures next { IsTrue S.tells → IfOk result (IsNextAbsent K.index (S.view self.old.store).state.bytes from) }
+        ensures next { IsTrue S.tells → IfOk result (IsNextAbsent K.index (S.view self.old.store).state.bytes (name_at (S.view self.old.store).state.bytes table) from) }
         ensures inside { IfOk result (λ key. IfSome key (λ key. from ≤ key)) }
         ensures dead { IsErrOf result TableFault.Dead → self.new ≡ self.old }
     {
         if self.pages.is_dead() {
             return Err(TableFault::Dead);
         }
-        told(next_absent::<S, K>(&mut self.pages, table, MAIN_ROOT, from))
+        let root = self.roots.of_table(table);
+        told(next_absent::<S, K>(&mut self.pages, table, root, from))
     }
 
-    /// Takes a key of a table, which is `main`, that has no record out of the index, as this number, and gives its slot back: the next key that is inserted
+    /// Takes a key of a table that has no record out of the index, as this number, and gives its slot back: the next key that is inserted
     /// gets it. Returns whether it was taken out; a pair that its page keeps as its last one is not. No number may have written the key, and
     /// the super page is of version 2.
     pub fn remove(&mut self, tid: u8, table: u8, key: u64) -> Result<bool, TableFault>
         requires tid { tid < (S.view self.old.store).shape.numbers }
-        requires table { table < asked_tables }
+        requires table { table < 8 }
+        requires there { IsTrue S.tells → IsAlive (S.view self.old.store) → table < length (names_of (S.view self.old.store).state.bytes) }
         requires lists { IsTrue S.tells → IsAlive (S.view self.old.store) → version_of (S.view self.old.store).state.bytes ≡ 2 }
-        requires absent { IsTrue S.tells → IsAlive (S.view self.old.store) → IsAbsent K.index (S.view self.old.store).state.bytes (of_main key) }
-        requires unwritten { IsTrue S.tells → IsAlive (S.view self.old.store) → IsUnwritten K.index (pages_of (S.view self.old.store) self.old) (of_main key) }
+        requires absent { IsTrue S.tells → IsAlive (S.view self.old.store) → IsAbsent K.index (S.view self.old.store).state.bytes (key_in (S.view self.old.store).state.bytes table key) }
+        requires unwritten { IsTrue S.tells → IsAlive (S.view self.old.store) → IsUnwritten K.index (pages_of (S.view self.old.store) self.old) (key_in (S.view self.old.store).state.bytes table key) }
         ensures removes { Removes S.tells (S.opens (S.view self.old.store).shape) K.index table tid key
             (pages_of (S.view self.old.store) self.old) (pages_of (S.view self.new.store) self.new) result }
         ensures dead { IsErrOf result TableFault.Dead → self.new ≡ self.old }
     {
-        told(remove::<S, K>(&mut self.pages, tid, table, MAIN_ROOT, key))
+        let root = self.roots.of_table(table);
+        told(remove::<S, K>(&mut self.pages, tid, table, root, key))
     }
 
-    /// Discards what the number has written, and its saves.
+    /// Discards what the number has written, and its saves. The number is then free.
     pub fn abort(&mut self, tid: u8) -> Result<(), TableFault>
         requires { tid < (S.view self.old.store).shape.numbers }
         ensures does { Does S.tells (S.opens (S.view self.old.store).shape) K.index 0 tid Abort
             (pages_of (S.view self.old.store) self.old) (pages_of (S.view self.new.store) self.new) (replied (λ done. Fine) result) }
+        ensures free { OnOk result ((S.view self.new.store).ranges tid ≡ None) }
         ensures dead { IsErrOf result TableFault.Dead → self.new ≡ self.old }
         ensures due { IsErrOf result TableFault.Media → ⊥ }
     {
         told(self.pages.end(tid, false))
-    }
-}
-
-// The rows of the table `main`.
-fn first_rows(alloc: Global, tables: TableRows) -> Rows
-    ensures { result ≡ unwrap_or (slice_get tables 0) [] }
-{
-    match tables.into_first() {
-        Some(rows) => rows,
-        None => Rows::new(alloc),
     }
 }

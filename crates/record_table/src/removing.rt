@@ -1,6 +1,5 @@
 // Keys of a table that have no record any more: the next of them, and the removal of one from the index.
 ghost use Rattle.std.specs.Prelude.{◌≡◌, ◌^◌, ◌≤◌, ◌<◌, IfOk, IfSome, IsErrOf, IsTrue};
-ghost use Rattle.history.specs.Key.{of_main};
 ghost use Rattle.array_shape.specs.Places.{page_count};
 ghost use Rattle.eaw_face.specs.Causes.{IsAlive};
 ghost use Rattle.record_slots.specs.Slots.{slot_said};
@@ -11,7 +10,7 @@ ghost use Rattle.page_store.specs.Shown.{pages_of};
 ghost use Rattle.record_table.specs.Faults.{told_as};
 ghost use Rattle.record_table.specs.Invariant.{Holds};
 ghost use Rattle.record_table.specs.Removing.{IsAbsent, IsUnwritten, IsNextAbsent, ComesNext, Removes};
-ghost use Rattle.record_table.specs.Shown.{asked_tables};
+ghost use Rattle.record_table.specs.Names.{name_at, key_in};
 
 use crate::scanning::Next;
 use crate::slots::{SLOTS_IN_PAGE, heard, page_of, value_in};
@@ -41,14 +40,14 @@ fn next_in_data<S: EawStore, K: KeyIndex>(
     root: u32,
     from: u64,
 ) -> Result<Option<Next>, PageFault>
-    requires table { table < asked_tables }
+    requires table { table < 8 }
     requires root { root < page_count (S.view pages.old.store).shape }
     requires named { IsTrue S.tells → IsAlive (S.view pages.old.store) → IsTable (S.view pages.old.store).state.bytes table root }
     requires holds { Holds S.tells K.index (pages_of (S.view pages.old.store) pages.old) }
     ensures looks { Looks S.tells (S.opens (S.view pages.old.store).shape) (is_failed result)
         (pages_of (S.view pages.old.store) pages.old) (pages_of (S.view pages.new.store) pages.new) }
     ensures cause { LookCause S.tells (S.view pages.old.store) result }
-    ensures comes { IsTrue S.tells → IfOk result (ComesNext K.index (S.view pages.old.store).state.bytes from) }
+    ensures comes { IsTrue S.tells → IfOk result (ComesNext K.index (S.view pages.old.store).state.bytes (name_at (S.view pages.old.store).state.bytes table) from) }
     ensures inside { IfOk result (λ next. IfSome next (λ next. from ≤ next.key)) }
     ensures dead { IsErrOf result PageFault.Dead → pages.new ≡ pages.old }
 {
@@ -82,7 +81,7 @@ pub fn next_absent<S: EawStore, K: KeyIndex>(
     root: u32,
     from: u64,
 ) -> Result<Option<u64>, PageFault>
-    requires table { table < asked_tables }
+    requires table { table < 8 }
     requires root { root < page_count (S.view pages.old.store).shape }
     requires named { IsTrue S.tells → IsAlive (S.view pages.old.store) → IsTable (S.view pages.old.store).state.bytes table root }
     requires alive { IsAlive (S.view pages.old.store) }
@@ -90,7 +89,7 @@ pub fn next_absent<S: EawStore, K: KeyIndex>(
     ensures looks { Looks S.tells (S.opens (S.view pages.old.store).shape) (is_failed result)
         (pages_of (S.view pages.old.store) pages.old) (pages_of (S.view pages.new.store) pages.new) }
     ensures cause { LookCause S.tells (S.view pages.old.store) result }
-    ensures next { IsTrue S.tells → IfOk result (IsNextAbsent K.index (S.view pages.old.store).state.bytes from) }
+    ensures next { IsTrue S.tells → IfOk result (IsNextAbsent K.index (S.view pages.old.store).state.bytes (name_at (S.view pages.old.store).state.bytes table) from) }
     ensures inside { IfOk result (λ key. IfSome key (λ key. from ≤ key)) }
 {
     let mut low = from;
@@ -120,13 +119,13 @@ pub fn remove<S: EawStore, K: KeyIndex>(
     key: u64,
 ) -> Result<bool, PageFault>
     requires tid { tid < (S.view pages.old.store).shape.numbers }
-    requires table { table < asked_tables }
+    requires table { table < 8 }
     requires root { root < page_count (S.view pages.old.store).shape }
     requires named { IsTrue S.tells → IsAlive (S.view pages.old.store) → IsTable (S.view pages.old.store).state.bytes table root }
     requires holds { Holds S.tells K.index (pages_of (S.view pages.old.store) pages.old) }
     requires lists { IsTrue S.tells → IsAlive (S.view pages.old.store) → version_of (S.view pages.old.store).state.bytes ≡ 2 }
-    requires absent { IsTrue S.tells → IsAlive (S.view pages.old.store) → IsAbsent K.index (S.view pages.old.store).state.bytes (of_main key) }
-    requires unwritten { IsTrue S.tells → IsAlive (S.view pages.old.store) → IsUnwritten K.index (pages_of (S.view pages.old.store) pages.old) (of_main key) }
+    requires absent { IsTrue S.tells → IsAlive (S.view pages.old.store) → IsAbsent K.index (S.view pages.old.store).state.bytes (key_in (S.view pages.old.store).state.bytes table key) }
+    requires unwritten { IsTrue S.tells → IsAlive (S.view pages.old.store) → IsUnwritten K.index (pages_of (S.view pages.old.store) pages.old) (key_in (S.view pages.old.store).state.bytes table key) }
     ensures removes { Removes S.tells (S.opens (S.view pages.old.store).shape) K.index table tid key
         (pages_of (S.view pages.old.store) pages.old) (pages_of (S.view pages.new.store) pages.new) (told_as result) }
     ensures holds { Holds S.tells K.index (pages_of (S.view pages.new.store) pages.new) }

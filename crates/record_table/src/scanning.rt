@@ -1,5 +1,5 @@
 // Gathers the records from one key to another along the index.
-ghost use Rattle.std.specs.Prelude.{◌≡◌, ◌≤◌, ◌<◌, [], ◌++◌, Some, IfOk, IfSome, OnOk, IsTrue, length};
+ghost use Rattle.std.specs.Prelude.{ℕ, List, ◌≡◌, ◌≤◌, ◌<◌, [], ◌++◌, Some, IfOk, IfSome, OnOk, IsTrue, length};
 ghost use Rattle.array_shape.specs.Places.{page_count};
 ghost use Rattle.eaw_face.specs.Causes.{IsAlive};
 ghost use Rattle.page_store.specs.Index.{IsTable, slots_of};
@@ -10,7 +10,7 @@ ghost use Rattle.page_store.specs.Shown.{pages_of};
 ghost use Rattle.record_table.specs.Does as answers;
 ghost use Rattle.record_table.specs.Invariant.{Holds};
 ghost use Rattle.record_table.specs.Scanned.{rows_seen, rows_left, Follows, ScanCause};
-ghost use Rattle.record_table.specs.Shown.{asked_tables};
+ghost use Rattle.record_table.specs.Names.{IsCalled};
 ghost use Rattle.record_table.specs.Sought.{LooksAs};
 
 use crate::fault::TableFault;
@@ -45,7 +45,7 @@ fn read_row<S: EawStore, K: KeyIndex>(
     pair: (u64, u32),
 ) -> Result<Next, PageFault>
     requires tid { tid < (S.view pages.old.store).shape.numbers }
-    requires table { span.table < asked_tables }
+    requires table { span.table < 8 }
     requires named { IsTrue S.tells → IsAlive (S.view pages.old.store) → IsTable (S.view pages.old.store).state.bytes span.table span.root }
     requires holds { Holds S.tells K.index (pages_of (S.view pages.old.store) pages.old) }
     requires alive { IsAlive (S.view pages.old.store) }
@@ -55,7 +55,7 @@ fn read_row<S: EawStore, K: KeyIndex>(
     ensures looks { LooksAs S.tells (S.opens (S.view pages.old.store).shape) tid (is_failed result)
         (pages_of (S.view pages.old.store) pages.old) (pages_of (S.view pages.new.store) pages.new) }
     ensures cause { LookCause S.tells (S.view pages.old.store) result }
-    ensures follows { IsTrue S.tells → IfOk result (λ row. Follows K.index tid span.low span.high (pages_of (S.view pages.old.store) pages.old) (Some row)) }
+    ensures follows { IsTrue S.tells → (name : List ℕ) → IsCalled (S.view pages.old.store).state.bytes span.table name → IfOk result (λ row. Follows K.index tid name span.low span.high (pages_of (S.view pages.old.store) pages.old) (Some row)) }
     ensures key { IfOk result (λ row. row.key ≡ pair.0) }
 {
     let (key, slot) = pair;
@@ -92,7 +92,7 @@ fn push_rows<S: EawStore, K: KeyIndex>(
     rows: &mut Rows,
 ) -> Result<Option<u64>, TableFault>
     requires tid { tid < (S.view pages.old.store).shape.numbers }
-    requires table { span.table < asked_tables }
+    requires table { span.table < 8 }
     requires named { IsTrue S.tells → IsAlive (S.view pages.old.store) → IsTable (S.view pages.old.store).state.bytes span.table span.root }
     requires holds { Holds S.tells K.index (pages_of (S.view pages.old.store) pages.old) }
     requires alive { IsAlive (S.view pages.old.store) }
@@ -103,8 +103,9 @@ fn push_rows<S: EawStore, K: KeyIndex>(
     ensures looks { LooksAs S.tells (S.opens (S.view pages.old.store).shape) tid (answers.is_failed result)
         (pages_of (S.view pages.old.store) pages.old) (pages_of (S.view pages.new.store) pages.new) }
     ensures cause { ScanCause S.tells result }
-    ensures rows { IsTrue S.tells → IfOk result (λ from. rows.new ++ rows_left K.index tid (pages_of (S.view pages.old.store) pages.old) from span.high
-        ≡ rows.old ++ rows_seen K.index tid (pages_of (S.view pages.old.store) pages.old) span.low span.high) }
+    ensures rows { IsTrue S.tells → (name : List ℕ) → IsCalled (S.view pages.old.store).state.bytes span.table name → IfOk result (λ from.
+        rows.new ++ rows_left K.index tid name (pages_of (S.view pages.old.store) pages.old) from span.high
+        ≡ rows.old ++ rows_seen K.index tid name (pages_of (S.view pages.old.store) pages.old) span.low span.high) }
     ensures further { IfOk result (λ from. IfSome from (λ from. (span.low < from) × (from ≤ span.high))) }
 {
     let mut from = span.low;
@@ -139,7 +140,7 @@ pub fn gather<S: EawStore, K: KeyIndex>(
     rows: &mut Rows,
 ) -> Result<(), TableFault>
     requires tid { tid < (S.view pages.old.store).shape.numbers }
-    requires table { table < asked_tables }
+    requires table { table < 8 }
     requires root { root < page_count (S.view pages.old.store).shape }
     requires named { IsTrue S.tells → IsAlive (S.view pages.old.store) → IsTable (S.view pages.old.store).state.bytes table root }
     requires alive { IsAlive (S.view pages.old.store) }
@@ -148,7 +149,7 @@ pub fn gather<S: EawStore, K: KeyIndex>(
     ensures looks { LooksAs S.tells (S.opens (S.view pages.old.store).shape) tid (answers.is_failed result)
         (pages_of (S.view pages.old.store) pages.old) (pages_of (S.view pages.new.store) pages.new) }
     ensures cause { ScanCause S.tells result }
-    ensures rows { IsTrue S.tells → OnOk result (rows.new ≡ rows_seen K.index tid (pages_of (S.view pages.old.store) pages.old) low high) }
+    ensures rows { IsTrue S.tells → (name : List ℕ) → IsCalled (S.view pages.old.store).state.bytes table name → OnOk result (rows.new ≡ rows_seen K.index tid name (pages_of (S.view pages.old.store) pages.old) low high) }
 {
     let mut from = low;
     while from <= high {

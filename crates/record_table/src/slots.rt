@@ -1,6 +1,6 @@
 // Slots of keys, read and written as a number.
-ghost use Rattle.std.specs.Prelude.{◌≡◌, ◌≢◌, ◌⊎◌, ◌/◌, true, None, ◌+◌, ◌*◌, ◌%◌, ◌<◌, Some, IfOk, IfErr, IfSome, IsErrOf, IsTrue, length};
-ghost use Rattle.history.specs.Key.{of_main};
+ghost use Rattle.std.specs.Prelude.{ℕ, List, ◌≡◌, ◌≢◌, ◌⊎◌, ◌/◌, true, None, ◌+◌, ◌*◌, ◌%◌, ◌<◌, Some, IfOk, IfErr, IfSome, IsErrOf, IsTrue, length};
+ghost use Rattle.history.specs.Key.{of_table};
 ghost use Rattle.mars_base.specs.Bytes.{range};
 ghost use Rattle.mars_base.specs.Costs.{Costs};
 ghost use Rattle.array_shape.specs.Places.{page_count};
@@ -15,7 +15,7 @@ ghost use Rattle.page_store.specs.Records.{value_of};
 ghost use Rattle.page_store.specs.Shown.{pages_of, outline_of, state_of};
 ghost use Rattle.page_store.specs.State.{view_of};
 ghost use Rattle.record_table.specs.Invariant.{Holds};
-ghost use Rattle.record_table.specs.Shown.{asked_tables};
+ghost use Rattle.record_table.specs.Names.{IsCalled};
 ghost use Rattle.record_table.specs.Seeks.{Seeks, slot_cost};
 ghost use Rattle.record_table.specs.Sought.{LooksAs, Finds, value_at};
 
@@ -114,7 +114,7 @@ pub fn seek<S: EawStore, K: KeyIndex>(
     key: u64,
 ) -> Result<Option<Place>, PageFault>
     requires tid { tid < (S.view pages.old.store).shape.numbers }
-    requires table { table < asked_tables }
+    requires table { table < 8 }
     requires root { root < page_count (S.view pages.old.store).shape }
     requires named { IsTrue S.tells → IsAlive (S.view pages.old.store) → IsTable (S.view pages.old.store).state.bytes table root }
     requires holds { Holds S.tells K.index (pages_of (S.view pages.old.store) pages.old) }
@@ -122,7 +122,7 @@ pub fn seek<S: EawStore, K: KeyIndex>(
         (pages_of (S.view pages.old.store) pages.old) (pages_of (S.view pages.new.store) pages.new) }
     ensures cause { LookCause S.tells (S.view pages.old.store) result }
     ensures seeks { Seeks (K.index.finding root key) tid (S.calls pages.old.store) (S.view pages.old.store) (S.view pages.new.store) result }
-    ensures finds { IsTrue S.tells → IfOk result (Finds K.index tid (of_main key) (pages_of (S.view pages.old.store) pages.old)) }
+    ensures finds { IsTrue S.tells → (name : List ℕ) → IsCalled (S.view pages.old.store).state.bytes table name → IfOk result (Finds K.index tid (of_table name key) (pages_of (S.view pages.old.store) pages.old)) }
     ensures inside { IfOk result (λ place. IfSome place (λ place. place.slot < slots_of (S.view pages.old.store).shape)) }
     ensures dead { IsErrOf result PageFault.Dead → pages.new ≡ pages.old }
 {

@@ -4,7 +4,7 @@
 ghost use Rattle.std.specs.Prelude.{◌≡◌};
 
 use caller_steps::Core;
-use history::{Call, Reply};
+use history::{Call, Reply, main_table};
 use mars_manager::{Mars, Pass};
 use record_slots::Value;
 use std::sync::Wait;
@@ -21,7 +21,12 @@ pub fn put_one<R: Wait, C: Core + Drop>(
     ensures { pass.new.table ≡ pass.old.table }
 {
     let _ = mars.call_wait(rt, pass, &Call::Begin);
-    match mars.call_wait(rt, pass, &Call::Put { key, value }) {
+    let put = Call::Put {
+        table: main_table(),
+        key,
+        value,
+    };
+    match mars.call_wait(rt, pass, &put) {
         Reply::Fine => mars.call_wait(rt, pass, &Call::Commit),
         refused => {
             let _ = mars.call_wait(rt, pass, &Call::Abort);

@@ -7,7 +7,7 @@ ghost use Rattle.history.specs.Legal.{AreNumberedFrom};
 ghost use Rattle.snapshot_readers.specs.Batches.{joined};
 
 use caller_steps::Core;
-use history::Done;
+use history::{Done, Key};
 use mars_base::NoMemory;
 use mars_manager::{Mars, Pass};
 use record_slots::Value;
@@ -21,7 +21,7 @@ pub fn publish_and_get<R: Wait>(
     feed: &mut Feed,
     reader: &mut Reader,
     next: &[Done],
-    key: u64,
+    key: &Key,
 ) -> Result<Option<Value>, NoMemory>
     requires next { AreNumberedFrom (length (joined (fed feed.old)) + 1) next.now }
     requires reader { read_book reader.old ≡ fed_book feed.old }

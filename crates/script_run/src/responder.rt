@@ -34,13 +34,20 @@ pub trait Responder {
     /// How often the medium below has failed.
     ghost faults: { Self → ℕ };
 
+    /// In this state, this is the committed data.
+    ghost holds: { State → List ℕ → Type 0 };
+
+    /// From a responder to the one that a line leaves: what was sent of the data.
+    ghost sends: { Self → Self → Type 0 };
+
     /// Does what the `n`-th line says, and leaves its answer in `out`.
     fn answer(&mut self, line: &[u8], n: u64, out: &mut Vec<u8>) -> Result<(), Stop>
         requires { is_ready self.old }
         ensures ready { OnOk result (is_ready self.new) }
         ensures answers { IsTrue tells → (state : State) → stands self.old state
             → Answers script (stands self.new) (comes self.old state self.new) state n line.now out.new.items result }
-        ensures cause { HasStopCause (faults self.old) (faults self.new) result };
+        ensures cause { HasStopCause (faults self.old) (faults self.new) result }
+        ensures sends { sends self.old self.new };
 
     /// `comes` holds from a responder to itself.
     ghost comes_none: { (self : Self) (state : State) → IsTrue tells → is_ready self → stands self state → comes self state self state };

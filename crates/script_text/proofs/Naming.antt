@@ -27,7 +27,7 @@ first_letter Abort words is = omega (arith, ap (λ (l : List ℕ). get_or l 0 0)
 pub no_sign : {X : Type 0} (call : Call) (words rest : List ℕ) → words ≡ 64 ∷ rest → AreWordsOf call words → X
 no_sign call words rest at is = absurd (omega (arith, first_letter call words is, ap (λ (l : List ℕ). get_or l 0 0) at))
 
-tail_is : (rest other : List ℕ) → ◌≡◌ {A = List ℕ} (64 ∷ rest) (64 ∷ other) → rest ≡ other
+pub tail_is : (rest other : List ℕ) → ◌≡◌ {A = List ℕ} (64 ∷ rest) (64 ∷ other) → rest ≡ other
 tail_is rest other e = cc
 
 -- a name has no space
@@ -45,12 +45,12 @@ main_is_name = record { some = omega arith; short = omega arith; letters = refl 
 
 -- behind the sign a name is read
 pub named_text : (bytes rest : List ℕ) (result : Option Call) → bytes ≡ 64 ∷ rest → ReadsText IsBehindName rest result → ReadsText IsCallText bytes result
-named_text bytes rest None at none call is = go (asked_table call) refl is
+named_text bytes rest None at none = λ call is. go call (asked_table call) refl is
   where
-    go : (asked : Option (List ℕ)) → asked_table call ≡ asked → IsTextFor asked (AreWordsOf call) bytes → ⊥
-    go None asks is = no_sign call bytes rest at is
-    go (Some name) asks (proper, inl (words, text, said)) = none call (name, words, proper, tail_is rest (name ++ 32 ∷ words) (sym at ∙ text), (asks, said))
-    go (Some name) asks (proper, inr (main, said)) = no_sign call bytes rest at said
+    go : (call : Call) (asked : Option (List ℕ)) → asked_table call ≡ asked → IsTextFor asked (AreWordsOf call) bytes → ⊥
+    go call None asks is = no_sign call bytes rest at is
+    go call (Some name) asks (proper, inl (words, text, said)) = none call (name, words, proper, tail_is rest (name ++ 32 ∷ words) (sym at ∙ text), (asks, said))
+    go call (Some name) asks (proper, inr (main, said)) = no_sign call bytes rest at said
 named_text bytes rest (Some call) at (name, words, proper, text, (asks, said)) =
     subst (λ (o : Option (List ℕ)). IsTextFor o (AreWordsOf call) bytes) (sym asks) (proper, inl (words, at ∙ ap (λ (l : List ℕ). 64 ∷ l) text, said))
 
@@ -61,12 +61,12 @@ plain_text bytes call (asks, said) = subst (λ (o : Option (List ℕ)). IsTextFo
 -- without the sign the table is `main`
 pub main_text : (bytes table : List ℕ) (result : Option Call) → table ≡ main_name → ((rest : List ℕ) → bytes ≡ 64 ∷ rest → ⊥) → ((call : Call) → IsAsking None call bytes → ⊥)
     → ReadsText (IsAsking (Some table)) bytes result → ReadsText IsCallText bytes result
-main_text bytes table None main unsigned plain none call is = go (asked_table call) refl is
+main_text bytes table None main unsigned plain none = λ call is. go call (asked_table call) refl is
   where
-    go : (asked : Option (List ℕ)) → asked_table call ≡ asked → IsTextFor asked (AreWordsOf call) bytes → ⊥
-    go None asks is = plain call (asks, is)
-    go (Some name) asks (proper, inl (words, text, said)) = unsigned (name ++ 32 ∷ words) text
-    go (Some name) asks (proper, inr (is_main, said)) = none call (asks ∙ ap Some (is_main ∙ sym main), said)
+    go : (call : Call) (asked : Option (List ℕ)) → asked_table call ≡ asked → IsTextFor asked (AreWordsOf call) bytes → ⊥
+    go call None asks is = plain call (asks, is)
+    go call (Some name) asks (proper, inl (words, text, said)) = unsigned (name ++ 32 ∷ words) text
+    go call (Some name) asks (proper, inr (is_main, said)) = none call (asks ∙ ap Some (is_main ∙ sym main), said)
 main_text bytes table (Some call) main unsigned plain (asks, said) =
     subst (λ (o : Option (List ℕ)). IsTextFor o (AreWordsOf call) bytes) (sym (asks ∙ ap Some main)) (main_is_name, inr (refl, said))
 
@@ -82,7 +82,7 @@ no_proper bytes name words word text improper call (other, more, proper, is, sai
 -- words behind a name
 pub behind_name : (bytes name words table : List ℕ) (result : Option Call) → IsWord name → bytes ≡ name ++ 32 ∷ words → IsName name → table ≡ name
     → ReadsText (IsAsking (Some table)) words result → ReadsText IsBehindName bytes result
-behind_name bytes name words table None word text proper same none call (other, more, proper', is, (asks, said)) =
+behind_name bytes name words table None word text proper same none = λ call (other, more, proper', is, (asks, said)).
     let both = first_space name other words more word (name_is_word other proper') (sym text ∙ is) in
     none call (asks ∙ ap Some (sym both.0 ∙ sym same), subst (AreWordsOf call) (sym both.1) said)
 behind_name bytes name words table (Some call) word text proper same (asks, said) = (name, words, proper, text, (asks ∙ ap Some same, said))

@@ -12,7 +12,7 @@ use Rattle.script_text.specs.declared.line.Line.TheVariants.{Nothing, Told, Bad}
 use Rattle.script_text.proofs.Words.{first_space}
 use Rattle.script_text.proofs.Numbers.{decimal_is_word}
 use Rattle.script_text.proofs.Fields.{same_long_fields}
-use Rattle.script_text.proofs.Naming.{no_sign, name_is_word}
+use Rattle.script_text.proofs.Naming.{no_sign, name_is_word, tail_is}
 use Rattle.std.proofs.lemmas.Bool.{false≢true}
 
 -- twice the first letter of a text, and the second
@@ -103,14 +103,11 @@ same_call call other text is js = go (asked_table call) (asked_table other) refl
     go (Some m) None e f (proper, inl (words, at, said)) js = no_sign other text (m ++ 32 ∷ words) at js
     go (Some m) None e f (proper, inr (main, said)) js = unlike other call m text f e js said
     go (Some m) (Some n) e f (proper, inl (words, at, said)) (proper', inl (words', at', said')) =
-        let both = first_space m n words words' (name_is_word m proper) (name_is_word n proper') (tails (m ++ 32 ∷ words) (n ++ 32 ∷ words') (sym at ∙ at')) in
+        let both = first_space m n words words' (name_is_word m proper) (name_is_word n proper') (tail_is (m ++ 32 ∷ words) (n ++ 32 ∷ words') (sym at ∙ at')) in
         same_words call other words' (e ∙ ap Some both.0 ∙ sym f) (subst (AreWordsOf call) both.1 said) said'
     go (Some m) (Some n) e f (proper, inl (words, at, said)) (proper', inr (main, said')) = no_sign other text (m ++ 32 ∷ words) at said'
     go (Some m) (Some n) e f (proper, inr (main, said)) (proper', inl (words, at, said')) = no_sign call text (n ++ 32 ∷ words) at said
     go (Some m) (Some n) e f (proper, inr (main, said)) (proper', inr (main', said')) = same_words call other text (e ∙ ap Some (main ∙ sym main') ∙ sym f) said said'
-
-    tails : (rest other : List ℕ) → ◌≡◌ {A = List ℕ} (64 ∷ rest) (64 ∷ other) → rest ≡ other
-    tails rest other e = cc
 
 pub same_line : (callers c d : ℕ) (call other : Call) (line : List ℕ) → callers ≤ 2 ^ 64 → IsLineOf (IsCallText call) callers c line → IsLineOf (IsCallText other) callers d line
     → (c ≡ d) × (call ≡ other)

@@ -1,5 +1,6 @@
 pub mod Line
 pub mod Named
+pub mod JointLine
 pub mod Reads
 pub mod Replies
 pub mod HexText

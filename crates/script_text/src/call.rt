@@ -7,7 +7,7 @@ ghost use Rattle.script_text.specs.Line.{IsCallText};
 ghost use Rattle.script_text.specs.Named.{IsAsking, IsBehindName};
 
 use crate::number::{read_u32_after, read_u64_after, split_u64};
-use crate::word::{after, is_text};
+use crate::word::{after, is_text, split_word};
 use history::{Call, main_table};
 use record_slots::{Name, Value};
 use texts::read_u64;

@@ -28,7 +28,8 @@ pub fn read_line(bytes: &[u8], callers: u8) -> Line
     }
 }
 
-fn read_told(bytes: &[u8], callers: u8) -> Option<(u8, Call)>
+/// A caller and its call, if the line is that of one.
+pub fn read_told(bytes: &[u8], callers: u8) -> Option<(u8, Call)>
     ensures { ReadsText (λ t. IsLineOf (IsCallText t.1) callers t.0) bytes.now result }
 {
     let (caller, rest) = split_below(bytes, callers)?;

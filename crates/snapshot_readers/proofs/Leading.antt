@@ -7,8 +7,7 @@ use Rattle.std.specs.FinMap.{entries, same_entries_map}
 use Rattle.std.specs.Global.{Vec}
 use Rattle.history.specs.declared.transaction.Done.{Done}
 use Rattle.snapshot_readers.specs.Batches.{Batch, with_batch, records_after}
-use Rattle.history.specs.Writes.{Table}
-use Rattle.snapshot_readers.specs.Rooms.{MainWrite as Written, main_written}
+use Rattle.history.specs.Writes.{Table, Write as Written, all_written}
 use Rattle.snapshot_readers.proofs.Joining.{append-more, records_after-append, records_after-more}
 use Rattle.snapshot_readers.specs.declared.prefix.Prefix.{Prefix}
 use Rattle.snapshot_readers.specs.declared.snapshot.Snapshot.{Snapshot}
@@ -41,7 +40,7 @@ leads_more x waiting now list next dones h book log more =
     let last : fold changed x now ≡ changed (fold changed x waiting) (Write writes) = ap (fold changed x) more.1 ∙ fold-more x waiting (Write writes) in
     leads_by x now next (with_batch rest dones) (h.0 ∙ sym book)
     (append-more (list_of x) rest dones ∙ ap (λ (l : List Batch). with_batch l dones) h.1 ∙ sym log)
-    (ap (λ (s : Snapshot). s.records) last ∙ ap (λ (t : Table). main_written t writes.items) (records_led x waiting list h) ∙ sym (more.2 (records_after x.records rest)) ∙ sym (records_after-more x.records rest dones))
+    (ap (λ (s : Snapshot). s.records) last ∙ ap (λ (t : Table). all_written t writes.items) (records_led x waiting list h) ∙ sym (more.2 (records_after x.records rest)) ∙ sym (records_after-more x.records rest dones))
 
 -- what the last change tells changes no records
 pub leads_told : (x : Snapshot) (waiting : List Change) (list : Prefix) → Leads x waiting list → Leads x (waiting ++ Tell list ∷ []) list

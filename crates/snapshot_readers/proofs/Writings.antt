@@ -5,15 +5,14 @@ use Rattle.std.proofs.lemmas.Bool.{and_parts, ltb-true, leb-true, cases_lt}
 use Rattle.std.proofs.lemmas.List.{length-map, take-map, get_or-map, map_push, take-append-le, take_all, length-take-le, get_or-take}
 use Rattle.std.proofs.lemmas.List.Elements.{All-push}
 use Rattle.std.proofs.lemmas.List.Quantifiers.{all_pairs_push}
-use Rattle.history.specs.Writes.{Table}
-use Rattle.snapshot_readers.specs.Rooms.{MainWrite, write_main, main_written}
+use Rattle.history.specs.Writes.{Table, Write, write_into, all_written}
 use Rattle.history.specs.Table.{Work, begun, has_save, after}
 use Rattle.history.specs.declared.call.Call.TheVariants.{Save, Back}
 use Rattle.snapshot_readers.specs.Writing.{Writes}
 
-pub main_written-append : (table : Table) (writes more : List MainWrite) → main_written table (writes ++ more) ≡ main_written (main_written table writes) more
-main_written-append table [] more = refl
-main_written-append table (write ∷ writes) more = main_written-append (write_main table write) writes more
+pub all_written-append : (table : Table) (writes more : List Write) → all_written table (writes ++ more) ≡ all_written (all_written table writes) more
+all_written-append table [] more = refl
+all_written-append table (write ∷ writes) more = all_written-append (write_into table write) writes more
 
 map_same : (F G : ℕ → Table) (xs : List ℕ) → All (λ x. F x ≡ G x) xs → map F xs ≡ map G xs
 map_same F G [] h = refl
@@ -21,7 +20,7 @@ map_same F G (x ∷ xs) h =
     let rest : map F xs ≡ map G xs = map_same F G xs (λ k d lt. h (suc k) d (omega (arith, lt))) in
     (λ i. (h 0 x (omega arith)) i ∷ rest i)
 
-take-take : (count most : ℕ) (xs : List MainWrite) → count ≤ most → take count (take most xs) ≡ take count xs
+take-take : (count most : ℕ) (xs : List Write) → count ≤ most → take count (take most xs) ≡ take count xs
 take-take zero most xs le = refl
 take-take (suc count) zero xs le = absurd (omega (arith, le))
 take-take (suc count) (suc most) [] le = refl
@@ -29,29 +28,29 @@ take-take (suc count) (suc most) (x ∷ xs) le = ap (λ l. x ∷ l) (take-take c
 
 module _ (table : Table) where
   -- the table at a save
-  abbrev saved_at : List MainWrite → ℕ → Table
-  saved_at writes count = main_written table (take count writes)
+  abbrev saved_at : List Write → ℕ → Table
+  saved_at writes count = all_written table (take count writes)
 
   -- a transaction begins on what those before it wrote
-  pub begins : (writes : List MainWrite) → Writes table writes [] (begun (main_written table writes))
+  pub begins : (writes : List Write) → Writes table writes [] (begun (all_written table writes))
   begins writes = record { now = refl; saved = refl; within = λ k d lt. absurd (omega (arith, lt)); rising = λ i j d lt within. absurd (omega (arith, within)) }
 
   -- one write more
-  pub write_more : (writes : List MainWrite) (saves : List ℕ) (work : Work) (write : MainWrite) → Writes table writes saves work
-      → Writes table (writes ++ write ∷ []) saves (record { table = write_main work.table write; saves = work.saves })
+  pub write_more : (writes : List Write) (saves : List ℕ) (work : Work) (write : Write) → Writes table writes saves work
+      → Writes table (writes ++ write ∷ []) saves (record { table = write_into work.table write; saves = work.saves })
   write_more writes saves work write h = record {
-    now = ap (λ (t : Table). write_main t write) h.now ∙ sym (main_written-append table writes (write ∷ []));
-    saved = h.saved ∙ map_same (saved_at writes) (saved_at (writes ++ write ∷ [])) saves (λ k d lt. ap (main_written table) (sym (take-append-le (get_or saves k d) writes (write ∷ []) (h.within k d lt))));
+    now = ap (λ (t : Table). write_into t write) h.now ∙ sym (all_written-append table writes (write ∷ []));
+    saved = h.saved ∙ map_same (saved_at writes) (saved_at (writes ++ write ∷ [])) saves (λ k d lt. ap (all_written table) (sym (take-append-le (get_or saves k d) writes (write ∷ []) (h.within k d lt))));
     within = λ k d lt. omega (arith, h.within k d lt, length-append writes (write ∷ []));
     rising = h.rising;
   }
 
   -- a save
-  pub save_more : (writes : List MainWrite) (saves : List ℕ) (work : Work) → Writes table writes saves work → Writes table writes (saves ++ length writes ∷ []) (after work Save)
+  pub save_more : (writes : List Write) (saves : List ℕ) (work : Work) → Writes table writes saves work → Writes table writes (saves ++ length writes ∷ []) (after work Save)
   save_more writes saves work h = record {
     now = h.now;
     saved = ap (λ (l : List Table). l ++ work.table ∷ []) h.saved
-        ∙ ap (λ (t : Table). map (saved_at writes) saves ++ t ∷ []) (h.now ∙ ap (main_written table) (sym (take_all (length writes) writes (omega arith))))
+        ∙ ap (λ (t : Table). map (saved_at writes) saves ++ t ∷ []) (h.now ∙ ap (all_written table) (sym (take_all (length writes) writes (omega arith))))
         ∙ sym (map_push (saved_at writes) saves (length writes));
     within = All-push (λ count. count ≤ length writes) saves (length writes) h.within (omega arith);
     rising = all_pairs_push (λ count later. count ≤ later) saves (length writes) h.rising h.within;
@@ -77,7 +76,7 @@ module _ (table : Table) where
       get_or_same (x ∷ xs) (suc i) d e lt = get_or_same xs i d e (omega (arith, lt))
 
   -- a way back to a save
-  pub back_more : (writes : List MainWrite) (saves : List ℕ) (work : Work) (n count : ℕ) → true ≡ has_save saves n → count ≡ get_or saves (n - 1) count
+  pub back_more : (writes : List Write) (saves : List ℕ) (work : Work) (n count : ℕ) → true ≡ has_save saves n → count ≡ get_or saves (n - 1) count
       → Writes table writes saves work → Writes table (take count writes) (take n saves) (after work (Back n))
   back_more writes saves work n count is at h =
       let both : (nat_lt 0 n ≡ true) × (nat_le n (length saves) ≡ true) = and_parts (nat_lt 0 n) (nat_le n (length saves)) (sym is) in
@@ -92,7 +91,7 @@ module _ (table : Table) where
       (record {
         now = ap (λ (l : List Table). slice_index_or l (n - 1) work.table) h.saved ∙ get_or-map (saved_at writes) saves (n - 1) count work.table (omega (arith, low, high)) ∙ ap (saved_at writes) (sym at);
         saved = ap (take n) h.saved ∙ take-map (saved_at writes) n saves
-            ∙ map_same (saved_at writes) (saved_at (take count writes)) (take n saves) (λ k d lt. ap (main_written table) (sym (take-take (get_or (take n saves) k d) count writes (few k d lt))));
+            ∙ map_same (saved_at writes) (saved_at (take count writes)) (take n saves) (λ k d lt. ap (all_written table) (sym (take-take (get_or (take n saves) k d) count writes (few k d lt))));
         within = λ k d lt. omega (arith, few k d lt, length-take-le count writes within);
         rising = λ i j d lt last. rises saves n i j d lt last high h.rising;
       })

@@ -1,38 +1,32 @@
--- What rooms for values stand for: a room has a number of the table `main`, and its value or none.
+-- What rooms for values stand for: a room has a key, and its value or none.
 use Rattle.std.specs.Prelude.{ℕ, List, [], ◌∷◌, Option, IsSome, All}
-use Rattle.std.specs.Ordering.{nat_cmp}
+use Rattle.std.specs.Ordering.{nat_cmp, on, then_cmp}
+use Rattle.std.specs.declared.cmp.Ordering.{Ordering}
+use Rattle.std.specs.Cmp.Lexicographic.{slice_cmp}
 use Rattle.std.specs.FinMap.{empty}
 use Rattle.std.specs.BTreeMap as tree
 use Rattle.std.specs.BTreeMap.{BTreeMap}
-use Rattle.history.specs.Key.{Key, of_main}
+use Rattle.history.specs.declared.key.Key.{Key}
 use base.Stored.{Coded, coded×, coded_ℕ, coded_list, coded_via}
-use Rattle.history.specs.Writes.{Table, set_or_remove}
+use Rattle.history.specs.Writes.{Table, Write, write_into}
 
 -- how the name and the number of a key are stored
 unfoldable pub key_code : Coded Key
 key_code = coded_via (coded× (coded_list coded_ℕ) coded_ℕ) (λ (key : Key). (key.table, key.key)) (λ one other same i. record { table = (same i).0; key = (same i).1 })
 
--- a number of the table `main`, and the new value of its record, or none if the record is removed
-abbrev pub MainWrite : Type 0
-MainWrite = ℕ × Option (List ℕ)
-
-abbrev pub write_main : Table → MainWrite → Table
-write_main table write = set_or_remove table (of_main write.0) write.1
-
--- the table after such writes, one after another
-abbrev pub main_written : Table → List MainWrite → Table
-main_written table [] = table
-main_written table (write ∷ writes) = main_written (write_main table write) writes
+-- the order that rooms have
+abbrev pub room_cmp : Key → Key → Ordering
+room_cmp = then_cmp (on (λ (k : Key). k.table) (slice_cmp nat_cmp)) (on (λ (k : Key). k.key) nat_cmp)
 
 -- the records of the rooms that have a value
-abbrev pub table_in : List MainWrite → Table
+abbrev pub table_in : List Write → Table
 table_in [] = empty
-table_in (room ∷ rooms) = write_main (table_in rooms) room
+table_in (room ∷ rooms) = write_into (table_in rooms) room
 
--- there is a room for the number
-abbrev pub HasRoom : BTreeMap ℕ (Option (List ℕ)) → ℕ → Type 0
-HasRoom rooms key = IsSome (tree.get nat_cmp rooms key)
+-- there is a room for the key
+abbrev pub HasRoom : BTreeMap Key (Option (List ℕ)) → Key → Type 0
+HasRoom rooms key = IsSome (tree.get room_cmp rooms key)
 
 -- there is a room for each write
-abbrev pub HaveRoom : BTreeMap ℕ (Option (List ℕ)) → List MainWrite → Type 0
+abbrev pub HaveRoom : BTreeMap Key (Option (List ℕ)) → List Write → Type 0
 HaveRoom rooms writes = All (λ write. HasRoom rooms write.0) writes

@@ -4,8 +4,7 @@ use mathlib.Core.Option.{some}
 use lib.ListN.{get_elem?}
 use Rattle.std.specs.FinMap.{entries, empty}
 use Rattle.logbook.specs.Pages.{Book}
-use Rattle.history.specs.Writes.{Table}
-use Rattle.snapshot_readers.specs.Rooms.{main_written}
+use Rattle.history.specs.Writes.{Table, all_written}
 use Rattle.snapshot_readers.specs.Batches.{Batch, records_after}
 use Rattle.snapshot_readers.specs.declared.prefix.Prefix.{Prefix}
 use Rattle.snapshot_readers.specs.declared.snapshot.Snapshot.{Snapshot}
@@ -14,7 +13,7 @@ use Rattle.snapshot_readers.specs.declared.snapshot.Change.TheVariants.{Write, T
 use Rattle.snapshot_readers.specs.declared.snapshot.Known.{Known}
 
 abbrev pub changed : Snapshot → Change → Snapshot
-changed shown (Write writes) = record shown { records = main_written shown.records writes.items }
+changed shown (Write writes) = record shown { records = all_written shown.records writes.items }
 changed shown (Tell list) = record shown { list = list }
 
 -- the list that it stands for

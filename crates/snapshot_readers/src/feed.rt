@@ -1,7 +1,6 @@
 ghost use Rattle.std.specs.Prelude.{◌≡◌, ◌+◌, ◌++◌, ◌∷◌, ◌⊎◌, [], length, drop, IfOk, OnOk, OnErr};
 ghost use mathlib.Core.List.{IsPrefix};
-ghost use Rattle.history.specs.Writes.{Table};
-ghost use Rattle.snapshot_readers.specs.Rooms.{main_written};
+ghost use Rattle.history.specs.Writes.{Table, all_written};
 ghost use Rattle.history.specs.Legal.{records, AreNumberedFrom};
 ghost use Rattle.std.specs.Global.{Vec};
 ghost use Rattle.snapshot_readers.specs.Book.{word_of};

@@ -10,14 +10,14 @@ use crate::reader::{Inner, Reader, Readers};
 use crate::records::Records;
 use crate::snapshot::{Both, Claims, Snapshot, Takes};
 use crossbeam_utils::Backoff;
-use history::Rows;
+use history::Tables;
 use left_right::writer;
 use mars_base::{Listed, NoMemory};
 use std::alloc::Global;
 use std::sync::Wait;
 
 // What is shown at the start.
-fn first_copy(alloc: Global, base: &Rows, list: &Prefix) -> Result<Snapshot, NoMemory>
+fn first_copy(alloc: Global, base: &Tables, list: &Prefix) -> Result<Snapshot, NoMemory>
     ensures { IfOk result (λ shown. (shown.records ≡ table_of base.now) × (shown.list ≡ list.now)) }
 {
     let records = Records::of(base, alloc)?;
@@ -61,7 +61,7 @@ fn new_reader<R: Wait>(rt: &R, writer: &mut Writer, list: &Prefix) -> Reader
 pub fn open_readers<R: Wait>(
     rt: &R,
     alloc: Global,
-    base: &Rows,
+    base: &Tables,
     readers: u8,
 ) -> Result<(Feed, Readers), NoMemory>
     ensures feed { IfOk result (λ made. (published made.0 ≡ []) × (fed made.0 ≡ []) × (heard made.0 ≡ [])) }

@@ -1,17 +1,16 @@
 ghost use Rattle.std.specs.Prelude.{◌≡◌, length, Some, MatchBool};
 ghost use Rattle.std.specs.FinMap.{get};
 ghost use mathlib.Core.List.{IsPrefix};
-ghost use Rattle.history.specs.Key.{of_main};
 ghost use Rattle.snapshot_readers.specs.Batches.{joined, records_after};
 ghost use Rattle.left_right.specs.Sides.{view};
 ghost use Rattle.snapshot_readers.specs.Shown.{book_known, base_known};
 
 use crate::feed::Receipt;
 use crate::prefix::Prefix;
-use crate::records::Key;
 use crate::snapshot::{Known, Sees, Snapshot, Standing};
 use core::mem::replace_with;
 use crossbeam_utils::Backoff;
+use history::Key;
 use left_right::reader;
 use mars_base::Listed;
 use record_slots::Value;
@@ -32,12 +31,12 @@ pub struct Reader {
 pub type Readers = Listed<Reader>;
 
 // The value of the key in what is published, with its list, which goes on from `least`.
-fn look<R: Wait>(inner: Inner, rt: &R, least: &Prefix, key: Key) -> (Inner, Prefix, Option<Value>)
+fn look<R: Wait>(inner: Inner, rt: &R, least: &Prefix, key: &Key) -> (Inner, Prefix, Option<Value>)
     requires { book_known (view inner.place) ≡ Some least.now.seen.book }
     ensures tied { view result.0.place ≡ view inner.place }
     ensures book { result.1.seen.book ≡ least.now.seen.book }
     ensures on { IsPrefix least.now.seen.log result.1.seen.log }
-    ensures value { result.2 ≡ get (records_after (base_known (view inner.place)) result.1.seen.log) (of_main key) }
+    ensures value { result.2 ≡ get (records_after (base_known (view inner.place)) result.1.seen.log) key.now }
 {
     let mut inner = inner;
     let backoff = Backoff::new();
@@ -65,10 +64,10 @@ impl Reader {
     ghost use Rattle.snapshot_readers.specs.Feeds.{told, told_book, read, read_book, read_base};
 
     // `get`, of a reader by value.
-    fn got<R: Wait>(self, rt: &R, key: Key) -> (Reader, (u64, Option<Value>))
+    fn got<R: Wait>(self, rt: &R, key: &Key) -> (Reader, (u64, Option<Value>))
         ensures on { IsPrefix (read self) (read result.0) }
         ensures count { result.1.0 ≡ length (joined (read result.0)) }
-        ensures value { result.1.1 ≡ get (records_after (read_base result.0) (read result.0)) (of_main key) }
+        ensures value { result.1.1 ≡ get (records_after (read_base result.0) (read result.0)) key.now }
         ensures same { (read_book result.0 ≡ read_book self) × (read_base result.0 ≡ read_base self) }
     {
         let Self { inner, read } = self;
@@ -80,10 +79,10 @@ impl Reader {
     /// How many transactions were published, and the value of the key in the records after them. All that this reader saw or learnt before
     /// is a prefix of those. It takes no memory. It waits for no other reader and for no feed, and tries again only where the feed was
     /// closed.
-    pub fn get<R: Wait>(&mut self, rt: &R, key: Key) -> (u64, Option<Value>)
+    pub fn get<R: Wait>(&mut self, rt: &R, key: &Key) -> (u64, Option<Value>)
         ensures on { IsPrefix (read self.old) (read self.new) }
         ensures count { result.0 ≡ length (joined (read self.new)) }
-        ensures value { result.1 ≡ get (records_after (read_base self.new) (read self.new)) (of_main key) }
+        ensures value { result.1 ≡ get (records_after (read_base self.new) (read self.new)) key.now }
         ensures same { (read_book self.new ≡ read_book self.old) × (read_base self.new ≡ read_base self.old) }
     {
         replace_with(self, (rt, key), |reader, (rt, key)| reader.got(rt, key))

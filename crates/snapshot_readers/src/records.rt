@@ -1,21 +1,17 @@
 // Records in memory, which take many writes or none.
-ghost use Rattle.std.specs.Prelude.{◌≡◌, ℕ, IfOk, OnOk, OnErr};
+ghost use Rattle.std.specs.Prelude.{◌≡◌, IfOk, OnOk, OnErr};
 ghost use Rattle.std.specs.FinMap.{get};
-ghost use Rattle.history.specs.Writes.{set_or_remove};
-ghost use Rattle.snapshot_readers.specs.Rooms.{main_written};
-ghost use Rattle.history.specs.Key.{of_main};
+ghost use Rattle.history.specs.Writes.{set_or_remove, all_written};
+ghost use Rattle.history.specs.Replay.{with_rows};
 ghost use Rattle.history.specs.Rows.{table_of};
 ghost use Rattle.snapshot_readers.specs.Rooms.{table_in, HasRoom, HaveRoom};
 
-use history::Rows;
+use history::{Key, Rows, Tables};
 use mars_base::NoMemory;
-use record_slots::Value;
+use record_slots::{Name, Value};
 use std::alloc::Global;
 use std::collections::BTreeMap;
 use std::marker::Model;
-
-/// The key of a record of the table `main`.
-pub type Key = u64;
 
 /// A key, and its new value, or none where its record is removed.
 pub type Write = (Key, Option<Value>);
@@ -43,24 +39,24 @@ impl Model for Records {
 }
 
 impl Records {
-    /// The records of `rows`. If a key stands twice, the first record counts.
-    pub(crate) fn of(rows: &Rows, alloc: Global) -> Result<Records, NoMemory>
-        ensures { IfOk result (λ records. records ≡ table_of rows.now) }
+    /// The records of `tables`. If a key stands twice, the first record counts.
+    pub(crate) fn of(tables: &Tables, alloc: Global) -> Result<Records, NoMemory>
+        ensures { IfOk result (λ records. records ≡ table_of tables.now) }
     {
-        // From the last row on, so that of two rows with one key the first stays.
-        let rows = rows.as_slice();
+        // From the last table on, so that of two records with one key the first stays.
+        let tables = tables.as_slice();
         let mut rooms = BTreeMap::new(alloc);
-        for i in 0..rows.len() {
-            let row = &rows[rows.len() - 1 - i];
-            rooms.insert(row.0, Some(row.1))?;
+        for i in 0..tables.len() {
+            let table = &tables[tables.len() - 1 - i];
+            put_rows(&mut rooms, &table.0, &table.1)?;
         }
         Ok(Records { rooms })
     }
 
-    pub(crate) fn get(&self, key: Key) -> Option<Value>
-        ensures { result ≡ get self.now (of_main key) }
+    pub(crate) fn get(&self, key: &Key) -> Option<Value>
+        ensures { result ≡ get self.now key.now }
     {
-        match self.rooms.get(&key) {
+        match self.rooms.get(key) {
             Some(value) => *value,
             None => None,
         }
@@ -68,7 +64,7 @@ impl Records {
 
     /// Makes all writes, or none. It takes as long as the writes ask, however many records there are.
     pub(crate) fn write_all(&mut self, writes: &[Write]) -> Result<(), NoMemory>
-        ensures ok { OnOk result (self.new ≡ main_written self.old writes.now) }
+        ensures ok { OnOk result (self.new ≡ all_written self.old writes.now) }
         ensures err { OnErr result (self.new ≡ self.old) }
     {
         // All that may fail comes first, and changes no record.
@@ -77,6 +73,22 @@ impl Records {
         give_back_all(&mut self.rooms, writes);
         Ok(())
     }
+}
+
+// Puts the rows of the table of this name, from the last one on.
+fn put_rows(rooms: &mut Rooms, name: &Name, rows: &Rows) -> Result<(), NoMemory>
+    ensures { OnOk result (table_in rooms.new.entries ≡ with_rows (table_in rooms.old.entries) name.now rows.now) }
+{
+    let rows = rows.as_slice();
+    for i in 0..rows.len() {
+        let row = &rows[rows.len() - 1 - i];
+        let key = Key {
+            table: *name,
+            key: row.0,
+        };
+        rooms.insert(key, Some(row.1))?;
+    }
+    Ok(())
 }
 
 // Makes room for each key.
@@ -93,7 +105,7 @@ fn make_rooms(rooms: &mut Rooms, writes: &[Write]) -> Result<(), NoMemory>
 // Makes room for a key, if it has none.
 fn make_room(rooms: &mut Rooms, key: Key) -> Result<(), NoMemory>
     ensures same { table_in rooms.new.entries ≡ table_in rooms.old.entries }
-    ensures kept { (other : ℕ) → HasRoom rooms.old other → HasRoom rooms.new other }
+    ensures kept { (other : Key) → HasRoom rooms.old other → HasRoom rooms.new other }
     ensures room { OnOk result (HasRoom rooms.new key) }
 {
     if rooms.contains_key(&key) {
@@ -106,7 +118,7 @@ fn make_room(rooms: &mut Rooms, key: Key) -> Result<(), NoMemory>
 // Makes the writes, each of which has room.
 fn set_all(rooms: &mut Rooms, writes: &[Write])
     requires { HaveRoom rooms.old writes.now }
-    ensures { table_in rooms.new.entries ≡ main_written (table_in rooms.old.entries) writes.now }
+    ensures { table_in rooms.new.entries ≡ all_written (table_in rooms.old.entries) writes.now }
 {
     for (key, value) in writes {
         set(rooms, *key, *value);
@@ -116,8 +128,8 @@ fn set_all(rooms: &mut Rooms, writes: &[Write])
 // Makes a write, which has room.
 fn set(rooms: &mut Rooms, key: Key, value: Option<Value>)
     requires { HasRoom rooms.old key }
-    ensures set { table_in rooms.new.entries ≡ set_or_remove (table_in rooms.old.entries) (of_main key) value }
-    ensures kept { (other : ℕ) → HasRoom rooms.old other → HasRoom rooms.new other }
+    ensures set { table_in rooms.new.entries ≡ set_or_remove (table_in rooms.old.entries) key value }
+    ensures kept { (other : Key) → HasRoom rooms.old other → HasRoom rooms.new other }
 {
     let Ok(_) = rooms.insert(key, value) else {
         unreachable!();

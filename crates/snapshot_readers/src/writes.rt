@@ -1,14 +1,13 @@
 // What transactions write, as a list that is the same on every table.
 ghost use Rattle.std.specs.Prelude.{◌≡◌, [], IfOk, OnOk};
-ghost use Rattle.history.specs.Writes.{Table};
-ghost use Rattle.snapshot_readers.specs.Rooms.{main_written};
+ghost use Rattle.history.specs.Writes.{Table, all_written};
 ghost use Rattle.history.specs.Table.{Work, after, begun, left_by, has_save};
 ghost use Rattle.history.specs.Legal.{records};
 ghost use Rattle.history.specs.declared.call.Call.TheVariants.{Back};
 ghost use Rattle.snapshot_readers.specs.Writing.{Writes};
 
 use crate::records::Write;
-use history::{Call, Calls, Done};
+use history::{Call, Calls, Done, Key};
 use mars_base::NoMemory;
 use std::alloc::Global;
 
@@ -21,7 +20,7 @@ struct Writing {
 
 /// Written into any table, the list gives what the transactions leave of it.
 pub(crate) fn writes_of(dones: &[Done], alloc: Global) -> Result<Vec<Write>, NoMemory>
-    ensures { IfOk result (λ writes. (table : Table) → records table dones.now ≡ main_written table writes.items) }
+    ensures { IfOk result (λ writes. (table : Table) → records table dones.now ≡ all_written table writes.items) }
 {
     let mut writing = Writing {
         writes: Vec::new(alloc),
@@ -37,7 +36,7 @@ pub(crate) fn writes_of(dones: &[Done], alloc: Global) -> Result<Vec<Write>, NoM
 impl Writing {
     // Makes the calls of one transaction.
     fn make_all(&mut self, calls: &Calls) -> Result<(), NoMemory>
-        ensures { OnOk result ((table : Table) → main_written table self.new.writes.items ≡ left_by (main_written table self.old.writes.items) calls.now) }
+        ensures { OnOk result ((table : Table) → all_written table self.new.writes.items ≡ left_by (all_written table self.old.writes.items) calls.now) }
     {
         self.saves.truncate(0);
         for (call, _) in calls.entries() {
@@ -50,8 +49,20 @@ impl Writing {
         ensures { OnOk result ((table : Table) (work : Work) → Writes table self.old.writes.items self.old.saves.items work → Writes table self.new.writes.items self.new.saves.items (after work call.now)) }
     {
         match call {
-            Call::Put { key, value } => self.writes.push((*key, Some(*value)))?,
-            Call::Del { key } => self.writes.push((*key, None))?,
+            Call::Put { table, key, value } => {
+                let key = Key {
+                    table: *table,
+                    key: *key,
+                };
+                self.writes.push((key, Some(*value)))?
+            }
+            Call::Del { table, key } => {
+                let key = Key {
+                    table: *table,
+                    key: *key,
+                };
+                self.writes.push((key, None))?
+            }
             Call::Save => self.saves.push(self.writes.len())?,
             Call::Back { save } => self.back(*save),
             Call::Begin | Call::Get { .. } | Call::Scan { .. } | Call::Commit | Call::Abort => (),

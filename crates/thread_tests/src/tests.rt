@@ -4,6 +4,7 @@ mod flags;
 mod held_media;
 mod holds;
 mod locks;
+mod news;
 mod places;
 mod readers;
 mod reading_beside;

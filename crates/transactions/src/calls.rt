@@ -34,7 +34,12 @@ pub fn begin<C: Core>(core: &mut C, caller: u8) -> Result<(), Refusal>
 }
 
 /// What the caller sees under a key of a table.
-pub fn get<C: Core>(core: &mut C, caller: u8, table: Name, key: u64) -> Result<Option<Value>, Refusal>
+pub fn get<C: Core>(
+    core: &mut C,
+    caller: u8,
+    table: Name,
+    key: u64,
+) -> Result<Option<Value>, Refusal>
     requires inside { caller < (C.view core.old).limits.callers }
     requires sound { IsTrue C.tells → IsSound (C.view core.old).state }
     ensures steps { Steps C.tells caller (Get table key) (C.view core.old) (C.view core.new) (told_get result) }

@@ -5,7 +5,7 @@ use super::arrays::{CHOICES, fresh, media_of};
 use super::opening::open_bank;
 use bank::{Refusal, balance, transfer};
 use caller_steps::{Core as Steps, prefix_law};
-use history::Call;
+use history::{Call, main_table};
 use pcm_media::{FusedMedia, MemoryMedia};
 use record_slots::Value;
 use std::alloc::Global;
@@ -22,6 +22,7 @@ fn open_account<C: Steps>(core: &mut C, account: u64, value: Value)
     let _ = core.step(
         0,
         &Call::Put {
+            table: main_table(),
             key: account,
             value,
         },

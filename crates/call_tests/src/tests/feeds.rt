@@ -2,24 +2,31 @@
 ghost use Rattle.std.specs.Prelude.{◌≡◌, [], IfOk};
 ghost use Rattle.snapshot_readers.specs.Feeds.{fed, fed_book, read_book};
 
-use history::{Call, Calls, Done, Reply, Rows};
+use history::{Call, Calls, Done, Key, Reply, Tables};
 use mars_base::NoMemory;
-use record_slots::Value;
+use record_slots::{Name, Value};
 use snapshot_readers::{Feed, Reader, open_readers};
 use std::alloc::Global;
 use std::process::Abort;
 use std::sync::Wait;
 use std::test::*;
 
+// The key 1 of a table.
+fn of(text: &[u8]) -> Result<Key, NoMemory> {
+    let table = Name::of(text).ok_or(NoMemory)?;
+    Ok(Key { table, key: 1 })
+}
+
 // A transaction that puts a value at a key, saves, removes the key and goes back to the save.
-fn put(alloc: Global, at: u64, key: u64, text: &[u8]) -> Result<Done, NoMemory>
+fn put(alloc: Global, at: u64, at_key: Key, text: &[u8]) -> Result<Done, NoMemory>
     ensures { IfOk result (λ done. done.at ≡ at) }
 {
     let value = Value::of(text).ok_or(NoMemory)?;
+    let Key { table, key } = at_key;
     let mut calls = Calls::new(alloc);
-    calls.push(Call::Put { key, value }, Reply::Fine)?;
+    calls.push(Call::Put { table, key, value }, Reply::Fine)?;
     calls.push(Call::Save, Reply::Saved(1))?;
-    calls.push(Call::Del { key }, Reply::Fine)?;
+    calls.push(Call::Del { table, key }, Reply::Fine)?;
     calls.push(Call::Back { save: 1 }, Reply::Fine)?;
     Ok(Done {
         caller: 0,
@@ -28,11 +35,12 @@ fn put(alloc: Global, at: u64, key: u64, text: &[u8]) -> Result<Done, NoMemory>
     })
 }
 
-fn delete(alloc: Global, at: u64, key: u64) -> Result<Done, NoMemory>
+fn delete(alloc: Global, at: u64, at_key: Key) -> Result<Done, NoMemory>
     ensures { IfOk result (λ done. done.at ≡ at) }
 {
+    let Key { table, key } = at_key;
     let mut calls = Calls::new(alloc);
-    calls.push(Call::Del { key }, Reply::Fine)?;
+    calls.push(Call::Del { table, key }, Reply::Fine)?;
     Ok(Done {
         caller: 0,
         calls,
@@ -40,9 +48,11 @@ fn delete(alloc: Global, at: u64, key: u64) -> Result<Done, NoMemory>
     })
 }
 
-fn one_record(alloc: Global) -> Result<Rows, NoMemory> {
-    let mut base = Rows::new(alloc);
-    base.push(1, Value::of(b"a").ok_or(NoMemory)?)?;
+fn one_record(alloc: Global) -> Result<Tables, NoMemory> {
+    let Key { table, key } = of(b"main")?;
+    let value = Value::of(b"a").ok_or(NoMemory)?;
+    let mut base = Tables::new(alloc);
+    base.add(alloc, table, key, value)?;
     Ok(base)
 }
 
@@ -67,15 +77,17 @@ fn reads<R: Wait + Abort>(
     requires empty { fed feed.old ≡ [] }
     requires book { read_book reader.old ≡ fed_book feed.old }
 {
-    assert_eq!(rt; reader.get(rt, 1), (0, Value::of(b"a")));
-    let dones = [put(alloc, 1, 2, b"b")?, delete(alloc, 2, 1)?];
+    let (here, there) = (of(b"main")?, of(b"other")?);
+    assert_eq!(rt; reader.get(rt, &here), (0, Value::of(b"a")));
+    assert_eq!(rt; reader.get(rt, &there), (0, None));
+    let dones = [put(alloc, 1, there, b"b")?, delete(alloc, 2, here)?];
     let receipt = feed.feed(rt, dones.as_slice())?;
     reader.learn(&receipt);
-    assert_eq!(rt; reader.get(rt, 1), (2, None));
+    assert_eq!(rt; reader.get(rt, &here), (2, None));
     feed.learn(reader);
     let none: [Done; 0] = [];
     feed.feed(rt, none.as_slice())?;
-    assert_eq!(rt; reader.get(rt, 2), (2, Value::of(b"b")));
+    assert_eq!(rt; reader.get(rt, &there), (2, Value::of(b"b")));
     assert_eq!(rt; feed.fed(), 2);
     Ok(())
 }

@@ -1,6 +1,6 @@
-use history::{Call, Calls, Done, History, Reply, Rows, is_legal, play};
+use history::{Call, Calls, Done, History, Reply, Rows, Tables, is_legal, main_table, play};
 use mars_base::NoMemory;
-use record_slots::Value;
+use record_slots::{Name, Value};
 use std::alloc::Global;
 use std::test::Fail;
 
@@ -18,21 +18,39 @@ fn history_of(alloc: Global, calls: Calls, at: u64) -> Result<History, NoMemory>
     }
 }
 
-// The record of key 5.
-fn one_row(alloc: Global, value: Value) -> Result<Rows, NoMemory> {
-    let mut rows = Rows::new(alloc);
-    rows.push(5, value)?;
-    Ok(rows)
+// A record of key 5 in the table of this name.
+fn one_row(alloc: Global, table: Name, value: Value) -> Result<Tables, NoMemory> {
+    let mut tables = Tables::new(alloc);
+    tables.add(alloc, table, 5, value)?;
+    Ok(tables)
+}
+
+// The value of the only record, which is of key 5 and of the table of this name.
+fn the_one(tables: &Tables, table: Name) -> Option<Value> {
+    match tables.as_slice() {
+        [(name, rows)] if *name == table => match rows.as_slice() {
+            [(5, value)] => Some(*value),
+            _ => None,
+        },
+        _ => None,
+    }
 }
 
 // Puts the record and removes it, goes back to the save between, and looks.
-fn back_and_look(alloc: Global, value: Value) -> Result<Calls, NoMemory> {
+fn back_and_look(alloc: Global, table: Name, value: Value) -> Result<Calls, NoMemory> {
     let mut calls = Calls::new(alloc);
-    calls.push(Call::Put { key: 5, value }, Reply::Fine)?;
+    calls.push(
+        Call::Put {
+            table,
+            key: 5,
+            value,
+        },
+        Reply::Fine,
+    )?;
     calls.push(Call::Save, Reply::Saved(1))?;
-    calls.push(Call::Del { key: 5 }, Reply::Fine)?;
+    calls.push(Call::Del { table, key: 5 }, Reply::Fine)?;
     calls.push(Call::Back { save: 1 }, Reply::Fine)?;
-    calls.push(Call::Get { key: 5 }, Reply::Found(value))?;
+    calls.push(Call::Get { table, key: 5 }, Reply::Found(value))?;
     Ok(calls)
 }
 
@@ -41,10 +59,37 @@ fn a_history_is_played(rt: HostRuntime) -> Result<(), Fail> {
     let alloc = rt.alloc();
     let one = Value::of(b"abc").ok_or(NoMemory)?;
     let other = Value::of(b"d").ok_or(NoMemory)?;
-    let base = one_row(alloc, one)?;
-    let history = history_of(alloc, back_and_look(alloc, other)?, 1)?;
-    assert!(rt; play(&history, &base, alloc)? == one_row(alloc, other)?);
+    let table = main_table();
+    let base = one_row(alloc, table, one)?;
+    let history = history_of(alloc, back_and_look(alloc, table, other)?, 1)?;
+    assert!(rt; the_one(&play(&history, &base, alloc)?, table) == Some(other));
     assert!(rt; is_legal(&history, &base, alloc)?);
+    Ok(())
+}
+
+#[test]
+fn records_of_two_tables_are_apart(rt: HostRuntime) -> Result<(), Fail> {
+    let alloc = rt.alloc();
+    let one = Value::of(b"abc").ok_or(NoMemory)?;
+    let other = Name::of(b"other").ok_or(NoMemory)?;
+    let base = one_row(alloc, main_table(), one)?;
+    let mut calls = Calls::new(alloc);
+    let get = Call::Get {
+        table: other,
+        key: 5,
+    };
+    calls.push(get, Reply::Absent)?;
+    let history = history_of(alloc, calls, 1)?;
+    assert!(rt; is_legal(&history, &base, alloc)?);
+    let mut calls = Calls::new(alloc);
+    let put = Call::Put {
+        table: other,
+        key: 5,
+        value: one,
+    };
+    calls.push(put, Reply::Fine)?;
+    let history = history_of(alloc, calls, 1)?;
+    assert_eq!(rt; play(&history, &base, alloc)?.as_slice().len(), 2);
     Ok(())
 }
 
@@ -52,21 +97,24 @@ fn a_history_is_played(rt: HostRuntime) -> Result<(), Fail> {
 fn a_skipped_number_is_illegal(rt: HostRuntime) -> Result<(), Fail> {
     let alloc = rt.alloc();
     let history = history_of(alloc, Calls::new(alloc), 2)?;
-    assert!(rt; !is_legal(&history, &Rows::new(alloc), alloc)?);
+    assert!(rt; !is_legal(&history, &Tables::new(alloc), alloc)?);
     Ok(())
 }
 
 #[test]
 fn a_wrong_reply_is_illegal(rt: HostRuntime) -> Result<(), Fail> {
     let alloc = rt.alloc();
-    let base = one_row(alloc, Value::of(b"abc").ok_or(NoMemory)?)?;
+    let table = main_table();
+    let base = one_row(alloc, table, Value::of(b"abc").ok_or(NoMemory)?)?;
+    let scan = Call::Scan {
+        table,
+        low: 0,
+        high: 9,
+    };
     let wrong = [
-        (Call::Get { key: 5 }, Reply::Absent),
-        (Call::Del { key: 4 }, Reply::Fine),
-        (
-            Call::Scan { low: 0, high: 9 },
-            Reply::Listed(Rows::new(alloc)),
-        ),
+        (Call::Get { table, key: 5 }, Reply::Absent),
+        (Call::Del { table, key: 4 }, Reply::Fine),
+        (scan, Reply::Listed(Rows::new(alloc))),
         (Call::Save, Reply::Saved(2)),
         (Call::Back { save: 1 }, Reply::Fine),
         (Call::Begin, Reply::Fine),

@@ -6,7 +6,7 @@ ghost use Rattle.mars_manager.specs.Sharing.{CanShare};
 use super::held_media::Hold;
 use super::sharing::fresh;
 use caller_steps::Core;
-use history::{Call, Reply};
+use history::{Call, Reply, main_table};
 use mars_manager::{Again, Mars, Pass, Passes};
 use std::alloc::Global;
 use std::sync::Arc;
@@ -22,7 +22,8 @@ pub fn get_one<C: Core + Drop>(mars: &Mars<C>, mut pass: Pass<C>) -> (Pass<C>, O
     if mars.call(&mut pass, &Call::Begin) != Ok(Reply::Fine) {
         return (pass, None);
     }
-    let found = mars.call(&mut pass, &Call::Get { key: 5 }).ok();
+    let table = main_table();
+    let found = mars.call(&mut pass, &Call::Get { table, key: 5 }).ok();
     (pass, found)
 }
 

@@ -173,6 +173,54 @@ fn who_finds_a_key_held_tries_again(rt: HostRuntime) -> Result<(), Fail> {
     )
 }
 
+const ONE_READER: &[u8] = b"0 begin\n0 put 1 a\n0 commit\nr0 get 1\n";
+
+const READ_AFTER: &[u8] = b"txn 1 caller 0\n0 ok\nrec 1 a\nread 0 1 at 1 val a\n";
+
+const FIRST_READ: Place = Place::ReadBegan { reader: 0, nth: 1 };
+
+// The reader comes when caller 0 has ended its transaction: what was committed is published by then.
+#[test]
+fn who_reads_behind_a_commit_reads_it(rt: HostRuntime) -> Result<(), Fail> {
+    let holds = [
+        Hold::new(FIRST_READ, 1, None, Some(Flag::First)),
+        Hold::new(END_OF_ZERO, 1, Some(Flag::First), None),
+    ];
+    writes(
+        &rt,
+        fresh(&rt)?,
+        "callers 1 --readers 1",
+        ONE_READER,
+        &holds,
+        READ_AFTER,
+    )
+}
+
+const TWICE_AND_NO_LINE: &[u8] =
+    b"0 begin\n0 put 1 a\n0 commit\nr0 get 1\nr0 put 1 b\nr0 get 2\nr1 get 1\n";
+
+const READ_TWICE: &[u8] =
+    b"bad line 5\nbad line 7\ntxn 1 caller 0\n0 ok\nrec 1 a\nread 0 1 at 0 none\nread 0 2 at 1 none\n";
+
+// The first read comes before the caller begins, and the second when it has ended. Other lines of readers are bad.
+#[test]
+fn who_reads_twice_goes_on(rt: HostRuntime) -> Result<(), Fail> {
+    let second = Place::ReadBegan { reader: 0, nth: 2 };
+    let holds = [
+        Hold::new(PUT_OF_ZERO, 1, None, Some(Flag::First)),
+        Hold::new(second, 1, Some(Flag::First), Some(Flag::Second)),
+        Hold::new(END_OF_ZERO, 1, Some(Flag::Second), None),
+    ];
+    writes(
+        &rt,
+        fresh(&rt)?,
+        "callers 1 --readers 1",
+        TWICE_AND_NO_LINE,
+        &holds,
+        READ_TWICE,
+    )
+}
+
 // An array whose slots are all given: 32 of them, to the keys 0 to 31.
 fn full<R: AllocGlobal + Threads + Wait + Sync>(rt: &R) -> Result<MemoryMedia, Fail> {
     let input = puts(rt.alloc())?;

@@ -6,7 +6,7 @@ ghost use Rattle.mars_manager.specs.Sharing.{CanShare};
 use super::held_media::Hold;
 use super::sharing::fresh;
 use caller_steps::Core;
-use history::{Call, Mode, Reply};
+use history::{Call, Mode, Reply, main_table};
 use mars_manager::{Lock, Mars, Pass, Passes};
 use std::alloc::Global;
 use std::test::*;
@@ -23,13 +23,11 @@ enum By {
 enum Line {
     Locks(u8, Mode, Lock),
     Calls(Call, Reply),
+    // These are of records of `main`.
+    Gets(u64, Reply),
+    Dels(u64, Reply),
+    Scans(u64, u64, Reply),
 }
-
-const GET_5: Call = Call::Get { key: 5 };
-
-const GET_6: Call = Call::Get { key: 6 };
-
-const GET_69: Call = Call::Get { key: 69 };
 
 const BUSY_WITH_0: Reply = Reply::Busy { holder: 0 };
 
@@ -42,8 +40,8 @@ const EXCLUSIVE: [(By, Line); 9] = [
         By::One,
         Line::Locks(5, Mode::Exclusive, Lock::Busy { holder: 0 }),
     ),
-    (By::One, Line::Calls(GET_69, BUSY_WITH_0)),
-    (By::One, Line::Calls(GET_6, Reply::Absent)),
+    (By::One, Line::Gets(69, BUSY_WITH_0)),
+    (By::One, Line::Gets(6, Reply::Absent)),
     (By::Zero, Line::Calls(Call::Commit, Reply::Committed(1))),
     (By::One, Line::Locks(5, Mode::Exclusive, Lock::Held)),
     (
@@ -70,16 +68,13 @@ const SHARED: [(By, Line); 7] = [
 const READERS: [(By, Line); 9] = [
     (By::Zero, Line::Calls(Call::Begin, Reply::Fine)),
     (By::One, Line::Calls(Call::Begin, Reply::Fine)),
-    (By::Zero, Line::Calls(GET_5, Reply::Absent)),
-    (By::One, Line::Calls(GET_69, Reply::Absent)),
-    (By::One, Line::Calls(Call::Del { key: 69 }, BUSY_WITH_0)),
-    (By::Zero, Line::Calls(Call::Del { key: 7 }, Reply::Absent)),
-    (
-        By::One,
-        Line::Calls(Call::Scan { low: 0, high: 1 }, BUSY_WITH_0),
-    ),
+    (By::Zero, Line::Gets(5, Reply::Absent)),
+    (By::One, Line::Gets(69, Reply::Absent)),
+    (By::One, Line::Dels(69, BUSY_WITH_0)),
+    (By::Zero, Line::Dels(7, Reply::Absent)),
+    (By::One, Line::Scans(0, 1, BUSY_WITH_0)),
     (By::Zero, Line::Calls(Call::Abort, Reply::Fine)),
-    (By::One, Line::Calls(Call::Del { key: 69 }, Reply::Absent)),
+    (By::One, Line::Dels(69, Reply::Absent)),
 ];
 
 fn is_answered<C: Core + Drop>(mars: &Mars<C>, pass: &mut Pass<C>, line: &Line) -> bool
@@ -92,10 +87,34 @@ fn is_answered<C: Core + Drop>(mars: &Mars<C>, pass: &mut Pass<C>, line: &Line) 
             mars.lock(pass, *stripe, *mode) == *answer
         }
         Line::Locks(..) => false,
-        Line::Calls(call, reply) => match mars.call(pass, call) {
-            Ok(told) => told == *reply,
-            Err(_) => false,
-        },
+        Line::Calls(call, reply) => is_told(mars, pass, call, reply),
+        Line::Gets(key, reply) => {
+            let table = main_table();
+            is_told(mars, pass, &Call::Get { table, key: *key }, reply)
+        }
+        Line::Dels(key, reply) => {
+            let table = main_table();
+            is_told(mars, pass, &Call::Del { table, key: *key }, reply)
+        }
+        Line::Scans(low, high, reply) => {
+            let scan = Call::Scan {
+                table: main_table(),
+                low: *low,
+                high: *high,
+            };
+            is_told(mars, pass, &scan, reply)
+        }
+    }
+}
+
+fn is_told<C: Core + Drop>(mars: &Mars<C>, pass: &mut Pass<C>, call: &Call, reply: &Reply) -> bool
+    requires { pass.old.table ≡ mars.now.table }
+    ensures table { pass.new.table ≡ pass.old.table }
+    ensures number { pass.new.known.number ≡ pass.old.known.number }
+{
+    match mars.call(pass, call) {
+        Ok(told) => told == *reply,
+        Err(_) => false,
     }
 }
 

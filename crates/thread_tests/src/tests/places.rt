@@ -1,4 +1,4 @@
-// A gate that compares the places to which callers come with those that are wanted.
+// A gate that compares the places to which callers come with those that are wanted. It does not look at readers.
 use super::holds::Holds;
 use mars_shell::{Gate, Place};
 use std::sync::atomic::{AtomicU64, Ordering};
@@ -51,25 +51,35 @@ impl<'a> Watch<'a> {
         }
     }
 
+    // Whether this is the next place of the caller.
+    fn goes_on(&self, caller: u8, place: Place) -> bool {
+        match self.ways.get(usize::from(caller)) {
+            Some(way) => way.goes_on(place),
+            None => false,
+        }
+    }
+
     /// Whether each caller has come to its places, all of them in their order, and to no other.
     pub fn is_as_wanted(&self) -> bool {
         self.astray.load(Ordering::SeqCst) == 0 && self.ways.iter().all(Way::is_ended)
     }
 }
 
-fn caller_at(place: Place) -> u8 {
+// The caller that has come to the place, or none where it is a reader's.
+fn caller_at(place: Place) -> Option<u8> {
     match place {
         Place::Began { caller, .. }
         | Place::Answered { caller, .. }
-        | Place::Ended { caller, .. } => caller,
+        | Place::Ended { caller, .. } => Some(caller),
+        Place::ReadBegan { .. } => None,
     }
 }
 
 impl Gate for Watch<'_> {
     fn at(&self, place: Place) {
-        let is_wanted = match self.ways.get(usize::from(caller_at(place))) {
-            Some(way) => way.goes_on(place),
-            None => false,
+        let is_wanted = match caller_at(place) {
+            Some(caller) => self.goes_on(caller, place),
+            None => true,
         };
         if !is_wanted {
             self.astray.fetch_add(1, Ordering::SeqCst);

@@ -1,7 +1,7 @@
 // Readers of what a feed publishes on another thread.
 ghost use Rattle.std.specs.Prelude.{◌≡◌, IfOk};
 
-use history::{Call, Calls, Done, Reply, Rows};
+use history::{Call, Calls, Done, Key, Reply, Tables, main_table};
 use mars_base::NoMemory;
 use record_slots::Value;
 use snapshot_readers::{Feed, Reader, open_readers};
@@ -29,7 +29,12 @@ fn put(alloc: Global, at: u64) -> Result<Done, NoMemory>
 {
     let value = Value::of(text_of(at)).ok_or(NoMemory)?;
     let mut calls = Calls::new(alloc);
-    calls.push(Call::Put { key: KEY, value }, Reply::Fine)?;
+    let put = Call::Put {
+        table: main_table(),
+        key: KEY,
+        value,
+    };
+    calls.push(put, Reply::Fine)?;
     Ok(Done {
         caller: 0,
         calls,
@@ -57,9 +62,13 @@ fn feed_all<R: Wait>(rt: &R, alloc: Global, feed: &mut Feed) -> u64 {
 
 // How many reads went back, read another's value, or stood between the two transactions of a group; and whether all was read at last.
 fn wrong_reads<R: Wait>(rt: &R, mut reader: Reader) -> (u64, bool) {
+    let key = Key {
+        table: main_table(),
+        key: KEY,
+    };
     let (mut last, mut wrong) = (0, 0u64);
     for _ in 0..READS {
-        let (count, value) = reader.get(rt, KEY);
+        let (count, value) = reader.get(rt, &key);
         let right = if count == 0 {
             None
         } else {
@@ -78,7 +87,7 @@ fn wrong_reads<R: Wait>(rt: &R, mut reader: Reader) -> (u64, bool) {
 
 // How many transactions were fed beside a reader, and what it read.
 fn race<R: Threads + Wait + Sync>(rt: &R, alloc: Global) -> Result<(u64, u64, bool), NoMemory> {
-    let base = Rows::new(alloc);
+    let base = Tables::new(alloc);
     let (mut feed, mut readers) = open_readers(rt, alloc, &base, 1)?;
     let Some(reader) = readers.pop() else {
         feed.close(rt);

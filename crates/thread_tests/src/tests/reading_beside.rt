@@ -8,7 +8,7 @@ use super::beside_a_read::get_one;
 use super::held_media::Hold;
 use super::sharing::fresh;
 use caller_steps::Core;
-use history::{Call, Reply};
+use history::{Call, Reply, main_table};
 use mars_manager::{Again, Mars, Pass, Passes};
 use std::alloc::Global;
 use std::sync::Arc;
@@ -33,8 +33,9 @@ fn read_beside<C: Core + Drop>(
     ensures { (result.0.table ≡ pass.table) × (result.0.known.number ≡ pass.known.number) }
 {
     hold.wait_for_read();
-    let same = mars.call(&mut pass, &Call::Get { key: 69 });
-    let other = mars.call(&mut pass, &Call::Get { key: 6 });
+    let table = main_table();
+    let same = mars.call(&mut pass, &Call::Get { table, key: 69 });
+    let other = mars.call(&mut pass, &Call::Get { table, key: 6 });
     hold.release();
     (pass, same, other)
 }

@@ -9,5 +9,5 @@ returns-clause-images g c core since least image balanced safe left =
     (records state.base (take prefix.count (state.history ++ state.doubt)), prefix.opens, balanced prefix.count)
 
 pub returns-clause-begun : goal.returns-clause-begun
-returns-clause-begun g c base index zero = refl
-returns-clause-begun g c base index (suc count) = refl
+returns-clause-begun g c names base index zero = refl
+returns-clause-begun g c names base index (suc count) = refl

@@ -91,3 +91,8 @@ returns-clause-rows g c = λ told.
     let view = g.S.EawStore.view c.args.pages.now.store in
     left_none view.state.bytes c.args.rows.now (pairs_said c.args.bytes.now) c.loop-i.rows
     (subst (λ (ps : List Pair). RowsLeft view.state.bytes c.args.rows.now (pairs_said c.args.bytes.now) c.loop-i.rows ps) (from_end c.args.bytes.now c.loop-i.i c.args.count c.loop-i-test.false) (c.loop-i.invariant.rows told))
+
+pub returns-in-Err-clause-looks : goal.returns-in-Err-clause-looks
+returns-in-Err-clause-looks g c =
+    looks_next g.S.EawStore.tells g.S.EawStore.opens _ (pages_of (g.S.EawStore.view c.args.pages.now.store) c.args.pages.now) (pages_of (g.S.EawStore.view c.loop-i.pages.store) c.loop-i.pages)
+    (pages_of (g.S.EawStore.view c.check_slot.new.pages.store) c.check_slot.new.pages) c.loop-i.invariant.looks c.in-Err.ensures.looks

@@ -8,6 +8,8 @@ use Rattle.index_pages.specs.Acts.{Acts}
 use Rattle.index_pages.specs.Written.{written_page}
 use Rattle.index_pages.proofs.Parting.{page_there, part_in}
 use Rattle.btree_pages.proofs.Parts.{slot_in_page, front_in_page}
+use Rattle.eaw_face.specs.StoreView.{log_len}
+use Rattle.page_store.specs.Runs.{Runs, acting_of}
 use Rattle.btree_pages.proofs.emptied.join_leaves.Goals as goal
 
 pub act_all-requires : goal.act_all-requires
@@ -41,3 +43,16 @@ returns-clause-acts g c =
 
 pub returns-clause-dead : goal.returns-clause-dead
 returns-clause-dead g c = c.act_all.ensures.dead
+
+pub returns-clause-runs : goal.returns-clause-runs
+returns-clause-runs g c =
+    let V = g.S.EawStore.view in
+    let v0 = pages_of (V c.args.pages.now.store) c.args.pages.now in
+    let v1 = pages_of (V c.act_all.new.pages.store) c.act_all.new.pages in
+    let slot : c.slot_part.result.bytes.now ≡ free_slot_bytes c.args.slot.now.free = c.slot_part.ensures.bytes ∙ c.write_free_slot.ensures.written in
+    let leaf : c.whole_page.result.bytes.now ≡ written_page 0 0 c.args.leaf.pairs.items = c.whole_page.ensures.bytes ∙ c.write_page.ensures ∙ ap (λ (ps : List Pair). written_page 0 0 ps) c.as_slice.ensures.value in
+    let parent : c.whole_page-2.result.bytes.now ≡ written_page 1 0 c.args.parent.pairs.items = c.whole_page-2.ensures.bytes ∙ c.write_page-2.ensures ∙ ap (λ (ps : List Pair). written_page 1 0 ps) c.as_slice-2.ensures.value in
+    let right : c.whole_page-3.result.bytes.now ≡ free_page_bytes c.args.right.now.free = c.whole_page-3.ensures.bytes ∙ c.write_free_page.ensures.written in
+    let part : c.front_part.result.bytes.now ≡ part_bytes c.args.right.now.front = c.front_part.ensures.bytes ∙ c.write_super_part.ensures in
+    subst (λ (l : List Part). Runs g.S.EawStore.tells V g.S.EawStore.calls (acting_of c.args.tid (log_len v0.store c.args.tid) l) v0.store v1.store c.act_all.result) (λ i.
+    (address (c.slot_part.ensures.page i) (c.slot_part.ensures.at i), slot i) ∷ (address (c.whole_page.ensures.page i) (c.whole_page.ensures.at i), leaf i) ∷ (address (c.whole_page-2.ensures.page i) (c.whole_page-2.ensures.at i), parent i) ∷ (address (c.whole_page-3.ensures.page i) (c.whole_page-3.ensures.at i), right i) ∷ (address (c.front_part.ensures.page i) (c.front_part.ensures.at i), part i) ∷ []) c.act_all.ensures.runs

@@ -1,24 +1,36 @@
-use Rattle.std.proofs.Common.{◌≡◌, ◌^◌, ◌<◌, ℕ, List, Option, Result, Err, length, false, IsTrue, refl, sym, ◌∙◌, ap, subst, arith}
+use Rattle.std.proofs.Common.{◌≡◌, ◌^◌, ◌<◌, ◌≤◌, ℕ, Bool, List, [], ◌∷◌, Option, Result, Err, length, false, true, IsTrue, refl, sym, ◌∙◌, ap, subst, arith}
+use Rattle.std.specs.Prelude.{IfSome, is_some}
 use Rattle.std.proofs.lemmas.Bool.{false≢true}
+use Rattle.array_shape.specs.Places.{page_count}
 use Rattle.array_shape.specs.declared.shape.Shape.{Shape}
 use Rattle.eaw_face.specs.State.{State}
 use Rattle.record_slots.specs.Places.{page_bytes, first_slot_page, IsSuper}
 use Rattle.record_slots.specs.declared.super_page.Super.{Super}
 use Rattle.page_store.specs.Index.{slots_of, index_pages_of}
 use Rattle.page_store.specs.Inserts.{Inserts}
+use Rattle.page_store.specs.Pairs.{Pair, AreSmall}
+use Rattle.page_store.specs.Placed.{IsPlaceIn}
 use Rattle.page_store.specs.Shown.{pages_of}
+use Rattle.page_store.specs.Works.{WorksFrom, is_done, blamed_index, insertion_limits}
+use Rattle.page_store.specs.declared.leaf_page.LeafPage.{LeafPage}
 use Rattle.page_store.specs.declared.index_fault.IndexFault.{IndexFault}
+use Rattle.page_store.specs.declared.index_fault.IndexFault.TheVariants as index
+use Rattle.index_pages.specs.Faults.{as_index}
 use Rattle.index_pages.specs.Fetched.{IsFront}
 use Rattle.index_pages.specs.Page.{level_of, page_pairs}
 use Rattle.index_pages.proofs.Looking.{looks_next}
 use Rattle.index_pages.proofs.Sizes.{index_pages_are}
 use Rattle.btree_pages.specs.declared.node.Node.{Node}
-use Rattle.btree_pages.specs.Index.{tree}
+use Rattle.btree_pages.specs.Downward.{below, down, tree_finding}
+use Rattle.btree_pages.specs.Index.{tree, tree_actions, actions_below, IsOpenLeaf}
+use Rattle.btree_pages.specs.Steps.{known_from, limits_above, limits_below}
+use Rattle.btree_pages.proofs.Beginning.{once_of, pair_known, root_known, works_super_err, works_front_err, works_root_err, works_root, works_placed}
+use Rattle.btree_pages.proofs.Stepping.{known_two}
 use Rattle.btree_pages.specs.Node.{IsNode}
 use Rattle.btree_pages.specs.Writes.{IsRead}
 use Rattle.index_pages.proofs.Faulting.{test_of_index, dead_fault, dead_test, not_slots, not_damage, room_for, full_with}
 use Rattle.btree_pages.proofs.Rooted.{slot_there, super_err, slots_full, root_out, alive_yet, bytes_yet, sound_yet, named_yet, absent_yet, says_yet, root_reached, root_read}
-use Rattle.btree_pages.proofs.Whole.{root_err, looked_then, root_then}
+use Rattle.btree_pages.proofs.Whole.{root_err, looked_then, root_then, place_then, place_reached, place_due, room_due}
 use Rattle.btree_pages.proofs.insertion.insert.Goals as goal
 
 pub returns-in-Err-clause-inserts : goal.returns-in-Err-clause-inserts
@@ -118,8 +130,8 @@ returns-in-Err-fetch_node-clause-dead g c =
     λ told. dead_test Node T good at vs.store c.in-Err-fetch_node.fault ((c.in-Ok.ensures.looks.still refl).dead ∙ c.in-Ok.ensures.cause)
     (dead_fault c.in-Err-fetch_node.fault c.index_fault-in-Err-fetch_node.result (test_of_index Node T good at vs.store c.in-Err-fetch_node.fault c.in-Err-fetch_node.ensures.cause) c.index_fault-in-Err-fetch_node.ensures told) c.in-Err-fetch_node.ensures.cause
 
-pub insert_below-requires : goal.insert_below-requires
-insert_below-requires g c =
+pub insert_below-requires-then-len-lt-PAIRS_MAX : goal.insert_below-requires-then-len-lt-PAIRS_MAX
+insert_below-requires-then-len-lt-PAIRS_MAX g c =
     let T = g.S.EawStore.tells in
     let V = g.S.EawStore.view in
     let E = g.S.EawStore.opens in
@@ -177,12 +189,12 @@ returns-then-len-lt-PAIRS_MAX-clause-inserts g c =
     let level = λ (told : IsTrue g.S.EawStore.tells). c.in-Ok-fetch_node.ensures.level told ∙ ap (λ (st : State). level_of st.bytes c.args.root.page) (still.state told) in
     let pairs = λ (told : IsTrue g.S.EawStore.tells). c.in-Ok-fetch_node.ensures.pairs told ∙ ap (λ (st : State). page_pairs st.bytes c.args.root.page) (still.state told) in
     let room : length c.in-Ok-fetch_node.top.pairs.items < 30 = room_for c.in-Ok-fetch_node.top.pairs.items c.len.result c.len.ensures.value c.if-len-lt-PAIRS_MAX.true in
-    let v2 = pages_of (V c.insert_below.new.pages.store) c.insert_below.new.pages in
-    root_then T E t root key v0 v1 c.requires.sound c.requires.named small looks c.in-Ok.ensures.cause front top.page top.level top.pairs.items c.in-Ok.ensures.says c.in-Ok-fetch_node.ensures.page c.in-Ok-fetch_node.ensures.read.level_most level pairs room v2 c.insert_below.result c.insert_below.ensures.inserts
+    let v2 = pages_of (V c.insert_below-then-len-lt-PAIRS_MAX.new.pages.store) c.insert_below-then-len-lt-PAIRS_MAX.new.pages in
+    root_then T E t root key v0 v1 c.requires.sound c.requires.named small looks c.in-Ok.ensures.cause front top.page top.level top.pairs.items c.in-Ok.ensures.says c.in-Ok-fetch_node.ensures.page c.in-Ok-fetch_node.ensures.read.level_most level pairs room v2 c.insert_below-then-len-lt-PAIRS_MAX.result c.insert_below-then-len-lt-PAIRS_MAX.ensures.inserts
 
 pub returns-then-len-lt-PAIRS_MAX-clause-dead : goal.returns-then-len-lt-PAIRS_MAX-clause-dead
 returns-then-len-lt-PAIRS_MAX-clause-dead g c =
-    λ told. absurd (c.insert_below.ensures.dead told)
+    λ told. absurd (c.insert_below-then-len-lt-PAIRS_MAX.ensures.dead told)
 
 pub insert_above-requires : goal.insert_above-requires
 insert_above-requires g c =
@@ -249,3 +261,214 @@ returns-clause-inserts g c =
 pub returns-clause-dead : goal.returns-clause-dead
 returns-clause-dead g c =
     λ told. absurd (c.insert_above.ensures.dead told)
+
+pub returns-in-Err-clause-works : goal.returns-in-Err-clause-works
+returns-in-Err-clause-works g c =
+    let T = g.S.EawStore.tells in
+    let V = g.S.EawStore.view in
+    let E = g.S.EawStore.opens in
+    let t = c.args.tid in
+    let root = c.args.root in
+    let key = c.args.key in
+    let v0 = pages_of (V c.args.pages.now.store) c.args.pages.now in
+    let n = c.index_page_count-count.ensures in
+    let vs = pages_of (V c.fetch_super.new.pages.store) c.fetch_super.new.pages in
+    let some : 0 < page_count (V c.args.pages.now.store).shape = omega (arith, n.some, n.all) in
+    subst (λ (f : IndexFault). (let r : Result ℕ IndexFault = Err f in WorksFrom [] (IsTrue T) T (is_done r) V g.S.EawStore.calls t (down root.page key) (insertion_limits (is_some c.args.place) (tree_finding root.page key) v0.store.shape) (tree_actions v0.store.state.bytes root.page key) (blamed_index r) v0.store vs.store)) (sym c.index_fault.ensures)
+    (works_super_err T V g.S.EawStore.calls t key root.page (tree_actions v0.store.state.bytes root.page key) c.args.pages.now.store (insertion_limits (is_some c.args.place) (tree_finding root.page key) v0.store.shape) (once_of (is_some c.args.place) root.page key v0.store.shape) Super (IsSuper 1 v0.store.state.bytes) c.fetch_super.new.pages.store c.in-Err.ensures.reads.0 (page_bytes v0.store.state.bytes 0) c.in-Err.fault some c.in-Err.ensures.cause c.in-Err.ensures.reads.1)
+
+pub returns-then-not-is_slot_left-clause-works : goal.returns-then-not-is_slot_left-clause-works
+returns-then-not-is_slot_left-clause-works g c =
+    let T = g.S.EawStore.tells in
+    let V = g.S.EawStore.view in
+    let E = g.S.EawStore.opens in
+    let t = c.args.tid in
+    let root = c.args.root in
+    let key = c.args.key in
+    let v0 = pages_of (V c.args.pages.now.store) c.args.pages.now in
+    let n = c.index_page_count-count.ensures in
+    let vs = pages_of (V c.fetch_super.new.pages.store) c.fetch_super.new.pages in
+    let some : 0 < page_count (V c.args.pages.now.store).shape = omega (arith, n.some, n.all) in
+    works_front_err T V g.S.EawStore.calls t key root.page (tree_actions v0.store.state.bytes root.page key) c.args.pages.now.store (insertion_limits (is_some c.args.place) (tree_finding root.page key) v0.store.shape) (once_of (is_some c.args.place) root.page key v0.store.shape) c.fetch_super.new.pages.store c.in-Ok.ensures.reads.0 c.in-Ok.ensures.looks.shape c.in-Ok.ensures.reads.1 (index.SlotsFull c.in-Ok.front.next_slot) tt
+
+pub returns-then-not-is_index_page-clause-works : goal.returns-then-not-is_index_page-clause-works
+returns-then-not-is_index_page-clause-works g c =
+    let T = g.S.EawStore.tells in
+    let V = g.S.EawStore.view in
+    let E = g.S.EawStore.opens in
+    let t = c.args.tid in
+    let root = c.args.root in
+    let key = c.args.key in
+    let v0 = pages_of (V c.args.pages.now.store) c.args.pages.now in
+    let n = c.index_page_count-count.ensures in
+    let vs = pages_of (V c.fetch_super.new.pages.store) c.fetch_super.new.pages in
+    let some : 0 < page_count (V c.args.pages.now.store).shape = omega (arith, n.some, n.all) in
+    let r : Result ℕ IndexFault = Err (index.Damaged 0) in
+    subst (λ (b : Bool). WorksFrom [] (IsTrue T) T (is_done r) V g.S.EawStore.calls t (down root.page key) (insertion_limits b (tree_finding root.page key) v0.store.shape) (tree_actions v0.store.state.bytes root.page key) (blamed_index r) v0.store vs.store) (sym (ap (λ (o : Option LeafPage). is_some o) c.in_default.is))
+    (works_front_err T V g.S.EawStore.calls t key root.page (tree_actions v0.store.state.bytes root.page key) c.args.pages.now.store (insertion_limits false (tree_finding root.page key) v0.store.shape) (omega arith) c.fetch_super.new.pages.store c.in-Ok.ensures.reads.0 c.in-Ok.ensures.looks.shape c.in-Ok.ensures.reads.1 (index.Damaged 0) (some, refl))
+
+pub returns-in-Err-fetch_node-clause-works : goal.returns-in-Err-fetch_node-clause-works
+returns-in-Err-fetch_node-clause-works g c =
+    let T = g.S.EawStore.tells in
+    let V = g.S.EawStore.view in
+    let E = g.S.EawStore.opens in
+    let t = c.args.tid in
+    let root = c.args.root in
+    let key = c.args.key in
+    let v0 = pages_of (V c.args.pages.now.store) c.args.pages.now in
+    let n = c.index_page_count-count.ensures in
+    let vs = pages_of (V c.fetch_super.new.pages.store) c.fetch_super.new.pages in
+    let some : 0 < page_count (V c.args.pages.now.store).shape = omega (arith, n.some, n.all) in
+    let v1 = pages_of (V c.fetch_node.new.pages.store) c.fetch_node.new.pages in
+    let there : c.args.root.page < page_count (V c.args.pages.now.store).shape = omega (arith, (c.if-not-is_index_page.ensures.0 refl).1, n.all) in
+    subst (λ (f : IndexFault). (let r : Result ℕ IndexFault = Err f in WorksFrom [] (IsTrue T) T (is_done r) V g.S.EawStore.calls t (down root.page key) (insertion_limits (is_some c.args.place) (tree_finding root.page key) v0.store.shape) (tree_actions v0.store.state.bytes root.page key) (blamed_index r) v0.store v1.store)) (sym c.index_fault-in-Err-fetch_node.ensures)
+    (let r : Result ℕ IndexFault = Err (as_index c.in-Err-fetch_node.fault) in
+    subst (λ (b : Bool). WorksFrom [] (IsTrue T) T (is_done r) V g.S.EawStore.calls t (down root.page key) (insertion_limits b (tree_finding root.page key) v0.store.shape) (tree_actions v0.store.state.bytes root.page key) (blamed_index r) v0.store v1.store) (sym (ap (λ (o : Option LeafPage). is_some o) c.in_default.is))
+    (works_root_err T V g.S.EawStore.calls t key root.page (tree_actions v0.store.state.bytes root.page key) c.args.pages.now.store (insertion_limits false (tree_finding root.page key) v0.store.shape) (omega arith) c.fetch_super.new.pages.store c.in-Ok.ensures.reads.0 c.in-Ok.ensures.looks.shape there c.in-Ok.ensures.reads.1 (omega arith) Node (IsNode (page_bytes vs.store.state.bytes root.page)) c.fetch_node.new.pages.store c.in-Err-fetch_node.ensures.reads.0 (page_bytes vs.store.state.bytes root.page) c.in-Err-fetch_node.fault c.in-Err-fetch_node.ensures.cause c.in-Err-fetch_node.ensures.reads.1))
+
+pub returns-then-len-lt-PAIRS_MAX-clause-works : goal.returns-then-len-lt-PAIRS_MAX-clause-works
+returns-then-len-lt-PAIRS_MAX-clause-works g c =
+    let T = g.S.EawStore.tells in
+    let V = g.S.EawStore.view in
+    let E = g.S.EawStore.opens in
+    let t = c.args.tid in
+    let root = c.args.root in
+    let key = c.args.key in
+    let v0 = pages_of (V c.args.pages.now.store) c.args.pages.now in
+    let n = c.index_page_count-count.ensures in
+    let vs = pages_of (V c.fetch_super.new.pages.store) c.fetch_super.new.pages in
+    let some : 0 < page_count (V c.args.pages.now.store).shape = omega (arith, n.some, n.all) in
+    let v1 = pages_of (V c.fetch_node.new.pages.store) c.fetch_node.new.pages in
+    let there : c.args.root.page < page_count (V c.args.pages.now.store).shape = omega (arith, (c.if-not-is_index_page.ensures.0 refl).1, n.all) in
+    let top = c.in-Ok-fetch_node.top in
+    let looks = looks_next T E false v0 vs v1 c.in-Ok.ensures.looks c.in-Ok-fetch_node.ensures.looks in
+    let still = c.in-Ok.ensures.looks.still refl in
+    let level = λ (told : IsTrue g.S.EawStore.tells). c.in-Ok-fetch_node.ensures.level told ∙ ap (λ (st : State). level_of st.bytes c.args.root.page) (still.state told) in
+    let pairs = λ (told : IsTrue g.S.EawStore.tells). c.in-Ok-fetch_node.ensures.pairs told ∙ ap (λ (st : State). page_pairs st.bytes c.args.root.page) (still.state told) in
+    let small : c.args.key < 2 ^ 64 = omega arith in
+    let room : length c.in-Ok-fetch_node.top.pairs.items < 30 = room_for c.in-Ok-fetch_node.top.pairs.items c.len.result c.len.ensures.value c.if-len-lt-PAIRS_MAX.true in
+    let v2 = pages_of (V c.insert_below-then-len-lt-PAIRS_MAX.new.pages.store) c.insert_below-then-len-lt-PAIRS_MAX.new.pages in
+    let low : c.in-Ok-fetch_node.top.level ≤ 7 = c.in-Ok-fetch_node.ensures.read.level_most in
+    subst (λ (b : Bool). WorksFrom [] (IsTrue T) T (is_done c.insert_below-then-len-lt-PAIRS_MAX.result) V g.S.EawStore.calls t (down root.page key) (insertion_limits b (tree_finding root.page key) v0.store.shape) (tree_actions v0.store.state.bytes root.page key) (blamed_index c.insert_below-then-len-lt-PAIRS_MAX.result) v0.store v2.store) (sym (ap (λ (o : Option LeafPage). is_some o) c.in_default.is))
+    (works_root T V g.S.EawStore.calls t key root.page (tree_actions v0.store.state.bytes root.page key) c.args.pages.now.store (insertion_limits false (tree_finding root.page key) v0.store.shape) (omega arith) c.fetch_super.new.pages.store c.fetch_node.new.pages.store c.in-Ok.ensures.reads.0 c.in-Ok-fetch_node.ensures.reads.0 c.in-Ok.ensures.looks.shape c.in-Ok-fetch_node.ensures.looks.shape there c.in-Ok.ensures.reads.1 c.in-Ok-fetch_node.ensures.reads.1 top.level top.pairs.items c.in-Ok-fetch_node.ensures.reads.2.level c.in-Ok-fetch_node.ensures.reads.2.pairs (limits_below top.level) refl (omega (arith, low)) (omega (arith, low)) (omega (arith, low)) (known_from top.level top.page)
+    (λ p known. root_known (known_two top.level top.page p known) c.in-Ok-fetch_node.ensures.page) (actions_below top.level v1.store.state.bytes top.page top.page 0 key)
+    (room_due T E t root key v0 v1 c.requires.sound c.requires.named small looks c.in-Ok.ensures.cause top.page top.level top.pairs.items c.in-Ok-fetch_node.ensures.page level pairs room) c.insert_below-then-len-lt-PAIRS_MAX.new.pages.store c.insert_below-then-len-lt-PAIRS_MAX.result c.insert_below-then-len-lt-PAIRS_MAX.ensures.works)
+
+pub returns-clause-works : goal.returns-clause-works
+returns-clause-works g c =
+    let T = g.S.EawStore.tells in
+    let V = g.S.EawStore.view in
+    let E = g.S.EawStore.opens in
+    let t = c.args.tid in
+    let root = c.args.root in
+    let key = c.args.key in
+    let v0 = pages_of (V c.args.pages.now.store) c.args.pages.now in
+    let n = c.index_page_count-count.ensures in
+    let vs = pages_of (V c.fetch_super.new.pages.store) c.fetch_super.new.pages in
+    let some : 0 < page_count (V c.args.pages.now.store).shape = omega (arith, n.some, n.all) in
+    let v1 = pages_of (V c.fetch_node.new.pages.store) c.fetch_node.new.pages in
+    let there : c.args.root.page < page_count (V c.args.pages.now.store).shape = omega (arith, (c.if-not-is_index_page.ensures.0 refl).1, n.all) in
+    let top = c.in-Ok-fetch_node.top in
+    let looks = looks_next T E false v0 vs v1 c.in-Ok.ensures.looks c.in-Ok-fetch_node.ensures.looks in
+    let still = c.in-Ok.ensures.looks.still refl in
+    let level = λ (told : IsTrue g.S.EawStore.tells). c.in-Ok-fetch_node.ensures.level told ∙ ap (λ (st : State). level_of st.bytes c.args.root.page) (still.state told) in
+    let pairs = λ (told : IsTrue g.S.EawStore.tells). c.in-Ok-fetch_node.ensures.pairs told ∙ ap (λ (st : State). page_pairs st.bytes c.args.root.page) (still.state told) in
+    let small : c.args.key < 2 ^ 64 = omega arith in
+    let v2 = pages_of (V c.insert_above.new.pages.store) c.insert_above.new.pages in
+    let low : c.in-Ok-fetch_node.top.level ≤ 7 = c.in-Ok-fetch_node.ensures.read.level_most in
+    subst (λ (b : Bool). WorksFrom [] (IsTrue T) T (is_done c.insert_above.result) V g.S.EawStore.calls t (down root.page key) (insertion_limits b (tree_finding root.page key) v0.store.shape) (tree_actions v0.store.state.bytes root.page key) (blamed_index c.insert_above.result) v0.store v2.store) (sym (ap (λ (o : Option LeafPage). is_some o) c.in_default.is))
+    (works_root T V g.S.EawStore.calls t key root.page (tree_actions v0.store.state.bytes root.page key) c.args.pages.now.store (insertion_limits false (tree_finding root.page key) v0.store.shape) (omega arith) c.fetch_super.new.pages.store c.fetch_node.new.pages.store c.in-Ok.ensures.reads.0 c.in-Ok-fetch_node.ensures.reads.0 c.in-Ok.ensures.looks.shape c.in-Ok-fetch_node.ensures.looks.shape there c.in-Ok.ensures.reads.1 c.in-Ok-fetch_node.ensures.reads.1 top.level top.pairs.items c.in-Ok-fetch_node.ensures.reads.2.level c.in-Ok-fetch_node.ensures.reads.2.pairs (limits_above top.level) refl (omega (arith, low)) (omega (arith, low)) (omega (arith, low)) (0 ∷ root.page ∷ [])
+    (λ p known. pair_known p root.page known) (tree_actions v1.store.state.bytes root.page key)
+    (λ told. ap (λ (st : State). tree_actions st.bytes root.page key) ((looks.still refl).state told)) c.insert_above.new.pages.store c.insert_above.result c.insert_above.ensures.works)
+
+pub insert_below-requires : goal.insert_below-requires
+insert_below-requires g c =
+    let T = g.S.EawStore.tells in
+    let V = g.S.EawStore.view in
+    let E = g.S.EawStore.opens in
+    let t = c.args.tid in
+    let root = c.args.root in
+    let key = c.args.key in
+    let v0 = pages_of (V c.args.pages.now.store) c.args.pages.now in
+    let n = c.index_page_count-count.ensures in
+    let vs = pages_of (V c.fetch_super.new.pages.store) c.fetch_super.new.pages in
+    let some : 0 < page_count (V c.args.pages.now.store).shape = omega (arith, n.some, n.all) in
+    let looks = c.in-Ok.ensures.looks in
+    let leaf = c.in-Some.leaf in
+    let node = c.node_of.result in
+    let made = c.node_of.ensures in
+    let place : IsPlaceIn (V c.args.pages.now.store).shape c.in-Some.leaf.page c.in-Some.leaf.pairs.items = subst (λ (o : Option LeafPage). IfSome o (λ l. IsPlaceIn (V c.args.pages.now.store).shape l.page l.pairs.items)) c.in-Some.is c.requires.place in
+    let opens = λ (told : IsTrue g.S.EawStore.tells). subst (λ (p : ℕ). IsOpenLeaf (V c.args.pages.now.store).state.bytes c.args.root.page c.args.key p c.node_of.result.pairs.items) (sym c.node_of.ensures.page)
+    (subst (λ (ps : List Pair). IsOpenLeaf (V c.args.pages.now.store).state.bytes c.args.root.page c.args.key c.in-Some.leaf.page ps) (sym c.node_of.ensures.pairs)
+    (subst (λ (o : Option LeafPage). IfSome o (λ l. IsOpenLeaf (V c.args.pages.now.store).state.bytes c.args.root.page c.args.key l.page l.pairs.items)) c.in-Some.is (c.requires.fits told c.in-Ok.ensures.cause))) in
+    let read : IsRead (V c.args.pages.now.store).shape c.node_of.result.page c.node_of.result.level c.node_of.result.pairs.items =
+    record {
+      some = subst (λ (p : ℕ). 1 ≤ p) (sym c.node_of.ensures.page) place.some;
+      inside = subst (λ (p : ℕ). p < index_pages_of (V c.args.pages.now.store).shape) (sym c.node_of.ensures.page) place.inside;
+      level_most = omega (arith, c.node_of.ensures.level);
+      most = omega (arith, place.room, ap (λ (ps : List Pair). length ps) c.node_of.ensures.pairs);
+      small = subst (λ (ps : List Pair). AreSmall ps) (sym c.node_of.ensures.pairs) place.small;
+    } in
+    let small : c.args.key < 2 ^ 64 = omega arith in
+    record {
+      tid = subst (λ (sh : Shape). c.args.tid < sh.numbers) (sym looks.shape) c.requires.tid;
+      table = c.requires.table;
+      closed = ap (λ (f : ℕ → Option ℕ). f c.args.tid) c.in-Ok.ensures.looks.tops ∙ c.requires.closed c.in-Ok.ensures.cause;
+      alive = alive_yet T E t root key v0 c.requires.sound c.requires.named vs looks c.in-Ok.ensures.cause;
+      sound = sound_yet T E t root key v0 c.requires.sound c.requires.named vs looks c.in-Ok.ensures.cause;
+      named = named_yet T E t root key v0 c.requires.sound c.requires.named vs looks c.in-Ok.ensures.cause;
+      absent = absent_yet T E t root key v0 c.requires.sound c.requires.named vs looks c.in-Ok.ensures.cause c.requires.absent;
+      front = subst (λ (sh : Shape). IsFront sh c.in-Ok.front) (sym looks.shape) c.in-Ok.ensures.front;
+      slot = λ none. subst (λ (sh : Shape). c.in-Ok.front.next_slot < slots_of sh) (sym looks.shape) ((slot_there v0.store.shape c.index_page_count-count.result c.in-Ok.front n.all c.in-Ok.ensures.front (c.if-not-is_slot_left.ensures.0 refl)) none);
+      says = says_yet T E t root key v0 c.requires.sound c.requires.named vs looks c.in-Ok.ensures.cause c.in-Ok.front c.in-Ok.ensures.says;
+      read = subst (λ (sh : Shape). IsRead sh c.node_of.result.page c.node_of.result.level c.node_of.result.pairs.items) (sym looks.shape) read;
+      some = λ inner. absurd (inner made.level);
+      room = subst (λ (ps : List Pair). length ps < 30) (sym made.pairs) place.room;
+      reached = place_reached T E t root key v0 vs c.requires.sound c.requires.named small looks c.in-Ok.ensures.cause node.page node.level node.pairs.items made.level opens;
+    }
+
+pub returns-in-Some-clause-inserts : goal.returns-in-Some-clause-inserts
+returns-in-Some-clause-inserts g c =
+    let T = g.S.EawStore.tells in
+    let V = g.S.EawStore.view in
+    let E = g.S.EawStore.opens in
+    let t = c.args.tid in
+    let root = c.args.root in
+    let key = c.args.key in
+    let v0 = pages_of (V c.args.pages.now.store) c.args.pages.now in
+    let n = c.index_page_count-count.ensures in
+    let vs = pages_of (V c.fetch_super.new.pages.store) c.fetch_super.new.pages in
+    let some : 0 < page_count (V c.args.pages.now.store).shape = omega (arith, n.some, n.all) in
+    let node = c.node_of.result in
+    let made = c.node_of.ensures in
+    let opens = λ (told : IsTrue g.S.EawStore.tells). subst (λ (p : ℕ). IsOpenLeaf (V c.args.pages.now.store).state.bytes c.args.root.page c.args.key p c.node_of.result.pairs.items) (sym c.node_of.ensures.page)
+    (subst (λ (ps : List Pair). IsOpenLeaf (V c.args.pages.now.store).state.bytes c.args.root.page c.args.key c.in-Some.leaf.page ps) (sym c.node_of.ensures.pairs)
+    (subst (λ (o : Option LeafPage). IfSome o (λ l. IsOpenLeaf (V c.args.pages.now.store).state.bytes c.args.root.page c.args.key l.page l.pairs.items)) c.in-Some.is (c.requires.fits told c.in-Ok.ensures.cause))) in
+    let small : c.args.key < 2 ^ 64 = omega arith in
+    let v2 = pages_of (V c.insert_below.new.pages.store) c.insert_below.new.pages in
+    place_then T E t root key v0 vs c.requires.sound c.requires.named small c.in-Ok.ensures.looks c.in-Ok.ensures.cause c.in-Ok.front node.page node.level node.pairs.items made.level c.in-Ok.ensures.says opens v2 c.insert_below.result c.insert_below.ensures.inserts
+
+pub returns-in-Some-clause-works : goal.returns-in-Some-clause-works
+returns-in-Some-clause-works g c =
+    let T = g.S.EawStore.tells in
+    let V = g.S.EawStore.view in
+    let E = g.S.EawStore.opens in
+    let t = c.args.tid in
+    let root = c.args.root in
+    let key = c.args.key in
+    let v0 = pages_of (V c.args.pages.now.store) c.args.pages.now in
+    let n = c.index_page_count-count.ensures in
+    let vs = pages_of (V c.fetch_super.new.pages.store) c.fetch_super.new.pages in
+    let some : 0 < page_count (V c.args.pages.now.store).shape = omega (arith, n.some, n.all) in
+    let node = c.node_of.result in
+    let made = c.node_of.ensures in
+    let opens = λ (told : IsTrue g.S.EawStore.tells). subst (λ (p : ℕ). IsOpenLeaf (V c.args.pages.now.store).state.bytes c.args.root.page c.args.key p c.node_of.result.pairs.items) (sym c.node_of.ensures.page)
+    (subst (λ (ps : List Pair). IsOpenLeaf (V c.args.pages.now.store).state.bytes c.args.root.page c.args.key c.in-Some.leaf.page ps) (sym c.node_of.ensures.pairs)
+    (subst (λ (o : Option LeafPage). IfSome o (λ l. IsOpenLeaf (V c.args.pages.now.store).state.bytes c.args.root.page c.args.key l.page l.pairs.items)) c.in-Some.is (c.requires.fits told c.in-Ok.ensures.cause))) in
+    let small : c.args.key < 2 ^ 64 = omega arith in
+    let v2 = pages_of (V c.insert_below.new.pages.store) c.insert_below.new.pages in
+    let works = subst (λ (m : ℕ). WorksFrom (known_from m c.node_of.result.page) (IsTrue g.S.EawStore.tells) g.S.EawStore.tells (is_done c.insert_below.result) g.S.EawStore.view g.S.EawStore.calls c.args.tid (below c.args.key m c.node_of.result.pairs.items) (limits_below m)
+    (actions_below m (g.S.EawStore.view c.fetch_super.new.pages.store).state.bytes c.node_of.result.page c.node_of.result.page 0 c.args.key) (blamed_index c.insert_below.result) (g.S.EawStore.view c.fetch_super.new.pages.store) (g.S.EawStore.view c.insert_below.new.pages.store)) c.node_of.ensures.level c.insert_below.ensures.works in
+    subst (λ (b : Bool). WorksFrom [] (IsTrue T) T (is_done c.insert_below.result) V g.S.EawStore.calls t (down root.page key) (insertion_limits b (tree_finding root.page key) v0.store.shape) (tree_actions v0.store.state.bytes root.page key) (blamed_index c.insert_below.result) v0.store v2.store) (sym (ap (λ (o : Option LeafPage). is_some o) c.in-Some.is))
+    (works_placed T V g.S.EawStore.calls t key root.page (tree_actions v0.store.state.bytes root.page key) c.args.pages.now.store (insertion_limits true (tree_finding root.page key) v0.store.shape) (omega arith) c.fetch_super.new.pages.store c.in-Ok.ensures.reads.0 c.in-Ok.ensures.looks.shape c.in-Ok.ensures.reads.1 node.page node.pairs.items (omega arith) (omega arith) (actions_below 0 vs.store.state.bytes node.page node.page 0 key)
+    (place_due T E t root key v0 vs c.requires.sound c.requires.named small c.in-Ok.ensures.looks c.in-Ok.ensures.cause node.page node.pairs.items opens) c.insert_below.new.pages.store c.insert_below.result works)

@@ -1,27 +1,37 @@
-use Rattle.std.proofs.Common.{◌+◌, ◌-◌, ◌^◌, ◌<◌, ◌≤◌, ℕ, Option, None, Result, Ok, Err, false, IsTrue, refl, sym, ◌∙◌, ap, subst, arith}
+use Rattle.std.proofs.Common.{[], ◌∷◌, ◌+◌, ◌-◌, ◌^◌, ◌<◌, ◌≤◌, ℕ, Option, None, Result, Ok, Err, false, IsTrue, refl, sym, ◌∙◌, ap, subst, arith}
 use Rattle.std.proofs.lemmas.Bool.{false≢true}
 use Rattle.array_shape.specs.declared.shape.Shape.{Shape}
 use Rattle.eaw_face.specs.State.{State}
 use Rattle.record_slots.specs.Places.{free_page_of}
+use Rattle.eaw_face.specs.StoreView.{log_len}
+use Rattle.record_slots.specs.Places.{page_due}
 use Rattle.page_store.specs.Index.{slots_of, index_pages_of}
 use Rattle.page_store.specs.Inserts.{Inserts}
+use Rattle.page_store.specs.Runs.{Runs, acting_of}
 use Rattle.page_store.specs.Shown.{pages_of}
+use Rattle.page_store.specs.Works.{WorksFrom, is_done, blamed_index}
 use Rattle.page_store.specs.declared.fault.PageFault.{PageFault}
 use Rattle.page_store.specs.declared.index_fault.IndexFault.{IndexFault}
+use Rattle.page_store.specs.declared.index_fault.IndexFault.TheVariants as index
 use Rattle.index_pages.specs.Acts.{Acts}
 use Rattle.index_pages.specs.Adding.{TakesPage}
 use Rattle.index_pages.specs.Fetched.{IsFront}
+use Rattle.index_pages.specs.Page.{level_of, page_pairs}
 use Rattle.index_pages.specs.Slots.{list_check}
 use Rattle.index_pages.specs.declared.taking.Claim.{Claim}
 use Rattle.index_pages.proofs.Looking.{looks_none, looks_next}
-use Rattle.btree_pages.specs.Index.{tree}
+use Rattle.btree_pages.specs.Downward.{below}
+use Rattle.btree_pages.specs.Index.{tree, tree_actions, actions_below, half_for}
+use Rattle.btree_pages.specs.Steps.{limits_above}
+use Rattle.btree_pages.proofs.Acted.{growing_in, root_half_among, act_blames}
+use Rattle.btree_pages.proofs.Beginning.{works_none, works_first_err, works_second_err, works_grow_err, works_grown}
 use Rattle.btree_pages.specs.Writes.{IsRead, growing_pages, growing_parts}
 use Rattle.index_pages.proofs.Claims.{free_pages_pass, next_pass}
 use Rattle.btree_pages.specs.Trees.{whole_of}
 use Rattle.btree_pages.proofs.Below.{half_read}
 use Rattle.index_pages.proofs.Faulting.{look_of_index, act_of_index, dead_fault, dead_act, not_full, two_some}
 use Rattle.btree_pages.proofs.Rooted.{below_most, half_some, half_room, read_half, take_err}
-use Rattle.btree_pages.proofs.Whole.{root_high, root_full, grow_err, going3, living3, sound3, named3, absent3, says3, reached3, grown_then}
+use Rattle.btree_pages.proofs.Whole.{root_high, root_full, grow_err, going3, living3, sound3, named3, absent3, says3, reached3, grown_then, takes_two, root_due, root_leads, root_rest}
 use Rattle.btree_pages.proofs.insertion.insert_above.Goals as goal
 
 pub returns-then-top-eq-LEVEL_MAX-clause-inserts : goal.returns-then-top-eq-LEVEL_MAX-clause-inserts
@@ -346,3 +356,152 @@ returns-clause-inserts g c =
 pub returns-clause-dead : goal.returns-clause-dead
 returns-clause-dead g c =
     λ told. absurd (c.insert_below.ensures.dead told)
+
+pub returns-then-top-eq-LEVEL_MAX-clause-works : goal.returns-then-top-eq-LEVEL_MAX-clause-works
+returns-then-top-eq-LEVEL_MAX-clause-works g c =
+    let T = g.S.EawStore.tells in
+    let V = g.S.EawStore.view in
+    let E = g.S.EawStore.opens in
+    let t = c.args.tid in
+    let root = c.args.root in
+    let key = c.args.key in
+    let v0 = pages_of (V c.args.pages.now.store) c.args.pages.now in
+    let n = c.index_page_count-count.ensures in
+    let front = c.args.front in
+    let top = c.args.top in
+    let small : c.args.key < 2 ^ 64 = omega arith in
+    let long = λ (told : IsTrue g.S.EawStore.tells). g.met.S.EawStore.long c.args.pages.now.store told in
+    let read = subst (λ (p : ℕ). IsRead (g.S.EawStore.view c.args.pages.now.store).shape p c.args.top.level c.args.top.pairs.items) c.requires.page c.requires.read in
+    works_none T V g.S.EawStore.calls t key root.page top.level top.pairs.items (tree_actions v0.store.state.bytes root.page key) c.args.pages.now.store (index.PagesFull (c.index_page_count-count.result - 1)) refl
+
+pub returns-then-not-are_pages_left-clause-works : goal.returns-then-not-are_pages_left-clause-works
+returns-then-not-are_pages_left-clause-works g c =
+    let T = g.S.EawStore.tells in
+    let V = g.S.EawStore.view in
+    let E = g.S.EawStore.opens in
+    let t = c.args.tid in
+    let root = c.args.root in
+    let key = c.args.key in
+    let v0 = pages_of (V c.args.pages.now.store) c.args.pages.now in
+    let n = c.index_page_count-count.ensures in
+    let front = c.args.front in
+    let top = c.args.top in
+    let small : c.args.key < 2 ^ 64 = omega arith in
+    let long = λ (told : IsTrue g.S.EawStore.tells). g.met.S.EawStore.long c.args.pages.now.store told in
+    let read = subst (λ (p : ℕ). IsRead (g.S.EawStore.view c.args.pages.now.store).shape p c.args.top.level c.args.top.pairs.items) c.requires.page c.requires.read in
+    works_none T V g.S.EawStore.calls t key root.page top.level top.pairs.items (tree_actions v0.store.state.bytes root.page key) c.args.pages.now.store (index.PagesFull (c.index_page_count-count.result - 1)) refl
+
+pub returns-in-Err-clause-works : goal.returns-in-Err-clause-works
+returns-in-Err-clause-works g c =
+    let T = g.S.EawStore.tells in
+    let V = g.S.EawStore.view in
+    let E = g.S.EawStore.opens in
+    let t = c.args.tid in
+    let root = c.args.root in
+    let key = c.args.key in
+    let v0 = pages_of (V c.args.pages.now.store) c.args.pages.now in
+    let n = c.index_page_count-count.ensures in
+    let front = c.args.front in
+    let top = c.args.top in
+    let small : c.args.key < 2 ^ 64 = omega arith in
+    let long = λ (told : IsTrue g.S.EawStore.tells). g.met.S.EawStore.long c.args.pages.now.store told in
+    let read = subst (λ (p : ℕ). IsRead (g.S.EawStore.view c.args.pages.now.store).shape p c.args.top.level c.args.top.pairs.items) c.requires.page c.requires.read in
+    let v1 = pages_of (V c.take_page.new.pages.store) c.take_page.new.pages in
+    subst (λ (f : IndexFault). (let r : Result ℕ IndexFault = Err f in WorksFrom (0 ∷ root.page ∷ []) (IsTrue T) T (is_done r) V g.S.EawStore.calls t (below key top.level top.pairs.items) (limits_above top.level) (tree_actions v0.store.state.bytes root.page key) (blamed_index r) v0.store v1.store)) (sym c.index_fault.ensures)
+    (works_first_err T V g.S.EawStore.calls t key root.page top.level top.pairs.items (tree_actions v0.store.state.bytes root.page key) c.args.pages.now.store Claim c.take_page.new.pages.store c.in-Err.fault c.in-Err.ensures.peeks)
+
+pub returns-in-Err-take_page-clause-works : goal.returns-in-Err-take_page-clause-works
+returns-in-Err-take_page-clause-works g c =
+    let T = g.S.EawStore.tells in
+    let V = g.S.EawStore.view in
+    let E = g.S.EawStore.opens in
+    let t = c.args.tid in
+    let root = c.args.root in
+    let key = c.args.key in
+    let v0 = pages_of (V c.args.pages.now.store) c.args.pages.now in
+    let n = c.index_page_count-count.ensures in
+    let front = c.args.front in
+    let top = c.args.top in
+    let small : c.args.key < 2 ^ 64 = omega arith in
+    let long = λ (told : IsTrue g.S.EawStore.tells). g.met.S.EawStore.long c.args.pages.now.store told in
+    let read = subst (λ (p : ℕ). IsRead (g.S.EawStore.view c.args.pages.now.store).shape p c.args.top.level c.args.top.pairs.items) c.requires.page c.requires.read in
+    let v1 = pages_of (V c.take_page.new.pages.store) c.take_page.new.pages in
+    let left = c.in-Ok.left in
+    let v2 = pages_of (V c.take_page-2.new.pages.store) c.take_page-2.new.pages in
+    subst (λ (f : IndexFault). (let r : Result ℕ IndexFault = Err f in WorksFrom (0 ∷ root.page ∷ []) (IsTrue T) T (is_done r) V g.S.EawStore.calls t (below key top.level top.pairs.items) (limits_above top.level) (tree_actions v0.store.state.bytes root.page key) (blamed_index r) v0.store v2.store)) (sym c.index_fault-in-Err-take_page.ensures)
+    (works_second_err T V g.S.EawStore.calls t key root.page top.level top.pairs.items (tree_actions v0.store.state.bytes root.page key) c.args.pages.now.store Claim c.take_page.new.pages.store left c.in-Ok.ensures.peeks c.in-Ok.ensures.looks.shape (takes_two T E t root key v0 c.index_page_count-count.result n.count n.all n.most n.some small c.requires.sound c.requires.named c.requires.absent long c.requires.alive front c.requires.front c.requires.slot c.requires.says top.level top.pairs.items read c.requires.level c.requires.pairs c.requires.full c.if-top-eq-LEVEL_MAX.false) c.take_page-2.new.pages.store c.in-Err-take_page.fault c.in-Err-take_page.ensures.peeks)
+
+pub returns-in-Err-grow_root-clause-works : goal.returns-in-Err-grow_root-clause-works
+returns-in-Err-grow_root-clause-works g c =
+    let T = g.S.EawStore.tells in
+    let V = g.S.EawStore.view in
+    let E = g.S.EawStore.opens in
+    let t = c.args.tid in
+    let root = c.args.root in
+    let key = c.args.key in
+    let v0 = pages_of (V c.args.pages.now.store) c.args.pages.now in
+    let n = c.index_page_count-count.ensures in
+    let front = c.args.front in
+    let top = c.args.top in
+    let small : c.args.key < 2 ^ 64 = omega arith in
+    let long = λ (told : IsTrue g.S.EawStore.tells). g.met.S.EawStore.long c.args.pages.now.store told in
+    let read = subst (λ (p : ℕ). IsRead (g.S.EawStore.view c.args.pages.now.store).shape p c.args.top.level c.args.top.pairs.items) c.requires.page c.requires.read in
+    let v1 = pages_of (V c.take_page.new.pages.store) c.take_page.new.pages in
+    let left = c.in-Ok.left in
+    let v2 = pages_of (V c.take_page-2.new.pages.store) c.take_page-2.new.pages in
+    let right = c.in-Ok-take_page.right in
+    let looks = looks_next T E false v0 v1 v2 c.in-Ok.ensures.looks c.in-Ok-take_page.ensures.looks in
+    let one = λ (told : IsTrue g.S.EawStore.tells). subst (λ (st : State). TakesPage st.bytes c.args.front c.in-Ok.left.number c.in-Ok.left.front) (sym ((c.in-Ok.ensures.looks.still refl).state told) ∙ sym ((c.in-Ok-take_page.ensures.looks.still refl).state told)) (c.in-Ok.ensures.takes told) in
+    let other = λ (told : IsTrue g.S.EawStore.tells). subst (λ (st : State). TakesPage st.bytes c.in-Ok.left.front c.in-Ok-take_page.right.number c.in-Ok-take_page.right.front) (sym ((c.in-Ok-take_page.ensures.looks.still refl).state told)) (c.in-Ok-take_page.ensures.takes told) in
+    let v3 = pages_of (V c.grow_root.new.pages.store) c.grow_root.new.pages in
+    let acts = λ (r : Result (Unit {0}) PageFault) (a : Acts g.S.EawStore.tells (g.S.EawStore.opens (g.S.EawStore.view c.take_page-2.new.pages.store).shape) c.args.tid (growing_pages c.in-Ok.left.number c.in-Ok-take_page.right.number c.args.top.page) (growing_parts c.in-Ok-take_page.right.front c.in-Ok.left.number c.in-Ok-take_page.right.number c.args.top.page c.args.top.level c.args.top.pairs.items)
+    (pages_of (g.S.EawStore.view c.take_page-2.new.pages.store) c.take_page-2.new.pages) (pages_of (g.S.EawStore.view c.grow_root.new.pages.store) c.grow_root.new.pages) r).
+    subst (λ (p : ℕ). Acts g.S.EawStore.tells (g.S.EawStore.opens (g.S.EawStore.view c.take_page-2.new.pages.store).shape) c.args.tid (growing_pages c.in-Ok.left.number c.in-Ok-take_page.right.number p) (growing_parts c.in-Ok-take_page.right.front c.in-Ok.left.number c.in-Ok-take_page.right.number p c.args.top.level c.args.top.pairs.items)
+    (pages_of (g.S.EawStore.view c.take_page-2.new.pages.store) c.take_page-2.new.pages) (pages_of (g.S.EawStore.view c.grow_root.new.pages.store) c.grow_root.new.pages) r) c.requires.page a in
+    let runs = λ (r : Result (Unit {0}) PageFault) (a : Runs T V g.S.EawStore.calls (acting_of c.args.tid (log_len (V c.take_page-2.new.pages.store) c.args.tid) (growing_parts c.in-Ok-take_page.right.front c.in-Ok.left.number c.in-Ok-take_page.right.number c.args.top.page c.args.top.level c.args.top.pairs.items)) (V c.take_page-2.new.pages.store) (V c.grow_root.new.pages.store) r).
+    subst (λ (p : ℕ). Runs T V g.S.EawStore.calls (acting_of c.args.tid (log_len (V c.take_page-2.new.pages.store) c.args.tid) (growing_parts c.in-Ok-take_page.right.front c.in-Ok.left.number c.in-Ok-take_page.right.number p c.args.top.level c.args.top.pairs.items)) (V c.take_page-2.new.pages.store) (V c.grow_root.new.pages.store) r) c.requires.page a in
+    subst (λ (f : IndexFault). (let r : Result ℕ IndexFault = Err f in WorksFrom (0 ∷ root.page ∷ []) (IsTrue T) T (is_done r) V g.S.EawStore.calls t (below key top.level top.pairs.items) (limits_above top.level) (tree_actions v0.store.state.bytes root.page key) (blamed_index r) v0.store v3.store)) (sym c.index_fault-in-Err-grow_root.ensures)
+    (works_grow_err T V g.S.EawStore.calls t key root.page top.level top.pairs.items (tree_actions v0.store.state.bytes root.page key) c.args.pages.now.store Claim c.take_page.new.pages.store left c.in-Ok.ensures.peeks c.in-Ok.ensures.looks.shape (takes_two T E t root key v0 c.index_page_count-count.result n.count n.all n.most n.some small c.requires.sound c.requires.named c.requires.absent long c.requires.alive front c.requires.front c.requires.slot c.requires.says top.level top.pairs.items read c.requires.level c.requires.pairs c.requires.full c.if-top-eq-LEVEL_MAX.false) c.grow_root.new.pages.store c.take_page-2.new.pages right c.in-Ok-take_page.ensures.peeks (record { pages = growing_pages left.number right.number root.page; takes = 2 })
+    (acting_of t (log_len v2.store t) (growing_parts right.front left.number right.number root.page top.level top.pairs.items))
+    (log_len v2.store t, growing_parts right.front left.number right.number root.page top.level top.pairs.items, refl, growing_in right.front left.number right.number root.page top.level top.pairs.items) refl c.in-Err-grow_root.fault (runs (Err c.in-Err-grow_root.fault) c.in-Err-grow_root.ensures.runs)
+    (act_blames v2.store t (growing_pages left.number right.number top.page) c.in-Err-grow_root.fault c.in-Err-grow_root.ensures.acts.cause)
+    (actions_below (level_of v2.store.state.bytes root.page) v2.store.state.bytes root.page (half_for (page_pairs v2.store.state.bytes root.page) (page_due v2.store.state.bytes 0) (page_due v2.store.state.bytes 1) key) 2 key)
+    (root_due T E t root key v0 c.index_page_count-count.result n.count n.all n.most n.some small c.requires.sound c.requires.named c.requires.absent long c.requires.alive front c.requires.front c.requires.slot c.requires.says top.level top.pairs.items read c.requires.level c.requires.pairs c.requires.full c.if-top-eq-LEVEL_MAX.false (c.if-not-are_pages_left.ensures.0 refl) v2 looks left.number right.number left.front right.front one other))
+
+pub returns-clause-works : goal.returns-clause-works
+returns-clause-works g c =
+    let T = g.S.EawStore.tells in
+    let V = g.S.EawStore.view in
+    let E = g.S.EawStore.opens in
+    let t = c.args.tid in
+    let root = c.args.root in
+    let key = c.args.key in
+    let v0 = pages_of (V c.args.pages.now.store) c.args.pages.now in
+    let n = c.index_page_count-count.ensures in
+    let front = c.args.front in
+    let top = c.args.top in
+    let small : c.args.key < 2 ^ 64 = omega arith in
+    let long = λ (told : IsTrue g.S.EawStore.tells). g.met.S.EawStore.long c.args.pages.now.store told in
+    let read = subst (λ (p : ℕ). IsRead (g.S.EawStore.view c.args.pages.now.store).shape p c.args.top.level c.args.top.pairs.items) c.requires.page c.requires.read in
+    let v1 = pages_of (V c.take_page.new.pages.store) c.take_page.new.pages in
+    let left = c.in-Ok.left in
+    let v2 = pages_of (V c.take_page-2.new.pages.store) c.take_page-2.new.pages in
+    let right = c.in-Ok-take_page.right in
+    let looks = looks_next T E false v0 v1 v2 c.in-Ok.ensures.looks c.in-Ok-take_page.ensures.looks in
+    let one = λ (told : IsTrue g.S.EawStore.tells). subst (λ (st : State). TakesPage st.bytes c.args.front c.in-Ok.left.number c.in-Ok.left.front) (sym ((c.in-Ok.ensures.looks.still refl).state told) ∙ sym ((c.in-Ok-take_page.ensures.looks.still refl).state told)) (c.in-Ok.ensures.takes told) in
+    let other = λ (told : IsTrue g.S.EawStore.tells). subst (λ (st : State). TakesPage st.bytes c.in-Ok.left.front c.in-Ok-take_page.right.number c.in-Ok-take_page.right.front) (sym ((c.in-Ok-take_page.ensures.looks.still refl).state told)) (c.in-Ok-take_page.ensures.takes told) in
+    let v3 = pages_of (V c.grow_root.new.pages.store) c.grow_root.new.pages in
+    let acts = λ (r : Result (Unit {0}) PageFault) (a : Acts g.S.EawStore.tells (g.S.EawStore.opens (g.S.EawStore.view c.take_page-2.new.pages.store).shape) c.args.tid (growing_pages c.in-Ok.left.number c.in-Ok-take_page.right.number c.args.top.page) (growing_parts c.in-Ok-take_page.right.front c.in-Ok.left.number c.in-Ok-take_page.right.number c.args.top.page c.args.top.level c.args.top.pairs.items)
+    (pages_of (g.S.EawStore.view c.take_page-2.new.pages.store) c.take_page-2.new.pages) (pages_of (g.S.EawStore.view c.grow_root.new.pages.store) c.grow_root.new.pages) r).
+    subst (λ (p : ℕ). Acts g.S.EawStore.tells (g.S.EawStore.opens (g.S.EawStore.view c.take_page-2.new.pages.store).shape) c.args.tid (growing_pages c.in-Ok.left.number c.in-Ok-take_page.right.number p) (growing_parts c.in-Ok-take_page.right.front c.in-Ok.left.number c.in-Ok-take_page.right.number p c.args.top.level c.args.top.pairs.items)
+    (pages_of (g.S.EawStore.view c.take_page-2.new.pages.store) c.take_page-2.new.pages) (pages_of (g.S.EawStore.view c.grow_root.new.pages.store) c.grow_root.new.pages) r) c.requires.page a in
+    let half = c.half_of-half in
+    let v4 = pages_of (V c.insert_below.new.pages.store) c.insert_below.new.pages in
+    let runs = λ (r : Result (Unit {0}) PageFault) (a : Runs T V g.S.EawStore.calls (acting_of c.args.tid (log_len (V c.take_page-2.new.pages.store) c.args.tid) (growing_parts c.in-Ok-take_page.right.front c.in-Ok.left.number c.in-Ok-take_page.right.number c.args.top.page c.args.top.level c.args.top.pairs.items)) (V c.take_page-2.new.pages.store) (V c.grow_root.new.pages.store) r).
+    subst (λ (p : ℕ). Runs T V g.S.EawStore.calls (acting_of c.args.tid (log_len (V c.take_page-2.new.pages.store) c.args.tid) (growing_parts c.in-Ok-take_page.right.front c.in-Ok.left.number c.in-Ok-take_page.right.number p c.args.top.level c.args.top.pairs.items)) (V c.take_page-2.new.pages.store) (V c.grow_root.new.pages.store) r) c.requires.page a in
+    works_grown T V g.S.EawStore.calls t key root.page top.level top.pairs.items (tree_actions v0.store.state.bytes root.page key) c.args.pages.now.store Claim c.take_page.new.pages.store left c.in-Ok.ensures.peeks c.in-Ok.ensures.looks.shape (takes_two T E t root key v0 c.index_page_count-count.result n.count n.all n.most n.some small c.requires.sound c.requires.named c.requires.absent long c.requires.alive front c.requires.front c.requires.slot c.requires.says top.level top.pairs.items read c.requires.level c.requires.pairs c.requires.full c.if-top-eq-LEVEL_MAX.false) c.grow_root.new.pages.store c.take_page-2.new.pages right c.in-Ok-take_page.ensures.peeks (record { pages = growing_pages left.number right.number root.page; takes = 2 })
+    (acting_of t (log_len v2.store t) (growing_parts right.front left.number right.number root.page top.level top.pairs.items))
+    (log_len v2.store t, growing_parts right.front left.number right.number root.page top.level top.pairs.items, refl, growing_in right.front left.number right.number root.page top.level top.pairs.items) refl (runs (Ok tt) c.in-Ok-grow_root.ensures.runs) (c.in-Ok-grow_root.ensures.acts.shape ∙ looks.shape) half.result.page half.result.level half.result.pairs.items
+    (actions_below half.result.level v3.store.state.bytes half.result.page half.result.page 0 key) half.ensures.level
+    (root_leads T E t root key v0 c.index_page_count-count.result n.count n.all n.most n.some small c.requires.sound c.requires.named c.requires.absent long c.requires.alive front c.requires.front c.requires.slot c.requires.says top.level top.pairs.items read c.requires.level c.requires.pairs c.requires.full c.if-top-eq-LEVEL_MAX.false (c.if-not-are_pages_left.ensures.0 refl) v2 looks left.number right.number left.front right.front one other v3 (acts (Ok tt) c.in-Ok-grow_root.ensures.acts) half.result.page half.result.pairs.items half.ensures.page half.ensures.pairs) (root_half_among left.number right.number root.page key half.result.page top.pairs.items half.ensures.page)
+    (root_rest T E t root key v0 c.index_page_count-count.result n.count n.all n.most n.some small c.requires.sound c.requires.named c.requires.absent long c.requires.alive front c.requires.front c.requires.slot c.requires.says top.level top.pairs.items read c.requires.level c.requires.pairs c.requires.full c.if-top-eq-LEVEL_MAX.false (c.if-not-are_pages_left.ensures.0 refl) v2 looks left.number right.number left.front right.front one other v3 (acts (Ok tt) c.in-Ok-grow_root.ensures.acts) half.result.page half.result.pairs.items half.ensures.page half.ensures.pairs half.result.level half.ensures.level) c.insert_below.new.pages.store c.insert_below.result c.insert_below.ensures.works

@@ -1,6 +1,6 @@
 use Rattle.std.proofs.Common.{◌≤◌}
 use Rattle.btree_pages.proofs.Nexting.{no_error, not_damaged_page}
-use Rattle.std.specs.Prelude.{IfSome}
+use Rattle.std.specs.Prelude.{◌||◌, nat_le, IfSome}
 use Rattle.std.proofs.Common.{◌≡◌, ◌≢◌, ◌+◌, ◌<◌, ℕ, false, List, Option, refl, sym, ◌∙◌, ap, subst, arith}
 use Rattle.std.proofs.lemmas.Bool.{false≢true}
 use Rattle.std.specs.Option.{option_or}
@@ -8,7 +8,9 @@ use Rattle.eaw_face.specs.State.{State}
 use Rattle.eaw_face.specs.Causes.{IsAlive}
 use Rattle.page_store.specs.Shown.{pages_of}
 use Rattle.record_slots.specs.Places.{page_bytes}
-use Rattle.index_pages.specs.Page.{level_said, level_of, pairs_said, page_pairs}
+use Rattle.index_pages.specs.Page.{level_said, level_of, count_said, pairs_said, page_pairs}
+use Rattle.btree_pages.specs.Crowded.{is_full}
+use Rattle.btree_pages.proofs.Crowds.{crowd_step, crowd_end, leaf_here, few_pairs, neither}
 use Rattle.index_pages.proofs.Looking.{looks_none, looks_next}
 use Rattle.index_pages.proofs.Sizes.{index_pages_are}
 use Rattle.btree_laws.specs.Descent.{child_for}
@@ -33,6 +35,7 @@ loop-step-init g c = record {
   above = tt;
   on = (on_first g.S.EawStore.tells (g.S.EawStore.calls c.args.pages.now.store) (down c.args.root.page c.args.key) c.args.root.page c.args.root.page (g.S.EawStore.view c.args.pages.now.store) refl, refl);
   few = omega arith;
+  crowd = λ told alive. refl;
   down = λ told alive. down_first c.args.root (g.S.EawStore.view c.args.pages.now.store).state.bytes c.args.key (table_sound (g.S.EawStore.view c.args.pages.now.store).state.bytes c.args.root (c.requires.sound told alive) (c.requires.named told alive)) (omega arith);
 }
 
@@ -96,6 +99,13 @@ loop-step-preserved g c =
             ∙ ap (λ (o : Option ℕ). option_or (bound_in (pairs_said c.read_node.new.bytes) c.args.key) o) c.loop-step.invariant.on.1,
       );
       few = omega (arith, c.loop-step-test.true);
+      crowd = λ told living.
+          let bytes = view.state.bytes in
+          let buf = c.in-Ok.ensures.bytes told ∙ ap (λ (s : State). page_bytes s.bytes c.loop-step.page) (still.state told) in
+          let inner : level_of bytes c.loop-step.page ≢ 0 = λ e. c.if-head-eq0.false (c.in-Ok.ensures.head.level ∙ ap level_said buf ∙ e) in
+          let child : c.child_in-child.result.0 ≡ child_for (page_pairs bytes c.loop-step.page) c.args.key = c.child_in-child.ensures.child ∙ ap (λ (b : List ℕ). child_for (pairs_said b) c.args.key) buf in
+          let full : c.or_full-full.result ≡ (c.loop-step.full || is_full bytes c.loop-step.page) = c.or_full-full.ensures ∙ ap (λ (n : ℕ). c.loop-step.full || nat_le 30 n) (c.in-Ok.ensures.head.count ∙ ap count_said buf) in
+          crowd_step c.args.root bytes c.args.key c.loop-step._step c.loop-step.page c.loop-step.bound (c.loop-step.invariant.down told living) c.loop-step.full (c.loop-step.invariant.crowd told living) inner c.or_full-full.result full c.child_in-child.result.0 child;
       down = λ told living.
           let bytes = view.state.bytes in
           let buf = c.in-Ok.ensures.bytes told ∙ ap (λ (s : State). page_bytes s.bytes c.loop-step.page) (still.state told) in
@@ -180,3 +190,19 @@ returns-clause-walks g c =
     on_out g.S.EawStore.tells (g.S.EawStore.calls c.args.pages.now.store) (g.S.EawStore.calls c.loop-step.pages.store) (down c.args.root.page c.args.key)
     c.loop-step._step c.loop-step.page c.loop-step.last view (g.S.EawStore.view c.loop-step.pages.store) 8 (Descended c.args.key c.loop-step.bytes)
     c.loop-step.invariant.on.0 (omega (arith, c.loop-step-test.false)) c.loop-step.invariant.few
+
+pub returns-then-head-eq0-clause-full : goal.returns-then-head-eq0-clause-full
+returns-then-head-eq0-clause-full g c = λ told.
+    let view = g.S.EawStore.view c.args.pages.now.store in
+    let still = c.loop-step.invariant.looks.still refl in
+    let alive : IsAlive view = sym still.dead ∙ c.in-Ok.ensures.cause in
+    let bytes = view.state.bytes in
+    let buf = c.in-Ok.ensures.bytes told ∙ ap (λ (s : State). page_bytes s.bytes c.loop-step.page) (still.state told) in
+    let level : level_of view.state.bytes c.loop-step.page ≡ 0 = sym (ap level_said buf) ∙ sym c.in-Ok.ensures.head.level ∙ c.if-head-eq0.true in
+    let full : c.or_full-full.result ≡ (c.loop-step.full || is_full bytes c.loop-step.page) = c.or_full-full.ensures ∙ ap (λ (n : ℕ). c.loop-step.full || nat_le 30 n) (c.in-Ok.ensures.head.count ∙ ap count_said buf) in (
+      leaf_here c.args.root bytes c.args.key c.loop-step._step c.loop-step.page c.loop-step.bound (c.loop-step.invariant.down told alive) c.loop-step.full (c.loop-step.invariant.crowd told alive) level,
+      crowd_end c.args.root bytes c.args.key c.loop-step._step c.loop-step.page c.loop-step.bound (c.loop-step.invariant.down told alive) c.loop-step.full (c.loop-step.invariant.crowd told alive) level c.or_full-full.result full,
+    )
+
+pub returns-then-head-eq0-clause-room : goal.returns-then-head-eq0-clause-room
+returns-then-head-eq0-clause-room g c = λ is. few_pairs c.in-Ok.head.count (neither c.loop-step.full (nat_le 30 c.in-Ok.head.count) (sym c.or_full-full.ensures ∙ is)).1

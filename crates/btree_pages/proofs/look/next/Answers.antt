@@ -1,6 +1,7 @@
 use Rattle.std.proofs.lemmas.Bool.{eqb-true, eqb-false}
-use Rattle.std.proofs.Common.{◌≡◌, ◌≤◌, ◌∙◌, ℕ, List, Option, refl, sym, ap, subst, arith}
+use Rattle.std.proofs.Common.{◌≡◌, ◌≤◌, ◌∙◌, ℕ, Bool, false, List, [], Option, refl, sym, ap, subst, arith}
 use Rattle.page_store.specs.Index.{slots_of}
+use Rattle.page_store.specs.Looks.{Looks}
 use Rattle.page_store.specs.Shown.{pages_of}
 use Rattle.page_store.specs.Pairs.{Pair, AreInside}
 use Rattle.eaw_face.specs.State.{State}
@@ -8,7 +9,7 @@ use Rattle.index_pages.proofs.Looking.{looks_next}
 use Rattle.index_pages.proofs.Turns.{inside_less}
 use Rattle.btree_pages.specs.Leaf.{Reaches}
 use Rattle.btree_pages.specs.declared.look.Reached.{Reached}
-use Rattle.btree_pages.proofs.Nexting.{no_error, other_error, look_before, reached_some, reached_end, reached_behind, behind_begins, ok_at}
+use Rattle.btree_pages.proofs.Nexting.{no_error, other_error, begun_fine, look_before, reached_some, reached_end, reached_behind, behind_begins, ok_at}
 use Rattle.index_pages.proofs.Faulting.{dead_look}
 use Rattle.std.proofs.Common.{Some}
 use Rattle.index_pages.proofs.Courses.{walks_ok, walks_err}
@@ -75,3 +76,12 @@ returns-in-Ok-reach-clause-follows g c =
     again_ok c.args.root.page c.args.from c.in-Some.low c.in-Ok.at (eqb-true _ 0 (sym c.if-not-is_empty.ensures)) c.in-Some.is (λ some. some.items)
     g.S.EawStore.tells (g.S.EawStore.calls c.args.pages.now.store) (g.S.EawStore.calls c.reach.new.pages.store) (g.S.EawStore.calls c.reach-2.new.pages.store)
     (g.S.EawStore.view c.args.pages.now.store) (g.S.EawStore.view c.reach.new.pages.store) (g.S.EawStore.view c.reach-2.new.pages.store) (c.in-Ok.ensures.looks.still refl) c.in-Ok.ensures.looks.shape c.in-Ok.ensures.walks c.in-Ok-reach.behind c.in-Ok-reach.ensures.walks c.begun.result (begun_items c.begun.result c.in-Ok-reach.behind.some (λ some. some.items) c.begun.ensures.some) c.begun.ensures.none
+
+pub returns-in-Ok-reach-clause-looks : goal.returns-in-Ok-reach-clause-looks
+returns-in-Ok-reach-clause-looks g c =
+    let V = g.S.EawStore.view in
+    let old = pages_of (V c.args.pages.now.store) c.args.pages.now in
+    let new = pages_of (V c.reach-2.new.pages.store) c.reach-2.new.pages in
+    subst (λ (b : Bool). Looks g.S.EawStore.tells (g.S.EawStore.opens (V c.args.pages.now.store).shape) b (pages_of (V c.args.pages.now.store) c.args.pages.now) (pages_of (V c.reach-2.new.pages.store) c.reach-2.new.pages))
+    (sym (begun_fine c.begun.result c.in-Ok-reach.behind.page (c.in-Ok-reach.behind.some.items ≡ []) c.begun.ensures.none))
+    (looks_next g.S.EawStore.tells g.S.EawStore.opens false old (pages_of (V c.reach.new.pages.store) c.reach.new.pages) new c.in-Ok.ensures.looks c.in-Ok-reach.ensures.looks)

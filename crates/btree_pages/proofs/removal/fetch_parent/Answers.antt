@@ -1,6 +1,23 @@
+use Rattle.std.proofs.Common.{◌≡◌, ◌≢◌, ◌<◌, ◌≤◌, ℕ, arith, Result, Err}
+use Rattle.array_shape.specs.Places.{page_count}
 use Rattle.page_store.specs.Shown.{pages_of}
-use Rattle.btree_pages.proofs.Coming.{comes_down}
+use Rattle.btree_pages.proofs.Coming.{comes_first, comes_down}
+use Rattle.btree_pages.proofs.Removing.{came_first, came_child, came_fails}
+use Rattle.page_store.specs.Looks.{is_failed}
+use Rattle.page_store.specs.declared.fault.PageFault.{PageFault}
+use Rattle.index_pages.proofs.Looking.{looks_next}
+use Rattle.btree_pages.specs.declared.node.Node.{Node}
 use Rattle.btree_pages.proofs.removal.fetch_parent.Goals as goal
+
+pub loop-node-init : goal.loop-node-init
+loop-node-init g c =
+    let V = g.S.EawStore.view in
+    let v0 = pages_of (V c.args.pages.now.store) c.args.pages.now in
+    let top = c.args.top in
+    record {
+      comes = comes_first g.S.EawStore.tells g.S.EawStore.opens c.args.root c.args.key v0 top.page top.level top.pairs.items c.requires.read c.requires.some c.requires.inner c.requires.reached;
+      came = came_first g.S.EawStore.tells V g.S.EawStore.calls c.args.key top.page top.level top.pairs.items c.args.pages.now.store (omega (arith, c.requires.read.inside));
+    }
 
 pub loop-node-preserved : goal.loop-node-preserved
 loop-node-preserved g c =
@@ -8,7 +25,26 @@ loop-node-preserved g c =
     let v0 = pages_of (V c.args.pages.now.store) c.args.pages.now in
     let v1 = pages_of (V c.loop-node.pages.store) c.loop-node.pages in
     let v2 = pages_of (V c.fetch_child.new.pages.store) c.fetch_child.new.pages in
+    let top = c.args.top in
     let at = c.loop-node.node in
     let child = c.in-Ok.child in
-    comes_down g.S.EawStore.tells g.S.EawStore.opens c.args.root c.args.key v0 v1 at.page at.level at.pairs.items c.loop-node.invariant v2 c.in-Ok.ensures.looks child.page child.level child.pairs.items
-    c.in-Ok.ensures.child c.in-Ok.ensures.level c.in-Ok.ensures.read c.in-Ok.ensures.some c.in-Ok.ensures.pairs c.loop-node-test.true
+    let inner : c.loop-node.node.level ≢ 0 = λ e. omega (arith, e, c.loop-node-test.true) in
+    record {
+      comes = comes_down g.S.EawStore.tells g.S.EawStore.opens c.args.root c.args.key v0 v1 at.page at.level at.pairs.items c.loop-node.invariant.comes v2 c.in-Ok.ensures.looks child.page child.level child.pairs.items
+          c.in-Ok.ensures.child c.in-Ok.ensures.level c.in-Ok.ensures.read c.in-Ok.ensures.some c.in-Ok.ensures.pairs c.loop-node-test.true;
+      came = came_child g.S.EawStore.tells V g.S.EawStore.calls c.args.key top.page top.level top.pairs.items c.args.pages.now.store c.loop-node.pages.store c.fetch_child.new.pages.store at.page at.level at.pairs.items c.loop-node.invariant.came inner
+          child c.in-Ok.ensures.reads c.in-Ok.ensures.looks.shape c.in-Ok.ensures.child c.in-Ok.ensures.level;
+    }
+
+pub returns-in-Err-clause-fails : goal.returns-in-Err-clause-fails
+returns-in-Err-clause-fails g c =
+    let top = c.args.top in
+    let at = c.loop-node.node in
+    let inner : c.loop-node.node.level ≢ 0 = λ e. omega (arith, e, c.loop-node-test.true) in
+    came_fails g.S.EawStore.tells g.S.EawStore.view g.S.EawStore.calls c.args.key top.page top.level top.pairs.items c.args.pages.now.store c.loop-node.pages.store c.fetch_child.new.pages.store at.page at.level at.pairs.items c.loop-node.invariant.came inner
+    c.in-Err.fault c.in-Err.ensures.reads
+
+pub returns-in-Err-clause-looks : goal.returns-in-Err-clause-looks
+returns-in-Err-clause-looks g c =
+    let r : Result Node PageFault = Err c.in-Err.fault in
+    looks_next g.S.EawStore.tells g.S.EawStore.opens (is_failed r) (pages_of (g.S.EawStore.view c.args.pages.now.store) c.args.pages.now) (pages_of (g.S.EawStore.view c.loop-node.pages.store) c.loop-node.pages) (pages_of (g.S.EawStore.view c.fetch_child.new.pages.store) c.fetch_child.new.pages) c.loop-node.invariant.comes.looks c.in-Err.ensures.looks

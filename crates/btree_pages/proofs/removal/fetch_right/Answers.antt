@@ -8,6 +8,8 @@ use Rattle.btree_pages.specs.Node.{IsNode}
 use Rattle.btree_pages.specs.Trees.{whole_of}
 use Rattle.btree_pages.specs.declared.node.Node.{Node}
 use Rattle.btree_pages.proofs.Righting.{entry_given, right_is}
+use Rattle.page_store.specs.Shown.{pages_of}
+use Rattle.index_pages.proofs.Looking.{looks_none}
 use Rattle.btree_pages.proofs.removal.fetch_right.Goals as goal
 
 pub returns-then-page-eq0-clause-cause : goal.returns-then-page-eq0-clause-cause
@@ -65,3 +67,11 @@ returns-then-right-ne0-clause-cause g c = (
       let r = right_is c.args.root view.state.bytes c.args.key fits (c.requires.sound told) (c.requires.named told) parent.page parent.level parent.pairs.items c.requires.level (c.requires.reached told) (get_or c.as_slice.result.now c.args.place (0, 0)).1 is some in
       c.if-right-ne0.true (c.in-Ok.ensures.level told ∙ r.bottom),
 )
+
+pub returns-then-page-eq0-clause-looks : goal.returns-then-page-eq0-clause-looks
+returns-then-page-eq0-clause-looks g c =
+    looks_none g.S.EawStore.tells (g.S.EawStore.opens (g.S.EawStore.view c.args.pages.now.store).shape) (pages_of (g.S.EawStore.view c.args.pages.now.store) c.args.pages.now)
+
+pub returns-then-page-from-clause-looks : goal.returns-then-page-from-clause-looks
+returns-then-page-from-clause-looks g c =
+    looks_none g.S.EawStore.tells (g.S.EawStore.opens (g.S.EawStore.view c.args.pages.now.store).shape) (pages_of (g.S.EawStore.view c.args.pages.now.store) c.args.pages.now)

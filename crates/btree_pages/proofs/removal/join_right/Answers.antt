@@ -1,6 +1,6 @@
-use Rattle.std.proofs.Common.{◌≡◌, ◌≢◌, ◌<◌, ◌^◌, ℕ, Bool, true, List, Option, Some, Result, Ok, Err, ◌∙◌, ap, subst, arith}
+use Rattle.std.proofs.Common.{◌≡◌, ◌≢◌, ◌<◌, ◌^◌, ℕ, Bool, true, List, Option, Some, Result, Ok, Err, ◌∙◌, ap, subst, arith, false, [], ◌∷◌, None, IsTrue, refl, sym}
 use Rattle.array_shape.specs.declared.shape.Shape.{Shape}
-use Rattle.page_store.specs.Index.{IsTable, index_pages_of}
+use Rattle.page_store.specs.Index.{IsTable, index_pages_of, Action}
 use Rattle.page_store.specs.Pairs.{Pair, found}
 use Rattle.page_store.specs.Shown.{pages_of}
 use Rattle.page_store.specs.declared.fault.PageFault.{PageFault}
@@ -8,16 +8,25 @@ use Rattle.index_pages.specs.Acts.{Acts}
 use Rattle.index_pages.specs.Page.{page_pairs, count_of}
 use Rattle.index_pages.proofs.Faulting.{dead_look}
 use Rattle.index_pages.proofs.Removals.{removes_then, removes_look_err, removes_damaged}
-use Rattle.btree_laws.specs.Removals.{without_right}
+use Rattle.btree_laws.specs.Removals.{without_right, right_of}
 use Rattle.btree_laws.specs.Tree.{pairs_of_tree}
-use Rattle.btree_pages.specs.Index.{tree, AreSoundTrees}
+use Rattle.btree_pages.specs.Index.{tree, AreSoundTrees, tree_removal}
 use Rattle.btree_pages.specs.OnWay.{IsReached}
 use Rattle.btree_pages.specs.Writes.{IsRead, Releases, joining_pages, joining_parts}
 use Rattle.btree_pages.specs.declared.node.Node.{Node}
-use Rattle.btree_pages.proofs.Ending.{join_done, join_err}
+use Rattle.btree_pages.proofs.Ending.{join_done, join_err, join_takes_told}
 use Rattle.btree_pages.proofs.Giveable.{right_may}
-use Rattle.btree_pages.proofs.Looked.{still_told, still_alive, still_shaped}
+use Rattle.btree_pages.proofs.Looked.{still_told, still_alive, still_shaped, bytes_same}
 use Rattle.btree_pages.proofs.Nexting.{error_is}
+use Rattle.eaw_face.specs.StoreView.{log_len}
+use Rattle.page_store.specs.Runs.{acting_of}
+use Rattle.page_store.specs.Works.{blamed, removal_actions, WorksFrom}
+use Rattle.array_shape.specs.Places.{page_count}
+use Rattle.page_store.specs.Course.{Reading}
+use Rattle.page_store.specs.Follows.{HasRead}
+use Rattle.btree_pages.specs.Downward.{below}
+use Rattle.btree_pages.specs.Steps.{limits_down}
+use Rattle.btree_pages.proofs.Removing.{joining_in, act_blames_none, act_beside, beside_bad, beside_fails}
 use Rattle.btree_pages.proofs.removal.join_right.Goals as goal
 
 pub returns-in-Err-clause-removes : goal.returns-in-Err-clause-removes
@@ -107,3 +116,101 @@ returns-in-Err-join_leaves-clause-removes g c =
     (subst (λ (x : ℕ × List Pair). Acts T (E v1.store.shape) c.args.tid (joining_pages (index_pages_of v1.store.shape) c.args.slot.now.number c.args.leaf c.args.parent.page x.0)
     (joining_parts (index_pages_of v1.store.shape) c.in-Some.freed.front c.args.slot.now.number c.args.slot.now.free c.args.leaf c.in-Ok.right.pairs.items c.args.parent.page x.1 x.0 c.in-Some.freed.free) v1 v2 acted)
     (λ i. (c.in-Some.ensures.gives.0 i, left i)) c.in-Err-join_leaves.ensures.acts))
+
+pub returns-in-Err-clause-works : goal.returns-in-Err-clause-works
+returns-in-Err-clause-works g c =
+    let V = g.S.EawStore.view in
+    let v0 = pages_of (V c.args.pages.now.store) c.args.pages.now in
+    let v1 = pages_of (V c.fetch_right.new.pages.store) c.fetch_right.new.pages in
+    let named = right_of c.args.parent.pairs.items c.args.key in
+    let due = removal_actions (tree_removal v0.store.state.bytes c.args.root.page c.args.key) in
+    beside_fails g.S.EawStore.tells V g.S.EawStore.calls c.args.tid c.args.key c.args.parent.page named due c.args.pages.now.store (g.S.EawStore.calls c.fetch_right.new.pages.store) v1.store c.in-Err.fault (omega (arith, c.requires.parent.inside)) c.in-Err.ensures.reads
+
+pub returns-in_default-clause-works : goal.returns-in_default-clause-works
+returns-in_default-clause-works g c =
+    let V = g.S.EawStore.view in
+    let v0 = pages_of (V c.args.pages.now.store) c.args.pages.now in
+    let v1 = pages_of (V c.fetch_right.new.pages.store) c.fetch_right.new.pages in
+    let named = right_of c.args.parent.pairs.items c.args.key in
+    let due = removal_actions (tree_removal v0.store.state.bytes c.args.root.page c.args.key) in
+    let reads = subst (λ (rs : List Reading). HasRead g.S.EawStore.tells false (g.S.EawStore.calls c.args.pages.now.store) (g.S.EawStore.calls c.fetch_right.new.pages.store) v0.store v1.store rs) c.in-Ok.ensures.reads.says.1 c.in-Ok.ensures.reads.reads in
+    let there : right_of c.args.parent.pairs.items c.args.key < page_count v0.store.shape = omega (arith, c.in-Ok.ensures.page, c.in-Ok.ensures.read.inside) in
+    subst (λ (p : ℕ). WorksFrom (c.args.parent.page ∷ []) (Unit {0}) g.S.EawStore.tells false V g.S.EawStore.calls c.args.tid (below c.args.key 0 []) (limits_down 0) due (Some p) v0.store v1.store) (sym c.in-Ok.ensures.page)
+    (beside_bad g.S.EawStore.tells V g.S.EawStore.calls c.args.tid c.args.key c.args.parent.page named due c.args.pages.now.store (g.S.EawStore.calls c.fetch_right.new.pages.store) v1.store c.in-Ok.ensures.reads.says.0 there reads)
+
+pub returns-in-Ok-join_leaves-clause-works : goal.returns-in-Ok-join_leaves-clause-works
+returns-in-Ok-join_leaves-clause-works g c =
+    let V = g.S.EawStore.view in
+    let v0 = pages_of (V c.args.pages.now.store) c.args.pages.now in
+    let v1 = pages_of (V c.fetch_right.new.pages.store) c.fetch_right.new.pages in
+    let named = right_of c.args.parent.pairs.items c.args.key in
+    let due = removal_actions (tree_removal v0.store.state.bytes c.args.root.page c.args.key) in
+    let reads = subst (λ (rs : List Reading). HasRead g.S.EawStore.tells false (g.S.EawStore.calls c.args.pages.now.store) (g.S.EawStore.calls c.fetch_right.new.pages.store) v0.store v1.store rs) c.in-Ok.ensures.reads.says.1 c.in-Ok.ensures.reads.reads in
+    let v2 = pages_of (V c.join_leaves.new.pages.store) c.join_leaves.new.pages in
+    let fits : c.args.key < 2 ^ 64 = omega arith in
+    let looks = c.in-Ok.ensures.looks in
+    let right = c.in-Ok.right in
+    let freed = c.in-Some.freed in
+    let gives = c.in-Some.ensures.gives in
+    let T = g.S.EawStore.tells in
+    let E = g.S.EawStore.opens in
+    let half = index_pages_of v1.store.shape in
+    let slot = c.args.slot.now in
+    let parent = c.args.parent in
+    let mark = log_len v1.store c.args.tid in
+    let action : Action = record { pages = joining_pages half slot.number c.args.leaf parent.page freed.number; takes = 0 } in
+    let parts = joining_parts half freed.front slot.number slot.free c.args.leaf right.pairs.items parent.page c.without_place.result.items freed.number freed.free in
+    let is = λ (told : IsTrue g.S.EawStore.tells). (λ i. (let a : Action = record { pages = joining_pages half slot.number c.args.leaf parent.page (gives.0 i); takes = 0 } in a ∷ []))
+    ∙ ap removal_actions (sym (join_takes_told T E c.args.tid c.args.root c.args.key v1 fits (still_alive T (E v0.store.shape) v0 v1 looks c.requires.alive) (λ tell. g.met.S.EawStore.long c.fetch_right.new.pages.store tell)
+    (still_told T (E v0.store.shape) v0 v1 looks AreSoundTrees c.requires.sound) (still_told T (E v0.store.shape) v0 v1 looks (λ (b : List ℕ). IsTable b c.args.root.table c.args.root.page) c.requires.named)
+    slot.number slot.free slot.front (still_told T (E v0.store.shape) v0 v1 looks (λ (b : List ℕ). Releases b c.args.slot.now.number c.args.slot.now.free c.args.slot.now.front) c.requires.released) v2
+    (still_told T (E v0.store.shape) v0 v1 looks (λ (b : List ℕ). found (pairs_of_tree b c.args.root.page) c.args.key ≡ Some c.args.slot.now.number) c.requires.finds)
+    c.args.leaf parent.page parent.level parent.pairs.items c.requires.leaf_is (still_told T (E v0.store.shape) v0 v1 looks (λ (b : List ℕ). count_of b c.args.leaf ≡ 1) c.requires.alone)
+    (still_shaped T (E v0.store.shape) v0 v1 looks (λ (sh : Shape). IsRead sh c.args.parent.page c.args.parent.level c.args.parent.pairs.items) c.requires.parent) c.requires.level
+    (still_told T (E v0.store.shape) v0 v1 looks (λ (b : List ℕ). IsReached c.args.root b c.args.key c.args.parent.page c.args.parent.level c.args.parent.pairs.items) c.requires.reached)
+    right.page right.level c.in-Ok.ensures.page right.pairs.items (still_shaped T (E v0.store.shape) v0 v1 looks (λ (sh : Shape). IsRead sh c.in-Ok.right.page c.in-Ok.right.level c.in-Ok.right.pairs.items) c.in-Ok.ensures.read)
+    (still_told T (E v0.store.shape) v0 v1 looks (λ (b : List ℕ). c.in-Ok.right.pairs.items ≡ page_pairs b c.in-Ok.right.page) c.in-Ok.ensures.pairs)
+    freed.free freed.front gives.1 told))
+    ∙ ap (λ (b : List ℕ). removal_actions (tree_removal b c.args.root.page c.args.key)) (bytes_same T (E v0.store.shape) v0 v1 looks told) in
+    let r : Result (Unit {0}) PageFault = Ok tt in
+    act_beside g.S.EawStore.tells V g.S.EawStore.calls c.args.tid due (None) c.args.key (c.args.parent.page ∷ []) c.args.pages.now action (acting_of c.args.tid mark parts) (mark, parts, refl, joining_in half freed.front slot.number slot.free c.args.leaf right.pairs.items parent.page c.without_place.result.items freed.number freed.free) refl is
+    c.args.pages.now.store (g.S.EawStore.calls c.fetch_right.new.pages.store) named c.in-Ok.ensures.reads.says.0 r v1.store v2.store reads c.in-Ok-join_leaves.ensures.runs
+
+pub returns-in-Err-join_leaves-clause-works : goal.returns-in-Err-join_leaves-clause-works
+returns-in-Err-join_leaves-clause-works g c =
+    let V = g.S.EawStore.view in
+    let v0 = pages_of (V c.args.pages.now.store) c.args.pages.now in
+    let v1 = pages_of (V c.fetch_right.new.pages.store) c.fetch_right.new.pages in
+    let named = right_of c.args.parent.pairs.items c.args.key in
+    let due = removal_actions (tree_removal v0.store.state.bytes c.args.root.page c.args.key) in
+    let reads = subst (λ (rs : List Reading). HasRead g.S.EawStore.tells false (g.S.EawStore.calls c.args.pages.now.store) (g.S.EawStore.calls c.fetch_right.new.pages.store) v0.store v1.store rs) c.in-Ok.ensures.reads.says.1 c.in-Ok.ensures.reads.reads in
+    let v2 = pages_of (V c.join_leaves.new.pages.store) c.join_leaves.new.pages in
+    let fits : c.args.key < 2 ^ 64 = omega arith in
+    let looks = c.in-Ok.ensures.looks in
+    let right = c.in-Ok.right in
+    let freed = c.in-Some.freed in
+    let gives = c.in-Some.ensures.gives in
+    let T = g.S.EawStore.tells in
+    let E = g.S.EawStore.opens in
+    let half = index_pages_of v1.store.shape in
+    let slot = c.args.slot.now in
+    let parent = c.args.parent in
+    let mark = log_len v1.store c.args.tid in
+    let action : Action = record { pages = joining_pages half slot.number c.args.leaf parent.page freed.number; takes = 0 } in
+    let parts = joining_parts half freed.front slot.number slot.free c.args.leaf right.pairs.items parent.page c.without_place.result.items freed.number freed.free in
+    let is = λ (told : IsTrue g.S.EawStore.tells). (λ i. (let a : Action = record { pages = joining_pages half slot.number c.args.leaf parent.page (gives.0 i); takes = 0 } in a ∷ []))
+    ∙ ap removal_actions (sym (join_takes_told T E c.args.tid c.args.root c.args.key v1 fits (still_alive T (E v0.store.shape) v0 v1 looks c.requires.alive) (λ tell. g.met.S.EawStore.long c.fetch_right.new.pages.store tell)
+    (still_told T (E v0.store.shape) v0 v1 looks AreSoundTrees c.requires.sound) (still_told T (E v0.store.shape) v0 v1 looks (λ (b : List ℕ). IsTable b c.args.root.table c.args.root.page) c.requires.named)
+    slot.number slot.free slot.front (still_told T (E v0.store.shape) v0 v1 looks (λ (b : List ℕ). Releases b c.args.slot.now.number c.args.slot.now.free c.args.slot.now.front) c.requires.released) v2
+    (still_told T (E v0.store.shape) v0 v1 looks (λ (b : List ℕ). found (pairs_of_tree b c.args.root.page) c.args.key ≡ Some c.args.slot.now.number) c.requires.finds)
+    c.args.leaf parent.page parent.level parent.pairs.items c.requires.leaf_is (still_told T (E v0.store.shape) v0 v1 looks (λ (b : List ℕ). count_of b c.args.leaf ≡ 1) c.requires.alone)
+    (still_shaped T (E v0.store.shape) v0 v1 looks (λ (sh : Shape). IsRead sh c.args.parent.page c.args.parent.level c.args.parent.pairs.items) c.requires.parent) c.requires.level
+    (still_told T (E v0.store.shape) v0 v1 looks (λ (b : List ℕ). IsReached c.args.root b c.args.key c.args.parent.page c.args.parent.level c.args.parent.pairs.items) c.requires.reached)
+    right.page right.level c.in-Ok.ensures.page right.pairs.items (still_shaped T (E v0.store.shape) v0 v1 looks (λ (sh : Shape). IsRead sh c.in-Ok.right.page c.in-Ok.right.level c.in-Ok.right.pairs.items) c.in-Ok.ensures.read)
+    (still_told T (E v0.store.shape) v0 v1 looks (λ (b : List ℕ). c.in-Ok.right.pairs.items ≡ page_pairs b c.in-Ok.right.page) c.in-Ok.ensures.pairs)
+    freed.free freed.front gives.1 told))
+    ∙ ap (λ (b : List ℕ). removal_actions (tree_removal b c.args.root.page c.args.key)) (bytes_same T (E v0.store.shape) v0 v1 looks told) in
+    let r : Result (Unit {0}) PageFault = Err c.in-Err-join_leaves.fault in
+    let s : Result Bool PageFault = Err c.in-Err-join_leaves.fault in
+    act_beside g.S.EawStore.tells V g.S.EawStore.calls c.args.tid due (blamed s) c.args.key (c.args.parent.page ∷ []) c.args.pages.now action (acting_of c.args.tid mark parts) (mark, parts, refl, joining_in half freed.front slot.number slot.free c.args.leaf right.pairs.items parent.page c.without_place.result.items freed.number freed.free) (act_blames_none Bool v1.store c.args.tid (joining_pages half slot.number c.args.leaf parent.page freed.number) c.in-Err-join_leaves.fault c.in-Err-join_leaves.ensures.acts.cause) is
+    c.args.pages.now.store (g.S.EawStore.calls c.fetch_right.new.pages.store) named c.in-Ok.ensures.reads.says.0 r v1.store v2.store reads c.in-Err-join_leaves.ensures.runs

@@ -1,5 +1,5 @@
-use Rattle.std.proofs.Common.{◌≡◌, ◌<◌, ◌^◌, ℕ, List, Result, Ok, Err, subst, arith}
-use Rattle.page_store.specs.Index.{index_pages_of}
+use Rattle.std.proofs.Common.{◌≡◌, ◌<◌, ◌^◌, ℕ, List, Result, Ok, Err, subst, arith, Bool, false, [], ◌∷◌, None, Some, IsTrue, inl, refl, sym, ◌∙◌, ap}
+use Rattle.page_store.specs.Index.{index_pages_of, Action}
 use Rattle.page_store.specs.Pairs.{Pair}
 use Rattle.page_store.specs.Shown.{pages_of}
 use Rattle.page_store.specs.declared.fault.PageFault.{PageFault}
@@ -7,10 +7,16 @@ use Rattle.index_pages.specs.Acts.{Acts}
 use Rattle.index_pages.proofs.Looking.{looks_none}
 use Rattle.index_pages.proofs.Removals.{removes_damaged}
 use Rattle.btree_laws.specs.Removals.{without_last}
-use Rattle.btree_pages.specs.Index.{tree}
+use Rattle.btree_pages.specs.Index.{tree, tree_removal}
 use Rattle.btree_pages.specs.Writes.{leaving_pages, leaving_parts}
-use Rattle.btree_pages.proofs.Ending.{leave_done, leave_err}
+use Rattle.btree_pages.proofs.Ending.{leave_done, leave_err, leave_takes_told}
 use Rattle.btree_pages.proofs.Giveable.{leaf_may}
+use Rattle.eaw_face.specs.StoreView.{log_len}
+use Rattle.page_store.specs.Runs.{acting_of}
+use Rattle.page_store.specs.Works.{blamed, removal_actions}
+use Rattle.std.proofs.lemmas.Bool.{false≢true}
+use Rattle.array_shape.specs.Places.{page_count}
+use Rattle.btree_pages.proofs.Removing.{leaving_in, act_blames_none, ends_none, act_alone}
 use Rattle.btree_pages.proofs.removal.leave_parent.Goals as goal
 
 pub returns-in_default-clause-removes : goal.returns-in_default-clause-removes
@@ -61,3 +67,51 @@ returns-in-Err-clause-removes g c =
     (subst (λ (x : ℕ × List Pair). Acts T (E v0.store.shape) c.args.tid (leaving_pages (index_pages_of v0.store.shape) c.args.slot.now.number c.args.parent.page x.0)
     (leaving_parts (index_pages_of v0.store.shape) c.in-Some.freed.front c.args.slot.now.number c.args.slot.now.free c.args.parent.page x.1 x.0 c.in-Some.freed.free) v0 v1 acted)
     (λ i. (c.in-Some.ensures.gives.0 i, rest i)) c.in-Err.ensures.acts)
+
+pub returns-in_default-clause-works : goal.returns-in_default-clause-works
+returns-in_default-clause-works g c =
+    let V = g.S.EawStore.view in
+    let v0 = pages_of (V c.args.pages.now.store) c.args.pages.now in
+    let due = removal_actions (tree_removal v0.store.state.bytes c.args.root.page c.args.key) in
+    ends_none g.S.EawStore.tells V g.S.EawStore.calls c.args.tid due (Some c.args.leaf) false c.args.key (c.args.leaf ∷ []) v0.store (omega (arith, c.requires.leaf), inl refl) (λ told yes. absurd (false≢true yes))
+
+pub returns-in-Ok-clause-works : goal.returns-in-Ok-clause-works
+returns-in-Ok-clause-works g c =
+    let V = g.S.EawStore.view in
+    let v0 = pages_of (V c.args.pages.now.store) c.args.pages.now in
+    let due = removal_actions (tree_removal v0.store.state.bytes c.args.root.page c.args.key) in
+    let v1 = pages_of (V c.drop_leaf.new.pages.store) c.drop_leaf.new.pages in
+    let fits : c.args.key < 2 ^ 64 = omega arith in
+    let freed = c.in-Some.freed in
+    let gives = c.in-Some.ensures.gives in
+    let half = index_pages_of v0.store.shape in
+    let slot = c.args.slot.now in
+    let parent = c.args.parent in
+    let mark = log_len v0.store c.args.tid in
+    let action : Action = record { pages = leaving_pages half slot.number parent.page freed.number; takes = 0 } in
+    let parts = leaving_parts half freed.front slot.number slot.free parent.page c.without_end.result.items freed.number freed.free in
+    let is = λ (told : IsTrue g.S.EawStore.tells). (λ i. (let a : Action = record { pages = leaving_pages half slot.number parent.page (gives.0 i); takes = 0 } in a ∷ [])) ∙ ap removal_actions (sym (leave_takes_told g.S.EawStore.tells g.S.EawStore.opens c.args.tid c.args.root c.args.key v0 fits c.requires.alive (λ tell. g.met.S.EawStore.long c.args.pages.now.store tell) c.requires.sound c.requires.named
+    slot.number slot.free slot.front c.requires.released v1 c.requires.finds c.args.leaf parent.page parent.level parent.pairs.items c.requires.leaf_is c.requires.alone c.requires.parent c.requires.level c.requires.reached c.requires.last c.requires.several freed.free freed.front gives.1 told)) in
+    let r : Result (Unit {0}) PageFault = Ok tt in
+    act_alone g.S.EawStore.tells V g.S.EawStore.calls c.args.tid due (None) c.args.key (c.args.leaf ∷ []) c.args.pages.now action (acting_of c.args.tid mark parts) (mark, parts, refl, leaving_in half freed.front slot.number slot.free parent.page c.without_end.result.items freed.number freed.free) refl is r v0.store v1.store c.in-Ok.ensures.runs
+
+pub returns-in-Err-clause-works : goal.returns-in-Err-clause-works
+returns-in-Err-clause-works g c =
+    let V = g.S.EawStore.view in
+    let v0 = pages_of (V c.args.pages.now.store) c.args.pages.now in
+    let due = removal_actions (tree_removal v0.store.state.bytes c.args.root.page c.args.key) in
+    let v1 = pages_of (V c.drop_leaf.new.pages.store) c.drop_leaf.new.pages in
+    let fits : c.args.key < 2 ^ 64 = omega arith in
+    let freed = c.in-Some.freed in
+    let gives = c.in-Some.ensures.gives in
+    let half = index_pages_of v0.store.shape in
+    let slot = c.args.slot.now in
+    let parent = c.args.parent in
+    let mark = log_len v0.store c.args.tid in
+    let action : Action = record { pages = leaving_pages half slot.number parent.page freed.number; takes = 0 } in
+    let parts = leaving_parts half freed.front slot.number slot.free parent.page c.without_end.result.items freed.number freed.free in
+    let is = λ (told : IsTrue g.S.EawStore.tells). (λ i. (let a : Action = record { pages = leaving_pages half slot.number parent.page (gives.0 i); takes = 0 } in a ∷ [])) ∙ ap removal_actions (sym (leave_takes_told g.S.EawStore.tells g.S.EawStore.opens c.args.tid c.args.root c.args.key v0 fits c.requires.alive (λ tell. g.met.S.EawStore.long c.args.pages.now.store tell) c.requires.sound c.requires.named
+    slot.number slot.free slot.front c.requires.released v1 c.requires.finds c.args.leaf parent.page parent.level parent.pairs.items c.requires.leaf_is c.requires.alone c.requires.parent c.requires.level c.requires.reached c.requires.last c.requires.several freed.free freed.front gives.1 told)) in
+    let r : Result (Unit {0}) PageFault = Err c.in-Err.fault in
+    let s : Result Bool PageFault = Err c.in-Err.fault in
+    act_alone g.S.EawStore.tells V g.S.EawStore.calls c.args.tid due (blamed s) c.args.key (c.args.leaf ∷ []) c.args.pages.now action (acting_of c.args.tid mark parts) (mark, parts, refl, leaving_in half freed.front slot.number slot.free parent.page c.without_end.result.items freed.number freed.free) (act_blames_none Bool v0.store c.args.tid (leaving_pages half slot.number parent.page freed.number) c.in-Err.fault c.in-Err.ensures.acts.cause) is r v0.store v1.store c.in-Err.ensures.runs

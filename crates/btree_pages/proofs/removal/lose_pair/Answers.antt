@@ -1,10 +1,16 @@
-use Rattle.std.proofs.Common.{◌<◌, ◌^◌, arith}
-use Rattle.page_store.specs.Index.{index_pages_of}
+use Rattle.std.proofs.Common.{◌<◌, ◌^◌, arith, ◌≡◌, Bool, List, [], ◌∷◌, None, Result, Ok, Err, IsTrue, refl, sym, ap, ℕ}
+use Rattle.page_store.specs.Index.{index_pages_of, Action}
 use Rattle.page_store.specs.Shown.{pages_of}
-use Rattle.index_pages.specs.Giving.{removing_pages}
+use Rattle.index_pages.specs.Giving.{removing_pages, removing_parts}
 use Rattle.index_pages.proofs.Faulting.{dead_act}
-use Rattle.btree_pages.proofs.Ending.{lose_done, lose_err}
+use Rattle.btree_pages.proofs.Ending.{lose_done, lose_err, takes}
 use Rattle.btree_pages.proofs.Nexting.{no_error, error_is}
+use Rattle.eaw_face.specs.StoreView.{log_len}
+use Rattle.page_store.specs.Runs.{acting_of}
+use Rattle.page_store.specs.Works.{blamed, removal_actions}
+use Rattle.page_store.specs.declared.fault.PageFault.{PageFault}
+use Rattle.btree_pages.specs.Index.{tree_removal}
+use Rattle.btree_pages.proofs.Removing.{removing_in, act_blames_none, act_alone}
 use Rattle.btree_pages.proofs.removal.lose_pair.Goals as goal
 
 pub returns-in-Ok-clause-removes : goal.returns-in-Ok-clause-removes
@@ -34,3 +40,40 @@ pub returns-in-Err-clause-dead : goal.returns-in-Err-clause-dead
 returns-in-Err-clause-dead g c = λ told.
     let V = g.S.EawStore.view in
     dead_act (V c.args.pages.now.store) c.args.tid (removing_pages (index_pages_of (V c.args.pages.now.store).shape) c.args.slot.now.number c.args.leaf.page) c.in-Err.fault c.requires.alive (error_is _ _ told) c.in-Err.ensures.acts.cause
+
+pub returns-in-Ok-clause-works : goal.returns-in-Ok-clause-works
+returns-in-Ok-clause-works g c =
+    let V = g.S.EawStore.view in
+    let v0 = pages_of (V c.args.pages.now.store) c.args.pages.now in
+    let v1 = pages_of (V c.remove_pair.new.pages.store) c.remove_pair.new.pages in
+    let fits : c.args.key < 2 ^ 64 = omega arith in
+    let half = index_pages_of v0.store.shape in
+    let slot = c.args.slot.now in
+    let leaf = c.args.leaf in
+    let mark = log_len v0.store c.args.tid in
+    let action : Action = record { pages = removing_pages half slot.number leaf.page; takes = 0 } in
+    let parts = removing_parts half slot.front slot.number slot.free leaf.page 0 leaf.pairs.items c.args.key in
+    let due = removal_actions (tree_removal v0.store.state.bytes c.args.root.page c.args.key) in
+    let is = λ (told : IsTrue g.S.EawStore.tells). ap removal_actions (sym (takes g.S.EawStore.tells g.S.EawStore.opens c.args.tid c.args.root c.args.key v0 fits c.requires.alive (λ tell. g.met.S.EawStore.long c.args.pages.now.store tell) c.requires.sound c.requires.named
+    slot.number slot.free slot.front c.requires.released v1 leaf.page leaf.level leaf.pairs.items c.requires.leaf c.requires.bottom c.requires.reached c.requires.finds c.requires.more told)) in
+    let r : Result (Unit {0}) PageFault = Ok tt in
+    act_alone g.S.EawStore.tells V g.S.EawStore.calls c.args.tid due (None) c.args.key [] c.args.pages.now action (acting_of c.args.tid mark parts) (mark, parts, refl, removing_in half slot.front slot.number slot.free leaf.page 0 leaf.pairs.items c.args.key) refl is r v0.store v1.store c.in-Ok.ensures.runs
+
+pub returns-in-Err-clause-works : goal.returns-in-Err-clause-works
+returns-in-Err-clause-works g c =
+    let V = g.S.EawStore.view in
+    let v0 = pages_of (V c.args.pages.now.store) c.args.pages.now in
+    let v1 = pages_of (V c.remove_pair.new.pages.store) c.remove_pair.new.pages in
+    let fits : c.args.key < 2 ^ 64 = omega arith in
+    let half = index_pages_of v0.store.shape in
+    let slot = c.args.slot.now in
+    let leaf = c.args.leaf in
+    let mark = log_len v0.store c.args.tid in
+    let action : Action = record { pages = removing_pages half slot.number leaf.page; takes = 0 } in
+    let parts = removing_parts half slot.front slot.number slot.free leaf.page 0 leaf.pairs.items c.args.key in
+    let due = removal_actions (tree_removal v0.store.state.bytes c.args.root.page c.args.key) in
+    let is = λ (told : IsTrue g.S.EawStore.tells). ap removal_actions (sym (takes g.S.EawStore.tells g.S.EawStore.opens c.args.tid c.args.root c.args.key v0 fits c.requires.alive (λ tell. g.met.S.EawStore.long c.args.pages.now.store tell) c.requires.sound c.requires.named
+    slot.number slot.free slot.front c.requires.released v1 leaf.page leaf.level leaf.pairs.items c.requires.leaf c.requires.bottom c.requires.reached c.requires.finds c.requires.more told)) in
+    let r : Result (Unit {0}) PageFault = Err c.in-Err.fault in
+    let s : Result Bool PageFault = Err c.in-Err.fault in
+    act_alone g.S.EawStore.tells V g.S.EawStore.calls c.args.tid due (blamed s) c.args.key [] c.args.pages.now action (acting_of c.args.tid mark parts) (mark, parts, refl, removing_in half slot.front slot.number slot.free leaf.page 0 leaf.pairs.items c.args.key) (act_blames_none Bool v0.store c.args.tid (removing_pages half slot.number leaf.page) c.in-Err.fault c.in-Err.ensures.acts.cause) is r v0.store v1.store c.in-Err.ensures.runs

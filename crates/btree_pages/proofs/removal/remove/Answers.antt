@@ -1,6 +1,6 @@
-use Rattle.std.proofs.Common.{◌≡◌, ◌<◌, ◌^◌, ℕ, List, Option, Result, Err, false, refl, sym, ◌∙◌, ap, subst, arith}
+use Rattle.std.proofs.Common.{◌≡◌, ◌<◌, ◌^◌, ℕ, List, Option, Result, Err, false, refl, sym, ◌∙◌, ap, subst, arith, ◌≤◌, Bool, [], ◌∷◌, Some, IsTrue, inl, inr}
 use Rattle.std.proofs.lemmas.Bool.{false≢true}
-use Rattle.record_slots.specs.Places.{page_bytes}
+use Rattle.record_slots.specs.Places.{page_bytes, IsSuper}
 use Rattle.page_store.specs.Looks.{is_failed}
 use Rattle.page_store.specs.Shown.{pages_of}
 use Rattle.page_store.specs.declared.fault.PageFault.{PageFault}
@@ -10,13 +10,19 @@ use Rattle.index_pages.proofs.Looking.{looks_next}
 use Rattle.index_pages.proofs.Removals.{removes_then, removes_look_err, removes_damaged}
 use Rattle.index_pages.proofs.Sizes.{index_pages_are}
 use Rattle.index_pages.proofs.Tabled.{table_own}
-use Rattle.btree_pages.specs.Index.{tree}
+use Rattle.btree_pages.specs.Index.{tree, tree_removal}
 use Rattle.btree_pages.specs.Node.{IsNode}
 use Rattle.btree_pages.specs.Trees.{whole_of}
 use Rattle.btree_pages.specs.declared.node.Node.{Node}
 use Rattle.btree_pages.proofs.Arriving.{gives_back}
 use Rattle.btree_pages.proofs.Looked.{bytes_same}
 use Rattle.btree_pages.proofs.Standing.{root_node, root_reached, root_some}
+use Rattle.array_shape.specs.declared.shape.Shape.{Shape}
+use Rattle.array_shape.specs.Places.{page_count}
+use Rattle.page_store.specs.Works.{blamed, is_done, removal_actions, removal_limits}
+use Rattle.record_slots.specs.declared.super_page.Super.{Super}
+use Rattle.btree_pages.specs.Downward.{below, tree_finding}
+use Rattle.btree_pages.proofs.Removing.{blamed_as, ends_none, front_ends, goes_leaf, root_fails, root_then, root_two, super_fails}
 use Rattle.btree_pages.proofs.removal.remove.Goals as goal
 
 pub returns-then-not-is_index_page-clause-removes : goal.returns-then-not-is_index_page-clause-removes
@@ -133,3 +139,126 @@ returns-clause-removes g c =
     let alive = c.in-Ok.ensures.cause in
     let v3 = pages_of (V c.lose_pair.new.pages.store) c.lose_pair.new.pages in
     removes_then T E tree c.args.tid root.page key v0 v2 v3 looks alive c.lose_pair.result c.lose_pair.ensures.removes
+
+pub returns-in-Err-clause-works : goal.returns-in-Err-clause-works
+returns-in-Err-clause-works g c =
+    let V = g.S.EawStore.view in
+    let T = g.S.EawStore.tells in
+    let E = g.S.EawStore.opens in
+    let root = c.args.root in
+    let key = c.args.key in
+    let old = c.args.pages.now.store in
+    let one = c.fetch_super.new.pages.store in
+    let v0 = pages_of (V old) c.args.pages.now in
+    let v1 = pages_of (V one) c.fetch_super.new.pages in
+    let limits = removal_limits (tree_finding root.page key) v0.store.shape in
+    let due = removal_actions (tree_removal v0.store.state.bytes root.page key) in
+    let some : 0 < page_count v0.store.shape = omega (arith, c.index_page_count-count.ensures.some, c.index_page_count-count.ensures.all) in
+    let s : Result Bool PageFault = Err c.in-Err.fault in
+    super_fails g.S.EawStore.tells V g.S.EawStore.calls c.args.tid key root.page due (blamed s) limits (omega arith) old Super (IsSuper 1 v0.store.state.bytes) (g.S.EawStore.calls one) v1.store c.in-Err.ensures.reads.0 (page_bytes v0.store.state.bytes 0) c.in-Err.fault some (blamed_as Bool Super c.in-Err.fault) c.in-Err.ensures.cause c.in-Err.ensures.reads.1
+
+pub returns-then-not-is_index_page-clause-works : goal.returns-then-not-is_index_page-clause-works
+returns-then-not-is_index_page-clause-works g c =
+    let V = g.S.EawStore.view in
+    let T = g.S.EawStore.tells in
+    let E = g.S.EawStore.opens in
+    let root = c.args.root in
+    let key = c.args.key in
+    let old = c.args.pages.now.store in
+    let one = c.fetch_super.new.pages.store in
+    let v0 = pages_of (V old) c.args.pages.now in
+    let v1 = pages_of (V one) c.fetch_super.new.pages in
+    let limits = removal_limits (tree_finding root.page key) v0.store.shape in
+    let due = removal_actions (tree_removal v0.store.state.bytes root.page key) in
+    let some : 0 < page_count v0.store.shape = omega (arith, c.index_page_count-count.ensures.some, c.index_page_count-count.ensures.all) in
+    front_ends g.S.EawStore.tells V g.S.EawStore.calls c.args.tid key root.page due (Some 0) limits (omega arith) old one c.in-Ok.ensures.reads.0 c.in-Ok.ensures.looks.shape c.in-Ok.ensures.reads.1 refl some
+
+pub returns-in-Err-fetch_node-clause-works : goal.returns-in-Err-fetch_node-clause-works
+returns-in-Err-fetch_node-clause-works g c =
+    let V = g.S.EawStore.view in
+    let T = g.S.EawStore.tells in
+    let E = g.S.EawStore.opens in
+    let root = c.args.root in
+    let key = c.args.key in
+    let old = c.args.pages.now.store in
+    let one = c.fetch_super.new.pages.store in
+    let v0 = pages_of (V old) c.args.pages.now in
+    let v1 = pages_of (V one) c.fetch_super.new.pages in
+    let limits = removal_limits (tree_finding root.page key) v0.store.shape in
+    let due = removal_actions (tree_removal v0.store.state.bytes root.page key) in
+    let some : 0 < page_count v0.store.shape = omega (arith, c.index_page_count-count.ensures.some, c.index_page_count-count.ensures.all) in
+    let s : Result Bool PageFault = Err c.in-Err-fetch_node.fault in
+    let good = c.if-not-is_index_page.ensures.0 refl in
+    let there : c.args.root.page < page_count v0.store.shape = omega (arith, good.1, c.index_page_count-count.ensures.all) in
+    root_fails g.S.EawStore.tells V g.S.EawStore.calls c.args.tid key root.page due (blamed s) limits (omega arith) old one c.in-Ok.ensures.reads.0 c.in-Ok.ensures.looks.shape c.in-Ok.ensures.reads.1 (IsNode (page_bytes v1.store.state.bytes root.page)) (g.S.EawStore.calls c.fetch_node.new.pages.store) (V c.fetch_node.new.pages.store) c.in-Err-fetch_node.ensures.reads.0 (page_bytes v1.store.state.bytes root.page) c.in-Err-fetch_node.fault
+    there (omega arith) (blamed_as Bool Node c.in-Err-fetch_node.fault) c.in-Err-fetch_node.ensures.cause c.in-Err-fetch_node.ensures.reads.1
+
+pub returns-then-top-gt0-clause-works : goal.returns-then-top-gt0-clause-works
+returns-then-top-gt0-clause-works g c =
+    let V = g.S.EawStore.view in
+    let T = g.S.EawStore.tells in
+    let E = g.S.EawStore.opens in
+    let root = c.args.root in
+    let key = c.args.key in
+    let old = c.args.pages.now.store in
+    let one = c.fetch_super.new.pages.store in
+    let v0 = pages_of (V old) c.args.pages.now in
+    let v1 = pages_of (V one) c.fetch_super.new.pages in
+    let limits = removal_limits (tree_finding root.page key) v0.store.shape in
+    let due = removal_actions (tree_removal v0.store.state.bytes root.page key) in
+    let some : 0 < page_count v0.store.shape = omega (arith, c.index_page_count-count.ensures.some, c.index_page_count-count.ensures.all) in
+    let v2 = pages_of (V c.fetch_node.new.pages.store) c.fetch_node.new.pages in
+    let top = c.in-Ok-fetch_node.top in
+    let looks = looks_next T E false v0 v1 v2 c.in-Ok.ensures.looks c.in-Ok-fetch_node.ensures.looks in
+    let same = λ (told : IsTrue g.S.EawStore.tells). ap (λ (b : List ℕ). removal_actions (tree_removal b c.args.root.page c.args.key)) (bytes_same g.S.EawStore.tells (g.S.EawStore.opens v0.store.shape) v0 v2 looks told) in
+    let due2 = removal_actions (tree_removal v2.store.state.bytes root.page key) in
+    root_then g.S.EawStore.tells V g.S.EawStore.calls c.args.tid key root.page due (blamed c.remove_below.result) limits (omega arith) old one c.in-Ok.ensures.reads.0 c.in-Ok.ensures.looks.shape c.in-Ok.ensures.reads.1 c.fetch_node.new.pages.store (V c.remove_below.new.pages.store) c.in-Ok-fetch_node.ensures.reads.0 c.in-Ok-fetch_node.ensures.looks.shape c.in-Ok-fetch_node.ensures.reads.1 top.level top.pairs.items (c.in-Ok-fetch_node.ensures.reads.2.level) c.in-Ok-fetch_node.ensures.reads.2.pairs
+    (is_done c.remove_below.result) (below key top.level top.pairs.items) refl (omega (arith, c.in-Ok-fetch_node.ensures.read.level_most)) (omega arith) (omega arith) due2 same (0 ∷ top.page ∷ []) (λ p among. root_two p top.page root.page c.in-Ok-fetch_node.ensures.page among) (c.remove_below.ensures.works)
+
+pub returns-in_default-clause-works : goal.returns-in_default-clause-works
+returns-in_default-clause-works g c =
+    let V = g.S.EawStore.view in
+    let T = g.S.EawStore.tells in
+    let E = g.S.EawStore.opens in
+    let root = c.args.root in
+    let key = c.args.key in
+    let old = c.args.pages.now.store in
+    let one = c.fetch_super.new.pages.store in
+    let v0 = pages_of (V old) c.args.pages.now in
+    let v1 = pages_of (V one) c.fetch_super.new.pages in
+    let limits = removal_limits (tree_finding root.page key) v0.store.shape in
+    let due = removal_actions (tree_removal v0.store.state.bytes root.page key) in
+    let some : 0 < page_count v0.store.shape = omega (arith, c.index_page_count-count.ensures.some, c.index_page_count-count.ensures.all) in
+    let v2 = pages_of (V c.fetch_node.new.pages.store) c.fetch_node.new.pages in
+    let top = c.in-Ok-fetch_node.top in
+    let looks = looks_next T E false v0 v1 v2 c.in-Ok.ensures.looks c.in-Ok-fetch_node.ensures.looks in
+    let same = λ (told : IsTrue g.S.EawStore.tells). ap (λ (b : List ℕ). removal_actions (tree_removal b c.args.root.page c.args.key)) (bytes_same g.S.EawStore.tells (g.S.EawStore.opens v0.store.shape) v0 v2 looks told) in
+    let due2 = removal_actions (tree_removal v2.store.state.bytes root.page key) in
+    let bottom : c.in-Ok-fetch_node.top.level ≡ 0 = omega (arith, c.if-top-gt0.false) in
+    let good = c.if-not-is_index_page.ensures.0 refl in
+    let there_now : c.in-Ok-fetch_node.top.page < page_count v2.store.shape = subst (λ (sh : Shape). c.in-Ok-fetch_node.top.page < page_count sh) (sym looks.shape) (omega (arith, good.1, c.in-Ok-fetch_node.ensures.page, c.index_page_count-count.ensures.all)) in
+    root_then g.S.EawStore.tells V g.S.EawStore.calls c.args.tid key root.page due (Some top.page) limits (omega arith) old one c.in-Ok.ensures.reads.0 c.in-Ok.ensures.looks.shape c.in-Ok.ensures.reads.1 c.fetch_node.new.pages.store (V c.fetch_node.new.pages.store) c.in-Ok-fetch_node.ensures.reads.0 c.in-Ok-fetch_node.ensures.looks.shape c.in-Ok-fetch_node.ensures.reads.1 0 top.pairs.items (sym bottom ∙ c.in-Ok-fetch_node.ensures.reads.2.level) c.in-Ok-fetch_node.ensures.reads.2.pairs
+    (false) (below key 0 []) (goes_leaf key top.pairs.items) (omega arith) (omega arith) (omega arith) due (λ told. refl) (top.page ∷ []) (λ p among. elim among [ inl is ↦ inr (is ∙ c.in-Ok-fetch_node.ensures.page) | inr none ↦ absurd none ]) (ends_none g.S.EawStore.tells V g.S.EawStore.calls c.args.tid due (Some top.page) false key (top.page ∷ []) v2.store (there_now, inl refl) (λ told yes. absurd (false≢true yes)))
+
+pub returns-clause-works : goal.returns-clause-works
+returns-clause-works g c =
+    let V = g.S.EawStore.view in
+    let T = g.S.EawStore.tells in
+    let E = g.S.EawStore.opens in
+    let root = c.args.root in
+    let key = c.args.key in
+    let old = c.args.pages.now.store in
+    let one = c.fetch_super.new.pages.store in
+    let v0 = pages_of (V old) c.args.pages.now in
+    let v1 = pages_of (V one) c.fetch_super.new.pages in
+    let limits = removal_limits (tree_finding root.page key) v0.store.shape in
+    let due = removal_actions (tree_removal v0.store.state.bytes root.page key) in
+    let some : 0 < page_count v0.store.shape = omega (arith, c.index_page_count-count.ensures.some, c.index_page_count-count.ensures.all) in
+    let v2 = pages_of (V c.fetch_node.new.pages.store) c.fetch_node.new.pages in
+    let top = c.in-Ok-fetch_node.top in
+    let looks = looks_next T E false v0 v1 v2 c.in-Ok.ensures.looks c.in-Ok-fetch_node.ensures.looks in
+    let same = λ (told : IsTrue g.S.EawStore.tells). ap (λ (b : List ℕ). removal_actions (tree_removal b c.args.root.page c.args.key)) (bytes_same g.S.EawStore.tells (g.S.EawStore.opens v0.store.shape) v0 v2 looks told) in
+    let due2 = removal_actions (tree_removal v2.store.state.bytes root.page key) in
+    let bottom : c.in-Ok-fetch_node.top.level ≡ 0 = omega (arith, c.if-top-gt0.false) in
+    root_then g.S.EawStore.tells V g.S.EawStore.calls c.args.tid key root.page due (blamed c.lose_pair.result) limits (omega arith) old one c.in-Ok.ensures.reads.0 c.in-Ok.ensures.looks.shape c.in-Ok.ensures.reads.1 c.fetch_node.new.pages.store (V c.lose_pair.new.pages.store) c.in-Ok-fetch_node.ensures.reads.0 c.in-Ok-fetch_node.ensures.looks.shape c.in-Ok-fetch_node.ensures.reads.1 0 top.pairs.items (sym bottom ∙ c.in-Ok-fetch_node.ensures.reads.2.level) c.in-Ok-fetch_node.ensures.reads.2.pairs
+    (is_done c.lose_pair.result) (below key 0 []) (goes_leaf key top.pairs.items) (omega arith) (omega arith) (omega arith) due2 same [] (λ p among. absurd among) (c.lose_pair.ensures.works)

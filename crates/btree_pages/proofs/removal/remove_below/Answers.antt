@@ -1,8 +1,17 @@
-use Rattle.std.proofs.Common.{◌<◌, ◌≤◌, ◌^◌, ℕ, length, Option, ◌∙◌, ap, arith}
+use Rattle.std.proofs.Common.{◌<◌, ◌≤◌, ◌^◌, ℕ, length, Option, ◌∙◌, ap, arith, ◌≡◌, ◌≢◌, Bool, true, false, List, [], ◌∷◌, None, Some, Result, Err, IsTrue, inl, inr, refl, subst, sym}
 use Rattle.page_store.specs.Shown.{pages_of}
-use Rattle.index_pages.proofs.Removals.{removes_then, removes_none, removes_damaged}
-use Rattle.btree_pages.specs.Index.{tree}
+use Rattle.index_pages.proofs.Removals.{removes_then, removes_none, removes_damaged, removes_look_err}
+use Rattle.btree_pages.specs.Index.{tree, tree_removal}
 use Rattle.btree_pages.proofs.Arriving.{both_looks, leaf_now, found_now, alone_now, stays_here, leaf_gives}
+use Rattle.std.proofs.lemmas.Bool.{false≢true}
+use Rattle.array_shape.specs.Places.{page_count}
+use Rattle.page_store.specs.Works.{blamed, is_done, removal_actions}
+use Rattle.page_store.specs.declared.fault.PageFault.{PageFault}
+use Rattle.index_pages.proofs.Working.{onwards}
+use Rattle.btree_pages.proofs.Looked.{bytes_same}
+use Rattle.btree_pages.proofs.Removing.{blamed_as, came_child, came_fails, down_fails, down_then, ends_none, one_met}
+use Rattle.btree_pages.specs.declared.node.Node.{Node}
+use Rattle.array_shape.specs.declared.shape.Shape.{Shape}
 use Rattle.btree_pages.proofs.removal.remove_below.Goals as goal
 
 pub returns-in_default-clause-removes : goal.returns-in_default-clause-removes
@@ -207,3 +216,174 @@ returns-clause-removes g c =
     let few : length c.in-Ok-fetch_child.leaf.pairs.items ≤ 1 = omega (arith, c.len.ensures.value, c.if-len-gt1.false) in
     let only : length c.in-Ok.parent.pairs.items ≤ 1 = omega (arith, c.len-2.ensures.value, c.if-len-gt1-2.false) in
     removes_none T (E v0.store.shape) tree c.args.tid root.page key v0 v2 (both_looks T E root key fits v0 v1 v2 c.in-Ok.ensures.looks c.in-Ok-fetch_child.ensures.looks c.requires.sound c.requires.named parent.page parent.level parent.pairs.items c.in-Ok.ensures.level c.in-Ok.ensures.reached leaf.page leaf.level leaf.pairs.items c.in-Ok-fetch_child.ensures.child c.in-Ok-fetch_child.ensures.level c.in-Ok-fetch_child.ensures.pairs) c.requires.alive (stays_here T E root key fits v0 v1 v2 c.in-Ok.ensures.looks c.in-Ok-fetch_child.ensures.looks c.requires.sound c.requires.named parent.page parent.level parent.pairs.items c.in-Ok.ensures.level c.in-Ok.ensures.reached leaf.page leaf.level leaf.pairs.items c.in-Ok-fetch_child.ensures.child c.in-Ok-fetch_child.ensures.level c.in-Ok-fetch_child.ensures.pairs few only)
+
+pub returns-in-Err-clause-works : goal.returns-in-Err-clause-works
+returns-in-Err-clause-works g c =
+    let V = g.S.EawStore.view in
+    let T = g.S.EawStore.tells in
+    let E = g.S.EawStore.opens in
+    let root = c.args.root in
+    let key = c.args.key in
+    let top = c.args.top in
+    let old = c.args.pages.now.store in
+    let v0 = pages_of (V old) c.args.pages.now in
+    let v1 = pages_of (V c.fetch_parent.new.pages.store) c.fetch_parent.new.pages in
+    let due = removal_actions (tree_removal v0.store.state.bytes root.page key) in
+    let s : Result Bool PageFault = Err c.in-Err.fault in
+    down_fails g.S.EawStore.tells V g.S.EawStore.calls key top.page top.level top.pairs.items old c.args.tid due (blamed s) v1.store c.in-Err.fault (blamed_as Bool (Unit {0}) c.in-Err.fault) c.in-Err.ensures.fails
+
+pub returns-in-Err-fetch_child-clause-works : goal.returns-in-Err-fetch_child-clause-works
+returns-in-Err-fetch_child-clause-works g c =
+    let V = g.S.EawStore.view in
+    let T = g.S.EawStore.tells in
+    let E = g.S.EawStore.opens in
+    let root = c.args.root in
+    let key = c.args.key in
+    let top = c.args.top in
+    let old = c.args.pages.now.store in
+    let v0 = pages_of (V old) c.args.pages.now in
+    let v1 = pages_of (V c.fetch_parent.new.pages.store) c.fetch_parent.new.pages in
+    let due = removal_actions (tree_removal v0.store.state.bytes root.page key) in
+    let v2 = pages_of (V c.fetch_child.new.pages.store) c.fetch_child.new.pages in
+    let fits : c.args.key < 2 ^ 64 = omega arith in
+    let parent = c.in-Ok.parent in
+    let came = c.in-Ok.ensures.down in
+    let inner : c.in-Ok.parent.level ≢ 0 = λ e. omega (arith, e, c.in-Ok.ensures.level) in
+    let s : Result Bool PageFault = Err c.in-Err-fetch_child.fault in
+    down_fails g.S.EawStore.tells V g.S.EawStore.calls key top.page top.level top.pairs.items old c.args.tid due (blamed s) v2.store c.in-Err-fetch_child.fault (blamed_as Bool (Unit {0}) c.in-Err-fetch_child.fault)
+    (came_fails g.S.EawStore.tells V g.S.EawStore.calls key top.page top.level top.pairs.items old c.fetch_parent.new.pages.store c.fetch_child.new.pages.store parent.page parent.level parent.pairs.items came inner c.in-Err-fetch_child.fault c.in-Err-fetch_child.ensures.reads)
+
+pub returns-in_default-clause-works : goal.returns-in_default-clause-works
+returns-in_default-clause-works g c =
+    let V = g.S.EawStore.view in
+    let T = g.S.EawStore.tells in
+    let E = g.S.EawStore.opens in
+    let root = c.args.root in
+    let key = c.args.key in
+    let top = c.args.top in
+    let old = c.args.pages.now.store in
+    let v0 = pages_of (V old) c.args.pages.now in
+    let v1 = pages_of (V c.fetch_parent.new.pages.store) c.fetch_parent.new.pages in
+    let due = removal_actions (tree_removal v0.store.state.bytes root.page key) in
+    let v2 = pages_of (V c.fetch_child.new.pages.store) c.fetch_child.new.pages in
+    let fits : c.args.key < 2 ^ 64 = omega arith in
+    let parent = c.in-Ok.parent in
+    let came = c.in-Ok.ensures.down in
+    let inner : c.in-Ok.parent.level ≢ 0 = λ e. omega (arith, e, c.in-Ok.ensures.level) in
+    let leaf = c.in-Ok-fetch_child.leaf in
+    let here = came_child g.S.EawStore.tells V g.S.EawStore.calls key top.page top.level top.pairs.items old c.fetch_parent.new.pages.store c.fetch_child.new.pages.store parent.page parent.level parent.pairs.items came inner leaf c.in-Ok-fetch_child.ensures.reads c.in-Ok-fetch_child.ensures.looks.shape c.in-Ok-fetch_child.ensures.child c.in-Ok-fetch_child.ensures.level in
+    let looks = both_looks T E root key fits v0 v1 v2 c.in-Ok.ensures.looks c.in-Ok-fetch_child.ensures.looks c.requires.sound c.requires.named parent.page parent.level parent.pairs.items c.in-Ok.ensures.level c.in-Ok.ensures.reached leaf.page leaf.level leaf.pairs.items c.in-Ok-fetch_child.ensures.child c.in-Ok-fetch_child.ensures.level c.in-Ok-fetch_child.ensures.pairs in
+    let same = λ (told : IsTrue g.S.EawStore.tells). ap (λ (b : List ℕ). removal_actions (tree_removal b c.args.root.page c.args.key)) (bytes_same g.S.EawStore.tells (g.S.EawStore.opens v0.store.shape) v0 v2 looks told) in
+    let due2 = removal_actions (tree_removal v2.store.state.bytes root.page key) in
+    down_then g.S.EawStore.tells V g.S.EawStore.calls key top.page top.level top.pairs.items old c.args.tid due (Some leaf.page) (false) v2.store (v2.store) leaf.page leaf.level leaf.pairs.items here due (λ told. refl) (leaf.page ∷ []) (λ p among. one_met leaf.page top.page (onwards here.read) here.met p among) (ends_none g.S.EawStore.tells V g.S.EawStore.calls c.args.tid due (Some leaf.page) false key (leaf.page ∷ []) v2.store (subst (λ (sh : Shape). c.in-Ok-fetch_child.leaf.page < page_count sh) (sym c.in-Ok-fetch_child.ensures.looks.shape) (omega (arith, c.in-Ok-fetch_child.ensures.read.inside)), inl refl) (λ told yes. absurd (false≢true yes)))
+
+pub returns-then-len-gt1-clause-works : goal.returns-then-len-gt1-clause-works
+returns-then-len-gt1-clause-works g c =
+    let V = g.S.EawStore.view in
+    let T = g.S.EawStore.tells in
+    let E = g.S.EawStore.opens in
+    let root = c.args.root in
+    let key = c.args.key in
+    let top = c.args.top in
+    let old = c.args.pages.now.store in
+    let v0 = pages_of (V old) c.args.pages.now in
+    let v1 = pages_of (V c.fetch_parent.new.pages.store) c.fetch_parent.new.pages in
+    let due = removal_actions (tree_removal v0.store.state.bytes root.page key) in
+    let v2 = pages_of (V c.fetch_child.new.pages.store) c.fetch_child.new.pages in
+    let fits : c.args.key < 2 ^ 64 = omega arith in
+    let parent = c.in-Ok.parent in
+    let came = c.in-Ok.ensures.down in
+    let inner : c.in-Ok.parent.level ≢ 0 = λ e. omega (arith, e, c.in-Ok.ensures.level) in
+    let leaf = c.in-Ok-fetch_child.leaf in
+    let here = came_child g.S.EawStore.tells V g.S.EawStore.calls key top.page top.level top.pairs.items old c.fetch_parent.new.pages.store c.fetch_child.new.pages.store parent.page parent.level parent.pairs.items came inner leaf c.in-Ok-fetch_child.ensures.reads c.in-Ok-fetch_child.ensures.looks.shape c.in-Ok-fetch_child.ensures.child c.in-Ok-fetch_child.ensures.level in
+    let looks = both_looks T E root key fits v0 v1 v2 c.in-Ok.ensures.looks c.in-Ok-fetch_child.ensures.looks c.requires.sound c.requires.named parent.page parent.level parent.pairs.items c.in-Ok.ensures.level c.in-Ok.ensures.reached leaf.page leaf.level leaf.pairs.items c.in-Ok-fetch_child.ensures.child c.in-Ok-fetch_child.ensures.level c.in-Ok-fetch_child.ensures.pairs in
+    let same = λ (told : IsTrue g.S.EawStore.tells). ap (λ (b : List ℕ). removal_actions (tree_removal b c.args.root.page c.args.key)) (bytes_same g.S.EawStore.tells (g.S.EawStore.opens v0.store.shape) v0 v2 looks told) in
+    let due2 = removal_actions (tree_removal v2.store.state.bytes root.page key) in
+    down_then g.S.EawStore.tells V g.S.EawStore.calls key top.page top.level top.pairs.items old c.args.tid due (blamed c.lose_pair.result) (is_done c.lose_pair.result) v2.store (V c.lose_pair.new.pages.store) leaf.page leaf.level leaf.pairs.items here due2 same [] (λ p among. absurd among) (c.lose_pair.ensures.works)
+
+pub returns-in-Some-place_behind-clause-works : goal.returns-in-Some-place_behind-clause-works
+returns-in-Some-place_behind-clause-works g c =
+    let V = g.S.EawStore.view in
+    let T = g.S.EawStore.tells in
+    let E = g.S.EawStore.opens in
+    let root = c.args.root in
+    let key = c.args.key in
+    let top = c.args.top in
+    let old = c.args.pages.now.store in
+    let v0 = pages_of (V old) c.args.pages.now in
+    let v1 = pages_of (V c.fetch_parent.new.pages.store) c.fetch_parent.new.pages in
+    let due = removal_actions (tree_removal v0.store.state.bytes root.page key) in
+    let v2 = pages_of (V c.fetch_child.new.pages.store) c.fetch_child.new.pages in
+    let fits : c.args.key < 2 ^ 64 = omega arith in
+    let parent = c.in-Ok.parent in
+    let came = c.in-Ok.ensures.down in
+    let inner : c.in-Ok.parent.level ≢ 0 = λ e. omega (arith, e, c.in-Ok.ensures.level) in
+    let leaf = c.in-Ok-fetch_child.leaf in
+    let here = came_child g.S.EawStore.tells V g.S.EawStore.calls key top.page top.level top.pairs.items old c.fetch_parent.new.pages.store c.fetch_child.new.pages.store parent.page parent.level parent.pairs.items came inner leaf c.in-Ok-fetch_child.ensures.reads c.in-Ok-fetch_child.ensures.looks.shape c.in-Ok-fetch_child.ensures.child c.in-Ok-fetch_child.ensures.level in
+    let looks = both_looks T E root key fits v0 v1 v2 c.in-Ok.ensures.looks c.in-Ok-fetch_child.ensures.looks c.requires.sound c.requires.named parent.page parent.level parent.pairs.items c.in-Ok.ensures.level c.in-Ok.ensures.reached leaf.page leaf.level leaf.pairs.items c.in-Ok-fetch_child.ensures.child c.in-Ok-fetch_child.ensures.level c.in-Ok-fetch_child.ensures.pairs in
+    let same = λ (told : IsTrue g.S.EawStore.tells). ap (λ (b : List ℕ). removal_actions (tree_removal b c.args.root.page c.args.key)) (bytes_same g.S.EawStore.tells (g.S.EawStore.opens v0.store.shape) v0 v2 looks told) in
+    let due2 = removal_actions (tree_removal v2.store.state.bytes root.page key) in
+    down_then g.S.EawStore.tells V g.S.EawStore.calls key top.page top.level top.pairs.items old c.args.tid due (blamed c.join_right.result) (is_done c.join_right.result) v2.store (V c.join_right.new.pages.store) leaf.page leaf.level leaf.pairs.items here due2 same (parent.page ∷ []) (λ p among. one_met parent.page top.page (onwards here.read) (elim came.met [ inl e ↦ inl e | inr met ↦ inr (inr met) ]) p among) (c.join_right.ensures.works)
+
+pub returns-then-len-gt1-2-clause-works : goal.returns-then-len-gt1-2-clause-works
+returns-then-len-gt1-2-clause-works g c =
+    let V = g.S.EawStore.view in
+    let T = g.S.EawStore.tells in
+    let E = g.S.EawStore.opens in
+    let root = c.args.root in
+    let key = c.args.key in
+    let top = c.args.top in
+    let old = c.args.pages.now.store in
+    let v0 = pages_of (V old) c.args.pages.now in
+    let v1 = pages_of (V c.fetch_parent.new.pages.store) c.fetch_parent.new.pages in
+    let due = removal_actions (tree_removal v0.store.state.bytes root.page key) in
+    let v2 = pages_of (V c.fetch_child.new.pages.store) c.fetch_child.new.pages in
+    let fits : c.args.key < 2 ^ 64 = omega arith in
+    let parent = c.in-Ok.parent in
+    let came = c.in-Ok.ensures.down in
+    let inner : c.in-Ok.parent.level ≢ 0 = λ e. omega (arith, e, c.in-Ok.ensures.level) in
+    let leaf = c.in-Ok-fetch_child.leaf in
+    let here = came_child g.S.EawStore.tells V g.S.EawStore.calls key top.page top.level top.pairs.items old c.fetch_parent.new.pages.store c.fetch_child.new.pages.store parent.page parent.level parent.pairs.items came inner leaf c.in-Ok-fetch_child.ensures.reads c.in-Ok-fetch_child.ensures.looks.shape c.in-Ok-fetch_child.ensures.child c.in-Ok-fetch_child.ensures.level in
+    let looks = both_looks T E root key fits v0 v1 v2 c.in-Ok.ensures.looks c.in-Ok-fetch_child.ensures.looks c.requires.sound c.requires.named parent.page parent.level parent.pairs.items c.in-Ok.ensures.level c.in-Ok.ensures.reached leaf.page leaf.level leaf.pairs.items c.in-Ok-fetch_child.ensures.child c.in-Ok-fetch_child.ensures.level c.in-Ok-fetch_child.ensures.pairs in
+    let same = λ (told : IsTrue g.S.EawStore.tells). ap (λ (b : List ℕ). removal_actions (tree_removal b c.args.root.page c.args.key)) (bytes_same g.S.EawStore.tells (g.S.EawStore.opens v0.store.shape) v0 v2 looks told) in
+    let due2 = removal_actions (tree_removal v2.store.state.bytes root.page key) in
+    down_then g.S.EawStore.tells V g.S.EawStore.calls key top.page top.level top.pairs.items old c.args.tid due (blamed c.leave_parent.result) (is_done c.leave_parent.result) v2.store (V c.leave_parent.new.pages.store) leaf.page leaf.level leaf.pairs.items here due2 same (leaf.page ∷ []) (λ p among. one_met leaf.page top.page (onwards here.read) here.met p among) (c.leave_parent.ensures.works)
+
+pub returns-clause-works : goal.returns-clause-works
+returns-clause-works g c =
+    let V = g.S.EawStore.view in
+    let T = g.S.EawStore.tells in
+    let E = g.S.EawStore.opens in
+    let root = c.args.root in
+    let key = c.args.key in
+    let top = c.args.top in
+    let old = c.args.pages.now.store in
+    let v0 = pages_of (V old) c.args.pages.now in
+    let v1 = pages_of (V c.fetch_parent.new.pages.store) c.fetch_parent.new.pages in
+    let due = removal_actions (tree_removal v0.store.state.bytes root.page key) in
+    let v2 = pages_of (V c.fetch_child.new.pages.store) c.fetch_child.new.pages in
+    let fits : c.args.key < 2 ^ 64 = omega arith in
+    let parent = c.in-Ok.parent in
+    let came = c.in-Ok.ensures.down in
+    let inner : c.in-Ok.parent.level ≢ 0 = λ e. omega (arith, e, c.in-Ok.ensures.level) in
+    let leaf = c.in-Ok-fetch_child.leaf in
+    let here = came_child g.S.EawStore.tells V g.S.EawStore.calls key top.page top.level top.pairs.items old c.fetch_parent.new.pages.store c.fetch_child.new.pages.store parent.page parent.level parent.pairs.items came inner leaf c.in-Ok-fetch_child.ensures.reads c.in-Ok-fetch_child.ensures.looks.shape c.in-Ok-fetch_child.ensures.child c.in-Ok-fetch_child.ensures.level in
+    let looks = both_looks T E root key fits v0 v1 v2 c.in-Ok.ensures.looks c.in-Ok-fetch_child.ensures.looks c.requires.sound c.requires.named parent.page parent.level parent.pairs.items c.in-Ok.ensures.level c.in-Ok.ensures.reached leaf.page leaf.level leaf.pairs.items c.in-Ok-fetch_child.ensures.child c.in-Ok-fetch_child.ensures.level c.in-Ok-fetch_child.ensures.pairs in
+    let same = λ (told : IsTrue g.S.EawStore.tells). ap (λ (b : List ℕ). removal_actions (tree_removal b c.args.root.page c.args.key)) (bytes_same g.S.EawStore.tells (g.S.EawStore.opens v0.store.shape) v0 v2 looks told) in
+    let due2 = removal_actions (tree_removal v2.store.state.bytes root.page key) in
+    let few : length c.in-Ok-fetch_child.leaf.pairs.items ≤ 1 = omega (arith, c.len.ensures.value, c.if-len-gt1.false) in
+    let only : length c.in-Ok.parent.pairs.items ≤ 1 = omega (arith, c.len-2.ensures.value, c.if-len-gt1-2.false) in
+    let stays = stays_here T E root key fits v0 v1 v2 c.in-Ok.ensures.looks c.in-Ok-fetch_child.ensures.looks c.requires.sound c.requires.named parent.page parent.level parent.pairs.items c.in-Ok.ensures.level c.in-Ok.ensures.reached leaf.page leaf.level leaf.pairs.items c.in-Ok-fetch_child.ensures.child c.in-Ok-fetch_child.ensures.level c.in-Ok-fetch_child.ensures.pairs few only in
+    down_then g.S.EawStore.tells V g.S.EawStore.calls key top.page top.level top.pairs.items old c.args.tid due (None) (true) v2.store (v2.store) leaf.page leaf.level leaf.pairs.items here due (λ told. refl) [] (λ p among. absurd among) (ends_none g.S.EawStore.tells V g.S.EawStore.calls c.args.tid due None true key [] v2.store tt (λ told yes. ap removal_actions (stays told)))
+
+pub returns-in-Err-fetch_child-clause-removes : goal.returns-in-Err-fetch_child-clause-removes
+returns-in-Err-fetch_child-clause-removes g c =
+    let T = g.S.EawStore.tells in
+    let V = g.S.EawStore.view in
+    let E = g.S.EawStore.opens in
+    let v0 = pages_of (V c.args.pages.now.store) c.args.pages.now in
+    let v1 = pages_of (V c.fetch_parent.new.pages.store) c.fetch_parent.new.pages in
+    let v2 = pages_of (V c.fetch_child.new.pages.store) c.fetch_child.new.pages in
+    let r : Result Bool PageFault = Err c.in-Err-fetch_child.fault in
+    removes_then T E tree c.args.tid c.args.root.page c.args.key v0 v1 v2 c.in-Ok.ensures.looks c.requires.alive r
+    (removes_look_err T (E v1.store.shape) tree c.args.tid c.args.root.page c.args.key Node v1 v2 c.in-Err-fetch_child.fault (c.in-Err-fetch_child.ensures.looks, c.in-Err-fetch_child.ensures.cause))

@@ -2,6 +2,8 @@ use Rattle.std.proofs.Common.{◌≡◌, ◌+◌, ◌<◌, ℕ, List, [], ◌∷
 use Rattle.array_shape.specs.Logged.{Part}
 use Rattle.array_shape.specs.Places.{page_count}
 use Rattle.page_store.specs.Pairs.{Pair}
+use Rattle.eaw_face.specs.StoreView.{log_len}
+use Rattle.page_store.specs.Runs.{Runs, acting_of}
 use Rattle.page_store.specs.Shown.{pages_of, address}
 use Rattle.index_pages.specs.Acts.{Acts}
 use Rattle.index_pages.specs.Keys.{key_at}
@@ -36,5 +38,8 @@ returns g c =
         (address (c.whole_page.ensures.page i) (c.whole_page.ensures.at i), lower i) ∷ (address (c.whole_page-2.ensures.page i) (c.whole_page-2.ensures.at i), upper i)
             ∷ (address (c.whole_page-3.ensures.page i) (c.whole_page-3.ensures.at i), named i) ∷ (address (c.front_part.ensures.page i) (c.front_part.ensures.at i), counts i) ∷ [],
       )) c.act_all.ensures.acts;
+      runs = subst (λ (l : List Part). Runs g.S.EawStore.tells V g.S.EawStore.calls (acting_of c.args.tid (log_len v0.store c.args.tid) l) v0.store v1.store c.act_all.result) (λ i.
+          (address (c.whole_page.ensures.page i) (c.whole_page.ensures.at i), lower i) ∷ (address (c.whole_page-2.ensures.page i) (c.whole_page-2.ensures.at i), upper i)
+          ∷ (address (c.whole_page-3.ensures.page i) (c.whole_page-3.ensures.at i), named i) ∷ (address (c.front_part.ensures.page i) (c.front_part.ensures.at i), counts i) ∷ []) c.act_all.ensures.runs;
       dead = c.act_all.ensures.dead;
     }

@@ -37,4 +37,5 @@ returns-in-Ok g c =
       );
       fails = tt;
       time = λ told. subst (λ (d : State). LeavesOnly (IsEither (s.opens old.shape) old.state.bytes d.bytes) old (s.view c.log_read.new.self)) (sym (does.done.state told)) (does.time told c.requires.alive);
+      mirrors = does.mirrors;
     }

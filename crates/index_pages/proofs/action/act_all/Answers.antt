@@ -6,7 +6,7 @@ use Rattle.array_shape.specs.Places.{page_count}
 use Rattle.eaw_face.specs.State.{listed}
 use Rattle.eaw_face.specs.Causes.{IsAlive}
 use Rattle.page_store.specs.Command.{write_as, top_end}
-use Rattle.page_store.specs.Fits.{FitAll}
+use Rattle.page_store.specs.Fits.{FitAll, LacksRoom}
 use Rattle.page_store.specs.Shown.{address, pages_of}
 use Rattle.page_store.specs.declared.fault.PageFault.{PageFault}
 use Rattle.page_store.proofs.Numbers.{with_here}
@@ -18,7 +18,7 @@ use Rattle.eaw_face.specs.StoreView.{log_len}
 use Rattle.page_store.specs.Runs.{Runs, acting_of}
 use Rattle.page_store.specs.declared.fault.PageFault.TheVariants.{Dead}
 use Rattle.index_pages.proofs.Running.{Running, running_first, running_write, runs_fail, runs_end, runs_none, cost_at, split_here}
-use Rattle.index_pages.proofs.Acting.{Acting, acting_begin, acting_write, acting_fail, acting_end, known_of, on_shape, begins_within}
+use Rattle.index_pages.proofs.Acting.{Acting, acting_begin, acting_write, acting_fail, acting_end, known_of, on_shape, begins_within, acts_none}
 use Rattle.index_pages.proofs.Listed.{parts_more, pages_left, inside_at, all_placed}
 use Rattle.index_pages.proofs.action.act_all.Goals as goal
 
@@ -161,3 +161,14 @@ pub returns-in-Err-clause-runs : goal.returns-in-Err-clause-runs
 returns-in-Err-clause-runs g c =
     let V = g.S.EawStore.view in
     runs_none g.S.EawStore.tells V g.S.EawStore.calls c.args.tid (acting_of c.args.tid (log_len (V c.args.pages.now.store) c.args.tid) (parts_named c.args.parts.now)) (V c.args.pages.now.store) (V c.args.pages.now.store) c.in-Err.fault refl
+
+pub returns-then-is_dead-clause-acts : goal.returns-then-is_dead-clause-acts
+returns-then-is_dead-clause-acts g c =
+    let view = g.S.EawStore.view c.args.pages.now.store in
+    acts_none g.S.EawStore.tells (g.S.EawStore.opens view.shape) c.args.tid (pages_of view c.args.pages.now) (pages_named c.args.parts.now) (parts_named c.args.parts.now) Dead (sym c.if-is_dead.ensures.dead)
+
+pub returns-in-Err-clause-acts : goal.returns-in-Err-clause-acts
+returns-in-Err-clause-acts g c =
+    let view = g.S.EawStore.view c.args.pages.now.store in
+    acts_none g.S.EawStore.tells (g.S.EawStore.opens view.shape) c.args.tid (pages_of view c.args.pages.now) (pages_named c.args.parts.now) (parts_named c.args.parts.now) c.in-Err.fault
+    (subst (λ (l : List ℕ). LacksRoom view c.args.tid l c.in-Err.fault) (c.as_slice.ensures.value ∙ c.pages_in.ensures) c.in-Err.ensures.full)

@@ -1,13 +1,16 @@
-use Rattle.std.proofs.Common.{◌≡◌, ◌+◌, ◌-◌, ◌/◌, ℕ, false, Option, Some, refl, sym, ◌∙◌, ap, subst, arith}
+use Rattle.std.proofs.Common.{◌≡◌, ◌+◌, ◌-◌, ◌/◌, ℕ, false, Option, Some, refl, sym, ◌∙◌, ap, subst, arith, rules, Result, Err}
 use Rattle.eaw_face.specs.State.{State}
 use Rattle.record_slots.specs.Free.{next_of}
 use Rattle.record_slots.specs.Places.{slot_page, free_slot_of}
 use Rattle.record_slots.specs.declared.free.Free.{Free}
 use Rattle.page_store.specs.Shown.{pages_of}
 use Rattle.index_pages.specs.Slots.{Names, HasRank, list_check}
-use Rattle.index_pages.proofs.Looking.{looks_next}
+use Rattle.index_pages.proofs.Looking.{looks_next, looks_none}
 use Rattle.index_pages.proofs.Sizes.{slot_page_is}
 use Rattle.index_pages.proofs.Members.{names_fail, rank_fails, rank_on, rank_is}
+use Rattle.index_pages.proofs.Tests.{check_looks}
+use Rattle.page_store.specs.Looks.{is_failed}
+use Rattle.page_store.specs.declared.fault.PageFault.{PageFault}
 use Rattle.index_pages.proofs.checking.check_free_slots.Goals as goal
 
 pub returns-then-named-eq0-clause-cause : goal.returns-then-named-eq0-clause-cause
@@ -60,3 +63,20 @@ loop-done-preserved g c =
           inv.left told says verdict (rank_on (free_slot_of b) (slot_page b) 0 front.next_slot (front.free_slots - c.loop-done.done) (front.free_slots - (c.loop-done.done + 1)) c.loop-done.named c.loop-done.page (omega (arith, c.loop-done-test.true)) names rank verdict
           (subst (λ (x : ℕ × ℕ). list_check (free_slot_of b) (slot_page b) 0 front.next_slot (front.free_slots - (c.loop-done.done + 1)) x.0 x.1 verdict) (λ i. (next i, sym at i)) rest));
     }
+
+pub loop-done-init : goal.loop-done-init
+loop-done-init g c = record {
+  looks = looks_none g.S.EawStore.tells (g.S.EawStore.opens (g.S.EawStore.view c.args.pages.now.store).shape) (pages_of (g.S.EawStore.view c.args.pages.now.store) c.args.pages.now);
+  alive = c.requires.alive;
+  left = search rules;
+}
+
+pub returns-in_default-clause-looks : goal.returns-in_default-clause-looks
+returns-in_default-clause-looks g c =
+    looks_next g.S.EawStore.tells g.S.EawStore.opens false (pages_of (g.S.EawStore.view c.args.pages.now.store) c.args.pages.now) (pages_of (g.S.EawStore.view c.loop-done.pages.store) c.loop-done.pages) (pages_of (g.S.EawStore.view c.fetch_free_slot.new.pages.store) c.fetch_free_slot.new.pages) c.loop-done.invariant.looks c.in-Ok.ensures.looks
+
+pub returns-in-Err-clause-looks : goal.returns-in-Err-clause-looks
+returns-in-Err-clause-looks g c =
+    let r : Result (Option Free) PageFault = Err c.in-Err.fault in
+    check_looks (Option Free) g.S.EawStore.tells (g.S.EawStore.opens (g.S.EawStore.view c.args.pages.now.store).shape) (pages_of (g.S.EawStore.view c.args.pages.now.store) c.args.pages.now) (pages_of (g.S.EawStore.view c.fetch_free_slot.new.pages.store) c.fetch_free_slot.new.pages) c.in-Err.fault c.check_fault.result c.check_fault.ensures
+    (looks_next g.S.EawStore.tells g.S.EawStore.opens (is_failed r) (pages_of (g.S.EawStore.view c.args.pages.now.store) c.args.pages.now) (pages_of (g.S.EawStore.view c.loop-done.pages.store) c.loop-done.pages) (pages_of (g.S.EawStore.view c.fetch_free_slot.new.pages.store) c.fetch_free_slot.new.pages) c.loop-done.invariant.looks c.in-Err.ensures.looks)

@@ -4,6 +4,8 @@ use Rattle.record_slots.specs.declared.slot.Slot.{Slot}
 use Rattle.page_store.specs.Records.{row_at, value_of}
 use Rattle.index_pages.proofs.Sizes.{slot_page_is}
 use Rattle.index_pages.proofs.Carrying.{carries_said, carries_not}
+use Rattle.page_store.specs.Shown.{pages_of}
+use Rattle.index_pages.proofs.Looking.{looks_none}
 use Rattle.index_pages.proofs.checking.check_slot.Goals as goal
 
 pub returns-in-Ok-push_record-clause-cause : goal.returns-in-Ok-push_record-clause-cause
@@ -27,3 +29,6 @@ returns-then-not-is_of_key-clause-cause g c = λ told slots.
         sym (slot_page_is view.shape view.state.bytes (g.met.S.EawStore.long c.args.pages.now.store told) c.index_page_count-count.result c.args.pair.1 c.index_page_count-count.ensures.all),
       ),
     )
+
+pub returns-then-pair-from-clause-looks : goal.returns-then-pair-from-clause-looks
+returns-then-pair-from-clause-looks g c = looks_none g.S.EawStore.tells (g.S.EawStore.opens (g.S.EawStore.view c.args.pages.now.store).shape) (pages_of (g.S.EawStore.view c.args.pages.now.store) c.args.pages.now)

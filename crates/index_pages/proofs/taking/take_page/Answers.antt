@@ -1,8 +1,16 @@
-use Rattle.std.proofs.Common.{ℕ, Option, sym, subst, arith}
+use Rattle.std.proofs.Common.{◌≡◌, ◌+◌, ◌-◌, ◌<◌, ℕ, Option, Result, Ok, Err, refl, sym, subst, arith}
 use Rattle.record_slots.specs.Places.{free_page_of}
 use Rattle.record_slots.specs.declared.free.Free.{Free}
+use Rattle.array_shape.specs.Places.{page_count}
+use Rattle.page_store.specs.Index.{index_pages_of}
+use Rattle.page_store.specs.declared.fault.PageFault.{PageFault}
 use Rattle.index_pages.specs.Slots.{HasRank}
 use Rattle.index_pages.proofs.Members.{first_member}
+use Rattle.page_store.specs.Shown.{pages_of}
+use Rattle.index_pages.proofs.Looking.{looks_none}
+use Rattle.record_slots.specs.Places.{page_bytes}
+use Rattle.index_pages.specs.declared.taking.Claim.{Claim}
+use Rattle.index_pages.proofs.Working.{peek_err, peek_bad, peek_ok, read_costs_one}
 use Rattle.index_pages.proofs.taking.take_page.Goals as goal
 
 pub returns-then-front-le2-clause-cause : goal.returns-then-front-le2-clause-cause
@@ -26,3 +34,42 @@ returns-in_default-clause-cause g c =
           let h = first_member (free_page_of b) (λ (p : ℕ). p) 2 front.next_page front.free_pages front.free_page 0 c.if-front-eq0.false (c.requires.sound told) in
           c.in_default.ensures.none (subst (λ (o : Option Free). HasRank front.free_pages o) (sym (c.in-Ok.ensures.said told)) h.1),
     )
+
+pub returns-then-front-eq0-clause-looks : goal.returns-then-front-eq0-clause-looks
+returns-then-front-eq0-clause-looks g c = looks_none g.S.EawStore.tells (g.S.EawStore.opens (g.S.EawStore.view c.args.pages.now.store).shape) (pages_of (g.S.EawStore.view c.args.pages.now.store) c.args.pages.now)
+
+pub returns-then-front-le2-clause-looks : goal.returns-then-front-le2-clause-looks
+returns-then-front-le2-clause-looks g c = looks_none g.S.EawStore.tells (g.S.EawStore.opens (g.S.EawStore.view c.args.pages.now.store).shape) (pages_of (g.S.EawStore.view c.args.pages.now.store) c.args.pages.now)
+
+pub returns-then-front-clause-looks : goal.returns-then-front-clause-looks
+returns-then-front-clause-looks g c = looks_none g.S.EawStore.tells (g.S.EawStore.opens (g.S.EawStore.view c.args.pages.now.store).shape) (pages_of (g.S.EawStore.view c.args.pages.now.store) c.args.pages.now)
+
+pub returns-in-Err-clause-peeks : goal.returns-in-Err-clause-peeks
+returns-in-Err-clause-peeks g c =
+    let V = g.S.EawStore.view in
+    let page = c.args.front.now.free_page - 1 in
+    let at = c.args.pages.now.store in
+    let r : Result (Option Free) PageFault = Err c.in-Err.fault in
+    peek_err g.S.EawStore.tells V g.S.EawStore.calls at page 0 512 (V at) (V c.fetch_free_page.new.pages.store) (Option Free) Claim c.in-Err.fault c.in-Err.ensures.cause
+    (read_costs_one g.S.EawStore.tells (g.S.EawStore.calls at) (g.S.EawStore.calls c.fetch_free_page.new.pages.store) (V at) (V c.fetch_free_page.new.pages.store) page c.in-Err.ensures.reads.0 (page_bytes (V at).state.bytes page) r c.in-Err.ensures.cause c.in-Err.ensures.reads.1)
+
+pub returns-in_default-clause-peeks : goal.returns-in_default-clause-peeks
+returns-in_default-clause-peeks g c =
+    let V = g.S.EawStore.view in
+    let page = c.args.front.now.free_page - 1 in
+    let at = c.args.pages.now.store in
+    let r : Result (Option Free) PageFault = Ok c.in-Ok.said in
+    let there : c.args.front.now.free_page - 1 < page_count (V at).shape = omega (arith, c.requires.front.pages, c.if-front-le2.false, c.if-front.false) in
+    peek_bad g.S.EawStore.tells V g.S.EawStore.calls at page 0 512 (V at) (V c.fetch_free_page.new.pages.store) (Option Free) Claim c.in-Ok.said
+    (read_costs_one g.S.EawStore.tells (g.S.EawStore.calls at) (g.S.EawStore.calls c.fetch_free_page.new.pages.store) (V at) (V c.fetch_free_page.new.pages.store) page c.in-Ok.ensures.reads.0 (page_bytes (V at).state.bytes page) r c.in-Ok.ensures.cause c.in-Ok.ensures.reads.1)
+    page refl there
+
+pub returns-clause-peeks : goal.returns-clause-peeks
+returns-clause-peeks g c =
+    let V = g.S.EawStore.view in
+    let page = c.args.front.now.free_page - 1 in
+    let at = c.args.pages.now.store in
+    let r : Result (Option Free) PageFault = Ok c.in-Ok.said in
+    peek_ok g.S.EawStore.tells V g.S.EawStore.calls at page 0 512 (V at) (V c.fetch_free_page.new.pages.store) (Option Free) Claim c.in-Ok.said
+    (read_costs_one g.S.EawStore.tells (g.S.EawStore.calls at) (g.S.EawStore.calls c.fetch_free_page.new.pages.store) (V at) (V c.fetch_free_page.new.pages.store) page c.in-Ok.ensures.reads.0 (page_bytes (V at).state.bytes page) r c.in-Ok.ensures.cause c.in-Ok.ensures.reads.1)
+    _

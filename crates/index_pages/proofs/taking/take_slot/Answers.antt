@@ -1,8 +1,14 @@
-use Rattle.std.proofs.Common.{Option, sym, subst, arith}
+use Rattle.std.proofs.Common.{◌≡◌, ◌+◌, ◌-◌, ◌*◌, ◌/◌, ◌%◌, ◌<◌, ℕ, Option, ap, sym, subst, arith}
 use Rattle.record_slots.specs.Places.{slot_page, free_slot_of}
 use Rattle.record_slots.specs.declared.free.Free.{Free}
+use Rattle.array_shape.specs.Places.{page_count}
+use Rattle.page_store.specs.Index.{index_pages_of}
 use Rattle.index_pages.specs.Slots.{HasRank}
 use Rattle.index_pages.proofs.Members.{first_member}
+use Rattle.page_store.specs.Shown.{pages_of}
+use Rattle.index_pages.proofs.Looking.{looks_none}
+use Rattle.index_pages.specs.declared.taking.Claim.{Claim}
+use Rattle.index_pages.proofs.Working.{peek_err, peek_bad, peek_ok}
 use Rattle.index_pages.proofs.taking.take_slot.Goals as goal
 
 pub returns-then-front-eq0-2-clause-cause : goal.returns-then-front-eq0-2-clause-cause
@@ -26,3 +32,37 @@ returns-in_default-clause-cause g c =
           let h = first_member (free_slot_of b) (slot_page b) 0 front.next_slot front.free_slots front.free_slot 0 c.if-front-eq0.false (c.requires.sound told) in
           c.in_default.ensures.none (subst (λ (o : Option Free). HasRank front.free_slots o) (sym (c.in-Ok.ensures.said told)) h.1),
     )
+
+pub returns-then-front-eq0-clause-looks : goal.returns-then-front-eq0-clause-looks
+returns-then-front-eq0-clause-looks g c = looks_none g.S.EawStore.tells (g.S.EawStore.opens (g.S.EawStore.view c.args.pages.now.store).shape) (pages_of (g.S.EawStore.view c.args.pages.now.store) c.args.pages.now)
+
+pub returns-then-front-eq0-2-clause-looks : goal.returns-then-front-eq0-2-clause-looks
+returns-then-front-eq0-2-clause-looks g c = looks_none g.S.EawStore.tells (g.S.EawStore.opens (g.S.EawStore.view c.args.pages.now.store).shape) (pages_of (g.S.EawStore.view c.args.pages.now.store) c.args.pages.now)
+
+pub returns-then-front-clause-looks : goal.returns-then-front-clause-looks
+returns-then-front-clause-looks g c = looks_none g.S.EawStore.tells (g.S.EawStore.opens (g.S.EawStore.view c.args.pages.now.store).shape) (pages_of (g.S.EawStore.view c.args.pages.now.store) c.args.pages.now)
+
+pub returns-in-Err-clause-peeks : goal.returns-in-Err-clause-peeks
+returns-in-Err-clause-peeks g c =
+    let V = g.S.EawStore.view in
+    let slot = c.args.front.now.free_slot - 1 in
+    let at = c.args.pages.now.store in
+    peek_err g.S.EawStore.tells V g.S.EawStore.calls at (index_pages_of (V at).shape + slot / 8) (slot % 8 * 64) 64 (V at) (V c.fetch_free_slot.new.pages.store) (Option Free) Claim c.in-Err.fault c.in-Err.ensures.cause c.in-Err.ensures.costs
+
+pub returns-in_default-clause-peeks : goal.returns-in_default-clause-peeks
+returns-in_default-clause-peeks g c =
+    let V = g.S.EawStore.view in
+    let slot = c.args.front.now.free_slot - 1 in
+    let at = c.args.pages.now.store in
+    let count = c.index_page_count.result in
+    let all : count + count ≡ page_count (V at).shape = c.index_page_count.ensures.all in
+    let there : count + slot / 8 < page_count (V at).shape = omega (arith, all, c.requires.front.slots, c.if-front-eq0.false, c.if-front.false) in
+    peek_bad g.S.EawStore.tells V g.S.EawStore.calls at (index_pages_of (V at).shape + slot / 8) (slot % 8 * 64) 64 (V at) (V c.fetch_free_slot.new.pages.store) (Option Free) Claim c.in-Ok.said c.in-Ok.ensures.costs
+    (count + slot / 8) (ap (λ (n : ℕ). n + slot / 8) c.index_page_count.ensures.count) there
+
+pub returns-clause-peeks : goal.returns-clause-peeks
+returns-clause-peeks g c =
+    let V = g.S.EawStore.view in
+    let slot = c.args.front.now.free_slot - 1 in
+    let at = c.args.pages.now.store in
+    peek_ok g.S.EawStore.tells V g.S.EawStore.calls at (index_pages_of (V at).shape + slot / 8) (slot % 8 * 64) 64 (V at) (V c.fetch_free_slot.new.pages.store) (Option Free) Claim c.in-Ok.said c.in-Ok.ensures.costs _

@@ -16,6 +16,7 @@ use Rattle.key_list.specs.Checked.{low_of}
 use Rattle.page_store.specs.Records.{row_of}
 use Rattle.index_pages.proofs.Gathered.{RowsLeft, left_row, left_none}
 use Rattle.key_list.proofs.Testing.{PairsLeft, left_step, left_fails}
+use Rattle.page_store.specs.Looks.{is_check_failed}
 use Rattle.key_list.proofs.checking.check_pairs.Goals as goal
 
 pub loop-i-init : goal.loop-i-init
@@ -112,3 +113,8 @@ returns-clause-rows g c = λ told.
     let view = g.S.EawStore.view c.args.pages.now.store in
     left_none view.state.bytes c.args.rows.now (pairs_said c.args.bytes.now) c.loop-i.rows
     (subst (λ (ps : List Pair). RowsLeft view.state.bytes c.args.rows.now (pairs_said c.args.bytes.now) c.loop-i.rows ps) (from_end c.args.bytes.now c.loop-i.i c.args.count c.loop-i-test.false) (c.loop-i.invariant.rows told))
+
+pub returns-in-Err-clause-looks : goal.returns-in-Err-clause-looks
+returns-in-Err-clause-looks g c =
+    let r : Result (Option ℕ) CheckFault = Err c.in-Err.fault in
+    looks_next g.S.EawStore.tells g.S.EawStore.opens (is_check_failed r) (pages_of (g.S.EawStore.view c.args.pages.now.store) c.args.pages.now) (pages_of (g.S.EawStore.view c.loop-i.pages.store) c.loop-i.pages) (pages_of (g.S.EawStore.view c.check_pair.new.pages.store) c.check_pair.new.pages) c.loop-i.invariant.looks c.in-Err.ensures.looks

@@ -14,6 +14,9 @@ use Rattle.key_list.specs.Chain.{pairs_check, chain_pairs, pairs_of_chain}
 use Rattle.key_list.proofs.Gathering.{rows_on, rows_end}
 use Rattle.key_list.specs.Checked.{low_of}
 use Rattle.key_list.proofs.Testing.{ChainLeft, chain_none, head_fails, pairs_fail, link_fails, link_ends, link_on, table_err}
+use Rattle.page_store.specs.Looks.{is_failed, is_check_failed}
+use Rattle.page_store.specs.declared.fault.PageFault.{PageFault}
+use Rattle.index_pages.proofs.Tests.{check_looks}
 use Rattle.key_list.proofs.checking.check_table.Goals as goal
 
 pub returns-in_default-clause-cause : goal.returns-in_default-clause-cause
@@ -236,3 +239,15 @@ returns-then-head-eq0-clause-rows g c =
     (subst (λ (m : ℕ). RowsLeft b c.args.rows.now (pairs_of_chain b c.args.root) c.loop-step.rows (chain_pairs m b c.loop-step.page))
     (let e : c.args.front.now.next_page - c.loop-step._step ≡ suc (c.args.front.now.next_page - suc c.loop-step._step) = omega (arith, c.loop-step-test.true) in e) (inv.rows told says))
     (c.in-Ok-check_pairs.ensures.rows told ∙ (λ i. c.loop-step.rows ++ rows_of (same2 told i).bytes (pairs_said c.fetch_page.new.bytes))) (sym c.in-Some.ensures.says.link ∙ c.if-head-eq0.true)
+
+pub returns-in-Err-clause-looks : goal.returns-in-Err-clause-looks
+returns-in-Err-clause-looks g c =
+    let r : Result (Unit {0}) PageFault = Err c.in-Err.fault in
+    check_looks (Unit {0}) g.S.EawStore.tells (g.S.EawStore.opens (g.S.EawStore.view c.args.pages.now.store).shape) (pages_of (g.S.EawStore.view c.args.pages.now.store) c.args.pages.now) (pages_of (g.S.EawStore.view c.fetch_page.new.pages.store) c.fetch_page.new.pages) c.in-Err.fault c.check_fault.result c.check_fault.ensures
+    (looks_next g.S.EawStore.tells g.S.EawStore.opens (is_failed r) (pages_of (g.S.EawStore.view c.args.pages.now.store) c.args.pages.now) (pages_of (g.S.EawStore.view c.loop-step.pages.store) c.loop-step.pages) (pages_of (g.S.EawStore.view c.fetch_page.new.pages.store) c.fetch_page.new.pages) c.loop-step.invariant.looks c.in-Err.ensures.looks)
+
+pub returns-in-Err-check_pairs-clause-looks : goal.returns-in-Err-check_pairs-clause-looks
+returns-in-Err-check_pairs-clause-looks g c =
+    let r : Result (Unit {0}) CheckFault = Err c.in-Err-check_pairs.fault in
+    looks_next g.S.EawStore.tells g.S.EawStore.opens (is_check_failed r) (pages_of (g.S.EawStore.view c.args.pages.now.store) c.args.pages.now) (pages_of (g.S.EawStore.view c.fetch_page.new.pages.store) c.fetch_page.new.pages) (pages_of (g.S.EawStore.view c.check_pairs.new.pages.store) c.check_pairs.new.pages)
+    (looks_next g.S.EawStore.tells g.S.EawStore.opens false (pages_of (g.S.EawStore.view c.args.pages.now.store) c.args.pages.now) (pages_of (g.S.EawStore.view c.loop-step.pages.store) c.loop-step.pages) (pages_of (g.S.EawStore.view c.fetch_page.new.pages.store) c.fetch_page.new.pages) c.loop-step.invariant.looks c.in-Ok.ensures.looks) c.in-Err-check_pairs.ensures.looks

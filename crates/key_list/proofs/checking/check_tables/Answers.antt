@@ -110,3 +110,7 @@ returns-clause-records g c = λ told says.
     let b = (g.S.EawStore.view c.args.pages.now.store).state.bytes in
     told_end (λ root. rows_of b (pairs_of_chain b root)) (tables_of b) c.args.tables.now c.loop-table.table c.loop-table.tables (c.loop-table.invariant.records told says)
     (none_behind b c.loop-table.table (omega (arith, c.loop-table-test.false)))
+
+pub returns-in-Err-push-clause-looks : goal.returns-in-Err-push-clause-looks
+returns-in-Err-push-clause-looks g c =
+    looks_next g.S.EawStore.tells g.S.EawStore.opens false (pages_of (g.S.EawStore.view c.args.pages.now.store) c.args.pages.now) (pages_of (g.S.EawStore.view c.loop-table.pages.store) c.loop-table.pages) (pages_of (g.S.EawStore.view c.check_table.new.pages.store) c.check_table.new.pages) c.loop-table.invariant.looks c.in-Ok.ensures.looks

@@ -1,6 +1,7 @@
-use Rattle.std.proofs.Common.{◌≡◌, ◌*◌, ◌<◌, ℕ, List, Option, Result, Err, None, refl, sym, ◌∙◌, ap, subst, arith}
+use Rattle.std.proofs.Common.{◌≡◌, ◌*◌, ◌<◌, ℕ, List, Option, Result, Err, None, refl, sym, ◌∙◌, ap, subst, arith, ◌≤◌, true, false, [], ◌∷◌, Ok, inl, inr, length, IsTrue}
 use Rattle.std.proofs.lemmas.Bool.{false≢true}
 use Rattle.array_shape.specs.declared.shape.Shape.{Shape}
+use Rattle.eaw_face.specs.State.{State}
 use Rattle.page_store.specs.Index.{IsTable, slots_of}
 use Rattle.page_store.specs.Inserts.{Inserts}
 use Rattle.page_store.specs.Pairs.{found}
@@ -12,6 +13,17 @@ use Rattle.key_list.specs.Index.{chain}
 use Rattle.key_list.specs.Located.{IsLocated, Locates}
 use Rattle.key_list.specs.declared.place.Located.{Located}
 use Rattle.key_list.proofs.Whole.{look_err, slots_full, alive_yet, yet, looked_cut, looked_here}
+use Rattle.std.proofs.lemmas.Bool.{cases_Bool}
+use Rattle.std.specs.Prelude.{is_some}
+use Rattle.page_store.specs.Index.{index_pages_of}
+use Rattle.page_store.specs.Works.{Step, IsMet, IsAmong, blamed_index, insertion_limits, is_done}
+use Rattle.page_store.specs.declared.fault.PageFault.{PageFault}
+use Rattle.index_pages.proofs.Working.{blamed_same}
+use Rattle.key_list.specs.Along.{chain_finding}
+use Rattle.key_list.specs.Finds.{limits_here, limits_cut, most_read}
+use Rattle.key_list.specs.Index.{chain_actions}
+use Rattle.key_list.proofs.Finding.{finds_fail, finds_then, front_only}
+use Rattle.key_list.proofs.Spending.{limits_one, limits_two, none_done}
 use Rattle.key_list.proofs.insertion.insert.Goals as goal
 
 pub returns-in-Err-clause-inserts : goal.returns-in-Err-clause-inserts
@@ -24,7 +36,7 @@ returns-in-Err-clause-inserts g c =
     let table = c.args.table in
     let key = c.args.key in
     let v0 = pages_of (V c.args.pages.now.store) c.args.pages.now in
-    let v1 = pages_of (V c.locate.new.pages.store) c.locate.new.pages in
+    let v1 = pages_of (V c.locate_for.new.pages.store) c.locate_for.new.pages in
     subst (λ (f : IndexFault). (let r : Result ℕ IndexFault = Err f in Inserts T (E v0.store.shape) chain t root table key v0 v1 r)) (sym c.index_fault.ensures)
     (look_err T E t root table key v0 c.requires.sound Located v1 c.in-Err.fault (c.in-Err.ensures.looks, c.in-Err.ensures.cause))
 
@@ -47,7 +59,7 @@ returns-then-not-has_slot-clause-inserts g c =
     let table = c.args.table in
     let key = c.args.key in
     let v0 = pages_of (V c.args.pages.now.store) c.args.pages.now in
-    let v1 = pages_of (V c.locate.new.pages.store) c.locate.new.pages in
+    let v1 = pages_of (V c.locate_for.new.pages.store) c.locate_for.new.pages in
     let at = c.in-Ok.at in
     let looks = c.in-Ok.ensures.looks in
     let alive = c.in-Ok.ensures.cause in
@@ -68,7 +80,7 @@ insert_here-requires g c =
     let table = c.args.table in
     let key = c.args.key in
     let v0 = pages_of (V c.args.pages.now.store) c.args.pages.now in
-    let v1 = pages_of (V c.locate.new.pages.store) c.locate.new.pages in
+    let v1 = pages_of (V c.locate_for.new.pages.store) c.locate_for.new.pages in
     let at = c.in-Ok.at in
     let looks = c.in-Ok.ensures.looks in
     let alive = c.in-Ok.ensures.cause in
@@ -97,7 +109,7 @@ returns-then-len-lt-PAIRS_MAX-clause-inserts g c =
     let table = c.args.table in
     let key = c.args.key in
     let v0 = pages_of (V c.args.pages.now.store) c.args.pages.now in
-    let v1 = pages_of (V c.locate.new.pages.store) c.locate.new.pages in
+    let v1 = pages_of (V c.locate_for.new.pages.store) c.locate_for.new.pages in
     let at = c.in-Ok.at in
     let looks = c.in-Ok.ensures.looks in
     let alive = c.in-Ok.ensures.cause in
@@ -118,7 +130,7 @@ insert_cut-requires g c =
     let table = c.args.table in
     let key = c.args.key in
     let v0 = pages_of (V c.args.pages.now.store) c.args.pages.now in
-    let v1 = pages_of (V c.locate.new.pages.store) c.locate.new.pages in
+    let v1 = pages_of (V c.locate_for.new.pages.store) c.locate_for.new.pages in
     let at = c.in-Ok.at in
     let looks = c.in-Ok.ensures.looks in
     let alive = c.in-Ok.ensures.cause in
@@ -147,7 +159,7 @@ returns-clause-inserts g c =
     let table = c.args.table in
     let key = c.args.key in
     let v0 = pages_of (V c.args.pages.now.store) c.args.pages.now in
-    let v1 = pages_of (V c.locate.new.pages.store) c.locate.new.pages in
+    let v1 = pages_of (V c.locate_for.new.pages.store) c.locate_for.new.pages in
     let at = c.in-Ok.at in
     let looks = c.in-Ok.ensures.looks in
     let alive = c.in-Ok.ensures.cause in
@@ -157,3 +169,61 @@ returns-clause-inserts g c =
 pub returns-clause-dead : goal.returns-clause-dead
 returns-clause-dead g c =
     λ told. absurd (c.insert_cut.ensures.dead told)
+
+pub returns-in-Err-clause-works : goal.returns-in-Err-clause-works
+returns-in-Err-clause-works g c =
+    let V = g.S.EawStore.view in
+    let v0 = pages_of (V c.args.pages.now.store) c.args.pages.now in
+    let v1 = pages_of (V c.locate_for.new.pages.store) c.locate_for.new.pages in
+    let known = is_some c.args.place in
+    let limits = insertion_limits known (chain_finding c.args.root c.args.key) v0.store.shape in
+    let most = most_read known v0.store.shape in
+    let one = limits_one known c.args.root c.args.key v0.store.shape in
+    let due = chain_actions v0.store.state.bytes c.args.root c.args.key in
+    let s : Result ℕ IndexFault = Err c.index_fault.result in
+    finds_fail g.S.EawStore.tells V g.S.EawStore.calls c.args.root c.args.key most Located (λ (at : Located) (steps : List Step). IsMet 0 steps) (IsTrue g.S.EawStore.tells) c.args.tid limits due (blamed_index s) v0.store v1.store one.0 one.1 c.in-Err.fault
+    (ap (λ (f : IndexFault). (let r : Result ℕ IndexFault = Err f in blamed_index r)) c.index_fault.ensures ∙ blamed_same ℕ Located c.in-Err.fault) c.in-Err.ensures.finds
+
+pub returns-then-not-has_slot-clause-works : goal.returns-then-not-has_slot-clause-works
+returns-then-not-has_slot-clause-works g c =
+    let V = g.S.EawStore.view in
+    let v0 = pages_of (V c.args.pages.now.store) c.args.pages.now in
+    let v1 = pages_of (V c.locate_for.new.pages.store) c.locate_for.new.pages in
+    let known = is_some c.args.place in
+    let limits = insertion_limits known (chain_finding c.args.root c.args.key) v0.store.shape in
+    let most = most_read known v0.store.shape in
+    let one = limits_one known c.args.root c.args.key v0.store.shape in
+    let due = chain_actions v0.store.state.bytes c.args.root c.args.key in
+    let then_due = chain_actions v1.store.state.bytes c.args.root c.args.key in
+    finds_then g.S.EawStore.tells V g.S.EawStore.calls c.args.root c.args.key most Located (λ (at : Located) (steps : List Step). IsMet 0 steps) (IsTrue g.S.EawStore.tells) c.args.tid limits due None v0.store v1.store one.0 one.1 v1.store false limits_here then_due (0 ∷ []) c.in-Ok.ensures.looks.shape c.in-Ok.at c.in-Ok.ensures.finds refl refl one.2 one.3 (λ told. ap (λ (b : List ℕ). chain_actions b c.args.root c.args.key) (ap (λ (s : State). s.bytes) ((c.in-Ok.ensures.looks.still refl).state told))) (λ page among. front_only page c.in-Ok.ensures.finds.steps c.in-Ok.ensures.finds.ends among)
+    (none_done g.S.EawStore.tells V g.S.EawStore.calls (IsTrue g.S.EawStore.tells) c.args.tid limits_here then_due None (0 ∷ []) then_due false v1.store tt (λ told. refl) (λ told is. absurd (false≢true is)))
+
+pub returns-then-len-lt-PAIRS_MAX-clause-works : goal.returns-then-len-lt-PAIRS_MAX-clause-works
+returns-then-len-lt-PAIRS_MAX-clause-works g c =
+    let V = g.S.EawStore.view in
+    let v0 = pages_of (V c.args.pages.now.store) c.args.pages.now in
+    let v1 = pages_of (V c.locate_for.new.pages.store) c.locate_for.new.pages in
+    let known = is_some c.args.place in
+    let limits = insertion_limits known (chain_finding c.args.root c.args.key) v0.store.shape in
+    let most = most_read known v0.store.shape in
+    let one = limits_one known c.args.root c.args.key v0.store.shape in
+    let due = chain_actions v0.store.state.bytes c.args.root c.args.key in
+    finds_then g.S.EawStore.tells V g.S.EawStore.calls c.args.root c.args.key most Located (λ (at : Located) (steps : List Step). IsMet 0 steps) (IsTrue g.S.EawStore.tells) c.args.tid limits due (blamed_index c.insert_here.result) v0.store v1.store one.0 one.1 (V c.insert_here.new.pages.store) (is_done c.insert_here.result) limits_here (chain_actions v1.store.state.bytes c.args.root c.args.key) (0 ∷ []) c.in-Ok.ensures.looks.shape c.in-Ok.at c.in-Ok.ensures.finds
+    refl refl one.2 one.3 (λ told. ap (λ (b : List ℕ). chain_actions b c.args.root c.args.key) (ap (λ (s : State). s.bytes) ((c.in-Ok.ensures.looks.still refl).state told))) (λ page among. front_only page c.in-Ok.ensures.finds.steps c.in-Ok.ensures.finds.ends among) c.insert_here.ensures.works
+
+pub returns-clause-works : goal.returns-clause-works
+returns-clause-works g c =
+    let V = g.S.EawStore.view in
+    let v0 = pages_of (V c.args.pages.now.store) c.args.pages.now in
+    let v1 = pages_of (V c.locate_for.new.pages.store) c.locate_for.new.pages in
+    let known = is_some c.args.place in
+    let limits = insertion_limits known (chain_finding c.args.root c.args.key) v0.store.shape in
+    let most = most_read known v0.store.shape in
+    let one = limits_one known c.args.root c.args.key v0.store.shape in
+    let due = chain_actions v0.store.state.bytes c.args.root c.args.key in
+    let full : length c.in-Ok.at.pairs.items ≡ 30 = full_with c.in-Ok.at.pairs.items c.len.result c.len.ensures.value c.if-len-lt-PAIRS_MAX.false c.in-Ok.ensures.located.most in
+    let unknown : known ≡ false = elim (cases_Bool known) [ inl is ↦ absurd (let room = c.in-Ok.ensures.room is in omega (arith, room, full)) | inr other ↦ other ] in
+    let some : 1 ≤ index_pages_of v0.store.shape = omega (arith, c.in-Ok.ensures.located.inside) in
+    let two = limits_two known c.args.root c.args.key v0.store.shape unknown some in
+    finds_then g.S.EawStore.tells V g.S.EawStore.calls c.args.root c.args.key most Located (λ (at : Located) (steps : List Step). IsMet 0 steps) (IsTrue g.S.EawStore.tells) c.args.tid limits due (blamed_index c.insert_cut.result) v0.store v1.store one.0 one.1 (V c.insert_cut.new.pages.store) (is_done c.insert_cut.result) limits_cut (chain_actions v1.store.state.bytes c.args.root c.args.key) (0 ∷ []) c.in-Ok.ensures.looks.shape c.in-Ok.at c.in-Ok.ensures.finds
+    refl refl two.0 two.1 (λ told. ap (λ (b : List ℕ). chain_actions b c.args.root c.args.key) (ap (λ (s : State). s.bytes) ((c.in-Ok.ensures.looks.still refl).state told))) (λ page among. front_only page c.in-Ok.ensures.finds.steps c.in-Ok.ensures.finds.ends among) c.insert_cut.ensures.works

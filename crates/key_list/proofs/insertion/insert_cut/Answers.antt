@@ -1,4 +1,4 @@
-use Rattle.std.proofs.Common.{◌^◌, ◌<◌, ◌≤◌, ℕ, Option, Result, Err, IsTrue, refl, sym, ◌∙◌, ap, subst, arith}
+use Rattle.std.proofs.Common.{◌^◌, ◌<◌, ◌≤◌, ℕ, Option, Result, Err, IsTrue, refl, sym, ◌∙◌, ap, subst, arith, ◌≡◌, true, List, [], ◌∷◌, None, Ok, false}
 use Rattle.std.proofs.lemmas.Bool.{false≢true}
 use Rattle.array_shape.specs.declared.shape.Shape.{Shape}
 use Rattle.page_store.specs.Index.{index_pages_of}
@@ -12,6 +12,18 @@ use Rattle.key_list.specs.Index.{chain}
 use Rattle.key_list.specs.Located.{IsLocated, cutting_pages}
 use Rattle.key_list.proofs.Others.{whole_of}
 use Rattle.key_list.proofs.Whole.{pages_full, page_err, cut_err, going3, living3, sound3, named3, absent3, located3, room3, slot3, said3, cut_then}
+use Rattle.eaw_face.specs.StoreView.{log_len}
+use Rattle.record_slots.specs.Places.{page_due}
+use Rattle.page_store.specs.Runs.{acting_of}
+use Rattle.page_store.specs.Works.{blamed_index, is_done}
+use Rattle.page_store.specs.declared.fault.PageFault.{PageFault}
+use Rattle.index_pages.specs.Page.{page_pairs}
+use Rattle.index_pages.proofs.Working.{blamed_same}
+use Rattle.key_list.specs.Finds.{limits_here, limits_cut}
+use Rattle.key_list.specs.Index.{chain_actions, adding, by_half}
+use Rattle.key_list.specs.Located.{cutting_parts}
+use Rattle.key_list.proofs.Spending.{acted, cutting_by, act_blames, none_done, peek_fails, act_ends, act_then}
+use Rattle.key_list.proofs.Whole.{made_first, made_cut}
 use Rattle.key_list.proofs.insertion.insert_cut.Goals as goal
 
 pub has_page-requires : goal.has_page-requires
@@ -164,3 +176,62 @@ returns-clause-inserts g c =
 pub returns-clause-dead : goal.returns-clause-dead
 returns-clause-dead g c =
     λ told. absurd (c.insert_here.ensures.dead told)
+
+pub returns-then-not-has_page-clause-works : goal.returns-then-not-has_page-clause-works
+returns-then-not-has_page-clause-works g c =
+    let V = g.S.EawStore.view in
+    let v0 = pages_of (V c.args.pages.now.store) c.args.pages.now in
+    let at = c.args.at in
+    let due = chain_actions v0.store.state.bytes c.args.root c.args.key in
+    none_done g.S.EawStore.tells V g.S.EawStore.calls (IsTrue g.S.EawStore.tells) c.args.tid limits_cut due None (0 ∷ []) due false v0.store tt (λ told. refl) (λ told is. absurd (false≢true is))
+
+pub returns-in-Err-clause-works : goal.returns-in-Err-clause-works
+returns-in-Err-clause-works g c =
+    let V = g.S.EawStore.view in
+    let v0 = pages_of (V c.args.pages.now.store) c.args.pages.now in
+    let at = c.args.at in
+    let due = chain_actions v0.store.state.bytes c.args.root c.args.key in
+    let s : Result ℕ IndexFault = Err c.index_fault.result in
+    peek_fails g.S.EawStore.tells V g.S.EawStore.calls (IsTrue g.S.EawStore.tells) c.args.tid limits_cut due (blamed_index s) Claim v0.store (V c.take_page.new.pages.store) c.in-Err.fault (omega arith)
+    (ap (λ (f : IndexFault). (let r : Result ℕ IndexFault = Err f in blamed_index r)) c.index_fault.ensures ∙ blamed_same ℕ Claim c.in-Err.fault) c.in-Err.ensures.peeks
+
+pub returns-in-Err-cut_page-clause-works : goal.returns-in-Err-cut_page-clause-works
+returns-in-Err-cut_page-clause-works g c =
+    let V = g.S.EawStore.view in
+    let v0 = pages_of (V c.args.pages.now.store) c.args.pages.now in
+    let at = c.args.at in
+    let due = chain_actions v0.store.state.bytes c.args.root c.args.key in
+    let v1 = pages_of (V c.take_page.new.pages.store) c.take_page.new.pages in
+    let v2 = pages_of (V c.cut_page.new.pages.store) c.cut_page.new.pages in
+    let n = c.index_page_count-count.ensures in
+    let taken = c.in-Ok.taken in
+    let small : c.args.key < 2 ^ 64 = omega arith in
+    let long = λ (told : IsTrue g.S.EawStore.tells). g.met.S.EawStore.long c.args.pages.now.store told in
+    let mark = log_len v1.store c.args.tid in
+    let r : Result (Unit {0}) PageFault = Err c.in-Err-cut_page.fault in
+    let s : Result ℕ IndexFault = Err c.index_fault-in-Err-cut_page.result in
+    let blames : blamed_index s ≡ None = ap (λ (f : IndexFault). (let e : Result ℕ IndexFault = Err f in blamed_index e)) c.index_fault-in-Err-cut_page.ensures ∙ blamed_same ℕ Claim c.in-Err-cut_page.fault
+    ∙ act_blames Claim v1.store c.args.tid (cutting_pages taken.number at.page) c.in-Err-cut_page.fault c.in-Err-cut_page.ensures.acts.cause in
+    act_ends g.S.EawStore.tells V g.S.EawStore.calls (IsTrue g.S.EawStore.tells) c.args.tid limits_cut due (blamed_index s) Claim taken c.args.pages.now (acted (cutting_pages taken.number at.page) 1) (acting_of c.args.tid mark (cutting_parts taken.front taken.number at.page at.link at.pairs.items))
+    v0.store v1.store v2.store c.in-Ok.ensures.peeks r c.in-Err-cut_page.ensures.runs (cutting_by c.args.tid mark taken.front taken.number at.page at.link at.pairs.items) (0 ∷ [])
+    (adding v0.store.state.bytes (by_half (page_pairs v0.store.state.bytes at.page) c.args.key at.page (page_due v0.store.state.bytes 0)) ∷ []) (omega arith) (omega arith) blames
+    (made_first g.S.EawStore.tells g.S.EawStore.opens c.args.tid c.args.root c.args.table c.args.key v0 c.index_page_count-count.result n.count n.all n.most small c.requires.table c.requires.sound c.requires.named c.requires.absent long c.requires.alive at.front at.page at.link at.pairs.items c.requires.located c.requires.said c.requires.slot c.requires.full (c.if-not-has_page.ensures.0 refl) v1 c.in-Ok.ensures.looks taken.front taken.number c.in-Ok.ensures.takes c.in-Ok.ensures.inside c.in-Ok.ensures.front c.in-Ok.ensures.slots) (λ told is. absurd (false≢true is))
+
+pub returns-clause-works : goal.returns-clause-works
+returns-clause-works g c =
+    let V = g.S.EawStore.view in
+    let v0 = pages_of (V c.args.pages.now.store) c.args.pages.now in
+    let at = c.args.at in
+    let due = chain_actions v0.store.state.bytes c.args.root c.args.key in
+    let v1 = pages_of (V c.take_page.new.pages.store) c.take_page.new.pages in
+    let v2 = pages_of (V c.cut_page.new.pages.store) c.cut_page.new.pages in
+    let n = c.index_page_count-count.ensures in
+    let taken = c.in-Ok.taken in
+    let small : c.args.key < 2 ^ 64 = omega arith in
+    let long = λ (told : IsTrue g.S.EawStore.tells). g.met.S.EawStore.long c.args.pages.now.store told in
+    let mark = log_len v1.store c.args.tid in
+    let r : Result (Unit {0}) PageFault = Ok tt in
+    act_then g.S.EawStore.tells V g.S.EawStore.calls (IsTrue g.S.EawStore.tells) c.args.tid limits_cut due (blamed_index c.insert_here.result) Claim taken c.args.pages.now (acted (cutting_pages taken.number at.page) 1) (acting_of c.args.tid mark (cutting_parts taken.front taken.number at.page at.link at.pairs.items))
+    v0.store v1.store v2.store c.in-Ok.ensures.peeks r c.in-Ok-cut_page.ensures.runs (cutting_by c.args.tid mark taken.front taken.number at.page at.link at.pairs.items) (V c.insert_here.new.pages.store) (is_done c.insert_here.result) limits_here
+    (chain_actions v2.store.state.bytes c.args.root c.args.key) refl (c.in-Ok-cut_page.ensures.acts.shape ∙ c.in-Ok.ensures.looks.shape) refl refl (omega arith) (omega arith) (omega arith)
+    (made_cut g.S.EawStore.tells g.S.EawStore.opens c.args.tid c.args.root c.args.table c.args.key v0 c.index_page_count-count.result n.count n.all n.most small c.requires.table c.requires.sound c.requires.named c.requires.absent long c.requires.alive at.front at.page at.link at.pairs.items c.requires.located c.requires.said c.requires.slot c.requires.full (c.if-not-has_page.ensures.0 refl) v1 c.in-Ok.ensures.looks taken.front taken.number c.in-Ok.ensures.takes c.in-Ok.ensures.inside c.in-Ok.ensures.front c.in-Ok.ensures.slots v2 c.in-Ok-cut_page.ensures.acts) c.insert_here.ensures.works

@@ -1,4 +1,4 @@
-use Rattle.std.proofs.Common.{◌^◌, ◌<◌, ℕ, Option, Result, Err, IsTrue, refl, sym, ◌∙◌, ap, subst, arith}
+use Rattle.std.proofs.Common.{◌^◌, ◌<◌, ℕ, Option, Result, Err, IsTrue, refl, sym, ◌∙◌, ap, subst, arith, ◌≡◌, true, List, [], ◌∷◌, None, Ok}
 use Rattle.array_shape.specs.declared.shape.Shape.{Shape}
 use Rattle.page_store.specs.Index.{slots_of, index_pages_of}
 use Rattle.page_store.specs.Inserts.{Inserts}
@@ -13,6 +13,16 @@ use Rattle.key_list.specs.Located.{IsLocated}
 use Rattle.index_pages.proofs.Even.{halves, halves_few}
 use Rattle.key_list.proofs.Others.{whole_of}
 use Rattle.key_list.proofs.Whole.{slot_err, add_done, add_err}
+use Rattle.eaw_face.specs.StoreView.{log_len}
+use Rattle.page_store.specs.Runs.{acting_of}
+use Rattle.page_store.specs.Works.{blamed_index}
+use Rattle.page_store.specs.declared.fault.PageFault.{PageFault}
+use Rattle.index_pages.specs.Adding.{adding_parts}
+use Rattle.index_pages.proofs.Working.{blamed_same}
+use Rattle.key_list.specs.Finds.{limits_here}
+use Rattle.key_list.specs.Index.{chain_actions}
+use Rattle.key_list.proofs.Spending.{acted, adding_by, act_blames, peek_fails, act_ends}
+use Rattle.key_list.proofs.Whole.{made_here}
 use Rattle.key_list.proofs.insertion.insert_here.Goals as goal
 
 pub take_slot-requires : goal.take_slot-requires
@@ -105,3 +115,52 @@ returns-in-Err-add_pair-clause-dead g c =
     let ps = adding_pages (index_pages_of v1.store.shape) c.in-Ok.taken.number c.args.at.page in
     λ told. dead_act v1.store c.args.tid ps c.in-Err-add_pair.fault ((c.in-Ok.ensures.looks.still refl).dead ∙ c.requires.alive)
     (dead_fault c.in-Err-add_pair.fault c.index_fault-in-Err-add_pair.result (act_of_index v1.store c.args.tid ps c.in-Err-add_pair.fault c.in-Err-add_pair.ensures.acts.cause) c.index_fault-in-Err-add_pair.ensures told) c.in-Err-add_pair.ensures.acts.cause
+
+pub returns-in-Err-clause-works : goal.returns-in-Err-clause-works
+returns-in-Err-clause-works g c =
+    let V = g.S.EawStore.view in
+    let v0 = pages_of (V c.args.pages.now.store) c.args.pages.now in
+    let at = c.args.at in
+    let due = chain_actions v0.store.state.bytes c.args.root c.args.key in
+    let s : Result ℕ IndexFault = Err c.index_fault.result in
+    peek_fails g.S.EawStore.tells V g.S.EawStore.calls (IsTrue g.S.EawStore.tells) c.args.tid limits_here due (blamed_index s) Claim v0.store (V c.take_slot.new.pages.store) c.in-Err.fault (omega arith)
+    (ap (λ (f : IndexFault). (let r : Result ℕ IndexFault = Err f in blamed_index r)) c.index_fault.ensures ∙ blamed_same ℕ Claim c.in-Err.fault) c.in-Err.ensures.peeks
+
+pub returns-in-Ok-add_pair-clause-works : goal.returns-in-Ok-add_pair-clause-works
+returns-in-Ok-add_pair-clause-works g c =
+    let V = g.S.EawStore.view in
+    let v0 = pages_of (V c.args.pages.now.store) c.args.pages.now in
+    let at = c.args.at in
+    let due = chain_actions v0.store.state.bytes c.args.root c.args.key in
+    let v1 = pages_of (V c.take_slot.new.pages.store) c.take_slot.new.pages in
+    let v2 = pages_of (V c.add_pair.new.pages.store) c.add_pair.new.pages in
+    let taken = c.in-Ok.taken in
+    let small : c.args.key < 2 ^ 64 = omega arith in
+    let long = λ (told : IsTrue g.S.EawStore.tells). g.met.S.EawStore.long c.args.pages.now.store told in
+    let made = made_here g.S.EawStore.tells g.S.EawStore.opens c.args.tid c.args.root c.args.table c.args.key v0 (index_pages_of v0.store.shape) refl (halves v0.store.shape) (halves_few v0.store.shape) small c.requires.table c.requires.sound c.requires.named c.requires.absent long c.requires.alive at.front at.page at.link at.pairs.items c.requires.located c.requires.said c.requires.slot c.requires.room v1 c.in-Ok.ensures.looks taken.front taken.number c.in-Ok.ensures.takes c.in-Ok.ensures.inside in
+    let half = index_pages_of v1.store.shape in
+    let mark = log_len v1.store c.args.tid in
+    let r : Result (Unit {0}) PageFault = Ok tt in
+    act_ends g.S.EawStore.tells V g.S.EawStore.calls (IsTrue g.S.EawStore.tells) c.args.tid limits_here due (None) Claim taken c.args.pages.now (acted (adding_pages half taken.number at.page) 0) (acting_of c.args.tid mark (adding_parts half taken.front taken.number at.page at.link at.pairs.items c.args.table c.args.key))
+    v0.store v1.store v2.store c.in-Ok.ensures.peeks r c.in-Ok-add_pair.ensures.runs (adding_by c.args.tid mark half taken.front taken.number at.page at.link at.pairs.items c.args.table c.args.key) (0 ∷ []) [] (omega arith) (omega arith) refl made (λ told is. refl)
+
+pub returns-in-Err-add_pair-clause-works : goal.returns-in-Err-add_pair-clause-works
+returns-in-Err-add_pair-clause-works g c =
+    let V = g.S.EawStore.view in
+    let v0 = pages_of (V c.args.pages.now.store) c.args.pages.now in
+    let at = c.args.at in
+    let due = chain_actions v0.store.state.bytes c.args.root c.args.key in
+    let v1 = pages_of (V c.take_slot.new.pages.store) c.take_slot.new.pages in
+    let v2 = pages_of (V c.add_pair.new.pages.store) c.add_pair.new.pages in
+    let taken = c.in-Ok.taken in
+    let small : c.args.key < 2 ^ 64 = omega arith in
+    let long = λ (told : IsTrue g.S.EawStore.tells). g.met.S.EawStore.long c.args.pages.now.store told in
+    let made = made_here g.S.EawStore.tells g.S.EawStore.opens c.args.tid c.args.root c.args.table c.args.key v0 (index_pages_of v0.store.shape) refl (halves v0.store.shape) (halves_few v0.store.shape) small c.requires.table c.requires.sound c.requires.named c.requires.absent long c.requires.alive at.front at.page at.link at.pairs.items c.requires.located c.requires.said c.requires.slot c.requires.room v1 c.in-Ok.ensures.looks taken.front taken.number c.in-Ok.ensures.takes c.in-Ok.ensures.inside in
+    let half = index_pages_of v1.store.shape in
+    let mark = log_len v1.store c.args.tid in
+    let r : Result (Unit {0}) PageFault = Err c.in-Err-add_pair.fault in
+    let s : Result ℕ IndexFault = Err c.index_fault-in-Err-add_pair.result in
+    let blames : blamed_index s ≡ None = ap (λ (f : IndexFault). (let e : Result ℕ IndexFault = Err f in blamed_index e)) c.index_fault-in-Err-add_pair.ensures ∙ blamed_same ℕ Claim c.in-Err-add_pair.fault
+    ∙ act_blames Claim v1.store c.args.tid (adding_pages half taken.number at.page) c.in-Err-add_pair.fault c.in-Err-add_pair.ensures.acts.cause in
+    act_ends g.S.EawStore.tells V g.S.EawStore.calls (IsTrue g.S.EawStore.tells) c.args.tid limits_here due (blamed_index s) Claim taken c.args.pages.now (acted (adding_pages half taken.number at.page) 0) (acting_of c.args.tid mark (adding_parts half taken.front taken.number at.page at.link at.pairs.items c.args.table c.args.key))
+    v0.store v1.store v2.store c.in-Ok.ensures.peeks r c.in-Err-add_pair.ensures.runs (adding_by c.args.tid mark half taken.front taken.number at.page at.link at.pairs.items c.args.table c.args.key) (0 ∷ []) [] (omega arith) (omega arith) blames made (λ told is. refl)

@@ -1,4 +1,4 @@
-use Rattle.std.proofs.Common.{◌≡◌, ◌≤◌, ◌+◌, ℕ, false, List, None, refl, sym, ◌∙◌, ap, subst, arith}
+use Rattle.std.proofs.Common.{◌≡◌, ◌≤◌, ◌+◌, ℕ, false, List, None, refl, sym, ◌∙◌, ap, subst, arith, Option, Result, Err}
 use Rattle.std.proofs.lemmas.Bool.{false≢true}
 use Rattle.eaw_face.specs.State.{State}
 use Rattle.eaw_face.specs.Causes.{IsAlive}
@@ -17,6 +17,9 @@ use Rattle.index_pages.proofs.Courses.{on_first, on_step, on_end, on_err, on_out
 use Rattle.key_list.specs.Along.{along, Arrives}
 use Rattle.key_list.specs.Linked.{IsLinked}
 use Rattle.key_list.proofs.Ends.{leads_on, ends_last, ends_some}
+use Rattle.page_store.specs.Looks.{is_failed}
+use Rattle.page_store.specs.declared.fault.PageFault.{PageFault}
+use Rattle.key_list.specs.declared.look.Reached.{Reached}
 use Rattle.key_list.proofs.look.reach.Goals as goal
 
 pub loop-step-init : goal.loop-step-init
@@ -177,3 +180,8 @@ returns-clause-walks g c =
 
 pub returns-then-head-eq0-clause-none : goal.returns-then-head-eq0-clause-none
 returns-then-head-eq0-clause-none g c = sym c.next_pair.ensures ∙ none_is c.next_pair.result c.if-is_some.ensures
+
+pub returns-in-Err-clause-looks : goal.returns-in-Err-clause-looks
+returns-in-Err-clause-looks g c =
+    let r : Result (Option Reached) PageFault = Err c.in-Err.fault in
+    looks_next g.S.EawStore.tells g.S.EawStore.opens (is_failed r) (pages_of (g.S.EawStore.view c.args.pages.now.store) c.args.pages.now) (pages_of (g.S.EawStore.view c.loop-step.pages.store) c.loop-step.pages) (pages_of (g.S.EawStore.view c.read_page.new.pages.store) c.read_page.new.pages) c.loop-step.invariant.looks c.in-Err.ensures.looks

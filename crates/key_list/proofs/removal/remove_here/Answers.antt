@@ -1,6 +1,18 @@
-use Rattle.std.proofs.Common.{◌*◌, ◌^◌, ◌<◌, ℕ, IsTrue, sym, ◌∙◌, ap, arith}
+use Rattle.std.proofs.Common.{◌*◌, ◌^◌, ◌<◌, ℕ, IsTrue, sym, ◌∙◌, ap, arith, ◌≡◌, true, false, List, [], ◌∷◌, inl, inr, refl, subst, None, Some, Result, Ok, Err, Bool}
 use Rattle.page_store.specs.Shown.{pages_of}
 use Rattle.key_list.proofs.Taking.{pair_stays, slot_missing, slot_refused, pair_gone, action_refused}
+use Rattle.std.proofs.lemmas.Bool.{false≢true}
+use Rattle.array_shape.specs.Places.{page_count}
+use Rattle.eaw_face.specs.StoreView.{log_len}
+use Rattle.page_store.specs.Index.{index_pages_of}
+use Rattle.page_store.specs.Runs.{acting_of}
+use Rattle.page_store.specs.Works.{blamed, removal_actions}
+use Rattle.page_store.specs.declared.fault.PageFault.{PageFault}
+use Rattle.index_pages.specs.Giving.{removing_pages, removing_parts}
+use Rattle.key_list.specs.Finds.{limits_here}
+use Rattle.key_list.specs.Index.{chain_removal}
+use Rattle.key_list.proofs.Spending.{acted, removing_by, act_blames, none_done, peek_none, act_ends}
+use Rattle.key_list.proofs.Taking.{made_none, made_removing}
 use Rattle.key_list.proofs.removal.remove_here.Goals as goal
 
 pub returns-then-keeps_last-clause-removes : goal.returns-then-keeps_last-clause-removes
@@ -83,3 +95,66 @@ returns-in-Err-clause-removes g c =
     let released = c.in-Some-give_slot.released in
     let gives = c.in-Some-give_slot.ensures.gives in
     action_refused T E t root table key v0 small c.requires.sound c.requires.named c.requires.lists c.requires.absent long c.requires.alive at.front at.page at.link at.pairs.items c.requires.located c.requires.said c.in-Some.slot released.number c.in-Some.ensures.some.1 released.free released.front gives.0 gives.1 (sym c.keeps_last.ensures ∙ c.if-keeps_last.false) v1 c.in-Err.fault c.in-Err.ensures.acts
+
+pub returns-then-keeps_last-clause-works : goal.returns-then-keeps_last-clause-works
+returns-then-keeps_last-clause-works g c =
+    let V = g.S.EawStore.view in
+    let v0 = pages_of (V c.args.pages.now.store) c.args.pages.now in
+    let at = c.args.at in
+    let due = removal_actions (chain_removal v0.store.state.bytes c.args.root c.args.key) in
+    let small : c.args.key < 2 ^ 64 = omega arith in
+    let long = λ (told : IsTrue g.S.EawStore.tells). g.met.S.EawStore.long c.args.pages.now.store told in
+    none_done g.S.EawStore.tells V g.S.EawStore.calls (Unit {0}) c.args.tid limits_here due None (0 ∷ at.page ∷ []) [] true v0.store tt (λ told. sym (made_none g.S.EawStore.tells g.S.EawStore.opens c.args.tid c.args.root c.args.table c.args.key v0 small c.requires.sound c.requires.named c.requires.lists c.requires.absent long c.requires.alive at.front at.page at.link at.pairs.items c.requires.located c.requires.said (sym c.keeps_last.ensures ∙ c.if-keeps_last.true) told)) (λ told is. refl)
+
+pub returns-in_default-clause-works : goal.returns-in_default-clause-works
+returns-in_default-clause-works g c =
+    let V = g.S.EawStore.view in
+    let v0 = pages_of (V c.args.pages.now.store) c.args.pages.now in
+    let at = c.args.at in
+    let due = removal_actions (chain_removal v0.store.state.bytes c.args.root c.args.key) in
+    none_done g.S.EawStore.tells V g.S.EawStore.calls (Unit {0}) c.args.tid limits_here due (Some at.page) (0 ∷ at.page ∷ []) due false v0.store (omega (arith, c.requires.located.inside), inr (inl refl)) (λ told. refl) (λ told is. absurd (false≢true is))
+
+pub returns-in_default-give_slot-clause-works : goal.returns-in_default-give_slot-clause-works
+returns-in_default-give_slot-clause-works g c =
+    let V = g.S.EawStore.view in
+    let v0 = pages_of (V c.args.pages.now.store) c.args.pages.now in
+    let at = c.args.at in
+    let due = removal_actions (chain_removal v0.store.state.bytes c.args.root c.args.key) in
+    none_done g.S.EawStore.tells V g.S.EawStore.calls (Unit {0}) c.args.tid limits_here due (Some 0) (0 ∷ at.page ∷ []) due false v0.store (omega (arith, c.requires.located.inside), inl refl) (λ told. refl) (λ told is. absurd (false≢true is))
+
+pub returns-in-Ok-clause-works : goal.returns-in-Ok-clause-works
+returns-in-Ok-clause-works g c =
+    let V = g.S.EawStore.view in
+    let v0 = pages_of (V c.args.pages.now.store) c.args.pages.now in
+    let at = c.args.at in
+    let due = removal_actions (chain_removal v0.store.state.bytes c.args.root c.args.key) in
+    let small : c.args.key < 2 ^ 64 = omega arith in
+    let long = λ (told : IsTrue g.S.EawStore.tells). g.met.S.EawStore.long c.args.pages.now.store told in
+    let half = index_pages_of v0.store.shape in
+    let mark = log_len v0.store c.args.tid in
+    let v1 = V c.remove_pair.new.pages.store in
+    let released = c.in-Some-give_slot.released in
+    let gives = c.in-Some-give_slot.ensures.gives in
+    let made = made_removing g.S.EawStore.tells g.S.EawStore.opens c.args.tid c.args.root c.args.table c.args.key v0 small c.requires.sound c.requires.named c.requires.lists c.requires.absent long c.requires.alive at.front at.page at.link at.pairs.items c.requires.located c.requires.said c.in-Some.slot released.number c.in-Some.ensures.some.1 released.free released.front gives.0 gives.1 (sym c.keeps_last.ensures ∙ c.if-keeps_last.false) in
+    let r : Result (Unit {0}) PageFault = Ok tt in
+    act_ends g.S.EawStore.tells V g.S.EawStore.calls (Unit {0}) c.args.tid limits_here due (None) (Unit {0}) tt c.args.pages.now (acted (removing_pages half released.number at.page) 0) (acting_of c.args.tid mark (removing_parts half released.front released.number released.free at.page at.link at.pairs.items c.args.key))
+    v0.store v0.store v1 (peek_none g.S.EawStore.tells V g.S.EawStore.calls v0.store) r c.in-Ok.ensures.runs (removing_by c.args.tid mark half released.front released.number released.free at.page at.link at.pairs.items c.args.key) (0 ∷ at.page ∷ []) [] (omega arith) (omega arith) refl made (λ told is. refl)
+
+pub returns-in-Err-clause-works : goal.returns-in-Err-clause-works
+returns-in-Err-clause-works g c =
+    let V = g.S.EawStore.view in
+    let v0 = pages_of (V c.args.pages.now.store) c.args.pages.now in
+    let at = c.args.at in
+    let due = removal_actions (chain_removal v0.store.state.bytes c.args.root c.args.key) in
+    let small : c.args.key < 2 ^ 64 = omega arith in
+    let long = λ (told : IsTrue g.S.EawStore.tells). g.met.S.EawStore.long c.args.pages.now.store told in
+    let half = index_pages_of v0.store.shape in
+    let mark = log_len v0.store c.args.tid in
+    let v1 = V c.remove_pair.new.pages.store in
+    let released = c.in-Some-give_slot.released in
+    let gives = c.in-Some-give_slot.ensures.gives in
+    let made = made_removing g.S.EawStore.tells g.S.EawStore.opens c.args.tid c.args.root c.args.table c.args.key v0 small c.requires.sound c.requires.named c.requires.lists c.requires.absent long c.requires.alive at.front at.page at.link at.pairs.items c.requires.located c.requires.said c.in-Some.slot released.number c.in-Some.ensures.some.1 released.free released.front gives.0 gives.1 (sym c.keeps_last.ensures ∙ c.if-keeps_last.false) in
+    let r : Result (Unit {0}) PageFault = Err c.in-Err.fault in
+    let s : Result Bool PageFault = Err c.in-Err.fault in
+    act_ends g.S.EawStore.tells V g.S.EawStore.calls (Unit {0}) c.args.tid limits_here due (blamed s) (Unit {0}) tt c.args.pages.now (acted (removing_pages half released.number at.page) 0) (acting_of c.args.tid mark (removing_parts half released.front released.number released.free at.page at.link at.pairs.items c.args.key))
+    v0.store v0.store v1 (peek_none g.S.EawStore.tells V g.S.EawStore.calls v0.store) r c.in-Err.ensures.runs (removing_by c.args.tid mark half released.front released.number released.free at.page at.link at.pairs.items c.args.key) (0 ∷ at.page ∷ []) [] (omega arith) (omega arith) (act_blames Bool v0.store c.args.tid (removing_pages half released.number at.page) c.in-Err.fault c.in-Err.ensures.acts.cause) made (λ told is. refl)

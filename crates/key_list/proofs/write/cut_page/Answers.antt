@@ -7,6 +7,8 @@ use Rattle.page_store.specs.Shown.{pages_of, address}
 use Rattle.index_pages.specs.Acts.{Acts}
 use Rattle.index_pages.specs.Written.{written_page}
 use Rattle.index_pages.proofs.Parting.{page_there, part_in, all_behind}
+use Rattle.eaw_face.specs.StoreView.{log_len}
+use Rattle.page_store.specs.Runs.{Runs, acting_of}
 use Rattle.key_list.proofs.write.cut_page.Goals as goal
 
 pub act_all-requires : goal.act_all-requires
@@ -33,5 +35,7 @@ returns g c =
         c.whole_page.ensures.page i ∷ c.whole_page-2.ensures.page i ∷ c.front_part.ensures.page i ∷ [],
         (address (c.whole_page.ensures.page i) (c.whole_page.ensures.at i), lower i) ∷ (address (c.whole_page-2.ensures.page i) (c.whole_page-2.ensures.at i), upper i) ∷ (address (c.front_part.ensures.page i) (c.front_part.ensures.at i), part i) ∷ [],
       )) c.act_all.ensures.acts;
+      runs = subst (λ (ps : List Part). Runs g.S.EawStore.tells V g.S.EawStore.calls (acting_of c.args.tid (log_len v0.store c.args.tid) ps) v0.store v1.store c.act_all.result) (λ i.
+          (address (c.whole_page.ensures.page i) (c.whole_page.ensures.at i), lower i) ∷ (address (c.whole_page-2.ensures.page i) (c.whole_page-2.ensures.at i), upper i) ∷ (address (c.front_part.ensures.page i) (c.front_part.ensures.at i), part i) ∷ []) c.act_all.ensures.runs;
       dead = c.act_all.ensures.dead;
     }

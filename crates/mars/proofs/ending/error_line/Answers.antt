@@ -1,5 +1,5 @@
 use Rattle.std.proofs.Common.{◌<◌, ◌∷◌, [], ◌++◌, List, ℕ, codes, length, sym, ap, ◌∙◌, arith}
-use Rattle.mars_shell.specs.Fault.{status_text}
+use Rattle.array_runs.specs.Fault.{status_text}
 use Rattle.mars.proofs.LineLemmas.{line_is}
 use Rattle.mars.proofs.ending.error_line.Goals as goal
 

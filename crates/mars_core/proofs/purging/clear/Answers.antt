@@ -1,83 +1,57 @@
-use Rattle.std.proofs.Common.{◌≡◌, ◌≤◌, ◌<◌, ◌+◌, ◌^◌, ℕ, suc, min, Bool, true, Some, None, Option, Ok, false, IsTrue, List, refl, sym, ap, subst, ◌∙◌, arith}
+use Rattle.std.proofs.Common.{◌≡◌, ◌+◌, ℕ, List, Ok, Err, Some, refl, sym, ap, subst, ◌∙◌, arith, length, IsTrue}
+use Rattle.std.specs.Prelude.{slice_get}
 use Rattle.array_shape.specs.declared.shape.Shape.{Shape}
-use Rattle.eaw_face.specs.Causes.{IsAlive}
-use Rattle.page_store.specs.Looks.{Looks}
-use Rattle.page_store.specs.Shown.{PagesView, pages_of}
-use Rattle.record_table.specs.Removing.{IsNextAbsent}
-use Rattle.record_table.specs.declared.fault.TableFault.{TableFault}
-use Rattle.mars_core.specs.Purging.{IsReady, Tries, Clears}
-use Rattle.mars_core.proofs.Clearing.{Going, one_if, going_look, going_on, going_to, next_still, all_tried, counted}
-use Rattle.mars_core.proofs.purging.clear.Given.{Over}
+use Rattle.page_store.specs.Shown.{pages_of}
+use Rattle.mars_core.specs.Purging.{IsOfTable, IsOfFirst, Clears}
+use Rattle.mars_core.proofs.Clearing.{going_first, going_more, counted_more, more_refused, going_to, all_tried}
+use Rattle.mars_core.proofs.Passing.{first_none, first_more, sum_is}
 use Rattle.mars_core.proofs.purging.clear.Goals as goal
 
-pub returns-in-Ok-None : goal.returns-in-Ok-None
-returns-in-Ok-None g c =
+pub loop-table-init : goal.loop-table-init
+loop-table-init g c =
+    let V = g.S.EawStore.view in
+    let p = pages_of (V c.args.records.now.store) c.args.records.now in
+    going_first g.S.EawStore.tells (g.S.EawStore.opens (V c.args.records.now.store).shape) g.K.KeyIndex.index c.args.seats.now c.args.caller p c.requires.alive (IsOfFirst c.args.seats.now.names 0) (first_none c.args.seats.now.names) c.requires.ready
+
+pub loop-table-preserved : goal.loop-table-preserved
+loop-table-preserved g c =
     let V = g.S.EawStore.view in
     let T = g.S.EawStore.tells in
     let I = g.K.KeyIndex.index in
     let E = g.S.EawStore.opens (V c.args.records.now.store).shape in
+    let names = c.args.seats.now.names in
     let p = pages_of (V c.args.records.now.store) c.args.records.now in
-    let m = pages_of (V c.loop-key.records.store) c.loop-key.records in
-    let q = pages_of (V c.next_absent.new.self.store) c.next_absent.new.self in
-    let looks = subst (λ (s : Shape). Looks g.S.EawStore.tells (g.S.EawStore.opens s) false (pages_of (g.S.EawStore.view c.loop-key.records.store) c.loop-key.records) (pages_of (g.S.EawStore.view c.next_absent.new.self.store) c.next_absent.new.self)) c.loop-key.invariant.shape c.in-Ok-None.ensures.looks in
-    let going = going_look T E I c.args.seats.now c.args.caller p c.requires.alive c.loop-key.from c.loop-key.taken m c.loop-key.invariant q looks in
+    let m = pages_of (V c.loop-table.records.store) c.loop-table.records in
+    let q = pages_of (V c.clear_table.new.records.store) c.clear_table.new.records in
+    let clears = subst (λ (s : Shape). Clears g.S.EawStore.tells (g.S.EawStore.opens s) g.K.KeyIndex.index c.args.seats.now c.args.caller (IsOfTable c.in-Some.name) (pages_of (g.S.EawStore.view c.loop-table.records.store) c.loop-table.records)
+    (pages_of (g.S.EawStore.view c.clear_table.new.records.store) c.clear_table.new.records) (Ok c.in-Ok.more)) c.loop-table.invariant.shape c.in-Ok.ensures.clears in
+    let on = going_more T E I c.args.seats.now c.args.caller p c.requires.alive (IsOfFirst names c.loop-table.table) c.loop-table.taken m c.loop-table.invariant q (IsOfTable c.in-Some.name) c.in-Ok.more clears in
+    going_to T E I c.args.seats.now c.args.caller (c.loop-table.taken + c.in-Ok.more) c.saturating_add-taken.result _ (IsOfFirst names (c.loop-table.table + 1)) p q
+    (λ told. sum_is c.loop-table.taken c.in-Ok.more c.saturating_add-taken.result c.saturating_add-taken.ensures
+    (counted_more T E I c.args.seats.now c.args.caller p c.requires.alive (IsOfFirst names c.loop-table.table) c.loop-table.taken m c.loop-table.invariant q (IsOfTable c.in-Some.name) c.in-Ok.more clears told (c.requires.ready told)))
+    (λ told key of is. first_more names c.loop-table.table c.in-Some.name (ap (λ (ns : List (List ℕ)). slice_get ns c.loop-table.table) (sym c.names-in-loop-table.ensures) ∙ (sym c.name.ensures ∙ c.in-Some.is)) key of) on
+
+pub returns-in-Err : goal.returns-in-Err
+returns-in-Err g c =
+    let V = g.S.EawStore.view in
+    let names = c.args.seats.now.names in
+    let p = pages_of (V c.args.records.now.store) c.args.records.now in
+    let m = pages_of (V c.loop-table.records.store) c.loop-table.records in
+    let q = pages_of (V c.clear_table.new.records.store) c.clear_table.new.records in
+    let clears = subst (λ (s : Shape). Clears g.S.EawStore.tells (g.S.EawStore.opens s) g.K.KeyIndex.index c.args.seats.now c.args.caller (IsOfTable c.in-Some.name) (pages_of (g.S.EawStore.view c.loop-table.records.store) c.loop-table.records)
+    (pages_of (g.S.EawStore.view c.clear_table.new.records.store) c.clear_table.new.records) (Err c.in-Err.fault)) c.loop-table.invariant.shape c.in-Err.ensures.clears in
     record {
-      clears = all_tried T E I c.args.seats.now c.args.caller p c.requires.alive c.loop-key.from c.loop-key.taken q going
-          (λ told. next_still T E I m q c.loop-key.from None looks told (rw c.in-Ok-None.field-0-is at (c.in-Ok-None.ensures.next told)));
+      clears = more_refused g.S.EawStore.tells (g.S.EawStore.opens (V c.args.records.now.store).shape) g.K.KeyIndex.index c.args.seats.now c.args.caller p c.requires.alive (IsOfFirst names c.loop-table.table) c.loop-table.taken m c.loop-table.invariant q (IsOfTable c.in-Some.name)
+          (IsOfFirst names (length names)) c.in-Err.fault clears;
     }
 
-pub try_key-requires-clause-ready : goal.try_key-requires-clause-ready
-try_key-requires-clause-ready g c =
+pub returns : goal.returns
+returns g c =
     let V = g.S.EawStore.view in
-    let T = g.S.EawStore.tells in
-    let I = g.K.KeyIndex.index in
-    let E = g.S.EawStore.opens (V c.args.records.now.store).shape in
+    let names = c.args.seats.now.names in
     let p = pages_of (V c.args.records.now.store) c.args.records.now in
-    let m = pages_of (V c.loop-key.records.store) c.loop-key.records in
-    let q = pages_of (V c.next_absent.new.self.store) c.next_absent.new.self in
-    let looks = subst (λ (s : Shape). Looks g.S.EawStore.tells (g.S.EawStore.opens s) false (pages_of (g.S.EawStore.view c.loop-key.records.store) c.loop-key.records) (pages_of (g.S.EawStore.view c.next_absent.new.self.store) c.next_absent.new.self)) c.loop-key.invariant.shape c.in-Ok-Some.ensures.looks in
-    (going_look T E I c.args.seats.now c.args.caller p c.requires.alive c.loop-key.from c.loop-key.taken m c.loop-key.invariant q looks).ready
-
--- the count after a key was tried
-count_is : (was : Bool) (taken one sum : ℕ) → one ≡ mir.Val.bool_byte was → sum ≡ min (taken + one) 4294967295 → taken + one_if was < 2 ^ 32 → sum ≡ taken + one_if was
-count_is true taken one sum is total lt = omega (arith, is, total, lt)
-count_is false taken one sum is total lt = omega (arith, is, total, lt)
-
-pub loop-key-preserved : goal.loop-key-preserved
-loop-key-preserved g c =
-    let V = g.S.EawStore.view in
-    let small = c.in-Ok.ensures.tries.small in
-    let T = g.S.EawStore.tells in
-    let I = g.K.KeyIndex.index in
-    let E = g.S.EawStore.opens (V c.args.records.now.store).shape in
-    let p = pages_of (V c.args.records.now.store) c.args.records.now in
-    let m = pages_of (V c.loop-key.records.store) c.loop-key.records in
-    let q = pages_of (V c.next_absent.new.self.store) c.next_absent.new.self in
-    let r = pages_of (V c.try_key.new.records.store) c.try_key.new.records in
-    let looks = subst (λ (s : Shape). Looks g.S.EawStore.tells (g.S.EawStore.opens s) false (pages_of (g.S.EawStore.view c.loop-key.records.store) c.loop-key.records) (pages_of (g.S.EawStore.view c.next_absent.new.self.store) c.next_absent.new.self)) c.loop-key.invariant.shape c.in-Ok-Some.ensures.looks in
-    let going = going_look T E I c.args.seats.now c.args.caller p c.requires.alive c.loop-key.from c.loop-key.taken m c.loop-key.invariant q looks in
-    let next = λ (told : IsTrue g.S.EawStore.tells). next_still T E I m q c.loop-key.from (Some c.in-Ok-Some.key) looks told (rw c.in-Ok-Some.field-0-is at (c.in-Ok-Some.ensures.next told)) in
-    let tries = subst (λ (s : Shape). Tries g.S.EawStore.tells (g.S.EawStore.opens s) g.K.KeyIndex.index c.args.seats.now c.in-Ok-Some.key (pages_of (g.S.EawStore.view c.next_absent.new.self.store) c.next_absent.new.self) (pages_of (g.S.EawStore.view c.try_key.new.records.store) c.try_key.new.records) (Ok c.in-Ok.was)) going.shape c.in-Ok.ensures.tries in
-    going_to T E I c.args.seats.now c.args.caller (suc c.in-Ok-Some.key) (c.loop-key.taken + one_if c.in-Ok.was) (c.in-Ok-Some.key + 1) c.saturating_add-taken.result p r (omega arith)
-    (λ told. count_is c.in-Ok.was c.loop-key.taken c.from.result c.saturating_add-taken.result c.from.ensures c.saturating_add-taken.ensures (counted T E I c.args.seats.now c.args.caller p c.requires.alive c.loop-key.from c.loop-key.taken q going c.in-Ok-Some.key small (λ told. (next told).1) (λ told. (next told).2) r c.in-Ok.was tries told (c.requires.ready told)))
-    (going_on T E I c.args.seats.now c.args.caller p c.requires.alive c.loop-key.from c.loop-key.taken q going c.in-Ok-Some.key small (λ told. (next told).1) (λ told. (next told).2) r c.in-Ok.was tries)
-
-pub returns-then-key : goal.returns-then-key
-returns-then-key g c =
-    let V = g.S.EawStore.view in
-    let small = c.in-Ok.ensures.tries.small in
-    let T = g.S.EawStore.tells in
-    let I = g.K.KeyIndex.index in
-    let E = g.S.EawStore.opens (V c.args.records.now.store).shape in
-    let p = pages_of (V c.args.records.now.store) c.args.records.now in
-    let m = pages_of (V c.loop-key.records.store) c.loop-key.records in
-    let q = pages_of (V c.next_absent.new.self.store) c.next_absent.new.self in
-    let r = pages_of (V c.try_key.new.records.store) c.try_key.new.records in
-    let looks = subst (λ (s : Shape). Looks g.S.EawStore.tells (g.S.EawStore.opens s) false (pages_of (g.S.EawStore.view c.loop-key.records.store) c.loop-key.records) (pages_of (g.S.EawStore.view c.next_absent.new.self.store) c.next_absent.new.self)) c.loop-key.invariant.shape c.in-Ok-Some.ensures.looks in
-    let going = going_look T E I c.args.seats.now c.args.caller p c.requires.alive c.loop-key.from c.loop-key.taken m c.loop-key.invariant q looks in
-    let next = λ (told : IsTrue g.S.EawStore.tells). next_still T E I m q c.loop-key.from (Some c.in-Ok-Some.key) looks told (rw c.in-Ok-Some.field-0-is at (c.in-Ok-Some.ensures.next told)) in
-    let tries = subst (λ (s : Shape). Tries g.S.EawStore.tells (g.S.EawStore.opens s) g.K.KeyIndex.index c.args.seats.now c.in-Ok-Some.key (pages_of (g.S.EawStore.view c.next_absent.new.self.store) c.next_absent.new.self) (pages_of (g.S.EawStore.view c.try_key.new.records.store) c.try_key.new.records) (Ok c.in-Ok.was)) going.shape c.in-Ok.ensures.tries in
-    let on = going_to T E I c.args.seats.now c.args.caller (suc c.in-Ok-Some.key) (c.loop-key.taken + one_if c.in-Ok.was) (2 ^ 64) c.saturating_add-taken.result p r (omega (arith, c.if-key.true))
-    (λ told. count_is c.in-Ok.was c.loop-key.taken c.from.result c.saturating_add-taken.result c.from.ensures c.saturating_add-taken.ensures (counted T E I c.args.seats.now c.args.caller p c.requires.alive c.loop-key.from c.loop-key.taken q going c.in-Ok-Some.key small (λ told. (next told).1) (λ told. (next told).2) r c.in-Ok.was tries told (c.requires.ready told)))
-    (going_on T E I c.args.seats.now c.args.caller p c.requires.alive c.loop-key.from c.loop-key.taken q going c.in-Ok-Some.key small (λ told. (next told).1) (λ told. (next told).2) r c.in-Ok.was tries) in
-    record { clears = all_tried T E I c.args.seats.now c.args.caller p c.requires.alive (2 ^ 64) c.saturating_add-taken.result r on (λ told k le lt is. absurd (omega (arith, le, lt))) }
+    let m = pages_of (V c.loop-table.records.store) c.loop-table.records in
+    record {
+      clears = all_tried g.S.EawStore.tells (g.S.EawStore.opens (V c.args.records.now.store).shape) g.K.KeyIndex.index c.args.seats.now c.args.caller p c.requires.alive (IsOfFirst names c.loop-table.table) c.loop-table.taken m c.loop-table.invariant
+          (IsOfFirst names (length names)) (λ told key of is. (of.0, omega (arith, of.1, c.loop-table-test.false, c.count-table-end.ensures.count, ap length c.names.ensures), of.2, of.3));
+    }

@@ -1,20 +1,52 @@
-use Rattle.std.proofs.Common.{arith}
+use Rattle.std.proofs.Common.{◌≡◌, ◌<◌, ap, subst, sym, ◌∙◌, IsTrue, List, ℕ, arith}
+use Rattle.std.specs.Prelude.{slice_get, length, Some}
+use Rattle.history.specs.Key.{of_table}
+use Rattle.history.specs.declared.key.Key.{Key}
 use Rattle.page_store.specs.Shown.{pages_of}
-use Rattle.mars_core.proofs.Clearing.{all_unwritten, removed_tries}
+use Rattle.record_table.specs.Names.{IsCalled}
+use Rattle.record_table.specs.Removing.{IsAbsent, IsUnwritten}
+use Rattle.mars_core.proofs.Clearing.{all_unwritten, busy_tries, removed_tries, called_key}
+use Rattle.mars_core.proofs.Passing.{there}
 use Rattle.mars_core.proofs.purging.try_key.Goals as goal
+
+pub remove-requires-clause-there : goal.remove-requires-clause-there
+remove-requires-clause-there g c = λ told alive.
+    subst (λ (ns : List (List ℕ)). c.args.table < length ns) (sym (c.requires.ready told).named) (there c.args.seats.now.names c.args.table c.args.name.now c.requires.named)
+
+pub remove-requires-clause-absent : goal.remove-requires-clause-absent
+remove-requires-clause-absent g c = λ told alive.
+    let V = g.S.EawStore.view in
+    let bytes = (V c.args.records.now.store).state.bytes in
+    let key = of_table c.args.name.now c.args.key in
+    let called = ap (λ (ns : List (List ℕ)). slice_get ns c.args.table) (c.requires.ready told).named ∙ c.requires.named in
+    subst (λ (k : Key). IsAbsent g.K.KeyIndex.index (g.S.EawStore.view c.args.records.now.store).state.bytes k) (sym (called_key bytes c.args.table key called)) (c.requires.absent told)
 
 pub remove-requires-clause-unwritten : goal.remove-requires-clause-unwritten
 remove-requires-clause-unwritten g c = λ told alive.
     let V = g.S.EawStore.view in
     let old = c.args.records.now in
-    all_unwritten g.S.EawStore.tells (g.S.EawStore.opens (V old.store).shape) g.K.KeyIndex.index c.args.seats.now c.args.caller c.args.key (omega arith) (pages_of (V old.store) old) c.requires.alive c.requires.ready c.requires.idle c.in-None.ensures.free told
+    let key = of_table c.args.name.now c.args.key in
+    let called = ap (λ (ns : List (List ℕ)). slice_get ns c.args.table) (c.requires.ready told).named ∙ c.requires.named in
+    subst (λ (k : Key). IsUnwritten g.K.KeyIndex.index (pages_of (g.S.EawStore.view c.args.records.now.store) c.args.records.now) k) (sym (called_key (V old.store).state.bytes c.args.table key called))
+    (all_unwritten g.S.EawStore.tells (g.S.EawStore.opens (V old.store).shape) g.K.KeyIndex.index c.args.seats.now c.args.caller c.args.table key (omega arith) c.requires.named (pages_of (V old.store) old) c.requires.alive c.requires.unheld c.requires.ready c.requires.idle c.in-None.ensures.free told)
 
 pub returns-in-None : goal.returns-in-None
 returns-in-None g c =
     let V = g.S.EawStore.view in
     let old = c.args.records.now in
     let new = c.remove.new.self in
+    let key = of_table c.args.name.now c.args.key in
     record {
-      tries = removed_tries g.S.EawStore.tells (g.S.EawStore.opens (V old.store).shape) g.K.KeyIndex.index c.args.seats.now c.args.caller c.args.key (omega arith) (pages_of (V old.store) old) c.requires.alive c.requires.ready c.requires.idle c.in-None.ensures.free
+      tries = removed_tries g.S.EawStore.tells (g.S.EawStore.opens (V old.store).shape) g.K.KeyIndex.index c.args.seats.now c.args.caller c.args.table key (omega arith) c.requires.named (pages_of (V old.store) old) c.requires.alive c.requires.unheld c.requires.ready c.requires.idle c.in-None.ensures.free
           (g.met.S.EawStore.shaped old.store).some_entries (pages_of (V new.store) new) c.remove.result c.remove.ensures.removes;
+    }
+
+pub returns-in-Some : goal.returns-in-Some
+returns-in-Some g c =
+    let V = g.S.EawStore.view in
+    let old = c.args.records.now in
+    let key = of_table c.args.name.now c.args.key in
+    record {
+      tries = busy_tries g.S.EawStore.tells (g.S.EawStore.opens (V old.store).shape) g.K.KeyIndex.index c.args.seats.now c.args.caller c.args.table key (omega arith) c.requires.named (pages_of (V old.store) old) c.requires.alive c.requires.unheld c.requires.ready
+          c.in-Some.field-0 c.in-Some.ensures.busy;
     }

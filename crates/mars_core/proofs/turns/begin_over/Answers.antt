@@ -1,6 +1,10 @@
-use Rattle.std.proofs.Common.{ap, ◌∙◌}
+use Rattle.page_store.specs.Shown.{Shown}
+use Rattle.mars_core.specs.Attached.{GivesBack}
+use Rattle.mars_core.proofs.Attaching.{gives_same}
+use Rattle.std.proofs.Common.{◌≡◌, false, ap, sym, subst, ◌∙◌}
 use Rattle.array_shape.specs.declared.shape.Shape.{Shape}
 use Rattle.page_store.specs.Shown.{pages_of}
+use Rattle.history.specs.Rows.{records_in}
 use Rattle.mars_core.proofs.Prefixes.{StoreLaws}
 use Rattle.mars_core.proofs.Opening.{opened_keeps, opened_begins}
 use Rattle.mars_core.proofs.turns.begin_over.Given.{Over}
@@ -19,14 +23,14 @@ invariant_of-result g c =
     let V = g.S.EawStore.view in
     let after = c.in-Ok-upgraded.records in
     opened_keeps g.S.EawStore.tells g.S.EawStore.opens g.K.KeyIndex.index (pages_of (V c.args.records.store) c.args.records) (pages_of (V after.store) after) (laws_at g after.store) c.requires.alive c.requires.sound c.requires.idle c.requires.unsaved
-    c.in-Ok-upgraded.ensures.upgrades c.args.base c.requires.base c.in-Ok.seats (c.in-Ok.ensures.0 ∙ ap (λ (h : Shape). h.numbers) c.shape.ensures) c.in-Ok.ensures.1 c.new-2.result c.new-2.ensures c.none.result c.none.ensures
+    c.in-Ok-upgraded.ensures.upgrades c.in-Ok.base (λ told. ap records_in c.in-Ok.ensures ∙ c.requires.base told) c.requires.free c.in-Ok-new.seats (λ told. c.in-Ok-new.ensures.names ∙ c.names.ensures told c.requires.alive) (c.in-Ok-new.ensures.count ∙ ap (λ (h : Shape). h.numbers) c.shape.ensures) c.in-Ok-new.ensures.none c.new-2.result c.new-2.ensures c.none.result c.none.ensures
 
 pub returns-clause-begins : goal.returns-clause-begins
 returns-clause-begins g c =
     let V = g.S.EawStore.view in
     let after = c.in-Ok-upgraded.records in
     opened_begins g.S.EawStore.tells g.S.EawStore.opens g.K.KeyIndex.index (pages_of (V c.args.records.store) c.args.records) (pages_of (V after.store) after) (laws_at g after.store) c.requires.alive c.requires.sound c.requires.idle c.requires.unsaved
-    c.in-Ok-upgraded.ensures.upgrades c.args.base c.requires.base c.in-Ok.seats (c.in-Ok.ensures.0 ∙ ap (λ (h : Shape). h.numbers) c.shape.ensures) c.in-Ok.ensures.1 c.new-2.result c.new-2.ensures c.none.result c.none.ensures
+    c.in-Ok-upgraded.ensures.upgrades c.in-Ok.base (λ told. ap records_in c.in-Ok.ensures ∙ c.requires.base told) c.requires.free c.in-Ok-new.seats (λ told. c.in-Ok-new.ensures.names ∙ c.names.ensures told c.requires.alive) (c.in-Ok-new.ensures.count ∙ ap (λ (h : Shape). h.numbers) c.shape.ensures) c.in-Ok-new.ensures.none c.new-2.result c.new-2.ensures c.none.result c.none.ensures
 
 pub returns-in-Err-clause-begins : goal.returns-in-Err-clause-begins
 returns-in-Err-clause-begins g c = tt
@@ -39,3 +43,17 @@ returns-clause-cause g c = tt
 
 pub returns-clause-gives_back : goal.returns-clause-gives_back
 returns-clause-gives_back g c = tt
+
+pub returns-in-Err-clause-gives_back : goal.returns-in-Err-clause-gives_back
+returns-in-Err-clause-gives_back g c =
+    let s = g.S.EawStore in
+    let store : c.into_store.result ≡ c.args.records.store = c.into_store.ensures ∙ ap (λ (r : Shown g.row.S.Denot). r.store) c.into_pages.ensures in
+    subst (λ (st : g.row.S.Denot). GivesBack g.S.EawStore.tells (g.S.EawStore.opens (g.S.EawStore.view c.args.records.store).shape) false (g.S.EawStore.view c.args.records.store) (g.S.EawStore.view st)) (sym store)
+    (gives_same s.tells (s.opens (s.view c.args.records.store).shape) (s.view c.args.records.store))
+
+pub returns-in-Err-new-clause-gives_back : goal.returns-in-Err-new-clause-gives_back
+returns-in-Err-new-clause-gives_back g c =
+    let s = g.S.EawStore in
+    let store : c.into_store-in-Err-new.result ≡ c.args.records.store = c.into_store-in-Err-new.ensures ∙ ap (λ (r : Shown g.row.S.Denot). r.store) c.into_pages-in-Err-new.ensures in
+    subst (λ (st : g.row.S.Denot). GivesBack g.S.EawStore.tells (g.S.EawStore.opens (g.S.EawStore.view c.args.records.store).shape) false (g.S.EawStore.view c.args.records.store) (g.S.EawStore.view st)) (sym store)
+    (gives_same s.tells (s.opens (s.view c.args.records.store).shape) (s.view c.args.records.store))

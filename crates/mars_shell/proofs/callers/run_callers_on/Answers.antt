@@ -1,11 +1,14 @@
 use Rattle.std.proofs.Common.{[], false, ⊎_elim, refl, sym, subst}
 use Rattle.std.proofs.lemmas.List.{append-nil}
+use Rattle.reader_work.specs.Readership.{passes_for}
 use Rattle.mars_shell.specs.Joint.{JointWork}
-use Rattle.mars_shell.specs.Run.{TakesTurns, OverRecords}
-use Rattle.mars_shell.specs.Statuses.{IsEarly, IsRefusal, served_status}
-use Rattle.mars_shell.specs.declared.status.Status.{Status}
-use Rattle.mars_shell.proofs.Endings.{served_late, served_refused, served, input_read}
-use Rattle.mars_shell.proofs.Outcomes.{records_outcome, turns_none, turns_only}
+use Rattle.mars_shell.specs.Run.{TakesTurns}
+use Rattle.array_runs.specs.Records.{OverRecords}
+use Rattle.array_runs.specs.Statuses.{IsEarly, IsRefusal}
+use Rattle.array_runs.specs.declared.status.Status.{Status}
+use Rattle.array_runs.proofs.Endings.{served_late, served_refused, input_read}
+use Rattle.mars_shell.proofs.Endings.{served}
+use Rattle.mars_shell.proofs.Outcomes.{records_outcome, turns_none}
 use Rattle.mars_shell.proofs.callers.run_callers_on.Goals as goal
 
 pub returns-in-Err-clause-ran : goal.returns-in-Err-clause-ran
@@ -21,8 +24,7 @@ returns-in-Err-clause-ran g c =
       holds = (
         input,
         (λ _. refl),
-        λ told. turns_only c.args.crew.now.numbers.callers g.B.WriteBack.defers (λ ended. JointWork c.args.crew.now.numbers.callers c.args.crew.now.numbers.tries input ended false []) old c.in-Err.ended.0 new false []
-            (turns_none c.args.crew.now.numbers.callers g.B.WriteBack.defers (λ ended. JointWork c.args.crew.now.numbers.callers c.args.crew.now.numbers.tries input ended false []) old c.in-Err.ended.0 new false [] false (c.in-Err.ensures.outcome told)),
+        λ told. turns_none (passes_for c.args.crew.now.numbers.callers c.args.crew.now.numbers.readers) g.B.WriteBack.defers (λ ended. JointWork c.args.crew.now.numbers.callers c.args.crew.now.numbers.readers c.args.crew.now.numbers.tries input ended false []) old c.in-Err.ended.0 new false [] false (rw c.passes_for-passes.ensures at (c.in-Err.ensures.outcome told)),
       );
     }
 
@@ -55,10 +57,9 @@ returns-clause-ran g c =
         input,
         c.in-Ok.ensures.read refl,
         λ told.
-            subst (λ (s : Status). OverRecords false c.args.crew.now.numbers.callers (λ ended. TakesTurns false g.B.WriteBack.defers (JointWork c.args.crew.now.numbers.callers c.args.crew.now.numbers.tries input ended said.cut said.text) old ended new) old s new said.cut said.text) (sym c.served_status.ensures)
-            (turns_only c.args.crew.now.numbers.callers g.B.WriteBack.defers (λ ended. JointWork c.args.crew.now.numbers.callers c.args.crew.now.numbers.tries input ended said.cut said.text) old (served_status c.serve_jointly-served.result.0) new said.cut said.text
+            subst (λ (s : Status). OverRecords false (passes_for c.args.crew.now.numbers.callers c.args.crew.now.numbers.readers) (λ ended. TakesTurns false g.B.WriteBack.defers (JointWork c.args.crew.now.numbers.callers c.args.crew.now.numbers.readers c.args.crew.now.numbers.tries input ended said.cut said.text) old ended new) old s new said.cut said.text) (sym c.served_status.ensures)
             (records_outcome media.tells told old (met.only_now c.args.media) _ c.in-Ok.ensures.attached c.in-Ok.ensures.keeps g.B.WriteBack.defers _ new c.into_media.ensures (met.counts_now c.into_media.result)
-            c.args.crew.now.numbers.callers c.in-Ok.ensures.enough false (λ ended. JointWork c.args.crew.now.numbers.callers c.args.crew.now.numbers.tries input ended said.cut said.text) c.serve_jointly-served.result.0 said.cut said.text (rw c.deref.ensures.value at (said.holds told)))),
+            (passes_for c.args.crew.now.numbers.callers c.args.crew.now.numbers.readers) (rw c.passes_for-passes.ensures at c.in-Ok.ensures.enough) false (λ ended. JointWork c.args.crew.now.numbers.callers c.args.crew.now.numbers.readers c.args.crew.now.numbers.tries input ended said.cut said.text) c.serve_jointly-served.result.0 said.cut said.text (rw c.deref.ensures.value at (said.holds told))),
       );
     }
 

@@ -4,10 +4,9 @@ use Rattle.mars_core.specs.Attached.{is_media_fault}
 use Rattle.record_table.specs.Form.{form_number}
 use Rattle.record_table.specs.declared.form.Form.{Form}
 use Rattle.mars_shell.specs.Joint.{JointWork}
-use Rattle.mars_shell.specs.Forms.{index_at}
-use Rattle.mars_shell.specs.Served.{SaysForm}
+use Rattle.array_runs.specs.Forms.{index_at, SaysForm}
 use Rattle.mars_shell.proofs.Forming.{serves_on}
-use Rattle.mars_shell.proofs.Serving.{unread}
+use Rattle.array_runs.proofs.Untaken.{unread}
 use Rattle.mars_shell.proofs.callers.serve_jointly.Goals as goal
 
 pub returns-in-Ok-Chain-clause-served : goal.returns-in-Ok-Chain-clause-served
@@ -22,7 +21,7 @@ returns-in-Ok-Chain-clause-served g c =
       text = said.text;
       wrote = said.wrote;
       counts = said.counts;
-      holds = λ told. serves_on s.tells told s.opens 0 old mid form (s.view c.work_under.result.1) false (λ ended. JointWork c.args.crew.now.numbers.callers c.args.crew.now.numbers.tries c.args.input.now ended said.cut said.text) c.work_under.result.0 said.cut said.text (said.holds told);
+      holds = λ told. serves_on s.tells told s.opens 0 old mid form (s.view c.work_under.result.1) false (λ ended. JointWork c.args.crew.now.numbers.callers c.args.crew.now.numbers.readers c.args.crew.now.numbers.tries c.args.input.now ended said.cut said.text) c.work_under.result.0 said.cut said.text (said.holds told);
     }
 
 pub returns-in-Ok-Chain-clause-untold : goal.returns-in-Ok-Chain-clause-untold
@@ -43,7 +42,7 @@ returns-in-Ok-Tree-clause-served g c =
       text = said.text;
       wrote = said.wrote;
       counts = said.counts;
-      holds = λ told. serves_on s.tells told s.opens 1 old mid form (s.view c.work_under-in-Ok-Tree.result.1) false (λ ended. JointWork c.args.crew.now.numbers.callers c.args.crew.now.numbers.tries c.args.input.now ended said.cut said.text) c.work_under-in-Ok-Tree.result.0 said.cut said.text (said.holds told);
+      holds = λ told. serves_on s.tells told s.opens 1 old mid form (s.view c.work_under-in-Ok-Tree.result.1) false (λ ended. JointWork c.args.crew.now.numbers.callers c.args.crew.now.numbers.readers c.args.crew.now.numbers.tries c.args.input.now ended said.cut said.text) c.work_under-in-Ok-Tree.result.0 said.cut said.text (said.holds told);
     }
 
 pub returns-in-Ok-Tree-clause-untold : goal.returns-in-Ok-Tree-clause-untold

@@ -2,9 +2,11 @@ use Rattle.std.proofs.Common.{[], false, refl, sym, ap, subst, ◌∙◌}
 use Rattle.std.proofs.lemmas.List.{append-nil}
 use Rattle.mars_core.specs.Held.{core_of}
 use Rattle.mars_core.specs.Over.{IsOver}
+use Rattle.reader_work.specs.Readership.{passes_for}
 use Rattle.mars_shell.specs.Joint.{JointWork}
 use Rattle.mars_shell.specs.Served.{Served}
-use Rattle.mars_shell.proofs.Serving.{untaken, untold, can_share, served}
+use Rattle.array_runs.proofs.Untaken.{untaken}
+use Rattle.mars_shell.proofs.Serving.{untold, can_share, served}
 use Rattle.mars_shell.proofs.callers.work_under.Goals as goal
 
 pub work_jointly-worked-requires-clause-ready : goal.work_jointly-worked-requires-clause-ready
@@ -12,7 +14,7 @@ work_jointly-worked-requires-clause-ready g c κs within =
     let s = g.S.EawStore in
     let store = c.in-Ok.core.records.store in
     let begins = c.in-Ok.ensures.begins in
-    can_share s.tells s.opens g.I.KeyIndex.index (s.view c.args.store) (s.view store) _ begins c.args.crew.now.numbers.callers c.requires.enough
+    can_share s.tells s.opens g.I.KeyIndex.index (s.view c.args.store) (s.view store) _ begins (passes_for c.args.crew.now.numbers.callers c.args.crew.now.numbers.readers) c.requires.enough
     (λ told image left. (g.met.S.EawStore g.world.𝓛 g.world.𝓜 g.world.𝓡 ((λ s x. x), (λ x. x), (λ x. x), λ x. x)).only_now store image told begins.alive left)
 
 pub returns-in-Ok-worked-clause-served : goal.returns-in-Ok-worked-clause-served
@@ -24,7 +26,7 @@ returns-in-Ok-worked-clause-served g c =
     let over = subst (λ st. IsOver s.tells (s.opens (s.view st).shape) g.I.KeyIndex.index (s.view st) (core_of s.opens g.I.KeyIndex.index (s.view st) core)) c.into_store-store.ensures.store c.into_store-store.ensures.over in
     let works = c.work_jointly-worked.ensures.works in
     let ended = c.in-Ok-worked.ended in
-    let does = JointWork c.args.crew.now.numbers.callers c.args.crew.now.numbers.tries c.args.input.now ended works.cut works.text in
+    let does = JointWork c.args.crew.now.numbers.callers c.args.crew.now.numbers.readers c.args.crew.now.numbers.tries c.args.input.now ended works.cut works.text in
     record {
       cut = works.cut;
       text = works.text;

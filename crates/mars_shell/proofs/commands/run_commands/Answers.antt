@@ -2,14 +2,14 @@ use Rattle.std.proofs.Common.{[], true, false, ⊎_elim, refl, sym, subst}
 use Rattle.std.proofs.lemmas.List.{append-nil}
 use Rattle.command_words.specs.declared.words.Words.TheVariants.{Eaw}
 use Rattle.mars_shell.specs.Asked.{OutcomeFor}
-use Rattle.mars_shell.specs.Commands.{Obeys}
-use Rattle.mars_shell.specs.declared.status.Status.{Status}
-use Rattle.mars_shell.proofs.Commanding.{obeys}
-use Rattle.mars_shell.proofs.Statuses.{outcome_of}
-use Rattle.mars_shell.proofs.Unopened.{unopened_as}
-use Rattle.mars_shell.specs.Opening.{IsUnopened}
-use Rattle.mars_shell.specs.Statuses.{IsEarly, IsRefusal}
-use Rattle.mars_shell.proofs.Endings.{counts_unwritten, script_late, script_accepted, scripted, input_read}
+use Rattle.mars_shell.specs.Commands.{ObeysAs}
+use Rattle.array_runs.specs.declared.status.Status.{Status}
+use Rattle.mars_shell.proofs.Commanding.{obeys_as}
+use Rattle.array_runs.proofs.Statuses.{outcome_of}
+use Rattle.array_runs.proofs.Unopened.{unopened_as}
+use Rattle.array_runs.specs.Opening.{IsUnopened}
+use Rattle.array_runs.specs.Statuses.{IsEarly, IsRefusal}
+use Rattle.array_runs.proofs.Endings.{counts_unwritten, script_late, script_accepted, scripted, input_read}
 use Rattle.mars_shell.proofs.commands.run_commands.Goals as goal
 
 pub returns-in-Err-clause-ran : goal.returns-in-Err-clause-ran
@@ -22,7 +22,7 @@ returns-in-Err-clause-ran g c =
       text = [];
       wrote = λ _. sym (append-nil _);
       counts = refl;
-      holds = (input, (λ _. refl), λ told. unopened_as (λ ended. Obeys old input ended new false []) (λ page. ⊥) ⊥ ⊥ old c.in-Err.ended.0 new c.in-Err.ensures.kind (c.in-Err.ensures.unopened told));
+      holds = (input, (λ _. refl), λ told. unopened_as (λ ended. ObeysAs c.args.options.frames old input ended new false []) (λ page. ⊥) ⊥ ⊥ old c.in-Err.ended.0 new c.in-Err.ensures.kind (c.in-Err.ensures.unopened told));
     }
 
 pub returns-clause-ran : goal.returns-clause-ran
@@ -30,8 +30,8 @@ returns-clause-ran g c =
     let media = g.M.Media in
     let old = media.view c.args.media in
     let new = media.view c.into_media.result in
-    let ended = c.answer_commands-ended.result.0 in
-    let said = c.answer_commands-ended.ensures in
+    let ended = c.answer_script-ended.result.0 in
+    let said = c.answer_script-ended.ensures in
     let input = c.in-Ok.opened.0.items in
     record {
       cut = said.ran.cut;
@@ -42,10 +42,10 @@ returns-clause-ran g c =
         input,
         c.in-Ok.ensures.read refl,
         λ told.
-            subst (λ (s : Status). OutcomeFor Eaw old s new input said.ran.cut said.ran.text) (sym c.script_status.ensures)
-            (outcome_of true (λ end. Obeys old input end new said.ran.cut said.ran.text) (λ page. ⊥) ⊥ ⊥ old new said.ran.cut said.ran.text ended
-            (obeys media.tells told old (g.met.M.Media.only_now c.args.media) _ c.in-Ok.ensures.attached c.in-Ok.ensures.keeps _ new c.into_media.ensures (g.met.M.Media.counts_now c.into_media.result)
-            input ended said.ran.cut said.ran.text (rw c.deref.ensures.value at (said.ran.holds told)) said.alive)),
+            subst (λ (s : Status). OutcomeFor (Eaw c.args.options) old s new input said.ran.cut said.ran.text) (sym c.script_status.ensures)
+            (outcome_of true (λ end. ObeysAs c.args.options.frames old input end new said.ran.cut said.ran.text) (λ page. ⊥) ⊥ ⊥ old new said.ran.cut said.ran.text ended
+            (obeys_as media.tells told old (g.met.M.Media.only_now c.args.media) _ c.in-Ok.ensures.attached c.in-Ok.ensures.keeps _ new c.into_media.ensures (g.met.M.Media.counts_now c.into_media.result)
+            input ended said.ran.cut said.ran.text said.alive c.args.options.frames (rw c.deref.ensures.value at (said.ran.holds told)))),
       );
     }
 
@@ -68,22 +68,22 @@ pub returns-in-Err-clause-input : goal.returns-in-Err-clause-input
 returns-in-Err-clause-input g c = c.in-Err.ensures.input refl
 
 pub returns-clause-no_usage : goal.returns-clause-no_usage
-returns-clause-no_usage g c = λ is. script_accepted c.answer_commands-ended.result.0 (subst IsRefusal c.script_status.ensures (subst IsRefusal (sym is) tt))
+returns-clause-no_usage g c = λ is. script_accepted c.answer_script-ended.result.0 (subst IsRefusal c.script_status.ensures (subst IsRefusal (sym is) tt))
 
 pub returns-clause-early : goal.returns-clause-early
-returns-clause-early g c = λ early. absurd (script_late c.answer_commands-ended.result.0 (subst IsEarly c.script_status.ensures (early)))
+returns-clause-early g c = λ early. absurd (script_late c.answer_script-ended.result.0 (subst IsEarly c.script_status.ensures (early)))
 
 pub returns-clause-silent : goal.returns-clause-silent
-returns-clause-silent g c = λ either. ⊎_elim (λ early. absurd (script_late c.answer_commands-ended.result.0 (subst IsEarly c.script_status.ensures early)))
-    (λ refused. absurd (script_accepted c.answer_commands-ended.result.0 (subst IsRefusal c.script_status.ensures refused))) either
+returns-clause-silent g c = λ either. ⊎_elim (λ early. absurd (script_late c.answer_script-ended.result.0 (subst IsEarly c.script_status.ensures early)))
+    (λ refused. absurd (script_accepted c.answer_script-ended.result.0 (subst IsRefusal c.script_status.ensures refused))) either
 
 pub returns-clause-counts : goal.returns-clause-counts
-returns-clause-counts g c = scripted c.answer_commands-ended.result.0 c.script_status.result _ _ _ _ _ _ _ _ c.script_status.ensures c.in-Ok.ensures.kept c.in-Ok.ensures.attached.faults c.into_media.ensures.faults c.answer_commands-ended.ensures.counts
+returns-clause-counts g c = scripted c.answer_script-ended.result.0 c.script_status.result _ _ _ _ _ _ _ _ c.script_status.ensures c.in-Ok.ensures.kept c.in-Ok.ensures.attached.faults c.into_media.ensures.faults c.answer_script-ended.ensures.counts
 
 pub returns-clause-steady : goal.returns-clause-steady
-returns-clause-steady g c = λ steady is. script_late c.answer_commands-ended.result.0 (subst IsEarly c.script_status.ensures (subst IsEarly (sym is) tt))
+returns-clause-steady g c = λ steady is. script_late c.answer_script-ended.result.0 (subst IsEarly c.script_status.ensures (subst IsEarly (sym is) tt))
 
 pub returns-clause-input : goal.returns-clause-input
 returns-clause-input g c = λ told.
     let read = c.in-Ok.ensures.ended refl told in
-    input_read c.script_status.result _ _ (λ early. script_late c.answer_commands-ended.result.0 (subst IsEarly c.script_status.ensures early)) read.0 read.1
+    input_read c.script_status.result _ _ (λ early. script_late c.answer_script-ended.result.0 (subst IsEarly c.script_status.ensures early)) read.0 read.1

@@ -1,8 +1,8 @@
-use Rattle.std.proofs.Common.{[], true, false, inl, inr, ⊎_elim, refl, sym, subst}
+use Rattle.std.proofs.Common.{[], false, inl, inr, ⊎_elim, refl, sym, subst}
 use Rattle.std.proofs.lemmas.List.{append-nil}
-use Rattle.mars_shell.specs.Opening.{IsUnopened}
-use Rattle.mars_shell.specs.Statuses.{IsEarly, IsRefusal}
-use Rattle.mars_shell.proofs.Endings.{counts_unwritten, input_read}
+use Rattle.array_runs.specs.Opening.{IsUnopened}
+use Rattle.array_runs.specs.Statuses.{IsEarly, IsRefusal}
+use Rattle.array_runs.proofs.Endings.{counts_unwritten, input_read}
 use Rattle.mars_shell.proofs.FramesFollowed.{follows, follow_late, follow_accepted, follow_counted}
 use Rattle.mars_shell.proofs.following.run_follow.Goals as goal
 

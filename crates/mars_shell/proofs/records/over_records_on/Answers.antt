@@ -1,10 +1,11 @@
-use Rattle.std.proofs.Common.{[], false, inl, inr, ⊎_elim, refl, sym, subst, ◌∙◌, arith}
+use Rattle.std.proofs.Common.{[], false, ⊎_elim, refl, sym, subst, ◌∙◌, arith}
 use Rattle.std.proofs.lemmas.List.{append-nil}
-use Rattle.mars_shell.specs.Run.{OverRecords}
-use Rattle.mars_shell.specs.Served.{TakesTurnsFor}
-use Rattle.mars_shell.specs.Statuses.{IsEarly, IsRefusal}
-use Rattle.mars_shell.specs.declared.status.Status.{Status}
-use Rattle.mars_shell.proofs.Endings.{served_late, served_refused, served_usage, served_untold, served, input_read}
+use Rattle.array_runs.specs.Records.{OverRecords}
+use Rattle.mars_shell.specs.Run.{TakesTurns}
+use Rattle.array_runs.specs.Statuses.{IsEarly, IsRefusal}
+use Rattle.array_runs.specs.declared.status.Status.{Status}
+use Rattle.array_runs.proofs.Endings.{served_late, served_refused, served_usage, input_read}
+use Rattle.mars_shell.proofs.Endings.{served}
 use Rattle.mars_shell.proofs.Outcomes.{records_outcome, turns_none}
 use Rattle.mars_shell.proofs.records.over_records_on.Goals as goal
 
@@ -21,7 +22,7 @@ returns-in-Err-clause-ran g c =
       holds = (
         input,
         (λ asked _. refl),
-        λ told. turns_none 0 g.B.WriteBack.defers (λ ended. g.W.RecordWork.does c.args.work.now input ended false []) old c.in-Err.ended.0 new false [] g.W.RecordWork.spares (c.in-Err.ensures.outcome told),
+        λ told. turns_none 0 g.B.WriteBack.defers (λ ended. g.W.RecordWork.does c.args.work.now input ended false []) old c.in-Err.ended.0 new false [] false (c.in-Err.ensures.outcome told),
       );
     }
 
@@ -61,10 +62,10 @@ returns-clause-ran g c =
         input,
         (λ asked. c.in-Ok.ensures.read (c.reads.ensures ∙ asked)),
         λ told.
-            subst (λ (s : Status). OverRecords work.spares 0 (λ ended. TakesTurnsFor work.spares g.B.WriteBack.defers (work.does c.args.work.now input ended said.cut said.text) old ended new)
+            subst (λ (s : Status). OverRecords false 0 (λ ended. TakesTurns false g.B.WriteBack.defers (work.does c.args.work.now input ended said.cut said.text) old ended new)
             old s new said.cut said.text) (sym c.served_status.ensures)
             (records_outcome media.tells told old (met.only_now c.args.media) _ c.in-Ok.ensures.attached c.in-Ok.ensures.keeps g.B.WriteBack.defers _ new c.into_media.ensures (met.counts_now c.into_media.result)
-            0 (omega arith) work.spares (λ ended. work.does c.args.work.now input ended said.cut said.text)
+            0 (omega arith) false (λ ended. work.does c.args.work.now input ended said.cut said.text)
             c.serve-served.result.0 said.cut said.text (rw c.deref.ensures.value at (said.holds told))),
       );
     }
@@ -78,10 +79,6 @@ returns-clause-early g c = λ early. absurd (served_late c.serve-served.result.0
 pub returns-clause-silent : goal.returns-clause-silent
 returns-clause-silent g c = λ either. ⊎_elim (λ early. absurd (served_late c.serve-served.result.0 (subst IsEarly c.served_status.ensures early)))
     (λ refused. served_refused _ c.serve-served.result.0 c.serve-served.ensures.untold (subst IsRefusal c.served_status.ensures refused)) either
-
-pub returns-clause-untold : goal.returns-clause-untold
-returns-clause-untold g c = λ spares either. served_untold _ c.serve-served.result.0 c.serve-served.ensures.untold (c.serve-served.ensures.end spares)
-    (⊎_elim (λ is. inl (sym c.served_status.ensures ∙ is)) (λ is. inr (sym c.served_status.ensures ∙ is)) either)
 
 pub returns-clause-counts : goal.returns-clause-counts
 returns-clause-counts g c = served c.serve-served.result.0 c.served_status.result _ _ _ _ _ _ _ _ c.served_status.ensures c.in-Ok.ensures.kept c.in-Ok.ensures.attached.faults c.into_media.ensures.faults c.serve-served.ensures.counts

@@ -3,10 +3,9 @@ use Rattle.std.proofs.lemmas.List.{append-nil}
 use Rattle.mars_core.specs.Attached.{is_media_fault}
 use Rattle.record_table.specs.Form.{form_number}
 use Rattle.record_table.specs.declared.form.Form.{Form}
-use Rattle.mars_shell.specs.Forms.{index_at}
-use Rattle.mars_shell.specs.Served.{SaysForm}
+use Rattle.array_runs.specs.Forms.{index_at, SaysForm}
 use Rattle.mars_shell.proofs.Forming.{serves_on}
-use Rattle.mars_shell.proofs.Serving.{unread}
+use Rattle.array_runs.proofs.Untaken.{unread}
 use Rattle.mars_shell.proofs.records.serve.Goals as goal
 
 pub returns-in-Ok-Chain-clause-served : goal.returns-in-Ok-Chain-clause-served
@@ -21,14 +20,11 @@ returns-in-Ok-Chain-clause-served g c =
       text = said.text;
       wrote = said.wrote;
       counts = said.counts;
-      holds = λ told. serves_on s.tells told s.opens 0 old mid form (s.view c.work_over.result.1) g.W.RecordWork.spares (λ ended. g.W.RecordWork.does c.args.work.now c.args.input.now ended said.cut said.text) c.work_over.result.0 said.cut said.text (said.holds told);
+      holds = λ told. serves_on s.tells told s.opens 0 old mid form (s.view c.work_over.result.1) false (λ ended. g.W.RecordWork.does c.args.work.now c.args.input.now ended said.cut said.text) c.work_over.result.0 said.cut said.text (said.holds told);
     }
 
 pub returns-in-Ok-Chain-clause-untold : goal.returns-in-Ok-Chain-clause-untold
 returns-in-Ok-Chain-clause-untold g c = c.work_over.ensures.untold
-
-pub returns-in-Ok-Chain-clause-end : goal.returns-in-Ok-Chain-clause-end
-returns-in-Ok-Chain-clause-end g c = c.work_over.ensures.end
 
 pub returns-in-Ok-Chain-clause-counts : goal.returns-in-Ok-Chain-clause-counts
 returns-in-Ok-Chain-clause-counts g c = rw c.in-Ok-Chain.ensures.says.faults at c.work_over.ensures.counts
@@ -45,14 +41,11 @@ returns-in-Ok-Tree-clause-served g c =
       text = said.text;
       wrote = said.wrote;
       counts = said.counts;
-      holds = λ told. serves_on s.tells told s.opens 1 old mid form (s.view c.work_over-in-Ok-Tree.result.1) g.W.RecordWork.spares (λ ended. g.W.RecordWork.does c.args.work.now c.args.input.now ended said.cut said.text) c.work_over-in-Ok-Tree.result.0 said.cut said.text (said.holds told);
+      holds = λ told. serves_on s.tells told s.opens 1 old mid form (s.view c.work_over-in-Ok-Tree.result.1) false (λ ended. g.W.RecordWork.does c.args.work.now c.args.input.now ended said.cut said.text) c.work_over-in-Ok-Tree.result.0 said.cut said.text (said.holds told);
     }
 
 pub returns-in-Ok-Tree-clause-untold : goal.returns-in-Ok-Tree-clause-untold
 returns-in-Ok-Tree-clause-untold g c = c.work_over-in-Ok-Tree.ensures.untold
-
-pub returns-in-Ok-Tree-clause-end : goal.returns-in-Ok-Tree-clause-end
-returns-in-Ok-Tree-clause-end g c = c.work_over-in-Ok-Tree.ensures.end
 
 pub returns-in-Ok-Tree-clause-counts : goal.returns-in-Ok-Tree-clause-counts
 returns-in-Ok-Tree-clause-counts g c = rw c.in-Ok-Tree.ensures.says.faults at c.work_over-in-Ok-Tree.ensures.counts
@@ -65,6 +58,6 @@ returns-in-Err-clause-served g c =
       text = [];
       wrote = λ _. sym (append-nil _);
       counts = refl;
-      holds = λ told. unread g.W.RecordWork.spares s.tells s.opens (index_at (s.view c.args.store).state.bytes) (s.view c.args.store) (s.view c.find_form.new.store) (is_media_fault c.in-Err.fault) c.in-Err.fault told c.in-Err.ensures.cause
+      holds = λ told. unread false s.tells s.opens (index_at (s.view c.args.store).state.bytes) (s.view c.args.store) (s.view c.find_form.new.store) (is_media_fault c.in-Err.fault) c.in-Err.fault told c.in-Err.ensures.cause
           c.in-Err.ensures.left;
     }

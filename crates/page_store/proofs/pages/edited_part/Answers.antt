@@ -1,6 +1,5 @@
-use Rattle.std.proofs.Common.{◌≡◌, ℕ, ◌+◌, ◌-◌, ◌<◌, ◌≤◌, true, false, length, sym, ◌∙◌, ap, arith}
+use Rattle.std.proofs.Common.{◌≡◌, ℕ, ◌-◌, true, sym, ◌∙◌, ap, arith}
 use Rattle.std.proofs.lemmas.Bool.{false≢true}
-use Rattle.array_shape.specs.Places.{IsPlaced}
 use Rattle.eaw_face.specs.State.{listed, range_at}
 use Rattle.page_store.specs.Edit.{meet}
 use Rattle.page_store.proofs.Editing.{placed_at, data_small, ended, found, met, passed}

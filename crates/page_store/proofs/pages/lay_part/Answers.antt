@@ -1,14 +1,10 @@
-use Rattle.std.proofs.Common.{◌≡◌, ℕ, ◌+◌, ◌-◌, ◌<◌, ◌≤◌, List, false, length, take, drop, refl, sym, ◌∙◌, ap, subst, arith}
-use Rattle.std.specs.Prelude.{Option, Some, None, IsTrue, IsSome}
-use Rattle.mars_base.specs.Bytes.{range}
-use Rattle.array_shape.specs.Places.{IsPlaced}
+use Rattle.std.proofs.Common.{◌≡◌, ℕ, ◌-◌, ◌<◌, List, length, take, drop, refl, sym, ◌∙◌, ap, arith}
+use Rattle.std.specs.Prelude.{Option, Some, None, IsSome}
 use Rattle.eaw_face.specs.State.{listed, range_at, part_at}
-use Rattle.eaw_face.specs.StoreView.{IsLive}
 use Rattle.eaw_face.specs.Command.{log_read}
 use Rattle.page_store.proofs.Editing.{placed_at, data_small}
 use Rattle.page_store.proofs.Laying.{range_of_part, missed, laid}
 use Rattle.page_store.proofs.ReadCalls.{reads_of, reads_ok, reads_err, reads_none}
-use Rattle.mars_base.specs.Costs.{Costs}
 use Rattle.page_store.specs.Reads.{lay_cost}
 use Rattle.page_store.proofs.Costing.{missed_cost, met_cost}
 use Rattle.page_store.proofs.pages.lay_part.Goals as goal

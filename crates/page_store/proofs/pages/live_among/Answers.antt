@@ -1,9 +1,8 @@
-use Rattle.std.proofs.Common.{◌≡◌, ℕ, Bool, true, false, ◌&&◌, ◌≤◌, ◌+◌, sym, ◌∙◌, ap, subst, arith}
+use Rattle.std.proofs.Common.{ℕ, Bool, ◌&&◌, ◌≤◌, ◌+◌, sym, ◌∙◌, ap, subst, arith}
 use Rattle.std.specs.Prelude.{is_some}
 use Rattle.array_shape.specs.declared.number_set.NumberSet.{NumberSet}
 use Rattle.array_shape.specs.declared.shape.Shape.{Shape}
 use Rattle.array_shape.proofs.Sets.{IsPassedBelow, passed_first, passed_with, passed_skip, passed_last}
-use Rattle.page_store.proofs.pages.live_among.Given.{Over}
 use Rattle.page_store.proofs.pages.live_among.Goals.{then-contains+then-is_live, else-contains, else-contains-via-then-contains+else-is_live, else-contains-via-else-contains}
 use Rattle.page_store.proofs.pages.live_among.Goals as goal
 

@@ -1,11 +1,11 @@
-use Rattle.std.proofs.Common.{◌≡◌, ℕ, suc, ◌+◌, ◌<◌, ◌≤◌, List, Ok, Result, length, take, refl, sym, ◌∙◌, ap, subst, add-one, arith}
-use Rattle.std.specs.Prelude.{Option, IsTrue}
+use Rattle.std.proofs.Common.{◌≡◌, ℕ, ◌+◌, ◌<◌, List, Ok, Err, Result, length, take, refl, sym, ◌∙◌, ap, subst, add-one, arith}
+use Rattle.std.specs.Prelude.{Option}
 use Rattle.std.proofs.Math.Seq.{take-length}
 use Rattle.mars_base.specs.Bytes.{put, range}
 use Rattle.array_shape.specs.declared.shape.Shape.{Shape}
 use Rattle.array_shape.specs.Places.{data_len}
-use Rattle.array_shape.specs.Logged.{Part, applied, ranges_of}
-use Rattle.eaw_face.specs.State.{State, listed, part_at}
+use Rattle.array_shape.specs.Logged.{Part, applied}
+use Rattle.eaw_face.specs.State.{listed, part_at}
 use Rattle.eaw_face.specs.StoreView.{ArePlaced}
 use Rattle.eaw_face.specs.declared.fault.EawFault.{EawFault}
 use Rattle.page_store.specs.Reads.{Reads}
@@ -13,10 +13,8 @@ use Rattle.page_store.proofs.Outline.{listed-ranges}
 use Rattle.page_store.proofs.Shown.{placed_parts}
 use Rattle.page_store.proofs.Laying.{more_applied, long_applied, length-ranges}
 use Rattle.page_store.proofs.ReadCalls.{reads_on}
-use Rattle.eaw_face.specs.Command.{Command, read}
 use Rattle.eaw_face.specs.State.{range_at}
-use Rattle.mars_base.specs.Costs.{Costs}
-use Rattle.page_store.specs.Reads.{lay_cost, laid_cost}
+use Rattle.page_store.specs.Reads.{lay_cost}
 use Rattle.page_store.proofs.Costing.{laid_more, laid_most, laid_all, lay_same}
 use Rattle.page_store.proofs.pages.read_seen.Goals as goal
 
@@ -105,3 +103,17 @@ returns-in-Err-lay_part-clause-costs g c =
     let more = laid_more calls c.args.tid (c.args.addr, length c.args.buf.now) (listed (first.ranges c.args.tid)) c.loop-pos.pos there in
     let most = laid_most calls c.args.tid (c.args.addr, length c.args.buf.now) (listed (first.ranges c.args.tid)) (c.loop-pos.pos + 1) in
     record { done = λ exact. tt; most = omega (arith, c.loop-pos.invariant.cost, c.in-Err-lay_part.ensures.costs.most, lay, more, most) }
+
+pub returns-in-Err-lay_part-clause-does : goal.returns-in-Err-lay_part-clause-does
+returns-in-Err-lay_part-clause-does g c =
+    let view = g.S.EawStore.view in
+    let first = view c.args.store.now in
+    let mid = view c.loop-pos.store in
+    let new = view c.lay_part.new.store in
+    let tells = g.S.EawStore.tells in
+    let so_far = c.loop-pos.invariant.reads in
+    let done : Result (Unit {0}) EawFault = Ok tt in
+    let bad : Result (Unit {0}) EawFault = Err c.in-Err-lay_part.fault in
+    let more : Reads tells (g.S.EawStore.opens first.shape) c.args.tid mid new bad =
+    subst (λ (shape : Shape). Reads tells (g.S.EawStore.opens shape) c.args.tid mid new bad) so_far.shape c.in-Err-lay_part.ensures.does in
+    reads_on tells (g.S.EawStore.opens first.shape) c.args.tid first mid new done refl so_far bad more

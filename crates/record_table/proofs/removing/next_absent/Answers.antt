@@ -1,3 +1,5 @@
+use Rattle.std.proofs.Common.{arith, rules}
+use Rattle.index_pages.proofs.Looking.{looks_none, looks_next}
 use Rattle.std.proofs.Common.{false}
 use Rattle.page_store.specs.Shown.{pages_of}
 use Rattle.record_table.proofs.Following.{holds_looked}
@@ -8,3 +10,53 @@ next_in_data-requires-clause-holds g c =
     let V = g.S.EawStore.view in
     let old = c.args.pages.now in
     holds_looked g.S.EawStore.tells (g.S.EawStore.opens (V old.store).shape) g.K.KeyIndex.index (pages_of (V old.store) old) (pages_of (V c.loop-next.pages.store) c.loop-next.pages) false c.requires.alive c.requires.holds c.loop-next.invariant.looks
+
+pub loop-next-init : goal.loop-next-init
+loop-next-init g c =
+    let V = g.S.EawStore.view in
+    let T = g.S.EawStore.tells in
+    let E = g.S.EawStore.opens in
+    record {
+      looks = looks_none T (E (V c.args.pages.now.store).shape) (pages_of (V c.args.pages.now.store) c.args.pages.now);
+      none = λ told key above below absent. omega arith;
+      le = omega arith;
+    }
+
+pub returns-in-Ok-None-clause-looks : goal.returns-in-Ok-None-clause-looks
+returns-in-Ok-None-clause-looks g c =
+    let V = g.S.EawStore.view in
+    let T = g.S.EawStore.tells in
+    let E = g.S.EawStore.opens in
+    looks_next T E false (pages_of (V c.args.pages.now.store) c.args.pages.now) (pages_of (V c.loop-next.pages.store) c.loop-next.pages) (pages_of (V c.next_in_data.new.pages.store) c.next_in_data.new.pages) c.loop-next.invariant.looks c.in-Ok-None.ensures.looks
+
+pub returns-in-Err-clause-looks : goal.returns-in-Err-clause-looks
+returns-in-Err-clause-looks g c =
+    let V = g.S.EawStore.view in
+    let T = g.S.EawStore.tells in
+    let E = g.S.EawStore.opens in
+    looks_next T E _ (pages_of (V c.args.pages.now.store) c.args.pages.now) (pages_of (V c.loop-next.pages.store) c.loop-next.pages) (pages_of (V c.next_in_data.new.pages.store) c.next_in_data.new.pages) c.loop-next.invariant.looks c.in-Err.ensures.looks
+
+pub returns-then-is_none-clause-looks : goal.returns-then-is_none-clause-looks
+returns-then-is_none-clause-looks g c =
+    let V = g.S.EawStore.view in
+    let T = g.S.EawStore.tells in
+    let E = g.S.EawStore.opens in
+    looks_next T E false (pages_of (V c.args.pages.now.store) c.args.pages.now) (pages_of (V c.loop-next.pages.store) c.loop-next.pages) (pages_of (V c.next_in_data.new.pages.store) c.next_in_data.new.pages) c.loop-next.invariant.looks c.in-Ok-Some.ensures.looks
+
+pub returns-then-next-clause-looks : goal.returns-then-next-clause-looks
+returns-then-next-clause-looks g c =
+    let V = g.S.EawStore.view in
+    let T = g.S.EawStore.tells in
+    let E = g.S.EawStore.opens in
+    looks_next T E false (pages_of (V c.args.pages.now.store) c.args.pages.now) (pages_of (V c.loop-next.pages.store) c.loop-next.pages) (pages_of (V c.next_in_data.new.pages.store) c.next_in_data.new.pages) c.loop-next.invariant.looks c.in-Ok-Some.ensures.looks
+
+pub loop-next-preserved : goal.loop-next-preserved
+loop-next-preserved g c =
+    let V = g.S.EawStore.view in
+    let T = g.S.EawStore.tells in
+    let E = g.S.EawStore.opens in
+    record {
+      looks = looks_next T E false (pages_of (V c.args.pages.now.store) c.args.pages.now) (pages_of (V c.loop-next.pages.store) c.loop-next.pages) (pages_of (V c.next_in_data.new.pages.store) c.next_in_data.new.pages) c.loop-next.invariant.looks c.in-Ok-Some.ensures.looks;
+      none = search rules;
+      le = search rules;
+    }

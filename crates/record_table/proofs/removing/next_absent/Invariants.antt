@@ -1,13 +1,14 @@
 use Rattle.std.proofs.Common.{◌-◌, ◌^◌, ◌≤◌, false, IsTrue}
 use Rattle.page_store.specs.Looks.{Looks}
 use Rattle.page_store.specs.Shown.{pages_of}
+use Rattle.record_table.specs.Names.{name_at}
 use Rattle.record_table.specs.Removing.{HasNoAbsent}
 use Rattle.record_table.proofs.removing.next_absent.Given as goal
 
 abbrev pub invariant-loop-next : goal.invariant-loop-next
 invariant-loop-next g l = record {
   looks : Looks g.S.EawStore.tells (g.S.EawStore.opens (g.S.EawStore.view l.initial.pages.store).shape) false (pages_of (g.S.EawStore.view l.initial.pages.store) l.initial.pages) (pages_of (g.S.EawStore.view l.pages.store) l.pages);
-  none : IsTrue g.S.EawStore.tells → HasNoAbsent g.K.KeyIndex.index (g.S.EawStore.view l.initial.pages.store).state.bytes l.from l.low;
+  none : IsTrue g.S.EawStore.tells → HasNoAbsent g.K.KeyIndex.index (g.S.EawStore.view l.initial.pages.store).state.bytes (name_at (g.S.EawStore.view l.initial.pages.store).state.bytes l.table) l.from l.low;
   le : l.from ≤ l.low;
 }
 

@@ -1,3 +1,7 @@
+use Rattle.std.proofs.Common.{false}
+use Rattle.index_pages.proofs.Looking.{looks_next}
+use Rattle.page_store.specs.Shown.{pages_of}
+use Rattle.page_store.specs.Looks.{Looks, is_failed}
 use Rattle.std.proofs.lemmas.Bool.{eqb-true, eqb-false}
 use Rattle.page_store.specs.Pairs.{Pair, AreNext}
 use Rattle.std.proofs.Common.{List, get_or, subst, refl, sym, ◌∙◌, ap, arith}
@@ -6,7 +10,8 @@ use Rattle.record_slots.specs.Slots.{slot_said}
 use Rattle.record_slots.specs.Places.{slot_of}
 use Rattle.index_pages.proofs.Turns.{turn_at, next_first, next_empty}
 use Rattle.record_table.proofs.Following.{comes_none, comes_some, says_some}
-use Rattle.record_table.proofs.Sharing.{Laws}
+use Rattle.record_table.specs.Names.{name_at}
+use Rattle.record_table.proofs.Sharing.{Laws, called_at}
 use Rattle.std.proofs.Common.{Option, Result, Err}
 use Rattle.page_store.specs.Looks.{LookCause}
 use Rattle.page_store.specs.declared.fault.PageFault.{PageFault}
@@ -21,7 +26,7 @@ returns-then-is_empty-clause-comes g c = λ told.
     let d = (g.S.EawStore.view c.args.pages.now.store).state.bytes in
     let alive = c.in-Ok.ensures.cause in
     let are : AreNext (g.K.KeyIndex.index.pairs (g.S.EawStore.view c.args.pages.now.store).state.bytes c.args.root) c.args.from c.as_slice-some.result.now = subst (λ (l : List Pair). AreNext (g.K.KeyIndex.index.pairs (g.S.EawStore.view c.args.pages.now.store).state.bytes c.args.root) c.args.from l) (sym c.as_slice-some.ensures.value) (c.in-Ok.ensures.next told) in
-    comes_none g.K.KeyIndex.index laws c.args.table c.args.root c.args.from c.requires.table d ((c.requires.holds alive).tied told).sound (c.requires.named told alive)
+    comes_none g.K.KeyIndex.index laws c.args.table c.args.root c.args.from (name_at d c.args.table) d (called_at d c.args.table c.args.root (c.requires.named told alive)) ((c.requires.holds alive).tied told).sound (c.requires.named told alive)
     (next_empty (g.K.KeyIndex.index.pairs d c.args.root) c.args.from c.as_slice-some.result.now (eqb-true _ 0 (sym c.if-is_empty.ensures)) are)
 
 pub returns-in-Ok-heard-clause-comes : goal.returns-in-Ok-heard-clause-comes
@@ -31,7 +36,7 @@ returns-in-Ok-heard-clause-comes g c = λ told.
     let d = (g.S.EawStore.view c.args.pages.now.store).state.bytes in
     let alive = c.in-Ok.ensures.cause in
     let are : AreNext (g.K.KeyIndex.index.pairs (g.S.EawStore.view c.args.pages.now.store).state.bytes c.args.root) c.args.from c.as_slice-some.result.now = subst (λ (l : List Pair). AreNext (g.K.KeyIndex.index.pairs (g.S.EawStore.view c.args.pages.now.store).state.bytes c.args.root) c.args.from l) (sym c.as_slice-some.ensures.value) (c.in-Ok.ensures.next told) in
-    rw c.value_in.ensures (comes_some g.K.KeyIndex.index laws c.args.table c.args.root c.args.from c.requires.table d ((c.requires.holds alive).tied told).sound (c.requires.named told alive) (get_or c.as_slice-some.result.now 0 (0, 0)).0 (get_or c.as_slice-some.result.now 0 (0, 0)).1
+    rw c.value_in.ensures (comes_some g.K.KeyIndex.index laws c.args.table c.args.root c.args.from (name_at d c.args.table) d (called_at d c.args.table c.args.root (c.requires.named told alive)) ((c.requires.holds alive).tied told).sound (c.requires.named told alive) (get_or c.as_slice-some.result.now 0 (0, 0)).0 (get_or c.as_slice-some.result.now 0 (0, 0)).1
     (turn_at (g.K.KeyIndex.index.pairs d c.args.root) c.args.from 0 c.as_slice-some.result.now 0 (omega (arith, eqb-false _ 0 (sym c.if-is_empty.ensures))) (next_first (g.K.KeyIndex.index.pairs d c.args.root) c.args.from c.as_slice-some.result.now (omega (arith, eqb-false _ 0 (sym c.if-is_empty.ensures))) are)).0 _ (sym c.in-Ok-heard.ensures.slot ∙ c.in-Ok-read_said.ensures.said told
     ∙ ap (λ (s : State). slot_said (slot_of s.bytes (get_or c.as_slice-some.result.now 0 (0, 0)).1)) ((c.in-Ok.ensures.looks.still refl).state told)))
 
@@ -45,7 +50,29 @@ returns-in-Err-heard-clause-cause g c =
       alive,
       λ told.
           let are : AreNext (g.K.KeyIndex.index.pairs (g.S.EawStore.view c.args.pages.now.store).state.bytes c.args.root) c.args.from c.as_slice-some.result.now = subst (λ (l : List Pair). AreNext (g.K.KeyIndex.index.pairs (g.S.EawStore.view c.args.pages.now.store).state.bytes c.args.root) c.args.from l) (sym c.as_slice-some.ensures.value) (c.in-Ok.ensures.next told) in
-          says_some g.K.KeyIndex.index laws c.args.table c.args.root c.args.from c.requires.table d ((c.requires.holds alive).tied told).sound (c.requires.named told alive) (get_or c.as_slice-some.result.now 0 (0, 0)).0 (get_or c.as_slice-some.result.now 0 (0, 0)).1
+          says_some g.K.KeyIndex.index laws c.args.table c.args.root c.args.from (name_at d c.args.table) d (called_at d c.args.table c.args.root (c.requires.named told alive)) ((c.requires.holds alive).tied told).sound (c.requires.named told alive) (get_or c.as_slice-some.result.now 0 (0, 0)).0 (get_or c.as_slice-some.result.now 0 (0, 0)).1
           (turn_at (g.K.KeyIndex.index.pairs d c.args.root) c.args.from 0 c.as_slice-some.result.now 0 (omega (arith, eqb-false _ 0 (sym c.if-is_empty.ensures))) (next_first (g.K.KeyIndex.index.pairs d c.args.root) c.args.from c.as_slice-some.result.now (omega (arith, eqb-false _ 0 (sym c.if-is_empty.ensures))) are)).0 (sym c.in-Err-heard.ensures.none.1 ∙ c.in-Ok-read_said.ensures.said told
           ∙ ap (λ (s : State). slot_said (slot_of s.bytes (get_or c.as_slice-some.result.now 0 (0, 0)).1)) ((c.in-Ok.ensures.looks.still refl).state told)),
     ) in subst (λ (f : PageFault). LookCause g.S.EawStore.tells (g.S.EawStore.view c.args.pages.now.store) (let r : Result (Option Next) PageFault = Err f in r)) (sym c.in-Err-heard.ensures.none.0) damaged)
+
+pub returns-in-Err-read_said-clause-looks : goal.returns-in-Err-read_said-clause-looks
+returns-in-Err-read_said-clause-looks g c =
+    let V = g.S.EawStore.view in
+    let T = g.S.EawStore.tells in
+    let E = g.S.EawStore.opens in
+    looks_next T E _ (pages_of (V c.args.pages.now.store) c.args.pages.now) (pages_of (V c.next_pairs.new.pages.store) c.next_pairs.new.pages) (pages_of (V c.read_said.new.pages.store) c.read_said.new.pages) c.in-Ok.ensures.looks c.in-Err-read_said.ensures.looks
+
+pub returns-in-Ok-heard-clause-looks : goal.returns-in-Ok-heard-clause-looks
+returns-in-Ok-heard-clause-looks g c =
+    let V = g.S.EawStore.view in
+    let T = g.S.EawStore.tells in
+    let E = g.S.EawStore.opens in
+    looks_next T E false (pages_of (V c.args.pages.now.store) c.args.pages.now) (pages_of (V c.next_pairs.new.pages.store) c.next_pairs.new.pages) (pages_of (V c.read_said.new.pages.store) c.read_said.new.pages) c.in-Ok.ensures.looks c.in-Ok-read_said.ensures.looks
+
+pub returns-in-Err-heard-clause-looks : goal.returns-in-Err-heard-clause-looks
+returns-in-Err-heard-clause-looks g c =
+    let V = g.S.EawStore.view in
+    let T = g.S.EawStore.tells in
+    let E = g.S.EawStore.opens in
+    subst (λ (f : PageFault). Looks T (E (V c.args.pages.now.store).shape) (let r : Result (Option Next) PageFault = Err f in is_failed r) (pages_of (V c.args.pages.now.store) c.args.pages.now) (pages_of (V c.read_said.new.pages.store) c.read_said.new.pages)) (sym c.in-Err-heard.ensures.none.0)
+    (looks_next T E false (pages_of (V c.args.pages.now.store) c.args.pages.now) (pages_of (V c.next_pairs.new.pages.store) c.next_pairs.new.pages) (pages_of (V c.read_said.new.pages.store) c.read_said.new.pages) c.in-Ok.ensures.looks c.in-Ok-read_said.ensures.looks)

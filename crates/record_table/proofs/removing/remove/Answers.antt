@@ -1,7 +1,8 @@
-use Rattle.std.proofs.Common.{ap, arith}
+use Rattle.std.proofs.Common.{ap}
 use Rattle.page_store.specs.Shown.{pages_of}
 use Rattle.record_table.proofs.Removed.{absent_below, removes_so}
-use Rattle.record_table.proofs.Sharing.{Laws}
+use Rattle.record_table.specs.Names.{name_at}
+use Rattle.record_table.proofs.Sharing.{Laws, called_at}
 use Rattle.record_table.proofs.removing.remove.Goals as goal
 
 pub remove-requires-clause-absent : goal.remove-requires-clause-absent
@@ -10,7 +11,7 @@ remove-requires-clause-absent g c =
     let V = g.S.EawStore.view in
     let laws : Laws g.K.KeyIndex.index = record { rises = K.rises; given = K.given; counts = K.counts; rests = K.rests; extends = K.extends } in
     let old = c.args.pages.now in
-    absent_below g.S.EawStore.tells (g.S.EawStore.opens (V old.store).shape) g.K.KeyIndex.index laws c.args.tid c.args.table c.args.root c.args.key c.requires.table (omega arith) (pages_of (V old.store) old) c.requires.named c.requires.holds c.requires.absent c.requires.unwritten
+    absent_below g.S.EawStore.tells (g.S.EawStore.opens (V old.store).shape) g.K.KeyIndex.index laws c.args.tid c.args.table c.args.root c.args.key (name_at (V old.store).state.bytes c.args.table) (pages_of (V old.store) old) (λ told alive. called_at (V old.store).state.bytes c.args.table c.args.root (c.requires.named told alive)) c.requires.named c.requires.holds c.requires.absent c.requires.unwritten
 
 pub returns-clause-removes : goal.returns-clause-removes
 returns-clause-removes g c =
@@ -19,7 +20,7 @@ returns-clause-removes g c =
     let laws : Laws g.K.KeyIndex.index = record { rises = K.rises; given = K.given; counts = K.counts; rests = K.rests; extends = K.extends } in
     let old = c.args.pages.now in
     let new = c.remove.new.pages in
-    (removes_so g.S.EawStore.tells (g.S.EawStore.opens (V old.store).shape) g.K.KeyIndex.index laws c.args.tid c.args.table c.args.root c.args.key c.requires.table (omega arith) (pages_of (V old.store) old) c.requires.named c.requires.holds c.requires.absent c.requires.unwritten
+    (removes_so g.S.EawStore.tells (g.S.EawStore.opens (V old.store).shape) g.K.KeyIndex.index laws c.args.tid c.args.table c.args.root c.args.key (name_at (V old.store).state.bytes c.args.table) (pages_of (V old.store) old) (λ told alive. called_at (V old.store).state.bytes c.args.table c.args.root (c.requires.named told alive)) c.requires.named c.requires.holds c.requires.absent c.requires.unwritten
     (pages_of (V new.store) new) c.remove.result c.remove.ensures.removes (λ e. ap (λ p. pages_of (V p.store) p) (c.remove.ensures.dead e))).0
 
 pub returns-clause-holds : goal.returns-clause-holds
@@ -29,5 +30,5 @@ returns-clause-holds g c =
     let laws : Laws g.K.KeyIndex.index = record { rises = K.rises; given = K.given; counts = K.counts; rests = K.rests; extends = K.extends } in
     let old = c.args.pages.now in
     let new = c.remove.new.pages in
-    (removes_so g.S.EawStore.tells (g.S.EawStore.opens (V old.store).shape) g.K.KeyIndex.index laws c.args.tid c.args.table c.args.root c.args.key c.requires.table (omega arith) (pages_of (V old.store) old) c.requires.named c.requires.holds c.requires.absent c.requires.unwritten
+    (removes_so g.S.EawStore.tells (g.S.EawStore.opens (V old.store).shape) g.K.KeyIndex.index laws c.args.tid c.args.table c.args.root c.args.key (name_at (V old.store).state.bytes c.args.table) (pages_of (V old.store) old) (λ told alive. called_at (V old.store).state.bytes c.args.table c.args.root (c.requires.named told alive)) c.requires.named c.requires.holds c.requires.absent c.requires.unwritten
     (pages_of (V new.store) new) c.remove.result c.remove.ensures.removes (λ e. ap (λ p. pages_of (V p.store) p) (c.remove.ensures.dead e))).1

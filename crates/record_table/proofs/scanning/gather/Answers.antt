@@ -1,5 +1,10 @@
+use Rattle.std.proofs.Common.{Bool, Result, Err}
+use Rattle.history.specs.Writes.{Row}
+use Rattle.record_table.specs.Does as answers
+use Rattle.record_table.specs.declared.fault.TableFault.{TableFault}
+use Rattle.record_table.proofs.Looking.{failed_told}
 use Rattle.std.proofs.lemmas.Bool.{eqb-true, eqb-false}
-use Rattle.std.proofs.Common.{false, ◌≡◌, ◌+◌, suc, ℕ, List, ◌++◌, length, refl, sym, ◌∙◌, ap, subst, arith}
+use Rattle.std.proofs.Common.{false, ℕ, List, ◌++◌, refl, sym, ◌∙◌, ap, subst, arith}
 use Rattle.std.proofs.lemmas.List.{append-nil}
 use Rattle.eaw_face.specs.State.{State}
 use Rattle.page_store.specs.Index.{slots_of}
@@ -7,10 +12,10 @@ use Rattle.page_store.specs.Pairs.{Pair, AreInside, InTurn, AreNext}
 use Rattle.page_store.specs.Shown.{pages_of}
 use Rattle.history.specs.Writes.{rows_within}
 use Rattle.index_pages.proofs.Turns.{next_first, next_empty}
+use Rattle.record_table.specs.Names.{IsCalled}
 use Rattle.record_table.specs.Scanned.{rows_seen, rows_left}
 use Rattle.record_table.specs.Sought.{LooksAs}
 use Rattle.record_table.specs.State.{TableState, seen_by}
-use Rattle.history.specs.Key.{main_name}
 use Rattle.record_table.proofs.Looking.{looks_as, looks_none, looks_next}
 use Rattle.record_table.proofs.Gathering.{follows_end, follows_past, no_row}
 use Rattle.record_table.proofs.Moving.{moved_by_look, rests_moved}
@@ -60,7 +65,7 @@ push_rows-requires-clause-inside g c =
     (subst (λ (n : ℕ). AreInside c.loop-from.from n c.in-Ok.pairs.items) (ap slots_of (sym c.in-Ok.ensures.looks.shape)) c.in-Ok.ensures.inside)
 
 pub returns-then-is_empty-clause-rows : goal.returns-then-is_empty-clause-rows
-returns-then-is_empty-clause-rows g c = λ told.
+returns-then-is_empty-clause-rows g c = λ told name called.
     let K = g.met.K.KeyIndex in
     let V = g.S.EawStore.view in
     let I = g.K.KeyIndex.index in
@@ -72,12 +77,12 @@ returns-then-is_empty-clause-rows g c = λ told.
     let t = c.args.tid in
     let rests = c.requires.holds c.requires.alive in
     let none = subst (λ (s : State). AreNext (g.K.KeyIndex.index.pairs s.bytes c.args.root) c.loop-from.from c.in-Ok.pairs.items) ((c.loop-from.invariant.looks.same refl).still.state told) (c.in-Ok.ensures.next told) in
-    no_row (c.loop-from.rows) _ _ (c.loop-from.invariant.rows told)
-    (follows_end I laws t v0 (rests.tied told) c.args.table c.args.root c.requires.table (c.requires.named told c.requires.alive) c.loop-from.from c.args.high
+    no_row (c.loop-from.rows) _ _ (c.loop-from.invariant.rows told name called)
+    (follows_end I laws t v0 (rests.tied told) c.args.table c.args.root name called (c.requires.named told c.requires.alive) c.loop-from.from c.args.high
     (next_empty (I.pairs v0.store.state.bytes c.args.root) c.loop-from.from c.in-Ok.pairs.items (eqb-true _ 0 (sym c.if-is_empty.ensures)) none))
 
 pub returns-in-Ok-None-clause-rows : goal.returns-in-Ok-None-clause-rows
-returns-in-Ok-None-clause-rows g c = λ told.
+returns-in-Ok-None-clause-rows g c = λ told name called.
     let K = g.met.K.KeyIndex in
     let V = g.S.EawStore.view in
     let I = g.K.KeyIndex.index in
@@ -92,12 +97,12 @@ returns-in-Ok-None-clause-rows g c = λ told.
     let looked : LooksAs g.S.EawStore.tells (g.S.EawStore.opens (g.S.EawStore.view c.args.pages.now.store).shape) c.args.tid false (pages_of (g.S.EawStore.view c.args.pages.now.store) c.args.pages.now) (pages_of (g.S.EawStore.view c.next_pairs.new.pages.store) c.next_pairs.new.pages) =
     looks_next T g.S.EawStore.opens t false v0 v1 v2 c.loop-from.invariant.looks (looks_as T (g.S.EawStore.opens v1.store.shape) t false v1 v2 c.in-Ok.ensures.looks) in
     let moved = moved_by_look T E I t v0 v2 c.requires.alive rests looked in
-    sym (append-nil (c.push_rows.new.rows)) ∙ (rw c.in-Ok-None.field-0-is at (c.in-Ok-None.ensures.rows told))
-    ∙ ap (λ (s : TableState). c.loop-from.rows ++ rows_within main_name c.loop-from.from c.args.high (seen_by s t)) (moved.state told)
-    ∙ c.loop-from.invariant.rows told
+    sym (append-nil (c.push_rows.new.rows)) ∙ (rw c.in-Ok-None.field-0-is at (c.in-Ok-None.ensures.rows told name (subst (λ (s : State). IsCalled s.bytes c.args.table name) (sym ((looked.same refl).still.state told)) called)))
+    ∙ ap (λ (s : TableState). c.loop-from.rows ++ rows_within name c.loop-from.from c.args.high (seen_by s t)) (moved.state told)
+    ∙ c.loop-from.invariant.rows told name called
 
 pub returns-clause-rows : goal.returns-clause-rows
-returns-clause-rows g c = λ told.
+returns-clause-rows g c = λ told name called.
     let K = g.met.K.KeyIndex in
     let V = g.S.EawStore.view in
     let I = g.K.KeyIndex.index in
@@ -108,8 +113,64 @@ returns-clause-rows g c = λ told.
     let v1 = pages_of (V c.loop-from.pages.store) c.loop-from.pages in
     let t = c.args.tid in
     let rests = c.requires.holds c.requires.alive in
-    no_row (c.loop-from.rows) _ _ (c.loop-from.invariant.rows told)
-    (follows_past I laws t v0 (rests.tied told) c.loop-from.from c.args.high (omega (arith, c.loop-from-test.false)))
+    no_row (c.loop-from.rows) _ _ (c.loop-from.invariant.rows told name called)
+    (follows_past I laws t v0 (rests.tied told) c.args.table c.args.root name called (c.requires.named told c.requires.alive) c.loop-from.from c.args.high (omega (arith, c.loop-from-test.false)))
 
 pub returns-clause-looks : goal.returns-clause-looks
 returns-clause-looks g c = c.loop-from.invariant.looks
+
+pub loop-from-init : goal.loop-from-init
+loop-from-init g c =
+    let V = g.S.EawStore.view in
+    let T = g.S.EawStore.tells in
+    let E = g.S.EawStore.opens in
+    record {
+      looks = looks_none T (E (V c.args.pages.now.store).shape) c.args.tid (pages_of (V c.args.pages.now.store) c.args.pages.now);
+      rows = λ told name called. ap (λ (r : List Row). r ++ rows_seen g.K.KeyIndex.index c.args.tid name (pages_of (V c.args.pages.now.store) c.args.pages.now) c.args.low c.args.high) c.requires.empty;
+    }
+
+pub returns-in-Err-clause-looks : goal.returns-in-Err-clause-looks
+returns-in-Err-clause-looks g c =
+    let V = g.S.EawStore.view in
+    let T = g.S.EawStore.tells in
+    let E = g.S.EawStore.opens in
+    let A = λ (b : Bool). LooksAs T (E (V c.args.pages.now.store).shape) c.args.tid b (pages_of (V c.args.pages.now.store) c.args.pages.now) (pages_of (V c.next_pairs.new.pages.store) c.next_pairs.new.pages) in
+    subst (λ (e : TableFault). A (let r : Result (Unit {0}) TableFault = Err e in answers.is_failed r)) (sym c.from.ensures)
+    (subst A (sym (failed_told c.in-Err.fault)) (looks_next T E c.args.tid _ (pages_of (V c.args.pages.now.store) c.args.pages.now) (pages_of (V c.loop-from.pages.store) c.loop-from.pages) (pages_of (V c.next_pairs.new.pages.store) c.next_pairs.new.pages) c.loop-from.invariant.looks (looks_as T (E (V c.loop-from.pages.store).shape) c.args.tid _ (pages_of (V c.loop-from.pages.store) c.loop-from.pages) (pages_of (V c.next_pairs.new.pages.store) c.next_pairs.new.pages) c.in-Err.ensures.looks)))
+
+pub returns-then-is_empty-clause-looks : goal.returns-then-is_empty-clause-looks
+returns-then-is_empty-clause-looks g c =
+    let V = g.S.EawStore.view in
+    let T = g.S.EawStore.tells in
+    let E = g.S.EawStore.opens in
+    looks_next T E c.args.tid false (pages_of (V c.args.pages.now.store) c.args.pages.now) (pages_of (V c.loop-from.pages.store) c.loop-from.pages) (pages_of (V c.next_pairs.new.pages.store) c.next_pairs.new.pages) c.loop-from.invariant.looks (looks_as T (E (V c.loop-from.pages.store).shape) c.args.tid false (pages_of (V c.loop-from.pages.store) c.loop-from.pages) (pages_of (V c.next_pairs.new.pages.store) c.next_pairs.new.pages) c.in-Ok.ensures.looks)
+
+pub returns-in-Ok-None-clause-looks : goal.returns-in-Ok-None-clause-looks
+returns-in-Ok-None-clause-looks g c =
+    let V = g.S.EawStore.view in
+    let T = g.S.EawStore.tells in
+    let E = g.S.EawStore.opens in
+    looks_next T E c.args.tid false (pages_of (V c.args.pages.now.store) c.args.pages.now) (pages_of (V c.next_pairs.new.pages.store) c.next_pairs.new.pages) (pages_of (V c.push_rows.new.pages.store) c.push_rows.new.pages) (looks_next T E c.args.tid false (pages_of (V c.args.pages.now.store) c.args.pages.now) (pages_of (V c.loop-from.pages.store) c.loop-from.pages) (pages_of (V c.next_pairs.new.pages.store) c.next_pairs.new.pages) c.loop-from.invariant.looks (looks_as T (E (V c.loop-from.pages.store).shape) c.args.tid false (pages_of (V c.loop-from.pages.store) c.loop-from.pages) (pages_of (V c.next_pairs.new.pages.store) c.next_pairs.new.pages) c.in-Ok.ensures.looks)) c.in-Ok-None.ensures.looks
+
+pub returns-in-Err-push_rows-clause-looks : goal.returns-in-Err-push_rows-clause-looks
+returns-in-Err-push_rows-clause-looks g c =
+    let V = g.S.EawStore.view in
+    let T = g.S.EawStore.tells in
+    let E = g.S.EawStore.opens in
+    looks_next T E c.args.tid _ (pages_of (V c.args.pages.now.store) c.args.pages.now) (pages_of (V c.next_pairs.new.pages.store) c.next_pairs.new.pages) (pages_of (V c.push_rows.new.pages.store) c.push_rows.new.pages) (looks_next T E c.args.tid false (pages_of (V c.args.pages.now.store) c.args.pages.now) (pages_of (V c.loop-from.pages.store) c.loop-from.pages) (pages_of (V c.next_pairs.new.pages.store) c.next_pairs.new.pages) c.loop-from.invariant.looks (looks_as T (E (V c.loop-from.pages.store).shape) c.args.tid false (pages_of (V c.loop-from.pages.store) c.loop-from.pages) (pages_of (V c.next_pairs.new.pages.store) c.next_pairs.new.pages) c.in-Ok.ensures.looks)) c.in-Err-push_rows.ensures.looks
+
+pub loop-from-preserved : goal.loop-from-preserved
+loop-from-preserved g c =
+    let V = g.S.EawStore.view in
+    let T = g.S.EawStore.tells in
+    let E = g.S.EawStore.opens in
+    let looked = looks_next T E c.args.tid false (pages_of (V c.args.pages.now.store) c.args.pages.now) (pages_of (V c.loop-from.pages.store) c.loop-from.pages) (pages_of (V c.next_pairs.new.pages.store) c.next_pairs.new.pages) c.loop-from.invariant.looks (looks_as T (E (V c.loop-from.pages.store).shape) c.args.tid false (pages_of (V c.loop-from.pages.store) c.loop-from.pages) (pages_of (V c.next_pairs.new.pages.store) c.next_pairs.new.pages) c.in-Ok.ensures.looks) in
+    record {
+      looks = looks_next T E c.args.tid false (pages_of (V c.args.pages.now.store) c.args.pages.now) (pages_of (V c.next_pairs.new.pages.store) c.next_pairs.new.pages) (pages_of (V c.push_rows.new.pages.store) c.push_rows.new.pages) looked c.in-Ok-Some.ensures.looks;
+      rows = λ told name called.
+          let moved = moved_by_look T (E (V c.args.pages.now.store).shape) g.K.KeyIndex.index c.args.tid (pages_of (V c.args.pages.now.store) c.args.pages.now) (pages_of (V c.next_pairs.new.pages.store) c.next_pairs.new.pages) c.requires.alive (c.requires.holds c.requires.alive) looked in
+          sym (ap (λ (s : TableState). c.push_rows.new.rows ++ rows_within name c.in-Ok-Some.next c.args.high (seen_by s c.args.tid)) (moved.state told))
+          ∙ (rw c.in-Ok-Some.field-0-is at (c.in-Ok-Some.ensures.rows told name (subst (λ (s : State). IsCalled s.bytes c.args.table name) (sym ((looked.same refl).still.state told)) called)))
+          ∙ ap (λ (s : TableState). c.loop-from.rows ++ rows_within name c.loop-from.from c.args.high (seen_by s c.args.tid)) (moved.state told)
+          ∙ c.loop-from.invariant.rows told name called;
+    }

@@ -1,15 +1,15 @@
-use Rattle.std.proofs.Common.{◌≡◌, ◌-◌, ◌^◌, ◌++◌, false, IsTrue}
+use Rattle.std.proofs.Common.{◌≡◌, ◌-◌, ◌^◌, ◌++◌, ℕ, List, false, IsTrue}
 use Rattle.page_store.specs.Shown.{pages_of}
 use Rattle.record_table.specs.Scanned.{rows_seen}
-use Rattle.history.specs.Key.{main_name}
+use Rattle.record_table.specs.Names.{IsCalled}
 use Rattle.record_table.specs.Sought.{LooksAs}
 use Rattle.record_table.proofs.scanning.gather.Given as goal
 
 abbrev pub invariant-loop-from : goal.invariant-loop-from
 invariant-loop-from g l = record {
   looks : LooksAs g.S.EawStore.tells (g.S.EawStore.opens (g.S.EawStore.view l.initial.pages.store).shape) l.tid false (pages_of (g.S.EawStore.view l.initial.pages.store) l.initial.pages) (pages_of (g.S.EawStore.view l.pages.store) l.pages);
-  rows : IsTrue g.S.EawStore.tells → l.rows ++ rows_seen g.K.KeyIndex.index l.tid (pages_of (g.S.EawStore.view l.initial.pages.store) l.initial.pages) l.from l.high
-      ≡ rows_seen g.K.KeyIndex.index l.tid (pages_of (g.S.EawStore.view l.initial.pages.store) l.initial.pages) l.low l.high;
+  rows : IsTrue g.S.EawStore.tells → (name : List ℕ) → IsCalled (g.S.EawStore.view l.initial.pages.store).state.bytes l.table name → l.rows ++ rows_seen g.K.KeyIndex.index l.tid name (pages_of (g.S.EawStore.view l.initial.pages.store) l.initial.pages) l.from l.high
+      ≡ rows_seen g.K.KeyIndex.index l.tid name (pages_of (g.S.EawStore.view l.initial.pages.store) l.initial.pages) l.low l.high;
 }
 
 abbrev pub decreases-loop-from : goal.decreases-loop-from

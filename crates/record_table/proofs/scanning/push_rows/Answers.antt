@@ -1,7 +1,11 @@
-use Rattle.std.proofs.Common.{◌≡◌, ◌<◌, ◌≤◌, ◌+◌, false, ℕ, suc, List, ◌++◌, length, get_or, drop, refl, sym, ◌∙◌, ap, subst, arith}
+use Rattle.std.proofs.Common.{Bool, Result, Err, Option}
+use Rattle.record_table.specs.Sought.{LooksAs}
+use Rattle.record_table.specs.Does as answers
+use Rattle.record_table.specs.declared.fault.TableFault.{TableFault}
+use Rattle.record_table.proofs.Looking.{failed_told}
+use Rattle.std.proofs.Common.{◌≡◌, ◌+◌, false, ℕ, suc, ◌++◌, get_or, drop, refl, sym, ◌∙◌, ap, subst, arith}
 use Rattle.std.specs.Prelude.{Some}
 use Rattle.std.proofs.lemmas.List.{append-nil}
-use Rattle.eaw_face.specs.Causes.{IsAlive}
 use Rattle.eaw_face.specs.State.{State}
 use Rattle.history.specs.Writes.{rows_within}
 use Rattle.page_store.specs.Index.{slots_of}
@@ -11,7 +15,7 @@ use Rattle.index_pages.proofs.Turns.{turn_at, inside_at}
 use Rattle.page_store.specs.Records.{row_at}
 use Rattle.record_table.specs.Scanned.{rows_seen}
 use Rattle.record_table.specs.State.{TableState, seen_by}
-use Rattle.history.specs.Key.{main_name}
+use Rattle.record_table.specs.Names.{IsCalled}
 use Rattle.record_table.proofs.Looking.{looks_none, looks_next}
 use Rattle.record_table.proofs.Gathering.{follows_above, follows_past, last_row, no_row, more_row}
 use Rattle.record_table.proofs.Moving.{moved_by_look, rests_moved}
@@ -26,7 +30,7 @@ loop-pair-init g c = record {
   low = omega arith;
   later = λ some. absurd (omega arith);
   high = c.requires.order;
-  rows = λ told. refl;
+  rows = λ told name called. refl;
 }
 
 pub read_row-requires-clause-holds : goal.read_row-requires-clause-holds
@@ -82,20 +86,20 @@ loop-pair-preserved g c =
       low = omega (arith, c.loop-pair.invariant.low, here.0, key);
       later = λ some. omega (arith, c.loop-pair.invariant.low, here.0, key);
       high = omega (arith, c.in-Ok.ensures.key, c.if-row-span.false, c.if-pair-span.false);
-      rows = λ told.
-          let f = c.in-Ok.ensures.follows told in
-          let seen : rows_seen I t v0 c.loop-pair.from c.args.span.high ≡ row_at c.in-Ok.row.key c.in-Ok.row.value ++ rows_seen I t v0 (suc c.in-Ok.row.key) c.args.span.high =
-          ap (λ (s : TableState). rows_within main_name c.loop-pair.from c.args.span.high (seen_by s t)) (sym (moved.state told)) ∙ f
-          ∙ ap (λ (s : TableState). row_at c.in-Ok.row.key c.in-Ok.row.value ++ rows_within main_name (suc c.in-Ok.row.key) c.args.span.high (seen_by s t)) (moved.state told) in
+      rows = λ told name called.
+          let f = c.in-Ok.ensures.follows told name (subst (λ (s : State). IsCalled s.bytes c.args.span.table name) (sym ((c.loop-pair.invariant.looks.same refl).still.state told)) called) in
+          let seen : rows_seen I t name v0 c.loop-pair.from c.args.span.high ≡ row_at c.in-Ok.row.key c.in-Ok.row.value ++ rows_seen I t name v0 (suc c.in-Ok.row.key) c.args.span.high =
+          ap (λ (s : TableState). rows_within name c.loop-pair.from c.args.span.high (seen_by s t)) (sym (moved.state told)) ∙ f
+          ∙ ap (λ (s : TableState). row_at c.in-Ok.row.key c.in-Ok.row.value ++ rows_within name (suc c.in-Ok.row.key) c.args.span.high (seen_by s t)) (moved.state told) in
           let after : suc c.in-Ok.row.key ≡ c.in-Ok.row.key + 1 = omega arith in
-          subst (λ (n : ℕ). c.push_row.new.rows ++ rows_seen I t v0 n c.args.span.high
-          ≡ c.args.rows.now ++ rows_seen I t v0 c.args.span.low c.args.span.high) after
-          (more_row (c.loop-pair.rows) (row_at c.in-Ok.row.key c.in-Ok.row.value) _ _ _ (c.push_row.new.rows) (c.loop-pair.invariant.rows told) seen
+          subst (λ (n : ℕ). c.push_row.new.rows ++ rows_seen I t name v0 n c.args.span.high
+          ≡ c.args.rows.now ++ rows_seen I t name v0 c.args.span.low c.args.span.high) after
+          (more_row (c.loop-pair.rows) (row_at c.in-Ok.row.key c.in-Ok.row.value) _ _ _ (c.push_row.new.rows) (c.loop-pair.invariant.rows told name called) seen
           c.in-Ok-push_row.ensures);
     }
 
 pub returns-then-pair-span-clause-rows : goal.returns-then-pair-span-clause-rows
-returns-then-pair-span-clause-rows g c = λ told.
+returns-then-pair-span-clause-rows g c = λ told name called.
     let K = g.met.K.KeyIndex in
     let V = g.S.EawStore.view in
     let I = g.K.KeyIndex.index in
@@ -109,12 +113,12 @@ returns-then-pair-span-clause-rows g c = λ told.
     let moved = moved_by_look T E I t v0 v1 c.requires.alive rests c.loop-pair.invariant.looks in
     let is = (turn_at (I.pairs v0.store.state.bytes c.args.span.root) c.loop-pair.from 0 c.args.pairs.now c.loop-pair.pair-index c.loop-pair-test.true (c.loop-pair.invariant.turn told)).0 in
     append-nil (c.loop-pair.rows)
-    ∙ no_row (c.loop-pair.rows) _ _ (c.loop-pair.invariant.rows told)
-    (follows_above I laws t v0 (rests.tied told) c.args.span.table c.args.span.root c.requires.table (c.requires.named told c.requires.alive) c.loop-pair.from c.args.span.high
+    ∙ no_row (c.loop-pair.rows) _ _ (c.loop-pair.invariant.rows told name called)
+    (follows_above I laws t v0 (rests.tied told) c.args.span.table c.args.span.root name called (c.requires.named told c.requires.alive) c.loop-pair.from c.args.span.high
     (get_or c.args.pairs.now c.loop-pair.pair-index (0, 0)).0 (get_or c.args.pairs.now c.loop-pair.pair-index (0, 0)).1 is (omega (arith, c.if-pair-span.true)))
 
 pub returns-then-row-span-clause-rows : goal.returns-then-row-span-clause-rows
-returns-then-row-span-clause-rows g c = λ told.
+returns-then-row-span-clause-rows g c = λ told name called.
     let K = g.met.K.KeyIndex in
     let V = g.S.EawStore.view in
     let I = g.K.KeyIndex.index in
@@ -126,11 +130,34 @@ returns-then-row-span-clause-rows g c = λ told.
     let t = c.args.tid in
     let rests = c.requires.holds c.requires.alive in
     let moved = moved_by_look T E I t v0 v1 c.requires.alive rests c.loop-pair.invariant.looks in
-    let f = c.in-Ok.ensures.follows told in
-    let seen : rows_seen g.K.KeyIndex.index c.args.tid (pages_of (g.S.EawStore.view c.args.pages.now.store) c.args.pages.now) c.loop-pair.from c.args.span.high ≡ row_at c.in-Ok.row.key c.in-Ok.row.value ++ rows_seen g.K.KeyIndex.index c.args.tid (pages_of (g.S.EawStore.view c.args.pages.now.store) c.args.pages.now) (suc c.in-Ok.row.key) c.args.span.high =
-    ap (λ (s : TableState). rows_within main_name c.loop-pair.from c.args.span.high (seen_by s t)) (sym (moved.state told)) ∙ f
-    ∙ ap (λ (s : TableState). row_at c.in-Ok.row.key c.in-Ok.row.value ++ rows_within main_name (suc c.in-Ok.row.key) c.args.span.high (seen_by s t)) (moved.state told) in
+    let f = c.in-Ok.ensures.follows told name (subst (λ (s : State). IsCalled s.bytes c.args.span.table name) (sym ((c.loop-pair.invariant.looks.same refl).still.state told)) called) in
+    let seen : rows_seen g.K.KeyIndex.index c.args.tid name (pages_of (g.S.EawStore.view c.args.pages.now.store) c.args.pages.now) c.loop-pair.from c.args.span.high ≡ row_at c.in-Ok.row.key c.in-Ok.row.value ++ rows_seen g.K.KeyIndex.index c.args.tid name (pages_of (g.S.EawStore.view c.args.pages.now.store) c.args.pages.now) (suc c.in-Ok.row.key) c.args.span.high =
+    ap (λ (s : TableState). rows_within name c.loop-pair.from c.args.span.high (seen_by s t)) (sym (moved.state told)) ∙ f
+    ∙ ap (λ (s : TableState). row_at c.in-Ok.row.key c.in-Ok.row.value ++ rows_within name (suc c.in-Ok.row.key) c.args.span.high (seen_by s t)) (moved.state told) in
     append-nil (c.push_row.new.rows)
-    ∙ last_row (c.loop-pair.rows) (row_at c.in-Ok.row.key c.in-Ok.row.value) _ _ _ _ (c.loop-pair.invariant.rows told) seen
-    (follows_past I laws t v0 (rests.tied told) (suc c.in-Ok.row.key) c.args.span.high (omega (arith, c.if-row-span.true)))
+    ∙ last_row (c.loop-pair.rows) (row_at c.in-Ok.row.key c.in-Ok.row.value) _ _ _ _ (c.loop-pair.invariant.rows told name called) seen
+    (follows_past I laws t v0 (rests.tied told) c.args.span.table c.args.span.root name called (c.requires.named told c.requires.alive) (suc c.in-Ok.row.key) c.args.span.high (omega (arith, c.if-row-span.true)))
     c.in-Ok-push_row.ensures
+
+pub returns-in-Err-clause-looks : goal.returns-in-Err-clause-looks
+returns-in-Err-clause-looks g c =
+    let V = g.S.EawStore.view in
+    let T = g.S.EawStore.tells in
+    let E = g.S.EawStore.opens in
+    let A = λ (b : Bool). LooksAs T (E (V c.args.pages.now.store).shape) c.args.tid b (pages_of (V c.args.pages.now.store) c.args.pages.now) (pages_of (V c.read_row.new.pages.store) c.read_row.new.pages) in
+    subst (λ (e : TableFault). A (let r : Result (Option ℕ) TableFault = Err e in answers.is_failed r)) (sym c.from.ensures)
+    (subst A (sym (failed_told c.in-Err.fault)) (looks_next T E c.args.tid _ (pages_of (V c.args.pages.now.store) c.args.pages.now) (pages_of (V c.loop-pair.pages.store) c.loop-pair.pages) (pages_of (V c.read_row.new.pages.store) c.read_row.new.pages) c.loop-pair.invariant.looks c.in-Err.ensures.looks))
+
+pub returns-in-Err-push_row-clause-looks : goal.returns-in-Err-push_row-clause-looks
+returns-in-Err-push_row-clause-looks g c =
+    let V = g.S.EawStore.view in
+    let T = g.S.EawStore.tells in
+    let E = g.S.EawStore.opens in
+    looks_next T E c.args.tid false (pages_of (V c.args.pages.now.store) c.args.pages.now) (pages_of (V c.loop-pair.pages.store) c.loop-pair.pages) (pages_of (V c.read_row.new.pages.store) c.read_row.new.pages) c.loop-pair.invariant.looks c.in-Ok.ensures.looks
+
+pub returns-then-row-span-clause-looks : goal.returns-then-row-span-clause-looks
+returns-then-row-span-clause-looks g c =
+    let V = g.S.EawStore.view in
+    let T = g.S.EawStore.tells in
+    let E = g.S.EawStore.opens in
+    looks_next T E c.args.tid false (pages_of (V c.args.pages.now.store) c.args.pages.now) (pages_of (V c.loop-pair.pages.store) c.loop-pair.pages) (pages_of (V c.read_row.new.pages.store) c.read_row.new.pages) c.loop-pair.invariant.looks c.in-Ok.ensures.looks

@@ -1,9 +1,9 @@
-use Rattle.std.proofs.Common.{◌≡◌, ◌<◌, ◌≤◌, ◌++◌, false, IsTrue, drop}
+use Rattle.std.proofs.Common.{◌≡◌, ◌<◌, ◌≤◌, ◌++◌, ℕ, List, false, IsTrue, drop}
 use Rattle.page_store.specs.Index.{slots_of}
 use Rattle.page_store.specs.Pairs.{AreInside, InTurn}
 use Rattle.page_store.specs.Shown.{pages_of}
 use Rattle.record_table.specs.Scanned.{rows_seen}
-use Rattle.history.specs.Key.{main_name}
+use Rattle.record_table.specs.Names.{IsCalled}
 use Rattle.record_table.specs.Sought.{LooksAs}
 use Rattle.record_table.proofs.scanning.push_rows.Given as goal
 
@@ -16,6 +16,6 @@ invariant-loop-pair g l = record {
   low : l.span.low ≤ l.from;
   later : 1 ≤ l.pair-index → l.span.low < l.from;
   high : l.from ≤ l.span.high;
-  rows : IsTrue g.S.EawStore.tells → l.rows ++ rows_seen g.K.KeyIndex.index l.tid (pages_of (g.S.EawStore.view l.initial.pages.store) l.initial.pages) l.from l.span.high
-      ≡ l.initial.rows ++ rows_seen g.K.KeyIndex.index l.tid (pages_of (g.S.EawStore.view l.initial.pages.store) l.initial.pages) l.span.low l.span.high;
+  rows : IsTrue g.S.EawStore.tells → (name : List ℕ) → IsCalled (g.S.EawStore.view l.initial.pages.store).state.bytes l.span.table name → l.rows ++ rows_seen g.K.KeyIndex.index l.tid name (pages_of (g.S.EawStore.view l.initial.pages.store) l.initial.pages) l.from l.span.high
+      ≡ l.initial.rows ++ rows_seen g.K.KeyIndex.index l.tid name (pages_of (g.S.EawStore.view l.initial.pages.store) l.initial.pages) l.span.low l.span.high;
 }

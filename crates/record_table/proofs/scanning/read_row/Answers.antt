@@ -1,9 +1,10 @@
-use Rattle.std.proofs.Common.{refl, sym, ◌∙◌, arith}
+use Rattle.std.proofs.Common.{refl, sym, ◌∙◌}
 use Rattle.page_store.specs.Shown.{pages_of}
-use Rattle.history.specs.Key.{of_main}
+use Rattle.history.specs.Key.{of_table}
+use Rattle.record_table.specs.Names.{name_at, key_in}
 use Rattle.record_table.proofs.Gathering.{follows_some, next_is}
 use Rattle.record_table.proofs.Seeking.{read_is, some_slot}
-use Rattle.record_table.proofs.Sharing.{Laws}
+use Rattle.record_table.proofs.Sharing.{Laws, called_at}
 use Rattle.std.proofs.Common.{Result, Err, subst}
 use Rattle.page_store.specs.Looks.{LookCause}
 use Rattle.page_store.specs.declared.fault.PageFault.{PageFault}
@@ -12,7 +13,7 @@ use Rattle.record_table.specs.declared.scanning.Next.{Next}
 use Rattle.record_table.proofs.scanning.read_row.Goals as goal
 
 pub returns-in-Ok-heard-clause-follows : goal.returns-in-Ok-heard-clause-follows
-returns-in-Ok-heard-clause-follows g c = λ told.
+returns-in-Ok-heard-clause-follows g c = λ told name called.
     let K = g.met.K.KeyIndex in
     let V = g.S.EawStore.view in
     let I = g.K.KeyIndex.index in
@@ -20,10 +21,10 @@ returns-in-Ok-heard-clause-follows g c = λ told.
     let v0 = pages_of (V c.args.pages.now.store) c.args.pages.now in
     let alive = c.requires.alive in
     let tied = (c.requires.holds alive).tied told in
-    let n = next_is I laws c.args.tid v0 tied c.args.span.table c.args.span.root c.requires.table (c.requires.named told alive) c.args.span.low c.args.span.high c.args.pair.0 c.args.pair.1 (c.requires.next told) c.requires.most in
-    rw c.value_in.ensures (follows_some I laws c.args.tid v0 tied c.args.span.table c.args.span.root c.requires.table (c.requires.named told alive) c.args.span.low c.args.span.high c.args.pair.0 c.args.pair.1 (c.requires.next told) c.requires.most _
+    let n = next_is I laws c.args.tid v0 tied c.args.span.table c.args.span.root name called (c.requires.named told alive) c.args.span.low c.args.span.high c.args.pair.0 c.args.pair.1 (c.requires.next told) c.requires.most in
+    rw c.value_in.ensures (follows_some I laws c.args.tid v0 tied c.args.span.table c.args.span.root name called (c.requires.named told alive) c.args.span.low c.args.span.high c.args.pair.0 c.args.pair.1 (c.requires.next told) c.requires.most _
     (sym c.in-Ok-heard.ensures.slot ∙ c.in-Ok.ensures.said told
-    ∙ read_is I laws c.args.tid (of_main c.args.pair.0) v0 tied v0 refl refl (g.met.S.EawStore.long c.args.pages.now.store told) c.args.pair.1 n.1))
+    ∙ read_is I laws c.args.tid (of_table name c.args.pair.0) v0 tied v0 refl refl (g.met.S.EawStore.long c.args.pages.now.store told) c.args.pair.1 n.1))
 
 pub returns-in-Err-heard-clause-cause : goal.returns-in-Err-heard-clause-cause
 returns-in-Err-heard-clause-cause g c =
@@ -37,7 +38,8 @@ returns-in-Err-heard-clause-cause g c =
       alive,
       λ told.
           let tied = (c.requires.holds alive).tied told in
-          let n = next_is I laws c.args.tid v0 tied c.args.span.table c.args.span.root c.requires.table (c.requires.named told alive) c.args.span.low c.args.span.high c.args.pair.0 c.args.pair.1 (c.requires.next told) c.requires.most in
-          some_slot I laws c.args.tid (of_main c.args.pair.0) v0 tied v0 refl refl (g.met.S.EawStore.long c.args.pages.now.store told) c.args.pair.1 n.1
+          let d = (V c.args.pages.now.store).state.bytes in
+          let n = next_is I laws c.args.tid v0 tied c.args.span.table c.args.span.root (name_at d c.args.span.table) (called_at d c.args.span.table c.args.span.root (c.requires.named told alive)) (c.requires.named told alive) c.args.span.low c.args.span.high c.args.pair.0 c.args.pair.1 (c.requires.next told) c.requires.most in
+          some_slot I laws c.args.tid (key_in d c.args.span.table c.args.pair.0) v0 tied v0 refl refl (g.met.S.EawStore.long c.args.pages.now.store told) c.args.pair.1 n.1
           (sym c.in-Err-heard.ensures.none.1 ∙ c.in-Ok.ensures.said told),
     ) in subst (λ (f : PageFault). LookCause g.S.EawStore.tells (V c.args.pages.now.store) (let r : Result Next PageFault = Err f in r)) (sym c.in-Err-heard.ensures.none.0) damaged)

@@ -1,4 +1,4 @@
-use Rattle.std.proofs.Common.{◌≡◌, ◌≢◌, ℕ, ◌<◌, List, length, Result, Ok, Err, sym, ap, subst, arith}
+use Rattle.std.proofs.Common.{◌≡◌, ◌≢◌, length, Result, Err, ap, subst, arith}
 use Rattle.array_shape.specs.declared.shape.Shape.{Shape}
 use Rattle.record_slots.specs.declared.super_page.Super.{Super}
 use Rattle.page_store.specs.Command as page

@@ -1,6 +1,6 @@
 use Rattle.std.proofs.Common.{◌∙◌, subst, get_or, take}
 use Rattle.std.proofs.lemmas.List.Elements.{All-more}
-use Rattle.snapshot_readers.specs.Rooms.{MainWrite}
+use Rattle.history.specs.Writes.{Write}
 use Rattle.snapshot_readers.specs.Rooms.{HasRoom}
 use Rattle.snapshot_readers.proofs.records.make_rooms.Goals as goal
 
@@ -12,7 +12,7 @@ loop-key-preserved c =
     let item = c.loop-key-item.result in
     record {
       same = c.make_room.ensures.same ∙ c.loop-key.invariant.same;
-      room = All-more (λ (write : MainWrite). HasRoom now write.0) writes i item c.loop-key-test.true
+      room = All-more (λ (write : Write). HasRoom now write.0) writes i item c.loop-key-test.true
           (λ k d lt. c.make_room.ensures.kept (get_or (take i writes) k d).0 (c.loop-key.invariant.room k d lt))
-          (subst (λ (write : MainWrite). HasRoom now write.0) c.loop-key-item.is c.in_ok-make_room.ensures.room);
+          (subst (λ (write : Write). HasRoom now write.0) c.loop-key-item.is c.in_ok-make_room.ensures.room);
     }

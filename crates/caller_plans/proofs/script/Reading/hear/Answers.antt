@@ -16,7 +16,7 @@ returns-then-is_stray c =
     let drafts = c.args.self.now.drafts.items in
     let draft = c.index.result.now in
     let at = slice_get_read drafts (length drafts) c.args.caller draft refl c.requires (c.index.ensures ∙ ap (λ (i : ℕ). get_or drafts i draft) c.from.ensures) in
-    takes_stray c.args.number c.args.caller c.args.call.now c.args.self.now _ draft at (sym c.is_stray.ensures ∙ c.if-is_stray.true) c.in_ok-push.ensures.ok refl
+    takes_stray c.args.number c.args.caller c.args.call.now c.args.self.now _ draft at (sym c.is_stray.ensures ∙ c.if-is_stray.true) c.in_ok-push.ensures.ok refl refl
 
 pub returns : goal.returns
 returns c =
@@ -28,5 +28,5 @@ returns c =
     let same : changed ≡ draft = cc in
     both c.add.result
     (λ makes goes. rw c.from-2.ensures (takes_added c.args.number c.args.caller c.args.call.now c.args.self.now _ changed now c.add.new.self
-    (ap (λ (d : Draft). is_stray (is_within d) c.args.call.now) same ∙ (sym c.is_stray.ensures ∙ c.if-is_stray.false)) refl refl makes goes))
+    (ap (λ (d : Draft). is_stray (is_within d) c.args.call.now) same ∙ (sym c.is_stray.ensures ∙ c.if-is_stray.false)) refl refl refl makes goes))
     c.add.ensures.planned c.add.ensures.within

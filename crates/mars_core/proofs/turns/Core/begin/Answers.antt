@@ -1,3 +1,5 @@
+use Rattle.mars_core.proofs.GivingUp.{sends_none}
+use Rattle.eaw_face.specs.Mirroring.{Mirrors}
 use Rattle.std.proofs.Common.{ℕ, ap, subst, sym, ◌∙◌, refl, ◌<◌}
 use Rattle.std.specs.Prelude.{Option, length}
 use Rattle.eaw_face.specs.Causes.{IsAlive}
@@ -19,9 +21,9 @@ invariant_of-self g c =
     let store = i.records.store in
     begun_keeps g.S.EawStore.tells g.S.EawStore.opens g.K.KeyIndex.index (pages_of (V store) i.records)
     (record { long = λ told. g.met.S.EawStore.long store told; some = λ told alive. g.met.S.EawStore.some_now store told alive; counts = λ told t image le left. g.met.S.EawStore.counts_now store t image told le left; only = λ told alive image left. g.met.S.EawStore.only_now store image told alive left })
-    (state_at g.K.KeyIndex.index (V store) (table_of i.base) i.history (live_in i.seats) i.doubt) _ (record { indexed = refl; dead = refl }) (length i.seats) (length c.begin.new.self) c.begin.ensures.count i.base c.self.invariant
+    (state_at g.K.KeyIndex.index (V store) i.seats.names (table_of i.base) i.history (live_in i.seats) i.doubt) _ (record { indexed = refl; dead = refl }) (length i.seats.live) (length c.begin.new.self.live) c.begin.ensures.count i.base c.self.invariant
     (subst (λ (h : Held g.row.S.Denot). IsAlive (V h.records.store)) (sym c.self.view_is) c.requires.alive) c.args.caller (none_of (live_in i.seats c.args.caller) (sym c.is_live.ensures ∙ c.if-is_live.false))
-    (ap (λ (live : ℕ → Option Granted). state_at g.K.KeyIndex.index (V store) (table_of i.base) i.history live i.doubt) c.begin.ensures.live)
+    (λ j. state_at g.K.KeyIndex.index (V store) (c.begin.ensures.names j) (table_of i.base) i.history (c.begin.ensures.live j) i.doubt)
 
 pub returns : goal.returns
 returns g c =
@@ -33,9 +35,10 @@ returns g c =
           (core_of g.S.EawStore.opens g.K.KeyIndex.index (V store) (record { records = i.records; base = i.base; seats = c.begin.new.self; history = i.history; doubt = i.doubt })) Fine) c.self.view_is
           (begun_steps g.S.EawStore.tells g.S.EawStore.opens g.K.KeyIndex.index (pages_of (V store) i.records)
           (record { long = λ told. g.met.S.EawStore.long store told; some = λ told alive. g.met.S.EawStore.some_now store told alive; counts = λ told t image le left. g.met.S.EawStore.counts_now store t image told le left; only = λ told alive image left. g.met.S.EawStore.only_now store image told alive left })
-          (state_at g.K.KeyIndex.index (V store) (table_of i.base) i.history (live_in i.seats) i.doubt) _ (record { indexed = refl; dead = refl }) (length i.seats) (length c.begin.new.self) c.begin.ensures.count i.base c.self.invariant
+          (state_at g.K.KeyIndex.index (V store) i.seats.names (table_of i.base) i.history (live_in i.seats) i.doubt) _ (record { indexed = refl; dead = refl }) (length i.seats.live) (length c.begin.new.self.live) c.begin.ensures.count i.base c.self.invariant
           (subst (λ (h : Held g.row.S.Denot). IsAlive (V h.records.store)) (sym c.self.view_is) c.requires.alive) c.args.caller (none_of (live_in i.seats c.args.caller) (sym c.is_live.ensures ∙ c.if-is_live.false))
-          (ap (λ (live : ℕ → Option Granted). state_at g.K.KeyIndex.index (V store) (table_of i.base) i.history live i.doubt) c.begin.ensures.live));
+          (λ j. state_at g.K.KeyIndex.index (V store) (c.begin.ensures.names j) (table_of i.base) i.history (c.begin.ensures.live j) i.doubt));
+      sends = subst (λ (h : Held g.row.S.Denot). Mirrors g.S.EawStore.tells (g.S.EawStore.view h.records.store) (g.S.EawStore.view c.self.inside.records.store)) c.self.view_is (sends_none g.S.EawStore.tells (g.S.EawStore.view c.self.inside.records.store));
       not_busy = refl;
     }
 

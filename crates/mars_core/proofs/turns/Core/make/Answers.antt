@@ -1,6 +1,7 @@
-use Rattle.std.proofs.Common.{◌≡◌, ◌∙◌, false, inl, inr, sym, ap, subst}
+use Rattle.std.proofs.Common.{◌≡◌, ◌∙◌, true, false, refl, inl, inr, sym, ap, subst}
 use Rattle.std.proofs.lemmas.Bool.{false≢true}
 use Rattle.page_store.specs.Shown.{pages_of}
+use Rattle.history.specs.Locks.{has_table}
 use Rattle.history.specs.declared.call.Call.{Call}
 use Rattle.caller_steps.specs.Core.{Steps}
 use Rattle.mars_core.specs.Held.{Held, core_of}
@@ -18,9 +19,11 @@ returns-in-Begin g c =
     let alive : (V c.args.self.now.records.store).is_dead ≡ false = subst (λ (h : Held g.row.S.Denot). (g.S.EawStore.view h.records.store).is_dead ≡ false) c.self.view_is (sym c.is_dead.ensures.dead ∙ c.if-is_dead.false) in
     record {
       steps = subst (λ (call : Call). Steps g.S.EawStore.tells c.args.caller call (core (V c.args.self.now.records.store) c.args.self.now) (core (V c.begin.new.self.records.store) c.begin.new.self) c.begin.result) (sym (ap asking c.in-Begin.is) ∙ c.of.ensures) c.begin.ensures.steps;
+      sends = c.begin.ensures.sends;
       dead = λ dead. absurd (false≢true (sym alive ∙ dead));
       not_busy = λ held. c.begin.ensures.not_busy;
       begun = λ _. inr (sym (sym (ap asking c.in-Begin.is) ∙ c.of.ensures));
+      tabled = λ _. subst (λ (call : Call). has_table c.args.self.now.seats.names call ≡ true) (sym (ap asking c.in-Begin.is) ∙ c.of.ensures) refl;
     }
 
 pub commit-requires : goal.commit-requires
@@ -33,9 +36,11 @@ returns-in-Commit g c =
     let alive : (V c.args.self.now.records.store).is_dead ≡ false = subst (λ (h : Held g.row.S.Denot). (g.S.EawStore.view h.records.store).is_dead ≡ false) c.self.view_is (sym c.is_dead.ensures.dead ∙ c.if-is_dead.false) in
     record {
       steps = subst (λ (call : Call). Steps g.S.EawStore.tells c.args.caller call (core (V c.args.self.now.records.store) c.args.self.now) (core (V c.commit.new.self.records.store) c.commit.new.self) c.commit.result) (sym (ap asking c.in-Commit.is) ∙ c.of.ensures) c.commit.ensures.steps;
+      sends = c.commit.ensures.sends;
       dead = λ dead. absurd (false≢true (sym alive ∙ dead));
       not_busy = λ held. c.commit.ensures.not_busy;
       begun = λ granted. inl (c.commit.ensures.begun granted);
+      tabled = λ _. subst (λ (call : Call). has_table c.args.self.now.seats.names call ≡ true) (sym (ap asking c.in-Commit.is) ∙ c.of.ensures) refl;
     }
 
 pub abort-requires : goal.abort-requires
@@ -48,9 +53,11 @@ returns-in-Abort g c =
     let alive : (V c.args.self.now.records.store).is_dead ≡ false = subst (λ (h : Held g.row.S.Denot). (g.S.EawStore.view h.records.store).is_dead ≡ false) c.self.view_is (sym c.is_dead.ensures.dead ∙ c.if-is_dead.false) in
     record {
       steps = subst (λ (call : Call). Steps g.S.EawStore.tells c.args.caller call (core (V c.args.self.now.records.store) c.args.self.now) (core (V c.abort.new.self.records.store) c.abort.new.self) c.abort.result) (sym (ap asking c.in-Abort.is) ∙ c.of.ensures) c.abort.ensures.steps;
+      sends = c.abort.ensures.sends;
       dead = λ dead. absurd (false≢true (sym alive ∙ dead));
       not_busy = λ held. c.abort.ensures.not_busy;
       begun = λ granted. inl (c.abort.ensures.begun granted);
+      tabled = λ _. subst (λ (call : Call). has_table c.args.self.now.seats.names call ≡ true) (sym (ap asking c.in-Abort.is) ∙ c.of.ensures) refl;
     }
 
 pub ask-requires : goal.ask-requires
@@ -66,4 +73,4 @@ ask-requires g c = record {
 pub returns-in-Table : goal.returns-in-Table
 returns-in-Table g c =
     let alive : (g.S.EawStore.view c.args.self.now.records.store).is_dead ≡ false = subst (λ (h : Held g.row.S.Denot). (g.S.EawStore.view h.records.store).is_dead ≡ false) c.self.view_is (sym c.is_dead.ensures.dead ∙ c.if-is_dead.false) in
-    record { steps = c.ask.ensures.steps; dead = λ dead. absurd (false≢true (sym alive ∙ dead)); not_busy = c.ask.ensures.not_busy; begun = λ granted. inl (c.ask.ensures.begun granted) }
+    record { steps = c.ask.ensures.steps; sends = c.ask.ensures.sends; dead = λ dead. absurd (false≢true (sym alive ∙ dead)); not_busy = c.ask.ensures.not_busy; begun = λ granted. inl (c.ask.ensures.begun granted); tabled = c.ask.ensures.tabled }

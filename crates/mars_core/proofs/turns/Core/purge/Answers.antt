@@ -1,14 +1,16 @@
+use Rattle.eaw_face.specs.Mirroring.{Mirrors}
 use Rattle.std.proofs.Common.{◌≡◌, ◌∙◌, ℕ, false, IsTrue, Option, Result, Ok, Err, length, refl, sym, ap, subst}
 use Rattle.eaw_face.specs.Causes.{IsAlive}
 use Rattle.page_store.specs.Shown.{Shown, pages_of}
 use Rattle.history.specs.Rows.{table_of}
-use Rattle.history.specs.declared.call.Reply.{Reply}
 use Rattle.record_table.specs.declared.fault.TableFault.{TableFault}
 use Rattle.caller_steps.specs.Purging.{Purges}
+use Rattle.caller_steps.specs.declared.purge_fault.PurgeFault.{PurgeFault}
 use Rattle.mars_core.specs.Held.{Held, core_of}
 use Rattle.mars_core.specs.Purging.{Keeps}
 use Rattle.mars_core.specs.Seats.{live_in}
 use Rattle.mars_core.proofs.Answering.{IndexLaws}
+use Rattle.mars_core.proofs.Clearing.{stop_of}
 use Rattle.mars_core.proofs.Prefixes.{StoreLaws}
 use Rattle.mars_core.proofs.Purged.{outcome, purged_keeps, purged_steps}
 use Rattle.mars_core.proofs.Staying.{none_of}
@@ -31,14 +33,14 @@ pub invariant_of-self : goal.invariant_of-self
 invariant_of-self g c =
     let V = g.S.EawStore.view in
     let i = c.self.inside in
-    purged_keeps g.S.EawStore.tells g.S.EawStore.opens g.K.KeyIndex.index (index_laws g) g.met.S.EawStore.one_data (pages_of (V i.records.store) i.records) (laws_at g i.records.store) i.base (table_of i.base) i.history i.seats i.doubt (length i.seats) c.self.invariant
+    purged_keeps g.S.EawStore.tells g.S.EawStore.opens g.K.KeyIndex.index (index_laws g) g.met.S.EawStore.one_data (pages_of (V i.records.store) i.records) (laws_at g i.records.store) i.base (table_of i.base) i.history i.seats i.doubt (length i.seats.live) c.self.invariant
     (sym c.is_dead.ensures.dead ∙ c.if-is_dead.false) c.args.caller (none_of (live_in i.seats c.args.caller) (sym c.is_live.ensures ∙ c.if-is_live.false)) (pages_of (V c.clear.new.records.store) c.clear.new.records) (laws_at g c.clear.new.records.store)
     c.clear.result c.clear.ensures.clears
 
 answer_is : (g : Over) (c : goal.Joined-clear g) → c.match-clear.result ≡ outcome c.clear.result
 answer_is g c = elim c.match-clear.branch [
   | in-Ok w ↦ w.result-is ∙ sym (ap outcome w.in-Ok.is)
-  | in-Err w ↦ w.result-is ∙ ap (λ (r : Reply). let x : Result ℕ Reply = Err r in x) w.from.ensures ∙ sym (ap outcome w.in-Err.is)
+  | in-Err w ↦ w.result-is ∙ ap (λ (f : PurgeFault). let x : Result ℕ PurgeFault = Err f in x) w.stopped.ensures ∙ sym (ap outcome w.in-Err.is)
 ]
 
 pub returns : goal.returns
@@ -46,10 +48,14 @@ returns g c =
     let V = g.S.EawStore.view in
     let i = c.self.inside in
     record {
+      sends = subst (λ (h : Held g.row.S.Denot). Mirrors g.S.EawStore.tells (g.S.EawStore.view h.records.store) (g.S.EawStore.view c.clear.new.records.store)) c.self.view_is (c.clear.ensures.clears.mirrors);
       purges = subst (λ (h : Held g.row.S.Denot). Purges g.S.EawStore.tells (Keeps g.K.KeyIndex.index) c.args.caller (core_of g.S.EawStore.opens g.K.KeyIndex.index (g.S.EawStore.view h.records.store) h)
           (core_of g.S.EawStore.opens g.K.KeyIndex.index (g.S.EawStore.view c.clear.new.records.store)
           (record { records = c.clear.new.records; base = c.self.inside.base; seats = c.self.inside.seats; history = c.self.inside.history; doubt = c.self.inside.doubt })) c.match-clear.result) c.self.view_is
-          (rw (answer_is g c) (purged_steps g.S.EawStore.tells g.S.EawStore.opens g.K.KeyIndex.index (index_laws g) g.met.S.EawStore.one_data (pages_of (V i.records.store) i.records) (laws_at g i.records.store) i.base (table_of i.base) i.history i.seats i.doubt (length i.seats) c.self.invariant
+          (rw (answer_is g c) (purged_steps g.S.EawStore.tells g.S.EawStore.opens g.K.KeyIndex.index (index_laws g) g.met.S.EawStore.one_data (pages_of (V i.records.store) i.records) (laws_at g i.records.store) i.base (table_of i.base) i.history i.seats i.doubt (length i.seats.live) c.self.invariant
           (sym c.is_dead.ensures.dead ∙ c.if-is_dead.false) c.args.caller (none_of (live_in i.seats c.args.caller) (sym c.is_live.ensures ∙ c.if-is_live.false)) (pages_of (V c.clear.new.records.store) c.clear.new.records) (laws_at g c.clear.new.records.store)
           c.clear.result c.clear.ensures.clears));
     }
+
+pub stopped-requires : goal.stopped-requires
+stopped-requires g c = stop_of g.S.EawStore.tells c.in-Err.fault c.in-Err.ensures.clears.cause

@@ -9,7 +9,7 @@ use Rattle.mars_manager.proofs.mars.Mars.since.Goals as goal
 pub invariant_of-pass : goal.invariant_of-pass
 invariant_of-pass g c =
     let k = read_kept g.C.Core.tells g.C.Core.view (first_of c.pass.inside.seat.me.0.passes) c.read.result c.read.new.seat.me c.read.ensures.one c.read.ensures.reads c.read.ensures.again in
-    idle_kept c.pass.inside.number c.pass.inside.holds c.pass.inside.live c.pass.inside.seat.me c.read.new.seat.me c.pass.invariant k.0 k.1
+    idle_kept c.pass.inside.number c.pass.inside.names c.pass.inside.holds c.pass.inside.live c.pass.inside.seat.me c.read.new.seat.me c.pass.invariant k.0 k.1
 
 pub returns-clause-seen : goal.returns-clause-seen
 returns-clause-seen g c =

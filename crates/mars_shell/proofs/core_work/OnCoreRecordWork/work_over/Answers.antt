@@ -4,7 +4,8 @@ use Rattle.array_shape.specs.declared.shape.Shape.{Shape}
 use Rattle.mars_core.specs.Held.{core_of}
 use Rattle.mars_core.specs.Over.{IsOver}
 use Rattle.mars_shell.specs.Served.{Served}
-use Rattle.mars_shell.proofs.Serving.{untaken, untold, can_share, served}
+use Rattle.array_runs.proofs.Untaken.{untaken}
+use Rattle.mars_shell.proofs.Serving.{untold, can_share, served}
 use Rattle.mars_shell.proofs.core_work.OnCoreRecordWork.work_over.Goals as goal
 
 pub work_on-worked-requires-clause-numbers : goal.work_on-worked-requires-clause-numbers

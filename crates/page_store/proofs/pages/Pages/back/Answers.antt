@@ -1,10 +1,8 @@
-use Rattle.std.proofs.Common.{◌≡◌, ℕ, ◌-◌, ◌<◌, List, Some, None, false, Ok, Result, length, get_or, set, take, refl, sym, ◌∙◌, ap, subst, arith}
+use Rattle.std.proofs.Common.{◌≡◌, ℕ, ◌-◌, ◌<◌, List, None, false, Ok, Result, length, get_or, set, take, sym, ◌∙◌, ap, subst, arith}
 use Rattle.std.specs.Prelude.{IsTrue}
 use Rattle.std.proofs.lemmas.Bool.{false≢true}
 use Rattle.std.proofs.lemmas.List.{length-set}
-use Rattle.eaw_face.specs.StoreView.{StoreView}
 use Rattle.eaw_face.specs.Command.{partial_abort}
-use Rattle.page_store.specs.State.{with_one}
 use Rattle.page_store.specs.Command.{back}
 use Rattle.page_store.specs.Outline.{count_at}
 use Rattle.page_store.specs.Device.{if_live}
@@ -15,9 +13,10 @@ use Rattle.page_store.specs.Shown.{PagesView, counts_in, top_in, outline_of}
 use Rattle.page_store.specs.declared.fault.PageFault.{PageFault}
 use Rattle.page_store.proofs.Shown.{IsTold}
 use Rattle.page_store.proofs.Ordered.{ordered_after}
-use Rattle.page_store.proofs.Lifting.{live_does}
-use Rattle.page_store.proofs.Marking.{was, counts_become, counts_stay, top_become, top_stay}
+use Rattle.page_store.proofs.Lifting.{live_does, unchanged}
+use Rattle.page_store.proofs.Marking.{was, counts_become, top_stay}
 use Rattle.page_store.proofs.pages.Pages.back.Given as given
+use Rattle.page_store.specs.declared.fault.PageFault.TheVariants.{Dead}
 use Rattle.page_store.proofs.pages.Pages.back.Goals as goal
 
 -- what it does, over the store and the marks that it began with
@@ -87,3 +86,8 @@ at_save-count-requires-clause-there g c =
     let there : c.args.tid < length marks = omega (arith, c.self.invariant.many, rw (← c.self.view_is) at c.requires.tid) in
     let saved = was marks c.args.tid c.from.result c.from.ensures there c.index.result.now c.index.result.now c.index.ensures in
     omega (arith, rw (← c.self.view_is) at c.requires.there, ap length saved.0)
+
+pub returns-then-is_dead-clause-does : goal.returns-then-is_dead-clause-does
+returns-then-is_dead-clause-does g c =
+    let s = g.S.EawStore in
+    rw (← c.self.view_is) (unchanged s.tells (s.opens (s.view c.self.inside.store).shape) (back c.args.tid c.args.n) _ Dead (λ is. cc) (sym c.is_dead.ensures ∙ c.if-is_dead.true))

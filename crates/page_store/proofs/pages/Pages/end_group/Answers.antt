@@ -1,4 +1,4 @@
-use Rattle.std.proofs.Common.{◌≡◌, ℕ, ◌<◌, true, inl, inr, List, [], Some, None, false, Ok, Err, Result, length, refl, sym, ◌∙◌, ap, subst, arith}
+use Rattle.std.proofs.Common.{◌≡◌, ℕ, ◌<◌, true, inl, inr, List, [], None, false, Ok, Err, Result, length, refl, sym, ◌∙◌, ap, subst, arith}
 use Rattle.std.specs.Prelude.{IsTrue, IsErrOf}
 use Rattle.std.proofs.lemmas.Bool.{cases_lt}
 use Rattle.std.proofs.lemmas.Result.{err_from_is_err_and, IfErr-at_err}
@@ -10,14 +10,16 @@ use Rattle.page_store.specs.Kept.{IsOrdered}
 use Rattle.page_store.specs.Does.{Does}
 use Rattle.page_store.specs.Invariant.{outline_in}
 use Rattle.page_store.specs.Marked.{Marked}
-use Rattle.page_store.specs.Shown.{PagesView, counts_in, top_in, outline_of}
+use Rattle.page_store.specs.Shown.{PagesView, counts_in, top_in}
 use Rattle.page_store.specs.declared.fault.PageFault.{PageFault}
 use Rattle.page_store.specs.declared.fault.PageFault.TheVariants.{Media}
 use Rattle.page_store.proofs.Shown.{IsTold}
 use Rattle.page_store.proofs.Ordered.{ordered_after}
-use Rattle.page_store.proofs.Grouping.{live_in, answer_known, group_does, media_of}
+use Rattle.page_store.proofs.Grouping.{answer_known, group_does, media_of}
 use Rattle.page_store.proofs.Marking.{written_over, top_past}
 use Rattle.page_store.proofs.pages.Pages.end_group.Given.{Over}
+use Rattle.page_store.specs.declared.fault.PageFault.TheVariants.{Dead}
+use Rattle.page_store.proofs.Lifting.{unchanged}
 use Rattle.page_store.proofs.pages.Pages.end_group.Goals as goal
 
 pub told-requires : goal.told-requires
@@ -124,3 +126,8 @@ returns-clause-idle g c =
     let whole : group_log (view inner).ranges (members c.live_among-live.result) ≡ group_log (view inner).ranges (members c.args.tids) =
     ap (group_log (view inner).ranges) c.live_among-live.ensures ∙ group_live (view inner).ranges (members c.args.tids) in
     rw (← c.self.view_is) (λ none. c.commit_group.ensures.idle (ap length whole ∙ none))
+
+pub returns-then-is_dead-clause-does : goal.returns-then-is_dead-clause-does
+returns-then-is_dead-clause-does g c =
+    let s = g.S.EawStore in
+    rw (← c.self.view_is) (unchanged s.tells (s.opens (s.view c.self.inside.store).shape) (end_group (members c.args.tids)) _ Dead (λ is. cc) (sym c.is_dead.ensures ∙ c.if-is_dead.true))

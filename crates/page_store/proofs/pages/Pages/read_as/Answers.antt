@@ -1,4 +1,4 @@
-use Rattle.std.proofs.Common.{Some, refl, sym, ap}
+use Rattle.std.proofs.Common.{refl}
 use Rattle.page_store.specs.Command.{read_as}
 use Rattle.page_store.specs.Shown.{PagesView, counts_in, top_in}
 use Rattle.page_store.proofs.ReadCalls.{page_read}

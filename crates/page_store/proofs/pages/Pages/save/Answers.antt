@@ -1,19 +1,22 @@
-use Rattle.std.proofs.Common.{◌≡◌, ℕ, ◌<◌, ◌∷◌, [], ◌++◌, List, None, false, length, get_or, set, refl, sym, ◌∙◌, ap, subst, arith}
+use Rattle.std.proofs.Common.{◌≡◌, ℕ, ◌<◌, ◌∷◌, [], ◌++◌, List, None, false, Err, Result, length, get_or, set, refl, sym, ◌∙◌, ap, subst, arith}
 use Rattle.std.specs.Prelude.{IsTrue}
-use Rattle.std.proofs.lemmas.List.{length-set}
+use Rattle.std.proofs.lemmas.List.{length-set, set-get_or}
 use Rattle.eaw_face.specs.State.{listed}
 use Rattle.eaw_face.specs.StoreView.{StoreView}
 use Rattle.page_store.specs.State.{with_one}
 use Rattle.page_store.specs.Command.{save}
 use Rattle.page_store.specs.Marked.{Marked}
-use Rattle.page_store.specs.Outline.{Outline, outline_after}
+use Rattle.page_store.specs.Outline.{outline_after}
 use Rattle.page_store.specs.Kept.{IsOrdered}
 use Rattle.page_store.specs.Invariant.{outline_in}
-use Rattle.page_store.specs.Shown.{PagesView, pages_of, counts_in, top_in, outline_of}
+use Rattle.page_store.specs.Shown.{PagesView, counts_in, top_in}
 use Rattle.page_store.proofs.Shown.{IsTold}
 use Rattle.page_store.proofs.Ordered.{ordered_after}
-use Rattle.page_store.proofs.Lifting.{still, still_becomes}
+use Rattle.page_store.proofs.Lifting.{still, unchanged}
 use Rattle.page_store.proofs.Marking.{was, counts_become, top_stay, counts_now}
+use Rattle.page_store.specs.declared.fault.PageFault.TheVariants.{Dead, SavesFull}
+use Rattle.page_store.specs.declared.fault.PageFault.{PageFault}
+use Rattle.page_store.specs.Does.{Does}
 use Rattle.page_store.proofs.pages.Pages.save.Goals as goal
 
 -- the marks of one number, with one more save
@@ -77,3 +80,27 @@ returns-then-is_full-clause-count g c = tt
 
 pub returns-clause-refused : goal.returns-clause-refused
 returns-clause-refused g c = tt
+
+pub returns-then-is_dead-clause-does : goal.returns-then-is_dead-clause-does
+returns-then-is_dead-clause-does g c =
+    let s = g.S.EawStore in
+    rw (← c.self.view_is) (unchanged s.tells (s.opens (s.view c.self.inside.store).shape) (save c.args.tid) _ Dead (λ is. cc) (sym c.is_dead.ensures ∙ c.if-is_dead.true))
+
+pub returns-then-is_full-clause-does : goal.returns-then-is_full-clause-does
+returns-then-is_full-clause-does g c =
+    let s = g.S.EawStore in
+    let view = s.view c.self.inside.store in
+    let marks = c.self.inside.marks.items in
+    let m = c.index_mut-marks.result.now in
+    let alive : view.is_dead ≡ false = sym c.is_dead.ensures ∙ c.if-is_dead.false in
+    let there : c.args.tid < length marks = omega (arith, c.self.invariant.many, rw (← c.self.view_is) at c.requires.tid) in
+    let full : length (counts_in marks c.args.tid) ≡ 32 = ap length (was marks c.args.tid c.from.result c.from.ensures there m m c.index_mut-marks.ensures.value).0 ∙ c.if-is_full.ensures.full in
+    let same : set marks c.from.result m ≡ marks = ap (λ (x : Marked). set marks c.from.result x) c.index_mut-marks.ensures.value ∙ set-get_or marks c.from.result m in
+    let old : PagesView = record { store = view; counts = counts_in marks; top = top_in marks } in
+    rw (← c.self.view_is) (subst
+    (λ (ms : List Marked).
+    let r : Result ℕ PageFault = Err SavesFull in
+    let now : PagesView = record { store = view; counts = counts_in ms; top = top_in ms } in
+    Does s.tells (s.opens view.shape) (save c.args.tid) old now r)
+    (sym same)
+    (unchanged s.tells (s.opens view.shape) (save c.args.tid) old SavesFull (λ is. cc) (alive, full)))

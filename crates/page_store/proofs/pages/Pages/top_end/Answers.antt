@@ -1,22 +1,19 @@
-use Rattle.std.proofs.Common.{◌≡◌, ℕ, ◌-◌, ◌<◌, List, Some, None, false, Ok, Result, length, get_or, set, take, refl, sym, ◌∙◌, ap, subst, arith}
+use Rattle.std.proofs.Common.{◌≡◌, ◌<◌, Some, None, false, Ok, Result, length, set, refl, sym, ◌∙◌, ap, subst, arith}
 use Rattle.std.specs.Prelude.{IsTrue}
 use Rattle.std.proofs.lemmas.List.{length-set}
-use Rattle.eaw_face.specs.StoreView.{StoreView}
 use Rattle.eaw_face.specs.Command.{nested_top}
-use Rattle.page_store.specs.State.{with_one}
 use Rattle.page_store.specs.Command.{top_end}
-use Rattle.page_store.specs.Outline.{count_at}
-use Rattle.page_store.specs.Device.{if_live}
 use Rattle.page_store.specs.Kept.{IsOrdered}
 use Rattle.page_store.specs.Does.{Does}
 use Rattle.page_store.specs.Invariant.{outline_in}
-use Rattle.page_store.specs.Shown.{PagesView, counts_in, top_in, outline_of}
+use Rattle.page_store.specs.Shown.{PagesView, counts_in, top_in}
 use Rattle.page_store.specs.declared.fault.PageFault.{PageFault}
 use Rattle.page_store.proofs.Shown.{IsTold}
 use Rattle.page_store.proofs.Ordered.{ordered_after}
-use Rattle.page_store.proofs.Lifting.{live_does}
-use Rattle.page_store.proofs.Marking.{was, counts_become, counts_stay, top_become, top_stay}
+use Rattle.page_store.proofs.Lifting.{live_does, unchanged}
+use Rattle.page_store.proofs.Marking.{was, counts_stay, top_become}
 use Rattle.page_store.proofs.pages.Pages.top_end.Given as given
+use Rattle.page_store.specs.declared.fault.PageFault.TheVariants.{Dead}
 use Rattle.page_store.proofs.pages.Pages.top_end.Goals as goal
 
 -- what it does, over the store and the marks that it began with
@@ -75,3 +72,8 @@ returns-clause-due g c = λ is. cc
 
 pub returns-clause-refused : goal.returns-clause-refused
 returns-clause-refused g c = tt
+
+pub returns-then-is_dead-clause-does : goal.returns-then-is_dead-clause-does
+returns-then-is_dead-clause-does g c =
+    let s = g.S.EawStore in
+    rw (← c.self.view_is) (unchanged s.tells (s.opens (s.view c.self.inside.store).shape) (top_end c.args.tid c.args.mark) _ Dead (λ is. cc) (sym c.is_dead.ensures ∙ c.if-is_dead.true))

@@ -1,14 +1,11 @@
-use Rattle.std.proofs.Common.{◌≡◌, ℕ, ◌+◌, ◌<◌, List, Some, None, Option, false, Result, Ok, Err, length, get_or, refl, sym, ◌∙◌, ap, subst, arith}
+use Rattle.std.proofs.Common.{◌≡◌, ℕ, ◌<◌, Option, false, Result, Ok, Err, length, refl, sym, ◌∙◌, ap, subst, arith}
 use Rattle.std.specs.Prelude.{IsTrue, OnOk, OnErr}
 use Rattle.std.proofs.lemmas.Result.{IfErr-at_err}
 use Rattle.eaw_face.specs.declared.fault.EawFault.TheVariants.{Media}
-use Rattle.eaw_face.specs.State.{listed, range_at}
 use Rattle.eaw_face.specs.Command.{log_write, log_edit}
 use Rattle.eaw_face.specs.Does.{Does as StoreDoes}
 use Rattle.page_store.specs.Command.{write_as}
-use Rattle.page_store.specs.Kept.{IsOrdered}
-use Rattle.page_store.specs.Invariant.{outline_in}
-use Rattle.page_store.specs.Does.{Does, edits_at}
+use Rattle.page_store.specs.Does.{Does}
 use Rattle.page_store.specs.Shown.{PagesView, address, counts_in, top_in, outline_of}
 use Rattle.page_store.proofs.Shown.{IsTold}
 use Rattle.page_store.proofs.Lifting.{lifted, ordered_now}

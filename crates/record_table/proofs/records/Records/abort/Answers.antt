@@ -4,7 +4,7 @@ use Rattle.page_store.specs.Command as page
 use Rattle.page_store.specs.Shown.{pages_of}
 use Rattle.history.specs.declared.call.Call.TheVariants.{Abort}
 use Rattle.history.specs.declared.call.Reply.TheVariants.{Fine}
-use Rattle.record_table.proofs.Ending.{ended, err_same, always, abort_is, media_told}
+use Rattle.record_table.proofs.Ending.{ended, freed, err_same, always, abort_is, media_told}
 use Rattle.record_table.proofs.Sharing.{Laws}
 use Rattle.record_table.proofs.KeptNames.{kept_as}
 use Rattle.record_table.proofs.records.Records.abort.Goals as goal
@@ -31,3 +31,9 @@ returns-clause-does g c =
 
 pub returns-clause-due : goal.returns-clause-due
 returns-clause-due g c = λ failed. false≢true (c.end.ensures.due (media_told c.end.result c.told.result c.told.ensures failed)).0
+
+pub returns-clause-free : goal.returns-clause-free
+returns-clause-free g c =
+    let V = g.S.EawStore.view in
+    let inside = c.self.inside.pages in
+    freed g.S.EawStore.tells (g.S.EawStore.opens (V inside.store).shape) c.args.tid false (pages_of (V inside.store) inside) (pages_of (V c.end.new.self.store) c.end.new.self) c.end.result c.told.result c.end.ensures.does c.told.ensures

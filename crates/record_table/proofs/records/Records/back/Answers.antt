@@ -1,3 +1,5 @@
+use Rattle.std.proofs.Common.{◌≡◌, true, refl, ◌∙◌}
+use Rattle.record_table.proofs.Doing.{does_dead}
 use Rattle.std.proofs.Common.{◌≤◌, length, sym, subst}
 use Rattle.page_store.specs.Command as page
 use Rattle.page_store.specs.Shown.{Shown, pages_of, counts_in}
@@ -34,3 +36,11 @@ returns-clause-does g c =
 
 pub returns-clause-due : goal.returns-clause-due
 returns-clause-due g c = λ failed. c.back.ensures.due (media_told c.back.result c.told.result c.told.ensures failed)
+
+pub returns-then-is_dead-clause-does : goal.returns-then-is_dead-clause-does
+returns-then-is_dead-clause-does g c =
+    let V = g.S.EawStore.view in
+    let now = c.args.self.now in
+    let v = pages_of (V now.store) now in
+    does_dead g.S.EawStore.tells (g.S.EawStore.opens (V now.store).shape) g.K.KeyIndex.index 0 c.args.tid (Back c.args.n) v v refl
+    (subst (λ (p : Shown g.row.S.Denot). (V p.store).is_dead ≡ true) c.self.view_is (sym c.is_dead.ensures.dead ∙ c.if-is_dead.true))

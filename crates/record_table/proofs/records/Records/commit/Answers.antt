@@ -5,7 +5,7 @@ use Rattle.page_store.specs.Shown.{pages_of}
 use Rattle.history.specs.declared.call.Call.TheVariants.{Commit}
 use Rattle.history.specs.declared.call.Reply.TheVariants.{Committed}
 use Rattle.record_table.specs.Shown.{state_of}
-use Rattle.record_table.proofs.Ending.{ended, err_same, always, commit_is, media_told}
+use Rattle.record_table.proofs.Ending.{ended, freed, err_same, always, commit_is, media_told}
 use Rattle.record_table.proofs.Holding.{as_many_writes}
 use Rattle.record_table.proofs.Sharing.{Laws}
 use Rattle.record_table.proofs.KeptNames.{kept_as}
@@ -39,3 +39,9 @@ returns-clause-due g c = λ told alive failed.
     let many = as_many_writes g.K.KeyIndex.index (pages_of (V inside.store) inside) c.args.tid (g.met.S.EawStore.outlines inside.store c.args.tid told living) in
     let due = (c.end.ensures.due (media_told c.end.result c.told.result c.told.ensures failed)).1 in
     subst (λ p. 0 < length ((state_of g.K.KeyIndex.index (pages_of (V p.store) p)).logs c.args.tid).writes) c.self.view_is (subst (λ (n : ℕ). 0 < n) many due)
+
+pub returns-clause-free : goal.returns-clause-free
+returns-clause-free g c =
+    let V = g.S.EawStore.view in
+    let inside = c.self.inside.pages in
+    freed g.S.EawStore.tells (g.S.EawStore.opens (V inside.store).shape) c.args.tid true (pages_of (V inside.store) inside) (pages_of (V c.end.new.self.store) c.end.new.self) c.end.result c.told.result c.end.ensures.does c.told.ensures

@@ -1,4 +1,4 @@
-use Rattle.std.proofs.Common.{ℕ, ◌<◌, ◌∙◌, length, sym, ap, subst}
+use Rattle.std.proofs.Common.{ℕ, ◌<◌, length, sym, subst}
 use Rattle.array_shape.specs.NumberSet.{members}
 use Rattle.eaw_face.specs.Causes.{IsAlive}
 use Rattle.page_store.specs.Shown.{pages_of}

@@ -6,6 +6,8 @@ use Rattle.record_slots.specs.declared.slot.Slot.TheVariants.{Absent}
 use Rattle.page_store.specs.Command.{write_as}
 use Rattle.page_store.specs.Does as page
 use Rattle.page_store.specs.Index.{slots_of}
+use Rattle.record_table.specs.Names.{name_at}
+use Rattle.record_table.proofs.Rooted.{rooted_as, inside_as, called_inside}
 use Rattle.page_store.specs.Shown.{Shown, pages_of}
 use Rattle.history.specs.declared.call.Call.TheVariants.{Del}
 use Rattle.history.specs.declared.call.Reply.{Reply}
@@ -16,7 +18,7 @@ use Rattle.record_table.proofs.Doing.{look_refused, not_removed}
 use Rattle.record_table.proofs.Wrote.{none_is}
 use Rattle.record_table.proofs.Ending.{does_of, err_same}
 use Rattle.record_table.proofs.Putting.{answered, removed}
-use Rattle.record_table.proofs.Sharing.{Laws}
+use Rattle.record_table.proofs.Sharing.{Laws, called_below}
 use Rattle.record_table.proofs.records.Records.del.Given.{Over}
 use Rattle.record_table.proofs.records.Records.del.Goals.{in-Ok, in-Err-write_as}
 use Rattle.record_table.proofs.KeptNames.{kept}
@@ -26,46 +28,67 @@ pub invariant_of-self : goal.invariant_of-self
 invariant_of-self g c =
     let V = g.S.EawStore.view in
     let inside = c.self.inside.pages in
-    kept (not_removed g.S.EawStore.tells (g.S.EawStore.opens (V inside.store).shape) g.K.KeyIndex.index 0 c.args.tid c.args.key (pages_of (V inside.store) inside) (pages_of (V c.seek.new.pages.store) c.seek.new.pages) c.self.invariant.0
-    c.in-Ok-None.ensures.cause c.in-Ok-None.ensures.looks (λ told. let f = rw c.in-Ok-None.field-0-is at (c.in-Ok-None.ensures.finds told) in f.1)) c.self.invariant.1
+    let name = name_at (V c.args.self.now.store).state.bytes c.args.table in
+    let root = c.of_table-root.result in
+    let calls = called_inside g.S.EawStore.tells V c.args.self.now c.self.inside.pages c.self.view_is c.args.table name (λ told alive. called_below (V c.args.self.now.store).state.bytes c.args.table (c.requires.there told alive)) in
+    let roots = rooted_as g.S.EawStore.tells (pages_of (V c.self.inside.pages.store) c.self.inside.pages) c.self.inside.roots.at c.args.table c.requires.table c.self.invariant.1.1 name calls c.of_table-root.result c.of_table-root.ensures in
+    kept (not_removed g.S.EawStore.tells (g.S.EawStore.opens (V inside.store).shape) g.K.KeyIndex.index c.args.table c.args.tid c.args.key name (pages_of (V inside.store) inside) (pages_of (V c.seek.new.pages.store) c.seek.new.pages) c.self.invariant.0
+    c.in-Ok-None.ensures.cause c.in-Ok-None.ensures.looks (λ told. let f = rw c.in-Ok-None.field-0-is at (c.in-Ok-None.ensures.finds told name (calls told c.in-Ok-None.ensures.cause)) in f.1)) c.self.invariant.1
 
 pub returns-in-Ok-None-clause-does : goal.returns-in-Ok-None-clause-does
-returns-in-Ok-None-clause-does g c =
+returns-in-Ok-None-clause-does g c = λ name its.
     let V = g.S.EawStore.view in
     let inside = c.self.inside.pages in
-    does_of V g.S.EawStore.tells g.S.EawStore.opens g.K.KeyIndex.index 0 c.args.tid (Del c.args.key) c.args.self.now inside c.self.view_is (pages_of (V c.seek.new.pages.store) c.seek.new.pages) (Ok reply.Absent)
-    (not_removed g.S.EawStore.tells (g.S.EawStore.opens (V inside.store).shape) g.K.KeyIndex.index 0 c.args.tid c.args.key (pages_of (V inside.store) inside) (pages_of (V c.seek.new.pages.store) c.seek.new.pages) c.self.invariant.0
-    c.in-Ok-None.ensures.cause c.in-Ok-None.ensures.looks (λ told. let f = rw c.in-Ok-None.field-0-is at (c.in-Ok-None.ensures.finds told) in f.1)).0
+    let root = c.of_table-root.result in
+    let calls = called_inside g.S.EawStore.tells V c.args.self.now c.self.inside.pages c.self.view_is c.args.table name its in
+    let roots = rooted_as g.S.EawStore.tells (pages_of (V c.self.inside.pages.store) c.self.inside.pages) c.self.inside.roots.at c.args.table c.requires.table c.self.invariant.1.1 name calls c.of_table-root.result c.of_table-root.ensures in
+    does_of V g.S.EawStore.tells g.S.EawStore.opens g.K.KeyIndex.index c.args.table c.args.tid (Del name c.args.key) c.args.self.now inside c.self.view_is (pages_of (V c.seek.new.pages.store) c.seek.new.pages) (Ok reply.Absent)
+    (not_removed g.S.EawStore.tells (g.S.EawStore.opens (V inside.store).shape) g.K.KeyIndex.index c.args.table c.args.tid c.args.key name (pages_of (V inside.store) inside) (pages_of (V c.seek.new.pages.store) c.seek.new.pages) c.self.invariant.0
+    c.in-Ok-None.ensures.cause c.in-Ok-None.ensures.looks (λ told. let f = rw c.in-Ok-None.field-0-is at (c.in-Ok-None.ensures.finds told name (calls told c.in-Ok-None.ensures.cause)) in f.1)).0
 
 pub invariant_of-self-in-Err : goal.invariant_of-self-in-Err
 invariant_of-self-in-Err g c =
     let V = g.S.EawStore.view in
     let inside = c.self.inside.pages in
-    kept (look_refused g.S.EawStore.tells (g.S.EawStore.opens (V inside.store).shape) g.K.KeyIndex.index 0 c.args.tid (Del c.args.key) (pages_of (V inside.store) inside) (pages_of (V c.seek.new.pages.store) c.seek.new.pages) c.self.invariant.0 _ c.in-Err.fault tt
+    let name = name_at (V c.args.self.now.store).state.bytes c.args.table in
+    let root = c.of_table-root.result in
+    let calls = called_inside g.S.EawStore.tells V c.args.self.now c.self.inside.pages c.self.view_is c.args.table name (λ told alive. called_below (V c.args.self.now.store).state.bytes c.args.table (c.requires.there told alive)) in
+    let roots = rooted_as g.S.EawStore.tells (pages_of (V c.self.inside.pages.store) c.self.inside.pages) c.self.inside.roots.at c.args.table c.requires.table c.self.invariant.1.1 name calls c.of_table-root.result c.of_table-root.ensures in
+    kept (look_refused g.S.EawStore.tells (g.S.EawStore.opens (V inside.store).shape) g.K.KeyIndex.index c.args.table c.args.tid (Del name c.args.key) (pages_of (V inside.store) inside) (pages_of (V c.seek.new.pages.store) c.seek.new.pages) c.self.invariant.0 _ c.in-Err.fault tt
     c.in-Err.ensures.cause c.in-Err.ensures.looks (λ e. ap (λ (p : Shown g.row.S.Denot). pages_of (V p.store) p) (c.in-Err.ensures.dead e))) c.self.invariant.1
 
 pub returns-in-Err-clause-does : goal.returns-in-Err-clause-does
-returns-in-Err-clause-does g c =
+returns-in-Err-clause-does g c = λ name its.
     let V = g.S.EawStore.view in
     let inside = c.self.inside.pages in
-    rw c.from.ensures (does_of V g.S.EawStore.tells g.S.EawStore.opens g.K.KeyIndex.index 0 c.args.tid (Del c.args.key) c.args.self.now inside c.self.view_is (pages_of (V c.seek.new.pages.store) c.seek.new.pages) _
-    (look_refused g.S.EawStore.tells (g.S.EawStore.opens (V inside.store).shape) g.K.KeyIndex.index 0 c.args.tid (Del c.args.key) (pages_of (V inside.store) inside) (pages_of (V c.seek.new.pages.store) c.seek.new.pages) c.self.invariant.0 _ c.in-Err.fault tt
+    let root = c.of_table-root.result in
+    let calls = called_inside g.S.EawStore.tells V c.args.self.now c.self.inside.pages c.self.view_is c.args.table name its in
+    let roots = rooted_as g.S.EawStore.tells (pages_of (V c.self.inside.pages.store) c.self.inside.pages) c.self.inside.roots.at c.args.table c.requires.table c.self.invariant.1.1 name calls c.of_table-root.result c.of_table-root.ensures in
+    rw c.from.ensures (does_of V g.S.EawStore.tells g.S.EawStore.opens g.K.KeyIndex.index c.args.table c.args.tid (Del name c.args.key) c.args.self.now inside c.self.view_is (pages_of (V c.seek.new.pages.store) c.seek.new.pages) _
+    (look_refused g.S.EawStore.tells (g.S.EawStore.opens (V inside.store).shape) g.K.KeyIndex.index c.args.table c.args.tid (Del name c.args.key) (pages_of (V inside.store) inside) (pages_of (V c.seek.new.pages.store) c.seek.new.pages) c.self.invariant.0 _ c.in-Err.fault tt
     c.in-Err.ensures.cause c.in-Err.ensures.looks (λ e. ap (λ (p : Shown g.row.S.Denot). pages_of (V p.store) p) (c.in-Err.ensures.dead e))).0)
 
 pub invariant_of-self-then-is_none : goal.invariant_of-self-then-is_none
 invariant_of-self-then-is_none g c =
     let V = g.S.EawStore.view in
     let inside = c.self.inside.pages in
-    kept (not_removed g.S.EawStore.tells (g.S.EawStore.opens (V inside.store).shape) g.K.KeyIndex.index 0 c.args.tid c.args.key (pages_of (V inside.store) inside) (pages_of (V c.seek.new.pages.store) c.seek.new.pages) c.self.invariant.0
-    c.in-Ok-Some.ensures.cause c.in-Ok-Some.ensures.looks (λ told. let f = rw c.in-Ok-Some.field-0-is at (c.in-Ok-Some.ensures.finds told) in f.1 ∙ none_is c.in-Ok-Some.place.value c.if-is_none.ensures)) c.self.invariant.1
+    let name = name_at (V c.args.self.now.store).state.bytes c.args.table in
+    let root = c.of_table-root.result in
+    let calls = called_inside g.S.EawStore.tells V c.args.self.now c.self.inside.pages c.self.view_is c.args.table name (λ told alive. called_below (V c.args.self.now.store).state.bytes c.args.table (c.requires.there told alive)) in
+    let roots = rooted_as g.S.EawStore.tells (pages_of (V c.self.inside.pages.store) c.self.inside.pages) c.self.inside.roots.at c.args.table c.requires.table c.self.invariant.1.1 name calls c.of_table-root.result c.of_table-root.ensures in
+    kept (not_removed g.S.EawStore.tells (g.S.EawStore.opens (V inside.store).shape) g.K.KeyIndex.index c.args.table c.args.tid c.args.key name (pages_of (V inside.store) inside) (pages_of (V c.seek.new.pages.store) c.seek.new.pages) c.self.invariant.0
+    c.in-Ok-Some.ensures.cause c.in-Ok-Some.ensures.looks (λ told. let f = rw c.in-Ok-Some.field-0-is at (c.in-Ok-Some.ensures.finds told name (calls told c.in-Ok-Some.ensures.cause)) in f.1 ∙ none_is c.in-Ok-Some.place.value c.if-is_none.ensures)) c.self.invariant.1
 
 pub returns-then-is_none-clause-does : goal.returns-then-is_none-clause-does
-returns-then-is_none-clause-does g c =
+returns-then-is_none-clause-does g c = λ name its.
     let V = g.S.EawStore.view in
     let inside = c.self.inside.pages in
-    does_of V g.S.EawStore.tells g.S.EawStore.opens g.K.KeyIndex.index 0 c.args.tid (Del c.args.key) c.args.self.now inside c.self.view_is (pages_of (V c.seek.new.pages.store) c.seek.new.pages) (Ok reply.Absent)
-    (not_removed g.S.EawStore.tells (g.S.EawStore.opens (V inside.store).shape) g.K.KeyIndex.index 0 c.args.tid c.args.key (pages_of (V inside.store) inside) (pages_of (V c.seek.new.pages.store) c.seek.new.pages) c.self.invariant.0
-    c.in-Ok-Some.ensures.cause c.in-Ok-Some.ensures.looks (λ told. let f = rw c.in-Ok-Some.field-0-is at (c.in-Ok-Some.ensures.finds told) in f.1 ∙ none_is c.in-Ok-Some.place.value c.if-is_none.ensures)).0
+    let root = c.of_table-root.result in
+    let calls = called_inside g.S.EawStore.tells V c.args.self.now c.self.inside.pages c.self.view_is c.args.table name its in
+    let roots = rooted_as g.S.EawStore.tells (pages_of (V c.self.inside.pages.store) c.self.inside.pages) c.self.inside.roots.at c.args.table c.requires.table c.self.invariant.1.1 name calls c.of_table-root.result c.of_table-root.ensures in
+    does_of V g.S.EawStore.tells g.S.EawStore.opens g.K.KeyIndex.index c.args.table c.args.tid (Del name c.args.key) c.args.self.now inside c.self.view_is (pages_of (V c.seek.new.pages.store) c.seek.new.pages) (Ok reply.Absent)
+    (not_removed g.S.EawStore.tells (g.S.EawStore.opens (V inside.store).shape) g.K.KeyIndex.index c.args.table c.args.tid c.args.key name (pages_of (V inside.store) inside) (pages_of (V c.seek.new.pages.store) c.seek.new.pages) c.self.invariant.0
+    c.in-Ok-Some.ensures.cause c.in-Ok-Some.ensures.looks (λ told. let f = rw c.in-Ok-Some.field-0-is at (c.in-Ok-Some.ensures.finds told name (calls told c.in-Ok-Some.ensures.cause)) in f.1 ∙ none_is c.in-Ok-Some.place.value c.if-is_none.ensures)).0
 
 -- the reply to a removal
 abbrev told : Result Bool TableFault → Result Reply TableFault
@@ -83,37 +106,56 @@ invariant_of-self-2 g c =
     let V = g.S.EawStore.view in
     let laws : Laws g.K.KeyIndex.index = record { rises = K.rises; given = K.given; counts = K.counts; rests = K.rests; extends = K.extends } in
     let inside = c.self.inside.pages in
+    let name = name_at (V c.args.self.now.store).state.bytes c.args.table in
+    let root = c.of_table-root.result in
+    let calls = called_inside g.S.EawStore.tells V c.args.self.now c.self.inside.pages c.self.view_is c.args.table name (λ told alive. called_below (V c.args.self.now.store).state.bytes c.args.table (c.requires.there told alive)) in
+    let roots = rooted_as g.S.EawStore.tells (pages_of (V c.self.inside.pages.store) c.self.inside.pages) c.self.inside.roots.at c.args.table c.requires.table c.self.invariant.1.1 name calls c.of_table-root.result c.of_table-root.ensures in
     let mid = c.seek.new.pages in
     let new = c.write_as.new.pages in
     let alive = c.in-Ok-Some.ensures.cause in
     let looks = c.in-Ok-Some.ensures.looks in
     let mid_alive = (looks.same refl).still.dead ∙ alive in
-    let finds = λ (told : IsTrue g.S.EawStore.tells). rw c.in-Ok-Some.field-0-is at (c.in-Ok-Some.ensures.finds told) in
-    let does = subst (λ (s : Shape). page.Does g.S.EawStore.tells (g.S.EawStore.opens s) (write_as c.args.tid (64 * (slots_of (V mid.store).shape + c.in-Ok-Some.place.slot)) (slot_bytes (Absent 0 c.args.key))) (pages_of (V mid.store) mid) (pages_of (V new.store) new) c.write_as.result)
+    let finds = λ (told : IsTrue g.S.EawStore.tells). rw c.in-Ok-Some.field-0-is at (c.in-Ok-Some.ensures.finds told name (calls told c.in-Ok-Some.ensures.cause)) in
+    let does = subst (λ (s : Shape). page.Does g.S.EawStore.tells (g.S.EawStore.opens s) (write_as c.args.tid (64 * (slots_of (V mid.store).shape + c.in-Ok-Some.place.slot)) (slot_bytes (Absent c.args.table c.args.key))) (pages_of (V mid.store) mid) (pages_of (V new.store) new) c.write_as.result)
     looks.shape c.write_as.ensures.does in
-    kept (removed g.S.EawStore.tells (g.S.EawStore.opens (V inside.store).shape) g.K.KeyIndex.index laws 0 c.args.tid c.args.key (omega arith) (omega arith) (pages_of (V inside.store) inside) alive c.self.invariant.0 (pages_of (V mid.store) mid) looks (pages_of (V new.store) new) c.in-Ok-Some.place.slot
+    kept (removed g.S.EawStore.tells (g.S.EawStore.opens (V inside.store).shape) g.K.KeyIndex.index laws c.args.table c.args.tid c.args.key name (pages_of (V inside.store) inside) alive c.self.invariant.0 (λ told. calls told alive) (pages_of (V mid.store) mid) looks (pages_of (V new.store) new) c.in-Ok-Some.place.slot
     (λ told. (finds told).0) (λ told. ap is_some (finds told).1 ∙ c.if-is_none.ensures)
     (λ told. record { long = g.met.S.EawStore.long mid.store told; outlines = λ t. g.met.S.EawStore.outlines mid.store t told mid_alive; placed = λ t. g.met.S.EawStore.placed mid.store t })
     (c.write_as.ensures.ordered mid_alive) (c.write_as.ensures.reads_back mid_alive) (c.write_as.ensures.whole mid_alive) c.write_as.result does
     (λ f e ne. ap (λ (p : Shown g.row.S.Denot). pages_of (V p.store) p) (err_same c.write_as.result c.write_as.ensures.refused f e ne))) c.self.invariant.1
 
 pub returns-clause-does : goal.returns-clause-does
-returns-clause-does g c =
+returns-clause-does g c = λ name its.
     let K = g.met.K.KeyIndex in
     let V = g.S.EawStore.view in
     let laws : Laws g.K.KeyIndex.index = record { rises = K.rises; given = K.given; counts = K.counts; rests = K.rests; extends = K.extends } in
     let inside = c.self.inside.pages in
+    let root = c.of_table-root.result in
+    let calls = called_inside g.S.EawStore.tells V c.args.self.now c.self.inside.pages c.self.view_is c.args.table name its in
+    let roots = rooted_as g.S.EawStore.tells (pages_of (V c.self.inside.pages.store) c.self.inside.pages) c.self.inside.roots.at c.args.table c.requires.table c.self.invariant.1.1 name calls c.of_table-root.result c.of_table-root.ensures in
     let mid = c.seek.new.pages in
     let new = c.write_as.new.pages in
     let alive = c.in-Ok-Some.ensures.cause in
     let looks = c.in-Ok-Some.ensures.looks in
     let mid_alive = (looks.same refl).still.dead ∙ alive in
-    let finds = λ (told : IsTrue g.S.EawStore.tells). rw c.in-Ok-Some.field-0-is at (c.in-Ok-Some.ensures.finds told) in
-    let does = subst (λ (s : Shape). page.Does g.S.EawStore.tells (g.S.EawStore.opens s) (write_as c.args.tid (64 * (slots_of (V mid.store).shape + c.in-Ok-Some.place.slot)) (slot_bytes (Absent 0 c.args.key))) (pages_of (V mid.store) mid) (pages_of (V new.store) new) c.write_as.result)
+    let finds = λ (told : IsTrue g.S.EawStore.tells). rw c.in-Ok-Some.field-0-is at (c.in-Ok-Some.ensures.finds told name (calls told c.in-Ok-Some.ensures.cause)) in
+    let does = subst (λ (s : Shape). page.Does g.S.EawStore.tells (g.S.EawStore.opens s) (write_as c.args.tid (64 * (slots_of (V mid.store).shape + c.in-Ok-Some.place.slot)) (slot_bytes (Absent c.args.table c.args.key))) (pages_of (V mid.store) mid) (pages_of (V new.store) new) c.write_as.result)
     looks.shape c.write_as.ensures.does in
-    rw (answer_is g c) (does_of V g.S.EawStore.tells g.S.EawStore.opens g.K.KeyIndex.index 0 c.args.tid (Del c.args.key) c.args.self.now inside c.self.view_is (pages_of (V new.store) new) (answered reply.Fine c.write_as.result)
-    (removed g.S.EawStore.tells (g.S.EawStore.opens (V inside.store).shape) g.K.KeyIndex.index laws 0 c.args.tid c.args.key (omega arith) (omega arith) (pages_of (V inside.store) inside) alive c.self.invariant.0 (pages_of (V mid.store) mid) looks (pages_of (V new.store) new) c.in-Ok-Some.place.slot
+    rw (answer_is g c) (does_of V g.S.EawStore.tells g.S.EawStore.opens g.K.KeyIndex.index c.args.table c.args.tid (Del name c.args.key) c.args.self.now inside c.self.view_is (pages_of (V new.store) new) (answered reply.Fine c.write_as.result)
+    (removed g.S.EawStore.tells (g.S.EawStore.opens (V inside.store).shape) g.K.KeyIndex.index laws c.args.table c.args.tid c.args.key name (pages_of (V inside.store) inside) alive c.self.invariant.0 (λ told. calls told alive) (pages_of (V mid.store) mid) looks (pages_of (V new.store) new) c.in-Ok-Some.place.slot
     (λ told. (finds told).0) (λ told. ap is_some (finds told).1 ∙ c.if-is_none.ensures)
     (λ told. record { long = g.met.S.EawStore.long mid.store told; outlines = λ t. g.met.S.EawStore.outlines mid.store t told mid_alive; placed = λ t. g.met.S.EawStore.placed mid.store t })
     (c.write_as.ensures.ordered mid_alive) (c.write_as.ensures.reads_back mid_alive) (c.write_as.ensures.whole mid_alive) c.write_as.result does
     (λ f e ne. ap (λ (p : Shown g.row.S.Denot). pages_of (V p.store) p) (err_same c.write_as.result c.write_as.ensures.refused f e ne))).0)
+
+pub seek-requires-clause-named : goal.seek-requires-clause-named
+seek-requires-clause-named g c =
+    let V = g.S.EawStore.view in
+    let name = name_at (V c.args.self.now.store).state.bytes c.args.table in
+    let root = c.of_table-root.result in
+    let calls = called_inside g.S.EawStore.tells V c.args.self.now c.self.inside.pages c.self.view_is c.args.table name (λ told alive. called_below (V c.args.self.now.store).state.bytes c.args.table (c.requires.there told alive)) in
+    let roots = rooted_as g.S.EawStore.tells (pages_of (V c.self.inside.pages.store) c.self.inside.pages) c.self.inside.roots.at c.args.table c.requires.table c.self.invariant.1.1 name calls c.of_table-root.result c.of_table-root.ensures in
+    roots
+
+pub seek-requires-clause-root : goal.seek-requires-clause-root
+seek-requires-clause-root g c = inside_as g.S.EawStore.tells (pages_of (g.S.EawStore.view c.self.inside.pages.store) c.self.inside.pages) c.self.inside.roots.at c.args.table c.requires.table c.self.invariant.1.1 c.of_table-root.result c.of_table-root.ensures

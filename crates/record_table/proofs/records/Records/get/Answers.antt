@@ -1,6 +1,11 @@
-use Rattle.std.proofs.Common.{◌∙◌, ap, subst, refl, sym, Ok, Err}
+use Rattle.std.proofs.Common.{IsTrue, ◌∙◌, ap, subst, refl, sym, Ok, Err}
+use Rattle.record_table.specs.Names.{name_at}
+use Rattle.record_table.proofs.Sharing.{called_below}
+use Rattle.record_table.proofs.Rooted.{rooted_as, inside_as, called_inside}
+use Rattle.eaw_face.specs.Causes.{IsAlive}
+use Rattle.page_store.specs.Index.{IsTable}
 use Rattle.page_store.specs.Shown.{Shown, pages_of}
-use Rattle.history.specs.Key.{of_main}
+use Rattle.history.specs.Key.{of_table}
 use Rattle.history.specs.Table.{found}
 use Rattle.history.specs.declared.call.Call.TheVariants.{Get}
 use Rattle.record_table.specs.Faults.{as_table}
@@ -16,27 +21,34 @@ pub invariant_of-self : goal.invariant_of-self
 invariant_of-self g c =
     let V = g.S.EawStore.view in
     let inside = c.self.inside.pages in
+    let name = name_at (V c.args.self.now.store).state.bytes c.args.table in
+    let root = c.of_table-root.result in
+    let calls = called_inside g.S.EawStore.tells V c.args.self.now c.self.inside.pages c.self.view_is c.args.table name (λ told alive. called_below (V c.args.self.now.store).state.bytes c.args.table (c.requires.there told alive)) in
+    let roots = rooted_as g.S.EawStore.tells (pages_of (V c.self.inside.pages.store) c.self.inside.pages) c.self.inside.roots.at c.args.table c.requires.table c.self.invariant.1.1 name calls c.of_table-root.result c.of_table-root.ensures in
     let new = c.seek.new.pages in
     let T = g.S.EawStore.tells in
     let E = g.S.EawStore.opens (g.S.EawStore.view c.self.inside.pages.store).shape in
     elim c.match-seek.branch [
-      | in-Ok w ↦ kept (got T E g.K.KeyIndex.index 0 c.args.tid c.args.key (pages_of (V inside.store) inside) (pages_of (V new.store) new) c.self.invariant.0 w.in-Ok.ensures.cause w.in-Ok.ensures.looks w.value_at.result (λ told. found_value g.K.KeyIndex.index c.args.tid (of_main c.args.key) (pages_of (V inside.store) inside) w.in-Ok.found (w.in-Ok.ensures.finds told) ∙ sym w.value_at.ensures)) c.self.invariant.1
-      | in-Err w ↦ kept (look_refused T E g.K.KeyIndex.index 0 c.args.tid (Get c.args.key) (pages_of (V inside.store) inside) (pages_of (V new.store) new) c.self.invariant.0 _ w.in-Err.fault tt w.in-Err.ensures.cause w.in-Err.ensures.looks
+      | in-Ok w ↦ kept (got T E g.K.KeyIndex.index c.args.table c.args.tid c.args.key name (pages_of (V inside.store) inside) (pages_of (V new.store) new) c.self.invariant.0 w.in-Ok.ensures.cause w.in-Ok.ensures.looks w.value_at.result (λ told. found_value g.K.KeyIndex.index c.args.tid (of_table name c.args.key) (pages_of (V inside.store) inside) w.in-Ok.found (w.in-Ok.ensures.finds told name (calls told w.in-Ok.ensures.cause)) ∙ sym w.value_at.ensures)) c.self.invariant.1
+      | in-Err w ↦ kept (look_refused T E g.K.KeyIndex.index c.args.table c.args.tid (Get name c.args.key) (pages_of (V inside.store) inside) (pages_of (V new.store) new) c.self.invariant.0 _ w.in-Err.fault tt w.in-Err.ensures.cause w.in-Err.ensures.looks
           (λ e. ap (λ (p : Shown g.row.S.Denot). pages_of (V p.store) p) (w.in-Err.ensures.dead e))) c.self.invariant.1
     ]
 
 pub returns-clause-does : goal.returns-clause-does
-returns-clause-does g c =
+returns-clause-does g c = λ name its.
     let V = g.S.EawStore.view in
     let inside = c.self.inside.pages in
+    let root = c.of_table-root.result in
+    let calls = called_inside g.S.EawStore.tells V c.args.self.now c.self.inside.pages c.self.view_is c.args.table name its in
+    let roots = rooted_as g.S.EawStore.tells (pages_of (V c.self.inside.pages.store) c.self.inside.pages) c.self.inside.roots.at c.args.table c.requires.table c.self.invariant.1.1 name calls c.of_table-root.result c.of_table-root.ensures in
     let new = c.seek.new.pages in
     let T = g.S.EawStore.tells in
     let E = g.S.EawStore.opens (g.S.EawStore.view c.self.inside.pages.store).shape in
     elim c.match-seek.branch [
-      | in-Ok w ↦ rw w.result-is (does_of V T g.S.EawStore.opens g.K.KeyIndex.index 0 c.args.tid (Get c.args.key) c.args.self.now inside c.self.view_is (pages_of (V new.store) new) (Ok (found w.value_at.result))
-          (got T E g.K.KeyIndex.index 0 c.args.tid c.args.key (pages_of (V inside.store) inside) (pages_of (V new.store) new) c.self.invariant.0 w.in-Ok.ensures.cause w.in-Ok.ensures.looks w.value_at.result (λ told. found_value g.K.KeyIndex.index c.args.tid (of_main c.args.key) (pages_of (V inside.store) inside) w.in-Ok.found (w.in-Ok.ensures.finds told) ∙ sym w.value_at.ensures)).0)
-      | in-Err w ↦ rw (w.result-is, w.from.ensures) (does_of V T g.S.EawStore.opens g.K.KeyIndex.index 0 c.args.tid (Get c.args.key) c.args.self.now inside c.self.view_is (pages_of (V new.store) new) _
-          (look_refused T E g.K.KeyIndex.index 0 c.args.tid (Get c.args.key) (pages_of (V inside.store) inside) (pages_of (V new.store) new) c.self.invariant.0 _ w.in-Err.fault tt w.in-Err.ensures.cause w.in-Err.ensures.looks
+      | in-Ok w ↦ rw w.result-is (does_of V T g.S.EawStore.opens g.K.KeyIndex.index c.args.table c.args.tid (Get name c.args.key) c.args.self.now inside c.self.view_is (pages_of (V new.store) new) (Ok (found w.value_at.result))
+          (got T E g.K.KeyIndex.index c.args.table c.args.tid c.args.key name (pages_of (V inside.store) inside) (pages_of (V new.store) new) c.self.invariant.0 w.in-Ok.ensures.cause w.in-Ok.ensures.looks w.value_at.result (λ told. found_value g.K.KeyIndex.index c.args.tid (of_table name c.args.key) (pages_of (V inside.store) inside) w.in-Ok.found (w.in-Ok.ensures.finds told name (calls told w.in-Ok.ensures.cause)) ∙ sym w.value_at.ensures)).0)
+      | in-Err w ↦ rw (w.result-is, w.from.ensures) (does_of V T g.S.EawStore.opens g.K.KeyIndex.index c.args.table c.args.tid (Get name c.args.key) c.args.self.now inside c.self.view_is (pages_of (V new.store) new) _
+          (look_refused T E g.K.KeyIndex.index c.args.table c.args.tid (Get name c.args.key) (pages_of (V inside.store) inside) (pages_of (V new.store) new) c.self.invariant.0 _ w.in-Err.fault tt w.in-Err.ensures.cause w.in-Err.ensures.looks
           (λ e. ap (λ (p : Shown g.row.S.Denot). pages_of (V p.store) p) (w.in-Err.ensures.dead e))).0)
     ]
 
@@ -44,10 +56,35 @@ pub returns-clause-gets : goal.returns-clause-gets
 returns-clause-gets g c =
     let V = g.S.EawStore.view in
     let inside = c.self.inside.pages in
+    let name = name_at (V c.args.self.now.store).state.bytes c.args.table in
+    let root = c.of_table-root.result in
+    let calls = called_inside g.S.EawStore.tells V c.args.self.now c.self.inside.pages c.self.view_is c.args.table name (λ told alive. called_below (V c.args.self.now.store).state.bytes c.args.table (c.requires.there told alive)) in
+    let roots = rooted_as g.S.EawStore.tells (pages_of (V c.self.inside.pages.store) c.self.inside.pages) c.self.inside.roots.at c.args.table c.requires.table c.self.invariant.1.1 name calls c.of_table-root.result c.of_table-root.ensures in
     let new = c.seek.new.pages in
+    let there = subst (λ (p : Shown g.row.S.Denot). IsTrue g.S.EawStore.tells → IsAlive (V p.store) → IsTable (V p.store).state.bytes c.args.table c.of_table-root.result) c.self.view_is roots in
     elim c.match-seek.branch [
-      | in-Ok w ↦ rw w.result-is (subst (λ (p : Shown g.row.S.Denot). Gets (g.K.KeyIndex.index.finding 1 c.args.key) c.args.tid (g.S.EawStore.calls p.store) (V p.store) (V new.store) (Ok w.value_at.result)) c.self.view_is
-          (record { sought = Ok w.in-Ok.found; seeks = w.in-Ok.ensures.seeks; told = ap Ok w.value_at.ensures }))
-      | in-Err w ↦ rw (w.result-is, w.from.ensures) (subst (λ (p : Shown g.row.S.Denot). Gets (g.K.KeyIndex.index.finding 1 c.args.key) c.args.tid (g.S.EawStore.calls p.store) (V p.store) (V new.store) (Err (as_table w.in-Err.fault))) c.self.view_is
-          (record { sought = Err w.in-Err.fault; seeks = w.in-Err.ensures.seeks; told = refl }))
+      | in-Ok w ↦ rw w.result-is (
+        root,
+        subst (λ (p : Shown g.row.S.Denot). Gets (g.K.KeyIndex.index.finding c.of_table-root.result c.args.key) c.args.tid (g.S.EawStore.calls p.store) (V p.store) (V new.store) (Ok w.value_at.result)) c.self.view_is
+            (record { sought = Ok w.in-Ok.found; seeks = w.in-Ok.ensures.seeks; told = ap Ok w.value_at.ensures }),
+        there,
+      )
+      | in-Err w ↦ rw (w.result-is, w.from.ensures) (
+        root,
+        subst (λ (p : Shown g.row.S.Denot). Gets (g.K.KeyIndex.index.finding c.of_table-root.result c.args.key) c.args.tid (g.S.EawStore.calls p.store) (V p.store) (V new.store) (Err (as_table w.in-Err.fault))) c.self.view_is
+            (record { sought = Err w.in-Err.fault; seeks = w.in-Err.ensures.seeks; told = refl }),
+        there,
+      )
     ]
+
+pub seek-requires-clause-named : goal.seek-requires-clause-named
+seek-requires-clause-named g c =
+    let V = g.S.EawStore.view in
+    let name = name_at (V c.args.self.now.store).state.bytes c.args.table in
+    let root = c.of_table-root.result in
+    let calls = called_inside g.S.EawStore.tells V c.args.self.now c.self.inside.pages c.self.view_is c.args.table name (λ told alive. called_below (V c.args.self.now.store).state.bytes c.args.table (c.requires.there told alive)) in
+    let roots = rooted_as g.S.EawStore.tells (pages_of (V c.self.inside.pages.store) c.self.inside.pages) c.self.inside.roots.at c.args.table c.requires.table c.self.invariant.1.1 name calls c.of_table-root.result c.of_table-root.ensures in
+    roots
+
+pub seek-requires-clause-root : goal.seek-requires-clause-root
+seek-requires-clause-root g c = inside_as g.S.EawStore.tells (pages_of (g.S.EawStore.view c.self.inside.pages.store) c.self.inside.pages) c.self.inside.roots.at c.args.table c.requires.table c.self.invariant.1.1 c.of_table-root.result c.of_table-root.ensures

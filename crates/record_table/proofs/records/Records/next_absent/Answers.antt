@@ -1,4 +1,8 @@
+use Rattle.index_pages.proofs.Looking.{looks_none}
 use Rattle.std.proofs.Common.{sym}
+use Rattle.record_table.specs.Names.{name_at}
+use Rattle.record_table.proofs.Sharing.{called_below}
+use Rattle.record_table.proofs.Rooted.{rooted_as, inside_as, called_inside}
 use Rattle.page_store.specs.Shown.{pages_of}
 use Rattle.record_table.proofs.Following.{holds_looked}
 use Rattle.record_table.proofs.KeptNames.{kept_by_look}
@@ -11,5 +15,23 @@ invariant_of-self g c =
     let new = c.next_absent.new.pages in
     let E = g.S.EawStore.opens (V inside.store).shape in (
       holds_looked g.S.EawStore.tells E g.K.KeyIndex.index (pages_of (V inside.store) inside) (pages_of (V new.store) new) _ (sym c.if-is_dead.ensures.dead) c.self.invariant.0 c.next_absent.ensures.looks,
-      kept_by_look g.S.EawStore.tells E (pages_of (V inside.store) inside) (pages_of (V new.store) new) _ _ c.next_absent.ensures.looks c.self.invariant.1,
+      kept_by_look g.S.EawStore.tells E (pages_of (V inside.store) inside) (pages_of (V new.store) new) _ _ _ c.next_absent.ensures.looks c.self.invariant.1,
     )
+
+pub next_absent-requires-clause-named : goal.next_absent-requires-clause-named
+next_absent-requires-clause-named g c =
+    let V = g.S.EawStore.view in
+    let name = name_at (V c.args.self.now.store).state.bytes c.args.table in
+    let root = c.of_table-root.result in
+    let calls = called_inside g.S.EawStore.tells V c.args.self.now c.self.inside.pages c.self.view_is c.args.table name (λ told alive. called_below (V c.args.self.now.store).state.bytes c.args.table (c.requires.there told alive)) in
+    let roots = rooted_as g.S.EawStore.tells (pages_of (V c.self.inside.pages.store) c.self.inside.pages) c.self.inside.roots.at c.args.table c.requires.table c.self.invariant.1.1 name calls c.of_table-root.result c.of_table-root.ensures in
+    roots
+
+pub next_absent-requires-clause-root : goal.next_absent-requires-clause-root
+next_absent-requires-clause-root g c = inside_as g.S.EawStore.tells (pages_of (g.S.EawStore.view c.self.inside.pages.store) c.self.inside.pages) c.self.inside.roots.at c.args.table c.requires.table c.self.invariant.1.1 c.of_table-root.result c.of_table-root.ensures
+
+pub returns-then-is_dead-clause-looks : goal.returns-then-is_dead-clause-looks
+returns-then-is_dead-clause-looks g c =
+    let V = g.S.EawStore.view in
+    let now = c.args.self.now in
+    looks_none g.S.EawStore.tells (g.S.EawStore.opens (V now.store).shape) (pages_of (V now.store) now)

@@ -1,12 +1,14 @@
-use Rattle.std.proofs.Common.{IsTrue, ℕ, ◌+◌, ◌*◌, false, Result, Ok, Err, refl, sym, ◌∙◌, ap, subst, arith}
+use Rattle.std.proofs.Common.{IsTrue, ℕ, ◌+◌, ◌*◌, ◌<◌, false, Result, Ok, Err, refl, sym, ◌∙◌, ap, subst, arith}
 use Rattle.std.specs.Prelude.{Option}
 use Rattle.array_shape.specs.declared.shape.Shape.{Shape}
+use Rattle.array_shape.specs.Places.{page_count}
+use Rattle.eaw_face.specs.State.{State}
 use Rattle.record_slots.specs.Slots.{slot_bytes}
 use Rattle.record_slots.specs.declared.slot.Slot.TheVariants.{Absent, Present}
 use Rattle.record_slots.proofs.SlotLemmas.{slot_said-slot_bytes}
 use Rattle.page_store.specs.Command.{write_as}
 use Rattle.page_store.specs.Does as page
-use Rattle.page_store.specs.Index.{slots_of}
+use Rattle.page_store.specs.Index.{IsTable, slots_of}
 use Rattle.page_store.specs.Inserts.{Inserts}
 use Rattle.page_store.specs.Shown.{Shown, pages_of}
 use Rattle.page_store.specs.declared.index_fault.IndexFault.{IndexFault}
@@ -15,17 +17,18 @@ use Rattle.record_table.proofs.Doing.{look_refused}
 use Rattle.record_table.proofs.Ending.{does_of, err_same}
 use Rattle.record_table.proofs.Looking.{looks_as}
 use Rattle.record_table.proofs.Putting.{told_is_answered, put_known, put_new, put_refused}
-use Rattle.record_table.proofs.Main.{root_there}
-use Rattle.record_table.proofs.Sharing.{Laws, found_in}
+use Rattle.record_table.specs.Names.{name_at}
+use Rattle.record_table.proofs.Rooted.{rooted_as, inside_as, called_inside}
+use Rattle.record_table.proofs.Sharing.{Laws, called_below, found_in}
 use Rattle.record_table.proofs.KeptNames.{kept}
 use Rattle.record_table.proofs.records.Records.put.Goals as goal
 
 pub insert-requires-clause-closed : goal.insert-requires-clause-closed
 insert-requires-clause-closed g c = λ living.
-    ap (λ (f : ℕ → Option ℕ). f c.args.tid) c.in-Ok-None.ensures.looks.tops ∙ (c.self.invariant.0 c.in-Ok-None.ensures.cause).closed c.args.tid
+    ap (λ (f : ℕ → Option ℕ). f c.args.tid) c.in-Ok.ensures.looks.tops ∙ (c.self.invariant.0 c.in-Ok.ensures.cause).closed c.args.tid
 
-pub invariant_of-self : goal.invariant_of-self
-invariant_of-self g c =
+pub invariant_of-self-in-Some : goal.invariant_of-self-in-Some
+invariant_of-self-in-Some g c =
     let K = g.met.K.KeyIndex in
     let V = g.S.EawStore.view in
     let T = g.S.EawStore.tells in
@@ -33,26 +36,30 @@ invariant_of-self g c =
     let I = g.K.KeyIndex.index in
     let laws : Laws g.K.KeyIndex.index = record { rises = K.rises; given = K.given; counts = K.counts; rests = K.rests; extends = K.extends } in
     let inside = c.self.inside.pages in
-    let mid = c.find.new.pages in
+    let name = name_at (V c.args.self.now.store).state.bytes c.args.table in
+    let root = c.of_table-root.result in
+    let calls = called_inside g.S.EawStore.tells V c.args.self.now c.self.inside.pages c.self.view_is c.args.table name (λ told alive. called_below (V c.args.self.now.store).state.bytes c.args.table (c.requires.there told alive)) in
+    let roots = rooted_as g.S.EawStore.tells (pages_of (V c.self.inside.pages.store) c.self.inside.pages) c.self.inside.roots.at c.args.table c.requires.table c.self.invariant.1.1 name calls c.of_table-root.result c.of_table-root.ensures in
+    let mid = c.find_place.new.pages in
     let v0 = pages_of (V inside.store) inside in
     let v1 = pages_of (V mid.store) mid in
     let t = c.args.tid in
     let key = c.args.key in
     let new = c.write_as.new.pages in
     let v2 = pages_of (V new.store) new in
-    let alive = c.in-Ok-Some.ensures.cause in
-    let main = λ (told : IsTrue g.S.EawStore.tells). (K.counts (V inside.store).state.bytes ((c.self.invariant.0 alive).tied told).sound).main in
-    let looks = looks_as T (E v0.store.shape) t false v0 v1 c.in-Ok-Some.ensures.looks in
+    let alive = c.in-Ok.ensures.cause in
+    let there = λ (told : IsTrue g.S.EawStore.tells). roots told alive in
+    let looks = looks_as T (E v0.store.shape) t false v0 v1 c.in-Ok.ensures.looks in
     let mid_alive = (looks.same refl).still.dead ∙ alive in
-    let does = subst (λ (s : Shape). page.Does g.S.EawStore.tells (g.S.EawStore.opens s) (write_as c.args.tid (64 * (slots_of (V mid.store).shape + c.in-Ok-Some.slot)) (slot_bytes (Present 0 c.args.key c.args.value))) (pages_of (V mid.store) mid) (pages_of (V new.store) new) c.write_as.result)
+    let does = subst (λ (s : Shape). page.Does g.S.EawStore.tells (g.S.EawStore.opens s) (write_as c.args.tid (64 * (slots_of (V mid.store).shape + c.in-Some.slot)) (slot_bytes (Present c.args.table c.args.key c.args.value))) (pages_of (V mid.store) mid) (pages_of (V new.store) new) c.write_as.result)
     looks.shape c.write_as.ensures.does in
-    kept (put_known T (E v0.store.shape) I laws 0 1 t key (omega arith) (omega arith) c.args.value v0 alive c.self.invariant.0 main v1 looks v2 c.in-Ok-Some.slot (λ told. found_in g.K.KeyIndex.index laws (V inside.store).state.bytes 0 1 c.args.key ((c.self.invariant.0 alive).tied told).sound (omega arith) (main told) ∙ sym (c.in-Ok-Some.ensures.found told) ∙ c.in-Ok-Some.field-0-is)
+    kept (put_known T (E v0.store.shape) I laws c.args.table root t key name c.args.value v0 alive c.self.invariant.0 (λ told. calls told alive) there v1 looks v2 c.in-Some.slot (λ told. found_in g.K.KeyIndex.index laws (V inside.store).state.bytes c.args.table root c.args.key name ((c.self.invariant.0 alive).tied told).sound (calls told alive) (there told) ∙ sym (c.in-Ok.ensures.found told) ∙ sym c.slot_of.ensures ∙ c.in-Some.is)
     (λ told. record { long = g.met.S.EawStore.long mid.store told; outlines = λ t. g.met.S.EawStore.outlines mid.store t told mid_alive; placed = λ t. g.met.S.EawStore.placed mid.store t })
     (c.write_as.ensures.ordered mid_alive) (c.write_as.ensures.reads_back mid_alive) (c.write_as.ensures.whole mid_alive) c.write_as.result does
     (λ f e ne. ap (λ (p : Shown g.row.S.Denot). pages_of (V p.store) p) (err_same c.write_as.result c.write_as.ensures.refused f e ne))) c.self.invariant.1
 
-pub returns-in-Ok-Some-clause-does : goal.returns-in-Ok-Some-clause-does
-returns-in-Ok-Some-clause-does g c =
+pub returns-in-Some-clause-does : goal.returns-in-Some-clause-does
+returns-in-Some-clause-does g c = λ name its.
     let K = g.met.K.KeyIndex in
     let V = g.S.EawStore.view in
     let T = g.S.EawStore.tells in
@@ -60,27 +67,30 @@ returns-in-Ok-Some-clause-does g c =
     let I = g.K.KeyIndex.index in
     let laws : Laws g.K.KeyIndex.index = record { rises = K.rises; given = K.given; counts = K.counts; rests = K.rests; extends = K.extends } in
     let inside = c.self.inside.pages in
-    let mid = c.find.new.pages in
+    let root = c.of_table-root.result in
+    let calls = called_inside g.S.EawStore.tells V c.args.self.now c.self.inside.pages c.self.view_is c.args.table name its in
+    let roots = rooted_as g.S.EawStore.tells (pages_of (V c.self.inside.pages.store) c.self.inside.pages) c.self.inside.roots.at c.args.table c.requires.table c.self.invariant.1.1 name calls c.of_table-root.result c.of_table-root.ensures in
+    let mid = c.find_place.new.pages in
     let v0 = pages_of (V inside.store) inside in
     let v1 = pages_of (V mid.store) mid in
     let t = c.args.tid in
     let key = c.args.key in
     let new = c.write_as.new.pages in
     let v2 = pages_of (V new.store) new in
-    let alive = c.in-Ok-Some.ensures.cause in
-    let main = λ (told : IsTrue g.S.EawStore.tells). (K.counts (V inside.store).state.bytes ((c.self.invariant.0 alive).tied told).sound).main in
-    let looks = looks_as T (E v0.store.shape) t false v0 v1 c.in-Ok-Some.ensures.looks in
+    let alive = c.in-Ok.ensures.cause in
+    let there = λ (told : IsTrue g.S.EawStore.tells). roots told alive in
+    let looks = looks_as T (E v0.store.shape) t false v0 v1 c.in-Ok.ensures.looks in
     let mid_alive = (looks.same refl).still.dead ∙ alive in
-    let does = subst (λ (s : Shape). page.Does g.S.EawStore.tells (g.S.EawStore.opens s) (write_as c.args.tid (64 * (slots_of (V mid.store).shape + c.in-Ok-Some.slot)) (slot_bytes (Present 0 c.args.key c.args.value))) (pages_of (V mid.store) mid) (pages_of (V new.store) new) c.write_as.result)
+    let does = subst (λ (s : Shape). page.Does g.S.EawStore.tells (g.S.EawStore.opens s) (write_as c.args.tid (64 * (slots_of (V mid.store).shape + c.in-Some.slot)) (slot_bytes (Present c.args.table c.args.key c.args.value))) (pages_of (V mid.store) mid) (pages_of (V new.store) new) c.write_as.result)
     looks.shape c.write_as.ensures.does in
-    rw (c.told.ensures, told_is_answered) (does_of V T E I 0 t (Put key c.args.value) c.args.self.now inside c.self.view_is v2 _
-    (put_known T (E v0.store.shape) I laws 0 1 t key (omega arith) (omega arith) c.args.value v0 alive c.self.invariant.0 main v1 looks v2 c.in-Ok-Some.slot (λ told. found_in g.K.KeyIndex.index laws (V inside.store).state.bytes 0 1 c.args.key ((c.self.invariant.0 alive).tied told).sound (omega arith) (main told) ∙ sym (c.in-Ok-Some.ensures.found told) ∙ c.in-Ok-Some.field-0-is)
+    rw (c.told.ensures, told_is_answered) (does_of V T E I c.args.table t (Put name key c.args.value) c.args.self.now inside c.self.view_is v2 _
+    (put_known T (E v0.store.shape) I laws c.args.table root t key name c.args.value v0 alive c.self.invariant.0 (λ told. calls told alive) there v1 looks v2 c.in-Some.slot (λ told. found_in g.K.KeyIndex.index laws (V inside.store).state.bytes c.args.table root c.args.key name ((c.self.invariant.0 alive).tied told).sound (calls told alive) (there told) ∙ sym (c.in-Ok.ensures.found told) ∙ sym c.slot_of.ensures ∙ c.in-Some.is)
     (λ told. record { long = g.met.S.EawStore.long mid.store told; outlines = λ t. g.met.S.EawStore.outlines mid.store t told mid_alive; placed = λ t. g.met.S.EawStore.placed mid.store t })
     (c.write_as.ensures.ordered mid_alive) (c.write_as.ensures.reads_back mid_alive) (c.write_as.ensures.whole mid_alive) c.write_as.result does
     (λ f e ne. ap (λ (p : Shown g.row.S.Denot). pages_of (V p.store) p) (err_same c.write_as.result c.write_as.ensures.refused f e ne))).0)
 
-pub invariant_of-self-in-Ok : goal.invariant_of-self-in-Ok
-invariant_of-self-in-Ok g c =
+pub invariant_of-self-in-Ok-insert : goal.invariant_of-self-in-Ok-insert
+invariant_of-self-in-Ok-insert g c =
     let K = g.met.K.KeyIndex in
     let V = g.S.EawStore.view in
     let T = g.S.EawStore.tells in
@@ -88,30 +98,34 @@ invariant_of-self-in-Ok g c =
     let I = g.K.KeyIndex.index in
     let laws : Laws g.K.KeyIndex.index = record { rises = K.rises; given = K.given; counts = K.counts; rests = K.rests; extends = K.extends } in
     let inside = c.self.inside.pages in
-    let mid = c.find.new.pages in
+    let name = name_at (V c.args.self.now.store).state.bytes c.args.table in
+    let root = c.of_table-root.result in
+    let calls = called_inside g.S.EawStore.tells V c.args.self.now c.self.inside.pages c.self.view_is c.args.table name (λ told alive. called_below (V c.args.self.now.store).state.bytes c.args.table (c.requires.there told alive)) in
+    let roots = rooted_as g.S.EawStore.tells (pages_of (V c.self.inside.pages.store) c.self.inside.pages) c.self.inside.roots.at c.args.table c.requires.table c.self.invariant.1.1 name calls c.of_table-root.result c.of_table-root.ensures in
+    let mid = c.find_place.new.pages in
     let v0 = pages_of (V inside.store) inside in
     let v1 = pages_of (V mid.store) mid in
     let t = c.args.tid in
     let key = c.args.key in
     let far = c.insert.new.pages in
     let v2 = pages_of (V far.store) far in
-    let new = c.write_as-in-Ok.new.pages in
+    let new = c.write_as-in-Ok-insert.new.pages in
     let v3 = pages_of (V new.store) new in
-    let alive = c.in-Ok-None.ensures.cause in
-    let main = λ (told : IsTrue g.S.EawStore.tells). (K.counts (V inside.store).state.bytes ((c.self.invariant.0 alive).tied told).sound).main in
-    let looks = looks_as T (E v0.store.shape) t false v0 v1 c.in-Ok-None.ensures.looks in
+    let alive = c.in-Ok.ensures.cause in
+    let there = λ (told : IsTrue g.S.EawStore.tells). roots told alive in
+    let looks = looks_as T (E v0.store.shape) t false v0 v1 c.in-Ok.ensures.looks in
     let mid_alive = (looks.same refl).still.dead ∙ alive in
-    let inserts = subst (λ (s : Shape). (let r : Result ℕ IndexFault = Ok c.in-Ok.slot in Inserts g.S.EawStore.tells (g.S.EawStore.opens s) g.K.KeyIndex.index c.args.tid 1 0 c.args.key (pages_of (V mid.store) mid) (pages_of (V far.store) far) r)) looks.shape c.in-Ok.ensures.inserts in
+    let inserts = subst (λ (s : Shape). (let r : Result ℕ IndexFault = Ok c.in-Ok-insert.slot in Inserts g.S.EawStore.tells (g.S.EawStore.opens s) g.K.KeyIndex.index c.args.tid c.of_table-root.result c.args.table c.args.key (pages_of (V mid.store) mid) (pages_of (V far.store) far) r)) looks.shape c.in-Ok-insert.ensures.inserts in
     let far_alive = (inserts.kept refl).dead ∙ mid_alive in
-    let does = subst (λ (s : Shape). page.Does g.S.EawStore.tells (g.S.EawStore.opens s) (write_as c.args.tid (64 * (slots_of (V far.store).shape + c.in-Ok.slot)) (slot_bytes (Present 0 c.args.key c.args.value))) (pages_of (V far.store) far) (pages_of (V new.store) new) c.write_as-in-Ok.result)
-    (inserts.shape ∙ looks.shape) c.write_as-in-Ok.ensures.does in
-    kept (put_new T (E v0.store.shape) I laws 0 1 t key (omega arith) (omega arith) c.args.value v0 alive c.self.invariant.0 main v1 looks (λ told. sym (c.in-Ok-None.ensures.found told) ∙ c.in-Ok-None.field-0-is) v2
-    (slot_said-slot_bytes (Absent 0 c.args.key) (omega arith)) c.in-Ok.slot inserts v3 (λ told. record { long = g.met.S.EawStore.long far.store told; outlines = λ t. g.met.S.EawStore.outlines far.store t told far_alive; placed = λ t. g.met.S.EawStore.placed far.store t })
-    (c.write_as-in-Ok.ensures.ordered far_alive) (c.write_as-in-Ok.ensures.reads_back far_alive) (c.write_as-in-Ok.ensures.whole far_alive) c.write_as-in-Ok.result does
-    (λ f e ne. ap (λ (p : Shown g.row.S.Denot). pages_of (V p.store) p) (err_same c.write_as-in-Ok.result c.write_as-in-Ok.ensures.refused f e ne))) c.self.invariant.1
+    let does = subst (λ (s : Shape). page.Does g.S.EawStore.tells (g.S.EawStore.opens s) (write_as c.args.tid (64 * (slots_of (V far.store).shape + c.in-Ok-insert.slot)) (slot_bytes (Present c.args.table c.args.key c.args.value))) (pages_of (V far.store) far) (pages_of (V new.store) new) c.write_as-in-Ok-insert.result)
+    (inserts.shape ∙ looks.shape) c.write_as-in-Ok-insert.ensures.does in
+    kept (put_new T (E v0.store.shape) I laws c.args.table root t key name c.args.value v0 alive c.self.invariant.0 (λ told. calls told alive) there v1 looks (λ told. sym (c.in-Ok.ensures.found told) ∙ sym c.slot_of.ensures ∙ c.in_default.is) v2
+    (slot_said-slot_bytes (Absent c.args.table c.args.key) (omega (arith, c.requires.table))) c.in-Ok-insert.slot inserts v3 (λ told. record { long = g.met.S.EawStore.long far.store told; outlines = λ t. g.met.S.EawStore.outlines far.store t told far_alive; placed = λ t. g.met.S.EawStore.placed far.store t })
+    (c.write_as-in-Ok-insert.ensures.ordered far_alive) (c.write_as-in-Ok-insert.ensures.reads_back far_alive) (c.write_as-in-Ok-insert.ensures.whole far_alive) c.write_as-in-Ok-insert.result does
+    (λ f e ne. ap (λ (p : Shown g.row.S.Denot). pages_of (V p.store) p) (err_same c.write_as-in-Ok-insert.result c.write_as-in-Ok-insert.ensures.refused f e ne))) c.self.invariant.1
 
-pub returns-in-Ok-clause-does : goal.returns-in-Ok-clause-does
-returns-in-Ok-clause-does g c =
+pub returns-in-Ok-insert-clause-does : goal.returns-in-Ok-insert-clause-does
+returns-in-Ok-insert-clause-does g c = λ name its.
     let K = g.met.K.KeyIndex in
     let V = g.S.EawStore.view in
     let T = g.S.EawStore.tells in
@@ -119,28 +133,31 @@ returns-in-Ok-clause-does g c =
     let I = g.K.KeyIndex.index in
     let laws : Laws g.K.KeyIndex.index = record { rises = K.rises; given = K.given; counts = K.counts; rests = K.rests; extends = K.extends } in
     let inside = c.self.inside.pages in
-    let mid = c.find.new.pages in
+    let root = c.of_table-root.result in
+    let calls = called_inside g.S.EawStore.tells V c.args.self.now c.self.inside.pages c.self.view_is c.args.table name its in
+    let roots = rooted_as g.S.EawStore.tells (pages_of (V c.self.inside.pages.store) c.self.inside.pages) c.self.inside.roots.at c.args.table c.requires.table c.self.invariant.1.1 name calls c.of_table-root.result c.of_table-root.ensures in
+    let mid = c.find_place.new.pages in
     let v0 = pages_of (V inside.store) inside in
     let v1 = pages_of (V mid.store) mid in
     let t = c.args.tid in
     let key = c.args.key in
     let far = c.insert.new.pages in
     let v2 = pages_of (V far.store) far in
-    let new = c.write_as-in-Ok.new.pages in
+    let new = c.write_as-in-Ok-insert.new.pages in
     let v3 = pages_of (V new.store) new in
-    let alive = c.in-Ok-None.ensures.cause in
-    let main = λ (told : IsTrue g.S.EawStore.tells). (K.counts (V inside.store).state.bytes ((c.self.invariant.0 alive).tied told).sound).main in
-    let looks = looks_as T (E v0.store.shape) t false v0 v1 c.in-Ok-None.ensures.looks in
+    let alive = c.in-Ok.ensures.cause in
+    let there = λ (told : IsTrue g.S.EawStore.tells). roots told alive in
+    let looks = looks_as T (E v0.store.shape) t false v0 v1 c.in-Ok.ensures.looks in
     let mid_alive = (looks.same refl).still.dead ∙ alive in
-    let inserts = subst (λ (s : Shape). (let r : Result ℕ IndexFault = Ok c.in-Ok.slot in Inserts g.S.EawStore.tells (g.S.EawStore.opens s) g.K.KeyIndex.index c.args.tid 1 0 c.args.key (pages_of (V mid.store) mid) (pages_of (V far.store) far) r)) looks.shape c.in-Ok.ensures.inserts in
+    let inserts = subst (λ (s : Shape). (let r : Result ℕ IndexFault = Ok c.in-Ok-insert.slot in Inserts g.S.EawStore.tells (g.S.EawStore.opens s) g.K.KeyIndex.index c.args.tid c.of_table-root.result c.args.table c.args.key (pages_of (V mid.store) mid) (pages_of (V far.store) far) r)) looks.shape c.in-Ok-insert.ensures.inserts in
     let far_alive = (inserts.kept refl).dead ∙ mid_alive in
-    let does = subst (λ (s : Shape). page.Does g.S.EawStore.tells (g.S.EawStore.opens s) (write_as c.args.tid (64 * (slots_of (V far.store).shape + c.in-Ok.slot)) (slot_bytes (Present 0 c.args.key c.args.value))) (pages_of (V far.store) far) (pages_of (V new.store) new) c.write_as-in-Ok.result)
-    (inserts.shape ∙ looks.shape) c.write_as-in-Ok.ensures.does in
-    rw (c.told-in-Ok.ensures, told_is_answered) (does_of V T E I 0 t (Put key c.args.value) c.args.self.now inside c.self.view_is v3 _
-    (put_new T (E v0.store.shape) I laws 0 1 t key (omega arith) (omega arith) c.args.value v0 alive c.self.invariant.0 main v1 looks (λ told. sym (c.in-Ok-None.ensures.found told) ∙ c.in-Ok-None.field-0-is) v2
-    (slot_said-slot_bytes (Absent 0 c.args.key) (omega arith)) c.in-Ok.slot inserts v3 (λ told. record { long = g.met.S.EawStore.long far.store told; outlines = λ t. g.met.S.EawStore.outlines far.store t told far_alive; placed = λ t. g.met.S.EawStore.placed far.store t })
-    (c.write_as-in-Ok.ensures.ordered far_alive) (c.write_as-in-Ok.ensures.reads_back far_alive) (c.write_as-in-Ok.ensures.whole far_alive) c.write_as-in-Ok.result does
-    (λ f e ne. ap (λ (p : Shown g.row.S.Denot). pages_of (V p.store) p) (err_same c.write_as-in-Ok.result c.write_as-in-Ok.ensures.refused f e ne))).0)
+    let does = subst (λ (s : Shape). page.Does g.S.EawStore.tells (g.S.EawStore.opens s) (write_as c.args.tid (64 * (slots_of (V far.store).shape + c.in-Ok-insert.slot)) (slot_bytes (Present c.args.table c.args.key c.args.value))) (pages_of (V far.store) far) (pages_of (V new.store) new) c.write_as-in-Ok-insert.result)
+    (inserts.shape ∙ looks.shape) c.write_as-in-Ok-insert.ensures.does in
+    rw (c.told-in-Ok-insert.ensures, told_is_answered) (does_of V T E I c.args.table t (Put name key c.args.value) c.args.self.now inside c.self.view_is v3 _
+    (put_new T (E v0.store.shape) I laws c.args.table root t key name c.args.value v0 alive c.self.invariant.0 (λ told. calls told alive) there v1 looks (λ told. sym (c.in-Ok.ensures.found told) ∙ sym c.slot_of.ensures ∙ c.in_default.is) v2
+    (slot_said-slot_bytes (Absent c.args.table c.args.key) (omega (arith, c.requires.table))) c.in-Ok-insert.slot inserts v3 (λ told. record { long = g.met.S.EawStore.long far.store told; outlines = λ t. g.met.S.EawStore.outlines far.store t told far_alive; placed = λ t. g.met.S.EawStore.placed far.store t })
+    (c.write_as-in-Ok-insert.ensures.ordered far_alive) (c.write_as-in-Ok-insert.ensures.reads_back far_alive) (c.write_as-in-Ok-insert.ensures.whole far_alive) c.write_as-in-Ok-insert.result does
+    (λ f e ne. ap (λ (p : Shown g.row.S.Denot). pages_of (V p.store) p) (err_same c.write_as-in-Ok-insert.result c.write_as-in-Ok-insert.ensures.refused f e ne))).0)
 
 pub invariant_of-self-in-Err-insert : goal.invariant_of-self-in-Err-insert
 invariant_of-self-in-Err-insert g c =
@@ -151,22 +168,26 @@ invariant_of-self-in-Err-insert g c =
     let I = g.K.KeyIndex.index in
     let laws : Laws g.K.KeyIndex.index = record { rises = K.rises; given = K.given; counts = K.counts; rests = K.rests; extends = K.extends } in
     let inside = c.self.inside.pages in
-    let mid = c.find.new.pages in
+    let name = name_at (V c.args.self.now.store).state.bytes c.args.table in
+    let root = c.of_table-root.result in
+    let calls = called_inside g.S.EawStore.tells V c.args.self.now c.self.inside.pages c.self.view_is c.args.table name (λ told alive. called_below (V c.args.self.now.store).state.bytes c.args.table (c.requires.there told alive)) in
+    let roots = rooted_as g.S.EawStore.tells (pages_of (V c.self.inside.pages.store) c.self.inside.pages) c.self.inside.roots.at c.args.table c.requires.table c.self.invariant.1.1 name calls c.of_table-root.result c.of_table-root.ensures in
+    let mid = c.find_place.new.pages in
     let v0 = pages_of (V inside.store) inside in
     let v1 = pages_of (V mid.store) mid in
     let t = c.args.tid in
     let key = c.args.key in
     let far = c.insert.new.pages in
     let v2 = pages_of (V far.store) far in
-    let alive = c.in-Ok-None.ensures.cause in
-    let main = λ (told : IsTrue g.S.EawStore.tells). (K.counts (V inside.store).state.bytes ((c.self.invariant.0 alive).tied told).sound).main in
-    let looks = looks_as T (E v0.store.shape) t false v0 v1 c.in-Ok-None.ensures.looks in
-    let inserts = subst (λ (s : Shape). (let r : Result ℕ IndexFault = Err c.in-Err-insert.fault in Inserts g.S.EawStore.tells (g.S.EawStore.opens s) g.K.KeyIndex.index c.args.tid 1 0 c.args.key (pages_of (V mid.store) mid) (pages_of (V far.store) far) r)) looks.shape c.in-Err-insert.ensures.inserts in
-    kept (put_refused T (E v0.store.shape) I laws 0 1 t key (omega arith) (omega arith) c.args.value v0 alive c.self.invariant.0 main v1 looks (λ told. sym (c.in-Ok-None.ensures.found told) ∙ c.in-Ok-None.field-0-is) v2
-    (slot_said-slot_bytes (Absent 0 c.args.key) (omega arith)) c.in-Err-insert.fault inserts) c.self.invariant.1
+    let alive = c.in-Ok.ensures.cause in
+    let there = λ (told : IsTrue g.S.EawStore.tells). roots told alive in
+    let looks = looks_as T (E v0.store.shape) t false v0 v1 c.in-Ok.ensures.looks in
+    let inserts = subst (λ (s : Shape). (let r : Result ℕ IndexFault = Err c.in-Err-insert.fault in Inserts g.S.EawStore.tells (g.S.EawStore.opens s) g.K.KeyIndex.index c.args.tid c.of_table-root.result c.args.table c.args.key (pages_of (V mid.store) mid) (pages_of (V far.store) far) r)) looks.shape c.in-Err-insert.ensures.inserts in
+    kept (put_refused T (E v0.store.shape) I laws c.args.table root t key name c.args.value v0 alive c.self.invariant.0 (λ told. calls told alive) there v1 looks (λ told. sym (c.in-Ok.ensures.found told) ∙ sym c.slot_of.ensures ∙ c.in_default.is) v2
+    (slot_said-slot_bytes (Absent c.args.table c.args.key) (omega (arith, c.requires.table))) c.in-Err-insert.fault inserts) c.self.invariant.1
 
 pub returns-in-Err-insert-clause-does : goal.returns-in-Err-insert-clause-does
-returns-in-Err-insert-clause-does g c =
+returns-in-Err-insert-clause-does g c = λ name its.
     let K = g.met.K.KeyIndex in
     let V = g.S.EawStore.view in
     let T = g.S.EawStore.tells in
@@ -174,23 +195,26 @@ returns-in-Err-insert-clause-does g c =
     let I = g.K.KeyIndex.index in
     let laws : Laws g.K.KeyIndex.index = record { rises = K.rises; given = K.given; counts = K.counts; rests = K.rests; extends = K.extends } in
     let inside = c.self.inside.pages in
-    let mid = c.find.new.pages in
+    let root = c.of_table-root.result in
+    let calls = called_inside g.S.EawStore.tells V c.args.self.now c.self.inside.pages c.self.view_is c.args.table name its in
+    let roots = rooted_as g.S.EawStore.tells (pages_of (V c.self.inside.pages.store) c.self.inside.pages) c.self.inside.roots.at c.args.table c.requires.table c.self.invariant.1.1 name calls c.of_table-root.result c.of_table-root.ensures in
+    let mid = c.find_place.new.pages in
     let v0 = pages_of (V inside.store) inside in
     let v1 = pages_of (V mid.store) mid in
     let t = c.args.tid in
     let key = c.args.key in
     let far = c.insert.new.pages in
     let v2 = pages_of (V far.store) far in
-    let alive = c.in-Ok-None.ensures.cause in
-    let main = λ (told : IsTrue g.S.EawStore.tells). (K.counts (V inside.store).state.bytes ((c.self.invariant.0 alive).tied told).sound).main in
-    let looks = looks_as T (E v0.store.shape) t false v0 v1 c.in-Ok-None.ensures.looks in
-    let inserts = subst (λ (s : Shape). (let r : Result ℕ IndexFault = Err c.in-Err-insert.fault in Inserts g.S.EawStore.tells (g.S.EawStore.opens s) g.K.KeyIndex.index c.args.tid 1 0 c.args.key (pages_of (V mid.store) mid) (pages_of (V far.store) far) r)) looks.shape c.in-Err-insert.ensures.inserts in
-    rw c.from.ensures (does_of V T E I 0 t (Put key c.args.value) c.args.self.now inside c.self.view_is v2 _
-    (put_refused T (E v0.store.shape) I laws 0 1 t key (omega arith) (omega arith) c.args.value v0 alive c.self.invariant.0 main v1 looks (λ told. sym (c.in-Ok-None.ensures.found told) ∙ c.in-Ok-None.field-0-is) v2
-    (slot_said-slot_bytes (Absent 0 c.args.key) (omega arith)) c.in-Err-insert.fault inserts).0)
+    let alive = c.in-Ok.ensures.cause in
+    let there = λ (told : IsTrue g.S.EawStore.tells). roots told alive in
+    let looks = looks_as T (E v0.store.shape) t false v0 v1 c.in-Ok.ensures.looks in
+    let inserts = subst (λ (s : Shape). (let r : Result ℕ IndexFault = Err c.in-Err-insert.fault in Inserts g.S.EawStore.tells (g.S.EawStore.opens s) g.K.KeyIndex.index c.args.tid c.of_table-root.result c.args.table c.args.key (pages_of (V mid.store) mid) (pages_of (V far.store) far) r)) looks.shape c.in-Err-insert.ensures.inserts in
+    rw c.from-in-Err-insert.ensures (does_of V T E I c.args.table t (Put name key c.args.value) c.args.self.now inside c.self.view_is v2 _
+    (put_refused T (E v0.store.shape) I laws c.args.table root t key name c.args.value v0 alive c.self.invariant.0 (λ told. calls told alive) there v1 looks (λ told. sym (c.in-Ok.ensures.found told) ∙ sym c.slot_of.ensures ∙ c.in_default.is) v2
+    (slot_said-slot_bytes (Absent c.args.table c.args.key) (omega (arith, c.requires.table))) c.in-Err-insert.fault inserts).0)
 
-pub invariant_of-self-in-Err : goal.invariant_of-self-in-Err
-invariant_of-self-in-Err g c =
+pub invariant_of-self : goal.invariant_of-self
+invariant_of-self g c =
     let K = g.met.K.KeyIndex in
     let V = g.S.EawStore.view in
     let T = g.S.EawStore.tells in
@@ -198,16 +222,20 @@ invariant_of-self-in-Err g c =
     let I = g.K.KeyIndex.index in
     let laws : Laws g.K.KeyIndex.index = record { rises = K.rises; given = K.given; counts = K.counts; rests = K.rests; extends = K.extends } in
     let inside = c.self.inside.pages in
-    let mid = c.find.new.pages in
+    let name = name_at (V c.args.self.now.store).state.bytes c.args.table in
+    let root = c.of_table-root.result in
+    let calls = called_inside g.S.EawStore.tells V c.args.self.now c.self.inside.pages c.self.view_is c.args.table name (λ told alive. called_below (V c.args.self.now.store).state.bytes c.args.table (c.requires.there told alive)) in
+    let roots = rooted_as g.S.EawStore.tells (pages_of (V c.self.inside.pages.store) c.self.inside.pages) c.self.inside.roots.at c.args.table c.requires.table c.self.invariant.1.1 name calls c.of_table-root.result c.of_table-root.ensures in
+    let mid = c.find_place.new.pages in
     let v0 = pages_of (V inside.store) inside in
     let v1 = pages_of (V mid.store) mid in
     let t = c.args.tid in
     let key = c.args.key in
-    kept (look_refused T (E v0.store.shape) I 0 t (Put key c.args.value) v0 v1 c.self.invariant.0 _ c.in-Err.fault tt c.in-Err.ensures.cause (looks_as T (E v0.store.shape) t _ v0 v1 c.in-Err.ensures.looks)
+    kept (look_refused T (E v0.store.shape) I c.args.table t (Put name key c.args.value) v0 v1 c.self.invariant.0 _ c.in-Err.fault tt c.in-Err.ensures.cause (looks_as T (E v0.store.shape) t _ v0 v1 c.in-Err.ensures.looks)
     (λ e. ap (λ (p : Shown g.row.S.Denot). pages_of (V p.store) p) (c.in-Err.ensures.dead e))) c.self.invariant.1
 
 pub returns-in-Err-clause-does : goal.returns-in-Err-clause-does
-returns-in-Err-clause-does g c =
+returns-in-Err-clause-does g c = λ name its.
     let K = g.met.K.KeyIndex in
     let V = g.S.EawStore.view in
     let T = g.S.EawStore.tells in
@@ -215,11 +243,41 @@ returns-in-Err-clause-does g c =
     let I = g.K.KeyIndex.index in
     let laws : Laws g.K.KeyIndex.index = record { rises = K.rises; given = K.given; counts = K.counts; rests = K.rests; extends = K.extends } in
     let inside = c.self.inside.pages in
-    let mid = c.find.new.pages in
+    let root = c.of_table-root.result in
+    let calls = called_inside g.S.EawStore.tells V c.args.self.now c.self.inside.pages c.self.view_is c.args.table name its in
+    let roots = rooted_as g.S.EawStore.tells (pages_of (V c.self.inside.pages.store) c.self.inside.pages) c.self.inside.roots.at c.args.table c.requires.table c.self.invariant.1.1 name calls c.of_table-root.result c.of_table-root.ensures in
+    let mid = c.find_place.new.pages in
     let v0 = pages_of (V inside.store) inside in
     let v1 = pages_of (V mid.store) mid in
     let t = c.args.tid in
     let key = c.args.key in
-    rw c.from-in-Err.ensures (does_of V T E I 0 t (Put key c.args.value) c.args.self.now inside c.self.view_is v1 _
-    (look_refused T (E v0.store.shape) I 0 t (Put key c.args.value) v0 v1 c.self.invariant.0 _ c.in-Err.fault tt c.in-Err.ensures.cause (looks_as T (E v0.store.shape) t _ v0 v1 c.in-Err.ensures.looks)
+    rw c.from.ensures (does_of V T E I c.args.table t (Put name key c.args.value) c.args.self.now inside c.self.view_is v1 _
+    (look_refused T (E v0.store.shape) I c.args.table t (Put name key c.args.value) v0 v1 c.self.invariant.0 _ c.in-Err.fault tt c.in-Err.ensures.cause (looks_as T (E v0.store.shape) t _ v0 v1 c.in-Err.ensures.looks)
     (λ e. ap (λ (p : Shown g.row.S.Denot). pages_of (V p.store) p) (c.in-Err.ensures.dead e))).0)
+
+pub find_place-requires-clause-named : goal.find_place-requires-clause-named
+find_place-requires-clause-named g c =
+    let V = g.S.EawStore.view in
+    let name = name_at (V c.args.self.now.store).state.bytes c.args.table in
+    let root = c.of_table-root.result in
+    let calls = called_inside g.S.EawStore.tells V c.args.self.now c.self.inside.pages c.self.view_is c.args.table name (λ told alive. called_below (V c.args.self.now.store).state.bytes c.args.table (c.requires.there told alive)) in
+    let roots = rooted_as g.S.EawStore.tells (pages_of (V c.self.inside.pages.store) c.self.inside.pages) c.self.inside.roots.at c.args.table c.requires.table c.self.invariant.1.1 name calls c.of_table-root.result c.of_table-root.ensures in
+    roots
+
+pub find_place-requires-clause-root : goal.find_place-requires-clause-root
+find_place-requires-clause-root g c =
+    inside_as g.S.EawStore.tells (pages_of (g.S.EawStore.view c.self.inside.pages.store) c.self.inside.pages) c.self.inside.roots.at c.args.table c.requires.table c.self.invariant.1.1 c.of_table-root.result c.of_table-root.ensures
+
+pub insert-requires-clause-named : goal.insert-requires-clause-named
+insert-requires-clause-named g c = λ told living.
+    let V = g.S.EawStore.view in
+    let name = name_at (V c.args.self.now.store).state.bytes c.args.table in
+    let root = c.of_table-root.result in
+    let calls = called_inside g.S.EawStore.tells V c.args.self.now c.self.inside.pages c.self.view_is c.args.table name (λ told alive. called_below (V c.args.self.now.store).state.bytes c.args.table (c.requires.there told alive)) in
+    let roots = rooted_as g.S.EawStore.tells (pages_of (V c.self.inside.pages.store) c.self.inside.pages) c.self.inside.roots.at c.args.table c.requires.table c.self.invariant.1.1 name calls c.of_table-root.result c.of_table-root.ensures in
+    subst (λ (s : State). IsTable s.bytes c.args.table c.of_table-root.result) (sym ((c.in-Ok.ensures.looks.still refl).state told)) (roots told c.in-Ok.ensures.cause)
+
+pub insert-requires-clause-root : goal.insert-requires-clause-root
+insert-requires-clause-root g c =
+    subst (λ (s : Shape). c.of_table-root.result < page_count s) (sym c.in-Ok.ensures.looks.shape)
+    (inside_as g.S.EawStore.tells (pages_of (g.S.EawStore.view c.self.inside.pages.store) c.self.inside.pages) c.self.inside.roots.at c.args.table c.requires.table c.self.invariant.1.1 c.of_table-root.result c.of_table-root.ensures)

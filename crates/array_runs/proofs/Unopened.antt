@@ -1,0 +1,85 @@
+-- A run whose array is not opened.
+use Rattle.std.proofs.Common.{◌≡◌, ℕ, ◌+◌, ◌⊎◌, inl, inr, ⊎_elim, List, [], Bool, true, false, refl, arith}
+use Rattle.std.specs.Prelude.{IsTrue}
+use Rattle.pcm_media.specs.Images.{MayLeave, Touched}
+use Rattle.pcm_media.specs.View.{View}
+use Rattle.pcm_media.proofs.Left.{touched_by_nothing}
+use Rattle.array_shape.specs.declared.shape.Shape.{Shape}
+use Rattle.eaw_device.specs.Opens.{AllOpen, OpensLike, KeepsData, OpensWithin, AttachCause, AttachLeaves}
+use Rattle.eaw_device.specs.declared.fault.AttachFault.{AttachFault}
+use Rattle.eaw_device.specs.declared.fault.AttachFault.TheVariants as opening
+use Rattle.script_run.specs.declared.ended.Ended.{Ended}
+use Rattle.array_runs.specs.Opening.{IsUnread, IsUnopened, Unopened}
+use Rattle.array_runs.specs.Outcome.{Idle, OutcomeOf}
+use Rattle.array_runs.specs.Statuses.{status_of}
+use Rattle.array_runs.specs.declared.status.Status.{Status}
+use Rattle.array_runs.specs.declared.status.Status.TheVariants.{Good, Usage, TooLong, ReadFault, WriteFault, MediaFault, NoMemory, Damaged, BadRow, NotMars, BadShape, Refused, BadFrame, Gap}
+
+module _ (tells : Bool) (told : IsTrue tells) (old : View) (only_now : (image : List ℕ) → IsTrue tells → old.left_since old.moment image → MayLeave old.content image) where
+  -- what may be left at first opens as it does
+  pub first_like : (shape : Shape) → AllOpen shape old.content → (image : List ℕ) → old.left_since old.moment image → OpensLike shape old.content image
+  first_like shape all image left =
+      let may = only_now image told left in
+      let can = all image may in
+      (image, may, can.0, can.1, can.1)
+
+  -- a medium to which nothing was done
+  pub idle_same : (MayWrite Cause : Type 0) → Cause → Idle true MayWrite Cause old old false []
+  idle_same MayWrite Cause cause = record { silent = refl; later = λ shape all. omega arith; keeps = λ shape all image left. inl (first_like shape all image left); spared = inl (touched_by_nothing [] old.content); cause = cause }
+
+  -- nor was it looked at, as the input was not taken
+  pub unread_of : (status : Status) → IsUnread status → Unopened old status old
+  unread_of TooLong kind = idle_same _ _ tt
+  unread_of ReadFault kind = idle_same _ _ tt
+  unread_of NoMemory kind = inl (idle_same _ _ (inl refl))
+  unread_of Good kind = absurd kind
+  unread_of Usage kind = absurd kind
+  unread_of WriteFault kind = absurd kind
+  unread_of MediaFault kind = absurd kind
+  unread_of (Damaged page) kind = absurd kind
+  unread_of (BadRow logger tid) kind = absurd kind
+  unread_of NotMars kind = absurd kind
+  unread_of (BadShape which given) kind = absurd kind
+  unread_of (Refused refusal) kind = absurd kind
+  unread_of (BadFrame n) kind = absurd kind
+  unread_of (Gap expected got) kind = absurd kind
+
+  -- a medium whose array was not opened
+  idle_kept : (MayWrite Cause : Type 0) (new : View) → KeepsData tells old new.moment new.left_since → Touched [] old.content new.content ⊎ MayWrite → Cause → Idle true MayWrite Cause old new false []
+  idle_kept MayWrite Cause new keeps spared cause = record {
+    silent = refl;
+    later = λ shape all. (keeps told shape all).later;
+    keeps = λ shape all image left. inl (⊎_elim (first_like shape all image) (λ like. like) ((keeps told shape all).only old.moment image (omega arith) left));
+    spared = spared;
+    cause = cause;
+  }
+
+  pub unopened_of : (new : View) (fault : AttachFault) → AttachCause tells old new.faults fault → AttachLeaves tells old new fault → KeepsData tells old new.moment new.left_since
+      → OpensWithin tells old new.moment → (fault ≡ opening.NoMemory → new.moment ≡ old.moment + 1) → Unopened old (status_of fault) new
+  unopened_of new opening.NotMars cause leaves keeps within early = idle_kept _ _ new keeps (inl (leaves told)) (λ long mark. cause long told mark)
+  unopened_of new (opening.BadShape bad) cause leaves keeps within early = idle_kept _ _ new keeps (inl (leaves told)) (cause.0, (cause.1 told).0, (cause.1 told).1)
+  unopened_of new (opening.BadRow logger tid) cause leaves keeps within early = idle_kept _ _ new keeps (inl (leaves told)) (cause told)
+  unopened_of new opening.Media cause leaves keeps within early = inl (idle_kept _ _ new keeps (leaves told) (inl (within told)))
+  unopened_of new opening.NoMemory cause leaves keeps within early =
+      inl (idle_kept _ _ new keeps (inl (leaves told)) (inr (early refl, (cause told).0, (cause told).1, (cause told).2)))
+
+-- nothing was done, whatever the work is
+pub unopened_as : (Works : Ended → Type 0) (Broken : ℕ → Type 0) (Looks Lacks : Type 0) (old : View) (status : Status) (new : View) → IsUnopened status → Unopened old status new → OutcomeOf true Works Broken Looks Lacks old status new false []
+unopened_as Works Broken Looks Lacks old Good new kind outcome = absurd kind
+unopened_as Works Broken Looks Lacks old Usage new kind outcome = absurd kind
+unopened_as Works Broken Looks Lacks old TooLong new kind outcome = outcome
+unopened_as Works Broken Looks Lacks old ReadFault new kind outcome = outcome
+unopened_as Works Broken Looks Lacks old WriteFault new kind outcome = absurd kind
+unopened_as Works Broken Looks Lacks old MediaFault new kind (inl fails) =
+    inl (record { silent = fails.silent; later = fails.later; keeps = fails.keeps; spared = fails.spared; cause = ⊎_elim (λ within. inl within) (λ none. absurd none) fails.cause })
+unopened_as Works Broken Looks Lacks old MediaFault new kind (inr none) = absurd none
+unopened_as Works Broken Looks Lacks old NoMemory new kind (inl short) = inl short
+unopened_as Works Broken Looks Lacks old NoMemory new kind (inr (inl none)) = absurd none.cause
+unopened_as Works Broken Looks Lacks old NoMemory new kind (inr (inr none)) = absurd none
+unopened_as Works Broken Looks Lacks old (Damaged page) new kind outcome = absurd kind
+unopened_as Works Broken Looks Lacks old (BadRow logger tid) new kind outcome = outcome
+unopened_as Works Broken Looks Lacks old NotMars new kind outcome = outcome
+unopened_as Works Broken Looks Lacks old (BadShape which given) new kind outcome = outcome
+unopened_as Works Broken Looks Lacks old (Refused refusal) new kind outcome = absurd kind
+unopened_as Works Broken Looks Lacks old (BadFrame n) new kind outcome = absurd kind
+unopened_as Works Broken Looks Lacks old (Gap expected got) new kind outcome = absurd kind

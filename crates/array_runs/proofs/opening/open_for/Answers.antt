@@ -1,0 +1,53 @@
+use Rattle.std.proofs.Common.{inl, refl, sym, subst, ap, ◌∙◌, arith}
+use Rattle.eaw_device.specs.Opens.{HoldsArray}
+use Rattle.array_runs.specs.Opening.{IsUnopened}
+use Rattle.array_runs.specs.Records.{IsDamaged, Exceeds}
+use Rattle.array_runs.specs.Statuses.{IsEarly, IsRefusal}
+use Rattle.array_runs.proofs.Endings.{counts_unwritten}
+use Rattle.array_runs.proofs.Opened.{array, left_alone}
+use Rattle.array_runs.proofs.Unopened.{idle_same, unopened_as}
+use Rattle.array_runs.proofs.opening.open_for.Goals as goal
+
+pub returns-in-Err-clause-outcome : goal.returns-in-Err-clause-outcome
+returns-in-Err-clause-outcome g c = λ told. inl (idle_same g.M.Media.tells told (g.M.Media.view c.args.media) (g.met.M.Media.only_now c.args.media) _ _ (inl refl))
+
+pub returns-in-Err-clause-usage : goal.returns-in-Err-clause-usage
+returns-in-Err-clause-usage g c = λ is. absurd (subst IsRefusal (sym is) tt)
+
+pub returns-in-Err-clause-steady : goal.returns-in-Err-clause-steady
+returns-in-Err-clause-steady g c = λ steady is. subst IsEarly (sym is) tt
+
+pub returns-in-Err-clause-counts : goal.returns-in-Err-clause-counts
+returns-in-Err-clause-counts g c = λ sink. (refl, refl, refl)
+
+pub returns-in-Err-open-clause-outcome : goal.returns-in-Err-open-clause-outcome
+returns-in-Err-open-clause-outcome g c = λ told.
+    let old = g.M.Media.view c.args.media in
+    unopened_as (λ none. ⊥) (λ page. IsDamaged old page × (Exceeds c.args.callers old → ⊥)) (HoldsArray old × (Exceeds c.args.callers old → ⊥)) (Exceeds c.args.callers old) old c.in-Err-open.ended.0
+    (g.M.Media.view c.in-Err-open.ended.1) c.in-Err-open.ensures.kind (c.in-Err-open.ensures.unopened told)
+
+pub returns-in-Err-open-clause-usage : goal.returns-in-Err-open-clause-usage
+returns-in-Err-open-clause-usage g c = λ is. absurd (subst IsUnopened is c.in-Err-open.ensures.kind)
+
+pub returns-in-Err-open-clause-counts : goal.returns-in-Err-open-clause-counts
+returns-in-Err-open-clause-counts g c = λ sink. counts_unwritten c.in-Err-open.ended.0 _ _ sink _ _ c.in-Err-open.ensures.kind c.in-Err-open.ensures.counts
+
+pub returns-then-callers-shape-clause-outcome : goal.returns-then-callers-shape-clause-outcome
+returns-then-callers-shape-clause-outcome g c = λ told.
+    let media = g.M.Media in
+    let old = media.view c.args.media in
+    let attached = c.in-Ok-open.ensures.attached in
+    left_alone media.tells told old (g.met.M.Media.only_now c.args.media) _ attached c.in-Ok-open.ensures.keeps g.B.WriteBack.defers _ (media.view c.into_media.result) c.into_media.ensures _ refl
+    (_, array media.tells told old (g.met.M.Media.only_now c.args.media) _ attached c.in-Ok-open.ensures.keeps, omega (arith, c.if-callers-shape.true, ap (λ s. s.numbers) c.shape.ensures))
+
+pub returns-then-callers-shape-clause-usage : goal.returns-then-callers-shape-clause-usage
+returns-then-callers-shape-clause-usage g c = λ is. omega (arith, c.if-callers-shape.true)
+
+pub returns-then-callers-shape-clause-steady : goal.returns-then-callers-shape-clause-steady
+returns-then-callers-shape-clause-steady g c = λ steady is. subst IsEarly (sym is) tt
+
+pub returns-then-callers-shape-clause-counts : goal.returns-then-callers-shape-clause-counts
+returns-then-callers-shape-clause-counts g c = λ sink. (c.in-Ok-open.ensures.kept, refl, c.into_media.ensures.faults ∙ c.in-Ok-open.ensures.attached.faults)
+
+pub returns-clause-enough : goal.returns-clause-enough
+returns-clause-enough g c = omega (arith, c.if-callers-shape.false, ap (λ s. s.numbers) c.shape.ensures)

@@ -1,0 +1,57 @@
+-- What a run leaves on a medium that tells its bytes, and what it writes, by its status.
+use Rattle.std.specs.Prelude.{ℕ, ◌≡◌, ◌+◌, ◌≤◌, ◌⊎◌, List, [], Bool, true, IsFalse, ⊤}
+use Rattle.pcm_media.specs.Images.{Content, MayLeave, Touched}
+use Rattle.pcm_media.specs.View.{View}
+use Rattle.array_shape.specs.declared.shape.Shape.{Shape}
+use Rattle.array_shape.specs.Places.{media_len}
+use Rattle.row_bytes.specs.Header.{HasMark, SaysShape, IsBadIn}
+use Rattle.device_recovery.specs.Recovered.{HasNoVote}
+use Rattle.eaw_device.specs.Opens.{header_of, Opens, AllOpen, OpensLike, HasBadRow, HoldsArray, opening_calls}
+use Rattle.record_table.specs.Upgrading.{upgraded}
+use Rattle.texts.specs.Written.{IsWritten}
+use Rattle.script_run.specs.declared.ended.Ended.{Ended}
+use Rattle.script_run.specs.declared.ended.Ended.TheVariants as script
+use Rattle.array_runs.specs.declared.status.Status.{Status}
+use Rattle.array_runs.specs.declared.status.Status.TheVariants.{Good, Usage, WriteFault, MediaFault, NoMemory, Damaged, BadRow, NotMars, BadShape, Refused, BadFrame, Gap}
+
+-- an image opens with the data of one that could be left at first, once that data is in version 2
+abbrev pub OpensInTwo : Shape → Content → List ℕ → Type 0
+OpensInTwo shape content image = (earlier : List ℕ) × MayLeave content earlier × (bytes : List ℕ) × Opens shape earlier bytes × Opens shape image (upgraded bytes)
+
+-- No line was answered, for this cause, and nothing was written to the sink. If all that a loss of power could leave at first opens, then
+-- no moment is repeated, and all that it might have left since opens with data of one of those images, or, unless the data was spared, with
+-- such data in version 2. Nothing was written to the medium unless MayWrite holds.
+pub record Idle (spares : Bool) (MayWrite Cause : Type 0) (old new : View) (cut : Bool) (text : List ℕ) : Type 0 where
+  pub silent : IsWritten cut text []
+  pub later : (shape : Shape) → AllOpen shape old.content → old.moment ≤ new.moment
+  pub keeps : (shape : Shape) → AllOpen shape old.content → (image : List ℕ) → new.left_since old.moment image → OpensLike shape old.content image ⊎ (IsFalse spares × OpensInTwo shape old.content image)
+  pub spared : Touched [] old.content new.content ⊎ MayWrite
+  pub cause : Cause
+
+-- memory ran out: no call of the medium was made, or just one, and then the header says the shape of an array of the medium's length
+abbrev pub IsShort : View → View → Type 0
+IsShort old new = (new.moment ≡ old.moment)
+    ⊎ ((new.moment ≡ old.moment + 1) × (shape : Shape) × SaysShape (header_of old.content.bytes) shape × (old.size ≡ media_len shape))
+
+-- if no row is voted, the medium failed within the calls of an opening
+abbrev pub IsWithin : View → View → Type 0
+IsWithin old new = (shape : Shape) → SaysShape (header_of old.content.bytes) shape → HasNoVote shape old.content.bytes → new.moment ≤ old.moment + opening_calls shape
+
+-- What was written and done, by the status: the work over an array that was opened, or that there was none to open. The medium may be
+-- written only if it holds an array. Looks says that the records of the array are read before the work, so that the medium may fail and
+-- memory run out meanwhile, and then data that is not spared may be in version 2. Broken says which page may be named as damaged, and Lacks why the words do not fit the array.
+abbrev pub OutcomeOf : Bool → (Ended → Type 0) → (ℕ → Type 0) → (Looks Lacks : Type 0) → View → Status → View → Bool → List ℕ → Type 0
+OutcomeOf spares Works Broken Looks Lacks old Good new cut text = Works script.All
+OutcomeOf spares Works Broken Looks Lacks old WriteFault new cut text = Works script.WriteFault
+OutcomeOf spares Works Broken Looks Lacks old MediaFault new cut text = Idle spares (HoldsArray old) (IsWithin old new ⊎ Looks) old new cut text ⊎ Works script.MediaFault
+OutcomeOf spares Works Broken Looks Lacks old NoMemory new cut text = Idle true ⊥ (IsShort old new) old new cut text ⊎ (Idle spares (HoldsArray old) Looks old new cut text ⊎ Works script.NoMemory)
+OutcomeOf spares Works Broken Looks Lacks old (Damaged page) new cut text = Idle true (HoldsArray old) (Broken page) old new cut text
+OutcomeOf spares Works Broken Looks Lacks old (BadRow logger tid) new cut text = Idle true ⊥ (HasBadRow old logger tid) old new cut text
+OutcomeOf spares Works Broken Looks Lacks old NotMars new cut text = Idle true ⊥ (512 ≤ old.size → HasMark (header_of old.content.bytes) → ⊥) old new cut text
+OutcomeOf spares Works Broken Looks Lacks old (BadShape which given) new cut text =
+    Idle true ⊥ ((512 ≤ old.size) × HasMark (header_of old.content.bytes) × IsBadIn (header_of old.content.bytes) old.size which given) old new cut text
+OutcomeOf spares Works Broken Looks Lacks old (Refused refusal) new cut text = ⊥
+OutcomeOf spares Works Broken Looks Lacks old (BadFrame n) new cut text = ⊥
+OutcomeOf spares Works Broken Looks Lacks old (Gap expected got) new cut text = ⊥
+OutcomeOf spares Works Broken Looks Lacks old Usage new cut text = Idle true (HoldsArray old) Lacks old new cut text
+OutcomeOf spares Works Broken Looks Lacks old _ new cut text = Idle true (HoldsArray old) ⊤ old new cut text

@@ -1,0 +1,68 @@
+use Rattle.std.proofs.Common.{◌≡◌, ◌+◌, ◌<◌, ◌≤◌, ℕ, Bool, false, true, List, [], ◌∷◌, Some, length, refl, sym, ◌∙◌, ap, subst, arith}
+use Rattle.std.proofs.lemmas.Bool.{false≢true}
+use Rattle.page_store.specs.Pairs.{Pair, found}
+use Rattle.index_pages.specs.Page.{pairs_said, level_of, page_pairs}
+use Rattle.index_pages.specs.Ways.{IsOwn, above}
+use Rattle.index_pages.specs.Keys.{key_end}
+use Rattle.index_pages.proofs.Sizes.{slots_are, index_pages_are}
+use Rattle.btree_laws.proofs.Ways.{way_own}
+use Rattle.btree_laws.specs.Descent.{leaf_for}
+use Rattle.btree_laws.specs.Sound.{IsTree}
+use Rattle.btree_pages.specs.Index.{adding}
+use Rattle.btree_pages.specs.Trees.{whole_of, table_sound}
+use Rattle.btree_pages.proofs.Crowds.{crowded_two, open_leaf, length-pairs_said}
+use Rattle.btree_pages.proofs.Given.{given_found}
+use Rattle.btree_pages.proofs.Whole.{above_all}
+use Rattle.btree_pages.proofs.look.find_place.Goals as goal
+
+pub returns-then-slot-from-clause-cause : goal.returns-then-slot-from-clause-cause
+returns-then-slot-from-clause-cause g c =
+    let view = g.S.EawStore.view c.args.pages.now.store in (
+      c.in-Ok.ensures.cause,
+      λ told.
+          let at = c.in-Ok.ensures.leaf told in
+          let some : found (pairs_said c.descend.new.bytes) c.args.key ≡ Some c.in-Some.slot = sym c.slot_in.ensures ∙ c.in-Some.is in
+          let given = given_found view.state.bytes c.args.root.table c.args.key c.in-Some.slot (pairs_said c.descend.new.bytes) at.given some in
+          omega (arith, given, (whole_of view.state.bytes (c.requires.sound told c.in-Ok.ensures.cause)).front.slots, slots_are view.shape view.state.bytes (g.met.S.EawStore.long c.args.pages.now.store told), c.index_page_count-count.ensures.all, c.if-slot-from.true, c.from.ensures),
+    )
+
+pub returns-then-full-clause-place : goal.returns-then-full-clause-place
+returns-then-full-clause-place g c = λ told. crowded_two (g.S.EawStore.view c.args.pages.now.store).state.bytes c.args.root.page c.args.key (sym (c.in-Ok.ensures.full told).1 ∙ c.if-full.true)
+
+pub returns-then-not-is_index_page-clause-cause : goal.returns-then-not-is_index_page-clause-cause
+returns-then-not-is_index_page-clause-cause g c =
+    let view = g.S.EawStore.view c.args.pages.now.store in (
+      c.in-Ok.ensures.cause,
+      λ told.
+          let bytes = view.state.bytes in
+          let root = c.args.root in
+          let sound = table_sound (g.S.EawStore.view c.args.pages.now.store).state.bytes c.args.root (c.requires.sound told c.in-Ok.ensures.cause) (c.requires.named told c.in-Ok.ensures.cause) in
+          let tree : IsTree c.args.root (above (level_of (g.S.EawStore.view c.args.pages.now.store).state.bytes c.args.root.page) 0) (g.S.EawStore.view c.args.pages.now.store).state.bytes c.args.root.page 0 key_end =
+          subst (λ (n : ℕ). IsTree c.args.root n (g.S.EawStore.view c.args.pages.now.store).state.bytes c.args.root.page 0 key_end) (above_all (level_of (g.S.EawStore.view c.args.pages.now.store).state.bytes c.args.root.page)) sound.2 in
+          let own : IsOwn (g.S.EawStore.view c.args.pages.now.store).state.bytes (leaf_for (g.S.EawStore.view c.args.pages.now.store).state.bytes c.args.root.page c.args.key) =
+          way_own root (level_of bytes root.page) 0 bytes c.args.key root.page 0 key_end sound.0 tree (omega arith) (omega arith) in
+          let here = (c.in-Ok.ensures.full told).0 in
+          let less : c.in-Ok.leaf.page < c.index_page_count-count.result = omega (arith, own.1, here, (whole_of view.state.bytes (c.requires.sound told c.in-Ok.ensures.cause)).front.pages, index_pages_are view.shape bytes (g.met.S.EawStore.long c.args.pages.now.store told), c.index_page_count-count.ensures.count) in
+          false≢true (c.if-not-is_index_page.ensures.1 (omega (arith, own.0, here), less)),
+    )
+
+pub returns-clause-place : goal.returns-clause-place
+returns-clause-place g c = λ told.
+    let bytes = (g.S.EawStore.view c.args.pages.now.store).state.bytes in
+    let full = c.in-Ok.ensures.full told in
+    record {
+      page_is = full.0;
+      pairs_are = c.read_pairs.ensures.pairs ∙ (c.in-Ok.ensures.leaf told).pairs ∙ ap (λ (p : ℕ). page_pairs bytes p) (sym full.0);
+      alone = open_leaf bytes c.args.root.page c.args.key (sym full.1 ∙ c.if-full.false) ∙ ap (λ (p : ℕ). adding bytes p ∷ []) (sym full.0);
+    }
+
+pub returns-clause-inside : goal.returns-clause-inside
+returns-clause-inside g c =
+    let inside = c.if-not-is_index_page.ensures.0 refl in
+    let room : c.in-Ok.leaf.count < 30 = c.in-Ok.ensures.room c.if-full.false in
+    record {
+      some = inside.0;
+      inside = subst (λ (k : ℕ). c.in-Ok.leaf.page < k) c.index_page_count-count.ensures.count inside.1;
+      room = omega (arith, room, c.in-Ok.ensures.count, ap (λ (ps : List Pair). length ps) c.read_pairs.ensures.pairs, length-pairs_said c.descend.new.bytes);
+      small = c.read_pairs.ensures.small;
+    }

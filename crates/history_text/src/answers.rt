@@ -1,0 +1,62 @@
+// What readers were answered.
+ghost use Rattle.std.specs.Prelude.{◌≡◌, ◌++◌, ◌≤◌, length, OnOk};
+ghost use Rattle.std.specs.List.{flat_map};
+ghost use Rattle.history_text.specs.Text.{answer_line, answer_lines, found_text};
+
+use mars_base::NoMemory;
+use reader_work::{Answer, Answers};
+use record_slots::Value;
+use texts::{Piece, append_pieces};
+
+/// Appends the lines of all readers, which are numbered from 0. At `Err` some of them may have been appended.
+pub fn write_answers(text: &mut Vec<u8>, told: &[Answers]) -> Result<(), NoMemory>
+    requires few { length told.now ≤ 255 }
+    ensures { OnOk result (text.new.items ≡ text.old.items ++ answer_lines told.now) }
+{
+    for (reader, answers) in told.iter().enumerate() {
+        write_reader(text, reader as u8, answers.as_slice())?;
+    }
+    Ok(())
+}
+
+// Appends a line for each answer of a reader.
+fn write_reader(text: &mut Vec<u8>, reader: u8, answers: &[Answer]) -> Result<(), NoMemory>
+    ensures { OnOk result (text.new.items ≡ text.old.items ++ flat_map (answer_line reader) answers.now) }
+{
+    for answer in answers {
+        write_answer(text, reader, answer)?;
+    }
+    Ok(())
+}
+
+fn write_answer(text: &mut Vec<u8>, reader: u8, answer: &Answer) -> Result<(), NoMemory>
+    ensures { OnOk result (text.new.items ≡ text.old.items ++ answer_line reader answer.now) }
+{
+    append_pieces(
+        text,
+        &[
+            Piece::Words(b"read "),
+            Piece::Number(u64::from(reader)),
+            Piece::Words(b" "),
+            Piece::Number(answer.key),
+            Piece::Words(b" at "),
+            Piece::Number(answer.at),
+            Piece::Words(b" "),
+        ],
+    )?;
+    write_found(text, &answer.value)?;
+    text.extend_from_slice(b"\n")?;
+    Ok(())
+}
+
+fn write_found(text: &mut Vec<u8>, value: &Option<Value>) -> Result<(), NoMemory>
+    ensures { OnOk result (text.new.items ≡ text.old.items ++ found_text value.now) }
+{
+    match value {
+        Some(value) => append_pieces(
+            text,
+            &[Piece::Words(b"val "), Piece::Words(value.as_bytes())],
+        ),
+        None => append_pieces(text, &[Piece::Words(b"none")]),
+    }
+}

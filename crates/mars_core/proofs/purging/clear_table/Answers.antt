@@ -1,0 +1,154 @@
+use Rattle.std.proofs.Common.{◌≡◌, ◌≤◌, ◌<◌, ◌+◌, ◌^◌, ℕ, suc, [], min, Bool, true, Some, None, Option, Ok, Err, Result, false, IsTrue, List, refl, sym, ap, subst, ◌∙◌, arith, length}
+use Rattle.std.specs.Prelude.{slice_get, unwrap_or}
+use Rattle.array_shape.specs.declared.shape.Shape.{Shape}
+use Rattle.eaw_face.specs.Causes.{IsAlive}
+use Rattle.history.specs.Key.{of_table}
+use Rattle.history.specs.declared.key.Key.{Key}
+use Rattle.page_store.specs.Index.{Index}
+use Rattle.page_store.specs.Looks.{Looks}
+use Rattle.page_store.specs.Shown.{PagesView, pages_of}
+use Rattle.record_table.specs.Does.{is_failed}
+use Rattle.record_table.specs.Names.{names_of, name_at}
+use Rattle.record_table.specs.Removing.{IsAbsent, IsNextAbsent}
+use Rattle.record_table.specs.declared.fault.TableFault.{TableFault}
+use Rattle.mars_core.specs.Purging.{IsBelow, IsOfTable, IsReady, Tries, Clears}
+use Rattle.mars_core.proofs.Clearing.{Going, one_if, going_first, going_look, going_on, going_to, next_still, all_tried, counted, was_absent, look_refused, try_refused}
+use Rattle.mars_core.proofs.Passing.{there, all_below, below_next, below_none}
+use Rattle.mars_core.proofs.purging.clear_table.Given.{Over}
+use Rattle.mars_core.proofs.purging.clear_table.Goals as goal
+
+-- what is found is found in the table of this name
+named_next : (names : List (List ℕ)) (table : ℕ) (name : List ℕ) (index : Index) (bytes : List ℕ) (from : ℕ) (found : Option ℕ) → names_of bytes ≡ names → slice_get names table ≡ Some name
+    → IsNextAbsent index bytes (name_at bytes table) from found → IsNextAbsent index bytes name from found
+named_next names table name index bytes from found same at next =
+    subst (λ (n : List ℕ). IsNextAbsent index bytes n from found) (ap (λ (ns : List (List ℕ)). unwrap_or (slice_get ns table) []) same ∙ ap (λ (o : Option (List ℕ)). unwrap_or o []) at) next
+
+pub returns-in-Ok-None : goal.returns-in-Ok-None
+returns-in-Ok-None g c =
+    let V = g.S.EawStore.view in
+    let T = g.S.EawStore.tells in
+    let I = g.K.KeyIndex.index in
+    let E = g.S.EawStore.opens (V c.args.records.now.store).shape in
+    let p = pages_of (V c.args.records.now.store) c.args.records.now in
+    let m = pages_of (V c.loop-key.records.store) c.loop-key.records in
+    let q = pages_of (V c.next_absent.new.self.store) c.next_absent.new.self in
+    let looks = subst (λ (s : Shape). Looks g.S.EawStore.tells (g.S.EawStore.opens s) false (pages_of (g.S.EawStore.view c.loop-key.records.store) c.loop-key.records) (pages_of (g.S.EawStore.view c.next_absent.new.self.store) c.next_absent.new.self)) c.loop-key.invariant.shape c.in-Ok-None.ensures.looks in
+    let going = going_look T E I c.args.seats.now c.args.caller p c.requires.alive (IsBelow c.args.name.now c.loop-key.from) c.loop-key.taken m c.loop-key.invariant q looks in
+    let next = λ (told : IsTrue g.S.EawStore.tells). next_still T E I m q c.args.name.now c.loop-key.from (None) looks told (named_next c.args.seats.now.names c.args.table c.args.name.now I (V c.loop-key.records.store).state.bytes c.loop-key.from (None) (c.loop-key.invariant.ready told).named c.requires.named (rw c.in-Ok-None.field-0-is at (c.in-Ok-None.ensures.next told))) in
+    record {
+      clears = all_tried T E I c.args.seats.now c.args.caller p c.requires.alive (IsBelow c.args.name.now c.loop-key.from) c.loop-key.taken q going (IsOfTable c.args.name.now) (λ told. all_below I q.store.state.bytes c.args.name.now c.loop-key.from (next told));
+    }
+
+pub next_absent-requires-clause-there : goal.next_absent-requires-clause-there
+next_absent-requires-clause-there g c = λ told alive.
+    subst (λ (ns : List (List ℕ)). c.args.table < length ns) (sym (c.loop-key.invariant.ready told).named) (there c.args.seats.now.names c.args.table c.args.name.now c.requires.named)
+
+pub try_key-requires-clause-ready : goal.try_key-requires-clause-ready
+try_key-requires-clause-ready g c =
+    let V = g.S.EawStore.view in
+    let T = g.S.EawStore.tells in
+    let I = g.K.KeyIndex.index in
+    let E = g.S.EawStore.opens (V c.args.records.now.store).shape in
+    let p = pages_of (V c.args.records.now.store) c.args.records.now in
+    let m = pages_of (V c.loop-key.records.store) c.loop-key.records in
+    let q = pages_of (V c.next_absent.new.self.store) c.next_absent.new.self in
+    let looks = subst (λ (s : Shape). Looks g.S.EawStore.tells (g.S.EawStore.opens s) false (pages_of (g.S.EawStore.view c.loop-key.records.store) c.loop-key.records) (pages_of (g.S.EawStore.view c.next_absent.new.self.store) c.next_absent.new.self)) c.loop-key.invariant.shape c.in-Ok-Some.ensures.looks in
+    (going_look T E I c.args.seats.now c.args.caller p c.requires.alive (IsBelow c.args.name.now c.loop-key.from) c.loop-key.taken m c.loop-key.invariant q looks).ready
+
+pub try_key-requires-clause-absent : goal.try_key-requires-clause-absent
+try_key-requires-clause-absent g c =
+    let V = g.S.EawStore.view in
+    let T = g.S.EawStore.tells in
+    let I = g.K.KeyIndex.index in
+    let E = g.S.EawStore.opens (V c.args.records.now.store).shape in
+    let p = pages_of (V c.args.records.now.store) c.args.records.now in
+    let m = pages_of (V c.loop-key.records.store) c.loop-key.records in
+    let q = pages_of (V c.next_absent.new.self.store) c.next_absent.new.self in
+    let looks = subst (λ (s : Shape). Looks g.S.EawStore.tells (g.S.EawStore.opens s) false (pages_of (g.S.EawStore.view c.loop-key.records.store) c.loop-key.records) (pages_of (g.S.EawStore.view c.next_absent.new.self.store) c.next_absent.new.self)) c.loop-key.invariant.shape c.in-Ok-Some.ensures.looks in
+    let next = λ (told : IsTrue g.S.EawStore.tells). next_still T E I m q c.args.name.now c.loop-key.from (Some c.in-Ok-Some.key) looks told (named_next c.args.seats.now.names c.args.table c.args.name.now I (V c.loop-key.records.store).state.bytes c.loop-key.from (Some c.in-Ok-Some.key) (c.loop-key.invariant.ready told).named c.requires.named (rw c.in-Ok-Some.field-0-is at (c.in-Ok-Some.ensures.next told))) in
+    (λ told. (next told).1)
+
+-- the count after a key was tried
+count_is : (was : Bool) (taken one sum : ℕ) → one ≡ mir.Val.bool_byte was → sum ≡ min (taken + one) 4294967295 → taken + one_if was < 2 ^ 32 → sum ≡ taken + one_if was
+count_is true taken one sum is total lt = omega (arith, is, total, lt)
+count_is false taken one sum is total lt = omega (arith, is, total, lt)
+
+pub loop-key-preserved : goal.loop-key-preserved
+loop-key-preserved g c =
+    let V = g.S.EawStore.view in
+    let T = g.S.EawStore.tells in
+    let I = g.K.KeyIndex.index in
+    let E = g.S.EawStore.opens (V c.args.records.now.store).shape in
+    let p = pages_of (V c.args.records.now.store) c.args.records.now in
+    let m = pages_of (V c.loop-key.records.store) c.loop-key.records in
+    let q = pages_of (V c.next_absent.new.self.store) c.next_absent.new.self in
+    let looks = subst (λ (s : Shape). Looks g.S.EawStore.tells (g.S.EawStore.opens s) false (pages_of (g.S.EawStore.view c.loop-key.records.store) c.loop-key.records) (pages_of (g.S.EawStore.view c.next_absent.new.self.store) c.next_absent.new.self)) c.loop-key.invariant.shape c.in-Ok-Some.ensures.looks in
+    let going = going_look T E I c.args.seats.now c.args.caller p c.requires.alive (IsBelow c.args.name.now c.loop-key.from) c.loop-key.taken m c.loop-key.invariant q looks in
+    let next = λ (told : IsTrue g.S.EawStore.tells). next_still T E I m q c.args.name.now c.loop-key.from (Some c.in-Ok-Some.key) looks told (named_next c.args.seats.now.names c.args.table c.args.name.now I (V c.loop-key.records.store).state.bytes c.loop-key.from (Some c.in-Ok-Some.key) (c.loop-key.invariant.ready told).named c.requires.named (rw c.in-Ok-Some.field-0-is at (c.in-Ok-Some.ensures.next told))) in
+    let r = pages_of (V c.try_key.new.records.store) c.try_key.new.records in
+    let key = of_table c.args.name.now c.in-Ok-Some.key in
+    let tries = subst (λ (s : Shape). Tries g.S.EawStore.tells (g.S.EawStore.opens s) g.K.KeyIndex.index c.args.seats.now c.args.table (of_table c.args.name.now c.in-Ok-Some.key) (pages_of (g.S.EawStore.view c.next_absent.new.self.store) c.next_absent.new.self) (pages_of (g.S.EawStore.view c.try_key.new.records.store) c.try_key.new.records) (Ok c.in-Ok.was)) going.shape c.in-Ok.ensures.tries in
+    let on = going_on T E I c.args.seats.now c.args.caller p c.requires.alive (IsBelow c.args.name.now c.loop-key.from) c.loop-key.taken q going c.args.table key r (λ told. (next told).1) c.in-Ok.was tries in
+    let count = λ (told : IsTrue g.S.EawStore.tells). count_is c.in-Ok.was c.loop-key.taken c.from.result c.saturating_add-taken.result c.from.ensures c.saturating_add-taken.ensures (counted T E I c.args.seats.now c.args.caller p c.requires.alive (IsBelow c.args.name.now c.loop-key.from) c.loop-key.taken q going c.args.table key r (λ told. (next told).1) c.in-Ok.was tries told (c.requires.ready told)) in
+    let passed = λ (told : IsTrue g.S.EawStore.tells) (to : ℕ) (le : to ≤ suc c.in-Ok-Some.key) (one : Key) (below : IsBelow c.args.name.now to one) (is : IsAbsent g.K.KeyIndex.index (g.S.EawStore.view c.try_key.new.records.store).state.bytes one).
+    below_next I q.store.state.bytes c.args.name.now c.loop-key.from c.in-Ok-Some.key (next told).2 one (below.0, omega (arith, le, below.1)) (was_absent T E I c.args.seats.now c.args.caller p c.requires.alive (IsBelow c.args.name.now c.loop-key.from) c.loop-key.taken q going c.args.table key r (λ told. (next told).1) c.in-Ok.was tries told one is) in
+    going_to T E I c.args.seats.now c.args.caller (c.loop-key.taken + one_if c.in-Ok.was) c.saturating_add-taken.result _ (IsBelow c.args.name.now (c.in-Ok-Some.key + 1)) p r count (λ told. passed told (c.in-Ok-Some.key + 1) (omega arith)) on
+
+pub returns-then-key : goal.returns-then-key
+returns-then-key g c =
+    let V = g.S.EawStore.view in
+    let T = g.S.EawStore.tells in
+    let I = g.K.KeyIndex.index in
+    let E = g.S.EawStore.opens (V c.args.records.now.store).shape in
+    let p = pages_of (V c.args.records.now.store) c.args.records.now in
+    let m = pages_of (V c.loop-key.records.store) c.loop-key.records in
+    let q = pages_of (V c.next_absent.new.self.store) c.next_absent.new.self in
+    let looks = subst (λ (s : Shape). Looks g.S.EawStore.tells (g.S.EawStore.opens s) false (pages_of (g.S.EawStore.view c.loop-key.records.store) c.loop-key.records) (pages_of (g.S.EawStore.view c.next_absent.new.self.store) c.next_absent.new.self)) c.loop-key.invariant.shape c.in-Ok-Some.ensures.looks in
+    let going = going_look T E I c.args.seats.now c.args.caller p c.requires.alive (IsBelow c.args.name.now c.loop-key.from) c.loop-key.taken m c.loop-key.invariant q looks in
+    let next = λ (told : IsTrue g.S.EawStore.tells). next_still T E I m q c.args.name.now c.loop-key.from (Some c.in-Ok-Some.key) looks told (named_next c.args.seats.now.names c.args.table c.args.name.now I (V c.loop-key.records.store).state.bytes c.loop-key.from (Some c.in-Ok-Some.key) (c.loop-key.invariant.ready told).named c.requires.named (rw c.in-Ok-Some.field-0-is at (c.in-Ok-Some.ensures.next told))) in
+    let r = pages_of (V c.try_key.new.records.store) c.try_key.new.records in
+    let key = of_table c.args.name.now c.in-Ok-Some.key in
+    let tries = subst (λ (s : Shape). Tries g.S.EawStore.tells (g.S.EawStore.opens s) g.K.KeyIndex.index c.args.seats.now c.args.table (of_table c.args.name.now c.in-Ok-Some.key) (pages_of (g.S.EawStore.view c.next_absent.new.self.store) c.next_absent.new.self) (pages_of (g.S.EawStore.view c.try_key.new.records.store) c.try_key.new.records) (Ok c.in-Ok.was)) going.shape c.in-Ok.ensures.tries in
+    let on = going_on T E I c.args.seats.now c.args.caller p c.requires.alive (IsBelow c.args.name.now c.loop-key.from) c.loop-key.taken q going c.args.table key r (λ told. (next told).1) c.in-Ok.was tries in
+    let count = λ (told : IsTrue g.S.EawStore.tells). count_is c.in-Ok.was c.loop-key.taken c.from.result c.saturating_add-taken.result c.from.ensures c.saturating_add-taken.ensures (counted T E I c.args.seats.now c.args.caller p c.requires.alive (IsBelow c.args.name.now c.loop-key.from) c.loop-key.taken q going c.args.table key r (λ told. (next told).1) c.in-Ok.was tries told (c.requires.ready told)) in
+    let passed = λ (told : IsTrue g.S.EawStore.tells) (to : ℕ) (le : to ≤ suc c.in-Ok-Some.key) (one : Key) (below : IsBelow c.args.name.now to one) (is : IsAbsent g.K.KeyIndex.index (g.S.EawStore.view c.try_key.new.records.store).state.bytes one).
+    below_next I q.store.state.bytes c.args.name.now c.loop-key.from c.in-Ok-Some.key (next told).2 one (below.0, omega (arith, le, below.1)) (was_absent T E I c.args.seats.now c.args.caller p c.requires.alive (IsBelow c.args.name.now c.loop-key.from) c.loop-key.taken q going c.args.table key r (λ told. (next told).1) c.in-Ok.was tries told one is) in
+    record {
+      clears = all_tried T E I c.args.seats.now c.args.caller p c.requires.alive (IsBelow c.args.name.now (2 ^ 64)) c.saturating_add-taken.result r
+          (going_to T E I c.args.seats.now c.args.caller (c.loop-key.taken + one_if c.in-Ok.was) c.saturating_add-taken.result _ (IsBelow c.args.name.now (2 ^ 64)) p r count (λ told. passed told (2 ^ 64) (omega (arith, c.if-key.true))) on)
+          (IsOfTable c.args.name.now) (λ told one wanted is. wanted);
+    }
+
+pub loop-key-init : goal.loop-key-init
+loop-key-init g c =
+    let V = g.S.EawStore.view in
+    let p = pages_of (V c.args.records.now.store) c.args.records.now in
+    going_first g.S.EawStore.tells (g.S.EawStore.opens (V c.args.records.now.store).shape) g.K.KeyIndex.index c.args.seats.now c.args.caller p c.requires.alive (IsBelow c.args.name.now 0) (below_none c.args.name.now) c.requires.ready
+
+pub returns-in-Err : goal.returns-in-Err
+returns-in-Err g c =
+    let V = g.S.EawStore.view in
+    let T = g.S.EawStore.tells in
+    let I = g.K.KeyIndex.index in
+    let E = g.S.EawStore.opens (V c.args.records.now.store).shape in
+    let p = pages_of (V c.args.records.now.store) c.args.records.now in
+    let m = pages_of (V c.loop-key.records.store) c.loop-key.records in
+    let q = pages_of (V c.next_absent.new.self.store) c.next_absent.new.self in
+    let looks = subst (λ (s : Shape). Looks g.S.EawStore.tells (g.S.EawStore.opens s) (let r : Result (Option ℕ) TableFault = Err c.in-Err.fault in is_failed r) (pages_of (g.S.EawStore.view c.loop-key.records.store) c.loop-key.records) (pages_of (g.S.EawStore.view c.next_absent.new.self.store) c.next_absent.new.self)) c.loop-key.invariant.shape c.in-Err.ensures.looks in
+    record { clears = look_refused T E I c.args.seats.now c.args.caller p c.requires.alive (IsBelow c.args.name.now c.loop-key.from) c.loop-key.taken m c.loop-key.invariant (IsOfTable c.args.name.now) q c.in-Err.fault (looks, c.in-Err.ensures.cause) }
+
+pub returns-in-Err-try_key : goal.returns-in-Err-try_key
+returns-in-Err-try_key g c =
+    let V = g.S.EawStore.view in
+    let T = g.S.EawStore.tells in
+    let I = g.K.KeyIndex.index in
+    let E = g.S.EawStore.opens (V c.args.records.now.store).shape in
+    let p = pages_of (V c.args.records.now.store) c.args.records.now in
+    let m = pages_of (V c.loop-key.records.store) c.loop-key.records in
+    let q = pages_of (V c.next_absent.new.self.store) c.next_absent.new.self in
+    let looks = subst (λ (s : Shape). Looks g.S.EawStore.tells (g.S.EawStore.opens s) false (pages_of (g.S.EawStore.view c.loop-key.records.store) c.loop-key.records) (pages_of (g.S.EawStore.view c.next_absent.new.self.store) c.next_absent.new.self)) c.loop-key.invariant.shape c.in-Ok-Some.ensures.looks in
+    let going = going_look T E I c.args.seats.now c.args.caller p c.requires.alive (IsBelow c.args.name.now c.loop-key.from) c.loop-key.taken m c.loop-key.invariant q looks in
+    let r = pages_of (V c.try_key.new.records.store) c.try_key.new.records in
+    let key = of_table c.args.name.now c.in-Ok-Some.key in
+    let tries = subst (λ (s : Shape). Tries g.S.EawStore.tells (g.S.EawStore.opens s) g.K.KeyIndex.index c.args.seats.now c.args.table (of_table c.args.name.now c.in-Ok-Some.key) (pages_of (g.S.EawStore.view c.next_absent.new.self.store) c.next_absent.new.self) (pages_of (g.S.EawStore.view c.try_key.new.records.store) c.try_key.new.records) (Err c.in-Err-try_key.fault)) going.shape c.in-Err-try_key.ensures.tries in
+    record { clears = try_refused T E I c.args.seats.now c.args.caller p c.requires.alive (IsBelow c.args.name.now c.loop-key.from) c.loop-key.taken q going c.args.table key r (IsOfTable c.args.name.now) c.in-Err-try_key.fault tries }

@@ -1,0 +1,86 @@
+use Rattle.std.proofs.Common.{[], false, ⊎_elim, refl, sym, subst, ◌∙◌, arith}
+use Rattle.std.proofs.lemmas.List.{append-nil}
+use Rattle.array_runs.specs.Records.{OverRecords}
+use Rattle.array_runs.specs.Statuses.{IsEarly, IsRefusal}
+use Rattle.array_runs.specs.declared.status.Status.{Status}
+use Rattle.array_runs.proofs.Endings.{served_late, served_refused, served_usage, input_read}
+use Rattle.mars_shell.specs.FramedRun.{TakesFramed}
+use Rattle.mars_shell.proofs.Endings.{served}
+use Rattle.mars_shell.proofs.FramedOutcomes.{framed_outcome, framed_none}
+use Rattle.mars_shell.proofs.framed_run.run_framed.Goals as goal
+
+pub returns-in-Err-clause-ran : goal.returns-in-Err-clause-ran
+returns-in-Err-clause-ran g c =
+    let old = g.M.Media.view c.args.media in
+    let new = g.M.Media.view c.in-Err.ended.1 in
+    let input = g.S.Source.left c.args.source.now in
+    record {
+      cut = false;
+      text = [];
+      wrote = λ _. sym (append-nil _);
+      counts = refl;
+      holds = (
+        input,
+        (λ _. refl),
+        λ told. framed_none g.B.WriteBack.defers input old c.in-Err.ended.0 new false [] (c.in-Err.ensures.outcome told),
+      );
+    }
+
+pub returns-in-Err-clause-no_usage : goal.returns-in-Err-clause-no_usage
+returns-in-Err-clause-no_usage g c = λ is. omega (arith, c.in-Err.ensures.usage is)
+
+pub returns-in-Err-clause-early : goal.returns-in-Err-clause-early
+returns-in-Err-clause-early g c = λ early. (c.in-Err.ensures.early early).1
+
+pub returns-in-Err-clause-counts : goal.returns-in-Err-clause-counts
+returns-in-Err-clause-counts g c = c.in-Err.ensures.counts _
+
+pub returns-in-Err-clause-steady : goal.returns-in-Err-clause-steady
+returns-in-Err-clause-steady g c = c.in-Err.ensures.steady
+
+pub returns-in-Err-clause-input : goal.returns-in-Err-clause-input
+returns-in-Err-clause-input g c = c.in-Err.ensures.input refl
+
+pub returns-clause-ran : goal.returns-clause-ran
+returns-clause-ran g c =
+    let media = g.M.Media in
+    let met = (g.met.M.Media g.world.𝓛 g.world.𝓜 g.world.𝓡 ((λ s x. x), (λ x. x), (λ x. x), λ x. x)) in
+    let old = media.view c.args.media in
+    let new = media.view c.into_media.result in
+    let said = c.serve_framed-served.ensures.served in
+    let input = c.in-Ok.opened.1.items in
+    record {
+      cut = said.cut;
+      text = said.text;
+      wrote = said.wrote;
+      counts = said.counts;
+      holds = (
+        input,
+        c.in-Ok.ensures.read refl,
+        λ told.
+            subst (λ (s : Status). OverRecords false 0 (λ ended. TakesFramed g.B.WriteBack.defers input said.cut said.text old ended new) old s new said.cut said.text) (sym c.served_status.ensures)
+            (framed_outcome media.tells told old (met.only_now c.args.media) _ c.in-Ok.ensures.attached c.in-Ok.ensures.keeps g.B.WriteBack.defers _ new c.into_media.ensures (met.counts_now c.into_media.result)
+            input said.cut said.text c.serve_framed-served.result.0 (rw c.deref.ensures.value at (said.holds told))),
+      );
+    }
+
+pub returns-clause-no_usage : goal.returns-clause-no_usage
+returns-clause-no_usage g c = λ is. served_usage c.serve_framed-served.result.0 (sym c.served_status.ensures ∙ is)
+
+pub returns-clause-early : goal.returns-clause-early
+returns-clause-early g c = λ early. absurd (served_late c.serve_framed-served.result.0 (subst IsEarly c.served_status.ensures early))
+
+pub returns-clause-silent : goal.returns-clause-silent
+returns-clause-silent g c = λ either. ⊎_elim (λ early. absurd (served_late c.serve_framed-served.result.0 (subst IsEarly c.served_status.ensures early)))
+    (λ refused. served_refused _ c.serve_framed-served.result.0 c.serve_framed-served.ensures.untold (subst IsRefusal c.served_status.ensures refused)) either
+
+pub returns-clause-counts : goal.returns-clause-counts
+returns-clause-counts g c = served c.serve_framed-served.result.0 c.served_status.result _ _ _ _ _ _ _ _ c.served_status.ensures c.in-Ok.ensures.kept c.in-Ok.ensures.attached.faults c.into_media.ensures.faults c.serve_framed-served.ensures.counts
+
+pub returns-clause-steady : goal.returns-clause-steady
+returns-clause-steady g c = λ steady is. served_late c.serve_framed-served.result.0 (subst IsEarly c.served_status.ensures (subst IsEarly (sym is) tt))
+
+pub returns-clause-input : goal.returns-clause-input
+returns-clause-input g c = λ told.
+    let read = c.in-Ok.ensures.ended refl told in
+    input_read c.served_status.result _ _ (λ early. served_late c.serve_framed-served.result.0 (subst IsEarly c.served_status.ensures early)) read.0 read.1

@@ -1,0 +1,82 @@
+-- What a run over records does whose lines are answered with the frames that the array sends.
+use Rattle.std.specs.Prelude.{ℕ, ◌≡◌, ◌⊎◌, List, [], ◌++◌, Bool, true, false, All}
+use Rattle.std.specs.List.{concat}
+use Rattle.pcm_media.specs.View.{View}
+use Rattle.array_shape.specs.declared.shape.Shape.{Shape}
+use Rattle.array_image.specs.Decided.{settled_data}
+use Rattle.eaw_device.specs.Opens.{IsArray}
+use Rattle.eaw_face.specs.Frame.{Frame, IsFrameIn}
+use Rattle.eaw_face.specs.Mirroring.{AreInSequence, followed}
+use Rattle.eaw_face.specs.StoreView.{StoreView}
+use Rattle.page_store.specs.Index.{Index}
+use Rattle.caller_steps.specs.State.{State}
+use Rattle.caller_steps.specs.Room.{Limits}
+use Rattle.caller_steps.specs.Run.{Turn}
+use Rattle.mars_core.specs.Over.{limits_of}
+use Rattle.texts.specs.Written.{IsWritten}
+use Rattle.script_run.specs.Lines.{lines_of}
+use Rattle.script_run.specs.Script.{Script}
+use Rattle.script_run.specs.Transcript.{Answered}
+use Rattle.script_run.specs.declared.ended.Ended.{Ended}
+use Rattle.script_run.specs.declared.ended.Ended.TheVariants.{All as Done, WriteFault, NoMemory}
+use Rattle.frame_lines.specs.Framed.{Framed, framed, lines_of_frames}
+use Rattle.array_runs.specs.Forms.{index_in}
+use Rattle.array_runs.specs.Records.{begun_on}
+use Rattle.mars_shell.specs.Run.{TakesTurns, Answers}
+use Rattle.mars_shell.specs.Standing.{Progress, HasData, line_script}
+
+-- How the lines act: the frames that a call sends are written before its reply. All frames up to a whole reply, applied in order to the data
+-- that was opened, give the data of a state to which the turns so far lead.
+abbrev pub framed_lines : Script (Framed Progress)
+framed_lines = framed HasData line_script
+
+-- no caller has had a turn, and the opening has sent these frames from the data that was opened on
+abbrev pub framed_start : Shape → List ℕ → State → List Frame → Framed Progress
+framed_start shape opened begun sent = record {
+  inner = record { start = record { limits = limits_of shape; state = begun }; turns = []; state = begun };
+  shape = shape;
+  opened = opened;
+  frames = sent;
+}
+
+-- The lines of the frames that the opening has sent were written, and then the lines of the input were answered, each with its frames. If all
+-- are answered, the frames give the data at the end.
+pub record AnswersFramed (first : Framed Progress) (input : List ℕ) (ended : Ended) (cut : Bool) (text : List ℕ) (turns : List Turn) (final : State) : Type 0 where
+  pub answers : List (List ℕ)
+  pub rest : List ℕ
+  pub text_is : text ≡ lines_of_frames first.frames ++ (concat answers ++ rest)
+  pub last : Framed Progress
+  pub answered : Answered framed_lines first 1 (lines_of input) ended cut answers rest last
+  pub turns_are : last.inner.turns ≡ turns
+  pub whole : ended ≡ Done → final.index.bytes ≡ followed last.frames last.opened
+
+-- The frames that the opening has sent are in sequence from 1, and bring the data to that of the callers' first state. Their lines were written
+-- before all else, whole or in part.
+pub record SendsFirst (shape : Shape) (opened : List ℕ) (begun : State) (input : List ℕ) (ended : Ended) (cut : Bool) (text : List ℕ) (turns : List Turn) (final : State) : Type 0 where
+  pub sent : List Frame
+  pub good : All (IsFrameIn shape) sent
+  pub sequence : AreInSequence 1 sent
+  pub brought : begun.index.bytes ≡ followed sent opened
+  pub wrote : AnswersFramed (framed_start shape opened begun sent) input ended cut text turns final
+      ⊎ ((turns ≡ []) × (ended ≡ WriteFault) × (cut ≡ true) × IsWritten true text (lines_of_frames sent))
+
+-- that, or there was no memory to send the frames of the opening, or to write them
+abbrev pub SaysFramed : Shape → List ℕ → State → List ℕ → Ended → Bool → List ℕ → Limits → List Turn → State → Type 0
+SaysFramed shape opened begun input ended cut text limits turns final =
+    SendsFirst shape opened begun input ended cut text turns final ⊎ ((turns ≡ []) × (ended ≡ NoMemory) × (cut ≡ false) × (text ≡ []))
+
+-- the same over the data of a store, under an index
+abbrev pub says_framed : Index → StoreView → List ℕ → Bool → List ℕ → Ended → Limits → List Turn → State → Type 0
+says_framed index store input cut text ended = SaysFramed store.shape store.state.bytes (begun_on false index store.state.bytes) input ended cut text
+
+-- callers took turns over the array's records, and the text is their replies with the frames
+pub record TakesFramed (late : Bool) (input : List ℕ) (cut : Bool) (text : List ℕ) (old : View) (ended : Ended) (new : View) : Type 0 where
+  pub shape : Shape
+  pub array : IsArray shape old
+  pub taken : TakesTurns false late
+      (SaysFramed shape (settled_data shape old.content.bytes) (begun_on false (index_in shape old) (settled_data shape old.content.bytes)) input ended cut text) old ended new
+
+-- with frames or without
+abbrev pub RunsAs : (frames late : Bool) → List ℕ → Bool → List ℕ → View → Ended → View → Type 0
+RunsAs true late input cut text old ended new = TakesFramed late input cut text old ended new
+RunsAs false late input cut text old ended new = TakesTurns false late (Answers input ended cut text) old ended new

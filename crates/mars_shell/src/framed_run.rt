@@ -1,0 +1,149 @@
+// The lines of callers over the records of an array, with the frames that it sends or without.
+ghost use Rattle.std.specs.Prelude.{◌≡◌, ◌⊎◌, ℕ, List, None, false, IsTrue, IfErr};
+ghost use Rattle.eaw_face.specs.Causes.{IsAlive};
+ghost use Rattle.texts.specs.Written.{Wrote};
+ghost use Rattle.command_words.specs.declared.words.Words.TheVariants.{Run};
+ghost use Rattle.array_runs.specs.Forms.{index_at};
+ghost use Rattle.array_runs.specs.Input.{InputSays};
+ghost use Rattle.array_runs.specs.Records.{OverRecords};
+ghost use Rattle.array_runs.specs.Statuses.{Counts, IsEarly, IsRefusal};
+ghost use Rattle.mars_shell.specs.Asked.{OutcomeFor};
+ghost use Rattle.mars_shell.specs.Late.{HasDepth};
+ghost use Rattle.mars_shell.specs.Served.{Serves, ServedCounts};
+ghost use Rattle.mars_shell.specs.FramedRun.{TakesFramed, says_framed};
+
+use crate::core_work::OnCore;
+use crate::lines::ByTurns;
+use crate::records::over_records;
+use crate::responder::LineCore;
+use array_runs::{Status, find_form, open_for, served_status};
+use btree_pages::BTreePages;
+use command_words::{RunOptions, Writing};
+use eaw_device::{AtOnce, Late, WriteBack};
+use eaw_face::EawStore;
+use frame_lines::answer_framed;
+use key_list::KeyList;
+use mars_core::{Core, CoreFault};
+use mirror::{MemoryLink, Primary};
+use outside::{Sink, Source};
+use page_store::{KeyIndex, SaveRoom};
+use pcm_media::Media;
+use record_table::Form;
+use script_run::Ended;
+use std::alloc::Global;
+
+/// Answers the lines of callers over the records of the array that the medium holds, if they are sound, and writes the frames that it sends
+/// if that is asked for.
+pub(crate) fn run_lines<S: Source, K: Sink, M: Media + Drop + Send>(
+    alloc: Global,
+    source: &mut S,
+    sink: &mut K,
+    media: M,
+    options: RunOptions,
+) -> (Status, M)
+    requires depth { HasDepth options.writing }
+    ensures no_usage { result.0 ≡ Status.Usage → ⊥ }
+    ensures early { IsEarly result.0 → result.1 ≡ media }
+    ensures silent { IsEarly result.0 ⊎ IsRefusal result.0 → sink.new ≡ sink.old }
+    ensures counts { Counts result.0 (S.faults source.old) (S.faults source.new) (K.faults sink.old) (K.faults sink.new) (M.view media).faults (M.view result.1).faults }
+    ensures steady { IsTrue (S.steady source.old) → result.0 ≡ Status.ReadFault → ⊥ }
+    ensures input { IsTrue S.tells → InputSays result.0 (S.left source.old) (S.left source.new) }
+    ensures ran { Wrote K.tells (K.written sink.old) (K.written sink.new) (K.faults sink.old) (K.faults sink.new)
+        (λ cut text. (input : List ℕ) × (IsTrue S.tells → S.left source.old ≡ input) × (IsTrue M.tells → OutcomeFor (Run options) (M.view media) result.0 (M.view result.1) input cut text)) }
+{
+    if !options.frames {
+        let work = OnCore { work: ByTurns };
+        return over_records(alloc, source, sink, media, options.writing, &work);
+    }
+    match options.writing {
+        Writing::AtOnce => run_framed(alloc, source, sink, media, AtOnce),
+        Writing::Late(depth) => run_framed(alloc, source, sink, media, Late::new(depth)),
+    }
+}
+
+// With the frames, on a device of this type.
+fn run_framed<S: Source, K: Sink, M: Media + Drop + Send, B: WriteBack + Send>(
+    alloc: Global,
+    source: &mut S,
+    sink: &mut K,
+    media: M,
+    write_back: B,
+) -> (Status, M)
+    ensures no_usage { result.0 ≡ Status.Usage → ⊥ }
+    ensures early { IsEarly result.0 → result.1 ≡ media }
+    ensures silent { IsEarly result.0 ⊎ IsRefusal result.0 → sink.new ≡ sink.old }
+    ensures counts { Counts result.0 (S.faults source.old) (S.faults source.new) (K.faults sink.old) (K.faults sink.new) (M.view media).faults (M.view result.1).faults }
+    ensures steady { IsTrue (S.steady source.old) → result.0 ≡ Status.ReadFault → ⊥ }
+    ensures input { IsTrue S.tells → InputSays result.0 (S.left source.old) (S.left source.new) }
+    ensures ran { Wrote K.tells (K.written sink.old) (K.written sink.new) (K.faults sink.old) (K.faults sink.new)
+        (λ cut text. (input : List ℕ) × (IsTrue S.tells → S.left source.old ≡ input) × (IsTrue M.tells → OverRecords false 0
+        (λ ended. TakesFramed B.defers input cut text (M.view media) ended (M.view result.1)) (M.view media) result.0 (M.view result.1) cut text)) }
+{
+    let (room, input, store) = match open_for(alloc, true, 0, source, media, write_back) {
+        Ok(opened) => opened,
+        Err(ended) => return ended,
+    };
+    let (served, store) = serve_framed(alloc, &input, sink, room, store);
+    (served_status(served), store.into_media())
+}
+
+// Over the records of a store, under the index that its data names.
+fn serve_framed<K: Sink, S: EawStore + Drop + Send>(
+    alloc: Global,
+    input: &[u8],
+    sink: &mut K,
+    room: SaveRoom,
+    store: S,
+) -> (Result<Ended, CoreFault>, S)
+    requires alive { IsAlive (S.view store) }
+    requires free { (t : ℕ) → (S.view store).ranges t ≡ None }
+    ensures served { Wrote K.tells (K.written sink.old) (K.written sink.new) (K.faults sink.old) (K.faults sink.new)
+        (λ cut text. IsTrue S.tells → Serves false (says_framed (index_at (S.view store).state.bytes) (S.view store) input.now cut text) S.opens (index_at (S.view store).state.bytes) (S.view store)
+        result.0 cut text (S.view result.1)) }
+    ensures untold { IfErr result.0 (λ fault. sink.new ≡ sink.old) }
+    ensures counts { ServedCounts result.0 (K.faults sink.old) (K.faults sink.new) (S.view store).faults (S.view result.1).faults }
+{
+    let mut store = store;
+    match find_form(&mut store) {
+        Ok(Form::Chain) => work_framed::<K, S, KeyList>(alloc, input, sink, room, store),
+        Ok(Form::Tree) => work_framed::<K, S, BTreePages>(alloc, input, sink, room, store),
+        Err(fault) => (Err(fault), store),
+    }
+}
+
+// The same under an index. What the opening sends is written before the first reply.
+fn work_framed<K: Sink, S: EawStore + Drop + Send, I: KeyIndex + Send>(
+    alloc: Global,
+    input: &[u8],
+    sink: &mut K,
+    room: SaveRoom,
+    store: S,
+) -> (Result<Ended, CoreFault>, S)
+    requires alive { IsAlive (S.view store) }
+    requires free { (t : ℕ) → (S.view store).ranges t ≡ None }
+    ensures served { Wrote K.tells (K.written sink.old) (K.written sink.new) (K.faults sink.old) (K.faults sink.new)
+        (λ cut text. IsTrue S.tells → Serves false (says_framed I.index (S.view store) input.now cut text) S.opens I.index (S.view store) result.0 cut text (S.view result.1)) }
+    ensures untold { IfErr result.0 (λ fault. sink.new ≡ sink.old) }
+    ensures counts { ServedCounts result.0 (K.faults sink.old) (K.faults sink.new) (S.view store).faults (S.view result.1).faults }
+{
+    let numbers = store.shape().numbers;
+    let primary = match Primary::attach(alloc, store, MemoryLink::new(alloc)) {
+        Ok(primary) => primary,
+        Err((_, store, _)) => return (Err(CoreFault::NoMemory), store),
+    };
+    let core = match Core::<Primary<S, MemoryLink>, I>::attach(alloc, room, primary) {
+        Ok(core) => core,
+        Err((fault, primary)) => {
+            let (store, _link) = primary.into_parts();
+            return (Err(fault), store);
+        }
+    };
+    let lines = LineCore {
+        core,
+        callers: numbers,
+    };
+    let (ended, lines) = answer_framed(alloc, input, sink, lines);
+    let LineCore { core, callers: _ } = lines;
+    let (store, _link) = core.into_store().into_parts();
+    (Ok(ended), store)
+}

@@ -1,0 +1,17 @@
+use Rattle.std.proofs.Common.{◌≡◌, length, take}
+use Rattle.std.specs.Vec.{vec_capacity}
+use Rattle.snapshot_readers.specs.Batches.{joined}
+use Rattle.snapshot_readers.specs.Feeds.{read, read_book, read_base}
+use Rattle.reader_work.specs.Answers.{AreAnswers}
+use Rattle.reader_work.proofs.reading.read_keys.Given as goal
+
+-- the keys so far have their answers
+abbrev pub invariant-loop-nth : goal.invariant-loop-nth
+invariant-loop-nth g l = record {
+  keys : l.worker.keys ≡ l.fn.worker.keys;
+  room : vec_capacity l.worker.answers ≡ vec_capacity l.fn.worker.answers;
+  count : length l.worker.answers.items ≡ l.nth;
+  book : read_book l.worker.reader ≡ read_book l.fn.worker.reader;
+  base : read_base l.worker.reader ≡ read_base l.fn.worker.reader;
+  answers : AreAnswers (read_base l.fn.worker.reader) (joined (read l.worker.reader)) 0 (take l.nth l.fn.worker.keys) l.worker.answers.items;
+}

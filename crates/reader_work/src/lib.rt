@@ -1,0 +1,20 @@
+//! Readers that work beside callers over one shared core. What the callers commit is fed to the readers, which take no lock and hold nobody
+//! up.
+//!
+//! `open_readership` makes the readers, and `work_with` lets all work, each on a thread of its own. Behind each transaction its caller
+//! publishes all that was committed, before it comes to the gate. When all have ended, each answer is the value after some first
+//! transactions of the one history, no fewer from one answer of a reader to the next.
+//!
+//! Read first `specs/Answers`, then `beside.rt`, `news.rt` (the feed and its pass) and `reading.rt` (one reader's work).
+#![tactic(auto)]
+
+mod answer;
+mod beside;
+mod feeding;
+mod news;
+mod readership;
+mod reading;
+
+pub use answer::{Answer, Answers};
+pub use beside::work_with;
+pub use readership::{Readership, open_readership, passes_for};

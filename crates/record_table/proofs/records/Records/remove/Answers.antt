@@ -1,0 +1,17 @@
+use Rattle.record_table.specs.Names.{name_at}
+use Rattle.record_table.proofs.Sharing.{called_below}
+use Rattle.record_table.proofs.Rooted.{rooted_as, inside_as, called_inside}
+use Rattle.page_store.specs.Shown.{pages_of}
+use Rattle.record_table.proofs.records.Records.remove.Goals as goal
+
+pub remove-requires-clause-named : goal.remove-requires-clause-named
+remove-requires-clause-named g c =
+    let V = g.S.EawStore.view in
+    let name = name_at (V c.args.self.now.store).state.bytes c.args.table in
+    let root = c.of_table-root.result in
+    let calls = called_inside g.S.EawStore.tells V c.args.self.now c.self.inside.pages c.self.view_is c.args.table name (λ told alive. called_below (V c.args.self.now.store).state.bytes c.args.table (c.requires.there told alive)) in
+    let roots = rooted_as g.S.EawStore.tells (pages_of (V c.self.inside.pages.store) c.self.inside.pages) c.self.inside.roots.at c.args.table c.requires.table c.self.invariant.1.1 name calls c.of_table-root.result c.of_table-root.ensures in
+    roots
+
+pub remove-requires-clause-root : goal.remove-requires-clause-root
+remove-requires-clause-root g c = inside_as g.S.EawStore.tells (pages_of (g.S.EawStore.view c.self.inside.pages.store) c.self.inside.pages) c.self.inside.roots.at c.args.table c.requires.table c.self.invariant.1.1 c.of_table-root.result c.of_table-root.ensures

@@ -1,0 +1,163 @@
+// What a pass reads of the history of a shared core, and what a reader is answered that is fed with it.
+ghost use Rattle.std.specs.Prelude.{◌≡◌, ◌≤◌, length, drop, IfSome};
+ghost use Rattle.caller_steps.specs.Prefix.{Grows};
+ghost use Rattle.mars_manager.specs.Pass.{dealt};
+ghost use Rattle.mars_manager.specs.Sharing.{CanShare};
+
+use super::held_media::Hold;
+use super::sharing::fresh;
+use caller_steps::Core;
+use history::{Call, Done, History, Reply, Rows};
+use mars_manager::{Mars, Pass, Passes};
+use record_slots::Value;
+use sample_callers::put_one;
+use sample_readers::publish_news;
+use snapshot_readers::{Reader, open_readers};
+use std::alloc::Global;
+use std::sync::{Arc, Wait};
+use std::test::*;
+
+// Whether the transaction is that of caller 0 with this number, which puts the value at the key of the same number.
+fn is_put(done: &Done, at: u64, value: Value) -> bool {
+    if done.caller != 0 || done.at != at || done.calls.entries().len() != 1 {
+        return false;
+    }
+    done.calls.entries()[0] == (Call::Put { key: at, value }, Reply::Fine)
+}
+
+fn are_puts(dones: &[Done], first: u64, value: Value) -> bool {
+    if first == 2 {
+        return dones.len() == 1 && is_put(&dones[0], 2, value);
+    }
+    dones.len() == 2 && is_put(&dones[0], 1, value) && is_put(&dones[1], 2, value)
+}
+
+// What the history has behind the first transactions, of which the pass has seen so many.
+fn behind<C: Core + Drop>(
+    alloc: Global,
+    mars: &Mars<C>,
+    pass: &mut Pass<C>,
+    from: u64,
+) -> Option<History>
+    requires own { pass.old.table ≡ mars.now.table }
+    requires from { from ≤ length pass.old.known.seen }
+    ensures table { pass.new.table ≡ pass.old.table }
+    ensures seen { Grows pass.old.known.seen pass.new.known.seen }
+    ensures copy { IfSome result (λ history. history ≡ drop from pass.new.known.seen) }
+{
+    match mars.since(alloc, pass, from) {
+        Ok(Ok(history)) => Some(history),
+        Ok(Err(_)) | Err(_) => None,
+    }
+}
+
+// Whether the pass reads both transactions behind none, the second one behind the first, and none behind both.
+fn reads_all<C: Core + Drop>(
+    alloc: Global,
+    mars: &Mars<C>,
+    pass: &mut Pass<C>,
+    value: Value,
+) -> Option<bool>
+    requires { pass.old.table ≡ mars.now.table }
+    ensures { pass.new.table ≡ pass.old.table }
+{
+    let all = behind(alloc, mars, pass, 0)?;
+    let count = all.as_slice().len();
+    if count != 2 {
+        return Some(false);
+    }
+    let last = behind(alloc, mars, pass, 1)?;
+    let none = behind(alloc, mars, pass, 2)?;
+    let right = are_puts(all.as_slice(), 1, value) && are_puts(last.as_slice(), 2, value);
+    Some(right && none.as_slice().is_empty())
+}
+
+// What a reader is answered for the key 1 before it is fed, and then for the keys 1 to 3.
+fn answers<C: Core + Drop, R: Wait>(
+    rt: &R,
+    alloc: Global,
+    mars: &Mars<C>,
+    pass: &mut Pass<C>,
+) -> Option<[(u64, Option<Value>); 4]>
+    requires { pass.old.table ≡ mars.now.table }
+    ensures { pass.new.table ≡ pass.old.table }
+{
+    let base = Rows::new(alloc);
+    let Ok((mut feed, mut readers)) = open_readers(rt, alloc, &base, 1) else {
+        return None;
+    };
+    let Some(mut reader) = readers.pop() else {
+        feed.close(rt);
+        return None;
+    };
+    let before = reader.get(rt, 1);
+    let shown = publish_news(rt, alloc, mars, pass, &mut feed).is_some();
+    let read = read_three(rt, &mut reader);
+    feed.close(rt);
+    if !shown {
+        return None;
+    }
+    Some([before, read.0, read.1, read.2])
+}
+
+type Read = (u64, Option<Value>);
+
+fn read_three<R: Wait>(rt: &R, reader: &mut Reader) -> (Read, Read, Read) {
+    let one = reader.get(rt, 1);
+    let two = reader.get(rt, 2);
+    let three = reader.get(rt, 3);
+    (one, two, three)
+}
+
+fn two_commits<C: Core + Drop, R: Wait>(
+    rt: &R,
+    alloc: Global,
+    mars: &Mars<C>,
+    mut passes: Passes<C>,
+    value: Value,
+) -> Option<(bool, [Read; 4])>
+    requires table { passes.table ≡ mars.now.table }
+    requires passes { passes.list ≡ dealt passes.table mars.now.setup 3 }
+{
+    let mut two = passes.take()?;
+    let _one = passes.take()?;
+    let mut zero = passes.take()?;
+    let first = put_one(rt, mars, &mut zero, 1, value);
+    let second = put_one(rt, mars, &mut zero, 2, value);
+    if first != Reply::Committed(1) || second != Reply::Committed(2) {
+        return None;
+    }
+    let right = reads_all(alloc, mars, &mut two, value)?;
+    let read = answers(rt, alloc, mars, &mut two)?;
+    Some((right, read))
+}
+
+fn over_core<C: Core + Drop, R: Wait>(
+    rt: &R,
+    alloc: Global,
+    core: C,
+    value: Value,
+) -> Option<(bool, [Read; 4])>
+    requires { CanShare C.tells 3 (C.view core) }
+{
+    let (mars, passes) = Mars::share(alloc, core, 3).ok()?;
+    two_commits(rt, alloc, &mars, passes, value)
+}
+
+fn over_an_array<R: Wait>(rt: &R, alloc: Global, value: Value) -> Option<(bool, [Read; 4])> {
+    let hold = Hold::released(alloc).ok()?;
+    let core = fresh(alloc, Arc::try_clone(&hold).ok()?)?;
+    over_core(rt, alloc, core, value)
+}
+
+#[test]
+fn what_was_committed_is_read_and_fed(rt: HostRuntime) -> Result<(), Fail> {
+    let value = Value::of(b"kept").ok_or("value")?;
+    let (right, read) = over_an_array(&rt, rt.alloc(), value).ok_or("shared")?;
+    assert!(rt; right);
+    assert_eq!(rt;
+        read,
+        [(0, None), (2, Some(value)), (2, Some(value)), (2, None)]
+    );
+    Ok(())
+}

@@ -1,0 +1,258 @@
+-- A purge of the records of an array that was opened.
+use Rattle.std.proofs.Common.{◌≡◌, ◌⊎◌, ◌≤◌, ◌||◌, inl, inr, ⊎_elim, ℕ, zero, suc, Bool, true, false, List, [], ◌++◌, None, Result, Ok, Err, IfOk, IfErr, refl, sym, ap, subst, ◌∙◌, arith}
+use Rattle.std.specs.Prelude.{IsTrue, IsFalse, IsSome, take, if◌then◌else◌}
+use Rattle.std.proofs.lemmas.Bool.{false≢true}
+use Rattle.mars_base.specs.Causes.{Rose}
+use Rattle.mars_base.proofs.Going as going
+use Rattle.pcm_media.specs.Images.{MayLeave}
+use Rattle.pcm_media.specs.View.{View}
+use Rattle.array_shape.specs.declared.shape.Shape.{Shape}
+use Rattle.array_image.specs.Decided.{settled_data}
+use Rattle.device_recovery.specs.Recovered.{HasNoVote}
+use Rattle.eaw_face.specs.State as face
+use Rattle.eaw_face.specs.StoreView.{StoreView, LeavesOnly}
+use Rattle.eaw_device.specs.Opens.{Opens, KeepsData, Attached, HoldsArray, IsBehind}
+use Rattle.page_store.specs.Index.{Index}
+use Rattle.record_table.specs.Does.{OpensWith}
+use Rattle.record_table.specs.Shown.{table_of}
+use Rattle.record_table.specs.Upgrading.{upgraded, OpensUpgraded}
+use Rattle.history.specs.Legal.{records}
+use Rattle.history.specs.Writes.{Table}
+use Rattle.history.specs.declared.transaction.Done.{Done}
+use Rattle.caller_steps.specs.Core.{CoreView}
+use Rattle.caller_steps.specs.Prefix.{HasPrefixOf}
+use Rattle.caller_steps.specs.Purging.{Purged, PurgeStep, PurgeCause, Purges, is_media_refusal}
+use Rattle.caller_steps.specs.State.{State}
+use Rattle.caller_steps.specs.declared.purge_fault.PurgeFault.{PurgeFault}
+use Rattle.caller_steps.specs.declared.purge_fault.PurgeFault.TheVariants as stop
+use Rattle.mars_core.specs.Over.{IsOver, Begins}
+use Rattle.mars_core.specs.Purging.{Keeps}
+use Rattle.mars_core.specs.declared.fault.CoreFault.{CoreFault}
+use Rattle.mars_core.specs.declared.fault.CoreFault.TheVariants as core
+use Rattle.texts.specs.Written.{IsWritten}
+use Rattle.script_run.specs.declared.ended.Ended.{Ended}
+use Rattle.script_run.specs.declared.ended.Ended.TheVariants as script
+use Rattle.array_runs.specs.Forms.{index_of_form, index_at, SaysForm}
+use Rattle.array_runs.specs.Records.{HoldsRecords, IsDamaged, Exceeds, OverRecords, HasAll, begun_on}
+use Rattle.told_commands.specs.Purge.{ClearsTo, ClearsStore, ClearedCounts, IsStop, StopCause, cleared, HasRecords, Clears, PurgesRecords, PurgedBy, PurgeOutcome, purged_line, purged_end, LeavesPurged}
+use Rattle.told_commands.specs.Told.{Tells, FaultCounts, Ran}
+use Rattle.array_runs.specs.Statuses.{Counts, IsEarly, served_status}
+use Rattle.array_runs.specs.declared.status.Status.{Status}
+use Rattle.array_runs.specs.declared.status.Status.TheVariants.{Good, WriteFault, NoMemory}
+use Rattle.array_runs.proofs.Completing.{complete_records, nothing_read}
+use Rattle.array_runs.proofs.Forming.{of_form, sound_says}
+use Rattle.array_runs.proofs.Opened.{holds, at_entry}
+use Rattle.array_runs.proofs.Shapes.{same_limits}
+use Rattle.array_runs.proofs.Statuses.{outcome_as}
+
+-- of a core that nobody else calls nothing but its medium or a damaged page stops a purge
+pub stops : (old : State) (r : Result ℕ PurgeFault) → old.is_dead ≡ false → old.live 0 ≡ None → PurgeCause old 0 r → IfErr r IsStop
+stops old (Ok n) alive none cause = tt
+stops old (Err stop.Media) alive none cause = tt
+stops old (Err (stop.Damaged page)) alive none cause = tt
+stops old (Err stop.Dead) alive none cause = absurd (false≢true (sym alive ∙ cause))
+stops old (Err stop.Already) alive none cause = absurd (false≢true (subst IsSome none cause.1))
+
+-- a store that tells its data has no damaged page
+stop_cause : (tells : Bool) (Keeps : List ℕ → ℕ → Type 0) (old new : State) (r : Result ℕ PurgeFault) → old.is_dead ≡ false → old.live 0 ≡ None → PurgeCause old 0 r → (IsTrue tells → PurgeStep Keeps old 0 r new)
+    → IfErr (cleared r) (StopCause tells)
+stop_cause tells Keeps old new (Ok n) alive none cause step = tt
+stop_cause tells Keeps old new (Err stop.Media) alive none cause step = tt
+stop_cause tells Keeps old new (Err (stop.Damaged page)) alive none cause step = step
+stop_cause tells Keeps old new (Err stop.Dead) alive none cause step = absurd (false≢true (sym alive ∙ cause))
+stop_cause tells Keeps old new (Err stop.Already) alive none cause step = absurd (false≢true (subst IsSome none cause.1))
+
+-- the count of the medium's faults
+counted : (old : State) (r : Result ℕ PurgeFault) (m m' : ℕ) → old.is_dead ≡ false → old.live 0 ≡ None → (IsTrue (is_media_refusal r) → Rose m m') → (IsFalse (is_media_refusal r) → m' ≡ m) → PurgeCause old 0 r
+    → ClearedCounts (cleared r) m m'
+counted old (Ok n) m m' alive none failed kept cause = kept refl
+counted old (Err stop.Media) m m' alive none failed kept cause = failed refl
+counted old (Err (stop.Damaged page)) m m' alive none failed kept cause = kept refl
+counted old (Err stop.Dead) m m' alive none failed kept cause = absurd (false≢true (sym alive ∙ cause))
+counted old (Err stop.Already) m m' alive none failed kept cause = absurd (false≢true (subst IsSome none cause.1))
+
+none_taken : (n : ℕ) → (let none : List Done = [] in take n none ≡ none)
+none_taken zero = refl
+none_taken (suc n) = refl
+
+-- a core that has just begun was purged
+module _ (tells : Bool) (Opens : Shape → List ℕ → List ℕ → Type 0) (index : Index) (old mid new : StoreView) (core later : CoreView) (begins : Begins tells (Opens old.shape) index old mid core)
+    (over : IsOver tells (Opens new.shape) index new later) (r : Result ℕ PurgeFault) (purges : Purges tells (Keeps index) 0 core later r) where
+  shape : new.shape ≡ old.shape
+  shape = same_limits new.shape mid.shape (sym over.limits ∙ purges.limits ∙ begins.over.limits) ∙ begins.shape
+
+  living : core.state.is_dead ≡ false
+  living = begins.over.dead ∙ begins.alive
+
+  empty : later.state.history ++ later.state.doubt ≡ []
+  empty = let history = purges.history ∙ begins.fresh.0 in let doubt = purges.doubt ∙ begins.fresh.2 in λ i. history i ++ doubt i
+
+  first_base : IsTrue tells → core.state.base ≡ table_of index old.state.bytes
+  first_base told = ap (λ (s : State). s.base) (begins.state told)
+
+  -- what has a prefix of no transactions has the records at first
+  has_records : IsTrue tells → (least : ℕ) (image : List ℕ) → HasPrefixOf later.opens later.state least image → OpensWith (Opens old.shape) index image (table_of index old.state.bytes)
+  has_records told least image has =
+      let table = records later.state.base (take has.count (later.state.history ++ later.state.doubt)) in
+      let is : table ≡ table_of index old.state.bytes =
+      ap (λ (l : List Done). records later.state.base (take has.count l)) empty ∙ ap (records later.state.base) (none_taken has.count) ∙ purges.base ∙ first_base told in
+      subst (λ (x : Shape × Table). OpensWith (Opens x.0) index image x.1) (λ i. (shape i, is i)) ((over.opens_to image table).1 has.opens)
+
+  purge_time : IsTrue tells → LeavesOnly (λ image. OpensWith (Opens old.shape) index image (table_of index old.state.bytes)) mid new
+  purge_time told = record {
+    later = omega (arith, begins.over.moment, over.moment, (purges.time told).later);
+    keeps = λ t image le left. (over.left t image).1 ((purges.time told).keeps t image (omega (arith, le, begins.over.moment)) ((begins.over.left t image).0 left));
+    only = λ t image le left. ⊎_elim (λ was. inl ((begins.over.left t image).1 was)) (λ has. inr (has_records told _ image has))
+        ((purges.time told).only t image (omega (arith, le, begins.over.moment)) ((over.left t image).0 left));
+  }
+
+  -- data in version 2 has the same records
+  same_two : IsTrue tells → table_of index (upgraded old.state.bytes) ≡ table_of index old.state.bytes
+  same_two told = ap (table_of index) (sym (begins.bytes told)) ∙ begins.over.table told begins.alive ∙ ap (records core.state.base) begins.fresh.0 ∙ first_base told
+
+  first_has : IsTrue tells → (image : List ℕ) → OpensUpgraded (Opens old.shape) old.state.bytes image → OpensWith (Opens old.shape) index image (table_of index old.state.bytes)
+  first_has told image opens = ⊎_elim (λ was. record { bytes = old.state.bytes; opened = was; sound = begins.sound told; shows = refl })
+      (λ is. record { bytes = upgraded old.state.bytes; opened = is; sound = subst index.sound (begins.bytes told) (begins.over.sound told begins.alive); shows = same_two told }) opens
+
+  counts : ClearedCounts (cleared r) old.faults new.faults
+  counts =
+      let before = begins.over.faults ∙ begins.faults in
+      counted core.state r old.faults new.faults living (begins.fresh.1 0) (λ failed. subst (λ (x : ℕ × ℕ). Rose x.0 x.1) (λ i. (before i, over.faults i)) (purges.failed failed))
+      (λ kept. sym over.faults ∙ purges.kept kept ∙ before) purges.cause
+
+  module _ (told : IsTrue tells) (lives : new.is_dead ≡ false) where
+    all : HasAll index new.state.bytes later.state
+    all = record { sound = over.sound told lives; table = over.table told lives; keys = over.keys told }
+
+  alive_after : (r : Result ℕ PurgeFault) → new.is_dead ≡ is_media_refusal r → IfOk (cleared r) (λ n. new.is_dead ≡ false)
+  alive_after (Ok n) dead = dead
+  alive_after (Err given) dead = tt
+
+  to_data : (told : IsTrue tells) (r : Result ℕ PurgeFault) → new.is_dead ≡ is_media_refusal r → PurgeStep (Keeps index) (begun_on false index old.state.bytes) 0 r later.state → IfOk (cleared r) (λ n. ClearsTo index old.state.bytes n new.state.bytes)
+  to_data told (Ok n) dead step = record { final = later.state; purged = step.2; left = all told dead }
+  to_data told (Err given) dead step = tt
+
+  dead : new.is_dead ≡ is_media_refusal r
+  dead = sym over.dead ∙ purges.dead ∙ ap (λ (b : Bool). b || is_media_refusal r) living
+
+  pub clears_store : ClearsStore tells (Opens old.shape) index old new (cleared r)
+  clears_store = record {
+    shape = shape;
+    sound = begins.sound;
+    cause = stop_cause tells (Keeps index) core.state later.state r living (begins.fresh.1 0) purges.cause purges.step;
+    counts = counts;
+    alive = alive_after r dead;
+    cleared = λ told. to_data told r dead (subst (λ (s : State). PurgeStep (Keeps index) s 0 r later.state) (begins.state told) (purges.step told));
+    time = λ told. going.then (going.weaker (first_has told) (begins.time told)) (purge_time told);
+    now = λ told image left. has_records told _ image (purges.now told image ((over.left later.moment image).0 (subst (λ (t : ℕ). new.left_since t image) (sym over.moment) left)));
+  }
+
+-- the same under the index that the data names
+pub clears_over : (tells : Bool) (Opens : Shape → List ℕ → List ℕ → Type 0) (form : ℕ) (old mid new : StoreView) → SaysForm tells (Opens old.shape) form old mid → (r : Result ℕ CoreFault)
+    → ClearsStore tells (Opens mid.shape) (index_of_form form) mid new r → ClearsStore tells (Opens old.shape) (index_at old.state.bytes) old new r
+clears_over tells Opens form old mid new says r clears = record {
+  shape = clears.shape ∙ says.shape;
+  sound = λ told. sound told;
+  cause = clears.cause;
+  counts = subst (λ (n : ℕ). ClearedCounts r n new.faults) says.faults clears.counts;
+  alive = clears.alive;
+  cleared = λ told. moved told (λ h b i. IfOk r (λ n. ClearsTo i b n new.state.bytes)) (clears.cleared told);
+  time = λ told. going.then (going.weaker (λ image opens. record { bytes = old.state.bytes; opened = opens; sound = sound told; shows = refl }) (says.time told))
+      (moved told (λ h b i. LeavesOnly (λ image. OpensWith (Opens h) i image (table_of i b)) mid new) (clears.time told));
+  now = λ told. moved told (λ h b i. (image : List ℕ) → new.left_since new.moment image → OpensWith (Opens h) i image (table_of i b)) (clears.now told);
+}
+  where
+    bytes : IsTrue tells → mid.state.bytes ≡ old.state.bytes
+    bytes told = ap (λ (s : face.State). s.bytes) (says.state told)
+
+    moved : IsTrue tells → (P : Shape → List ℕ → Index → Type 0) → P mid.shape mid.state.bytes (index_of_form form) → P old.shape old.state.bytes (index_at old.state.bytes)
+    moved told P p = subst (λ (x : Shape × List ℕ × Index). P x.0 x.1 x.2) (λ i. (says.shape i, bytes told i, sym (of_form form old.state.bytes (says.is told)) i)) p
+
+    sound : IsTrue tells → (index_at old.state.bytes).sound old.state.bytes
+    sound told = moved told (λ h b i. i.sound b) (clears.sound told)
+
+-- ---- in terms of the medium
+
+-- nothing was done
+pub as_purged : (old : View) (status : Status) (new : View) → OverRecords false 0 (λ ended. ⊥) old status new false [] → PurgeOutcome old status new false []
+as_purged old status new outcome = outcome_as false (λ ended. ⊥) (PurgedBy old new false []) (λ page. IsDamaged old page × (Exceeds 0 old → ⊥)) (HoldsArray old × (Exceeds 0 old → ⊥)) (Exceeds 0 old) old status new false []
+    (λ ended none. absurd none) outcome
+
+module _ (tells : Bool) (told : IsTrue tells) (old : View) (only_now : (image : List ℕ) → IsTrue tells → old.left_since old.moment image → MayLeave old.content image)
+    (store : StoreView) (attached : Attached tells old store) (keeps : KeepsData tells old store.moment store.left_since)
+    (later : StoreView) (new : View) (behind : IsBehind tells false later new) (counts_now : (t : ℕ) (image : List ℕ) → IsTrue tells → t ≤ new.moment → MayLeave new.content image → new.left_since t image) where
+  -- in terms of the data of the array
+  own : (P : List ℕ → Type 0) → P store.state.bytes → P (settled_data store.shape old.content.bytes)
+  own P p = subst P (attached.bytes told) p
+
+  left_now : (image : List ℕ) → MayLeave new.content image → later.left_since later.moment image
+  left_now image left = subst (λ (t : ℕ). later.left_since t image) behind.moment (behind.left new.moment image (counts_now new.moment image told (omega arith) left))
+
+  module _ (result : Result ℕ CoreFault) (clears : ClearsStore tells (Opens store.shape) (index_at store.state.bytes) store later result) where
+    has : (image : List ℕ) → OpensWith (Opens store.shape) (index_at store.state.bytes) image (table_of (index_at store.state.bytes) store.state.bytes) → HasRecords store.shape old image
+    has image opens = own (λ b. OpensWith (Opens store.shape) (index_at b) image (table_of (index_at b) b)) opens
+
+    clear : Clears store.shape old new
+    clear = record {
+      holds = holds tells told old only_now store attached keeps (clears.sound told);
+      later = λ all. omega (arith, (keeps told store.shape all).later, (clears.time told).later, behind.moment);
+      since = λ all image left. ⊎_elim (λ was. inl (at_entry tells told old only_now store attached keeps store.shape all image was)) (λ opens. inr (has image opens))
+          ((clears.time told).only old.moment image (keeps told store.shape all).later (behind.left old.moment image left));
+    }
+
+  -- the records were purged, and told in whole or in part
+  purges : (n : ℕ) (clears : ClearsStore tells (Opens store.shape) (index_at store.state.bytes) store later (Ok n)) (ended : Ended) (cut : Bool) (text : List ℕ) → ended ≡ (if cut then script.WriteFault else script.All)
+      → IsWritten cut text (purged_line n) → PurgesRecords ended old new cut text
+  purges n clears ended cut text end wrote =
+      let to = clears.cleared told in
+      let bytes : settled_data store.shape new.content.bytes ≡ later.state.bytes = ap (λ (s : Shape). settled_data s new.content.bytes) (sym clears.shape) ∙ behind.bytes told clears.alive in
+      record {
+        shape = store.shape;
+        clears = clear (Ok n) clears;
+        count = n;
+        final = to.final;
+        purged = own (λ b. Purged (Keeps (index_at b)) (begun_on false (index_at b) b) n to.final) to.purged;
+        left = subst (λ (b : List ℕ). HasAll (index_at b) b to.final) (sym bytes)
+            (subst (λ (i : Index). HasAll i later.state.bytes to.final) (sym (sound_says store.state.bytes later.state.bytes to.left.sound)) to.left);
+        now = λ image left. has (Ok n) clears image (clears.now told image (left_now image left));
+        quiet = subst (λ (s : Shape). HasNoVote s new.content.bytes) clears.shape (behind.quiet told clears.alive refl);
+        end = end;
+        told = wrote;
+      }
+
+  purged_outcome : (n : ℕ) → ClearsStore tells (Opens store.shape) (index_at store.state.bytes) store later (Ok n) → (status : Status) (cut : Bool) (text : List ℕ) → status ≡ (if cut then WriteFault else Good)
+      → IsWritten cut text (purged_line n) → PurgeOutcome old status new cut text
+  purged_outcome n clears status true text is wrote = subst (λ (s : Status). PurgeOutcome old s new true text) (sym is) (purges n clears script.WriteFault true text refl wrote)
+  purged_outcome n clears status false text is wrote = subst (λ (s : Status). PurgeOutcome old s new false text) (sym is) (purges n clears script.All false text refl wrote)
+
+  -- they were not
+  stopped_outcome : (f : CoreFault) → ClearsStore tells (Opens store.shape) (index_at store.state.bytes) store later (Err f) → (let r : Result Ended CoreFault = Err f in PurgeOutcome old (served_status r) new false [])
+  stopped_outcome core.Media clears = inr (refl, (store.shape, clear (Err core.Media) clears))
+  stopped_outcome core.NoMemory clears = absurd clears.cause
+  stopped_outcome (core.Damaged page) clears = absurd (clears.cause told)
+
+  -- what is told of it
+  pub told_outcome : (purged : Result ℕ CoreFault) → ClearsStore tells (Opens store.shape) (index_at store.state.bytes) store later purged
+      → (status : Status) (cut : Bool) (text : List ℕ) → Tells (purged_end purged) status cut text → PurgeOutcome old status new cut text
+  told_outcome (Ok n) clears status cut text said = purged_outcome n clears status cut text said.0 said.1
+  told_outcome (Err f) clears status cut text said =
+      subst (λ (x : Status × Bool × List ℕ). PurgeOutcome old x.0 new x.1 x.2) (λ i. (sym said.0 i, sym said.1 i, sym said.2 i)) (stopped_outcome f clears)
+
+-- the count of the medium's faults
+pub purged_counts : (purged : Result ℕ CoreFault) (m m' : ℕ) → ClearedCounts purged m m' → FaultCounts (purged_end purged) m m'
+purged_counts (Ok n) m m' counts = counts
+purged_counts (Err (core.Damaged page)) m m' counts = counts
+purged_counts (Err core.Media) m m' counts = counts
+purged_counts (Err core.NoMemory) m m' counts = counts
+
+-- what is told of a purge under the index that the data names
+pub comes_of : (tells : Bool) → IsTrue tells → (old : View) (store mid later : StoreView) (new : View) → Ran tells old store later new → (form : ℕ) → SaysForm tells (Opens store.shape) form store mid
+    → (end : Result (List ℕ) Status) → LeavesPurged tells Opens (index_of_form form) mid end later → (status : Status) (cut : Bool) (text : List ℕ) → Tells end status cut text → PurgeOutcome old status new cut text
+comes_of tells told old store mid later new ran form says end left status cut text said = told_outcome tells told old ran.only_now store ran.attached ran.keeps later new ran.behind ran.counts_now left.0
+    (clears_over tells Opens form store mid later says left.0 left.2) status cut text (subst (λ (e : Result (List ℕ) Status). Tells e status cut text) left.1 said)
+
+-- What can be purged is purged, unless memory runs out.
+module _ (old new : View) (cut : Bool) (text : List ℕ) (s s' k k' m m' : ℕ) (shape : Shape) (holds : HoldsRecords shape old) (no_source : Rose s s' → ⊥) (no_sink : Rose k k' → ⊥) (no_media : Rose m m' → ⊥) where
+  pub complete_purge : (status : Status) → (IsEarly status → ⊥) → Counts status s s' k k' m m' → PurgeOutcome old status new cut text → (status ≡ Good) ⊎ (status ≡ NoMemory)
+  complete_purge status late counts outcome =
+      complete_records false 0 (PurgedBy old new cut text) old status new cut text [] [] s s' k k' m m' (omega arith) shape holds (omega arith) no_source no_sink no_media counts (nothing_read status late) outcome

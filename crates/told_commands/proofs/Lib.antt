@@ -1,0 +1,4 @@
+mod Telling
+pub mod Tabling
+pub mod Clearing
+pub mod Dumping

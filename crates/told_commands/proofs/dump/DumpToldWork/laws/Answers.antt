@@ -1,0 +1,8 @@
+use Rattle.told_commands.proofs.Dumping.{comes_of}
+use Rattle.told_commands.proofs.dump.DumpToldWork.laws.Goals as goal
+
+pub returns-clause-done : goal.returns-clause-done
+returns-clause-done g c = λ old new store mid later form end status cut text told ran says left said.
+    let m = g.M.Media in
+    let s = g.S.EawStore in
+    comes_of m.tells told (m.view old) (s.view store) (s.view mid) (s.view later) (m.view new) ran form says end left status cut text said

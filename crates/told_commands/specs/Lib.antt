@@ -1,0 +1,4 @@
+pub mod Told
+pub mod Tables
+pub mod Purge
+pub mod Dump

@@ -1,0 +1,109 @@
+-- What the making of a table does and writes, on a medium that tells its bytes.
+use Rattle.std.specs.Prelude.{ℕ, ◌≡◌, ◌⊎◌, ◌-◌, ◌<◌, ◌≤◌, Bool, true, if◌then◌else◌, List, [], ◌∷◌, ◌++◌, length, codes, Some, slice_get, Result, Ok, Err}
+use Rattle.std.specs.Fmt.{decimal}
+use Rattle.pcm_media.specs.Images.{MayLeave}
+use Rattle.pcm_media.specs.View.{View}
+use Rattle.array_shape.specs.declared.shape.Shape.{Shape}
+use Rattle.array_image.specs.Decided.{settled_data}
+use Rattle.device_recovery.specs.Recovered.{HasNoVote}
+use Rattle.eaw_face.specs.StoreView.{StoreView}
+use Rattle.eaw_device.specs.Opens.{Opens, AllOpen, OpensLike}
+use Rattle.record_slots.specs.Places.{next_page}
+use Rattle.page_store.specs.Index.{Index, index_pages_of}
+use Rattle.record_table.specs.Names.{names_of, IsNew}
+use Rattle.record_table.specs.declared.making.MakeFault.{MakeFault}
+use Rattle.record_table.specs.declared.making.MakeFault.TheVariants as make
+use Rattle.mars_core.specs.Making as making
+use Rattle.mars_core.specs.Making.{OpensAsNamed, OpensWithName}
+use Rattle.texts.specs.Written.{IsWritten}
+use Rattle.script_run.specs.declared.ended.Ended.{Ended}
+use Rattle.script_run.specs.declared.ended.Ended.TheVariants.{All, WriteFault, MediaFault, NoMemory}
+use Rattle.array_runs.specs.Forms.{index_in}
+use Rattle.array_runs.specs.Records.{HoldsRecords, OverRecords}
+use Rattle.array_runs.specs.declared.status.Refusal.{Refusal}
+use Rattle.array_runs.specs.declared.status.Refusal.TheVariants.{Exists, TablesFull, PagesFull}
+use Rattle.array_runs.specs.declared.status.Status.{Status}
+use Rattle.array_runs.specs.declared.status.Status.TheVariants.{Refused, Damaged}
+use Rattle.array_runs.specs.declared.status.Status.TheVariants.{MediaFault as MediaStatus}
+
+-- the line that tells a new table: its number and its name
+abbrev pub table_line : ℕ → List ℕ → List ℕ
+table_line number name = codes "table " ++ (decimal number ++ 32 ∷ (name ++ 10 ∷ []))
+
+-- the names of the tables in the array that a medium holds, by their numbers
+abbrev pub names_on : Shape → View → List (List ℕ)
+names_on shape media = names_of (settled_data shape media.content.bytes)
+
+-- an image opens with the records and the names that were there
+abbrev pub HasNames : Shape → View → List ℕ → Type 0
+HasNames shape old image = OpensAsNamed (Opens shape) (index_in shape old) (settled_data shape old.content.bytes) image
+
+-- the same with one more name, which is the last
+abbrev pub HasNewName : List ℕ → Shape → View → List ℕ → Type 0
+HasNewName name shape old image = OpensWithName (Opens shape) (index_in shape old) name (settled_data shape old.content.bytes) image
+
+-- The records are sound, and a table of this name was to be made. An image that might have been left at some moment opens with the records
+-- that were there, under the names that were there or under those and the new one, or with the data of an image that could be left at
+-- first, if all of those open. Then no moment is repeated.
+pub record Tries (name : List ℕ) (shape : Shape) (old new : View) : Type 0 where
+  pub holds : HoldsRecords shape old
+  pub later : AllOpen shape old.content → old.moment ≤ new.moment
+  pub since : AllOpen shape old.content → (image : List ℕ) → new.left_since old.moment image → OpensLike shape old.content image ⊎ (HasNames shape old image ⊎ HasNewName name shape old image)
+
+-- The table was made: no table had the name, there were fewer than eight, and a page was left. It has the number behind those that there
+-- were, which is told. Whatever a loss of power may leave at the end has the new name, and no row is voted.
+pub record MakesTable (name : List ℕ) (ended : Ended) (old new : View) (cut : Bool) (text : List ℕ) : Type 0 where
+  pub shape : Shape
+  pub tries : Tries name shape old new
+  pub is_new : IsNew name (names_on shape old)
+  pub few : length (names_on shape old) < 8
+  pub page : next_page (settled_data shape old.content.bytes) < index_pages_of shape
+  pub now : (image : List ℕ) → MayLeave new.content image → HasNewName name shape old image
+  pub quiet : HasNoVote shape new.content.bytes
+  pub end : ended ≡ (if cut then WriteFault else All)
+  pub told : IsWritten cut text (table_line (length (names_on shape old)) name)
+
+-- By how it ended. If the medium failed, nothing is told.
+abbrev pub MadeBy : List ℕ → View → View → Bool → List ℕ → Ended → Type 0
+MadeBy name old new cut text MediaFault = IsWritten cut text [] × ((shape : Shape) × Tries name shape old new)
+MadeBy name old new cut text NoMemory = ⊥
+MadeBy name old new cut text ended = MakesTable name ended old new cut text
+
+-- why there is no new table: the name is asked first, then a number, then a page
+abbrev pub RefusalCause : List ℕ → Shape → View → Refusal → Type 0
+RefusalCause name shape old (Exists given) = (given ≡ name) × (j : ℕ) × (slice_get (names_on shape old) j ≡ Some name)
+RefusalCause name shape old TablesFull = IsNew name (names_on shape old) × (length (names_on shape old) ≡ 8)
+RefusalCause name shape old (PagesFull n) =
+    IsNew name (names_on shape old) × (length (names_on shape old) < 8) × (next_page (settled_data shape old.content.bytes) ≡ index_pages_of shape) × (n ≡ index_pages_of shape - 1)
+
+-- It was refused, and nothing is told. Whatever a loss of power may leave at the end has the records and the names that were there.
+pub record Refuses (name : List ℕ) (refusal : Refusal) (old new : View) (cut : Bool) (text : List ℕ) : Type 0 where
+  pub shape : Shape
+  pub tries : Tries name shape old new
+  pub cause : RefusalCause name shape old refusal
+  pub now : (image : List ℕ) → MayLeave new.content image → HasNames shape old image
+  pub quiet : HasNoVote shape new.content.bytes
+  pub silent : IsWritten cut text []
+
+-- what comes of it, by the status: the table was made, or the records could not be worked on, or it was refused
+abbrev pub MakeOutcome : List ℕ → View → Status → View → Bool → List ℕ → Type 0
+MakeOutcome name old status new cut text =
+    OverRecords true 0 (MadeBy name old new cut text) old status new cut text ⊎ ((refusal : Refusal) × (status ≡ Refused refusal) × Refuses name refusal old new cut text)
+
+-- the status of a table of this name that was not made
+abbrev pub made_status : MakeFault → List ℕ → Status
+made_status make.Exists name = Refused (Exists name)
+made_status make.TablesFull name = Refused TablesFull
+made_status (make.PagesFull n) name = Refused (PagesFull n)
+made_status make.Media name = MediaStatus
+made_status make.Dead name = MediaStatus
+made_status (make.Damaged page) name = Damaged page
+
+-- what is told of a table that was to be made: its line, or the status with which that ended
+abbrev pub made_end : Result ℕ MakeFault → List ℕ → Result (List ℕ) Status
+made_end (Ok number) name = Ok (table_line number name)
+made_end (Err fault) name = Err (made_status fault name)
+
+-- a table was to be made in the data of a store, of which this is told
+abbrev pub LeavesTable : List ℕ → Bool → (Shape → List ℕ → List ℕ → Type 0) → Index → StoreView → Result (List ℕ) Status → StoreView → Type 0
+LeavesTable name tells Opens index old end new = (made : Result ℕ MakeFault) × (end ≡ made_end made name) × making.MakesTable tells (Opens old.shape) index name old new made

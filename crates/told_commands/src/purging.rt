@@ -1,0 +1,85 @@
+// Takes keys without records out of the index of an array's records, and tells how many.
+ghost use Rattle.std.specs.Prelude.{◌≡◌, IfErr};
+ghost use Rattle.told_commands.specs.Purge.{IsStop, cleared, purge_fault, purged_line};
+
+use crate::told_work::{Told, ToldWork};
+use array_runs::{Status, served_status};
+use caller_steps::PurgeFault;
+use eaw_face::EawStore;
+use mars_core::{Core, CoreFault};
+use page_store::{KeyIndex, SaveRoom};
+use pcm_media::Media;
+use std::alloc::Global;
+use texts::{Piece, ShortText};
+
+// The caller that purges: nobody else calls.
+const CALLER: u8 = 0;
+
+/// The keys without records are taken out of the index. A line says how many they were. A key stays that its page keeps as the last one.
+#[derive(Drop)]
+pub struct Purge;
+
+impl ToldWork for Purge {
+    ghost use Rattle.std.specs.Prelude.{false};
+    ghost use Rattle.told_commands.specs.Purge.{LeavesPurged, PurgeOutcome};
+
+    ghost spares = { false };
+
+    ghost leaves = { λ work. LeavesPurged };
+
+    ghost comes = { λ work. PurgeOutcome };
+
+    fn work_on<S: EawStore, I: KeyIndex>(
+        &self,
+        alloc: Global,
+        room: SaveRoom,
+        store: S,
+    ) -> (Result<Told, Status>, S) {
+        let mut core = match Core::<S, I>::attach(alloc, room, store) {
+            Ok(core) => core,
+            Err((fault, store)) => return (Err(served_status(Err(fault))), store),
+        };
+        let purged = cleared(core.purge(CALLER));
+        let store = core.into_store();
+        match purged {
+            Ok(count) => (Ok(Told::Line(purged_line(count))), store),
+            Err(fault) => (Err(served_status(Err(fault))), store),
+        }
+    }
+
+    fn laws<S: EawStore, M: Media>(&self) {}
+}
+
+// How many keys were taken out, or what stopped the purge.
+fn cleared(purged: Result<u32, PurgeFault>) -> Result<u32, CoreFault>
+    requires { IfErr purged IsStop }
+    ensures { result ≡ cleared purged }
+{
+    match purged {
+        Ok(count) => Ok(count),
+        Err(fault) => Err(purge_fault(fault)),
+    }
+}
+
+// What stopped a purge of a core that nobody else calls: the medium, or a page that says something else when it is read again.
+fn purge_fault(fault: PurgeFault) -> CoreFault
+    requires { IsStop fault }
+    ensures { result ≡ purge_fault fault }
+{
+    match fault {
+        PurgeFault::Media => CoreFault::Media,
+        PurgeFault::Damaged { page } => CoreFault::Damaged { page },
+        PurgeFault::Dead | PurgeFault::Already => unreachable!(),
+    }
+}
+
+// The line of so many keys. It is formed without memory, so the status does not depend on memory.
+fn purged_line(count: u32) -> ShortText
+    ensures { result ≡ purged_line count }
+{
+    ShortText::of(&[
+        Piece::Words(b"purged "),
+        Piece::Number(u64::from(count)),
+        Piece::Words(b"\n"),
+    ])
+}
