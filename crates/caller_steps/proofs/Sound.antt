@@ -1,5 +1,5 @@
 -- A step keeps the history legal, each live transaction right, and the stripes that they touched apart.
-use Rattle.std.proofs.Common.{◌≡◌, ◌≢◌, ℕ, inl, inr, Bool, true, false, nat_eq, List, [], ◌∷◌, ◌++◌, Option, Some, None, unwrap_or, refl, sym, ap, subst, ◌∙◌}
+use Rattle.std.proofs.Common.{◌≡◌, ◌≢◌, ℕ, inl, inr, Bool, true, false, nat_eq, List, [], ◌∷◌, ◌++◌, length, Option, Some, None, unwrap_or, refl, sym, ap, subst, ◌∙◌}
 use Rattle.std.specs.Map.{update}
 use Rattle.std.proofs.lemmas.Map.{update_here, update_apart}
 use Rattle.std.proofs.lemmas.Bool.{cases_eq, false_from_ne_true, false≢true}
@@ -8,12 +8,12 @@ use Rattle.history.specs.Writes.{Table}
 use Rattle.history.specs.Table.{Granted, begun, Answers, worked, IsRight, left_by}
 use Rattle.history.specs.Locks.{Touch, touches, touched, clash, AreApart}
 use Rattle.history.specs.Legal.{IsLegal}
-use Rattle.history.specs.Groups.{AreGrouped}
+use Rattle.history.specs.Groups.{AreGrouped, AreWhole}
 use Rattle.history.specs.declared.call.Call.{Call}
 use Rattle.history.specs.declared.call.Reply.{Reply}
 use Rattle.history.proofs.OneMore.{IsRight-push, IsLegal-push, records-push, touched-push}
 use Rattle.history.proofs.Modes.{clash_turned, clash_more}
-use Rattle.history.proofs.Grouping.{grouped_more}
+use Rattle.history.proofs.Grouping.{grouped_more, legal_numbered, all_whole}
 use Rattle.history.proofs.Locking.{right_after}
 use Rattle.caller_steps.specs.State.{State, Index, opened, calls_of, records_of, view_of, with_live, done_by}
 use Rattle.caller_steps.specs.Locked.{IsFree}
@@ -114,6 +114,10 @@ module _ (old : State) (caller : ℕ) (sound : IsSound old) where
     one_more : AreGrouped (old.history ++ done_by old caller calls ∷ [])
     one_more = grouped_more old.history (done_by old caller calls ∷ []) sound.groups (refl, tt)
 
+    -- and with it each group is whole
+    pub one_more_whole : AreWhole (length (old.history ++ done_by old caller calls ∷ [])) (old.history ++ done_by old caller calls ∷ [])
+    one_more_whole = all_whole (old.history ++ done_by old caller calls ∷ []) (legal_numbered old.base (old.history ++ done_by old caller calls ∷ []) longer) one_more
+
     -- a transaction commits
     commits : old.is_dead ≡ false → (index : Index) → IsSound (record (with_live old caller None) { history = old.history ++ done_by old caller calls ∷ []; index = index })
     commits alive index = record {
@@ -156,6 +160,10 @@ step_sound limits old caller call reply new sound step = step_sound_if old calle
 pub runs_sound : (limits : Limits) (old : State) (turns : List (ℕ × Call × Reply)) (new : State) → IsSound old → Runs limits old turns new → IsSound new
 runs_sound limits old [] new sound e = subst IsSound (sym e) sound
 runs_sound limits old (turn ∷ turns) new sound (mid, step, runs) = runs_sound limits mid turns new (step_sound limits old turn.0 turn.1 turn.2 mid sound step) runs
+
+-- In the whole history each group is whole.
+pub history_whole : (state : State) → IsSound state → AreWhole (length state.history) state.history
+history_whole state sound = all_whole state.history (legal_numbered state.base state.history sound.legal) sound.groups
 
 -- The state at the opening is sound.
 pub opened_sound : (names : List (List ℕ)) (base : Table) (index : Index) → IsSound (opened names base index)
