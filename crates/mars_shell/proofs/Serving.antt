@@ -9,6 +9,7 @@ use Rattle.array_shape.specs.declared.shape.Shape.{Shape}
 use Rattle.eaw_face.specs.StoreView.{StoreView, LeavesOnly}
 use Rattle.page_store.specs.Index.{Index}
 use Rattle.record_table.specs.Does.{OpensWith}
+use Rattle.record_table.specs.Names.{names_of}
 use Rattle.record_table.specs.Shown.{table_of}
 use Rattle.record_table.specs.Upgrading.{upgraded, OpensUpgraded}
 use Rattle.history.specs.Legal.{records}
@@ -56,7 +57,7 @@ module _ (tells : Bool) (Opens : Shape → List ℕ → List ℕ → Type 0) (in
     history = begins.fresh.0;
     live = begins.fresh.1;
     enough = subst (λ (l : Limits). callers ≤ l.callers) (sym limits_are) few;
-    sound = λ told. subst IsSound (sym (begun_is told)) (opened_sound (table_of index old.state.bytes) (index_of index (upgraded old.state.bytes)));
+    sound = λ told. subst IsSound (sym (begun_is told)) (opened_sound (names_of old.state.bytes) (table_of index old.state.bytes) (index_of index (upgraded old.state.bytes)));
     now = λ told image left. record { count = 0; at_least = omega arith; at_most = omega arith; whole = All-nil (λ (done : Done). done.last ≤ 0); opens = opens_base told image left };
   }
     where
@@ -131,7 +132,7 @@ module _ (tells : Bool) (Opens : Shape → List ℕ → List ℕ → Type 0) (in
           (on.now image ((over.left later.moment image).0 (subst (λ (t : ℕ). new.left_since t image) (sym over.moment) left)));
       left = λ unfailed.
           let living = sym over.dead ∙ turns.alive unfailed in
-          (living, record { sound = over.sound told living; table = over.table told living; keys = over.keys told });
+          (living, record { sound = over.sound told living; names = over.names told living; table = over.table told living; keys = over.keys told });
       unwritten = λ unfailed reads. ap (λ (x : caller.Index). x.bytes) (sym (over.keys told)
           ∙ reads_leave (limits_of old.shape) (begun_on false index old.state.bytes) later.state turns.turns (of_first (λ l s. Runs l s turns.turns later.state) turns.runs) (λ caller. refl) reads (turns.alive unfailed));
     }
