@@ -5,6 +5,7 @@ use Rattle.std.proofs.lemmas.List.{take-append-le, append_assoc, append-nil}
 use Rattle.mars_base.proofs.Going as going
 use Rattle.history.specs.Writes.{Table}
 use Rattle.history.specs.Legal.{records}
+use Rattle.history.specs.Groups.{AreWhole}
 use Rattle.history.specs.declared.call.Call.{Call}
 use Rattle.history.specs.declared.call.Reply.{Reply}
 use Rattle.history.specs.declared.transaction.Done.{Done}
@@ -39,10 +40,13 @@ prefix_on Old New base after old new least fewer image opens same grows le has =
   count = has.count;
   at_least = omega (arith, le, has.at_least);
   at_most = omega (arith, has.at_most, grows_longer old new grows);
+  whole = subst (λ (h : List Done). AreWhole has.count h) (sym first_ones) has.whole;
   opens = subst (λ (t : Table). New image (records t (take has.count new))) (sym same)
-      (subst (λ (h : List Done). New image (records base h)) (sym (ap (take has.count) grows.is ∙ take-append-le has.count old grows.more has.at_most))
-      (opens (records base (take has.count old)) has.opens));
+      (subst (λ (h : List Done). New image (records base h)) (sym first_ones) (opens (records base (take has.count old)) has.opens));
 }
+  where
+    first_ones : take has.count new ≡ take has.count old
+    first_ones = ap (take has.count) grows.is ∙ take-append-le has.count old grows.more has.at_most
 
 -- also for a state that continues another.
 prefix_of : (mid new : CoreView) (least fewer : ℕ) (image : List ℕ) → Continues mid new → fewer ≤ least → HasPrefixOf mid.opens mid.state least image → HasPrefixOf new.opens new.state fewer image

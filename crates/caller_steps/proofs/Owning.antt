@@ -97,9 +97,9 @@ module _ (limits : Limits) (old : State) (caller : ℕ) (new : State) where
 
   mine_at : (call : Call) (reply : Reply) (b : Bool) → is_committed reply ≡ b → Step limits old caller call reply new
       → (if b then commits_of caller old.history ++ done_by old caller (calls_of old caller) ∷ [] else commits_of caller old.history)
-      ≡ (if b then commits_of caller old.history ++ record { caller = caller; calls = unwrap_or (old.live caller) []; at = number_of reply } ∷ [] else commits_of caller old.history)
+      ≡ (if b then commits_of caller old.history ++ record { caller = caller; calls = unwrap_or (old.live caller) []; at = number_of reply; last = number_of reply } ∷ [] else commits_of caller old.history)
   mine_at call reply true is step =
-      ap (λ (n : ℕ). commits_of caller old.history ++ record { caller = caller; calls = unwrap_or (old.live caller) []; at = n } ∷ []) (sym (ap number_of (number_of_commit call reply step is)))
+      ap (λ (n : ℕ). commits_of caller old.history ++ record { caller = caller; calls = unwrap_or (old.live caller) []; at = n; last = n } ∷ []) (sym (ap number_of (number_of_commit call reply step is)))
   mine_at call reply false is step = refl
 
   pub mine_goes : (call : Call) (reply : Reply) → Moves old caller call reply new → Step limits old caller call reply new → commits_of caller new.history ≡ mine_after caller (old.live caller) (commits_of caller old.history) reply
@@ -175,7 +175,7 @@ module _ (limits : Limits) (old : State) (caller : ℕ) (new : State) (call : Ca
       let calls : f.0 ≡ calls_of old caller = ap (λ (o : Option Granted). unwrap_or o []) (sym f.1) in
       let same : old.history ≡ new.history = sym (ap (λ (s : State). s.history) f.2.3) in
       inr (
-        ap (λ (s : State). s.doubt) f.2.3 ∙ (λ i. record { caller = caller; calls = calls i; at = length (same i) + 1 } ∷ []),
+        ap (λ (s : State). s.doubt) f.2.3 ∙ (λ i. record { caller = caller; calls = calls i; at = length (same i) + 1; last = length (same i) + 1 } ∷ []),
         λ d. cond-true (is_media reply) (if is_commit call then Some (calls_of old caller) else d) d media ∙ cond-true (is_commit call) (Some (calls_of old caller)) d is,
       )
 

@@ -1,5 +1,5 @@
 -- A step keeps the history legal, each live transaction right, and the stripes that they touched apart.
-use Rattle.std.proofs.Common.{◌≡◌, ◌≢◌, ℕ, inl, inr, Bool, true, false, nat_eq, List, [], ◌∷◌, ◌++◌, Option, Some, None, unwrap_or, refl, sym, ap, subst, ◌∙◌}
+use Rattle.std.proofs.Common.{◌≡◌, ◌≢◌, ℕ, inl, inr, Bool, true, false, nat_eq, List, [], ◌∷◌, ◌++◌, length, Option, Some, None, unwrap_or, refl, sym, ap, subst, ◌∙◌}
 use Rattle.std.specs.Map.{update}
 use Rattle.std.proofs.lemmas.Map.{update_here, update_apart}
 use Rattle.std.proofs.lemmas.Bool.{cases_eq, false_from_ne_true, false≢true}
@@ -8,10 +8,12 @@ use Rattle.history.specs.Writes.{Table}
 use Rattle.history.specs.Table.{Granted, begun, Answers, worked, IsRight, left_by}
 use Rattle.history.specs.Locks.{Touch, touches, touched, clash, AreApart}
 use Rattle.history.specs.Legal.{IsLegal}
+use Rattle.history.specs.Groups.{AreGrouped, AreWhole}
 use Rattle.history.specs.declared.call.Call.{Call}
 use Rattle.history.specs.declared.call.Reply.{Reply}
 use Rattle.history.proofs.OneMore.{IsRight-push, IsLegal-push, records-push, touched-push}
 use Rattle.history.proofs.Modes.{clash_turned, clash_more}
+use Rattle.history.proofs.Grouping.{grouped_more, legal_numbered, all_whole}
 use Rattle.history.proofs.Locking.{right_after}
 use Rattle.caller_steps.specs.State.{State, Index, opened, calls_of, records_of, view_of, with_live, done_by}
 use Rattle.caller_steps.specs.Locked.{IsFree}
@@ -38,11 +40,11 @@ apart_more names calls other call reply before own stripe =
     ap (λ (t : Touch). clash t (touched names other stripe)) (touched-push names calls call reply stripe)
     ∙ clash_more (touched names calls stripe) (touches names call stripe) (touched names other stripe) (before stripe) (own stripe)
 
-right-update : (table : Table) (f : ℕ → Option Granted) (caller : ℕ) (calls : Option Granted)
+pub right-update : (table : Table) (f : ℕ → Option Granted) (caller : ℕ) (calls : Option Granted)
     → ((other : ℕ) → other ≢ caller → IsRight table (unwrap_or (f other) [])) → IsRight table (unwrap_or calls []) → (other : ℕ) → IsRight table (unwrap_or (update nat_eq f caller calls other) [])
 right-update table f caller calls others own other = at_update (λ o. IsRight table (unwrap_or o [])) f caller calls other (λ is. own) (others other)
 
-apart-update : (names : List (List ℕ)) (f : ℕ → Option Granted) (caller : ℕ) (calls : Option Granted)
+pub apart-update : (names : List (List ℕ)) (f : ℕ → Option Granted) (caller : ℕ) (calls : Option Granted)
     → ((one other : ℕ) → one ≢ other → AreApart names (unwrap_or (f one) []) (unwrap_or (f other) []))
     → ((other : ℕ) → other ≢ caller → AreApart names (unwrap_or calls []) (unwrap_or (f other) []))
     → (one other : ℕ) → one ≢ other → AreApart names (unwrap_or (update nat_eq f caller calls one) []) (unwrap_or (update nat_eq f caller calls other) [])
@@ -56,7 +58,7 @@ apart-update names f caller calls old own one other ne =
 module _ (old : State) (caller : ℕ) (sound : IsSound old) where
   -- soundness does not depend on the index, nor on whether the core is dead if nothing was in doubt
   same : (index : Index) (dead : Bool) → (dead ≡ false → old.is_dead ≡ false) → IsSound (record old { index = index; is_dead = dead })
-  same index dead alive = record { legal = sound.legal; certain = λ e. sound.certain (alive e); doubtful = sound.doubtful; right = sound.right; apart = sound.apart }
+  same index dead alive = record { legal = sound.legal; certain = λ e. sound.certain (alive e); doubtful = sound.doubtful; groups = sound.groups; doubtful_groups = sound.doubtful_groups; right = sound.right; apart = sound.apart }
 
   -- a caller begins
   begins : IsSound (with_live old caller (Some []))
@@ -64,16 +66,20 @@ module _ (old : State) (caller : ℕ) (sound : IsSound old) where
     legal = sound.legal;
     certain = sound.certain;
     doubtful = sound.doubtful;
+    groups = sound.groups;
+    doubtful_groups = sound.doubtful_groups;
     right = right-update (records_of old) old.live caller (Some []) (λ other ne. sound.right other) tt;
     apart = apart-update old.names old.live caller (Some []) sound.apart (λ other ne stripe. refl);
   }
 
   -- a caller's transaction ends
-  ends : IsSound (with_live old caller None)
+  pub ends : IsSound (with_live old caller None)
   ends = record {
     legal = sound.legal;
     certain = sound.certain;
     doubtful = sound.doubtful;
+    groups = sound.groups;
+    doubtful_groups = sound.doubtful_groups;
     right = right-update (records_of old) old.live caller None (λ other ne. sound.right other) tt;
     apart = apart-update old.names old.live caller None sound.apart (λ other ne stripe. refl);
   }
@@ -92,6 +98,8 @@ module _ (old : State) (caller : ℕ) (sound : IsSound old) where
       legal = sound.legal;
       certain = sound.certain;
       doubtful = sound.doubtful;
+      groups = sound.groups;
+      doubtful_groups = sound.doubtful_groups;
       right = right-update (records_of old) old.live caller (Some (calls ++ (call, reply) ∷ [])) (λ other ne. sound.right other)
           (IsRight-push (records_of old) calls call reply own_right (subst (λ cs. Answers (worked (begun (records_of old)) cs) call reply) is answers));
       apart = apart-update old.names old.live caller (Some (calls ++ (call, reply) ∷ [])) sound.apart (λ other ne.
@@ -102,6 +110,14 @@ module _ (old : State) (caller : ℕ) (sound : IsSound old) where
     longer : IsLegal old.base (old.history ++ done_by old caller calls ∷ [])
     longer = IsLegal-push old.base old.history (done_by old caller calls) sound.legal refl own_right
 
+    -- a group of one comes behind the others
+    one_more : AreGrouped (old.history ++ done_by old caller calls ∷ [])
+    one_more = grouped_more old.history (done_by old caller calls ∷ []) sound.groups (refl, tt)
+
+    -- and with it each group is whole
+    pub one_more_whole : AreWhole (length (old.history ++ done_by old caller calls ∷ [])) (old.history ++ done_by old caller calls ∷ [])
+    one_more_whole = all_whole (old.history ++ done_by old caller calls ∷ []) (legal_numbered old.base (old.history ++ done_by old caller calls ∷ []) longer) one_more
+
     -- a transaction commits
     commits : old.is_dead ≡ false → (index : Index) → IsSound (record (with_live old caller None) { history = old.history ++ done_by old caller calls ∷ []; index = index })
     commits alive index = record {
@@ -109,6 +125,9 @@ module _ (old : State) (caller : ℕ) (sound : IsSound old) where
       certain = sound.certain;
       doubtful = subst (λ d. IsLegal old.base ((old.history ++ done_by old caller calls ∷ []) ++ d)) (sym (sound.certain alive))
           (subst (λ h. IsLegal old.base h) (sym (append-nil (old.history ++ done_by old caller calls ∷ []))) longer);
+      groups = one_more;
+      doubtful_groups = subst (λ d. AreGrouped ((old.history ++ done_by old caller calls ∷ []) ++ d)) (sym (sound.certain alive))
+          (subst (λ h. AreGrouped h) (sym (append-nil (old.history ++ done_by old caller calls ∷ []))) one_more);
       right = subst (λ table. (other : ℕ) → IsRight table (unwrap_or (update nat_eq old.live caller None other) [])) (sym (records-push old.base old.history (done_by old caller calls)))
           (right-update (left_by (records_of old) calls) old.live caller None
           (λ other ne. right_after old.names (records_of old) calls (calls_of old other) (own_apart other ne) (sound.right other)) tt);
@@ -117,7 +136,7 @@ module _ (old : State) (caller : ℕ) (sound : IsSound old) where
 
     -- a transaction is in doubt
     doubts : (index : Index) → IsSound (record (with_live old caller None) { doubt = done_by old caller calls ∷ []; index = index; is_dead = true })
-    doubts index = record { legal = ends.legal; certain = λ alive. absurd (false≢true (sym alive)); doubtful = longer; right = ends.right; apart = ends.apart }
+    doubts index = record { legal = ends.legal; certain = λ alive. absurd (false≢true (sym alive)); doubtful = longer; groups = sound.groups; doubtful_groups = one_more; right = ends.right; apart = ends.apart }
 
   -- Each fate but a commit's keeps the state sound, and a commit's does too if the medium has not failed.
   fate_sound : (call : Call) (reply : Reply) (new : State) → old.is_dead ≡ false → Fate old caller call reply new → IsSound new
@@ -142,6 +161,10 @@ pub runs_sound : (limits : Limits) (old : State) (turns : List (ℕ × Call × R
 runs_sound limits old [] new sound e = subst IsSound (sym e) sound
 runs_sound limits old (turn ∷ turns) new sound (mid, step, runs) = runs_sound limits mid turns new (step_sound limits old turn.0 turn.1 turn.2 mid sound step) runs
 
+-- In the whole history each group is whole.
+pub history_whole : (state : State) → IsSound state → AreWhole (length state.history) state.history
+history_whole state sound = all_whole state.history (legal_numbered state.base state.history sound.legal) sound.groups
+
 -- The state at the opening is sound.
 pub opened_sound : (names : List (List ℕ)) (base : Table) (index : Index) → IsSound (opened names base index)
-opened_sound names base index = record { legal = tt; certain = λ alive. refl; doubtful = tt; right = λ caller. tt; apart = λ one other ne stripe. refl }
+opened_sound names base index = record { legal = tt; certain = λ alive. refl; doubtful = tt; groups = tt; doubtful_groups = tt; right = λ caller. tt; apart = λ one other ne stripe. refl }

@@ -35,7 +35,7 @@ abbrev pub live_after : Option Granted → Call → Reply → Option Granted
 live_after live call reply = if is_media reply then (if is_commit call then None else live) else (if is_refusal reply then live else live_with (unwrap_or live []) call reply)
 
 abbrev pub mine_after : ℕ → Option Granted → List Done → Reply → List Done
-mine_after caller live mine reply = if is_committed reply then mine ++ record { caller = caller; calls = unwrap_or live []; at = number_of reply } ∷ [] else mine
+mine_after caller live mine reply = if is_committed reply then mine ++ record { caller = caller; calls = unwrap_or live []; at = number_of reply; last = number_of reply } ∷ [] else mine
 
 abbrev pub doubt_after : Option Granted → Option Granted → Call → Reply → Option Granted
 doubt_after live doubt call reply = if is_media reply then (if is_commit call then Some (unwrap_or live []) else doubt) else doubt
@@ -57,4 +57,4 @@ live_by caller told = (own_of caller told).live
 -- a transaction in doubt would be the next one of a history of this length
 abbrev pub doubtful : ℕ → ℕ → Option Granted → List Done
 doubtful caller n None = []
-doubtful caller n (Some calls) = record { caller = caller; calls = calls; at = n + 1 } ∷ []
+doubtful caller n (Some calls) = record { caller = caller; calls = calls; at = n + 1; last = n + 1 } ∷ []

@@ -1,5 +1,5 @@
 // Laws of callers by turns, each of which follows from the definitions alone.
-ghost use Rattle.std.specs.Prelude.{◌≡◌, ◌≢◌, ◌≤◌, List, ℕ, Some, IsTrue, IsFalse, length};
+ghost use Rattle.std.specs.Prelude.{◌≡◌, ◌≢◌, ◌≤◌, ◌++◌, List, ℕ, Some, IsTrue, IsFalse, length};
 ghost use Rattle.history.specs.Writes.{Table};
 ghost use Rattle.history.specs.Table.{Granted};
 ghost use Rattle.history.specs.Legal.{IsLegal};
@@ -13,6 +13,7 @@ ghost use Rattle.caller_steps.specs.Step.{Step, Runs};
 ghost use Rattle.caller_steps.specs.Sound.{IsSound};
 ghost use Rattle.caller_steps.specs.Fate.{Moves, is_of_array, may_come_held};
 ghost use Rattle.caller_steps.specs.Core.{IsSafe, Steps, Continues};
+ghost use Rattle.caller_steps.specs.Offers.{group_in, group_end, committed_group, doubted_group};
 
 use crate::Core;
 
@@ -58,4 +59,12 @@ pub fn prefix_law<C: Core>()
     ensures on { (old mid new : C) → Continues (C.view old) (C.view mid) → Continues (C.view mid) (C.view new) → Continues (C.view old) (C.view new) }
     ensures safe { (old new : C) (since least : ℕ) → Continues (C.view old) (C.view new) → since ≤ (C.view old).moment → least ≤ length (C.view old).state.history
         → IsSafe (C.view old) since least → IsSafe (C.view new) since least }
+{}
+
+/// Transactions of several callers that are committed together stand in the history one after another behind what was there, as one group. All
+/// stays sound, also where the medium fails in their commit, so that all of them are in doubt.
+pub fn groups_keep_all_sound()
+    ensures history { (state : State) (callers : List ℕ) → (committed_group state callers).history ≡ state.history ++ group_in state (group_end state callers) callers }
+    ensures sound { (state : State) (callers : List ℕ) → IsSound state → IsFalse state.is_dead → IsSound (committed_group state callers) }
+    ensures doubted { (state : State) (callers : List ℕ) → IsSound state → IsFalse state.is_dead → IsSound (doubted_group state callers) }
 {}

@@ -8,4 +8,5 @@ pub mod Saves
 pub mod Locking
 pub mod Counting
 pub mod ReadAgain
+pub mod Grouping
 pub mod Adding

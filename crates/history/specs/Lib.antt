@@ -2,6 +2,7 @@ pub mod Key
 pub mod Writes
 pub mod Table
 pub mod Legal
+pub mod Groups
 pub mod Log
 pub mod Locks
 pub mod Rows

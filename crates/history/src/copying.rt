@@ -19,6 +19,7 @@ pub fn since(alloc: Global, history: &History, from: u64) -> Result<History, NoM
             caller: done.caller,
             calls,
             at: done.at,
+            last: done.last,
         })?;
     }
     Ok(copy)

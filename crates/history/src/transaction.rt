@@ -157,12 +157,14 @@ impl CallsWithRoom {
     }
 }
 
-/// A committed transaction: its caller, its calls, and its number, counted from 1.
+/// A committed transaction: its caller, its calls, its number, counted from 1, and the number of the last transaction of its group: those
+/// that were committed together with it, all or none. Alone it is the last one itself.
 #[derive(Debug, Drop)]
 pub struct Done {
     pub caller: u8,
     pub calls: Calls,
     pub at: u64,
+    pub last: u64,
 }
 
 /// Committed transactions, in the order of their commits.

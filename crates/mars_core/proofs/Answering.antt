@@ -38,7 +38,7 @@ use Rattle.caller_steps.specs.Fate.{is_refusal, is_media, is_committed}
 use Rattle.caller_steps.specs.Prefix.{HasPrefixOf}
 use Rattle.caller_steps.specs.Core.{IsSafe, Steps}
 use Rattle.caller_steps.proofs.Holding.{AreNamed}
-use Rattle.caller_steps.proofs.Sound.{step_sound}
+use Rattle.caller_steps.proofs.Sound.{step_sound, history_whole}
 use Rattle.record_slots.specs.Names.{names_in}
 use Rattle.record_slots.specs.Places.{tables_of}
 use Rattle.record_table.specs.Names.{names_of}
@@ -272,7 +272,7 @@ module _ (tells : Bool) (Opens : Shape → List ℕ → List ℕ → Type 0) (in
           (subst (λ (h : Shape). length q.store.state.bytes ≡ data_len h) works.shape (new_laws.long told)) (laws.counts q.store.state.bytes (sound_new living)) refl refl
 
       time : LeavesOnly (HasPrefixOf (OpensWith (Opens q.store.shape) index) new (length s.history)) p.store q.store
-      time = time_same tells Opens index p q s new (state_of index p).table (table_after t call (state_of index p)) works.shape tied.mirrors.table
+      time = time_same tells Opens index p q s new (state_of index p).table (table_after t call (state_of index p)) (history_whole s tied.sound) works.shape tied.mirrors.table
           (same_table (state_of index p) t call of ∙ tied.mirrors.table) base history (works.time told alive)
 
   -- the names stay
@@ -441,7 +441,7 @@ module _ (tells : Bool) (Opens : Shape → List ℕ → List ℕ → Type 0) (in
         (inr (inr (free, inr (inr (due, (refl, new.index, λ i. record { names = names i; base = base i; history = history i; live = live i; doubt = doubt i; is_dead = died i; index = new.index })))))))
 
     safe_failed : IsTrue tells → IsSafe (core_over Opens index q.store new) q.store.moment (length new.history)
-    safe_failed told = safe_dead tells Opens index one p q old_laws new_laws told works.shape alive (tied told).index_sound s new (tied told).mirrors.table base history (time told (Err Media) works)
+    safe_failed told = safe_dead tells Opens index one p q old_laws new_laws told works.shape alive (tied told).index_sound s new (history_whole s (tied told).sound) (tied told).mirrors.table base history (time told (Err Media) works)
 
     media_keeps : IsKept tells Opens index q count' rows new
     media_keeps = record {

@@ -16,6 +16,7 @@ use Rattle.history.specs.Writes.{Table, Write, all_written}
 use Rattle.history.specs.Rows.{NamedRows}
 use Rattle.history.specs.Table.{Granted, IsRight}
 use Rattle.history.specs.Legal.{records}
+use Rattle.history.specs.Groups.{AreWhole}
 use Rattle.history.specs.Log.{Log, log_of}
 use Rattle.history.specs.declared.call.Reply.{Reply}
 use Rattle.history.specs.declared.call.Call.TheVariants.{Commit, Abort}
@@ -37,7 +38,7 @@ use Rattle.caller_steps.specs.Room.{Settles}
 use Rattle.caller_steps.specs.Step.{Step}
 use Rattle.caller_steps.specs.Prefix.{HasPrefix, HasPrefixOf}
 use Rattle.caller_steps.specs.Core.{IsSafe, Steps}
-use Rattle.caller_steps.proofs.Sound.{step_sound}
+use Rattle.caller_steps.proofs.Sound.{step_sound, history_whole, one_more_whole}
 use Rattle.record_slots.specs.Names.{names_in}
 use Rattle.mars_core.specs.Over.{limits_of, index_with}
 use Rattle.mars_core.specs.Held.{core_over}
@@ -125,6 +126,9 @@ module _ (tells : Bool) (Opens : Shape → List ℕ → List ℕ → Type 0) (in
           left_after : State → Done → Table
           left_after s d = records (records_of s) (d ∷ [])
 
+      whole_more : AreWhole (length (s.history ++ done ∷ [])) (s.history ++ done ∷ [])
+      whole_more = subst (λ (d : Done). AreWhole (length (s.history ++ d ∷ [])) (s.history ++ d ∷ [])) (sym done_is) (one_more_whole s t tied.sound calls at)
+
       time_commit : new.history ++ new.doubt ≡ s.history ++ done ∷ [] → LeavesOnly (HasPrefixOf (OpensWith (Opens q.store.shape) index) new (length s.history)) p.store q.store
       time_commit list = weaker go (does.time told alive)
         where
@@ -138,9 +142,9 @@ module _ (tells : Bool) (Opens : Shape → List ℕ → List ℕ → Type 0) (in
 
           go : (image : List ℕ) → OpensWith (Opens p.store.shape) index image (state_of index p).table ⊎ OpensWith (Opens p.store.shape) index image (seen_by (state_of index p) t)
               → HasPrefixOf (OpensWith (Opens q.store.shape) index) new (length s.history) image
-          go image (inl o) = turned image (prefix_all (OpensWith (Opens q.store.shape) index) image s.base s.history (done ∷ [])
+          go image (inl o) = turned image (prefix_all (OpensWith (Opens q.store.shape) index) image s.base s.history (done ∷ []) (history_whole s tied.sound)
               (subst (λ (table : Table). OpensWith (Opens q.store.shape) index image table) tied.mirrors.table (opened image (state_of index p).table o)))
-          go image (inr o) = turned image (prefix_more (OpensWith (Opens q.store.shape) index) image s.base s.history done
+          go image (inr o) = turned image (prefix_more (OpensWith (Opens q.store.shape) index) image s.base s.history (done ∷ []) whole_more
               (subst (λ (table : Table). OpensWith (Opens q.store.shape) index image table) seen_left (opened image (seen_by (state_of index p) t) o)))
 
   module _ (done : Done) (done_is : done ≡ done_by s t calls) (k : ℕ) (does : Does tells (Opens p.store.shape) index 0 t Commit p q (Ok (Committed k)))
@@ -237,7 +241,7 @@ module _ (tells : Bool) (Opens : Shape → List ℕ → List ℕ → Type 0) (in
     time_doubt told = time_commit done done_is (Err fault.Media) does live told doubtful
 
     safe_doubt : IsTrue tells → IsSafe (core_over Opens index q.store new) q.store.moment (length new.history)
-    safe_doubt told = let was = kept.tied told alive in safe_dead tells Opens index one p q old_laws new_laws told does.shape alive was.index_sound s new was.mirrors.table base history (time_doubt told)
+    safe_doubt told = let was = kept.tied told alive in safe_dead tells Opens index one p q old_laws new_laws told does.shape alive was.index_sound s new (history_whole s was.sound) was.mirrors.table base history (time_doubt told)
 
     pub doubted_keeps : IsKept tells Opens index q count' rows new
     doubted_keeps = record {
@@ -294,7 +298,7 @@ module _ (tells : Bool) (Opens : Shape → List ℕ → List ℕ → Type 0) (in
 
         time_abort : LeavesOnly (HasPrefixOf (OpensWith (Opens q.store.shape) index) new (length s.history)) p.store q.store
         time_abort = let was = kept.tied told alive in
-            time_same tells Opens index p q s new (state_of index p).table (state_of index p).table does.shape was.mirrors.table was.mirrors.table base history (does.time told alive)
+            time_same tells Opens index p q s new (state_of index p).table (state_of index p).table (history_whole s was.sound) does.shape was.mirrors.table was.mirrors.table base history (does.time told alive)
 
       pub aborted_keeps : q.store.ranges t ≡ None → IsKept tells Opens index q count' rows new
       aborted_keeps free = record {

@@ -8,12 +8,14 @@ use Rattle.page_store.specs.Index.{Index}
 use Rattle.page_store.specs.Shown.{PagesView}
 use Rattle.history.specs.Writes.{Table}
 use Rattle.history.specs.Legal.{records}
+use Rattle.history.specs.Groups.{AreWhole}
 use Rattle.history.specs.declared.transaction.Done.{Done}
 use Rattle.record_table.specs.Does.{OpensWith}
 use Rattle.record_table.specs.Shown.{table_of}
 use Rattle.caller_steps.specs.State.{State, records_of}
 use Rattle.caller_steps.specs.Prefix.{HasPrefix, HasPrefixOf}
 use Rattle.caller_steps.specs.Core.{IsSafe}
+use Rattle.caller_steps.proofs.Sound.{history_whole}
 use Rattle.mars_core.specs.Held.{core_over}
 use Rattle.mars_core.specs.Kept.{IsTied}
 
@@ -42,21 +44,23 @@ take_all (x ∷ xs) = ap (λ zs. x ∷ zs) (take_all xs)
 
 module _ (Op : List ℕ → Table → Type 0) (image : List ℕ) where
   -- the whole history is a prefix, whatever is in doubt
-  pub prefix_all : (base : Table) (history doubt : List Done) → Op image (records base history) → HasPrefix Op base (history ++ doubt) (length history) image
-  prefix_all base history doubt opens = record {
+  pub prefix_all : (base : Table) (history doubt : List Done) → AreWhole (length history) history → Op image (records base history) → HasPrefix Op base (history ++ doubt) (length history) image
+  prefix_all base history doubt whole opens = record {
     count = length history;
     at_least = omega arith;
     at_most = longer history doubt;
+    whole = subst (λ (hs : List Done). AreWhole (length history) hs) (sym (take_front history doubt)) whole;
     opens = subst (λ (hs : List Done). Op image (records base hs)) (sym (take_front history doubt)) opens;
   }
 
-  -- with one more transaction, in doubt or not
-  pub prefix_more : (base : Table) (history : List Done) (done : Done) → Op image (records base (history ++ done ∷ [])) → HasPrefix Op base (history ++ done ∷ []) (length history) image
-  prefix_more base history done opens = record {
-    count = length (history ++ done ∷ []);
-    at_least = longer history (done ∷ []);
+  -- with more transactions, in doubt or not
+  pub prefix_more : (base : Table) (history more : List Done) → AreWhole (length (history ++ more)) (history ++ more) → Op image (records base (history ++ more)) → HasPrefix Op base (history ++ more) (length history) image
+  prefix_more base history more whole opens = record {
+    count = length (history ++ more);
+    at_least = longer history more;
     at_most = omega arith;
-    opens = subst (λ (hs : List Done). Op image (records base hs)) (sym (take_all (history ++ done ∷ []))) opens;
+    whole = subst (λ (hs : List Done). AreWhole (length (history ++ more)) hs) (sym (take_all (history ++ more))) whole;
+    opens = subst (λ (hs : List Done). Op image (records base hs)) (sym (take_all (history ++ more))) opens;
   }
 
 module _ (tells : Bool) (Opens : Shape → List ℕ → List ℕ → Type 0) (index : Index) (one : (shape : Shape) (image a b : List ℕ) → Opens shape image a → Opens shape image b → a ≡ b)
@@ -80,10 +84,10 @@ module _ (tells : Bool) (Opens : Shape → List ℕ → List ℕ → Type 0) (in
         go image now (inr (inr o)) = from image o.bytes now o.opened o.sound
 
   -- If the medium failed, what may be left now is what might have been left before or within the call.
-  pub safe_dead : (s new : State) → table_of index p.store.state.bytes ≡ records_of s → new.base ≡ s.base → new.history ≡ s.history
+  pub safe_dead : (s new : State) → AreWhole (length s.history) s.history → table_of index p.store.state.bytes ≡ records_of s → new.base ≡ s.base → new.history ≡ s.history
       → LeavesOnly (HasPrefixOf (OpensWith (Opens q.store.shape) index) new (length s.history)) p.store q.store
       → IsSafe (core_over Opens index q.store new) q.store.moment (length new.history)
-  safe_dead s new table base history time image left =
+  safe_dead s new whole table base history time image left =
       subst (λ (hs : List Done). HasPrefix (OpensWith (Opens q.store.shape) index) new.base (new.history ++ new.doubt) (length hs) image) (sym history)
       (go (time.only p.store.moment image (omega arith) (new_laws.counts told p.store.moment image time.later left)))
     where
@@ -95,11 +99,11 @@ module _ (tells : Bool) (Opens : Shape → List ℕ → List ℕ → Type 0) (in
       go (inl past) =
           let opened = subst (λ (h : Shape). Opens h image p.store.state.bytes) (sym shape) (old_laws.only told alive image past) in
           subst (λ (hs : List Done). HasPrefix (OpensWith (Opens q.store.shape) index) new.base (new.history ++ new.doubt) (length hs) image) history
-          (prefix_all (OpensWith (Opens q.store.shape) index) image new.base new.history new.doubt (record { bytes = p.store.state.bytes; opened = opened; sound = sound; shows = shows }))
+          (prefix_all (OpensWith (Opens q.store.shape) index) image new.base new.history new.doubt (subst (λ (hs : List Done). AreWhole (length hs) hs) (sym history) whole) (record { bytes = p.store.state.bytes; opened = opened; sound = sound; shows = shows }))
       go (inr has) = has
 
 -- While the store lives, whatever may be left now opens with the records of the history.
 pub safe_alive : (tells : Bool) (Opens : Shape → List ℕ → List ℕ → Type 0) (index : Index) (q : PagesView) (laws : StoreLaws tells Opens q.store) (s : State) → IsTrue tells → IsAlive q.store → IsTied index q s
     → IsSafe (core_over Opens index q.store s) q.store.moment (length s.history)
-safe_alive tells Opens index q laws s told alive tied image left = prefix_all (OpensWith (Opens q.store.shape) index) image s.base s.history s.doubt
+safe_alive tells Opens index q laws s told alive tied image left = prefix_all (OpensWith (Opens q.store.shape) index) image s.base s.history s.doubt (history_whole s tied.sound)
     (record { bytes = q.store.state.bytes; opened = laws.only told alive image left; sound = tied.index_sound; shows = tied.mirrors.table })

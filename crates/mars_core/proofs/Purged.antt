@@ -22,6 +22,7 @@ use Rattle.record_slots.specs.Names.{names_in}
 use Rattle.record_slots.specs.declared.super_page.TableEntry.{TableEntry}
 use Rattle.record_table.specs.Names.{names_of}
 use Rattle.caller_steps.proofs.AtKeys.{at_other_key}
+use Rattle.caller_steps.proofs.Sound.{history_whole}
 use Rattle.history.specs.Log.{Log, log_of}
 use Rattle.history.specs.Rows.{NamedRows}
 use Rattle.history.specs.Table.{Granted}
@@ -135,7 +136,7 @@ module _ (tells : Bool) (Opens : Shape → List ℕ → List ℕ → Type 0) (in
             index_sound = clears.sound told living;
             named = sym (clears.ready told).named;
             mirrors = record { table = ap (λ (x : TableState). x.table) state ∙ was.mirrors.table; logs = λ u. ap (λ (x : TableState). x.logs u) state ∙ was.mirrors.logs u };
-            sound = record { legal = was.sound.legal; certain = λ _. was.sound.certain alive; doubtful = was.sound.doubtful; right = was.sound.right; apart = was.sound.apart };
+            sound = record { legal = was.sound.legal; certain = λ _. was.sound.certain alive; doubtful = was.sound.doubtful; groups = was.sound.groups; doubtful_groups = was.sound.doubtful_groups; right = was.sound.right; apart = was.sound.apart };
             room = λ u g. subst (λ (l : Limits). held_on l (state_at index q.store seats.names base history (live_in seats) doubt) u g ≤ l.entries) (ap limits_of (sym clears.shape))
                 (subst (λ (k : ℕ). k ≤ p.store.shape.entries)
                 (sym (ap length (all_lost (limits_of p.store.shape) g index seats p.store.state.bytes u (index_of index p.store.state.bytes) (index_of index q.store.state.bytes) cleared.keys cleared.lost cleared.free))) (was.room u g));
@@ -155,12 +156,12 @@ module _ (tells : Bool) (Opens : Shape → List ℕ → List ℕ → Type 0) (in
 
     module _ (r : Result ℕ TableFault) (clears : Clears tells (Opens p.store.shape) index seats t (IsOfFirst seats.names (length seats.names)) p q r) where
       time_now : IsTrue tells → LeavesOnly (HasPrefixOf (OpensWith (Opens q.store.shape) index) (state_at index q.store seats.names base history (live_in seats) doubt) (length history)) p.store q.store
-      time_now told = time_same tells Opens index p q s new (state_of index p).table (state_of index p).table clears.shape (was told).mirrors.table (was told).mirrors.table refl refl
+      time_now told = time_same tells Opens index p q s new (state_of index p).table (state_of index p).table (history_whole s (was told).sound) clears.shape (was told).mirrors.table (was told).mirrors.table refl refl
           (weaker (λ image opens. inl opens) (clears.time told))
 
       safe_now : (b : Bool) → q.store.is_dead ≡ b → IsTrue tells → IsSafe (core_over Opens index q.store (state_at index q.store seats.names base history (live_in seats) doubt)) q.store.moment (length history)
       safe_now false living told = safe_alive tells Opens index q new_laws (state_at index q.store seats.names base history (live_in seats) doubt) told living (tied_of told r clears living)
-      safe_now true dead told = safe_dead tells Opens index one p q old_laws new_laws told clears.shape alive (was told).index_sound s new (was told).mirrors.table refl refl (time_now told)
+      safe_now true dead told = safe_dead tells Opens index one p q old_laws new_laws told clears.shape alive (was told).index_sound s new (history_whole s (was told).sound) (was told).mirrors.table refl refl (time_now told)
 
       not_failed : IsAlive q.store → IsFalse (is_failed r)
       not_failed living = elim (cases_Bool (is_failed r)) [

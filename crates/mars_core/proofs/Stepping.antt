@@ -16,6 +16,7 @@ use Rattle.history.specs.Writes.{Table, Write}
 use Rattle.history.specs.Key.{of_table}
 use Rattle.history.specs.Table.{Granted, IsRight, has_save, removed}
 use Rattle.history.specs.Locks.{has_table}
+use Rattle.history.specs.Groups.{AreWhole}
 use Rattle.history.specs.Legal.{records}
 use Rattle.history.specs.Log.{Log, log_of}
 use Rattle.history.specs.declared.call.Call.{Call}
@@ -149,17 +150,17 @@ module _ (tells : Bool) (Opens : Shape → List ℕ → List ℕ → Type 0) (in
       (λ failed. absurd (false≢true (sym no_media ∙ failed))) (λ _. refl) step (λ told. stays p.store.moment p.store.left_since _) safe)
 
   -- what a loss of power leaves within a call that does not change the table
-  pub time_same : (p q : PagesView) (s new : State) (A B : Table) → q.store.shape ≡ p.store.shape → A ≡ records_of s → B ≡ records_of s → new.base ≡ s.base → new.history ≡ s.history
+  pub time_same : (p q : PagesView) (s new : State) (A B : Table) → AreWhole (length s.history) s.history → q.store.shape ≡ p.store.shape → A ≡ records_of s → B ≡ records_of s → new.base ≡ s.base → new.history ≡ s.history
       → LeavesOnly (λ image. OpensWith (Opens p.store.shape) index image A ⊎ OpensWith (Opens p.store.shape) index image B) p.store q.store
       → LeavesOnly (HasPrefixOf (OpensWith (Opens q.store.shape) index) new (length s.history)) p.store q.store
-  time_same p q s new A B shape a b base history time = weaker go time
+  time_same p q s new A B whole shape a b base history time = weaker go time
     where
       opened : (image : List ℕ) (C : Table) → C ≡ records_of s → OpensWith (Opens p.store.shape) index image C → HasPrefixOf (OpensWith (Opens q.store.shape) index) new (length s.history) image
       opened image C c o =
           let here = subst (λ (h : Shape). OpensWith (Opens h) index image C) (sym shape) o in
           let shows = subst (λ (table : Table). OpensWith (Opens q.store.shape) index image table) (c ∙ (λ i. records (sym base i) (sym history i))) here in
           subst (λ (hs : List Done). HasPrefix (OpensWith (Opens q.store.shape) index) new.base (new.history ++ new.doubt) (length hs) image) history
-          (prefix_all (OpensWith (Opens q.store.shape) index) image new.base new.history new.doubt shows)
+          (prefix_all (OpensWith (Opens q.store.shape) index) image new.base new.history new.doubt (subst (λ (hs : List Done). AreWhole (length hs) hs) (sym history) whole) shows)
 
       go : (image : List ℕ) → OpensWith (Opens p.store.shape) index image A ⊎ OpensWith (Opens p.store.shape) index image B → HasPrefixOf (OpensWith (Opens q.store.shape) index) new (length s.history) image
       go image (inl o) = opened image A a o

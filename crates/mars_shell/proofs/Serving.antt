@@ -1,5 +1,7 @@
 -- The work over the records of a store, from what it makes of a core.
 use Rattle.std.proofs.Common.{◌≡◌, ℕ, ◌≤◌, inl, inr, ⊎_elim, List, [], ◌++◌, length, take, Bool, false, refl, sym, ap, subst, ◌∙◌, arith}
+use Rattle.std.proofs.lemmas.List.Elements.{All-nil}
+use Rattle.history.specs.declared.transaction.Done.{Done}
 use Rattle.std.specs.Prelude.{IsTrue}
 use Rattle.mars_base.proofs.Going as going
 use Rattle.array_shape.specs.declared.shape.Shape.{Shape}
@@ -55,7 +57,7 @@ module _ (tells : Bool) (Opens : Shape → List ℕ → List ℕ → Type 0) (in
     live = begins.fresh.1;
     enough = subst (λ (l : Limits). callers ≤ l.callers) (sym limits_are) few;
     sound = λ told. subst IsSound (sym (begun_is told)) (opened_sound (names_of old.state.bytes) (table_of index old.state.bytes) (index_of index (upgraded old.state.bytes)));
-    now = λ told image left. record { count = 0; at_least = omega arith; at_most = omega arith; opens = opens_base told image left };
+    now = λ told image left. record { count = 0; at_least = omega arith; at_most = omega arith; whole = All-nil (λ (done : Done). done.last ≤ 0); opens = opens_base told image left };
   }
     where
       opens_base : IsTrue tells → (image : List ℕ) → core.left_since core.moment image → core.opens image core.state.base
@@ -84,6 +86,7 @@ module _ (tells : Bool) (Opens : Shape → List ℕ → List ℕ → Type 0) (in
           count = has.count;
           at_least = omega (arith, le, has.at_least);
           at_most = has.at_most;
+          whole = has.whole;
           opens = subst (λ (s : Shape). OpensWith (Opens s) index image table) shape ((over.opens_to image table).1 has.opens);
         }
 
@@ -104,6 +107,7 @@ module _ (tells : Bool) (Opens : Shape → List ℕ → List ℕ → Type 0) (in
       count = 0;
       at_least = omega arith;
       at_most = omega arith;
+      whole = All-nil (λ (done : Done). done.last ≤ 0);
       opens = ⊎_elim (λ was. record { bytes = old.state.bytes; opened = was; sound = begins.sound told; shows = sym base_is })
           (λ is. record { bytes = upgraded old.state.bytes; opened = is; sound = subst index.sound (begins.bytes told) (begins.over.sound told begins.alive); shows = base_two }) opens;
     }
