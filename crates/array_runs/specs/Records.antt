@@ -5,6 +5,7 @@ use Rattle.array_shape.specs.declared.shape.Shape.{Shape}
 use Rattle.array_image.specs.Decided.{settled_data}
 use Rattle.eaw_device.specs.Opens.{IsArray, HoldsArray}
 use Rattle.page_store.specs.Index.{Index}
+use Rattle.record_table.specs.Names.{names_of}
 use Rattle.record_table.specs.Shown.{table_of}
 use Rattle.record_table.specs.Upgrading.{upgraded}
 use Rattle.history.specs.Legal.{records}
@@ -41,10 +42,11 @@ worked_on false bytes = upgraded bytes
 
 -- the callers before the first line, over this data under an index
 abbrev pub begun_on : Bool → Index → List ℕ → State
-begun_on spares index bytes = opened (table_of index bytes) (index_of index (worked_on spares bytes))
+begun_on spares index bytes = opened (names_of bytes) (table_of index bytes) (index_of index (worked_on spares bytes))
 
--- the data has the records and the keys of a state, under an index
+-- the data has the names, the records and the keys of a state, under an index
 pub record HasAll (index : Index) (bytes : List ℕ) (state : State) : Type 0 where
   pub sound : index.sound bytes
+  pub names : names_of bytes ≡ state.names
   pub table : table_of index bytes ≡ records state.base state.history
   pub keys : state.index ≡ index_of index bytes

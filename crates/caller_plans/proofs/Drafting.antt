@@ -6,6 +6,7 @@ use Rattle.std.proofs.lemmas.Bool.Decides.{nat_tests}
 use Rattle.std.proofs.lemmas.List.{append_assoc, append-nil, length-set}
 use Rattle.std.proofs.lemmas.Option.{slice_get_within}
 use Rattle.history.specs.declared.call.Call.{Call}
+use Rattle.history.specs.declared.key.Key.{Key}
 use Rattle.history.specs.declared.call.Call.TheVariants.{Begin}
 use Rattle.script_text.specs.declared.joint_line.JointLine.{JointLine}
 use Rattle.script_text.specs.declared.joint_line.JointLine.TheVariants.{Nothing, Told, Read, Bad}
@@ -96,42 +97,42 @@ drafted_silent first (draft ∷ drafts) line lines silent =
     ∙ ap (λ (others : List (List Plan)). drafted draft (calls_by first (line ∷ lines)) ∷ others) (drafted_silent (suc first) drafts line lines silent)
 
 -- a line by which no reader asks leaves what they ask for
-asked_silent : (first : ℕ) (asks : List (List ℕ)) (line : JointLine) (lines : List JointLine) → ((reader : ℕ) → keys_by reader (line ∷ lines) ≡ keys_by reader lines)
+asked_silent : (first : ℕ) (asks : List (List Key)) (line : JointLine) (lines : List JointLine) → ((reader : ℕ) → keys_by reader (line ∷ lines) ≡ keys_by reader lines)
     → all_asked first asks lines ≡ all_asked first asks (line ∷ lines)
 asked_silent first [] line lines silent = refl
 asked_silent first (keys ∷ asks) line lines silent =
-    ap (λ (ks : List ℕ). (keys ++ ks) ∷ all_asked (suc first) asks lines) (sym (silent first))
-    ∙ ap (λ (others : List (List ℕ)). (keys ++ keys_by first (line ∷ lines)) ∷ others) (asked_silent (suc first) asks line lines silent)
+    ap (λ (ks : List Key). (keys ++ ks) ∷ all_asked (suc first) asks lines) (sym (silent first))
+    ∙ ap (λ (others : List (List Key)). (keys ++ keys_by first (line ∷ lines)) ∷ others) (asked_silent (suc first) asks line lines silent)
 
 -- readers after the one that asks ask for nothing
-asked_past : (first reader key : ℕ) (asks : List (List ℕ)) (lines : List JointLine) → reader < first → all_asked first asks (Read reader key ∷ lines) ≡ all_asked first asks lines
+asked_past : (first reader : ℕ) (key : Key) (asks : List (List Key)) (lines : List JointLine) → reader < first → all_asked first asks (Read reader key ∷ lines) ≡ all_asked first asks lines
 asked_past first reader key [] lines lt = refl
 asked_past first reader key (keys ∷ asks) lines lt =
-    ap (λ (ks : List ℕ). (keys ++ ks) ∷ all_asked (suc first) asks (Read reader key ∷ lines)) (cond-false (nat_eq reader first) (key ∷ keys_by first lines) (keys_by first lines) (apart reader first (λ e. omega (arith, e, lt))))
-    ∙ ap (λ (others : List (List ℕ)). (keys ++ keys_by first lines) ∷ others) (asked_past (suc first) reader key asks lines (omega (arith, lt)))
+    ap (λ (ks : List Key). (keys ++ ks) ∷ all_asked (suc first) asks (Read reader key ∷ lines)) (cond-false (nat_eq reader first) (key ∷ keys_by first lines) (keys_by first lines) (apart reader first (λ e. omega (arith, e, lt))))
+    ∙ ap (λ (others : List (List Key)). (keys ++ keys_by first lines) ∷ others) (asked_past (suc first) reader key asks lines (omega (arith, lt)))
 
 -- after a reader's key was added, it asks for what it did with the key before the rest, and the others for theirs
-asked-set : (first i reader key : ℕ) (asks : List (List ℕ)) (was : List ℕ) (lines : List JointLine) → slice_get asks i ≡ Some was → reader ≡ first + i
+asked-set : (first i reader : ℕ) (key : Key) (asks : List (List Key)) (was : List Key) (lines : List JointLine) → slice_get asks i ≡ Some was → reader ≡ first + i
     → all_asked first (set asks i (was ++ key ∷ [])) lines ≡ all_asked first asks (Read reader key ∷ lines)
 asked-set first i reader key [] was lines at is = cc
 asked-set first zero reader key (one ∷ asks) was lines at is =
     let same : was ≡ one = cc in
-    ap (λ (ks : List ℕ). ks ∷ all_asked (suc first) asks lines) (append_assoc was (key ∷ []) (keys_by first lines) ∙ ap (λ (ks : List ℕ). ks ++ key ∷ keys_by first lines) same)
-    ∙ (ap (λ (ks : List ℕ). (one ++ ks) ∷ all_asked (suc first) asks lines) (sym (cond-true (nat_eq reader first) (key ∷ keys_by first lines) (keys_by first lines) (eq-eqb reader first (omega (arith, is)))))
-    ∙ ap (λ (others : List (List ℕ)). (one ++ keys_by first (Read reader key ∷ lines)) ∷ others) (sym (asked_past (suc first) reader key asks lines (omega (arith, is)))))
+    ap (λ (ks : List Key). ks ∷ all_asked (suc first) asks lines) (append_assoc was (key ∷ []) (keys_by first lines) ∙ ap (λ (ks : List Key). ks ++ key ∷ keys_by first lines) same)
+    ∙ (ap (λ (ks : List Key). (one ++ ks) ∷ all_asked (suc first) asks lines) (sym (cond-true (nat_eq reader first) (key ∷ keys_by first lines) (keys_by first lines) (eq-eqb reader first (omega (arith, is)))))
+    ∙ ap (λ (others : List (List Key)). (one ++ keys_by first (Read reader key ∷ lines)) ∷ others) (sym (asked_past (suc first) reader key asks lines (omega (arith, is)))))
 asked-set first (suc i) reader key (one ∷ asks) was lines at is =
-    ap (λ (others : List (List ℕ)). (one ++ keys_by first lines) ∷ others) (asked-set (suc first) i reader key asks was lines at (omega (arith, is)))
-    ∙ ap (λ (ks : List ℕ). (one ++ ks) ∷ all_asked (suc first) asks (Read reader key ∷ lines)) (sym (cond-false (nat_eq reader first) (key ∷ keys_by first lines) (keys_by first lines) (apart reader first (λ e. omega (arith, e, is)))))
+    ap (λ (others : List (List Key)). (one ++ keys_by first lines) ∷ others) (asked-set (suc first) i reader key asks was lines at (omega (arith, is)))
+    ∙ ap (λ (ks : List Key). (one ++ ks) ∷ all_asked (suc first) asks (Read reader key ∷ lines)) (sym (cond-false (nat_eq reader first) (key ∷ keys_by first lines) (keys_by first lines) (apart reader first (λ e. omega (arith, e, is)))))
 
 -- of readers that have asked for nothing, all that they ask for is that of the lines
 pub first_asked : (first n : ℕ) (lines : List JointLine) → all_asked first (replicate n []) lines ≡ keys_from first n lines
 first_asked first zero lines = refl
-first_asked first (suc n) lines = ap (λ (others : List (List ℕ)). keys_by first lines ∷ others) (first_asked (suc first) n lines)
+first_asked first (suc n) lines = ap (λ (others : List (List Key)). keys_by first lines ∷ others) (first_asked (suc first) n lines)
 
 -- what they ask for when no line is left
-pub asked_last : (first : ℕ) (asks : List (List ℕ)) → all_asked first asks [] ≡ asks
+pub asked_last : (first : ℕ) (asks : List (List Key)) → all_asked first asks [] ≡ asks
 asked_last first [] = refl
-asked_last first (keys ∷ asks) = ap₂ (λ (ks : List ℕ) (others : List (List ℕ)). ks ∷ others) (append-nil keys) (asked_last (suc first) asks)
+asked_last first (keys ∷ asks) = ap₂ (λ (ks : List Key) (others : List (List Key)). ks ∷ others) (append-nil keys) (asked_last (suc first) asks)
 
 pub takes_nothing : (n : ℕ) (old : Reading) → Takes n Nothing old old
 takes_nothing n old = record {
@@ -151,11 +152,11 @@ takes_bad n old new faults drafts asks = record {
       ∙ append_assoc old.faults (fault.Bad n ∷ []) (faults_from (suc n) (are_within old.drafts.items) lines));
   plans = λ lines. ap (λ (ds : List Draft). all_drafted 0 ds lines) drafts ∙ drafted_silent 0 old.drafts.items Bad lines (λ caller. refl);
   readers = ap length asks;
-  asks = λ lines. ap (λ (ks : List (List ℕ)). all_asked 0 ks lines) asks ∙ asked_silent 0 old.asks.items Bad lines (λ reader. refl);
+  asks = λ lines. ap (λ (ks : List (List Key)). all_asked 0 ks lines) asks ∙ asked_silent 0 old.asks.items Bad lines (λ reader. refl);
 }
 
 -- a line by which a reader asks for a key, which is then the last that it asks for
-pub takes_asked : (n reader key : ℕ) (old new : Reading) (was : List ℕ) → slice_get old.asks.items reader ≡ Some was → new.faults ≡ old.faults → new.drafts.items ≡ old.drafts.items
+pub takes_asked : (n reader : ℕ) (key : Key) (old new : Reading) (was : List Key) → slice_get old.asks.items reader ≡ Some was → new.faults ≡ old.faults → new.drafts.items ≡ old.drafts.items
     → new.asks.items ≡ set old.asks.items reader (was ++ key ∷ []) → Takes n (Read reader key) old new
 takes_asked n reader key old new was at faults drafts asks = record {
   count = ap length drafts;
@@ -164,7 +165,7 @@ takes_asked n reader key old new was at faults drafts asks = record {
       ∙ ap (λ (fs : List LineFault). fs ++ faults_from (suc n) (are_within old.drafts.items) lines) faults;
   plans = λ lines. ap (λ (ds : List Draft). all_drafted 0 ds lines) drafts ∙ drafted_silent 0 old.drafts.items (Read reader key) lines (λ caller. refl);
   readers = ap length asks ∙ length-set old.asks.items reader (was ++ key ∷ []);
-  asks = λ lines. ap (λ (ks : List (List ℕ)). all_asked 0 ks lines) asks ∙ asked-set 0 reader reader key old.asks.items was lines at (omega arith);
+  asks = λ lines. ap (λ (ks : List (List Key)). all_asked 0 ks lines) asks ∙ asked-set 0 reader reader key old.asks.items was lines at (omega arith);
 }
 
 module _ (n caller : ℕ) (call : Call) (old new : Reading) (was : Draft) (at : slice_get old.drafts.items caller ≡ Some was) where
@@ -190,7 +191,7 @@ module _ (n caller : ℕ) (call : Call) (old new : Reading) (was : Draft) (at : 
             ap (λ (ds : List Draft). all_drafted 0 ds lines) (drafts ∙ sym (set_same old.drafts.items caller was at))
             ∙ drafted-set 0 caller caller call old.drafts.items was was lines at (omega arith) (λ calls. ap (λ (ps : List Plan). was.plans ++ ps) (sym (stray_planned was.begun call calls stray)));
         readers = ap length asks;
-        asks = λ lines. ap (λ (ks : List (List ℕ)). all_asked 0 ks lines) asks ∙ asked_silent 0 old.asks.items (Told caller call) lines (λ reader. refl);
+        asks = λ lines. ap (λ (ks : List (List Key)). all_asked 0 ks lines) asks ∙ asked_silent 0 old.asks.items (Told caller call) lines (λ reader. refl);
       }
 
   -- the line of another call, which the draft then has
@@ -210,7 +211,7 @@ module _ (n caller : ℕ) (call : Call) (old new : Reading) (was : Draft) (at : 
             ∙ ap (λ (fs : List LineFault). old.faults ++ (fs ++ faults_from (suc n) behind lines)) (sym (cond-false (is_stray (within caller) call) (fault.Stray n ∷ []) [] stays)));
         plans = λ lines. ap (λ (ds : List Draft). all_drafted 0 ds lines) drafts ∙ drafted-set 0 caller caller call old.drafts.items was draft lines at (omega arith) makes;
         readers = ap length asks;
-        asks = λ lines. ap (λ (ks : List (List ℕ)). all_asked 0 ks lines) asks ∙ asked_silent 0 old.asks.items (Told caller call) lines (λ reader. refl);
+        asks = λ lines. ap (λ (ks : List (List Key)). all_asked 0 ks lines) asks ∙ asked_silent 0 old.asks.items (Told caller call) lines (λ reader. refl);
       }
 
 -- of callers that have made no call, none is within a transaction, and all their plans are those of the lines

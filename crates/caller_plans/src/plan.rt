@@ -2,14 +2,14 @@
 ghost use Rattle.std.specs.Prelude.{◌≡◌, ◌↔◌, IsTrue};
 ghost use Rattle.caller_plans.specs.Plans.{is_of_table, IsPlain, ArePlain};
 
-use history::Call;
+use history::{Call, Key};
 use mars_base::Listed;
 
 /// Calls in the order in which a caller makes them.
 pub type Asked = Listed<Call>;
 
 /// Keys in the order in which a reader asks for them.
-pub type Keys = Listed<u64>;
+pub type Keys = Listed<Key>;
 
 /// The transactions of a caller, in the order of the script.
 pub type Plans = Listed<Plan>;

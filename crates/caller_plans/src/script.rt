@@ -10,7 +10,7 @@ ghost use Rattle.caller_plans.specs.Drafts.{empty_draft, all_drafted, IsAmong, T
 use crate::draft::Draft;
 use crate::fate::{LineFault, LineFaults};
 use crate::plan::{Keys, Plans};
-use history::Call;
+use history::{Call, Key};
 use mars_base::NoMemory;
 use script_run::next_line;
 use script_text::{JointLine, read_joint_line};
@@ -106,7 +106,7 @@ impl Reading {
                 Ok(())
             }
             JointLine::Told { caller, call } => self.hear(alloc, number, *caller, call),
-            JointLine::Read { reader, key } => self.ask(*reader, *key),
+            JointLine::Read { reader, key } => self.ask(*reader, key),
         }
     }
 
@@ -123,11 +123,11 @@ impl Reading {
     }
 
     // Takes the line by which a reader asks for a key.
-    fn ask(&mut self, reader: u8, key: u64) -> Result<(), NoMemory>
+    fn ask(&mut self, reader: u8, key: &Key) -> Result<(), NoMemory>
         requires { reader < length self.old.asks.items }
-        ensures { OnOk result ((number : ℕ) → Takes number (Read reader key) self.old self.new) }
+        ensures { OnOk result ((number : ℕ) → Takes number (Read reader key.now) self.old self.new) }
     {
-        self.asks[usize::from(reader)].push(key)?;
+        self.asks[usize::from(reader)].push(*key)?;
         Ok(())
     }
 

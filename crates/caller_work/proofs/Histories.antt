@@ -108,7 +108,7 @@ module _ (caller : ℕ) where
 
   -- one call that is not answered as a commit
   mine_same : (own : Own) (call : Call) (reply : Reply) → is_committed reply ≡ false → (own_after caller own (call, reply)).mine ≡ own.mine
-  mine_same own call reply e = pick_false (is_committed reply) (own.mine ++ record { caller = caller; calls = unwrap_or own.live []; at = number_of reply } ∷ []) own.mine e
+  mine_same own call reply e = pick_false (is_committed reply) (own.mine ++ record { caller = caller; calls = unwrap_or own.live []; at = number_of reply; last = number_of reply } ∷ []) own.mine e
 
   -- what a try adds to a caller's transactions
   abbrev Gains : Plan → Result Fate Reply → List Done → List Done → Type 0
@@ -149,7 +149,7 @@ module _ (caller : ℕ) where
     where
       at_commit : (reply : Reply) → plan.end ≡ end.Commit → Gains plan (end_outcome end.Commit reply) own.mine (own_after caller own (Commit, reply)).mine
       at_commit (says.Committed at) is_end = (
-        record { caller = caller; calls = unwrap_or own.live []; at = at },
+        record { caller = caller; calls = unwrap_or own.live []; at = at; last = at },
         record { commits = is_end; caller_is = refl; calls = ap (λ (l : Option Granted). map first_of (unwrap_or l [])) live ∙ calls; number = refl },
         refl,
       )

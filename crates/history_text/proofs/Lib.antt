@@ -1,2 +1,3 @@
 mod HistoryLines
 mod Numbering
+mod TableLines

@@ -4,9 +4,8 @@ use Rattle.std.specs.Prelude.{ℕ, suc, nat_eq, if◌then◌else◌, List, [], �
 use lib.Pointwise.{pointwise}
 use Rattle.std.specs.List.{flat_map}
 use Rattle.std.specs.Fmt.{decimal}
-use Rattle.history.specs.Key.{Key, main_name}
-use Rattle.history.specs.Rows.{keyed}
-use Rattle.history.specs.Writes.{Row}
+use Rattle.history.specs.Key.{main_name}
+use Rattle.history.specs.declared.key.Key.{Key}
 use Rattle.history.specs.declared.transaction.Done.{Done}
 use Rattle.script_text.specs.Replies.{reply_text, reply_line, told_line, bad_line}
 use Rattle.caller_plans.specs.declared.fate.Fate.{Fate}
@@ -14,6 +13,7 @@ use Rattle.caller_plans.specs.declared.fate.Fate.TheVariants.{Committed, Aborted
 use Rattle.caller_plans.specs.declared.fate.LineFault.{LineFault}
 use Rattle.caller_plans.specs.declared.fate.LineFault.TheVariants.{Bad, Stray}
 use Rattle.reader_work.specs.declared.answer.Answer.{Answer}
+use Rattle.reader_work.specs.declared.answer.Answer.TheVariants.{Value, NoTable}
 
 abbrev pub fault_line : LineFault → List ℕ
 fault_line (Bad n) = bad_line n
@@ -34,24 +34,13 @@ abbrev pub numbered : {A : Type 0} → (ℕ → A → List ℕ) → ℕ → List
 numbered line n [] = []
 numbered line n (x ∷ xs) = line n x ++ numbered line (suc n) xs
 
+-- the number of a key, and before it the name of its table, unless that is `main`
+abbrev pub key_text : Key → List ℕ
+key_text key = if pointwise nat_eq key.table main_name then decimal key.key else 64 ∷ (key.table ++ 32 ∷ decimal key.key)
+
 -- the line of a record
-abbrev pub rec_line : ℕ × List ℕ → List ℕ
-rec_line r = codes "rec " ++ (decimal r.0 ++ 32 ∷ (r.1 ++ 10 ∷ []))
-
--- what stands before the key of a record: the name of its table, unless that is `main`
-abbrev pub record_head : List ℕ → List ℕ
-record_head name = if pointwise nat_eq name main_name then codes "rec " else codes "rec @" ++ (name ++ 32 ∷ [])
-
--- the line of a record of any table
 abbrev pub record_line : Key × List ℕ → List ℕ
-record_line entry = record_head entry.0.table ++ (decimal entry.0.key ++ 32 ∷ (entry.1 ++ 10 ∷ []))
-
--- that of a row of the table of this name, and those of a table's rows
-abbrev pub row_line : List ℕ → Row → List ℕ
-row_line name row = record_line (keyed name row)
-
-abbrev pub table_lines : List ℕ × List Row → List ℕ
-table_lines table = flat_map (row_line table.0) table.1
+record_line entry = codes "rec " ++ (key_text entry.0 ++ 32 ∷ (entry.1 ++ 10 ∷ []))
 
 -- a line of a word and a number
 abbrev pub number_line : List ℕ → ℕ → List ℕ
@@ -62,9 +51,14 @@ abbrev pub found_text : Option (List ℕ) → List ℕ
 found_text None = codes "none"
 found_text (Some value) = codes "val " ++ value
 
--- the line of what a reader was answered: its number, the key, after how many transactions, and the value then
+-- what a reader was answered: the key, after how many transactions, and its value then; or that there is no such table
+abbrev pub answer_text : Answer → List ℕ
+answer_text (Value key at value) = key_text key ++ (codes " at " ++ (decimal at ++ 32 ∷ found_text value))
+answer_text NoTable = codes "no table"
+
+-- the line of it, with the reader's number
 abbrev pub answer_line : ℕ → Answer → List ℕ
-answer_line reader answer = codes "read " ++ (decimal reader ++ 32 ∷ (decimal answer.key ++ codes " at " ++ (decimal answer.at ++ 32 ∷ (found_text answer.value ++ 10 ∷ []))))
+answer_line reader answer = codes "read " ++ (decimal reader ++ 32 ∷ (answer_text answer ++ 10 ∷ []))
 
 -- the lines of what each reader was answered; they are numbered from 0
 abbrev pub answer_lines : List (List Answer) → List ℕ
@@ -72,6 +66,6 @@ answer_lines told = numbered (λ reader answers. flat_map (answer_line reader) a
 
 -- the text of work that came to its end: the callers are numbered from 0, and the plans of each from 1; behind it is what readers were
 -- answered
-abbrev pub work_text : List LineFault → List Done → List (List Fate) → List (ℕ × List ℕ) → List (List Answer) → List ℕ
+abbrev pub work_text : List LineFault → List Done → List (List Fate) → List (Key × List ℕ) → List (List Answer) → List ℕ
 work_text faults history fates records told =
-    flat_map fault_line faults ++ flat_map done_lines history ++ numbered (λ caller. numbered (fate_line caller) 1) 0 fates ++ flat_map rec_line records ++ answer_lines told
+    flat_map fault_line faults ++ flat_map done_lines history ++ numbered (λ caller. numbered (fate_line caller) 1) 0 fates ++ flat_map record_line records ++ answer_lines told

@@ -1,11 +1,15 @@
 // What readers were answered.
 ghost use Rattle.std.specs.Prelude.{◌≡◌, ◌++◌, ◌≤◌, length, OnOk};
 ghost use Rattle.std.specs.List.{flat_map};
-ghost use Rattle.history_text.specs.Text.{answer_line, answer_lines, found_text};
+ghost use Rattle.reader_work.specs.declared.answer.Answer as Answer;
+ghost use Rattle.history_text.specs.Text.{answer_line, answer_lines, answer_text, found_text};
 
+use crate::keys::append_key;
+use history::{Key, Reply};
 use mars_base::NoMemory;
 use reader_work::{Answer, Answers};
 use record_slots::Value;
+use script_text::put_reply_text;
 use texts::{Piece, append_pieces};
 
 /// Appends the lines of all readers, which are numbered from 0. At `Err` some of them may have been appended.
@@ -38,15 +42,36 @@ fn write_answer(text: &mut Vec<u8>, reader: u8, answer: &Answer) -> Result<(), N
             Piece::Words(b"read "),
             Piece::Number(u64::from(reader)),
             Piece::Words(b" "),
-            Piece::Number(answer.key),
-            Piece::Words(b" at "),
-            Piece::Number(answer.at),
-            Piece::Words(b" "),
         ],
     )?;
-    write_found(text, &answer.value)?;
+    write_answer_text(text, answer)?;
     text.extend_from_slice(b"\n")?;
     Ok(())
+}
+
+fn write_answer_text(text: &mut Vec<u8>, answer: &Answer) -> Result<(), NoMemory>
+    ensures { OnOk result (text.new.items ≡ text.old.items ++ answer_text answer.now) }
+{
+    match answer {
+        Answer::Value { key, at, value } => write_value(text, key, *at, value),
+        Answer::NoTable => put_reply_text(text, &Reply::NoTable),
+    }
+}
+
+fn write_value(
+    text: &mut Vec<u8>,
+    key: &Key,
+    at: u64,
+    value: &Option<Value>,
+) -> Result<(), NoMemory>
+    ensures { OnOk result (text.new.items ≡ text.old.items ++ answer_text (Answer.Value key.now at value.now)) }
+{
+    append_key(text, key)?;
+    append_pieces(
+        text,
+        &[Piece::Words(b" at "), Piece::Number(at), Piece::Words(b" ")],
+    )?;
+    write_found(text, value)
 }
 
 fn write_found(text: &mut Vec<u8>, value: &Option<Value>) -> Result<(), NoMemory>

@@ -5,8 +5,8 @@
 mod answers;
 mod fates;
 mod faults;
+mod keys;
 mod number_line;
-mod records;
 mod tables;
 mod transactions;
 
@@ -14,6 +14,5 @@ pub use answers::write_answers;
 pub use fates::write_fates;
 pub use faults::write_faults;
 pub use number_line::append_number;
-pub use records::{write_record, write_records};
 pub use tables::{count_records, write_tables};
 pub use transactions::put_history;

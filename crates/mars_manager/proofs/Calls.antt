@@ -111,7 +111,7 @@ module _ {C : Type 0} (f : Face C) where
           ∙ ap (live_by k.number) (sym (told_all f.tells f.show setup turns (f.show old).state k fit))
 
       done_is : is_committed reply ≡ true → done_by (f.show old).state k.number (calls_of (f.show old).state k.number) ≡ done_of k (length (f.show old).state.history + 1)
-      done_is committed = ap (λ (live : Option Granted). record { caller = k.number; calls = unwrap_or live []; at = length (f.show old).state.history + 1 }) (live_is committed)
+      done_is committed = ap (λ (live : Option Granted). record { caller = k.number; calls = unwrap_or live []; at = length (f.show old).state.history + 1; last = length (f.show old).state.history + 1 }) (live_is committed)
 
       commits_at : (b : Bool) → is_committed reply ≡ b → MatchBool b (HasCommitted f.tells k reply (shown f call reply turns new k)) (mine_of (shown f call reply turns new k) ≡ mine_of k)
       commits_at true is =

@@ -89,7 +89,7 @@ module _ {C : Type 0} where
 
   -- the transaction that a pass commits
   abbrev pub done_of : Known C → ℕ → Done
-  done_of was at = record { caller = was.number; calls = unwrap_or (live_of was) []; at = at }
+  done_of was at = record { caller = was.number; calls = unwrap_or (live_of was) []; at = at; last = at }
 
   -- the transactions of its caller that a pass has seen
   abbrev pub mine_of : Known C → List Done

@@ -11,7 +11,7 @@ use Rattle.std.proofs.lemmas.Str.Parse.{numerals_by_value, tells_digits, digit_a
 use Rattle.history.specs.declared.call.Call.{Call}
 use Rattle.history.specs.declared.call.Call.TheVariants.{Begin, Get, Put, Del, Scan, Save, Back, Commit, Abort}
 use Rattle.history.specs.declared.call.Reply.{Reply}
-use Rattle.history.specs.declared.call.Reply.TheVariants.{Fine, Found, Absent, Listed, Saved, Committed, NoTransaction, Already, NoSave, SavesFull, Busy, LogFull, SlotsFull, PagesFull, Media, Dead, NoMemory, Damaged}
+use Rattle.history.specs.declared.call.Reply.TheVariants.{Fine, Found, Absent, Listed, Saved, Committed, NoTransaction, NoTable, Already, NoSave, SavesFull, Busy, LogFull, SlotsFull, PagesFull, Media, Dead, NoMemory, Damaged}
 use Rattle.history.specs.Table.{Work, found, removed, Answers}
 use Rattle.caller_steps.specs.State.{State, done_by}
 use Rattle.caller_steps.specs.Room.{Limits}
@@ -55,6 +55,7 @@ same_reply Absent caller n fits is = absurd (let h = ap first is in omega (arith
 same_reply (Listed rows) caller n fits is = absurd (let h = ap first is in omega (arith, h))
 same_reply (Saved m) caller n fits is = absurd (let h = ap first is in omega (arith, h))
 same_reply NoTransaction caller n fits is = absurd (let h = ap first is in omega (arith, h))
+same_reply NoTable caller n fits is = absurd (let h = ap first is in omega (arith, h))
 same_reply Already caller n fits is = absurd (let h = ap first is in omega (arith, h))
 same_reply (NoSave m) caller n fits is = absurd (let h = ap first is in omega (arith, h))
 same_reply SavesFull caller n fits is = absurd (let h = ap first is in omega (arith, h))
@@ -107,10 +108,10 @@ removed_is_no_commit None k is = cc
 removed_is_no_commit (Some value) k is = cc
 
 table_commits_nothing : (work : Work) (call : Call) (k : ℕ) → Answers work call (Committed k) → ⊥
-table_commits_nothing work (Get key) k is = found_is_no_commit _ k is
-table_commits_nothing work (Put key value) k is = cc
-table_commits_nothing work (Del key) k is = removed_is_no_commit _ k is
-table_commits_nothing work (Scan low high) k is = cc
+table_commits_nothing work (Get name key) k is = found_is_no_commit _ k is
+table_commits_nothing work (Put name key value) k is = cc
+table_commits_nothing work (Del name key) k is = removed_is_no_commit _ k is
+table_commits_nothing work (Scan name low high) k is = cc
 table_commits_nothing work Save k is = cc
 table_commits_nothing work (Back n) k is = let e = is.1 in cc
 table_commits_nothing work Begin k is = is

@@ -1,5 +1,7 @@
 -- Which index the data has, and work under that index.
-use Rattle.std.proofs.Common.{◌≡◌, ℕ, Bool, List, sym, ap, subst, ◌∙◌, length, arith, Result, Ok, Err}
+use Rattle.std.proofs.Common.{◌≡◌, ℕ, ◌≤◌, Bool, List, sym, ap, subst, ◌∙◌, length, arith, Result, Ok, Err}
+use Rattle.std.proofs.lemmas.List.Elements.{All-nil}
+use Rattle.history.specs.declared.transaction.Done.{Done}
 use Rattle.std.specs.Prelude.{IsTrue}
 use Rattle.mars_base.proofs.Going as going
 use Rattle.array_shape.specs.declared.shape.Shape.{Shape}
@@ -53,6 +55,7 @@ module _ (tells : Bool) (told : IsTrue tells) (Opens : Shape → List ℕ → Li
             count = 0;
             at_least = omega arith;
             at_most = omega arith;
+            whole = All-nil (λ (done : Done). done.last ≤ 0);
             opens = record { bytes = old.state.bytes; opened = opens; sound = sound; shows = sym base };
           }) (says.time told)) (subst (λ (s : Shape). LeavesOnly (opens_of Opens s index served.final 0) mid new) says.shape served.since);
           now = λ image left. subst (λ (s : Shape). opens_of Opens s index served.final (length served.final.history) image) says.shape (served.now image left);

@@ -3,13 +3,16 @@ use Rattle.std.proofs.Common.{◌≡◌, ◌≢◌, ◌↔◌, ℕ, zero, suc, �
 use Rattle.std.specs.Prelude.{IsTrue, Result, Ok, Err, IfOk, IsOk}
 use Rattle.std.specs.Global.{Vec}
 use Rattle.mars_base.specs.declared.NoMemory.{NoMemory}
-use Rattle.history.specs.Key.{main_name}
-use Rattle.history.specs.Writes.{Table, rows_of}
+use Rattle.history.specs.Writes.{Table}
+use Rattle.history.specs.declared.key.Key.{Key}
 use Rattle.std.specs.List.{flat_map}
+use Rattle.std.specs.FinMap.{entries}
 use Rattle.std.proofs.lemmas.Bool.{true≢false}
 use Rattle.history.specs.Rows as rows
+use Rattle.history.specs.Rows.{NamedRows}
 use Rattle.history.specs.declared.transaction.Done.{Done}
 use Rattle.history.specs.Legal.{records}
+use Rattle.history.specs.Locks.{touches, clash}
 use Rattle.caller_steps.specs.Core.{CoreView}
 use Rattle.caller_steps.specs.Run.{AreOf, turns_of}
 use Rattle.caller_steps.specs.Step.{Runs}
@@ -49,22 +52,22 @@ as_many_asks reader zero said = refl
 as_many_asks reader (suc readers) said = ap suc (as_many_asks (suc reader) readers said)
 
 -- there is an answer list for each reader
-pub as_many_answers : (base : Table) (list : List Done) (asks : List (List ℕ)) (told : List (List Answer)) → AllAnswer base list asks told → length told ≡ length asks
-as_many_answers base list [] [] all = refl
-as_many_answers base list [] (one ∷ told) all = absurd all
-as_many_answers base list (keys ∷ asks) [] all = absurd all
-as_many_answers base list (keys ∷ asks) (one ∷ told) all = ap suc (as_many_answers base list asks told all.1)
+pub as_many_answers : (names : List (List ℕ)) (base : Table) (list : List Done) (asks : List (List Key)) (told : List (List Answer)) → AllAnswer names base list asks told → length told ≡ length asks
+as_many_answers names base list [] [] all = refl
+as_many_answers names base list [] (one ∷ told) all = absurd all
+as_many_answers names base list (keys ∷ asks) [] all = absurd all
+as_many_answers names base list (keys ∷ asks) (one ∷ told) all = ap suc (as_many_answers names base list asks told all.1)
 
 -- so there are few, as there are few readers
-pub few_answers : (answers : Result (Vec (List Answer)) NoMemory) (base : Table) (list : List Done) (asks : List (List ℕ)) → IfOk answers (λ told. AllAnswer base list asks told.items) → length asks ≤ 255 → length (answers_in answers) ≤ 255
-few_answers (Ok told) base list asks all few = omega (arith, as_many_answers base list asks told.items all, few)
-few_answers (Err none) base list asks all few = omega arith
+pub few_answers : (answers : Result (Vec (List Answer)) NoMemory) (names : List (List ℕ)) (base : Table) (list : List Done) (asks : List (List Key)) → IfOk answers (λ told. AllAnswer names base list asks told.items) → length asks ≤ 255 → length (answers_in answers) ≤ 255
+few_answers (Ok told) names base list asks all few = omega (arith, as_many_answers names base list asks told.items all, few)
+few_answers (Err none) names base list asks all few = omega arith
 
 -- the same answers for equal things
-pub answered_in : (answers : Result (Vec (List Answer)) NoMemory) (base base' : Table) (list list' : List Done) (asks asks' : List (List ℕ)) → base ≡ base' → list ≡ list' → asks ≡ asks'
-    → IfOk answers (λ told. AllAnswer base list asks told.items) → IsOk answers → AllAnswer base' list' asks' (answers_in answers)
-answered_in (Ok told) base base' list list' asks asks' b l a all ok = subst (λ (x : Table × List Done × List (List ℕ)). AllAnswer x.0 x.1 x.2 told.items) (λ i. (b i, l i, a i)) all
-answered_in (Err none) base base' list list' asks asks' b l a all ok = absurd (cc ok)
+pub answered_in : (answers : Result (Vec (List Answer)) NoMemory) (names names' : List (List ℕ)) (base base' : Table) (list list' : List Done) (asks asks' : List (List Key)) → names ≡ names' → base ≡ base' → list ≡ list' → asks ≡ asks'
+    → IfOk answers (λ told. AllAnswer names base list asks told.items) → IsOk answers → AllAnswer names' base' list' asks' (answers_in answers)
+answered_in (Ok told) names names' base base' list list' asks asks' n b l a all ok = subst (λ (x : List (List ℕ) × Table × List Done × List (List Key)). AllAnswer x.0 x.1 x.2 x.3 told.items) (λ i. (n i, b i, l i, a i)) all
+answered_in (Err none) names names' base base' list list' asks asks' n b l a all ok = absurd (cc ok)
 
 -- the callers alone need no more passes
 pub callers_within : (callers readers most : ℕ) → passes_for callers readers ≤ most → callers ≤ most
@@ -78,13 +81,13 @@ plans_at first (suc callers) zero at said less is = ap (λ (n : ℕ). planned No
 plans_at first (suc callers) (suc caller) at said less is = plans_at (suc first) callers caller at said (omega arith) (omega arith)
 
 -- the same text for equal things
-pub retold : (ended : Ended) (cut : Bool) (text : List ℕ) (faults faults' : List LineFault) (history history' : List Done) (base base' : List (ℕ × List ℕ)) (fates fates' : List (List Fate)) (told : List (List Answer))
+pub retold : (ended : Ended) (cut : Bool) (text : List ℕ) (faults faults' : List LineFault) (history history' : List Done) (base base' : List NamedRows) (fates fates' : List (List Fate)) (told : List (List Answer))
     → faults ≡ faults' → history ≡ history' → base ≡ base' → fates ≡ fates'
-    → TellsEnd ended cut text (work_text faults history fates (rows_of main_name (records (rows.table_of base) history)) told) (flat_map done_lines history ++ media_line)
-    → TellsEnd ended cut text (work_text faults' history' fates' (rows_of main_name (records (rows.table_of base') history')) told) (flat_map done_lines history' ++ media_line)
+    → TellsEnd ended cut text (work_text faults history fates (entries (records (rows.table_of base) history)) told) (flat_map done_lines history ++ media_line)
+    → TellsEnd ended cut text (work_text faults' history' fates' (entries (records (rows.table_of base') history')) told) (flat_map done_lines history' ++ media_line)
 retold ended cut text faults faults' history history' base base' fates fates' told f h b t tells =
-    subst (λ (lines : List ℕ). TellsEnd ended cut text (work_text faults' history' fates' (rows_of main_name (records (rows.table_of base') history')) told) lines) (ap (λ (l : List Done). flat_map done_lines l ++ media_line) h)
-    (subst (λ (whole : List ℕ). TellsEnd ended cut text whole (flat_map done_lines history ++ media_line)) (λ i. work_text (f i) (h i) (t i) (rows_of main_name (records (rows.table_of (b i)) (h i))) told) tells)
+    subst (λ (lines : List ℕ). TellsEnd ended cut text (work_text faults' history' fates' (entries (records (rows.table_of base') history')) told) lines) (ap (λ (l : List Done). flat_map done_lines l ++ media_line) h)
+    (subst (λ (whole : List ℕ). TellsEnd ended cut text whole (flat_map done_lines history ++ media_line)) (λ i. work_text (f i) (h i) (t i) (entries (records (rows.table_of (b i)) (h i))) told) tells)
 
 module _ (tells : Bool) (core last : CoreView) (callers readers tries : ℕ) (input : List ℕ) (said : List JointLine) (says : AllSay callers readers (lines_of input) said)
     (plans : List (List Plan)) (plans_are : plans ≡ plans_from 0 callers said) (fates : List (List Fate)) (end : WorkEnd) (worked : Worked tells tries plans core last fates end) (enough : passes_for callers readers ≤ core.limits.callers) (told : List (List Answer)) where
@@ -119,9 +122,9 @@ module _ (tells : Bool) (core last : CoreView) (callers readers tries : ℕ) (in
       let w = worked.works caller (within caller less) in
       (w.0, w.1, subst (λ (ps : List Plan). IsWork (Times tries) ps (worked.works caller (within caller less)).0 (of_caller fates caller) (get_or worked.stopped caller None)) (planned_at caller less) w.2)
 
-  caused : (caller : ℕ) (less : caller < callers) → HaveCauses callers his caller (its caller less).0
+  caused : last.state.names ≡ core.state.names → (caller : ℕ) (less : caller < callers) → HaveCauses callers last.state.names his caller (its caller less).0
   unfolding its
-  caused caller less call holder there =
+  caused named caller less call holder there =
       let c = worked.causes caller (within caller less) call holder there in
       let among : holder < callers = omega (arith, c.among, counted) in record {
         among = among;
@@ -129,14 +132,14 @@ module _ (tells : Bool) (core last : CoreView) (callers readers tries : ℕ) (in
         its = c.its;
         planned = subst (λ (ps : List Plan). IsPlanned ps c.its) (planned_at holder among) c.planned;
         stripe = c.stripe;
-        clashes = c.clashes;
+        clashes = subst (λ (names : List (List ℕ)). IsTrue (clash (touches names call c.stripe) (touches names c.its c.stripe))) (sym named) c.clashes;
       }
 
-  joint_work : (ended : Ended) (cut : Bool) (text : List ℕ) → (ended ≢ ends.MediaFault → ended ≢ ends.NoMemory → end ≡ work.All) → (ended ≡ ends.MediaFault) ↔ (end ≡ work.MediaFault)
-      → (ended ≢ ends.MediaFault → ended ≢ ends.NoMemory → AllAnswer last.state.base last.state.history (keys_from 0 readers said) told)
-      → TellsEnd ended cut text (work_text (faults_from 1 (λ caller. false) said) last.state.history fates (rows_of main_name (records last.state.base last.state.history)) told) (flat_map done_lines last.state.history ++ media_line)
+  joint_work : last.state.names ≡ core.state.names → (ended : Ended) (cut : Bool) (text : List ℕ) → (ended ≢ ends.MediaFault → ended ≢ ends.NoMemory → end ≡ work.All) → (ended ≡ ends.MediaFault) ↔ (end ≡ work.MediaFault)
+      → (ended ≢ ends.MediaFault → ended ≢ ends.NoMemory → AllAnswer last.state.names last.state.base last.state.history (keys_from 0 readers said) told)
+      → TellsEnd ended cut text (work_text (faults_from 1 (λ caller. false) said) last.state.history fates (entries (records last.state.base last.state.history)) told) (flat_map done_lines last.state.history ++ media_line)
       → JointWork callers readers tries input ended cut text core.limits worked.turns last.state
-  joint_work ended cut text whole fault answered tells_work = record {
+  joint_work named ended cut text whole fault answered tells_work = record {
     enough = enough;
     said = said;
     says = says;
@@ -148,7 +151,7 @@ module _ (tells : Bool) (core last : CoreView) (callers readers tries : ℕ) (in
       its caller less,
       (λ unfailed remembered. worked.whole (whole unfailed remembered) caller (within caller less)),
     );
-    causes = λ caller less call holder there. caused caller less call holder there;
+    causes = λ caller less call holder there. caused named caller less call holder there;
     fault = (λ is. worked.dead ∙ ap is_fault (fault.0 is), λ has. fault.1 (fault_of end (sym worked.dead ∙ has)));
     told = told;
     answered = answered;
@@ -156,13 +159,13 @@ module _ (tells : Bool) (core last : CoreView) (callers readers tries : ℕ) (in
   }
 
   pub joint_turns : IsTrue tells → (ended : Ended) (cut : Bool) (text : List ℕ) → (ended ≢ ends.MediaFault → ended ≢ ends.NoMemory → end ≡ work.All) → (ended ≡ ends.MediaFault) ↔ (end ≡ work.MediaFault)
-      → (ended ≢ ends.MediaFault → ended ≢ ends.NoMemory → AllAnswer last.state.base last.state.history (keys_from 0 readers said) told)
-      → TellsEnd ended cut text (work_text (faults_from 1 (λ caller. false) said) last.state.history fates (rows_of main_name (records last.state.base last.state.history)) told) (flat_map done_lines last.state.history ++ media_line)
+      → (ended ≢ ends.MediaFault → ended ≢ ends.NoMemory → AllAnswer last.state.names last.state.base last.state.history (keys_from 0 readers said) told)
+      → TellsEnd ended cut text (work_text (faults_from 1 (λ caller. false) said) last.state.history fates (entries (records last.state.base last.state.history)) told) (flat_map done_lines last.state.history ++ media_line)
       → TurnsOn (JointWork callers readers tries input ended cut text) core ended last
   joint_turns tells_all ended cut text whole fault answered tells_work = record {
     turns = worked.turns;
     runs = runs tells_all;
-    does = joint_work ended cut text whole fault answered tells_work;
+    does = joint_work (worked.since.continues tells_all).names ended cut text whole fault answered tells_work;
     continues = worked.since.continues tells_all;
     alive = λ unfailed. worked.dead ∙ no_fault end (λ is. unfailed (fault.1 is));
   }

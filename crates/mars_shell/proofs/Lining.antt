@@ -71,7 +71,7 @@ module _ (tells : Bool) (callers : ℕ) (core : CoreView) (ready : CanShare tell
   pub safe_now : IsSafe core core.moment (length core.state.history)
   safe_now image left =
       let has = ready.now told image left in
-      record { count = has.count; at_least = omega (arith, ap length ready.history); at_most = has.at_most; opens = has.opens }
+      record { count = has.count; at_least = omega (arith, ap length ready.history); at_most = has.at_most; whole = has.whole; opens = has.opens }
 
   -- no caller has had a turn yet
   abbrev pub begun : Progress

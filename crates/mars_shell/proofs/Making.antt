@@ -57,6 +57,7 @@ no_fault (told.Listed rows) goes = refl
 no_fault (told.Saved n) goes = refl
 no_fault (told.Committed n) goes = refl
 no_fault told.NoTransaction goes = refl
+no_fault told.NoTable goes = refl
 no_fault told.Already goes = refl
 no_fault (told.NoSave n) goes = refl
 no_fault told.SavesFull goes = refl

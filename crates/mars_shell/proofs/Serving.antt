@@ -1,5 +1,7 @@
 -- The work over the records of a store, from what it makes of a core.
 use Rattle.std.proofs.Common.{◌≡◌, ℕ, ◌≤◌, inl, inr, ⊎_elim, List, [], ◌++◌, length, take, Bool, false, refl, sym, ap, subst, ◌∙◌, arith}
+use Rattle.std.proofs.lemmas.List.Elements.{All-nil}
+use Rattle.history.specs.declared.transaction.Done.{Done}
 use Rattle.std.specs.Prelude.{IsTrue}
 use Rattle.std.proofs.lemmas.Bool.{false≢true}
 use Rattle.mars_base.proofs.Going as going
@@ -7,6 +9,7 @@ use Rattle.array_shape.specs.declared.shape.Shape.{Shape}
 use Rattle.eaw_face.specs.StoreView.{StoreView, LeavesOnly}
 use Rattle.page_store.specs.Index.{Index}
 use Rattle.record_table.specs.Does.{OpensWith}
+use Rattle.record_table.specs.Names.{names_of}
 use Rattle.record_table.specs.Shown.{table_of}
 use Rattle.record_table.specs.Upgrading.{upgraded, OpensUpgraded}
 use Rattle.history.specs.Legal.{records}
@@ -54,8 +57,8 @@ module _ (tells : Bool) (Opens : Shape → List ℕ → List ℕ → Type 0) (in
     history = begins.fresh.0;
     live = begins.fresh.1;
     enough = subst (λ (l : Limits). callers ≤ l.callers) (sym limits_are) few;
-    sound = λ told. subst IsSound (sym (begun_is told)) (opened_sound (table_of index old.state.bytes) (index_of index (upgraded old.state.bytes)));
-    now = λ told image left. record { count = 0; at_least = omega arith; at_most = omega arith; opens = opens_base told image left };
+    sound = λ told. subst IsSound (sym (begun_is told)) (opened_sound (names_of old.state.bytes) (table_of index old.state.bytes) (index_of index (upgraded old.state.bytes)));
+    now = λ told image left. record { count = 0; at_least = omega arith; at_most = omega arith; whole = All-nil (λ (done : Done). done.last ≤ 0); opens = opens_base told image left };
   }
     where
       opens_base : IsTrue tells → (image : List ℕ) → core.left_since core.moment image → core.opens image core.state.base
@@ -84,6 +87,7 @@ module _ (tells : Bool) (Opens : Shape → List ℕ → List ℕ → Type 0) (in
           count = has.count;
           at_least = omega (arith, le, has.at_least);
           at_most = has.at_most;
+          whole = has.whole;
           opens = subst (λ (s : Shape). OpensWith (Opens s) index image table) shape ((over.opens_to image table).1 has.opens);
         }
 
@@ -104,6 +108,7 @@ module _ (tells : Bool) (Opens : Shape → List ℕ → List ℕ → Type 0) (in
       count = 0;
       at_least = omega arith;
       at_most = omega arith;
+      whole = All-nil (λ (done : Done). done.last ≤ 0);
       opens = ⊎_elim (λ was. record { bytes = old.state.bytes; opened = was; sound = begins.sound told; shows = sym base_is })
           (λ is. record { bytes = upgraded old.state.bytes; opened = is; sound = subst index.sound (begins.bytes told) (begins.over.sound told begins.alive); shows = base_two }) opens;
     }
@@ -127,7 +132,7 @@ module _ (tells : Bool) (Opens : Shape → List ℕ → List ℕ → Type 0) (in
           (on.now image ((over.left later.moment image).0 (subst (λ (t : ℕ). new.left_since t image) (sym over.moment) left)));
       left = λ unfailed.
           let living = sym over.dead ∙ turns.alive unfailed in
-          (living, record { sound = over.sound told living; table = over.table told living; keys = over.keys told });
+          (living, record { sound = over.sound told living; names = over.names told living; table = over.table told living; keys = over.keys told });
       unwritten = λ unfailed reads. ap (λ (x : caller.Index). x.bytes) (sym (over.keys told)
           ∙ reads_leave (limits_of old.shape) (begun_on false index old.state.bytes) later.state turns.turns (of_first (λ l s. Runs l s turns.turns later.state) turns.runs) (λ caller. refl) reads (turns.alive unfailed));
     }

@@ -1,8 +1,7 @@
 -- What comes of a script whose callers work on threads.
 use Rattle.std.specs.Prelude.{ℕ, ◌≡◌, ◌≢◌, ◌≤◌, ◌<◌, ◌↔◌, List, ◌++◌, length, Bool, false, IsTrue, Option, None}
-use Rattle.history.specs.Key.{main_name}
-use Rattle.history.specs.Writes.{rows_of}
 use Rattle.std.specs.List.{flat_map}
+use Rattle.std.specs.FinMap.{entries}
 use Rattle.history.specs.Legal.{records}
 use Rattle.history.specs.declared.call.Reply.{Reply}
 use Rattle.caller_steps.specs.State.{State}
@@ -41,9 +40,9 @@ pub record JointWork (callers readers tries : ℕ) (input : List ℕ) (ended : E
   pub each : length fates ≡ callers
   pub works : (caller : ℕ) → caller < callers → (stopped : Option Reply) × IsWorkOf (Times tries) (planned None (calls_by caller said)) (turns_of caller turns) (of_caller fates caller) stopped
       × (ended ≢ MediaFault → ended ≢ NoMemory → stopped ≡ None)
-  pub causes : (caller : ℕ) (within : caller < callers) → HaveCauses callers (λ other. planned None (calls_by other said)) caller (works caller within).1.0
+  pub causes : (caller : ℕ) (within : caller < callers) → HaveCauses callers final.names (λ other. planned None (calls_by other said)) caller (works caller within).1.0
   pub fault : (ended ≡ MediaFault) ↔ IsTrue final.is_dead
   pub told : List (List Answer)
-  pub answered : ended ≢ MediaFault → ended ≢ NoMemory → AllAnswer final.base final.history (keys_from 0 readers said) told
-  pub tells : TellsEnd ended cut text (work_text (faults_from 1 (λ caller. false) said) final.history fates (rows_of main_name (records final.base final.history)) told)
+  pub answered : ended ≢ MediaFault → ended ≢ NoMemory → AllAnswer final.names final.base final.history (keys_from 0 readers said) told
+  pub tells : TellsEnd ended cut text (work_text (faults_from 1 (λ caller. false) said) final.history fates (entries (records final.base final.history)) told)
       (flat_map done_lines final.history ++ media_line)

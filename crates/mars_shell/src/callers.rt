@@ -238,7 +238,8 @@ fn work_jointly<
         Ok(core) => core,
         Err(full) => return (Err(NoMemory), full.value),
     };
-    let Ok(readership) = open_readership(crew.rt, alloc, core.as_ref().base(), asks) else {
+    let (names, base) = (core.as_ref().names(), core.as_ref().base());
+    let Ok(readership) = open_readership(crew.rt, alloc, names, base, asks) else {
         return (Err(NoMemory), Box::into_inner(core));
     };
     match work_with(

@@ -1,8 +1,7 @@
 // What is told of the work of callers on threads.
 ghost use Rattle.std.specs.Prelude.{◌≡◌, ◌≢◌, ◌++◌, ◌≤◌, ◌↔◌, length, IfOk, IsOk, OnOk};
-ghost use Rattle.history.specs.Key.{main_name};
-ghost use Rattle.history.specs.Writes.{rows_of};
 ghost use Rattle.std.specs.List.{flat_map};
+ghost use Rattle.std.specs.FinMap.{entries};
 ghost use Rattle.history.specs.Legal.{records};
 ghost use Rattle.history.specs.Rows.{table_of};
 ghost use Rattle.history_text.specs.Text.{done_lines, work_text, fate_line, numbered};
@@ -10,12 +9,11 @@ ghost use Rattle.texts.specs.MediaFault.{media_line};
 ghost use Rattle.texts.specs.Written.{Appends, IsWritten, Wrote};
 ghost use Rattle.mars_shell.specs.Told.{TellsEnd, answers_in};
 
-use crate::final_rows::final_rows;
 use array_runs::write_ended;
 use caller_plans::LineFaults;
 use caller_work::{Fates, WorkEnd};
-use history::{History, Rows};
-use history_text::{put_history, write_answers, write_fates, write_faults, write_records};
+use history::{History, Tables, play};
+use history_text::{put_history, write_answers, write_fates, write_faults, write_tables};
 use mars_base::NoMemory;
 use outside::Sink;
 use reader_work::Answers;
@@ -37,13 +35,13 @@ pub fn tell_end<K: Sink>(
     sink: &mut K,
     lines: &WorkLines,
     history: &History,
-    base: &Rows,
+    base: &Tables,
     end: WorkEnd,
 ) -> Ended
     requires few { length lines.now.fates.items ≤ 255 }
     requires readers { length (answers_in lines.now.answers) ≤ 255 }
     ensures told { Wrote K.tells (K.written sink.old) (K.written sink.new) (K.faults sink.old) (K.faults sink.new)
-        (λ cut text. TellsEnd result cut text (work_text lines.now.faults history.now lines.now.fates.items (rows_of main_name (records (table_of base.now) history.now)) (answers_in lines.now.answers)) (flat_map done_lines history.now ++ media_line)) }
+        (λ cut text. TellsEnd result cut text (work_text lines.now.faults history.now lines.now.fates.items (entries (records (table_of base.now) history.now)) (answers_in lines.now.answers)) (flat_map done_lines history.now ++ media_line)) }
     ensures whole { result ≢ Ended.MediaFault → result ≢ Ended.NoMemory → (end ≡ WorkEnd.All) × IsOk lines.now.answers }
     ensures fault { (result ≡ Ended.MediaFault) ↔ (end ≡ WorkEnd.MediaFault) }
 {
@@ -65,22 +63,22 @@ fn work_text(
     alloc: Global,
     lines: &WorkLines,
     history: &History,
-    base: &Rows,
+    base: &Tables,
 ) -> Result<Vec<u8>, NoMemory>
     requires few { length lines.now.fates.items ≤ 255 }
     requires readers { length (answers_in lines.now.answers) ≤ 255 }
-    ensures text { IfOk result (λ text. text.items ≡ work_text lines.now.faults history.now lines.now.fates.items (rows_of main_name (records (table_of base.now) history.now)) (answers_in lines.now.answers)) }
+    ensures text { IfOk result (λ text. text.items ≡ work_text lines.now.faults history.now lines.now.fates.items (entries (records (table_of base.now) history.now)) (answers_in lines.now.answers)) }
     ensures answers { OnOk result (IsOk lines.now.answers) }
 {
     let Ok(answers) = &lines.answers else {
         return Err(NoMemory);
     };
-    let rows = final_rows(history, base, alloc)?;
+    let tables = play(history, base, alloc)?;
     let mut text = Vec::new(alloc);
     write_faults(&mut text, lines.faults.as_slice())?;
     put_history(&mut text, history)?;
     write_all_fates(&mut text, &lines.fates)?;
-    write_records(&mut text, &rows)?;
+    write_tables(&mut text, tables.as_slice())?;
     write_answers(&mut text, answers)?;
     Ok(text)
 }

@@ -30,10 +30,10 @@ use record_table::version_two_keeps;
 /// What the fates of callers on threads say of the history of a run: the transactions of each caller are those of its plans that committed,
 /// in their order and each once, with just the calls of the plan and under the number that was told. No other caller has any.
 pub fn what_callers_are_told()
-    ensures fated { (base : Table) (index : Index) (limits : Limits) (turns : List Turn) (final : State) → Runs limits (opened base index) turns final
+    ensures fated { (names : List (List ℕ)) (base : Table) (index : Index) (limits : Limits) (turns : List Turn) (final : State) → Runs limits (opened names base index) turns final
         → (callers readers tries : ℕ) (input text : List ℕ) (ended : Ended) (cut : Bool) (work : JointWork callers readers tries input ended cut text limits turns final)
         → (caller : ℕ) → caller < callers → AreFated caller (planned None (calls_by caller work.said)) (of_caller work.fates caller) (commits_of caller final.history) }
-    ensures others { (base : Table) (index : Index) (limits : Limits) (turns : List Turn) (final : State) → Runs limits (opened base index) turns final
+    ensures others { (names : List (List ℕ)) (base : Table) (index : Index) (limits : Limits) (turns : List Turn) (final : State) → Runs limits (opened names base index) turns final
         → (callers readers tries : ℕ) (input text : List ℕ) (ended : Ended) (cut : Bool) → JointWork callers readers tries input ended cut text limits turns final → HasNoOthers callers final }
 {}
 

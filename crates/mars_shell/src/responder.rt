@@ -93,6 +93,7 @@ fn tell(out: &mut Vec<u8>, caller: u8, reply: &Reply) -> Result<(), Stop>
         | Reply::Saved(_)
         | Reply::Committed(_)
         | Reply::NoTransaction
+        | Reply::NoTable
         | Reply::Already
         | Reply::NoSave { .. }
         | Reply::SavesFull

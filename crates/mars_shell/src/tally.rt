@@ -57,6 +57,7 @@ impl Tally {
             | Reply::Listed(_)
             | Reply::Saved(_)
             | Reply::NoTransaction
+            | Reply::NoTable
             | Reply::Already
             | Reply::NoSave { .. }
             | Reply::SavesFull

@@ -4,6 +4,7 @@ use Rattle.pcm_media.specs.View.{View}
 use Rattle.array_shape.specs.declared.shape.Shape.{Shape}
 use Rattle.eaw_device.specs.Opens.{Opens, AttachCause}
 use Rattle.page_store.specs.Index.{Index}
+use Rattle.record_table.specs.Names.{names_of}
 use Rattle.record_table.specs.Shown.{table_of}
 use Rattle.record_table.specs.Upgrading.{upgraded}
 use Rattle.caller_steps.specs.Core.{CoreView}
@@ -14,10 +15,11 @@ use Rattle.mars_core.specs.declared.fault.CoreFault.TheVariants.{Damaged}
 use Rattle.open_records.specs.declared.opening.OpenFault.{OpenFault}
 use Rattle.open_records.specs.declared.opening.OpenFault.TheVariants.{Array, Records, Callers, NoMemory}
 
--- the core begins with the records of the data that the image opens with, over that data in version 2, and has the limits of its array
+-- the core begins with the tables and the records of the data that the image opens with, over that data in version 2, and has the limits of
+-- its array
 pub record Begins (index : Index) (shape : Shape) (bytes : List ℕ) (core : CoreView) : Type 0 where
   pub limits : core.limits ≡ limits_of shape
-  pub state : core.state ≡ opened (table_of index bytes) (index_of index (upgraded bytes))
+  pub state : core.state ≡ opened (names_of bytes) (table_of index bytes) (index_of index (upgraded bytes))
   pub sound : index.sound bytes
 
 -- if the medium tells its bytes, it is so for whatever data the image opens with

@@ -1,13 +1,11 @@
 -- The pass that makes no call, beside those of callers.
-use Rattle.std.proofs.Common.{◌≡◌, ◌≢◌, ℕ, zero, suc, ◌+◌, ◌<◌, ◌≤◌, Bool, true, false, nat_eq, List, [], ◌∷◌, ◌++◌, map, filter, drop, get_or, length, length-append, inl, inr, refl, sym, ap, ◌∙◌, subst, arith}
+use Rattle.std.proofs.Common.{◌≡◌, ℕ, zero, suc, ◌+◌, ◌<◌, Bool, true, false, nat_eq, List, [], ◌∷◌, ◌++◌, map, filter, get_or, length, length-append, inl, inr, refl, sym, ap, ◌∙◌, subst, arith}
 use Rattle.std.specs.Prelude.{if◌then◌else◌}
 use Rattle.std.proofs.lemmas.Bool.{cases_eq, eqb-false}
 use Rattle.std.proofs.lemmas.List.{get_or_append_left}
 use mathlib.Core.List.{IsPrefix}
-use Rattle.history.specs.Table.{Granted}
 use Rattle.history.specs.declared.call.Call.{Call}
 use Rattle.history.specs.declared.call.Reply.{Reply}
-use Rattle.history.specs.declared.transaction.Done.{Done}
 use Rattle.caller_steps.specs.Core.{CoreView}
 use Rattle.caller_steps.specs.State.{State}
 use Rattle.caller_steps.specs.Run.{Turn, AreOf, turns_of}
@@ -16,7 +14,7 @@ use Rattle.mars_manager.specs.declared.setup.Setup.{Setup}
 use Rattle.mars_manager.specs.declared.view.Known.{Known}
 use Rattle.mars_manager.specs.declared.view.Met.{Met}
 use Rattle.mars_manager.specs.Asked.{AreMet, HaveAsked}
-use Rattle.mars_manager.specs.Pass.{PassView, Fits, AreSo, told_of, newcomer, known_of, times}
+use Rattle.mars_manager.specs.Pass.{PassView, Fits, AreSo, newcomer, known_of, times}
 use Rattle.mars_manager.proofs.Calls.{told_all}
 use Rattle.caller_work.proofs.Whole.{times_at}
 use Rattle.snapshot_readers.specs.Feeds.{fed}

@@ -1,13 +1,19 @@
 // What readers are answered.
+use history::Key;
 use mars_base::Listed;
 use record_slots::Value;
 
-/// The value of a key after the first `at` transactions, `None` if it has no record then.
+/// What a reader is answered for a key.
 #[derive(Clone, Copy, Debug, PartialEq, Eq)]
-pub struct Answer {
-    pub key: u64,
-    pub at: u64,
-    pub value: Option<Value>,
+pub enum Answer {
+    /// The value of the key after the first `at` transactions, `None` if it has no record then.
+    Value {
+        key: Key,
+        at: u64,
+        value: Option<Value>,
+    },
+    /// There is no table of its name.
+    NoTable,
 }
 
 /// The answers of one reader, in their order.

@@ -1,5 +1,5 @@
 // Callers and readers beside each other.
-ghost use Rattle.std.specs.Prelude.{◌≡◌, ◌<◌, ◌≤◌, ◌+◌, ℕ, [], All, length, slice_index_or, vec_capacity, IfOk, IfErr, OnOk};
+ghost use Rattle.std.specs.Prelude.{◌≡◌, ◌<◌, ◌≤◌, ◌+◌, ℕ, List, [], All, length, slice_index_or, vec_capacity, IfOk, IfErr, OnOk};
 ghost use mathlib.Core.List.{IsPrefix};
 ghost use Rattle.history.specs.Writes.{Table};
 ghost use Rattle.mars_manager.specs.Sharing.{CanShare};
@@ -97,6 +97,7 @@ fn tie<R: Wait>(
         let ReadWorker {
             number: _,
             mut reader,
+            names: _names,
             keys: _keys,
             answers,
         } = worker;
@@ -127,11 +128,11 @@ fn all_work<
     requires news { IsBehind feed.old pass.known × IsOnlooker B.number pass.known }
     requires some { (0 < length crew.0.items) × (0 < length crew.1.items) }
     requires ready { (i : ℕ) (w : Worker C) → i < length crew.0.items → CanWork mars.now (slice_index_or crew.0.items i w) }
-    requires open { (base : Table) × All (IsReady B.book base) crew.1.items }
+    requires open { (names : List (List ℕ)) × (base : Table) × All (IsReady names B.book base) crew.1.items }
     ensures many { length result.0.items ≡ length crew.0.items }
     ensures worked { (i : ℕ) (w : Worker C) → i < length crew.0.items → HasWorked (slice_index_or crew.0.items i w) (slice_index_or result.0.items i w) }
     ensures pass { (result.1.table ≡ B.table) × IsOnlooker B.number result.1.known }
-    ensures answered { IfOk result.2 (λ told. (base : Table) → All (IsReady B.book base) crew.1.items → AllAnswer base result.1.known.seen (keys_of crew.1.items) told.items) }
+    ensures answered { IfOk result.2 (λ told. (names : List (List ℕ)) (base : Table) → All (IsReady names B.book base) crew.1.items → AllAnswer names base result.1.known.seen (keys_of crew.1.items) told.items) }
 {
     let (workers, readers) = crew;
     let news: Mutex<News<'_, C, B>> = Mutex::new(News {
@@ -178,11 +179,12 @@ fn run_beside<R: Threads + Wait + Sync, C: Core + Drop + Send, G: Gate + Sync>(
     requires tries { 1 ≤ tries }
     requires passes { (shared.1.list ≡ dealt shared.0.table shared.0.setup (length rooms.jobs.items + 1)) × (shared.1.table ≡ shared.0.table) × (length rooms.jobs.items + 1 ≤ shared.1.room) }
     requires callers { shared.0.setup.callers ≡ length rooms.jobs.items + 1 }
+    requires named { shared.0.setup.names ≡ (C.view shared.0.setup.first).state.names }
     requires blank { All IsBlank rooms.jobs.items }
     requires rooms { (rooms.workers.items ≡ []) × (length rooms.jobs.items ≤ vec_capacity rooms.workers) × (rooms.told.items ≡ []) × (length rooms.jobs.items ≤ vec_capacity rooms.told) }
-    requires open { IsOpen (C.view shared.0.setup.first).state.base readership }
+    requires open { IsOpen (C.view shared.0.setup.first).state.names (C.view shared.0.setup.first).state.base readership }
     ensures worked { Worked C.tells tries (plans_of rooms.jobs.items) (C.view shared.0.setup.first) (C.view result.0) result.1.items result.3 }
-    ensures answered { IfOk result.2 (λ told. AllAnswer (C.view shared.0.setup.first).state.base (C.view result.0).state.history (keys_of readership.workers.items) told.items) }
+    ensures answered { IfOk result.2 (λ told. AllAnswer (C.view shared.0.setup.first).state.names (C.view shared.0.setup.first).state.base (C.view result.0).state.history (keys_of readership.workers.items) told.items) }
 {
     let (mars, mut passes) = shared;
     let Rooms {
@@ -220,9 +222,9 @@ fn work_beside<R: Threads + Wait + Sync, C: Core + Drop + Send, G: Gate + Sync>(
     requires some { 0 < length plans.items }
     requires ready { CanShare C.tells (length plans.items + 1) (C.view core) }
     requires tries { 1 ≤ tries }
-    requires open { IsOpen (C.view core).state.base readership }
+    requires open { IsOpen (C.view core).state.names (C.view core).state.base readership }
     ensures worked { IfOk result (λ r. Worked C.tells tries plans.items (C.view core) (C.view r.0) r.1.items r.3) }
-    ensures answered { IfOk result (λ r. IfOk r.2 (λ told. AllAnswer (C.view core).state.base (C.view r.0).state.history (keys_of readership.workers.items) told.items)) }
+    ensures answered { IfOk result (λ r. IfOk r.2 (λ told. AllAnswer (C.view core).state.names (C.view core).state.base (C.view r.0).state.history (keys_of readership.workers.items) told.items)) }
     ensures given_back { IfErr result (λ e. e.1 ≡ core) }
 {
     let passes = plans.len() as u8 + 1;
@@ -265,9 +267,9 @@ pub fn work_with<R: Threads + Wait + Sync, C: Core + Drop + Send, G: Gate + Sync
     requires some { 0 < length plans.items }
     requires ready { CanShare C.tells (passes_for (length plans.items) (length (asks_with readership))) (C.view core) }
     requires tries { 1 ≤ tries }
-    requires open { IsOpenWith (C.view core).state.base readership }
+    requires open { IsOpenWith (C.view core).state.names (C.view core).state.base readership }
     ensures worked { IfOk result (λ r. Worked C.tells tries plans.items (C.view core) (C.view r.0) r.1.items r.3) }
-    ensures answered { IfOk result (λ r. IfOk r.2 (λ told. AllAnswer (C.view core).state.base (C.view r.0).state.history (asks_with readership) told.items)) }
+    ensures answered { IfOk result (λ r. IfOk r.2 (λ told. AllAnswer (C.view core).state.names (C.view core).state.base (C.view r.0).state.history (asks_with readership) told.items)) }
     ensures given_back { IfErr result (λ e. e.1 ≡ core) }
 {
     match readership {

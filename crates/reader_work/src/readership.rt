@@ -8,8 +8,9 @@ ghost use Rattle.reader_work.specs.Readership.{keys_of, asks_with, passes_for, I
 
 use crate::reading::ReadWorker;
 use caller_plans::Keys;
-use history::Rows;
+use history::Tables;
 use mars_base::NoMemory;
+use record_slots::Names;
 use snapshot_readers::{Feed, Readers, open_readers};
 use std::alloc::Global;
 use std::sync::Wait;
@@ -20,16 +21,17 @@ pub struct Readership {
     pub(crate) workers: Vec<ReadWorker>,
 }
 
-// Gives each list of keys to a reader of its own, with room for the answers.
+// Gives each list of keys to a reader of its own, with the names of the tables and room for the answers.
 fn hire_readers(
     alloc: Global,
+    names: &Names,
     mut readers: Readers,
     asks: Vec<Keys>,
 ) -> Result<Vec<ReadWorker>, NoMemory>
     requires few { length asks.items ≤ 8 }
     requires enough { length readers ≡ length asks.items }
     ensures keys { IfOk result (λ workers. keys_of workers.items ≡ asks.items) }
-    ensures ready { IfOk result (λ workers. (book : Book) (base : Table) → All (IsFresh book base) readers → All (IsReady book base) workers.items) }
+    ensures ready { IfOk result (λ workers. (book : Book) (base : Table) → All (IsFresh book base) readers → All (IsReady names.now book base) workers.items) }
 {
     let mut workers = Vec::with_capacity(alloc, asks.len())?;
     for keys in asks {
@@ -39,6 +41,7 @@ fn hire_readers(
         workers.push_reserved(ReadWorker {
             number,
             reader,
+            names: names.copy(),
             keys,
             answers,
         });
@@ -46,23 +49,24 @@ fn hire_readers(
     Ok(workers)
 }
 
-/// Makes a reader for each list of keys, over these records. There are none if nothing is asked. If a key stands twice among the records,
-/// the first counts.
+/// Makes a reader for each list of keys, over the records of tables of these names. There are none if nothing is asked. If a key stands
+/// twice among the records, the first counts.
 pub fn open_readership<R: Wait>(
     rt: &R,
     alloc: Global,
-    base: &Rows,
+    names: &Names,
+    base: &Tables,
     asks: Vec<Keys>,
 ) -> Result<Option<Readership>, NoMemory>
     requires few { length asks.items ≤ 8 }
     ensures asks { IfOk result (λ made. asks_with made ≡ asks.items) }
-    ensures open { IfOk result (IsOpenWith (table_of base.now)) }
+    ensures open { IfOk result (IsOpenWith names.now (table_of base.now)) }
 {
     if asks.is_empty() {
         return Ok(None);
     }
     let (feed, readers) = open_readers(rt, alloc, base, asks.len() as u8)?;
-    match hire_readers(alloc, readers, asks) {
+    match hire_readers(alloc, names, readers, asks) {
         Ok(workers) => Ok(Some(Readership { feed, workers })),
         Err(NoMemory) => {
             feed.close(rt);

@@ -1,9 +1,16 @@
 // The work of one reader.
+ghost use Rattle.std.specs.Prelude.{◌≡◌, length};
+ghost use mathlib.Core.List.{IsPrefix};
+ghost use Rattle.snapshot_readers.specs.Batches.{joined};
+ghost use Rattle.snapshot_readers.specs.Feeds.{read, read_book, read_base};
+ghost use Rattle.reader_work.specs.Answers.{IsAnswer};
 ghost use Rattle.reader_work.specs.Reading.{CanRead, HasRead};
 
 use crate::answer::Answer;
 use caller_plans::Keys;
 use caller_work::{Gate, Place};
+use history::Key;
+use record_slots::Names;
 use snapshot_readers::Reader;
 use std::sync::Wait;
 
@@ -12,6 +19,8 @@ use std::sync::Wait;
 pub struct ReadWorker {
     pub number: u8,
     pub reader: Reader,
+    /// The names of the tables that there are.
+    pub names: Names,
     pub keys: Keys,
     pub answers: Vec<Answer>,
 }
@@ -27,7 +36,24 @@ pub fn read_keys<R: Wait, G: Gate>(rt: &R, worker: &mut ReadWorker, gate: &G)
             reader: worker.number,
             nth: nth as u64 + 1,
         });
-        let (at, value) = worker.reader.get(rt, key);
-        worker.answers.push_reserved(Answer { key, at, value });
+        let answer = answer_for(rt, &mut worker.reader, &worker.names, &key);
+        worker.answers.push_reserved(answer);
+    }
+}
+
+// The answer for a key: its value in what the reader then has read, unless there is no table of its name.
+fn answer_for<R: Wait>(rt: &R, reader: &mut Reader, names: &Names, key: &Key) -> Answer
+    ensures on { IsPrefix (read reader.old) (read reader.new) }
+    ensures answer { IsAnswer names.now (read_base reader.new) (joined (read reader.new)) (length (joined (read reader.new))) key.now result }
+    ensures same { (read_book reader.new ≡ read_book reader.old) × (read_base reader.new ≡ read_base reader.old) }
+{
+    if names.number(&key.table).is_none() {
+        return Answer::NoTable;
+    }
+    let (at, value) = reader.get(rt, key);
+    Answer::Value {
+        key: *key,
+        at,
+        value,
     }
 }

@@ -3,6 +3,7 @@ use Rattle.std.specs.Prelude.{ℕ, ◌≡◌, Bool, true, false, IsTrue, IsFalse
 use Rattle.mars_base.specs.Causes.{Rose}
 use Rattle.eaw_face.specs.StoreView.{StoreView, LeavesOnly}
 use Rattle.eaw_face.specs.Causes.{IsAlive}
+use Rattle.eaw_face.specs.Mirroring.{Mirrors}
 use Rattle.page_store.specs.Looks.{IsStill}
 use Rattle.record_slots.specs.Places.{IsSuper}
 use Rattle.record_table.specs.declared.fault.AttachRecords.{AttachRecords}
@@ -29,10 +30,11 @@ FormCause tells old (Err Dead) = old.is_dead ≡ true
 FormCause tells old (Err NoMemory) = ⊥
 
 -- A look at a store, which met a fault of the medium or none. What numbers have logged is as it was. At each moment of a store that was not
--- dead, a loss of power leaves what it might have left before, or an image that opens with the data.
+-- dead, a loss of power leaves what it might have left before, or an image that opens with the data. What the store sends gives its data.
 pub record LooksAt (tells : Bool) (Opens : List ℕ → List ℕ → Type 0) (failed : Bool) (old new : StoreView) : Type 0 where
   pub shape : new.shape ≡ old.shape
   pub ranges : (t : ℕ) → new.ranges t ≡ old.ranges t
   pub still : IsFalse failed → IsStill tells old new
   pub dies : IsTrue failed → (new.is_dead ≡ true) × Rose old.faults new.faults
   pub time : IsTrue tells → IsAlive old → LeavesOnly (λ image. Opens image old.state.bytes) old new
+  pub mirrors : Mirrors tells old new

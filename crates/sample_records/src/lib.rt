@@ -5,27 +5,21 @@ ghost use Rattle.std.specs.Prelude.{◌≡◌, ◌<◌, IsTrue};
 ghost use Rattle.caller_steps.specs.Sound.{IsSound};
 
 use caller_steps::Core;
-use history::main_table;
+use record_slots::Name;
 use transactions::{Refusal, begin, commit, get, number_in, put, value_of};
 
-/// Raises the number under a key of the table `main` by one, as a transaction of the caller, which must have none live. It answers the new number. A refusal
-/// may leave the transaction live: `abort` it then.
-pub fn raise<C: Core>(core: &mut C, caller: u8, key: u64) -> Result<u64, Refusal>
+/// Raises the number under a key of a table by one, as a transaction of the caller, which must have none live. It answers the new number.
+/// A refusal may leave the transaction live: `abort` it then.
+pub fn raise<C: Core>(core: &mut C, caller: u8, table: Name, key: u64) -> Result<u64, Refusal>
     requires inside { caller < (C.view core.old).limits.callers }
     requires sound { IsTrue C.tells → IsSound (C.view core.old).state }
     ensures limits { (C.view core.new).limits ≡ (C.view core.old).limits }
     ensures still { IsTrue C.tells → IsSound (C.view core.new).state }
 {
     begin(core, caller)?;
-    let found = get(core, caller, main_table(), key)?;
+    let found = get(core, caller, table, key)?;
     let was = found.and_then(|value| number_in(&value)).unwrap_or(0);
-    put(
-        core,
-        caller,
-        main_table(),
-        key,
-        value_of(was.saturating_add(1)),
-    )?;
+    put(core, caller, table, key, value_of(was.saturating_add(1)))?;
     commit(core, caller)?;
     Ok(was.saturating_add(1))
 }

@@ -6,7 +6,7 @@ use Rattle.std.specs.Fmt.{decimal}
 use Rattle.record_slots.specs.Text.{IsValue}
 use Rattle.history.specs.declared.call.Call.{Call}
 use Rattle.history.specs.declared.call.Call.TheVariants.{Begin, Get, Put, Del, Scan, Save, Back, Commit, Abort}
-use Rattle.script_text.specs.Line.{asked_table, AreWordsOf, IsCallText, IsPassedOver}
+use Rattle.script_text.specs.Line.{IsCallText, IsPassedOver}
 use Rattle.script_text.specs.Named.{IsAsking}
 
 -- bytes are passed over exactly if the first is a #

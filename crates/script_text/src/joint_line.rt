@@ -5,7 +5,7 @@ ghost use Rattle.script_text.specs.JointLine.{IsReadLine, JointLineSays};
 
 use crate::line::{Line, read_line, read_told};
 use crate::word::after;
-use history::Call;
+use history::{Call, Key};
 
 /// What a line of a script says where there are readers beside the callers.
 #[derive(Clone, Copy, Debug, PartialEq, Eq)]
@@ -14,7 +14,7 @@ pub enum JointLine {
     Nothing,
     Told { caller: u8, call: Call },
     /// A reader asks for the value of a key.
-    Read { reader: u8, key: u64 },
+    Read { reader: u8, key: Key },
     Bad,
 }
 
@@ -32,13 +32,14 @@ pub fn read_joint_line(bytes: &[u8], callers: u8, readers: u8) -> JointLine
     }
 }
 
-fn read_reader_line(bytes: &[u8], readers: u8) -> Option<(u8, u64)>
+// A reader and the key that it asks for, if the line is that of one.
+fn read_reader_line(bytes: &[u8], readers: u8) -> Option<(u8, Key)>
     ensures { ReadsText (λ t. IsReadLine readers t.0 t.1) bytes.now result }
 {
     let rest = after(bytes, b"r")?;
     let (reader, call) = read_told(rest, readers)?;
     match call {
-        Call::Get { key } => Some((reader, key)),
+        Call::Get { table, key } => Some((reader, Key { table, key })),
         _ => None,
     }
 }

@@ -16,6 +16,7 @@ use Rattle.page_store.specs.Index.{Index}
 use Rattle.record_table.specs.Does.{OpensWith}
 use Rattle.record_table.specs.Shown.{table_of}
 use Rattle.record_table.specs.Upgrading.{upgraded, OpensUpgraded}
+use Rattle.history.specs.declared.key.Key.{Key}
 use Rattle.history.specs.Legal.{records}
 use Rattle.history.specs.Writes.{Table}
 use Rattle.history.specs.declared.transaction.Done.{Done}
@@ -54,7 +55,7 @@ stops old (Err stop.Dead) alive none cause = absurd (false≢true (sym alive ∙
 stops old (Err stop.Already) alive none cause = absurd (false≢true (subst IsSome none cause.1))
 
 -- a store that tells its data has no damaged page
-stop_cause : (tells : Bool) (Keeps : List ℕ → ℕ → Type 0) (old new : State) (r : Result ℕ PurgeFault) → old.is_dead ≡ false → old.live 0 ≡ None → PurgeCause old 0 r → (IsTrue tells → PurgeStep Keeps old 0 r new)
+stop_cause : (tells : Bool) (Keeps : List ℕ → Key → Type 0) (old new : State) (r : Result ℕ PurgeFault) → old.is_dead ≡ false → old.live 0 ≡ None → PurgeCause old 0 r → (IsTrue tells → PurgeStep Keeps old 0 r new)
     → IfErr (cleared r) (StopCause tells)
 stop_cause tells Keeps old new (Ok n) alive none cause step = tt
 stop_cause tells Keeps old new (Err stop.Media) alive none cause step = tt
@@ -122,7 +123,7 @@ module _ (tells : Bool) (Opens : Shape → List ℕ → List ℕ → Type 0) (in
 
   module _ (told : IsTrue tells) (lives : new.is_dead ≡ false) where
     all : HasAll index new.state.bytes later.state
-    all = record { sound = over.sound told lives; table = over.table told lives; keys = over.keys told }
+    all = record { sound = over.sound told lives; names = over.names told lives; table = over.table told lives; keys = over.keys told }
 
   alive_after : (r : Result ℕ PurgeFault) → new.is_dead ≡ is_media_refusal r → IfOk (cleared r) (λ n. new.is_dead ≡ false)
   alive_after (Ok n) dead = dead

@@ -1,10 +1,6 @@
 -- A dump of the records of an array that was opened.
 use Rattle.std.proofs.Common.{◌≡◌, ◌⊎◌, suc, inl, inr, ⊎_elim, ℕ, ◌+◌, Bool, true, false, List, [], ◌∷◌, ◌++◌, length, length-append, Result, Ok, Err, refl, sym, ap, subst, ◌∙◌, arith}
-use Rattle.std.specs.Prelude.{IsTrue, if◌then◌else◌, map, codes}
-use Rattle.std.specs.FinMap.{entries}
-use Rattle.std.specs.List.{flat_map, sum_by}
-use Rattle.std.proofs.lemmas.List.Concat.{flat_map-append}
-use Rattle.std.proofs.lemmas.List.Sums.{sum_by-append}
+use Rattle.std.specs.Prelude.{IsTrue, if◌then◌else◌}
 use Rattle.mars_base.specs.Causes.{Rose}
 use Rattle.mars_base.proofs.Going as going
 use Rattle.pcm_media.specs.Images.{MayLeave}
@@ -16,11 +12,7 @@ use Rattle.eaw_face.specs.State.{State}
 use Rattle.eaw_face.specs.StoreView.{StoreView, LeavesOnly}
 use Rattle.eaw_device.specs.Opens.{Opens, HoldsArray, AllOpen, OpensLike}
 use Rattle.page_store.specs.Index.{Index}
-use Rattle.record_table.specs.AllTables.{all_records, records_in, NamedRows}
-use Rattle.history.specs.Key.{Key}
-use Rattle.history.specs.Rows.{all_keyed}
-use Rattle.history.specs.Writes.{Row, Table}
-use Rattle.history_text.specs.Text.{record_line, row_line, table_lines, number_line}
+use Rattle.record_table.specs.Shown.{table_of}
 use Rattle.texts.specs.Written.{IsWritten}
 use Rattle.script_run.specs.declared.ended.Ended.{Ended}
 use Rattle.script_run.specs.declared.ended.Ended.TheVariants as script
@@ -33,37 +25,8 @@ use Rattle.array_runs.proofs.Completing.{complete_records, nothing_read}
 use Rattle.array_runs.proofs.Forming.{of_form}
 use Rattle.array_runs.proofs.Opened.{holds, at_entry, looked}
 use Rattle.array_runs.proofs.Statuses.{outcome_as}
-use Rattle.told_commands.specs.Dump.{dump_lines, records_on, Spares, DumpsRecords, DumpOutcome, tables_text, LeavesRead}
+use Rattle.told_commands.specs.Dump.{dump_lines, records_on, Spares, DumpsRecords, DumpOutcome, LeavesRead}
 use Rattle.told_commands.specs.Told.{Tells, Ran}
-
--- ---- the text
-
-keyed_lines : (name : List ℕ) (rows : List Row) → flat_map record_line (all_keyed name rows) ≡ flat_map (row_line name) rows
-keyed_lines name [] = refl
-keyed_lines name (row ∷ rows) = ap (λ (l : List ℕ). row_line name row ++ l) (keyed_lines name rows)
-
-all_lines : (tables : List NamedRows) → flat_map table_lines tables ≡ flat_map record_line (records_in tables)
-all_lines [] = refl
-all_lines (table ∷ tables) = (λ i. sym (keyed_lines table.0 table.1) i ++ all_lines tables i) ∙ sym (flat_map-append record_line (all_keyed table.0 table.1) (records_in tables))
-
-as_many : (name : List ℕ) (rows : List Row) → length (all_keyed name rows) ≡ length rows
-as_many name [] = refl
-as_many name (row ∷ rows) = ap suc (as_many name rows)
-
-all_counted : (tables : List NamedRows) → sum_by (λ (table : NamedRows). length table.1) tables ≡ length (records_in tables)
-all_counted [] = refl
-all_counted (table ∷ tables) =
-    sum_by-append (λ (t : NamedRows). length t.1) (table ∷ []) tables ∙ (λ i. one i + all_counted tables i) ∙ sym (length-append (all_keyed table.0 table.1) (records_in tables))
-  where
-    one : 0 + length table.1 ≡ length (all_keyed table.0 table.1)
-    one = omega (arith, as_many table.0 table.1)
-
--- the text of tables that have just these records
-pub tables_told : (tables : List NamedRows) (table : Table) → records_in tables ≡ entries table → tables_text tables ≡ dump_lines table
-tables_told tables table are =
-    (λ i. all_lines tables i ++ number_line (codes "records") (all_counted tables i)) ∙ ap (λ (es : List (Key × List ℕ)). flat_map record_line es ++ number_line (codes "records") (length es)) are
-
--- ---- in terms of the medium
 
 -- nothing was done
 pub as_dumped : (old : View) (status : Status) (new : View) → OverRecords true 0 (λ ended. ⊥) old status new false [] → DumpOutcome old status new false []
@@ -101,22 +64,22 @@ module _ (tells : Bool) (told : IsTrue tells) (old : View) (store mid later : St
           (going.then (says.time told) (subst (λ (x : Shape × List ℕ). LeavesOnly (λ image. Opens x.0 image x.1) mid later) (λ i. (says.shape i, mid_bytes i)) (read.left.time told))) store.shape all image left;
     }
 
-    dumps : (ended : Ended) (cut : Bool) (text : List ℕ) → ended ≡ (if cut then script.WriteFault else script.All) → IsWritten cut text (dump_lines (all_records (index_of_form form) mid.state.bytes)) → DumpsRecords ended old new cut text
+    dumps : (ended : Ended) (cut : Bool) (text : List ℕ) → ended ≡ (if cut then script.WriteFault else script.All) → IsWritten cut text (dump_lines (table_of (index_of_form form) mid.state.bytes)) → DumpsRecords ended old new cut text
     dumps ended cut text is wrote = record {
       shape = store.shape;
       holds = holds tells told old ran.only_now store ran.attached ran.keeps (subst (λ (x : Index × List ℕ). x.0.sound x.1) (λ i. (sym own i, mid_bytes i)) (read.sound told));
       left = ap (λ (s : Shape). settled_data s new.content.bytes) (sym shape_is) ∙ ran.behind.bytes told lives ∙ later_bytes ∙ first_bytes;
       spares = spares;
       end = is;
-      told = subst (λ (b : List ℕ). IsWritten cut text (dump_lines (all_records (index_at b) b))) first_bytes
-          (subst (λ (x : Index × List ℕ). IsWritten cut text (dump_lines (all_records x.0 x.1))) (λ i. (sym own i, mid_bytes i)) wrote);
+      told = subst (λ (b : List ℕ). IsWritten cut text (dump_lines (table_of (index_at b) b))) first_bytes
+          (subst (λ (x : Index × List ℕ). IsWritten cut text (dump_lines (table_of x.0 x.1))) (λ i. (sym own i, mid_bytes i)) wrote);
     }
 
     -- what is told of it
     pub comes_of : (status : Status) (cut : Bool) (text : List ℕ) → Tells end status cut text → DumpOutcome old status new cut text
     comes_of status cut text said = by_cut cut (subst (λ (e : Result (List ℕ) Status). Tells e status cut text) (read.told told) said)
       where
-        by_cut : (cut : Bool) → (let e : Result (List ℕ) Status = Ok (dump_lines (all_records (index_of_form form) mid.state.bytes)) in Tells e status cut text) → DumpOutcome old status new cut text
+        by_cut : (cut : Bool) → (let e : Result (List ℕ) Status = Ok (dump_lines (table_of (index_of_form form) mid.state.bytes)) in Tells e status cut text) → DumpOutcome old status new cut text
         by_cut true told = subst (λ (s : Status). DumpOutcome old s new true text) (sym told.0) (dumps script.WriteFault true text refl told.1)
         by_cut false told = subst (λ (s : Status). DumpOutcome old s new false text) (sym told.0) (dumps script.All false text refl told.1)
 

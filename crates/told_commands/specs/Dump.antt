@@ -1,7 +1,7 @@
 -- What a dump of the records does and writes, on a medium that tells its bytes.
 use Rattle.std.specs.Prelude.{ℕ, ◌≡◌, Bool, true, false, IsTrue, if◌then◌else◌, List, ◌++◌, length, codes, Result, Ok}
 use Rattle.std.specs.FinMap.{entries}
-use Rattle.std.specs.List.{flat_map, sum_by}
+use Rattle.std.specs.List.{flat_map}
 use Rattle.pcm_media.specs.Images.{MayLeave}
 use Rattle.pcm_media.specs.View.{View}
 use Rattle.array_shape.specs.declared.shape.Shape.{Shape}
@@ -11,10 +11,11 @@ use Rattle.eaw_face.specs.Causes.{IsAlive}
 use Rattle.eaw_face.specs.StoreView.{StoreView}
 use Rattle.eaw_device.specs.Opens.{Opens, AllOpen, OpensLike}
 use Rattle.page_store.specs.Index.{Index}
-use Rattle.record_table.specs.AllTables.{all_records, NamedRows}
+use Rattle.record_table.specs.Shown.{table_of}
+use Rattle.history.specs.declared.key.Key.{Key}
 use Rattle.history.specs.Writes.{Table}
 use Rattle.mars_core.specs.Attached.{LeftAsItWas}
-use Rattle.history_text.specs.Text.{record_line, table_lines, number_line}
+use Rattle.history_text.specs.Text.{record_line, number_line}
 use Rattle.texts.specs.Written.{IsWritten}
 use Rattle.script_run.specs.declared.ended.Ended.{Ended}
 use Rattle.script_run.specs.declared.ended.Ended.TheVariants.{All, WriteFault}
@@ -22,13 +23,17 @@ use Rattle.array_runs.specs.Forms.{index_in}
 use Rattle.array_runs.specs.Records.{HoldsRecords, OverRecords}
 use Rattle.array_runs.specs.declared.status.Status.{Status}
 
--- the lines of all records by rising key, that is by the name of the table and then by number, and the last line, which says how many there are
+-- the lines of records, and the last line, which says how many there are
+abbrev pub records_text : List (Key × List ℕ) → List ℕ
+records_text records = flat_map record_line records ++ number_line (codes "records") (length records)
+
+-- those of a table by rising key, that is by the name of the table and then by number
 abbrev pub dump_lines : Table → List ℕ
-dump_lines table = flat_map record_line (entries table) ++ number_line (codes "records") (length (entries table))
+dump_lines table = records_text (entries table)
 
 -- the records in the array that a medium holds, those of all tables
 abbrev pub records_on : Shape → View → Table
-records_on shape media = all_records (index_in shape media) (settled_data shape media.content.bytes)
+records_on shape media = table_of (index_in shape media) (settled_data shape media.content.bytes)
 
 -- What was opened stays: no row is voted, and each image that a loss of power may leave opens with the data that was
 -- opened. One that might have been left since the entry opens with the data of an image that could be left at first, if all of those open.
@@ -51,14 +56,10 @@ pub record DumpsRecords (ended : Ended) (old new : View) (cut : Bool) (text : Li
 abbrev pub DumpOutcome : View → Status → View → Bool → List ℕ → Type 0
 DumpOutcome old status new cut text = OverRecords true 0 (λ ended. DumpsRecords ended old new cut text) old status new cut text
 
--- the text of tables, one after another, and of how many records they have
-abbrev pub tables_text : List NamedRows → List ℕ
-tables_text tables = flat_map table_lines tables ++ number_line (codes "records") (sum_by (λ table. length table.1) tables)
-
 -- The records of a store's data, which are sound, are told. The store is as it was, and whatever a loss of power may leave now opens with its
 -- data.
 pub record LeavesRead (tells : Bool) (Opens : Shape → List ℕ → List ℕ → Type 0) (index : Index) (old : StoreView) (end : Result (List ℕ) Status) (new : StoreView) : Type 0 where
   pub sound : IsTrue tells → index.sound old.state.bytes
-  pub told : IsTrue tells → end ≡ Ok (dump_lines (all_records index old.state.bytes))
+  pub told : IsTrue tells → end ≡ Ok (dump_lines (table_of index old.state.bytes))
   pub left : LeftAsItWas tells (Opens old.shape) false old new
   pub now : IsTrue tells → IsAlive new → (image : List ℕ) → new.left_since new.moment image → Opens new.shape image new.state.bytes

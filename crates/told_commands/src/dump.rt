@@ -1,6 +1,7 @@
 // Tells the records of an array.
 ghost use Rattle.std.specs.Prelude.{◌≡◌, IfOk};
-ghost use Rattle.told_commands.specs.Dump.{tables_text};
+ghost use Rattle.history.specs.Rows.{records_in};
+ghost use Rattle.told_commands.specs.Dump.{records_text};
 
 use crate::told_work::{Told, ToldWork};
 use array_runs::{Status, served_status};
@@ -51,7 +52,7 @@ impl ToldWork for Dump {
 
 // The lines of the records, and of their count.
 fn dump_lines(alloc: Global, tables: &[(Name, Rows)]) -> Result<Vec<u8>, NoMemory>
-    ensures { IfOk result (λ text. text.items ≡ tables_text tables.now) }
+    ensures { IfOk result (λ text. text.items ≡ records_text (records_in tables.now)) }
 {
     let mut text = Vec::new(alloc);
     write_tables(&mut text, tables)?;

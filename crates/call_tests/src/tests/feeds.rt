@@ -32,6 +32,7 @@ fn put(alloc: Global, at: u64, at_key: Key, text: &[u8]) -> Result<Done, NoMemor
         caller: 0,
         calls,
         at,
+        last: at,
     })
 }
 
@@ -45,6 +46,7 @@ fn delete(alloc: Global, at: u64, at_key: Key) -> Result<Done, NoMemory>
         caller: 0,
         calls,
         at,
+        last: at,
     })
 }
 

@@ -11,6 +11,7 @@ fn history_of(alloc: Global, calls: Calls, at: u64) -> Result<History, NoMemory>
         caller: 0,
         calls,
         at,
+        last: at,
     };
     match history.push(done) {
         Ok(()) => Ok(history),

@@ -9,6 +9,7 @@ ghost use Rattle.transactions.specs.Makes.{Holds, IsGivenUp};
 use super::accounts::with_accounts;
 use super::opening::open_bank;
 use caller_steps::{Core as Steps, prefix_law};
+use history::main_table;
 use std::alloc::Global;
 use std::test::Fail;
 use transactions::{Stop, Work, calls_join, get, number_in, transaction_retried};
@@ -40,7 +41,7 @@ impl Work<u64, Missing> for Looking {
         ensures of_core { IsTrue C.tells → IfErr result (IsOfCore caller (C.view core.old) (C.view core.new)) }
     {
         calls_join::<C, Missing>();
-        let Some(value) = get(core, caller, self.key)? else {
+        let Some(value) = get(core, caller, main_table(), self.key)? else {
             return Err(Stop::GivenUp(Missing));
         };
         number_in(&value).ok_or(Stop::GivenUp(Missing))

@@ -7,6 +7,7 @@ use super::opening::open_bank;
 use caller_steps::Core as Steps;
 use eaw_device::Eaw;
 use eaw_face::EawStore;
+use history::main_table;
 use pcm_media::{FusedMedia, MemoryMedia};
 use sample_array::write_both;
 use sample_records::raise;
@@ -73,9 +74,10 @@ fn raised<C: Steps>(core: &mut C) -> [Result<u64, Refusal>; 3]
     requires inside { 0 < (C.view core.old).limits.callers }
     requires sound { IsTrue C.tells → IsSound (C.view core.old).state }
 {
-    let one = raise(core, 0, 5);
-    let two = raise(core, 0, 5);
-    let other = raise(core, 0, 6);
+    let table = main_table();
+    let one = raise(core, 0, table, 5);
+    let two = raise(core, 0, table, 5);
+    let other = raise(core, 0, table, 6);
     [one, two, other]
 }
 

@@ -196,6 +196,35 @@ fn who_reads_behind_a_commit_reads_it(rt: HostRuntime) -> Result<(), Fail> {
     )
 }
 
+// An array with a table `log` beside `main`.
+fn with_log<R: AllocGlobal + Threads + Wait + Sync>(rt: &R) -> Result<MemoryMedia, Fail> {
+    let words = words_of(rt.alloc(), "make log")?;
+    behind(rt, fresh(rt)?, &words, b"")
+}
+
+const READER_OF_TABLES: &[u8] =
+    b"0 begin\n0 @log put 1 a\n0 commit\nr0 @log get 1\nr0 get 1\nr0 @no get 1\nr0 @main get 1\n";
+
+const READ_OF_TABLES: &[u8] =
+    b"txn 1 caller 0\n0 ok\nrec @log 1 a\nread 0 @log 1 at 1 val a\nread 0 1 at 1 none\nread 0 no table\nread 0 1 at 1 none\n";
+
+// The same of a key of a table. A key with the same number of another one has no record, and a table that is not there has no answer.
+#[test]
+fn who_reads_a_table_behind_a_commit_reads_it(rt: HostRuntime) -> Result<(), Fail> {
+    let holds = [
+        Hold::new(FIRST_READ, 1, None, Some(Flag::First)),
+        Hold::new(END_OF_ZERO, 1, Some(Flag::First), None),
+    ];
+    writes(
+        &rt,
+        with_log(&rt)?,
+        "callers 1 --readers 1",
+        READER_OF_TABLES,
+        &holds,
+        READ_OF_TABLES,
+    )
+}
+
 const TWICE_AND_NO_LINE: &[u8] =
     b"0 begin\n0 put 1 a\n0 commit\nr0 get 1\nr0 put 1 b\nr0 get 2\nr1 get 1\n";
 

@@ -7,7 +7,7 @@ ghost use Rattle.mars_manager.specs.Sharing.{CanShare};
 use super::held_media::Hold;
 use super::sharing::fresh;
 use caller_steps::Core;
-use history::{Call, Done, History, Reply, Rows};
+use history::{Call, Done, History, Key, Reply, Tables, main_table};
 use mars_manager::{Mars, Pass, Passes};
 use record_slots::Value;
 use sample_callers::put_one;
@@ -22,7 +22,12 @@ fn is_put(done: &Done, at: u64, value: Value) -> bool {
     if done.caller != 0 || done.at != at || done.calls.entries().len() != 1 {
         return false;
     }
-    done.calls.entries()[0] == (Call::Put { key: at, value }, Reply::Fine)
+    let put = Call::Put {
+        table: main_table(),
+        key: at,
+        value,
+    };
+    done.calls.entries()[0] == (put, Reply::Fine)
 }
 
 fn are_puts(dones: &[Done], first: u64, value: Value) -> bool {
@@ -82,7 +87,7 @@ fn answers<C: Core + Drop, R: Wait>(
     requires { pass.old.table ≡ mars.now.table }
     ensures { pass.new.table ≡ pass.old.table }
 {
-    let base = Rows::new(alloc);
+    let base = Tables::new(alloc);
     let Ok((mut feed, mut readers)) = open_readers(rt, alloc, &base, 1) else {
         return None;
     };
@@ -90,7 +95,7 @@ fn answers<C: Core + Drop, R: Wait>(
         feed.close(rt);
         return None;
     };
-    let before = reader.get(rt, 1);
+    let before = reader.get(rt, &of_main(1));
     let shown = publish_news(rt, alloc, mars, pass, &mut feed).is_some();
     let read = read_three(rt, &mut reader);
     feed.close(rt);
@@ -100,12 +105,19 @@ fn answers<C: Core + Drop, R: Wait>(
     Some([before, read.0, read.1, read.2])
 }
 
+fn of_main(key: u64) -> Key {
+    Key {
+        table: main_table(),
+        key,
+    }
+}
+
 type Read = (u64, Option<Value>);
 
 fn read_three<R: Wait>(rt: &R, reader: &mut Reader) -> (Read, Read, Read) {
-    let one = reader.get(rt, 1);
-    let two = reader.get(rt, 2);
-    let three = reader.get(rt, 3);
+    let one = reader.get(rt, &of_main(1));
+    let two = reader.get(rt, &of_main(2));
+    let three = reader.get(rt, &of_main(3));
     (one, two, three)
 }
 

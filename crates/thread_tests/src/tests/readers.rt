@@ -39,6 +39,7 @@ fn put(alloc: Global, at: u64) -> Result<Done, NoMemory>
         caller: 0,
         calls,
         at,
+        last: at,
     })
 }
 

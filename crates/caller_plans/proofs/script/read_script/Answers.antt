@@ -1,6 +1,7 @@
 use Rattle.std.proofs.Common.{ℕ, Bool, ◌≡◌, ◌+◌, [], ◌∷◌, List, length, suc, sym, ap, subst, ◌∙◌, arith}
 use Rattle.std.specs.Prelude.{Result, Ok, Err, IfOk}
 use Rattle.std.proofs.lemmas.List.{append-nil, length-replicate}
+use Rattle.history.specs.declared.key.Key.{Key}
 use Rattle.script_run.specs.Lines.{lines_of}
 use Rattle.caller_plans.specs.declared.draft.Draft.{Draft}
 use Rattle.caller_plans.specs.declared.fate.LineFault.{LineFault}
@@ -20,7 +21,7 @@ loop-line-init c =
         ap (λ (fs : List LineFault). all_faults 1 (record { faults = fs; drafts = c.in_ok-reading.reading.drafts; asks = c.in_ok-reading.reading.asks }) rest) c.in_ok-reading.ensures.faults
             ∙ ap (λ (w : ℕ → Bool). faults_from 1 w rest) (ap are_within drafts ∙ first_within c.args.callers),
         ap (λ (ds : List Draft). all_drafted 0 ds rest) drafts ∙ first_drafted 0 c.args.callers rest,
-        ap (λ (ks : List (List ℕ)). all_asked 0 ks rest) c.in_ok-reading.ensures.asks ∙ first_asked 0 c.args.readers rest,
+        ap (λ (ks : List (List Key)). all_asked 0 ks rest) c.in_ok-reading.ensures.asks ∙ first_asked 0 c.args.readers rest,
       );
       count = ap length drafts ∙ length-replicate c.args.callers empty_draft;
       readers = ap length c.in_ok-reading.ensures.asks ∙ length-replicate c.args.readers [];

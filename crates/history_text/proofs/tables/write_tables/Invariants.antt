@@ -1,6 +1,6 @@
 use Rattle.std.proofs.Common.{◌≡◌, ◌++◌, take}
 use Rattle.std.specs.List.{flat_map}
-use Rattle.history_text.specs.Text.{table_lines}
+use Rattle.history_text.proofs.TableLines.{table_lines}
 use Rattle.history_text.proofs.tables.write_tables.Given as goal
 
 -- the lines so far come after what was there

@@ -34,7 +34,7 @@ pub tell_end-ended-requires-clause-readers : goal.tell_end-ended-requires-clause
 tell_end-ended-requires-clause-readers g c =
     let read = c.in-Ok.ensures in
     let readers : length (asks_with c.in-Ok-open_readership.readership) ≡ c.args.crew.now.numbers.readers = ap length (c.in-Ok-open_readership.ensures.asks ∙ read.4) ∙ as_many_asks 0 c.args.crew.now.numbers.readers read.0 in
-    few_answers c.in-Ok-work_with.answers _ _ _ c.in-Ok-work_with.ensures.answered (omega (arith, readers, c.requires.readers))
+    few_answers c.in-Ok-work_with.answers _ _ _ _ c.in-Ok-work_with.ensures.answered (omega (arith, readers, c.requires.readers))
 
 pub returns-in-Ok-work_with-clause-works : goal.returns-in-Ok-work_with-clause-works
 returns-in-Ok-work_with-clause-works g c =
@@ -50,6 +50,7 @@ returns-in-Ok-work_with-clause-works g c =
     (subst (λ (last : _). Worked s.tells c.from.result plans (core_of s.opens g.I.KeyIndex.index (s.view c.args.core.records.store) c.args.core) (core_of s.opens g.I.KeyIndex.index (s.view last.records.store) last) c.in-Ok-work_with.fates.items c.in-Ok-work_with.end) (sym c.into_inner-core.ensures)
     (subst (λ (first : _). Worked s.tells c.from.result plans (core_of s.opens g.I.KeyIndex.index (s.view first.records.store) first) (core_of s.opens g.I.KeyIndex.index (s.view c.in-Ok-work_with.core.value.records.store) c.in-Ok-work_with.core.value) c.in-Ok-work_with.fates.items c.in-Ok-work_with.end) c.in-Ok-new.ensures.ok c.in-Ok-work_with.ensures.worked)) in
     let base = ap (λ (first : _). (core_of s.opens g.I.KeyIndex.index (s.view first.records.store) first).state.base) c.in-Ok-new.ensures.ok ∙ sym worked.since.base in
+    let names = ap (λ (first : _). (core_of s.opens g.I.KeyIndex.index (s.view first.records.store) first).state.names) c.in-Ok-new.ensures.ok in
     let history = ap (λ (last : _). (core_of s.opens g.I.KeyIndex.index (s.view last.records.store) last).state.history) (sym c.into_inner-core.ensures) in
     let asks = c.in-Ok-open_readership.ensures.asks ∙ read.4 in
     record {
@@ -59,7 +60,7 @@ returns-in-Ok-work_with-clause-works g c =
       counts = told.counts;
       holds = λ tells. joint_turns s.tells _ _ numbers.callers numbers.readers numbers.tries c.args.input.now read.0 read.1 plans read.3 c.in-Ok-work_with.fates.items c.in-Ok-work_with.end worked c.requires.ready.enough (answers_in answers) tells
           c.tell_end-ended.result told.cut told.text (λ unfailed remembered. (whole unfailed remembered).0) c.tell_end-ended.ensures.fault
-          (λ unfailed remembered. answered_in answers _ _ _ _ _ _ base history asks c.in-Ok-work_with.ensures.answered (whole unfailed remembered).1)
+          (λ unfailed remembered. answered_in answers _ _ _ _ _ _ _ _ (names ∙ sym (worked.since.continues tells).names) base history asks c.in-Ok-work_with.ensures.answered (whole unfailed remembered).1)
           (retold c.tell_end-ended.result told.cut told.text _ _ _ _ _ _ c.in-Ok-work_with.fates.items c.in-Ok-work_with.fates.items (answers_in answers) read.2 c.history.ensures c.base-in-Ok-work_with.ensures.base refl told.holds);
     }
 

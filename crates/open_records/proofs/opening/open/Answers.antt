@@ -1,5 +1,6 @@
 use Rattle.std.proofs.Common.{ℕ, List, ◌∙◌, ap, subst}
 use Rattle.eaw_device.specs.Sound.{view_of}
+use Rattle.record_table.specs.Names.{names_of}
 use Rattle.record_table.specs.Shown.{table_of}
 use Rattle.record_table.specs.Upgrading.{upgraded}
 use Rattle.caller_steps.specs.State.{opened}
@@ -14,7 +15,7 @@ returns-in-Ok-attach-2-clause-opened g c told shape bytes opens =
     let index = g.K.KeyIndex.index in
     record {
       limits = begins.over.limits ∙ ap limits_of (begins.shape ∙ found.0);
-      state = begins.state told ∙ ap (λ (b : List ℕ). opened (table_of index b) (index_of index (upgraded b))) found.1;
+      state = begins.state told ∙ ap (λ (b : List ℕ). opened (names_of b) (table_of index b) (index_of index (upgraded b))) found.1;
       sound = subst (λ (b : List ℕ). index.sound b) found.1 (begins.sound told);
     }
 

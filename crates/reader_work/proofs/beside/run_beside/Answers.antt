@@ -1,6 +1,5 @@
-use Rattle.std.proofs.Common.{◌≡◌, ◌+◌, ◌-◌, ◌<◌, ◌≤◌, ℕ, suc, List, [], ◌∷◌, ◌++◌, map, get_or, length, length-append, Option, inl, inr, arith, refl, sym, ap, ◌∙◌, subst}
-use Rattle.std.specs.Prelude.{All, IfSome, Result, IfOk}
-use Rattle.std.specs.Global.{Vec}
+use Rattle.std.proofs.Common.{◌≡◌, ◌+◌, ◌<◌, ℕ, List, [], ◌∷◌, ◌++◌, map, length, Option, arith, refl, sym, ap, ◌∙◌, subst}
+use Rattle.std.specs.Prelude.{IfSome}
 use Rattle.std.proofs.lemmas.List.{length-map}
 use Rattle.std.proofs.lemmas.Result.{IfOk-weaker}
 use Rattle.mars_manager.specs.Pass.{PassView, AreSo, known_of, times, newcomer}
@@ -10,7 +9,6 @@ use Rattle.caller_work.specs.declared.crew.Job.{Job}
 use Rattle.caller_work.proofs.Hiring.{there_is, it_is, none_of}
 use Rattle.caller_work.proofs.Whole.{whole}
 use Rattle.caller_work.proofs.Manning.{ready_at, left_at, all_done}
-use Rattle.reader_work.specs.Answers.{AllAnswer}
 use Rattle.reader_work.specs.News.{IsOnlooker}
 use Rattle.reader_work.specs.Readership.{plans_of, keys_of}
 use Rattle.reader_work.proofs.Answering.{answer_longer}
@@ -114,7 +112,7 @@ returns-clause-worked g c =
     let fits = so_last g.C.Core.tells g.C.Core.view mars.setup gathered.turns state front last so in
     let looks : IsOnlooker (length plans) last.known = subst (λ (n : ℕ). IsOnlooker n last.known) (ap (λ (p : PassView g.row.C.Denot). p.known.number) its.1 ∙ many) c.all_work-workers.ensures.pass.1 in
     let all : mars.setup.callers ≡ length plans + 1 = omega (arith, c.requires.callers, many) in
-    whole g.C.Core.tells g.C.Core.view mars c.close-2.result c.args.tries plans c.finish-end.new.told.items finish.done.0 front c.finish-end.result each (finish.done.1 ∙ same ∙ hire.len ∙ many) both done finish.done.3
+    whole g.C.Core.tells g.C.Core.view mars c.close-2.result c.args.tries plans c.finish-end.new.told.items finish.done.0 front c.finish-end.result c.requires.named each (finish.done.1 ∙ same ∙ hire.len ∙ many) both done finish.done.3
     c.close-2.ensures.since gathered.turns gathered.run
     (turns_by g.C.Core.tells g.C.Core.view mars.setup gathered.turns state (length plans) last.known looks fits (subst (λ (n : ℕ). AreOf n gathered.turns) all gathered.whose))
     gathered.ready.alive (so_first g.C.Core.tells g.C.Core.view mars.setup gathered.turns state front last so)
@@ -130,6 +128,6 @@ returns-clause-answered g c =
     let list = c.put_back.ensures.list in
     let so = subst (AreSo g.C.Core.tells g.C.Core.view mars.setup gathered.turns state) list gathered.each in
     let fits = so_last g.C.Core.tells g.C.Core.view mars.setup gathered.turns state front last so in
-    let base = (g.C.Core.view mars.setup.first).state.base in
-    IfOk-weaker c.all_work-workers.result.2 _ _ (λ told all. answer_longer base last.known.seen state.history (keys_of c.args.readership.workers.items) told.items
-    (seen_front g.C.Core.tells g.C.Core.view mars.setup gathered.turns state last.known fits) (all base c.requires.open.ready)) c.all_work-workers.ensures.answered
+    let first = (g.C.Core.view mars.setup.first).state in
+    IfOk-weaker c.all_work-workers.result.2 _ _ (λ told all. answer_longer first.names first.base last.known.seen state.history (keys_of c.args.readership.workers.items) told.items
+    (seen_front g.C.Core.tells g.C.Core.view mars.setup gathered.turns state last.known fits) (all first.names first.base c.requires.open.ready)) c.all_work-workers.ensures.answered

@@ -1,4 +1,4 @@
-use Rattle.std.proofs.Common.{◌≡◌, ◌++◌, List, [], ◌∷◌, map, length, append_assoc, arith, refl, sym, ap, ◌∙◌, subst}
+use Rattle.std.proofs.Common.{◌≡◌, ◌++◌, List, [], ◌∷◌, length, append_assoc, arith, refl, sym, ap, ◌∙◌, subst}
 use Rattle.std.specs.Prelude.{All}
 use Rattle.std.proofs.lemmas.List.{append-nil, map-append}
 use Rattle.std.proofs.lemmas.List.Elements.{All-push, All-rest, All-weaker, All-head, All-same}
@@ -6,7 +6,6 @@ use mathlib.Core.List.{IsPrefix}
 use Rattle.snapshot_readers.specs.Batches.{Batch}
 use Rattle.snapshot_readers.specs.Feeds.{fed, fed_book, heard, told, read, read_book}
 use Rattle.snapshot_readers.proofs.Prefixes.{prefix_trans}
-use Rattle.reader_work.specs.Readership.{answers_of}
 use Rattle.reader_work.specs.declared.answer.Answer.{Answer}
 use Rattle.reader_work.specs.declared.reading.ReadWorker.{ReadWorker}
 use Rattle.reader_work.proofs.beside.tie.Goals as goal
@@ -18,6 +17,11 @@ Begins list worker = IsPrefix (read worker.reader) list
 none_left : (xs : List ReadWorker) → length xs ≡ 0 → xs ≡ []
 none_left [] is = refl
 none_left (x ∷ xs) is = absurd (omega (arith, is))
+
+pub learn-requires : goal.learn-requires
+learn-requires g c =
+    let Same = λ (w : ReadWorker). read_book w.reader ≡ fed_book c.loop-worker.feed in
+    All-head Same c.in-Some.worker c.next.new.self.rest.items (subst (All Same) c.in-Some.ensures.steps.0 c.loop-worker.invariant.books)
 
 pub loop-worker-preserved : goal.loop-worker-preserved
 loop-worker-preserved g c =

@@ -14,5 +14,5 @@ invariant-loop-keys l = record {
   room : vec_capacity l.workers ≡ length l.fn.asks.items;
   many : length l.workers.items + length l.keys-iterator.rest.items ≡ length l.fn.asks.items;
   fresh : (book : Book) (base : Table) → All (IsFresh book base) l.fn.readers → All (IsFresh book base) l.readers;
-  ready : (book : Book) (base : Table) → All (IsFresh book base) l.fn.readers → All (IsReady book base) l.workers.items;
+  ready : (book : Book) (base : Table) → All (IsFresh book base) l.fn.readers → All (IsReady l.names book base) l.workers.items;
 }

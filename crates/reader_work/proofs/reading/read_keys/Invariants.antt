@@ -9,9 +9,10 @@ use Rattle.reader_work.proofs.reading.read_keys.Given as goal
 abbrev pub invariant-loop-nth : goal.invariant-loop-nth
 invariant-loop-nth g l = record {
   keys : l.worker.keys ≡ l.fn.worker.keys;
+  names : l.worker.names ≡ l.fn.worker.names;
   room : vec_capacity l.worker.answers ≡ vec_capacity l.fn.worker.answers;
   count : length l.worker.answers.items ≡ l.nth;
   book : read_book l.worker.reader ≡ read_book l.fn.worker.reader;
   base : read_base l.worker.reader ≡ read_base l.fn.worker.reader;
-  answers : AreAnswers (read_base l.fn.worker.reader) (joined (read l.worker.reader)) 0 (take l.nth l.fn.worker.keys) l.worker.answers.items;
+  answers : AreAnswers l.fn.worker.names (read_base l.fn.worker.reader) (joined (read l.worker.reader)) 0 (take l.nth l.fn.worker.keys) l.worker.answers.items;
 }

@@ -1,4 +1,4 @@
-use Rattle.std.proofs.Common.{◌∷◌, [], arith, sym, subst, ◌∙◌}
+use Rattle.std.proofs.Common.{◌∷◌, [], arith, subst}
 use Rattle.history.specs.declared.call.Call.TheVariants.{Get}
 use Rattle.script_text.specs.Line.{IsCallText, IsLineOf}
 use Rattle.script_text.proofs.Fields.{behind}
@@ -11,13 +11,13 @@ returns-in_err-rest c = rw c.from_residual.ensures (λ t is. c.in_err-rest.ensur
 pub returns-in_err-reader : goal.returns-in_err-reader
 returns-in_err-reader c = rw c.from_residual-in_err-reader.ensures (λ t is.
     let same = behind (114 ∷ []) c.args.bytes.now is.0 c.in_ok-rest.rest.now is.2 c.in_ok-rest.ensures in
-    c.in_err-reader.ensures (t.0, Get t.1) (subst (IsLineOf (IsCallText (Get t.1)) c.args.readers t.0) same is.1))
+    c.in_err-reader.ensures (t.0, Get t.1.table t.1.key) (subst (IsLineOf (IsCallText (Get t.1.table t.1.key)) c.args.readers t.0) same is.1))
 
 pub returns-in_default : goal.returns-in_default
 returns-in_default c = λ t is.
     let same = behind (114 ∷ []) c.args.bytes.now is.0 c.in_ok-rest.rest.now is.2 c.in_ok-rest.ensures in
-    let asked = subst (IsLineOf (IsCallText (Get t.1)) c.args.readers t.0) same is.1 in
-    c.in_default.not-Get t.1 (same_line c.args.readers _ t.0 _ (Get t.1) c.in_ok-rest.rest.now (omega (arith, c.ranges.readers.fits)) c.in_ok-reader.ensures asked).1
+    let asked = subst (IsLineOf (IsCallText (Get t.1.table t.1.key)) c.args.readers t.0) same is.1 in
+    c.in_default.not-Get t.1.table t.1.key (same_line c.args.readers _ t.0 _ (Get t.1.table t.1.key) c.in_ok-rest.rest.now (omega (arith, c.ranges.readers.fits)) c.in_ok-reader.ensures asked).1
 
 pub returns-in-Get : goal.returns-in-Get
 returns-in-Get c = (c.in_ok-rest.rest.now, rw c.in-Get.is at c.in_ok-reader.ensures, c.in_ok-rest.ensures)
