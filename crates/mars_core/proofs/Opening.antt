@@ -89,6 +89,7 @@ module _ (tells : Bool) (Opens : Shape → List ℕ → List ℕ → Type 0) (in
 
   pub opened_keeps : IsKept tells Opens index r (length seats.live) rows (state_at index r.store seats.names (table_of rows) history (live_in seats) (offers_in seats) doubt)
   opened_keeps = record {
+    gone = λ u n at. none u;
     seats = count ∙ sym (ap (λ (h : Shape). h.numbers) upgrades.shape);
     in_order = λ told. base_rows (shown.table_of index p.store.state.bytes) rows (are told);
     idle = λ _ t none. ap (λ (o : Option (List (ℕ × ℕ))). listed o) (still_free t);

@@ -1,12 +1,12 @@
 // The callers, each with its live transaction if it has one and with what it has offered, and the names of the tables that they ask for.
-ghost use Rattle.std.specs.Prelude.{◌≡◌, ◌<◌, ◌≤◌, [], List, ℕ, Some, None, IfOk, IfSome, IfNone, is_some, not, ◌||◌, length};
+ghost use Rattle.std.specs.Prelude.{◌≡◌, ◌<◌, ◌≤◌, [], List, ℕ, Some, None, IfOk, IfSome, IfNone, slice_get, is_some, not, ◌||◌, length};
 ghost use Rattle.caller_steps.specs.Locked.{IsFree, IsBusyWith};
 ghost use Rattle.history.specs.Locks.{touched};
 ghost use Rattle.mars_core.specs.Masks.{AreMasksOf};
 ghost use Rattle.mars_core.specs.declared.locks.Locks.TheVariants.{Held};
 ghost use Rattle.caller_steps.specs.Offers.{is_unoffered};
 ghost use Rattle.caller_steps.specs.State.{unoffered};
-ghost use Rattle.mars_core.specs.Seats.{live_in, offer_in, offers_in, calls_at, calls_in, IsMasked, Seated, Gives, bare};
+ghost use Rattle.mars_core.specs.Seats.{live_in, offer_in, offer_at, offers_in, calls_at, calls_in, IsMasked, Seated, Gives, bare};
 ghost use Rattle.mars_core.specs.TableCall.{number_for};
 
 use crate::live::Live;
@@ -48,11 +48,10 @@ impl Seats {
         // There are at most eight names.
         let _few = names.count();
         let mut live = Vec::with_capacity(alloc, usize::from(count))?;
-        let mut offers = Vec::with_capacity(alloc, usize::from(count))?;
         for _caller in 0..count {
             live.push(None)?;
-            offers.push(Offer::Nothing)?;
         }
+        let offers = unoffered(alloc, count)?;
         Ok(Seats {
             names,
             live,
@@ -188,4 +187,16 @@ impl Seats {
             Locks::Held => None,
         }
     }
+}
+
+// So many callers that have offered nothing.
+fn unoffered(alloc: Global, count: u8) -> Result<Vec<Offer>, NoMemory>
+    ensures count { IfOk result (λ offers. length offers.items ≡ count) }
+    ensures nothing { IfOk result (λ offers. (caller : ℕ) → offer_at (slice_get offers.items caller) ≡ unoffered) }
+{
+    let mut offers = Vec::with_capacity(alloc, usize::from(count))?;
+    for _caller in 0..count {
+        offers.push(Offer::Nothing)?;
+    }
+    Ok(offers)
 }
