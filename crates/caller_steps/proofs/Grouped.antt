@@ -5,11 +5,11 @@ use Rattle.std.proofs.lemmas.List.{append-nil}
 use Rattle.history.specs.Writes.{Table}
 use Rattle.history.specs.Table.{IsRight, left_by}
 use Rattle.history.specs.Legal.{IsLegal}
-use Rattle.history.specs.Groups.{AreGrouped}
+use Rattle.history.specs.Groups.{AreGrouped, AreWhole}
 use Rattle.history.specs.Locks.{AreApart}
 use Rattle.history.specs.declared.transaction.Done.{Done}
 use Rattle.history.proofs.OneMore.{IsLegal-push, records-push}
-use Rattle.history.proofs.Grouping.{grouped_more}
+use Rattle.history.proofs.Grouping.{grouped_more, legal_numbered, all_whole}
 use Rattle.history.proofs.Locking.{right_after}
 use Rattle.caller_steps.specs.State.{State, unoffered, unsettled, calls_of, records_of, with_live, with_offer}
 use Rattle.caller_steps.specs.Offers.{done_in, with_done, with_group, group_in, group_end, without, committed_group, doubted_group}
@@ -25,7 +25,7 @@ pub record IsRightNow (state : State) : Type 0 where
   pub apart : (one other : ℕ) → one ≢ other → AreApart state.names (calls_of state one) (calls_of state other)
 
 -- one more of a group
-one_right : (state : State) (last caller : ℕ) → IsRightNow state → IsRightNow (with_done state last caller)
+pub one_right : (state : State) (last caller : ℕ) → IsRightNow state → IsRightNow (with_done state last caller)
 one_right state last caller now = record {
   legal = IsLegal-push state.base state.history (done_in state last caller) now.legal refl (now.right caller);
   right = subst (λ table. (other : ℕ) → IsRight table (calls_of (with_live state caller None) other)) (sym (records-push state.base state.history (done_in state last caller)))
@@ -59,6 +59,10 @@ module _ (state : State) (sound : IsSound state) (alive : state.is_dead ≡ fals
 
   all_legal : IsLegal state.base (state.history ++ group_in state last callers)
   all_legal = subst (λ (x : Table × List Done). IsLegal x.0 x.1) (λ i. (group_base state last callers i, group_history state last callers i)) now.legal
+
+  -- with it each group is whole
+  pub group_whole : AreWhole (length (state.history ++ group_in state last callers)) (state.history ++ group_in state last callers)
+  group_whole = all_whole (state.history ++ group_in state last callers) (legal_numbered state.base (state.history ++ group_in state last callers) all_legal) all_grouped
 
   -- A group keeps the state sound,
   pub group_sound : IsSound (committed_group state callers)

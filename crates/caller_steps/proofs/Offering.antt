@@ -27,7 +27,7 @@ abbrev pub AreOnce : List ℕ → Type 0
 AreOnce [] = Unit {0}
 AreOnce (caller ∷ callers) = (is_in caller callers ≡ false) × AreOnce callers
 
-not_first : (caller first : ℕ) (callers : List ℕ) → is_in caller (first ∷ callers) ≡ false → (caller ≢ first) × (is_in caller callers ≡ false)
+pub not_first : (caller first : ℕ) (callers : List ℕ) → is_in caller (first ∷ callers) ≡ false → (caller ≢ first) × (is_in caller callers ≡ false)
 not_first caller first callers out =
     let parts = or_parts (nat_eq caller first) (is_in caller callers) out in
     (λ same. true≢false (sym (eq-eqb caller first same) ∙ parts.0), parts.1)
@@ -120,7 +120,7 @@ pub record Stands (state : State) (caller : ℕ) (calls : Option Granted) (given
   pub live : state.live caller ≡ calls
   pub offer : state.offers caller ≡ given
 
-done_apart : (state : State) (last first caller : ℕ) → caller ≢ first → Stands (with_done state last first) caller (state.live caller) (state.offers caller)
+pub done_apart : (state : State) (last first caller : ℕ) → caller ≢ first → Stands (with_done state last first) caller (state.live caller) (state.offers caller)
 done_apart state last first caller ne = record {
   live = update_apart state.live first None caller ne;
   offer = offers_apart state.offers first (unsettled (length state.history + 1)) caller ne;

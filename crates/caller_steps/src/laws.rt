@@ -1,6 +1,6 @@
 // Laws of callers by turns, each of which follows from the definitions alone.
 ghost use Rattle.std.specs.Prelude.{◌≡◌, ◌≢◌, ◌≤◌, ◌<◌, ◌++◌, List, ℕ, Some, All, IsTrue, IsFalse, length};
-ghost use Rattle.history.specs.Writes.{Table};
+ghost use Rattle.history.specs.Writes.{Table, all_written};
 ghost use Rattle.history.specs.Table.{Granted};
 ghost use Rattle.history.specs.Legal.{IsLegal};
 ghost use Rattle.history.specs.Locks.{has_table};
@@ -9,14 +9,14 @@ ghost use Rattle.history.specs.declared.call.Call.TheVariants.{Settle};
 ghost use Rattle.history.specs.declared.call.Reply.{Reply};
 ghost use Rattle.history.specs.declared.call.Reply.TheVariants.{Committed};
 ghost use Rattle.history.specs.declared.transaction.Done.{Done};
-ghost use Rattle.caller_steps.specs.State.{State, Index, unoffered, offered, unsettled, opened};
+ghost use Rattle.caller_steps.specs.State.{State, Index, unoffered, offered, unsettled, opened, records_of};
 ghost use Rattle.caller_steps.specs.Locked.{Blocks};
 ghost use Rattle.caller_steps.specs.Room.{Limits};
 ghost use Rattle.caller_steps.specs.Step.{Step, Runs};
 ghost use Rattle.caller_steps.specs.Sound.{IsCommittedAs, IsSound};
 ghost use Rattle.caller_steps.specs.Fate.{Moves, is_of_array, may_come_held};
 ghost use Rattle.caller_steps.specs.Core.{IsSafe, Steps, Continues};
-ghost use Rattle.caller_steps.specs.Offers.{offerers, group_in, group_end, group_done, committed_group, doubted_group};
+ghost use Rattle.caller_steps.specs.Offers.{offerers, group_in, group_end, group_done, group_writes, committed_group, doubted_group};
 
 use crate::Core;
 
@@ -73,12 +73,14 @@ pub fn groups_keep_all_sound()
 {}
 
 /// The number that a settle tells is that of a transaction of its caller's in the history. If no group had committed it before, all that
-/// callers had offered are then committed, as one group behind the history.
+/// callers had offered are then committed, as one group behind the history, and the records have the writes of all of it.
 pub fn what_a_settle_commits()
     ensures told { (limits : Limits) (old new : State) (caller n : ℕ) → IsSound old → Step limits old caller Settle (Committed n) new → IsCommittedAs new.history caller n }
     ensures group { (limits : Limits) (old new : State) (caller n : ℕ) → old.offers caller ≡ offered → Step limits old caller Settle (Committed n) new
         → new.history ≡ old.history ++ group_in old (group_end old (offerers limits.callers old)) (offerers limits.callers old) }
     ensures all { (limits : Limits) (old new : State) (caller n other : ℕ) → old.offers caller ≡ offered → Step limits old caller Settle (Committed n) new
         → other < limits.callers → other ≢ caller → old.offers other ≡ offered → new.offers other ≡ unsettled (group_done old (offerers limits.callers old) other).at }
+    ensures records { (state : State) (callers : ℕ) → IsSound state
+        → records_of (committed_group state (offerers callers state)) ≡ all_written (records_of state) (group_writes state (offerers callers state)) }
     ensures last { (state : State) (last : ℕ) (callers : List ℕ) → All (λ (done : Done). done.last ≡ last) (group_in state last callers) }
 {}
