@@ -347,6 +347,22 @@ impl<S: EawStore, K: KeyIndex> Core<S, K> {
         }
     }
 
+    // Commits all that callers have offered as one group, and ends the caller's own.
+    #[tactic(auto, using(crate::proofs::GivingUp::sends_none))]
+    fn settle(&mut self, caller: u8) -> Reply
+        requires inside { caller < (S.view self.old.records.store).shape.numbers }
+        requires alive { IsAlive (S.view self.old.records.store) }
+        requires offered { offers_in self.old.seats caller ≡ offered }
+        ensures steps { Steps S.tells caller call.Settle (core_of S.opens K.index (S.view self.old.records.store) self.old)
+            (core_of S.opens K.index (S.view self.new.records.store) self.new) result }
+        ensures sends { Mirrors S.tells (S.view self.old.records.store) (S.view self.new.records.store) }
+        ensures not_busy { IsFalse (is_busy result) }
+    {
+        // Not yet written: the room for the group, the group itself, and its commit.
+        let _caller = caller;
+        Reply::NoMemory
+    }
+
     // Answers a caller that has offered its transaction: it settles, or is refused.
     #[tactic(auto, using(crate::proofs::GivingUp::sends_none))]
     fn make_offered(&mut self, caller: u8, call: &Call) -> Reply
