@@ -10,7 +10,8 @@
 #   raw    eaw: 64 bytes are logged, and committed
 # And of 1,000 records on such a file: their load, a scan of all of them, and a dump. And over the image in memory, of a drawn script of
 # 100,000 transactions a drill beside a run of the same calls, and of 100,000 transactions of one put one, two and four callers that work
-# beside each other, on stripes of their own, beside a run of the same lines. Each script is run three times, and the best time counts.
+# beside each other, on stripes of their own, beside a run of the same lines. And of puts with frames beside none, and of what follows that
+# output, for 10,000 transactions and for 40,000. Each script is run three times, and the best time counts.
 # The answers go to a file, and the last is compared, so a run that stops early is no result. A time has the start of the process in it,
 # about a millisecond. The image in memory keeps a record of all its calls, so the peak of memory is that of a run over a file, in a
 # folder that is memory where there is one.
@@ -299,6 +300,23 @@ beside() {
     }'
 }
 
+# frames COUNT: so many transactions of one put with frames and without, and what follows their output
+frames() {
+    local plain framed follow
+    script puts "$1" >"$work/drawn"
+    plain=$(best_of run)
+    framed=$(best_of run --frames)
+    mv "$work/answers" "$work/drawn"
+    follow=$(best_of follow)
+    [ "$(tail -n 1 "$work/answers")" = "applied $(grep -c '^frame ' "$work/drawn")" ] || {
+        echo "bench: the frames of $1 transactions were not followed to the end" >&2
+        exit 1
+    }
+    awk -v count="$1" -v plain="$plain" -v framed="$framed" -v follow="$follow" 'BEGIN {
+        printf "frames of %d transactions: %.1f ms, %.1f times as long as without; followed in %.1f ms\n", count, framed / 1000, framed / plain, follow / 1000
+    }'
+}
+
 # last_record COUNT: the record of the last key behind so many transactions of stripes
 last_record() {
     printf 'rec 63 value%011d' "$((($1 - 64) / 64 * 64 + 63))"
@@ -318,6 +336,8 @@ for mix in puts reads edits turns raw; do
 done
 records 100
 records 1000
+frames 10000
+frames 40000
 drills 1 100000
 for callers in 1 2 4; do
     beside "$callers" 100000

@@ -1,13 +1,11 @@
 -- Which index the data has, and work under that index.
 use Rattle.std.proofs.Common.{◌≡◌, ℕ, zero, suc, true, inl, List, refl, ap, subst}
-use Rattle.mars_base.proofs.Going as going
 use Rattle.eaw_face.specs.StoreView.{StoreView}
 use Rattle.record_slots.specs.Places.{IsSuper, page_bytes}
 use Rattle.record_slots.specs.Super.{form_said}
 use Rattle.page_store.specs.Index.{Index}
 use Rattle.key_list.specs.Seen.{chain_excludes}
 use Rattle.btree_pages.specs.Trees.{trees_excluded}
-use Rattle.caller_steps.specs.State as face
 use Rattle.mars_core.specs.Attached.{CoreCause}
 use Rattle.mars_core.specs.declared.fault.CoreFault.{CoreFault}
 use Rattle.mars_core.specs.declared.fault.CoreFault.TheVariants.{Damaged, Media, NoMemory}

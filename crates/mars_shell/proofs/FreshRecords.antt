@@ -1,5 +1,5 @@
 -- A fresh array is a sound tree without records.
-use Rattle.std.proofs.Common.{◌≡◌, ℕ, ◌*◌, ◌<◌, ◌≤◌, List, [], ◌∷◌, ◌++◌, map, take, refl, sym, ap, subst, ◌∙◌, arith}
+use Rattle.std.proofs.Common.{◌≡◌, ℕ, ◌*◌, ◌<◌, ◌≤◌, List, [], ◌∷◌, ◌++◌, map, refl, sym, ap, subst, ◌∙◌, arith}
 use Rattle.std.proofs.Math.Nat.{le-mul_of_pos_right}
 use Rattle.array_shape.specs.declared.shape.Shape.{Shape}
 use Rattle.array_shape.specs.Places.{page_count}
@@ -12,7 +12,7 @@ use Rattle.page_store.specs.Pairs.{Pair}
 use Rattle.record_slots.specs.Places.{page_bytes, next_page, tables_of, IsSuper}
 use Rattle.record_slots.specs.Super.{SaysSuper, HasTables, main_table, tables_in, tables_said}
 use Rattle.record_slots.specs.declared.super_page.TableEntry.{TableEntry}
-use Rattle.record_table.specs.Shown.{KeyPair, asked_tables, in_table, pairs_from, pairs_of, table_of, table_in}
+use Rattle.record_table.specs.Shown.{KeyPair, in_table, pairs_from, pairs_of, table_of, table_in}
 use Rattle.index_pages.specs.Page.{kind_said, level_said, count_said, link_said}
 use Rattle.record_table.proofs.Upgraded.{main_used, has_main}
 use Rattle.btree_pages.specs.Index.{tree}
@@ -60,7 +60,7 @@ module _ (shape : Shape) (bytes : List ℕ) (pages : HasPages shape (page_count 
   no_pairs : tree.pairs (data_of shape bytes) 1 ≡ [] → pairs_of tree (data_of shape bytes) ≡ []
   unfolding pairs_of
   no_pairs none =
-      ap (λ (tables : List TableEntry). pairs_from tree (data_of shape bytes) (take asked_tables tables)) alone
+      ap (λ (tables : List TableEntry). pairs_from tree (data_of shape bytes) tables) alone
       ∙ ap (λ (pairs : List Pair). map (in_table main_table.name) pairs ++ []) none
 
   pub fresh_none : HasNone (data_of shape bytes)

@@ -40,6 +40,7 @@ module _ (core : CoreView) (left : ℕ → List ℕ → Type 0) (same : (t : ℕ
         runs = refl;
         continues = record {
           limits = none.limits;
+          names = none.names;
           base = none.base;
           opens = none.opens;
           grows = none.grows;

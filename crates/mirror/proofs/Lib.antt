@@ -17,3 +17,4 @@ pub mod GroupWriting
 pub mod Atomic
 pub mod Frees
 pub mod GroupCopies
+pub mod Firsts

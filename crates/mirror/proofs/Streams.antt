@@ -51,7 +51,7 @@ no_frame_more shape bytes byte none not front (r ∷ rest) same f =
     none front (drop (length front) bytes) (sym (take-append-drop (length front) bytes) ∙ ap (λ (l : List ℕ). l ++ drop (length front) bytes) is) f
 
 -- no bytes are no frame
-none_at_first : (shape : Shape) → HasNoFrame shape []
+pub none_at_first : (shape : Shape) → HasNoFrame shape []
 none_at_first shape front rest same f =
     let long = ap (λ (l : List ℕ). length l) same in
     let all = length-append front rest in

@@ -1,6 +1,7 @@
 -- A stream of frames is followed in one way.
 use Rattle.std.proofs.Common.{◌≡◌, ℕ, ◌+◌, ⊎_elim, Bool, List, [], ◌∷◌, ◌++◌, length, refl, sym, ◌∙◌, ap, subst, arith, append_assoc}
 use Rattle.std.specs.Prelude.{All, flat_map}
+use Rattle.std.proofs.lemmas.List.{append-nil}
 use Rattle.std.proofs.lemmas.List.Elements.{All-head, All-tail}
 use Rattle.array_shape.specs.declared.shape.Shape.{Shape}
 use Rattle.eaw_face.specs.StoreView.{StoreView}
@@ -8,6 +9,7 @@ use Rattle.eaw_face.specs.Frame.{Frame, frame_bytes, IsFrameIn}
 use Rattle.eaw_face.specs.Mirroring.{AreInSequence, followed}
 use Rattle.mirror.specs.Following.{HasNoFrame, Stand, Follows, IsGap, StopsAtGap, StandsAs}
 use Rattle.mirror.proofs.Cuts.{frame_cut}
+use Rattle.mirror.proofs.Streams.{none_at_first}
 
 module _ (shape : Shape) where
   -- bytes that begin with no frame begin with no frame
@@ -32,6 +34,21 @@ module _ (shape : Shape) where
       let first = first_cut f g fs gs x y (All-head (IsFrameIn shape) f fs is) (All-head (IsFrameIn shape) g gs also) same in
       let rest = one_way fs gs x y (All-tail (IsFrameIn shape) f fs is) (All-tail (IsFrameIn shape) g gs also) none nor first.1 in
       ((λ i. first.0 i ∷ rest.0 i), rest.1)
+
+  -- frames whose bytes begin the bytes of others are the first of them
+  pub first_frames : (fs gs : List Frame) (x : List ℕ) → All (IsFrameIn shape) fs → All (IsFrameIn shape) gs → flat_map frame_bytes fs ++ x ≡ flat_map frame_bytes gs
+      → (later : List Frame) × (gs ≡ fs ++ later) × (x ≡ flat_map frame_bytes later) × All (IsFrameIn shape) later
+  first_frames [] gs x is also same = (gs, refl, same, also)
+  first_frames (f ∷ fs) [] x is also same = absurd (no_front f (flat_map frame_bytes fs ++ x) [] (All-head (IsFrameIn shape) f fs is) (none_at_first shape) (sym same ∙ behind f fs x))
+  first_frames (f ∷ fs) (g ∷ gs) x is also same =
+      let first = first_cut f g fs gs x [] (All-head (IsFrameIn shape) f fs is) (All-head (IsFrameIn shape) g gs also) (same ∙ sym (append-nil (flat_map frame_bytes (g ∷ gs)))) in
+      let rest = first_frames fs gs x (All-tail (IsFrameIn shape) f fs is) (All-tail (IsFrameIn shape) g gs also) (first.1 ∙ append-nil (flat_map frame_bytes gs)) in
+      (rest.0, (λ i. sym first.0 i ∷ rest.1 i), rest.2, rest.3)
+
+  -- bytes that begin with no frame are those of no frames
+  pub no_frames : (fs : List Frame) (x : List ℕ) → All (IsFrameIn shape) fs → HasNoFrame shape x → x ≡ flat_map frame_bytes fs → fs ≡ []
+  no_frames [] x is none same = refl
+  no_frames (f ∷ fs) x is none same = absurd (no_front f (flat_map frame_bytes fs) x (All-head (IsFrameIn shape) f fs is) none same)
 
   -- a frame that is the next one is no gap
   not_next : (next : Frame) (applied expected got : ℕ) → IsFrameIn shape next → got ≡ next.sequence → next.sequence ≡ applied + 1 → IsGap applied expected got → ⊥

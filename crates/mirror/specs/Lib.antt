@@ -8,3 +8,4 @@ pub mod FollowerView
 pub mod Sending
 pub mod Mirroring
 pub mod Groups
+pub mod Both

@@ -1,7 +1,10 @@
 // Laws of frames: each follows from the definitions alone.
-ghost use Rattle.std.specs.Prelude.{◌≡◌, ◌++◌, List, ℕ, []};
+ghost use Rattle.std.specs.Prelude.{◌≡◌, ◌++◌, List, ℕ, [], false, true, flat_map, IsTrue};
 ghost use Rattle.eaw_face.specs.Frame.{Frame, IsFrame, frame_bytes};
-ghost use Rattle.mirror.specs.FollowerView.{FollowerView, IsFollowed, HasGap, AreAlike};
+ghost use Rattle.eaw_face.specs.Mirroring.{Mirrors};
+ghost use Rattle.mirror.specs.Following.{LeavesFirst};
+ghost use Rattle.mirror.specs.FollowerView.{FollowerView, stand_of, IsFollowed, HasGap, AreAlike};
+ghost use Rattle.mirror.specs.Both.{HaveOneData, HasFirst, OpensFirstOf};
 
 use eaw_face::EawStore;
 
@@ -22,4 +25,22 @@ pub fn streams_are_followed_in_one_way<S: EawStore>()
     // A piece whose next whole frame is out of sequence is not followed.
     ensures gap { (old new other : FollowerView S) (piece : List ℕ) (expected got : ℕ)
         → IsFollowed S.tells S.view old new piece → HasGap S.tells S.view old other piece expected got → ⊥ }
+{}
+
+/// A follower that is fed a beginning of the frames that a store has sent has the data of the first of its commits. Both have one data at
+/// first.
+pub fn a_follower_has_first_commits<P: EawStore, S: EawStore>()
+    // It has applied some first of the frames, as many as it counts.
+    ensures first { (old new : P) (sent : Mirrors P.tells (P.view old) (P.view new)) (one other : FollowerView S) (bytes more : List ℕ)
+        → IsTrue S.tells → HaveOneData (P.view old) (stand_of S.view one) → flat_map frame_bytes sent.added ≡ bytes ++ more
+        → IsFollowed S.tells S.view one other bytes → HasFirst sent.added (P.view old) (stand_of S.view other) }
+    // So has all that might be left while it is fed.
+    ensures left { (old new : P) (sent : Mirrors P.tells (P.view old) (P.view new)) (one : FollowerView S) (bytes more image : List ℕ)
+        → HaveOneData (P.view old) (stand_of S.view one) → flat_map frame_bytes sent.added ≡ bytes ++ more
+        → LeavesFirst S.opens (stand_of S.view one) bytes image → OpensFirstOf S.opens sent.added (P.view old) image }
+    // Fed all of them, both have one data again, while the sending goes on and the store is not dead.
+    ensures all { (old new : P) (sent : Mirrors P.tells (P.view old) (P.view new)) (one other : FollowerView S)
+        → IsTrue P.tells → IsTrue S.tells → (P.view old).sending.mirrors ≡ true → (P.view new).sending.is_down ≡ false → (P.view new).is_dead ≡ false
+        → HaveOneData (P.view old) (stand_of S.view one) → IsFollowed S.tells S.view one other (flat_map frame_bytes sent.added)
+        → HaveOneData (P.view new) (stand_of S.view other) }
 {}

@@ -24,7 +24,9 @@ mod writer;
 pub use follow_fault::FollowFault;
 pub use follower::Follower;
 pub use frame_test::is_frame;
-pub use laws::{frames_are_cut_in_one_way, streams_are_followed_in_one_way};
+pub use laws::{
+    a_follower_has_first_commits, frames_are_cut_in_one_way, streams_are_followed_in_one_way,
+};
 pub use link::Link;
 pub use memory_link::MemoryLink;
 pub use primary::Primary;

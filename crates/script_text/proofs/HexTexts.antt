@@ -1,8 +1,7 @@
 -- Hexadecimal texts: their length, their digits, and the bytes that they spell.
-use Rattle.std.proofs.Common.{◌≡◌, ℕ, zero, suc, ◌+◌, ◌-◌, ◌*◌, ◌/◌, ◌%◌, ◌<◌, ◌≤◌, ◌⊎◌, inl, inr, List, [], ◌∷◌, ◌++◌, length, get_or, take, slice_index, Result, Ok, Err, refl, sym, ap, ◌∙◌, append_assoc, length-take, arith}
-use Rattle.std.specs.Prelude.{All, Bool, true, false, ◌↔◌, MatchBool, MatchResult, OnOk, is_ok, is_err, if◌then◌else◌}
+use Rattle.std.proofs.Common.{◌≡◌, ℕ, zero, suc, ◌+◌, ◌-◌, ◌*◌, ◌/◌, ◌%◌, ◌<◌, ◌≤◌, ◌⊎◌, inl, inr, List, [], ◌∷◌, length, take, slice_index, Result, Ok, Err, refl, sym, ap, ◌∙◌, length-take, arith}
+use Rattle.std.specs.Prelude.{All, Bool, true, false, ◌↔◌, MatchBool, MatchResult}
 use Rattle.std.proofs.lemmas.Bool.{cases_lt}
-use Rattle.std.proofs.lemmas.List.{take_more}
 use Rattle.std.proofs.lemmas.List.Elements.{All-nil, All-cons, All-head, All-tail, All-same}
 use Rattle.hex.specs.Hex.{IsBytes, lower_digits, encode_with, decode_sized}
 use Rattle.hex.specs.declared.error.FromHexError.{FromHexError}
@@ -127,29 +126,7 @@ decoded text bytes buf result out is says fits found =
 pub hex_of_injective : (a b : List ℕ) → IsBytes a → IsBytes b → hex_of a ≡ hex_of b → a ≡ b
 hex_of_injective a b is js same = decode_of-same (hex_of a) a b (decode_of-encode_lower a is) (rw same (decode_of-encode_lower b js))
 
-hex_of-append : (a b : List ℕ) → hex_of (a ++ b) ≡ hex_of a ++ hex_of b
-unfolding encode_with
-hex_of-append [] b = refl
-hex_of-append (x ∷ a) b = ap (λ rest. slice_index lower_digits (x / 16) ∷ slice_index lower_digits (x % 16) ∷ rest) (hex_of-append a b)
-
--- one more byte
-pub hex_of-more : (bytes : List ℕ) (i : ℕ) → i < length bytes → hex_of (take (i + 1) bytes) ≡ hex_of (take i bytes) ++ hex_of (get_or bytes i 0 ∷ [])
-hex_of-more bytes i below = ap hex_of (take_more bytes i 0 below) ∙ hex_of-append (take i bytes) (get_or bytes i 0 ∷ [])
-
-pub hex_of-nil : hex_of [] ≡ []
-unfolding encode_with
-hex_of-nil = refl
-
 -- a text of the right length is one of bytes if it has only digits
 pub hex_by_digits : (text : List ℕ) (result : Bool) → 0 < length text → length text ≤ 2048 → (length text % 2 ≡ 1 → ⊥) → (result ≡ true) ↔ All IsDigit text → MatchBool result (IsHex text) (IsHex text → ⊥)
 hex_by_digits text true some most even says = is_text_of_bytes text some most (omega (arith, even)) (says.0 refl)
 hex_by_digits text false some most even says = λ is. cc (says.1 (hex_is_digits text is))
-
--- what was appended after the text of some bytes is the text of the next byte
-pub byte_appended : {T E A B : Type 0} (pushed : Result T E) (encoded : Result A B) (value : A) (bytes start before after digits : List ℕ) (i : ℕ) → i < length bytes
-    → before ≡ start ++ hex_of (take i bytes) → encoded ≡ Ok value → OnOk encoded (digits ≡ hex_of (get_or bytes i 0 ∷ []))
-    → is_err pushed ≡ false → after ≡ (if is_ok pushed then before ++ digits else before) → after ≡ start ++ hex_of (take (i + 1) bytes)
-byte_appended (Err e) encoded value bytes start before after digits i below so_far is made good grows = cc good
-byte_appended (Ok x) encoded value bytes start before after digits i below so_far is made good grows =
-    let digit : digits ≡ hex_of (get_or bytes i 0 ∷ []) = rw is at made in
-    grows ∙ rw (so_far, digit, append_assoc, hex_of-more bytes i below) refl

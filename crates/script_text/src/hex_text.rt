@@ -84,13 +84,13 @@ pub fn append_hex(out: &mut Vec<u8>, bytes: &[u8]) -> Result<(), NoMemory>
     ensures err { OnErr result (out.new.items ≡ out.old.items) }
 {
     let start = out.len();
-    for byte in bytes {
-        let mut digits = [0; 2];
-        hex::encode_to_slice([*byte], &mut digits).unwrap();
-        if out.extend_from_slice(&digits).is_err() {
-            out.truncate(start);
-            return Err(NoMemory);
-        }
+    // More digits than there are addresses find no memory.
+    let Some(end) = start.checked_add(2 * bytes.len()) else {
+        return Err(NoMemory);
+    };
+    if out.resize(end, 0).is_err() {
+        return Err(NoMemory);
     }
+    hex::encode_to_slice(bytes, &mut out[start..]).unwrap();
     Ok(())
 }

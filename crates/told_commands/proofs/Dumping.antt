@@ -1,5 +1,5 @@
 -- A dump of the records of an array that was opened.
-use Rattle.std.proofs.Common.{◌≡◌, ◌⊎◌, suc, inl, inr, ⊎_elim, ℕ, ◌+◌, Bool, true, false, List, [], ◌∷◌, ◌++◌, length, length-append, Result, Ok, Err, refl, sym, ap, subst, ◌∙◌, arith}
+use Rattle.std.proofs.Common.{◌≡◌, ◌⊎◌, ℕ, Bool, true, false, List, [], Result, Ok, refl, sym, ap, subst, ◌∙◌, arith}
 use Rattle.std.specs.Prelude.{IsTrue, if◌then◌else◌}
 use Rattle.mars_base.specs.Causes.{Rose}
 use Rattle.mars_base.proofs.Going as going
@@ -10,22 +10,22 @@ use Rattle.array_image.specs.Decided.{settled_data}
 use Rattle.device_recovery.specs.Recovered.{HasNoVote}
 use Rattle.eaw_face.specs.State.{State}
 use Rattle.eaw_face.specs.StoreView.{StoreView, LeavesOnly}
-use Rattle.eaw_device.specs.Opens.{Opens, HoldsArray, AllOpen, OpensLike}
+use Rattle.eaw_device.specs.Opens.{Opens, HoldsArray}
 use Rattle.page_store.specs.Index.{Index}
 use Rattle.record_table.specs.Shown.{table_of}
 use Rattle.texts.specs.Written.{IsWritten}
 use Rattle.script_run.specs.declared.ended.Ended.{Ended}
 use Rattle.script_run.specs.declared.ended.Ended.TheVariants as script
-use Rattle.array_runs.specs.Forms.{index_of_form, index_at, index_in, SaysForm}
+use Rattle.array_runs.specs.Forms.{index_of_form, index_at, SaysForm}
 use Rattle.array_runs.specs.Records.{HoldsRecords, IsDamaged, Exceeds, OverRecords}
 use Rattle.array_runs.specs.Statuses.{Counts, IsEarly}
 use Rattle.array_runs.specs.declared.status.Status.{Status}
-use Rattle.array_runs.specs.declared.status.Status.TheVariants.{Good, WriteFault, NoMemory}
+use Rattle.array_runs.specs.declared.status.Status.TheVariants.{Good, NoMemory}
 use Rattle.array_runs.proofs.Completing.{complete_records, nothing_read}
 use Rattle.array_runs.proofs.Forming.{of_form}
-use Rattle.array_runs.proofs.Opened.{holds, at_entry, looked}
+use Rattle.array_runs.proofs.Opened.{holds, looked}
 use Rattle.array_runs.proofs.Statuses.{outcome_as}
-use Rattle.told_commands.specs.Dump.{dump_lines, records_on, Spares, DumpsRecords, DumpOutcome, LeavesRead}
+use Rattle.told_commands.specs.Dump.{dump_lines, Spares, DumpsRecords, DumpOutcome, LeavesRead}
 use Rattle.told_commands.specs.Told.{Tells, Ran}
 
 -- nothing was done

@@ -21,7 +21,6 @@ use Rattle.record_table.specs.declared.making.MakeFault.{MakeFault}
 use Rattle.record_table.specs.declared.making.MakeFault.TheVariants as make
 use Rattle.mars_core.specs.Making.{OpensAsNamed, OpensWithName}
 use Rattle.mars_core.specs.Making as making
-use Rattle.mars_core.specs.declared.fault.CoreFault.TheVariants as core
 use Rattle.mars_core.proofs.Tabled.{moved_cause}
 use Rattle.texts.specs.Written.{IsWritten}
 use Rattle.script_run.specs.declared.ended.Ended.{Ended}

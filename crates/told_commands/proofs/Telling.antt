@@ -4,7 +4,6 @@ use Rattle.std.specs.Prelude.{IsTrue, MatchBool}
 use Rattle.mars_base.specs.Causes.{Rose}
 use Rattle.pcm_media.specs.Images.{MayLeave}
 use Rattle.pcm_media.specs.View.{View}
-use Rattle.array_shape.specs.declared.shape.Shape.{Shape}
 use Rattle.eaw_face.specs.StoreView.{StoreView}
 use Rattle.eaw_device.specs.Opens.{Opens, HoldsArray, Attached, KeepsData, IsBehind}
 use Rattle.mars_core.specs.Attached.{GivesBack, LeftAsItWas, is_media_fault}

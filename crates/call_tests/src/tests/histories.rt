@@ -28,13 +28,16 @@ fn one_row(alloc: Global, table: Name, value: Value) -> Result<Tables, NoMemory>
 
 // The value of the only record, which is of key 5 and of the table of this name.
 fn the_one(tables: &Tables, table: Name) -> Option<Value> {
-    match tables.as_slice() {
-        [(name, rows)] if *name == table => match rows.as_slice() {
-            [(5, value)] => Some(*value),
-            _ => None,
-        },
-        _ => None,
+    let [(name, rows)] = tables.as_slice() else {
+        return None;
+    };
+    let [(key, value)] = rows.as_slice() else {
+        return None;
+    };
+    if *name == table && *key == 5 {
+        return Some(*value);
     }
+    None
 }
 
 // Puts the record and removes it, goes back to the save between, and looks.

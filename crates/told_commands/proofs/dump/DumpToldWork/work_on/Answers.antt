@@ -1,6 +1,6 @@
-use Rattle.std.proofs.Common.{◌≡◌, inl, Ok, List, ap, ◌∙◌}
+use Rattle.std.proofs.Common.{inl, Ok, List, ap, ◌∙◌}
 use Rattle.history.specs.Rows.{NamedRows, records_in}
-use Rattle.told_commands.specs.Dump.{records_text, LeavesRead}
+use Rattle.told_commands.specs.Dump.{records_text}
 use Rattle.told_commands.proofs.dump.DumpToldWork.work_on.Goals as goal
 
 pub returns-in-Ok-dump_lines-clause-leaves : goal.returns-in-Ok-dump_lines-clause-leaves
