@@ -124,6 +124,9 @@ module _ (tells : Bool) (Opens : List ℕ → List ℕ → Type 0) (index : Inde
   counts_here : (u : ℕ) → is_one_of ts u ≡ true → with_each old.counts ts [] u ≡ []
   counts_here u here = ap (λ (b : Bool). cond b [] (old.counts u)) here
 
+  ranges_here : (u : ℕ) → is_one_of ts u ≡ true → with_each old.store.ranges ts None u ≡ None
+  ranges_here u here = ap (λ (b : Bool). cond b None (old.store.ranges u)) here
+
   pub group_ends : (r : Result (Unit {0}) PageFault) → page_does.Does tells Opens (page.end_group ts) old new r → ((f : PageFault) → r ≡ Err f → f ≢ fault.Media → new ≡ old) → CommitsGroup tells Opens index ts old new (told_as r) × Holds tells index new
   group_ends (Ok done) does same =
       let alive = does.cause.0 in
@@ -140,6 +143,7 @@ module _ (tells : Bool) (Opens : List ℕ → List ℕ → Type 0) (index : Inde
           indexed = λ told _. ap (λ (s : PagesState). keys_of index s.store.bytes) (now told) ∙ its_keys alive told;
           tables = λ told _. ap (λ (s : PagesState). tables_of s.store.bytes) (now told) ∙ its_tables alive told;
           quiet = λ told _ none. ap (λ (s : PagesState). s.store.bytes) (now told) ∙ its_bytes none;
+          free = λ u here. ap (λ (o : Outline). o.ranges u) out ∙ ranges_here u here;
           saves = λ u here. ap (λ (o : Outline). o.counts u) out ∙ counts_here u here;
           same_saves = tt;
           others = λ u away. (other (let r : Result (Unit {0}) PageFault = Ok done in r) does u away, ap (λ (o : Outline). o.counts u) out ∙ counts_away u away);
@@ -169,6 +173,7 @@ module _ (tells : Bool) (Opens : List ℕ → List ℕ → Type 0) (index : Inde
           indexed = λ told well. absurd (false≢true (sym well));
           tables = λ told well. absurd (false≢true (sym well));
           quiet = λ told well. absurd (false≢true (sym well));
+          free = tt;
           saves = tt;
           same_saves = does.marks.0;
           others = λ u away. (other (let r : Result (Unit {0}) PageFault = Err fault.Media in r) does u away, ap (λ (f : ℕ → List ℕ). f u) does.marks.0);
@@ -188,6 +193,7 @@ module _ (tells : Bool) (Opens : List ℕ → List ℕ → Type 0) (index : Inde
       indexed = λ told _. refl;
       tables = λ told _. refl;
       quiet = λ told _ _. refl;
+      free = tt;
       saves = tt;
       same_saves = refl;
       others = λ u away. (refl, refl);

@@ -1,5 +1,5 @@
 -- A commit of several numbers at once: what they have written is in the table all together, or not at all.
-use Rattle.std.specs.Prelude.{ℕ, ◌≡◌, ◌⊎◌, Bool, true, false, IsTrue, IsFalse, List, [], flat_map, Result, Ok, Err, OnOk, OnErr}
+use Rattle.std.specs.Prelude.{ℕ, ◌≡◌, ◌⊎◌, Bool, true, false, IsTrue, IsFalse, List, [], flat_map, None, Result, Ok, Err, OnOk, OnErr}
 use Rattle.mars_base.specs.Causes.{Rose}
 use Rattle.eaw_face.specs.State.{is_one_of, with_each}
 use Rattle.eaw_face.specs.StoreView.{LeavesOnly}
@@ -31,7 +31,7 @@ GroupCause old (Err Media) = IsAlive old.store
 GroupCause old (Err fault) = ⊥
 
 -- A commit of these numbers, on records over a store whose images open as Opens says. Each answer has its cause. An Ok leaves the state that
--- the model says, and hides no fault. After a refusal other than Media, the records and the logs of every number are as before. Media leaves
+-- the model says, frees the numbers, and hides no fault. After a refusal other than Media, the records and the logs of every number are as before. Media leaves
 -- the store dead. The tables and their indexes stay, and so does the data byte for byte where the numbers have written nothing. Other numbers keep what they
 -- have logged, whatever the answer. At each moment of a store that was not dead, a loss of power leaves what it might have left before, or an
 -- image that opens with the records before the commit or with those after it: all that the numbers have written, or nothing of it.
@@ -45,6 +45,7 @@ pub record CommitsGroup (tells : Bool) (Opens : List ℕ → List ℕ → Type 0
   pub indexed : IsTrue tells → IsFalse (is_failed result) → keys_of index new.store.state.bytes ≡ keys_of index old.store.state.bytes
   pub tables : IsTrue tells → IsFalse (is_failed result) → tables_of new.store.state.bytes ≡ tables_of old.store.state.bytes
   pub quiet : IsTrue tells → IsFalse (is_failed result) → group_writes (state_of index old) ts ≡ [] → new.store.state.bytes ≡ old.store.state.bytes
+  pub free : OnOk result ((t : ℕ) → is_one_of ts t ≡ true → new.store.ranges t ≡ None)
   pub saves : OnOk result ((t : ℕ) → is_one_of ts t ≡ true → new.counts t ≡ [])
   pub same_saves : OnErr result (new.counts ≡ old.counts)
   pub others : (u : ℕ) → is_one_of ts u ≡ false → (new.store.ranges u ≡ old.store.ranges u) × (new.counts u ≡ old.counts u)
