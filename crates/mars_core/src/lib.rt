@@ -12,6 +12,7 @@ mod live;
 mod locks;
 mod making;
 mod masks;
+mod offer;
 mod purging;
 mod reading;
 mod replies;

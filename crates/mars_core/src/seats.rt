@@ -1,15 +1,18 @@
-// The callers, each with its live transaction if it has one, and the names of the tables that they ask for.
-ghost use Rattle.std.specs.Prelude.{◌≡◌, ◌<◌, ◌≤◌, [], List, ℕ, Some, None, IfOk, IfSome, IfNone, is_some, length};
+// The callers, each with its live transaction if it has one and with what it has offered, and the names of the tables that they ask for.
+ghost use Rattle.std.specs.Prelude.{◌≡◌, ◌<◌, ◌≤◌, [], List, ℕ, Some, None, IfOk, IfSome, IfNone, slice_get, is_some, not, ◌||◌, length};
 ghost use Rattle.caller_steps.specs.Locked.{IsFree, IsBusyWith};
 ghost use Rattle.history.specs.Locks.{touched};
 ghost use Rattle.mars_core.specs.Masks.{AreMasksOf};
 ghost use Rattle.mars_core.specs.declared.locks.Locks.TheVariants.{Held};
-ghost use Rattle.mars_core.specs.Seats.{live_in, calls_at, calls_in, IsMasked, Seated, bare};
+ghost use Rattle.caller_steps.specs.Offers.{is_unoffered};
+ghost use Rattle.caller_steps.specs.State.{unoffered};
+ghost use Rattle.mars_core.specs.Seats.{live_in, offer_in, offer_at, offers_in, calls_at, calls_in, IsMasked, Seated, Gives, bare};
 ghost use Rattle.mars_core.specs.TableCall.{number_for};
 
 use crate::live::Live;
 use crate::locks::Locks;
 use crate::masks::Masks;
+use crate::offer::Offer;
 use history::Call;
 use mars_base::NoMemory;
 use record_slots::Names;
@@ -20,17 +23,18 @@ use std::marker::Model;
 pub struct Seats {
     names: Names,
     live: Vec<Option<Live>>,
+    offers: Vec<Offer>,
 }
 
 impl Model for Seats {
-    ghost use Rattle.std.specs.Prelude.{◌≤◌, length};
+    ghost use Rattle.std.specs.Prelude.{◌≡◌, ◌≤◌, length};
     ghost use Rattle.mars_core.specs.Seats as seats;
 
     ghost Value = { seats.Seats };
 
-    ghost view = { λ s. record { names = s.names; live = s.live.items } };
+    ghost view = { λ s. record { names = s.names; live = s.live.items; offers = s.offers.items } };
 
-    ghost invariant = { λ s. seats.AreMasked s.names s.live.items × (length s.names ≤ 8) };
+    ghost invariant = { λ s. seats.AreMasked s.names s.live.items × (length s.names ≤ 8) × (length s.offers.items ≡ length s.live.items) };
 }
 
 impl Seats {
@@ -39,6 +43,7 @@ impl Seats {
         ensures names { IfOk result (λ seats. seats.names ≡ names) }
         ensures count { IfOk result (λ seats. length seats.live ≡ count) }
         ensures none { IfOk result (λ seats. (caller : ℕ) → live_in seats caller ≡ None) }
+        ensures unoffered { IfOk result (λ seats. (caller : ℕ) → offers_in seats caller ≡ unoffered) }
     {
         // There are at most eight names.
         let _few = names.count();
@@ -46,7 +51,12 @@ impl Seats {
         for _caller in 0..count {
             live.push(None)?;
         }
-        Ok(Seats { names, live })
+        let offers = unoffered(alloc, count)?;
+        Ok(Seats {
+            names,
+            live,
+            offers,
+        })
     }
 
     /// The names of the tables, by their numbers.
@@ -75,6 +85,25 @@ impl Seats {
         ensures { result ≡ is_some (live_in self.now caller) }
     {
         self.live[usize::from(caller)].is_some()
+    }
+
+    /// What the caller has offered and not settled.
+    pub fn offer(&self, caller: u8) -> Offer
+        requires { caller < length self.now.live }
+        ensures { offer_in result ≡ offers_in self.now caller }
+    {
+        self.offers[usize::from(caller)]
+    }
+
+    /// Whether the caller has a transaction that is live, or one that it has not settled.
+    pub fn is_engaged(&self, caller: u8) -> bool
+        requires { caller < length self.now.live }
+        ensures { result ≡ (is_some (live_in self.now caller) || not (is_unoffered (offers_in self.now caller))) }
+    {
+        match self.offer(caller) {
+            Offer::Nothing => self.is_live(caller),
+            _ => true,
+        }
     }
 
     /// The stripes that the caller's live transaction touched.
@@ -114,6 +143,14 @@ impl Seats {
         self.live[usize::from(caller)] = None;
     }
 
+    /// Makes this what the caller has offered and not settled.
+    pub fn set_offer(&mut self, caller: u8, offer: Offer)
+        requires { caller < length self.old.live }
+        ensures { Gives self.old caller (offer_in offer) self.new }
+    {
+        self.offers[usize::from(caller)] = offer;
+    }
+
     /// Makes this the caller's live transaction.
     pub fn put(&mut self, caller: u8, live: Live)
         requires inside { caller < length self.old.live }
@@ -150,4 +187,16 @@ impl Seats {
             Locks::Held => None,
         }
     }
+}
+
+// So many callers that have offered nothing.
+fn unoffered(alloc: Global, count: u8) -> Result<Vec<Offer>, NoMemory>
+    ensures count { IfOk result (λ offers. length offers.items ≡ count) }
+    ensures nothing { IfOk result (λ offers. (caller : ℕ) → offer_at (slice_get offers.items caller) ≡ unoffered) }
+{
+    let mut offers = Vec::with_capacity(alloc, usize::from(count))?;
+    for _caller in 0..count {
+        offers.push(Offer::Nothing)?;
+    }
+    Ok(offers)
 }

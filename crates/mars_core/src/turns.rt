@@ -6,6 +6,7 @@ ghost use Rattle.eaw_face.specs.Causes.{IsAlive};
 ghost use Rattle.eaw_face.specs.Mirroring.{Mirrors, GivesUp};
 ghost use Rattle.page_store.specs.Shown.{pages_of};
 ghost use Rattle.history.specs.Locks.{touched, has_table};
+ghost use Rattle.history.specs.declared.call.Call.TheVariants as call;
 ghost use Rattle.history.specs.declared.call.Call.TheVariants.{Begin, Commit, Abort};
 ghost use Rattle.history.specs.declared.locks.Mode.TheVariants.{Shared, Exclusive};
 ghost use Rattle.history.specs.declared.call.Reply.TheVariants.{Dead};
@@ -13,7 +14,8 @@ ghost use Rattle.caller_steps.specs.Core.{Steps};
 ghost use Rattle.caller_steps.specs.Fate.{is_busy, is_refusal};
 ghost use Rattle.caller_steps.specs.Purging.{Purges};
 ghost use Rattle.caller_steps.specs.Locked.{IsLocked};
-ghost use Rattle.caller_steps.specs.State.{calls_of};
+ghost use Rattle.caller_steps.specs.Offers.{takes_calls};
+ghost use Rattle.caller_steps.specs.State.{unoffered, offered, unsettled, calls_of};
 ghost use Rattle.record_slots.specs.Places.{version_of};
 ghost use Rattle.record_table.specs.Names.{KeepsNames};
 ghost use Rattle.record_table.specs.Shown.{state_of};
@@ -24,7 +26,7 @@ ghost use Rattle.mars_core.specs.Held.{core_of};
 ghost use Rattle.mars_core.specs.Masks.{IsMaskOf};
 ghost use Rattle.mars_core.specs.Over.{Begins, IsOver};
 ghost use Rattle.mars_core.specs.Purging.{Keeps};
-ghost use Rattle.mars_core.specs.Seats.{live_in};
+ghost use Rattle.mars_core.specs.Seats.{live_in, offers_in};
 ghost use Rattle.mars_core.specs.TableCall.{call_of};
 ghost use Rattle.mars_core.specs.Works.{IsShown};
 
@@ -33,6 +35,7 @@ use crate::doubt::Doubt;
 use crate::fault::CoreFault;
 use crate::live::Live;
 use crate::locks::Locks;
+use crate::offer::Offer;
 use crate::purging::{clear, stopped};
 use crate::seats::Seats;
 use crate::table_call::{Asked, TableCall};
@@ -171,7 +174,7 @@ impl<S: EawStore, K: KeyIndex> Core<S, K> {
 
     /// Takes keys without records out of the index, so that their slots are given again: each key whose stripe no live transaction touches
     /// is tried once, by rising table and key. Returns how many were taken out. A key stays whose pair its page keeps as the last one. What
-    /// callers see stays as it is. It is refused with `Dead`, then with `Already` if the caller has a live transaction. A fault of the medium
+    /// callers see stays as it is. It is refused with `Dead`, then with `Already` if the caller has a transaction, live or unsettled. A fault of the medium
     /// stops it, and so does a damaged page, which only a core that does not tell its records meets.
     #[tactic(auto, using(crate::proofs::GivingUp::sends_none))]
     pub fn purge(&mut self, caller: u8) -> Result<u32, PurgeFault>
@@ -184,7 +187,7 @@ impl<S: EawStore, K: KeyIndex> Core<S, K> {
         if self.records.is_dead() {
             return Err(PurgeFault::Dead);
         }
-        if self.seats.is_live(caller) {
+        if self.seats.is_engaged(caller) {
             return Err(PurgeFault::Already);
         }
         match clear(&mut self.records, &self.seats, caller) {
@@ -197,6 +200,7 @@ impl<S: EawStore, K: KeyIndex> Core<S, K> {
     fn begin(&mut self, caller: u8) -> Reply
         requires inside { caller < (S.view self.old.records.store).shape.numbers }
         requires alive { IsAlive (S.view self.old.records.store) }
+        requires unoffered { offers_in self.old.seats caller ≡ unoffered }
         ensures steps { Steps S.tells caller Begin (core_of S.opens K.index (S.view self.old.records.store) self.old)
             (core_of S.opens K.index (S.view self.new.records.store) self.new) result }
         ensures sends { Mirrors S.tells (S.view self.old.records.store) (S.view self.new.records.store) }
@@ -215,13 +219,14 @@ impl<S: EawStore, K: KeyIndex> Core<S, K> {
         requires said { call_of asked ≡ call.now }
         requires inside { caller < (S.view self.old.records.store).shape.numbers }
         requires alive { IsAlive (S.view self.old.records.store) }
+        requires unoffered { offers_in self.old.seats caller ≡ unoffered }
         requires shown { IsShown S.tells K.index (pages_of (S.view self.old.records.store) self.old.records) }
         requires locked { locks ≡ Held → IsLocked (core_of S.opens K.index (S.view self.old.records.store) self.old).state caller call.now }
         ensures steps { Steps S.tells caller call.now (core_of S.opens K.index (S.view self.old.records.store) self.old)
             (core_of S.opens K.index (S.view self.new.records.store) self.new) result }
         ensures sends { Mirrors S.tells (S.view self.old.records.store) (S.view self.new.records.store) }
         ensures not_busy { locks ≡ Held → IsFalse (is_busy result) }
-        ensures begun { IsFalse (is_refusal result) → IsTrue (is_some ((core_of S.opens K.index (S.view self.old.records.store) self.old).state.live caller)) }
+        ensures begun { IsFalse (is_refusal result) → IsTrue (takes_calls (core_of S.opens K.index (S.view self.old.records.store) self.old).state caller) }
         ensures tabled { IsFalse (is_refusal result) → IsTrue (has_table self.old.seats.names call.now) }
     {
         let Some(live) = self.seats.take(caller) else {
@@ -245,11 +250,12 @@ impl<S: EawStore, K: KeyIndex> Core<S, K> {
     fn commit(&mut self, caller: u8) -> Reply
         requires inside { caller < (S.view self.old.records.store).shape.numbers }
         requires alive { IsAlive (S.view self.old.records.store) }
+        requires unoffered { offers_in self.old.seats caller ≡ unoffered }
         ensures steps { Steps S.tells caller Commit (core_of S.opens K.index (S.view self.old.records.store) self.old)
             (core_of S.opens K.index (S.view self.new.records.store) self.new) result }
         ensures sends { Mirrors S.tells (S.view self.old.records.store) (S.view self.new.records.store) }
         ensures not_busy { IsFalse (is_busy result) }
-        ensures begun { IsFalse (is_refusal result) → IsTrue (is_some ((core_of S.opens K.index (S.view self.old.records.store) self.old).state.live caller)) }
+        ensures begun { IsFalse (is_refusal result) → IsTrue (takes_calls (core_of S.opens K.index (S.view self.old.records.store) self.old).state caller) }
     {
         let at = self.history.as_slice().len() as u64 + 1;
         let Some(live) = self.seats.take(caller) else {
@@ -279,11 +285,12 @@ impl<S: EawStore, K: KeyIndex> Core<S, K> {
     fn abort(&mut self, caller: u8) -> Reply
         requires inside { caller < (S.view self.old.records.store).shape.numbers }
         requires alive { IsAlive (S.view self.old.records.store) }
+        requires unoffered { offers_in self.old.seats caller ≡ unoffered }
         ensures steps { Steps S.tells caller Abort (core_of S.opens K.index (S.view self.old.records.store) self.old)
             (core_of S.opens K.index (S.view self.new.records.store) self.new) result }
         ensures sends { Mirrors S.tells (S.view self.old.records.store) (S.view self.new.records.store) }
         ensures not_busy { IsFalse (is_busy result) }
-        ensures begun { IsFalse (is_refusal result) → IsTrue (is_some ((core_of S.opens K.index (S.view self.old.records.store) self.old).state.live caller)) }
+        ensures begun { IsFalse (is_refusal result) → IsTrue (takes_calls (core_of S.opens K.index (S.view self.old.records.store) self.old).state caller) }
     {
         if !self.seats.is_live(caller) {
             return Reply::NoTransaction;
@@ -297,6 +304,107 @@ impl<S: EawStore, K: KeyIndex> Core<S, K> {
         }
     }
 
+    // A caller offers its live transaction, which then takes no more calls.
+    #[tactic(auto, using(crate::proofs::GivingUp::sends_none))]
+    fn offer(&mut self, caller: u8) -> Reply
+        requires inside { caller < (S.view self.old.records.store).shape.numbers }
+        requires alive { IsAlive (S.view self.old.records.store) }
+        requires unoffered { offers_in self.old.seats caller ≡ unoffered }
+        ensures steps { Steps S.tells caller call.Offer (core_of S.opens K.index (S.view self.old.records.store) self.old)
+            (core_of S.opens K.index (S.view self.new.records.store) self.new) result }
+        ensures sends { Mirrors S.tells (S.view self.old.records.store) (S.view self.new.records.store) }
+        ensures not_busy { IsFalse (is_busy result) }
+        ensures begun { IsFalse (is_refusal result) → IsTrue (takes_calls (core_of S.opens K.index (S.view self.old.records.store) self.old).state caller) }
+    {
+        if !self.seats.is_live(caller) {
+            return Reply::NoTransaction;
+        }
+        self.seats.set_offer(caller, Offer::Offered);
+        Reply::Fine
+    }
+
+    // Answers a caller that has offered nothing.
+    #[tactic(auto, using(crate::proofs::GivingUp::sends_none))]
+    fn make_open(&mut self, caller: u8, call: &Call, locks: Locks) -> Reply
+        requires inside { caller < (S.view self.old.records.store).shape.numbers }
+        requires alive { IsAlive (S.view self.old.records.store) }
+        requires shown { IsShown S.tells K.index (pages_of (S.view self.old.records.store) self.old.records) }
+        requires unoffered { offers_in self.old.seats caller ≡ unoffered }
+        requires locked { locks ≡ Held → IsLocked (core_of S.opens K.index (S.view self.old.records.store) self.old).state caller call.now }
+        ensures steps { Steps S.tells caller call.now (core_of S.opens K.index (S.view self.old.records.store) self.old)
+            (core_of S.opens K.index (S.view self.new.records.store) self.new) result }
+        ensures sends { Mirrors S.tells (S.view self.old.records.store) (S.view self.new.records.store) }
+        ensures not_busy { locks ≡ Held → IsFalse (is_busy result) }
+        ensures begun { IsFalse (is_refusal result) → IsTrue (takes_calls (core_of S.opens K.index (S.view self.old.records.store) self.old).state caller) ⊎ (call.now ≡ Begin) }
+        ensures tabled { IsFalse (is_refusal result) → IsTrue (has_table self.old.seats.names call.now) }
+    {
+        match Asked::of(call) {
+            Asked::Begin => self.begin(caller),
+            Asked::Commit => self.commit(caller),
+            Asked::Abort => self.abort(caller),
+            Asked::Offer => self.offer(caller),
+            Asked::Settle => Reply::NoTransaction,
+            Asked::Table(asked) => self.ask(caller, call, asked, locks),
+        }
+    }
+
+    // Commits all that callers have offered as one group, and ends the caller's own.
+    #[tactic(auto, using(crate::proofs::GivingUp::sends_none))]
+    fn settle(&mut self, caller: u8) -> Reply
+        requires inside { caller < (S.view self.old.records.store).shape.numbers }
+        requires alive { IsAlive (S.view self.old.records.store) }
+        requires offered { offers_in self.old.seats caller ≡ offered }
+        ensures steps { Steps S.tells caller call.Settle (core_of S.opens K.index (S.view self.old.records.store) self.old)
+            (core_of S.opens K.index (S.view self.new.records.store) self.new) result }
+        ensures sends { Mirrors S.tells (S.view self.old.records.store) (S.view self.new.records.store) }
+        ensures not_busy { IsFalse (is_busy result) }
+    {
+        // Not yet written: the room for the group, the group itself, and its commit.
+        let _caller = caller;
+        Reply::NoMemory
+    }
+
+    // Answers a caller that has offered its transaction: it settles, or is refused.
+    #[tactic(auto, using(crate::proofs::GivingUp::sends_none))]
+    fn make_offered(&mut self, caller: u8, call: &Call) -> Reply
+        requires inside { caller < (S.view self.old.records.store).shape.numbers }
+        requires alive { IsAlive (S.view self.old.records.store) }
+        requires offered { offers_in self.old.seats caller ≡ offered }
+        ensures steps { Steps S.tells caller call.now (core_of S.opens K.index (S.view self.old.records.store) self.old)
+            (core_of S.opens K.index (S.view self.new.records.store) self.new) result }
+        ensures sends { Mirrors S.tells (S.view self.old.records.store) (S.view self.new.records.store) }
+        ensures not_busy { IsFalse (is_busy result) }
+        ensures settles { IsFalse (is_refusal result) → call.now ≡ call.Settle }
+    {
+        match call {
+            Call::Begin => Reply::Already,
+            Call::Settle => self.settle(caller),
+            _ => Reply::NoTransaction,
+        }
+    }
+
+    // Answers a caller whose offered transaction a group has committed with this number: it is told that, or is refused.
+    #[tactic(auto, using(crate::proofs::GivingUp::sends_none))]
+    fn make_committed(&mut self, caller: u8, call: &Call, at: u64) -> Reply
+        requires inside { caller < (S.view self.old.records.store).shape.numbers }
+        requires alive { IsAlive (S.view self.old.records.store) }
+        requires committed { offers_in self.old.seats caller ≡ unsettled at }
+        ensures steps { Steps S.tells caller call.now (core_of S.opens K.index (S.view self.old.records.store) self.old)
+            (core_of S.opens K.index (S.view self.new.records.store) self.new) result }
+        ensures sends { Mirrors S.tells (S.view self.old.records.store) (S.view self.new.records.store) }
+        ensures not_busy { IsFalse (is_busy result) }
+        ensures settles { IsFalse (is_refusal result) → call.now ≡ call.Settle }
+    {
+        match call {
+            Call::Begin => Reply::Already,
+            Call::Settle => {
+                self.seats.set_offer(caller, Offer::Nothing);
+                Reply::Committed(at)
+            }
+            _ => Reply::NoTransaction,
+        }
+    }
+
     #[tactic(auto, using(crate::proofs::GivingUp::sends_none))]
     fn make(&mut self, caller: u8, call: &Call, locks: Locks) -> Reply
         requires inside { caller < (S.view self.old.records.store).shape.numbers }
@@ -306,17 +414,16 @@ impl<S: EawStore, K: KeyIndex> Core<S, K> {
         ensures sends { Mirrors S.tells (S.view self.old.records.store) (S.view self.new.records.store) }
         ensures dead { IsTrue (S.view self.old.records.store).is_dead → (result ≡ Dead) × (self.new ≡ self.old) }
         ensures not_busy { locks ≡ Held → IsFalse (is_busy result) }
-        ensures begun { IsFalse (is_refusal result) → IsTrue (is_some ((core_of S.opens K.index (S.view self.old.records.store) self.old).state.live caller)) ⊎ (call.now ≡ Begin) }
+        ensures begun { IsFalse (is_refusal result) → IsTrue (takes_calls (core_of S.opens K.index (S.view self.old.records.store) self.old).state caller) ⊎ ((call.now ≡ Begin) ⊎ (call.now ≡ call.Settle)) }
         ensures tabled { IsFalse (is_refusal result) → IsTrue (has_table self.old.seats.names call.now) }
     {
         if self.records.is_dead() {
             return Reply::Dead;
         }
-        match Asked::of(call) {
-            Asked::Begin => self.begin(caller),
-            Asked::Commit => self.commit(caller),
-            Asked::Abort => self.abort(caller),
-            Asked::Table(asked) => self.ask(caller, call, asked, locks),
+        match self.seats.offer(caller) {
+            Offer::Nothing => self.make_open(caller, call, locks),
+            Offer::Offered => self.make_offered(caller, call),
+            Offer::Committed { at } => self.make_committed(caller, call, at),
         }
     }
 }
