@@ -13,6 +13,7 @@ pub mod Answered
 pub mod Finishing
 pub mod Settling
 pub mod Grouping
+pub mod Together
 pub mod Opening
 pub mod Attaching
 pub mod Unwritten

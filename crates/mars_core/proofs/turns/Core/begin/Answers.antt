@@ -1,6 +1,6 @@
 use Rattle.mars_core.proofs.GivingUp.{sends_none}
 use Rattle.eaw_face.specs.Mirroring.{Mirrors}
-use Rattle.std.proofs.Common.{ℕ, ap, subst, sym, ◌∙◌, refl, ◌<◌}
+use Rattle.std.proofs.Common.{◌≡◌, ℕ, ap, subst, sym, ◌∙◌, refl, ◌<◌}
 use Rattle.std.specs.Prelude.{Option, length}
 use Rattle.eaw_face.specs.Causes.{IsAlive}
 use Rattle.page_store.specs.Shown.{pages_of}
@@ -9,6 +9,7 @@ use Rattle.history.specs.Table.{Granted}
 use Rattle.history.specs.declared.call.Call.TheVariants.{Begin}
 use Rattle.history.specs.declared.call.Reply.TheVariants.{Fine}
 use Rattle.caller_steps.specs.Core.{Steps}
+use Rattle.caller_steps.specs.State.{unoffered}
 use Rattle.mars_core.specs.Held.{Held, core_of, state_at}
 use Rattle.mars_core.specs.Seats.{live_in, offers_in}
 use Rattle.mars_core.proofs.Staying.{none_of, begun_keeps, begun_steps}
@@ -45,5 +46,8 @@ returns g c =
 pub is_live-requires : goal.is_live-requires
 is_live-requires g c = subst (λ (n : ℕ). c.args.caller < n) (sym c.self.invariant.seats) (subst (λ (h : Held g.row.S.Denot). c.args.caller < (g.S.EawStore.view h.records.store).shape.numbers) (sym c.self.view_is) c.requires.inside)
 
-pub begin-requires : goal.begin-requires
-begin-requires g c = subst (λ (n : ℕ). c.args.caller < n) (sym c.self.invariant.seats) (subst (λ (h : Held g.row.S.Denot). c.args.caller < (g.S.EawStore.view h.records.store).shape.numbers) (sym c.self.view_is) c.requires.inside)
+pub begin-requires-clause-unoffered : goal.begin-requires-clause-unoffered
+begin-requires-clause-unoffered g c = subst (λ (h : Held g.row.S.Denot). offers_in h.seats c.args.caller ≡ unoffered) (sym c.self.view_is) c.requires.unoffered
+
+pub begin-requires-clause-inside : goal.begin-requires-clause-inside
+begin-requires-clause-inside g c = subst (λ (n : ℕ). c.args.caller < n) (sym c.self.invariant.seats) (subst (λ (h : Held g.row.S.Denot). c.args.caller < (g.S.EawStore.view h.records.store).shape.numbers) (sym c.self.view_is) c.requires.inside)
