@@ -1,21 +1,25 @@
 -- What holds for a core while it is shared, and what a call does.
-use Rattle.std.specs.Prelude.{ℕ, ◌≡◌, ◌≤◌, Bool, false, IsTrue, MatchBool, List, [], ◌∷◌, ◌++◌, length, Some, None, unwrap_or}
+use Rattle.std.specs.Prelude.{ℕ, ◌≡◌, ◌≤◌, Bool, true, false, IsTrue, IsFalse, MatchBool, List, [], ◌∷◌, ◌++◌, length, Some, None, unwrap_or}
 use Rattle.mars_base.specs.Causes.{Rose}
 use Rattle.atomic_table.specs.Seated.{TableId}
 use Rattle.history.specs.Writes.{Table}
 use Rattle.history.specs.Legal.{IsLegal}
 use Rattle.history.specs.declared.transaction.Done.{Done}
 use Rattle.history.specs.declared.call.Call.{Call}
+use Rattle.history.specs.declared.call.Call.TheVariants.{Settle}
 use Rattle.history.specs.declared.call.Reply.{Reply}
 use Rattle.history.specs.declared.call.Reply.TheVariants.{Committed, Dead}
 use Rattle.caller_steps.specs.Fate.{is_committed}
 use Rattle.caller_steps.specs.Sound.{IsSound}
 use Rattle.caller_steps.specs.Core.{CoreView, IsSafe, Steps, Continues}
-use Rattle.caller_steps.specs.Run.{Turn, GoesAlong, AreOf, commits_of, LastTurn}
+use Rattle.caller_steps.specs.Run.{Turn, GoesAlong, AreOf, LastTurn}
+use Rattle.caller_steps.specs.State.{Offer, unoffered, commits_of}
+use Rattle.caller_steps.specs.Own as own
+use Rattle.caller_steps.specs.Own.{mine_in}
 use Rattle.mars_manager.specs.declared.setup.Setup.{Setup}
 use Rattle.mars_manager.specs.declared.view.Known.{Known}
 use Rattle.mars_manager.specs.Locks.{with_locks}
-use Rattle.mars_manager.specs.Pass.{PassView, AreSo, known_after, known_at, live_of}
+use Rattle.mars_manager.specs.Pass.{PassView, AreSo, known_after, known_at, own_by, live_of}
 
 -- what contracts see of a shared core: its table and how it was shared
 pub record MarsView (C : Type 0) : Type 0 where
@@ -28,6 +32,7 @@ pub record CanShare (tells : Bool) (callers : ℕ) (core : CoreView) : Type 0 wh
   pub alive : core.state.is_dead ≡ false
   pub history : core.state.history ≡ []
   pub live : (caller : ℕ) → core.state.live caller ≡ None
+  pub offers : (caller : ℕ) → core.state.offers caller ≡ unoffered
   pub enough : callers ≤ core.limits.callers
   pub sound : IsTrue tells → IsSound core.state
   pub now : IsTrue tells → IsSafe core core.moment 0
@@ -41,6 +46,11 @@ pub record Since (tells : Bool) (first core : CoreView) : Type 0 where
   pub opens : (image : List ℕ) (table : Table) → first.opens image table → core.opens image table
   pub faults : MatchBool core.state.is_dead (Rose first.faults core.faults) (core.faults ≡ first.faults)
   pub continues : IsTrue tells → Continues first core
+
+-- the call asks what became of an offered transaction
+abbrev pub is_settle : Call → Bool
+is_settle Settle = true
+is_settle call = false
 
 module _ {C : Type 0} where
   -- A call that got the turn is one step of a core that the shared one has come to by a run. Before it, the past of the pass was this run up
@@ -95,6 +105,13 @@ module _ {C : Type 0} where
   abbrev pub mine_of : Known C → List Done
   mine_of known = commits_of known.number known.seen
 
+  -- The transactions of its caller that a pass has seen are those that it was told of, and perhaps the one that it has offered and not settled:
+  -- another's settle has then committed it.
+  pub record SeesOwn (known : Known C) : Type 0 where
+    pub offer : Offer
+    pub none : IsFalse (own_by known).waits → offer ≡ unoffered
+    pub mine : own.told_of known.number known.seen ≡ mine_in known.number (own_by known) offer
+
   -- A commit: the last transaction that the pass has then seen is its caller's, with exactly its live calls, and it is the only new one
   -- among the caller's own. If the core tells its records, the reply has its number.
   pub record HasCommitted (tells : Bool) (was : Known C) (reply : Reply) (now : Known C) : Type 0 where
@@ -103,6 +120,14 @@ module _ {C : Type 0} where
     pub mine : mine_of now ≡ mine_of was ++ done_of was (length now.seen) ∷ []
     pub told : IsTrue tells → reply ≡ Committed (length now.seen)
 
-  -- that at a commit; at any other reply the caller's own transactions stay the same
-  abbrev pub Commits : Bool → Known C → Reply → Known C → Type 0
-  Commits tells was reply now = MatchBool (is_committed reply) (HasCommitted tells was reply now) (mine_of now ≡ mine_of was)
+  -- A settle: the caller's own transactions that the pass has then seen are those that it was told of before and this one, with exactly its
+  -- live calls, under the number of the reply.
+  pub record HasSettled (was : Known C) (reply : Reply) (now : Known C) : Type 0 where
+    pub number : ℕ
+    pub told : reply ≡ Committed number
+    pub mine : own.told_of now.number now.seen ≡ (own_by was).mine ++ done_of was number ∷ []
+
+  -- That at a commit, and at a settle. At any other reply the caller's own transactions stay the same, if it has offered none.
+  abbrev pub Commits : Bool → Known C → Call → Reply → Known C → Type 0
+  Commits tells was call reply now = MatchBool (is_committed reply)
+      (MatchBool (is_settle call) (IsTrue tells → HasSettled was reply now) (HasCommitted tells was reply now)) (IsFalse (own_by was).waits → mine_of now ≡ mine_of was)
