@@ -96,6 +96,13 @@ pub masked_at : (names : List (List ℕ)) (places : Places) (caller : ℕ) (o : 
 masked_at names places caller None is are = tt
 masked_at names places caller (Some live) is are = are caller live is
 
+-- a seat whose caller has offered nothing, and which is not that of a live transaction
+pub untaken : (seat : Seat) → offer_of seat ≡ unoffered → ((live : Live) → seat ≡ place.Live live → ⊥) → live_of seat ≡ None
+untaken place.Free un none = refl
+untaken (place.Live live) un none = absurd (none live refl)
+untaken (place.Offered live) un none = absurd (true≢false (ap is_offered un))
+untaken (place.Committed n) un none = refl
+
 -- an offer that is there already changes nothing
 same_offer : (offers : ℕ → Offer) (caller : ℕ) (offer : Offer) → offers caller ≡ offer → (other : ℕ) → offers_with offers caller offer other ≡ offers other
 same_offer offers caller offer is other = elim (cases_eq other caller) [

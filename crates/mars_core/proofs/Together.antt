@@ -63,7 +63,7 @@ module _ (tells : Bool) (Opens : Shape → List ℕ → List ℕ → Type 0) (in
 
   ends_all : (how : Ending) (mid : Seats) (was longer : List Done) → ((state : State) → IsOf old (length history) state → Ends how last state (offered_in old) old was longer mid) → Ends how (group_end s os) s os old was longer mid
   ends_all how mid was longer ends = subst (λ (x : ℕ × List ℕ). Ends how x.0 s x.1 old was longer mid) (λ i. ((last_is ∙ ap (λ (callers : List ℕ). length history + length callers) same) i, same i))
-      (ends s (record { live = refl; offers = refl; before = refl }))
+      (ends s (record { live = refl; offers = refl; long = refl }))
 
   in_group : (mid : Seats) (longer : List Done) → ((state : State) → IsOf old (length history) state → Ends ending.Committed last state (offered_in old) old history longer mid)
       → (live_in mid t ≡ None) × (offers_in mid t ≡ unsettled (number_among (length history + 1) os t))

@@ -7,7 +7,7 @@ ghost use Rattle.eaw_face.specs.Mirroring.{Mirrors, GivesUp};
 ghost use Rattle.page_store.specs.Shown.{pages_of};
 ghost use Rattle.history.specs.Locks.{touched, has_table};
 ghost use Rattle.history.specs.declared.call.Call.TheVariants as call;
-ghost use Rattle.history.specs.declared.call.Call.TheVariants.{Begin, Commit, Abort};
+ghost use Rattle.history.specs.declared.call.Call.TheVariants.{Begin, Commit, Abort, Settle};
 ghost use Rattle.history.specs.declared.locks.Mode.TheVariants.{Shared, Exclusive};
 ghost use Rattle.history.specs.declared.call.Reply.TheVariants.{Dead};
 ghost use Rattle.caller_steps.specs.Core.{Steps};
@@ -360,7 +360,7 @@ impl<S: EawStore, K: KeyIndex> Core<S, K> {
         requires inside { caller < (S.view self.old.records.store).shape.numbers }
         requires alive { IsAlive (S.view self.old.records.store) }
         requires offered { offers_in self.old.seats caller ≡ offered }
-        ensures steps { Steps S.tells caller call.Settle (core_of S.opens K.index (S.view self.old.records.store) self.old)
+        ensures steps { Steps S.tells caller Settle (core_of S.opens K.index (S.view self.old.records.store) self.old)
             (core_of S.opens K.index (S.view self.new.records.store) self.new) result }
         ensures sends { Mirrors S.tells (S.view self.old.records.store) (S.view self.new.records.store) }
         ensures not_busy { IsFalse (is_busy result) }
@@ -397,7 +397,7 @@ impl<S: EawStore, K: KeyIndex> Core<S, K> {
             (core_of S.opens K.index (S.view self.new.records.store) self.new) result }
         ensures sends { Mirrors S.tells (S.view self.old.records.store) (S.view self.new.records.store) }
         ensures not_busy { IsFalse (is_busy result) }
-        ensures settles { IsFalse (is_refusal result) → call.now ≡ call.Settle }
+        ensures settles { IsFalse (is_refusal result) → call.now ≡ Settle }
     {
         match call {
             Call::Begin => Reply::Already,
@@ -416,7 +416,7 @@ impl<S: EawStore, K: KeyIndex> Core<S, K> {
             (core_of S.opens K.index (S.view self.new.records.store) self.new) result }
         ensures sends { Mirrors S.tells (S.view self.old.records.store) (S.view self.new.records.store) }
         ensures not_busy { IsFalse (is_busy result) }
-        ensures settles { IsFalse (is_refusal result) → call.now ≡ call.Settle }
+        ensures settles { IsFalse (is_refusal result) → call.now ≡ Settle }
     {
         match call {
             Call::Begin => Reply::Already,
@@ -434,7 +434,7 @@ impl<S: EawStore, K: KeyIndex> Core<S, K> {
         ensures sends { Mirrors S.tells (S.view self.old.records.store) (S.view self.new.records.store) }
         ensures dead { IsTrue (S.view self.old.records.store).is_dead → (result ≡ Dead) × (self.new ≡ self.old) }
         ensures not_busy { locks ≡ Held → IsFalse (is_busy result) }
-        ensures begun { IsFalse (is_refusal result) → IsTrue (takes_calls (core_of S.opens K.index (S.view self.old.records.store) self.old).state caller) ⊎ ((call.now ≡ Begin) ⊎ (call.now ≡ call.Settle)) }
+        ensures begun { IsFalse (is_refusal result) → IsTrue (takes_calls (core_of S.opens K.index (S.view self.old.records.store) self.old).state caller) ⊎ ((call.now ≡ Begin) ⊎ (call.now ≡ Settle)) }
         ensures tabled { IsFalse (is_refusal result) → IsTrue (has_table self.old.seats.names call.now) }
     {
         if self.records.is_dead() {
