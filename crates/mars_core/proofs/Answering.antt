@@ -186,8 +186,8 @@ listed_is s t Save rows replies = absurd (cc)
 listed_is s t (Back n) rows replies = absurd (let e = replies.1 in cc)
 listed_is s t Commit rows replies = absurd replies
 listed_is s t Abort rows replies = absurd (cc)
-listed_is s t Offer rows replies = absurd (cc)
-listed_is s t Settle rows replies = absurd (cc)
+listed_is s t Offer rows replies = absurd replies
+listed_is s t Settle rows replies = absurd replies
 listed_is s t Begin rows replies = absurd replies
 
 -- a scan whose rows there is no memory to keep has changed nothing

@@ -103,6 +103,13 @@ untaken (place.Live live) un none = absurd (none live refl)
 untaken (place.Offered live) un none = absurd (true≢false (ap is_offered un))
 untaken (place.Committed n) un none = refl
 
+-- what a group has committed is not live
+pub gone : (seat : Seat) (n : ℕ) → offer_of seat ≡ unsettled n → live_of seat ≡ None
+gone place.Free n is = refl
+gone (place.Live live) n is = absurd (true≢false (ap is_unoffered is))
+gone (place.Offered live) n is = absurd (true≢false (ap is_offered is))
+gone (place.Committed m) n is = refl
+
 -- an offer that is there already changes nothing
 same_offer : (offers : ℕ → Offer) (caller : ℕ) (offer : Offer) → offers caller ≡ offer → (other : ℕ) → offers_with offers caller offer other ≡ offers other
 same_offer offers caller offer is other = elim (cases_eq other caller) [

@@ -77,6 +77,9 @@ module _ (tells : Bool) (Opens : Shape → List ℕ → List ℕ → Type 0) (in
       → (n : ℕ) × (offers_in mid t ≡ unsettled n)
   has_number mid longer ends = (number_among (length history + 1) os t, (in_group mid longer ends).1)
 
+  pub has_seat : (mid : Seats) (longer : List Done) → ((state : State) → IsOf old (length history) state → Ends ending.Committed last state (offered_in old) old history longer mid) → t < length mid.places
+  has_seat mid longer ends = subst (λ (n : ℕ). t < n) (sym ((ends_all ending.Committed mid history longer ends).count ∙ kept.seats)) inside
+
   module _ (callers : List ℕ) (callers_are : callers ≡ offered_in old) (result : Result (Unit {0}) TableFault) (does : CommitsGroup tells (Opens p.store.shape) index callers p q result) where
     does_all : (r : Result (Unit {0}) TableFault) → result ≡ r → CommitsGroup tells (Opens p.store.shape) index os p q r
     does_all r is = subst (λ (x : List ℕ × Result (Unit {0}) TableFault). CommitsGroup tells (Opens p.store.shape) index x.0 p q x.1) (λ i. ((callers_are ∙ same) i, is i)) does

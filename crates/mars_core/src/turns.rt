@@ -10,7 +10,7 @@ ghost use Rattle.history.specs.declared.call.Call.TheVariants as call;
 ghost use Rattle.history.specs.declared.call.Call.TheVariants.{Begin, Commit, Abort, Settle};
 ghost use Rattle.history.specs.declared.locks.Mode.TheVariants.{Shared, Exclusive};
 ghost use Rattle.history.specs.declared.call.Reply.TheVariants.{Dead};
-ghost use Rattle.caller_steps.specs.Core.{Steps};
+ghost use Rattle.caller_steps.specs.Core.{IsSafe, Steps};
 ghost use Rattle.caller_steps.specs.Fate.{is_busy, is_refusal};
 ghost use Rattle.caller_steps.specs.Purging.{Purges};
 ghost use Rattle.caller_steps.specs.Locked.{IsLocked};
@@ -336,6 +336,7 @@ impl<S: EawStore, K: KeyIndex> Core<S, K> {
         requires alive { IsAlive (S.view self.old.records.store) }
         requires shown { IsShown S.tells K.index (pages_of (S.view self.old.records.store) self.old.records) }
         requires unoffered { offers_in self.old.seats caller ≡ unoffered }
+        requires safe { IsTrue S.tells → IsSafe (core_of S.opens K.index (S.view self.old.records.store) self.old) (S.view self.old.records.store).moment (length self.old.history) }
         requires locked { locks ≡ Held → IsLocked (core_of S.opens K.index (S.view self.old.records.store) self.old).state caller call.now }
         ensures steps { Steps S.tells caller call.now (core_of S.opens K.index (S.view self.old.records.store) self.old)
             (core_of S.opens K.index (S.view self.new.records.store) self.new) result }
@@ -393,6 +394,7 @@ impl<S: EawStore, K: KeyIndex> Core<S, K> {
         requires inside { caller < (S.view self.old.records.store).shape.numbers }
         requires alive { IsAlive (S.view self.old.records.store) }
         requires offered { offers_in self.old.seats caller ≡ offered }
+        requires safe { IsTrue S.tells → IsSafe (core_of S.opens K.index (S.view self.old.records.store) self.old) (S.view self.old.records.store).moment (length self.old.history) }
         ensures steps { Steps S.tells caller call.now (core_of S.opens K.index (S.view self.old.records.store) self.old)
             (core_of S.opens K.index (S.view self.new.records.store) self.new) result }
         ensures sends { Mirrors S.tells (S.view self.old.records.store) (S.view self.new.records.store) }
@@ -412,6 +414,7 @@ impl<S: EawStore, K: KeyIndex> Core<S, K> {
         requires inside { caller < (S.view self.old.records.store).shape.numbers }
         requires alive { IsAlive (S.view self.old.records.store) }
         requires committed { (n : ℕ) × (offers_in self.old.seats caller ≡ unsettled n) }
+        requires safe { IsTrue S.tells → IsSafe (core_of S.opens K.index (S.view self.old.records.store) self.old) (S.view self.old.records.store).moment (length self.old.history) }
         ensures steps { Steps S.tells caller call.now (core_of S.opens K.index (S.view self.old.records.store) self.old)
             (core_of S.opens K.index (S.view self.new.records.store) self.new) result }
         ensures sends { Mirrors S.tells (S.view self.old.records.store) (S.view self.new.records.store) }
