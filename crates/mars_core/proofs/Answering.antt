@@ -3,7 +3,6 @@ use Rattle.std.proofs.Common.{◌≡◌, ◌≢◌, ◌⊎◌, ℕ, inl, inr, Bo
 use Rattle.std.specs.Prelude.{None, is_some, IsFalse, IsErrOf, IfOk, OnErr}
 use Rattle.std.specs.FinMap.{get}
 use Rattle.std.specs.Map.{update}
-use Rattle.std.proofs.lemmas.Map.{update_apart}
 use Rattle.mars_base.specs.Causes.{Rose}
 use Rattle.std.proofs.lemmas.Bool.{false≢true}
 use Rattle.array_shape.specs.declared.shape.Shape.{Shape}

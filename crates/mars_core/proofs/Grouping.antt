@@ -11,13 +11,13 @@ use Rattle.array_shape.specs.NumberSet.{has, numbers_from, members}
 use Rattle.array_shape.specs.declared.number_set.NumberSet.{NumberSet}
 use Rattle.history.specs.Table.{Granted}
 use Rattle.history.specs.declared.transaction.Done.{Done}
-use Rattle.caller_steps.specs.State.{State, Offer, unoffered, unsettled, offers_with, calls_of}
+use Rattle.caller_steps.specs.State.{State, Offer, unsettled, offers_with, calls_of}
 use Rattle.caller_steps.specs.Offers.{is_offered, offerers, done_in, with_done, with_group, group_in, without}
 use Rattle.caller_steps.proofs.Offering.{is_in, in_if, offers_apart, one_out, one_longer, group_apart, without_apart}
 use Rattle.mars_core.specs.declared.seat.Seat.{Seat}
 use Rattle.mars_core.specs.declared.seat.Ending.{Ending}
 use Rattle.mars_core.specs.declared.seat.Ending.TheVariants.{Committed, Doubtful}
-use Rattle.mars_core.specs.Seats.{Seats, seat_in, offer_of, live_in, offers_in, offered_in, calls_in, live_of, bare, seat_of, ended, IsOf, Ends, Given}
+use Rattle.mars_core.specs.Seats.{Seats, offer_of, live_in, offers_in, offered_in, calls_in, live_of, bare, seat_of, ended, IsOf, Ends, Given}
 use Rattle.mars_core.proofs.Seating.{placed, free_beyond}
 
 -- ---- those of the first numbers that a test finds
@@ -65,7 +65,10 @@ module _ (p : ℕ → Bool) where
   -- one that is found is one of them
   pub first_fits : (n all : ℕ) → n < all → p n ≡ true → length (first n) < length (first all)
   first_fits n all lt is = omega (
-    arith, ap (λ (ns : List ℕ). length ns) (first_with n is), length-append (first n) (n ∷ []), grows_by (n + 1) (all - (n + 1)),
+    arith,
+    ap (λ (ns : List ℕ). length ns) (first_with n is),
+    length-append (first n) (n ∷ []),
+    grows_by (n + 1) (all - (n + 1)),
     ap (λ (m : ℕ). length (first m)) (let same : n + 1 + (all - (n + 1)) ≡ all = omega (arith, lt) in same),
   )
 

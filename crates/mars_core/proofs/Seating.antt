@@ -1,7 +1,7 @@
 -- Lists of seats.
 use Rattle.std.proofs.Common.{true, false, ◌||◌, nat_eq, sym, ap, Bool, Some, get_or, ◌≡◌, ◌≢◌, ◌⊎◌, ◌≤◌, ◌<◌, ◌+◌, ℕ, zero, suc, inl, inr, [], ◌∷◌, ◌++◌, length, Option, None, unwrap_or, refl, subst, ◌∙◌, arith}
 use Rattle.std.proofs.Math.ListN.{set, length-set}
-use Rattle.std.specs.Prelude.{List, IfSome, slice_get, is_some, not}
+use Rattle.std.specs.Prelude.{List, IfSome, is_some, not}
 use Rattle.std.proofs.lemmas.Option.{slice_get-get_or}
 use Rattle.std.specs.Map.{update}
 use Rattle.std.proofs.lemmas.Map.{update_here, update_apart}
@@ -10,7 +10,7 @@ use Rattle.history.specs.Table.{Granted}
 use Rattle.history.specs.Locks.{touches, touched, clash, Meets}
 use Rattle.history.specs.declared.call.Call.{Call}
 use Rattle.history.proofs.Modes.{clash_none}
-use Rattle.caller_steps.specs.State.{Offer, unoffered, offered, unsettled, offers_with}
+use Rattle.caller_steps.specs.State.{Offer, unoffered, unsettled, offers_with}
 use Rattle.caller_steps.specs.Offers.{is_offered, is_unoffered}
 use Rattle.caller_steps.specs.Locked.{Blocks}
 use Rattle.caller_steps.proofs.Offering.{offers_here, offers_apart}

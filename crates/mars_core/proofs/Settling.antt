@@ -1,22 +1,19 @@
 -- Offers, and the end of what was offered: a settle that commits a group, a fault of the medium in it, and one that is told its number.
-use Rattle.std.proofs.Common.{◌≡◌, ◌≢◌, ◌<◌, ◌≤◌, ◌+◌, ◌⊎◌, ℕ, inl, inr, Bool, true, false, cond, nat_eq, List, [], ◌∷◌, ◌++◌, length, filter, IsTrue, Option, Some, None, unwrap_or, Result, Ok, Err, refl, sym, ap, subst, ◌∙◌, arith}
-use Rattle.std.specs.Prelude.{IsFalse, is_some}
-use Rattle.std.specs.Map.{update}
-use Rattle.std.proofs.lemmas.Bool.{cases_Bool, cases_eq, true≢false, false≢true}
+use Rattle.std.proofs.Common.{◌≡◌, ◌<◌, ◌≤◌, ◌+◌, ◌⊎◌, ℕ, inl, inr, Bool, true, false, cond, List, [], ◌∷◌, ◌++◌, length, filter, IsTrue, Option, Some, None, unwrap_or, Result, Ok, Err, refl, sym, ap, subst, ◌∙◌, arith}
+use Rattle.std.proofs.lemmas.Bool.{false≢true}
 use Rattle.std.proofs.lemmas.List.{append-nil}
 use Rattle.mars_base.proofs.Going.{weaker, stays}
 use Rattle.array_shape.specs.declared.shape.Shape.{Shape}
 use Rattle.eaw_face.specs.StoreView.{LeavesOnly}
 use Rattle.eaw_face.specs.Causes.{IsAlive}
-use Rattle.eaw_face.specs.State.{listed, is_one_of, with_each}
+use Rattle.eaw_face.specs.State.{listed, is_one_of}
 use Rattle.page_store.specs.Index as below
 use Rattle.page_store.specs.Shown.{PagesView}
 use Rattle.history.specs.Writes.{Table, Write, all_written}
-use Rattle.history.specs.Groups.{AreWhole}
 use Rattle.history.specs.Rows.{NamedRows}
 use Rattle.history.specs.Table.{Granted}
 use Rattle.history.specs.Legal.{records}
-use Rattle.history.specs.Log.{Log, log_of}
+use Rattle.history.specs.Log.{log_of}
 use Rattle.history.specs.declared.call.Reply.{Reply}
 use Rattle.history.specs.declared.call.Call.{Call}
 use Rattle.history.specs.declared.call.Call.TheVariants as call
@@ -31,23 +28,23 @@ use Rattle.record_table.specs.Shown.{state_of}
 use Rattle.record_table.specs.declared.fault.TableFault.{TableFault}
 use Rattle.record_table.specs.declared.fault.TableFault.TheVariants as fault
 use Rattle.record_slots.specs.Names.{names_in}
-use Rattle.caller_steps.specs.State.{State, Index, Offer, unoffered, offered, unsettled, calls_of, records_of, with_live, with_offer}
-use Rattle.caller_steps.specs.Offers.{is_offered, offerers, with_group, group_in, group_end, number_among, group_writes, without, committed_group, doubted_group}
+use Rattle.caller_steps.specs.State.{State, Index, Offer, unoffered, offered, unsettled, calls_of, with_live, with_offer}
+use Rattle.caller_steps.specs.Offers.{offerers, group_in, group_end, number_among, group_writes, without, committed_group, doubted_group}
 use Rattle.caller_steps.specs.Room.{Limits, Settles, is_write_on, held_on}
 use Rattle.caller_steps.specs.Step.{Step, StepAt, StepIf, StepBy}
 use Rattle.caller_steps.specs.Fate.{is_refusal, is_media, is_committed, Moves}
 use Rattle.caller_steps.specs.Prefix.{HasPrefix, HasPrefixOf}
 use Rattle.caller_steps.specs.Core.{IsSafe, Steps}
-use Rattle.caller_steps.proofs.Fates.{Fate, given, settled, unsure, told, fate_moves}
+use Rattle.caller_steps.proofs.Fates.{given, settled, unsure, told, fate_moves}
 use Rattle.caller_steps.proofs.Sound.{step_sound, history_whole}
-use Rattle.caller_steps.proofs.Offering.{is_in, offers_here, offers_apart, offerers_once, offerer_is, group_names, group_base, group_doubt, group_dead, group_history, group_apart, group_ends, without_names, without_base, without_history, without_apart, without_ends}
+use Rattle.caller_steps.proofs.Offering.{is_in, offerers_once, group_names, group_base, group_doubt, group_dead, group_history, group_apart, without_names, without_base, without_history}
 use Rattle.caller_steps.proofs.Grouped.{group_whole}
 use Rattle.caller_steps.proofs.Leaving.{group_records, calls_in_group, calls_apart}
 use Rattle.mars_core.specs.Over.{limits_of, index_with}
 use Rattle.mars_core.specs.Held.{core_over}
 use Rattle.mars_core.specs.Kept.{Mirrors, HasHeld, IsTied, IsKept}
 use Rattle.mars_core.proofs.Prefixes.{StoreLaws, prefix_all, prefix_more, sound_after, safe_dead, safe_alive}
-use Rattle.mars_core.proofs.Stepping.{ShowsPages, or_false, or_true, step_of, steps_of, steps_same}
+use Rattle.mars_core.proofs.Stepping.{ShowsPages, step_of, steps_of, steps_same}
 use Rattle.mars_core.proofs.Staying.{update_same}
 
 -- what numbers have written, and what their callers have
@@ -126,7 +123,7 @@ module _ (tells : Bool) (Opens : Shape → List ℕ → List ℕ → Type 0) (in
       offers = offers i;
       doubt = (doubt ∙ sym (group_doubt s end os)) i;
       is_dead = (dead_same ∙ sym (group_dead s end os)) i;
-      index = new.index
+      index = new.index;
     }
 
     moves : Moves p.store.shape.numbers s t call.Settle (Committed (number_among (length s.history + 1) os t)) new
@@ -220,7 +217,7 @@ module _ (tells : Bool) (Opens : Shape → List ℕ → List ℕ → Type 0) (in
       offers = offers i;
       doubt = doubt i;
       is_dead = died i;
-      index = new.index
+      index = new.index;
     }
 
     step_lost : IsTrue tells → Step (limits_of p.store.shape) s t call.Settle reply.Media new

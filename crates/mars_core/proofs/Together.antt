@@ -1,5 +1,5 @@
 -- A settle that commits a group, in the words of the seats.
-use Rattle.std.proofs.Common.{◌≡◌, ◌<◌, ◌+◌, ℕ, nat_eq, Bool, true, false, IsTrue, List, [], ◌∷◌, ◌++◌, length, Option, Some, None, Result, Ok, Err, refl, sym, ap, subst, ◌∙◌}
+use Rattle.std.proofs.Common.{◌≡◌, ◌<◌, ◌+◌, ℕ, Bool, IsTrue, List, [], length, Option, None, Result, Ok, Err, refl, sym, ap, subst, ◌∙◌}
 use Rattle.std.proofs.lemmas.Bool.{false≢true}
 use Rattle.array_shape.specs.declared.shape.Shape.{Shape}
 use Rattle.eaw_face.specs.Causes.{IsAlive}
@@ -18,7 +18,7 @@ use Rattle.record_table.specs.Shown.{state_of}
 use Rattle.record_table.specs.declared.fault.TableFault.{TableFault}
 use Rattle.record_table.specs.declared.fault.TableFault.TheVariants as fault
 use Rattle.caller_steps.specs.State.{State, Offer, unoffered, offered, unsettled, offers_with, with_offer}
-use Rattle.caller_steps.specs.Offers.{offerers, group_end, number_among, committed_group, without}
+use Rattle.caller_steps.specs.Offers.{offerers, group_end, number_among, committed_group}
 use Rattle.caller_steps.specs.Core.{Steps}
 use Rattle.caller_steps.proofs.Offering.{offerers_once, offerer_is, group_ends}
 use Rattle.mars_core.specs.Held.{core_over, state_at}

@@ -375,12 +375,14 @@ impl<S: EawStore, K: KeyIndex> Core<S, K> {
         let last = before + count as u64;
         match self.records.commit_group(callers) {
             Ok(()) => {
-                self.seats.take_offered(Ending::Committed, before, last, &mut history);
+                self.seats
+                    .take_offered(Ending::Committed, before, last, &mut history);
                 self.history = History::from(history);
                 Reply::Committed(self.seats.settle(caller))
             }
             Err(fault) => {
-                self.seats.take_offered(Ending::Doubtful, before, last, &mut doubt);
+                self.seats
+                    .take_offered(Ending::Doubtful, before, last, &mut doubt);
                 self.history = History::from(history);
                 self.doubt = Doubt::holding_group(doubt);
                 Reply::from(fault)
@@ -483,7 +485,11 @@ impl<S: EawStore, K: KeyIndex> Steps for Core<S, K> {
 }
 
 // The history in a vector, and an empty one, each with room for so many more. Without memory the history stays.
-fn rooms(alloc: Global, history: &mut History, more: usize) -> Result<(Vec<Done>, Vec<Done>), NoMemory>
+fn rooms(
+    alloc: Global,
+    history: &mut History,
+    more: usize,
+) -> Result<(Vec<Done>, Vec<Done>), NoMemory>
     ensures items { IfOk result (λ made. made.0.items ≡ history.old) }
     ensures room { IfOk result (λ made. length made.0.items + more ≤ vec_capacity made.0) }
     ensures empty { IfOk result (λ made. made.1.items ≡ []) }

@@ -1,4 +1,4 @@
-use Rattle.std.proofs.Common.{◌≡◌, ◌+◌, ℕ, true, false, length, refl, sym, ap, ◌∙◌, subst, arith}
+use Rattle.std.proofs.Common.{◌≡◌, ◌+◌, ℕ, length, refl, sym, ap, ◌∙◌, subst, arith}
 use Rattle.array_shape.specs.declared.number_set.NumberSet.{NumberSet}
 use Rattle.caller_steps.specs.Offers.{is_offered}
 use Rattle.mars_core.specs.Seats.{Seats, offers_in}

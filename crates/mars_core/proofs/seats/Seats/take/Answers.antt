@@ -1,4 +1,4 @@
-use Rattle.std.proofs.Common.{◌≡◌, ◌<◌, ◌∙◌, sym, ap, subst, refl, length, None}
+use Rattle.std.proofs.Common.{◌<◌, ◌∙◌, sym, ap, subst, refl, length, None}
 use Rattle.std.proofs.Math.ListN.{set}
 use Rattle.mars_core.specs.declared.seat.Seat.{Seat}
 use Rattle.mars_core.specs.declared.seat.Seat.TheVariants as place
@@ -18,10 +18,11 @@ returns-in-Live-clause-out c = subst (λ (seat : Seat). Seated c.args.self.now c
 
 pub invariant_of-self-2 : goal.invariant_of-self-2
 invariant_of-self-2 c =
-    let inside : c.args.caller < length c.self.inside.places.items = subst (λ (s : Seats). c.args.caller < length s.places) (sym c.self.view_is) c.requires.inside in
-    (subst (λ (seat : Seat). AreMasked c.self.inside.names (set c.self.inside.places.items c.from.result seat)) (sym c.replace.ensures.after)
-    (masked c.self.inside.names c.self.inside.places.items c.args.caller c.from.result c.from.ensures inside place.Free c.self.invariant.0 tt)
-    , c.self.invariant.1)
+    let inside : c.args.caller < length c.self.inside.places.items = subst (λ (s : Seats). c.args.caller < length s.places) (sym c.self.view_is) c.requires.inside in (
+      subst (λ (seat : Seat). AreMasked c.self.inside.names (set c.self.inside.places.items c.from.result seat)) (sym c.replace.ensures.after)
+          (masked c.self.inside.names c.self.inside.places.items c.args.caller c.from.result c.from.ensures inside place.Free c.self.invariant.0 tt),
+      c.self.invariant.1,
+    )
 
 pub returns : goal.returns
 returns c =

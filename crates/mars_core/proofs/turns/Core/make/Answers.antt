@@ -1,8 +1,5 @@
-use Rattle.std.proofs.Common.{◌≡◌, ◌∙◌, ℕ, ◌<◌, ◌⊎◌, true, false, inl, inr, length, sym, ap, subst}
+use Rattle.std.proofs.Common.{◌≡◌, ◌∙◌, ℕ, ◌<◌, false, length, sym, ap, subst}
 use Rattle.page_store.specs.Shown.{pages_of}
-use Rattle.history.specs.Locks.{has_table}
-use Rattle.history.specs.declared.call.Call.{Call}
-use Rattle.history.specs.declared.call.Call.TheVariants as call
 use Rattle.caller_steps.specs.State.{unoffered, offered, unsettled}
 use Rattle.mars_core.specs.Held.{Held, core_of}
 use Rattle.caller_steps.specs.Core.{IsSafe}

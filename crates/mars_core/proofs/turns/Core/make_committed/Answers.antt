@@ -1,9 +1,8 @@
-use Rattle.std.proofs.Common.{◌≡◌, ◌<◌, ℕ, None, length, ap, subst, sym, ◌∙◌, refl}
+use Rattle.std.proofs.Common.{◌≡◌, None, length, ap, subst, sym, ◌∙◌, refl}
 use Rattle.eaw_face.specs.Causes.{IsAlive}
 use Rattle.page_store.specs.Shown.{pages_of}
 use Rattle.history.specs.Rows.{table_of}
 use Rattle.history.specs.declared.call.Call.{Call}
-use Rattle.history.specs.declared.call.Call.TheVariants as call
 use Rattle.history.specs.declared.call.Reply.TheVariants.{Committed, Already}
 use Rattle.caller_steps.specs.Core.{Steps}
 use Rattle.mars_core.specs.Held.{Held, core_of, state_at, state_over}
@@ -46,7 +45,7 @@ returns-in-Settle-clause-steps g c =
     let free = c.settle.ensures.free in
     let none : live_in i.seats c.args.caller ≡ None = ap calls_in (gone (seat_in i.seats.places c.args.caller) c.settle.result c.settle.ensures.number) in
     subst (λ (x : Call × Held g.row.S.Denot). Steps g.S.EawStore.tells c.args.caller x.0 (core (V x.1.records.store) x.1)
-        (core (V i.records.store) (record { records = i.records; base = i.base; seats = c.settle.new.self; history = i.history; doubt = i.doubt })) (Committed c.settle.result)) (λ j. (sym c.in-Settle.is j, c.self.view_is j))
+    (core (V i.records.store) (record { records = i.records; base = i.base; seats = c.settle.new.self; history = i.history; doubt = i.doubt })) (Committed c.settle.result)) (λ j. (sym c.in-Settle.is j, c.self.view_is j))
     (told_steps g.S.EawStore.tells g.S.EawStore.opens I (pages_of (V i.records.store) i.records) (laws_at g i.records.store)
     (state_at I (V i.records.store) i.seats.names (table_of i.base) i.history (live_in i.seats) (offers_in i.seats) i.doubt) _ (record { indexed = refl; dead = refl }) (length i.seats.places) (length c.settle.new.self.places) free.count i.base c.self.invariant
     (subst (λ (h : Held g.row.S.Denot). IsAlive (V h.records.store)) (sym c.self.view_is) c.requires.alive) c.args.caller c.settle.result c.settle.ensures.number none

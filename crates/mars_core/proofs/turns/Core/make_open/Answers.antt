@@ -1,5 +1,4 @@
-use Rattle.std.proofs.Common.{◌≡◌, ◌∙◌, true, false, refl, inl, inr, sym, ap, subst}
-use Rattle.std.proofs.lemmas.Bool.{false≢true}
+use Rattle.std.proofs.Common.{◌≡◌, ◌∙◌, true, refl, inl, inr, sym, ap, subst}
 use Rattle.page_store.specs.Shown.{pages_of}
 use Rattle.history.specs.Locks.{has_table}
 use Rattle.history.specs.declared.call.Call.{Call}
@@ -7,7 +6,6 @@ use Rattle.history.specs.declared.call.Reply.TheVariants.{NoTransaction}
 use Rattle.caller_steps.specs.Core.{Steps}
 use Rattle.mars_core.specs.Held.{core_of, state_over}
 use Rattle.mars_core.specs.TableCall.{asking}
-use Rattle.mars_core.specs.Works.{IsShown}
 use Rattle.mars_core.proofs.Settling.{open_settles}
 use Rattle.mars_core.proofs.turns.Core.make_open.Goals as goal
 

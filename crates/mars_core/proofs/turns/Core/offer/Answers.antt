@@ -1,12 +1,11 @@
 use Rattle.mars_core.proofs.GivingUp.{sends_none}
 use Rattle.eaw_face.specs.Mirroring.{Mirrors}
 use Rattle.std.proofs.lemmas.Bool.{true≢false}
-use Rattle.std.proofs.Common.{true, ◌&&◌, ◌≡◌, ◌<◌, ℕ, Option, Some, None, length, ap, subst, sym, ◌∙◌, refl}
+use Rattle.std.proofs.Common.{true, ◌&&◌, ◌≡◌, ◌<◌, ℕ, Some, None, length, ap, subst, sym, ◌∙◌, refl}
 use Rattle.std.specs.Prelude.{is_some}
 use Rattle.eaw_face.specs.Causes.{IsAlive}
 use Rattle.page_store.specs.Shown.{pages_of}
 use Rattle.history.specs.Rows.{table_of}
-use Rattle.history.specs.Table.{Granted}
 use Rattle.history.specs.declared.call.Call.TheVariants as call
 use Rattle.history.specs.declared.call.Reply.TheVariants.{Fine, NoTransaction}
 use Rattle.caller_steps.specs.State.{Offer, unoffered, offered, offers_with}
