@@ -1,40 +1,37 @@
 -- What a whole turn guarantees, given what its steps guarantee and what the core's step does.
-use Rattle.std.proofs.Common.{◌≡◌, ◌⊎◌, inl, inr, ⊎_elim, ℕ, ◌+◌, List, Bool, true, false, [], ◌∷◌, ◌++◌, length, Option, Some, None, refl, sym, ap, ◌∙◌, subst, arith, map, length-append, append_assoc}
-use Rattle.std.specs.Prelude.{IsTrue, IsFalse, MatchBool, unwrap_or, if◌then◌else◌}
-use Rattle.std.specs.List.{fold}
-use Rattle.std.proofs.lemmas.Bool.{true≢false, false≢true, cond-true, cond-false}
+use Rattle.std.proofs.Common.{◌≡◌, ◌≢◌, ◌<◌, ◌⊎◌, inl, inr, ⊎_elim, ℕ, List, Bool, true, false, [], ◌∷◌, ◌++◌, Option, Some, None, refl, sym, ap, ◌∙◌, subst, map, append_assoc}
+use Rattle.std.specs.Prelude.{IsTrue, IsFalse, MatchBool}
+use Rattle.std.proofs.lemmas.Bool.{true≢false}
 use Rattle.history.specs.Table.{Granted}
 use Rattle.history.specs.declared.call.Call.{Call}
 use Rattle.history.specs.declared.call.Reply.{Reply}
-use Rattle.history.specs.declared.call.Reply.TheVariants.{Committed, Dead}
+use Rattle.history.specs.declared.call.Reply.TheVariants.{Dead}
 use Rattle.history.specs.Legal.{IsLegal}
-use Rattle.history.specs.declared.transaction.Done.{Done}
-use Rattle.caller_steps.specs.State.{State, Offer, unoffered, offered, unsettled, calls_of, commits_of, done_by}
-use Rattle.caller_steps.specs.Offers.{is_unoffered, takes_calls}
+use Rattle.caller_steps.specs.State.{State}
+use Rattle.caller_steps.specs.Offers.{takes_calls}
 use Rattle.caller_steps.specs.Room.{Limits}
-use Rattle.caller_steps.specs.Fate.{is_committed, is_refusal, is_busy, committed_by, Moves}
+use Rattle.caller_steps.specs.Fate.{Moves, is_committed, is_refusal, is_busy}
 use Rattle.history.specs.declared.call.Call.TheVariants.{Begin, Settle}
 use Rattle.caller_steps.specs.Prefix.{Grows}
 use Rattle.caller_steps.specs.Step.{Step}
 use Rattle.caller_steps.specs.Core.{CoreView, Steps}
-use Rattle.caller_steps.specs.Run.{Turn, Goes, GoesAlong, AreOf, turns_of}
-use Rattle.caller_steps.specs.Own.{Own, nothing_own, own_of, own_after, live_in, mine_in, KnowsLive}
+use Rattle.caller_steps.specs.Run.{Turn, Goes, AreOf, turns_of}
 use Rattle.caller_steps.proofs.Continuing.{grows_on, after_grows}
-use Rattle.caller_steps.proofs.Running.{last_here, turns_one, turn_run, turn_told, turn_grows}
-use Rattle.caller_steps.proofs.Offering.{more_mine}
-use Rattle.caller_steps.proofs.Owning.{number_of_commit}
+use Rattle.caller_steps.proofs.Running.{last_here, turn_told, turn_grows}
 use Rattle.atomic_table.specs.Table.{rest}
 use Rattle.mars_manager.specs.declared.view.Known.{Known}
 use Rattle.mars_manager.specs.declared.view.Met.{Met}
 use Rattle.mars_manager.specs.declared.setup.Setup.{Setup}
-use Rattle.mars_manager.specs.Pass.{Fits, AllFit, names_of, own_by, live_of, is_taking, finds, told_of}
+use Rattle.mars_manager.specs.Pass.{Fits, AllFit, names_of, own_by, waits_of, takes_of, finds, told_of, times}
 use Rattle.mars_manager.specs.Locks.{with_locks, IsAgain, HasAfter}
-use Rattle.mars_manager.specs.Sharing.{CanShare, Since, Called, IsLegalIn, done_of, mine_of, is_settle, SeesOwn, HasCommitted, HasSettled, Commits}
+use Rattle.mars_manager.specs.Sharing.{CanShare, Since, Called, IsLegalIn, HasCommitted, HasSettled, SeesOwn, Commits}
 use Rattle.mars_manager.specs.Seat.{SeatOf, first_of, shared_view, Makes}
 use Rattle.history.specs.Locks.{has_table}
 use Rattle.mars_manager.specs.Rule.{Face, shown, Took, Told}
-use Rattle.mars_manager.proofs.Past.{since_step, mine_last, sees_run}
-use Rattle.mars_manager.proofs.Locked.{taking_is}
+use Rattle.mars_manager.proofs.Past.{since_step}
+use Rattle.mars_manager.proofs.Waiting.{takes_own}
+use Rattle.mars_manager.proofs.Seats.{times_first}
+use Rattle.mars_manager.proofs.Committing.{commits_on}
 use Rattle.mars_manager.proofs.Turns.{out, top_of, some_same, found_fit, live_at, Moved}
 
 module _ {C : Type 0} where
@@ -126,94 +123,9 @@ module _ {C : Type 0} (f : Face C) where
         subst (λ (g : Setup C). IsLegal (f.show g.first).state.base (f.show new).state.history) same
         (subst (λ b. IsLegal b (f.show new).state.history) comes.base (comes.continues told).sound.legal)
 
-    module _ (ready : CanShare f.tells setup.callers (f.show setup.first)) where
-      -- while it waits for no settle, the caller's transactions are those that its pass has seen
-      mine_is : IsFalse (own_by k).waits → mine_of k ≡ commits_of k.number (f.show old).state.history
-      mine_is = mine_last f.tells (f.show setup.first).limits k.number k.past k.seen (f.show setup.first).state (f.show old).state turns fit.last (ready.live k.number) (ready.offers k.number)
-
-      alive_if : (b : Bool) → (f.show old).state.is_dead ≡ b → is_committed reply ≡ true → (f.show old).state.is_dead ≡ false
-      alive_if true is committed = absurd (true≢false (sym committed ∙ ap is_committed (dead is).0))
-      alive_if false is committed = is
-
-      -- a commit is answered only while the medium has not failed, so the caller's turns say what its live calls are
-      module _ (committed : is_committed reply ≡ true) where
-        alive : (f.show old).state.is_dead ≡ false
-        alive = alive_if (f.show old).state.is_dead refl committed
-
-        knows : KnowsLive k.number (own_by k) (f.show old).state
-        knows = live_at f setup turns old k ready fit alive
-
-        module _ (plain : is_settle call ≡ false) where
-          open_if : (offer : Offer) → (f.show old).state.offers k.number ≡ offer → offer ≡ unoffered
-          open_if unoffered is = refl
-          open_if offered is = absurd (true≢false (sym (ap is_settle (s.moves.closed (ap is_unoffered is) (done_if reply committed))) ∙ plain))
-          open_if (unsettled n) is = absurd (true≢false (sym (ap is_settle (s.moves.closed (ap is_unoffered is) (done_if reply committed))) ∙ plain))
-
-          free : (f.show old).state.offers k.number ≡ unoffered
-          free = open_if ((f.show old).state.offers k.number) refl
-
-          still_if : (b : Bool) → (own_by k).waits ≡ b → (own_by k).waits ≡ false
-          still_if true waits = absurd (knows.some waits alive free)
-          still_if false still = still
-
-          still : (own_by k).waits ≡ false
-          still = still_if (own_by k).waits refl
-
-          live_is : (f.show old).state.live k.number ≡ live_of k
-          live_is = knows.live ∙ ap (live_in (own_by k)) free ∙ ap (λ (b : Bool). if b then None else live_of k) still
-
-          done_is : done_by (f.show old).state k.number (calls_of (f.show old).state k.number) ≡ done_of k (length (f.show old).state.history + 1)
-          done_is = ap (λ (live : Option Granted). record { caller = k.number; calls = unwrap_or live []; at = length (f.show old).state.history + 1; last = length (f.show old).state.history + 1 }) live_is
-
-          has_committed : HasCommitted f.tells k reply (shown f call reply turns new k)
-          has_committed =
-              let log = (f.show old).state.history in
-              let done = done_by (f.show old).state k.number (calls_of (f.show old).state k.number) in
-              let all = committed_by (f.show old).limits.callers (f.show old).state k.number call in
-              let seen : (f.show new).state.history ≡ log ++ done ∷ [] =
-              s.moves.history ∙ cond-true (is_committed reply) (log ++ all) log committed ∙ ap (λ (dones : List Done). log ++ dones) (one_committed (f.show old).limits.callers (f.show old).state k.number call plain) in
-              let long : length log + 1 ≡ length (f.show new).state.history = omega (arith, ap length seen, length-append log (done ∷ [])) in
-              let same : done ≡ done_of k (length (f.show new).state.history) = done_is ∙ ap (done_of k) long in
-              let mine : commits_of k.number (f.show new).state.history ≡ commits_of k.number log ++ done ∷ [] = ap (commits_of k.number) seen ∙ more_mine k.number log done refl in record {
-                before = log;
-                seen = seen ∙ ap (λ d. log ++ d ∷ []) same;
-                mine = mine ∙ (λ i. sym (mine_is still) i ++ same i ∷ []);
-                told = λ told. number_of_commit (f.show old).limits (f.show old).state k.number call (f.show new).state reply (λ e. true≢false (sym (ap is_settle e) ∙ plain)) (s.step told) committed ∙ ap Committed long;
-              }
-
-      -- what the pass has then seen is what its caller was told of
-      module _ (since : Since f.tells (f.show setup.first) (f.show old)) where
-        pub sees_own : IsTrue f.tells → SeesOwn (shown f call reply turns new k)
-        sees_own told =
-            let run = turns_one f.tells (f.show setup.first).limits (f.show setup.first).state (f.show old).state (f.show new).state turns k.number call reply
-                (turn_run f.tells (f.show setup.first).limits k.number k.past k.seen (f.show setup.first).state (f.show old).state turns fit.last) (goes_on setup k.number call reply old new s dead since) in
-            sees_run (shown f call reply turns new k) (f.show setup.first).limits (f.show setup.first).state (f.show new).state (turns ++ (k.number, call, reply) ∷ [])
-                (subst (λ (b : Bool). GoesAlong b (f.show setup.first).limits (f.show setup.first).state (turns ++ (k.number, call, reply) ∷ []) (f.show new).state) told run)
-                (ready.live k.number) (ready.offers k.number) ready.history refl refl
-
-        pub has_settled : Called f.tells f.show k call reply (shown f call reply turns new k) → is_committed reply ≡ true → is_settle call ≡ true → IsTrue f.tells → HasSettled k reply (shown f call reply turns new k)
-        has_settled was committed settles told =
-            let number = number_told reply committed in
-            let own : own_by (shown f call reply turns new k) ≡ own_after k.number (own_by k) (Settle, Committed number.0) =
-            own_on k (shown f call reply turns new k) call reply refl (told_on f.tells f.show k call reply (shown f call reply turns new k) was)
-            ∙ (λ i. own_after k.number (own_by k) (settle_is call settles i, number.1 i)) in
-            let sees = sees_own told in
-            record {
-              number = number.0;
-              told = number.1;
-              mine = sees.mine ∙ ap (mine_in k.number (own_by (shown f call reply turns new k))) (sees.none (ap (λ (o : Own). o.waits) own)) ∙ ap (λ (o : Own). o.mine) own;
-            }
-
-        commits_at : Called f.tells f.show k call reply (shown f call reply turns new k) → (b : Bool) → is_committed reply ≡ b → (z : Bool) → is_settle call ≡ z
-            → MatchBool b (MatchBool z (IsTrue f.tells → HasSettled k reply (shown f call reply turns new k)) (HasCommitted f.tells k reply (shown f call reply turns new k)))
-            (IsFalse (own_by k).waits → mine_of (shown f call reply turns new k) ≡ mine_of k)
-        commits_at was true is true what = has_settled was is what
-        commits_at was true is false what = has_committed is what
-        commits_at was false is z what = λ still. ap (commits_of k.number) (s.moves.history
-            ∙ cond-false (is_committed reply) ((f.show old).state.history ++ committed_by (f.show old).limits.callers (f.show old).state k.number call) (f.show old).state.history is) ∙ sym (mine_is still)
-
-        pub commits : Called f.tells f.show k call reply (shown f call reply turns new k) → Commits f.tells k call reply (shown f call reply turns new k)
-        commits was = commits_at was (is_committed reply) refl (is_settle call) refl
+    module _ (inside : k.number < (f.show old).limits.callers) (can : CanShare f.tells setup.callers (f.show setup.first)) where
+      pub commits : Commits f.tells k call reply (shown f call reply turns new k)
+      commits = commits_on f setup turns old new k call reply fit s dead can inside
 
   -- the core that the seat takes out of its slot
   pub core_is : (m0 m1 : SeatOf C) (core : C) (home : Option C) (took : Took f m0 m1) → m1.1 ≡ (0, home) ∷ rest m1.1 → home ≡ Some core → took.core ≡ core
@@ -241,11 +153,16 @@ module _ {C : Type 0} (f : Face C) where
       tabled_at granted = subst (λ (names : List (List ℕ)). has_table names call ≡ true)
           (sym ((λ i. names_of (first_of (sym idle i).0.passes)) ∙ took.named ∙ ap (λ (c : C). (f.show c).state.names) (core_is m0 m1 core home took taken is))) (tabled granted)
 
-      begun_at : (setup : Setup C) (turns : List Turn) → Fits f.tells f.show setup turns (f.show core).state k → CanShare f.tells setup.callers (f.show setup.first) → (b : Bool) → (f.show core).state.is_dead ≡ b → IsFalse (is_refusal reply)
-          → IsTrue (is_taking k) ⊎ ((call ≡ Begin) ⊎ (call ≡ Settle))
-      begun_at setup turns fit ready true is granted = absurd (true≢false (sym (ap is_refusal (dead is).0) ∙ granted))
-      begun_at setup turns fit ready false is granted = ⊎_elim
-          (λ (takes : IsTrue (takes_calls (f.show core).state n)). inl (sym (taking_is k.number (own_by k) (f.show core).state (live_at f setup turns core k ready fit is) is) ∙ ap (takes_calls (f.show core).state) number ∙ takes))
+      -- its caller is one of those of the core
+      inside_at : k.number < (f.show core).limits.callers
+      inside_at =
+          let there : (m : SeatOf C) → m ≡ (shared_view (k ∷ []) None, []) → 0 < times k.number m.0.passes = (λ m e. subst (λ (m : SeatOf C). 0 < times k.number m.0.passes) (sym e) (times_first k [])) in
+          subst (λ (c : C). k.number < (f.show c).limits.callers) (core_is m0 m1 core home took taken is) (took.few k.number (there m0 idle))
+
+      begun_at : (setup : Setup C) (turns : List Turn) → Fits f.tells f.show setup turns (f.show core).state k → CanShare f.tells setup.callers (f.show setup.first) → (b : Bool) → (f.show core).state.is_dead ≡ b → IsFalse (is_refusal reply) → IsTrue (takes_of k) ⊎ ((call ≡ Begin) ⊎ (call ≡ Settle))
+      begun_at setup turns fit can true is granted = absurd (true≢false (sym (ap is_refusal (dead is).0) ∙ granted))
+      begun_at setup turns fit can false is granted = ⊎_elim
+          (λ (takes : IsTrue (takes_calls (f.show core).state n)). inl (takes_own k.number (own_by k) (f.show core).state (live_at f setup turns core k can fit is) (subst (λ (i : ℕ). takes_calls (f.show core).state i ≡ true) (sym number) takes)))
           inr (begun granted)
 
       -- the step is recorded, and the turn is given back
@@ -275,12 +192,11 @@ module _ {C : Type 0} (f : Face C) where
                 met = refl;
                 sure = sure;
                 begun = begun_at t.setup t.turns fit t.ready (f.show core).state.is_dead refl;
-                called = now_called;
-                told = told_on f.tells f.show k call reply (shown f call reply t.turns new k) now_called;
+                called = called t.setup t.turns core new k call reply fit steps_as dead t.since t.whose t.ready;
+                told = told_on f.tells f.show k call reply (shown f call reply t.turns new k) (called t.setup t.turns core new k call reply fit steps_as dead t.since t.whose t.ready);
                 seen = seen_grows t.setup t.turns core new k call reply fit steps_as dead;
                 legal = legal_now t.setup t.turns core new k call reply fit steps_as dead t.since;
-                own = sees_own t.setup t.turns core new k call reply fit steps_as dead t.ready t.since;
-                commits = commits t.setup t.turns core new k call reply fit steps_as dead t.ready t.since now_called;
+                commits = commits t.setup t.turns core new k call reply fit steps_as dead inside_at t.ready;
               };
             }
 
@@ -304,14 +220,17 @@ module _ {C : Type 0} (tells : Bool) (show : C → CoreView) (was last now : Kno
         after = c.after;
       }
 
-  commits_if : (b z : Bool) → MatchBool b (MatchBool z (IsTrue tells → HasSettled (finds n (with_locks was.holds (was.met ++ a.more) was)) reply now) (HasCommitted tells (finds n (with_locks was.holds (was.met ++ a.more) was)) reply now))
-      (IsFalse (own_by was).waits → mine_of now ≡ mine_of was) → MatchBool b (MatchBool z (IsTrue tells → HasSettled was reply now) (HasCommitted tells was reply now)) (IsFalse (own_by was).waits → mine_of now ≡ mine_of was)
-  commits_if true true h = λ told. (let it = h told in record { number = it.number; told = it.told; mine = it.mine })
-  commits_if true false h = record { before = h.before; seen = h.seen; mine = h.mine; told = h.told }
-  commits_if false z h = h
+  abbrev found : Known C
+  found = finds n (with_locks was.holds (was.met ++ a.more) was)
+
+  commits_if : (b waits : Bool) → MatchBool b (MatchBool waits (HasSettled tells found reply now) (call ≢ Settle → HasCommitted tells found reply now)) (SeesOwn found now)
+      → MatchBool b (MatchBool waits (HasSettled tells was reply now) (call ≢ Settle → HasCommitted tells was reply now)) (SeesOwn was now)
+  commits_if true true h = record { at = h.at; last = h.last; before = h.before; mine = h.mine; seen = h.seen; told = h.told }
+  commits_if true false h = λ ne. (let c = h ne in record { before = c.before; seen = c.seen; mine = c.mine; told = c.told })
+  commits_if false waits h = h
 
   pub commits_since : Commits tells last call reply now → Commits tells was call reply now
-  commits_since made = commits_if (is_committed reply) (is_settle call) (subst (λ (j : Known C). Commits tells j call reply now) a.is made)
+  commits_since made = commits_if (is_committed reply) (waits_of was) (subst (λ (j : Known C). Commits tells j call reply now) a.is made)
 
   pub after_since : HasAfter call reply last now → HasAfter call reply was now
   after_since h = subst (λ (j : Known C). HasAfter call reply j now) a.is h

@@ -5,6 +5,7 @@ use mathlib.Core.Option.{Option as Home, some, none, some-injective}
 use native.Mathlib.Decide.{dec_le, ℕ_discrete}
 use lib.ListN.{get_elem?}
 use prog.Atomic.{either}
+use Rattle.history.specs.Table.{Granted}
 use Rattle.history.specs.declared.call.Call.{Call}
 use Rattle.history.specs.declared.call.Reply.{Reply}
 use Rattle.caller_steps.specs.Room.{Limits}
@@ -36,7 +37,6 @@ use Rattle.caller_steps.specs.Fate.{is_refusal}
 use Rattle.caller_steps.specs.Own.{nothing_own, own_of, KnowsLive}
 use Rattle.caller_steps.proofs.Owning.{turns_live, fresh_live}
 use Rattle.std.specs.Prelude.{IsTrue, IsFalse}
-use Rattle.history.specs.Table.{Granted}
 use Rattle.std.proofs.lemmas.Bool.{false_from_ne_true, or_from}
 use Rattle.mars_manager.proofs.Seats.{times_first, inside, at_only, each_set, total_set, total_has, total_two}
 
@@ -182,12 +182,10 @@ module _ {C : Type 0} (f : Face C) (setup : Setup C) where
         others = λ i u ne e. x.nobody i u (sym (set_else s.views id i w ne) ∙ e);
       }))
 
-  -- what a pass was told of its live transaction is so while the medium has not failed
-  pub live_at : (turns : List Turn) (core : C) (k : Known C) → CanShare f.tells setup.callers (f.show setup.first) → Fits f.tells f.show setup turns (f.show core).state k → IsFalse (f.show core).state.is_dead
-      → KnowsLive k.number (own_by k) (f.show core).state
+  -- what a pass was told of its transaction is so while the medium has not failed
+  pub live_at : (turns : List Turn) (core : C) (k : Known C) → CanShare f.tells setup.callers (f.show setup.first) → Fits f.tells f.show setup turns (f.show core).state k → IsFalse (f.show core).state.is_dead → KnowsLive k.number (own_by k) (f.show core).state
   live_at turns core k ready fit alive =
-      subst (λ (told : Granted). KnowsLive k.number (own_of k.number told) (f.show core).state)
-      (sym (turn_told f.tells (f.show setup.first).limits k.number k.past k.seen (f.show setup.first).state (f.show core).state turns fit.last))
+      subst (λ (told : Granted). KnowsLive k.number (own_of k.number told) (f.show core).state) (sym (turn_told f.tells (f.show setup.first).limits k.number k.past k.seen (f.show setup.first).state (f.show core).state turns fit.last))
       (turns_live f.tells (f.show setup.first).limits k.number (f.show setup.first).state (f.show core).state turns nothing_own
       (turn_run f.tells (f.show setup.first).limits k.number k.past k.seen (f.show setup.first).state (f.show core).state turns fit.last) (inr alive)
       (fresh_live k.number (f.show setup.first).state (ready.live k.number) (ready.offers k.number)))
@@ -332,7 +330,7 @@ module _ {C : Type 0} (f : Face C) (setup : Setup C) where
         holds = h.holds;
         met = h.met;
         locks = locked_same setup.callers setup.names (f.show new).state h.holds h.met s.words (set s.words 65 told) s.views (set s.views id w)
-            (locked_step setup.callers setup.names (f.show h.core).state (f.show new).state h.holds h.met s.words s.views k.number call reply h.locks (f.show setup.first).limits.callers goes.moves
+            (locked_step setup.callers setup.names (f.show h.core).state (f.show new).state h.holds h.met s.words s.views (f.show setup.first).limits.callers k.number call reply h.locks goes.moves
             (λ alive live. subst (λ (hs : List Hold). IsCovered (locks setup.names call) hs) (h.locks.have id v at).0.0 (subst (λ (given : Option (Setup C)). IsCovered (locks (names_in given) call) k.holds) mine.setup_is (has alive live))) m.begun
             (λ done. subst (λ (ns : List (List ℕ)). has_table ns call ≡ true) (sym (named_at s h)) (m.tabled done)))
             (λ t l. beside s.words 65 told t (omega arith) l) (each_set (λ i u. AllHave h.holds h.met u.passes) s.views id w ((h.locks.have id v at).0, tt) (λ j u _ e. h.locks.have j u e));

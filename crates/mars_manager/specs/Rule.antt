@@ -21,6 +21,7 @@ use Rattle.mars_manager.specs.Asked.{set_for, HasAsked, AreCaused}
 use Rattle.stripe_words.specs.declared.hold.Hold.{Hold}
 use Rattle.stripe_words.specs.declared.hold.Hold.TheVariants as hold
 use Rattle.stripe_words.specs.Words.{Stands, granted, locked}
+use Rattle.caller_steps.specs.Own.{KnowsLive}
 use Rattle.caller_steps.specs.State.{State, calls_of}
 use Rattle.caller_steps.specs.Own.{KnowsLive}
 use Rattle.history.specs.Locks.{touched, is_touch}
@@ -136,8 +137,9 @@ module _ {C : Type 0} where
     abbrev pub shown : Call → Reply → List Turn → C → Known C → Known C
     shown call reply turns core known = known_after known turns (f.show core).state call reply
 
-    -- While the medium has not failed, the core's live transaction of a pass is that which it was told of, unless it was offered and another's
-    -- settle has committed it. Another caller's touches for writing no stripe that the pass may read, and touches none that it may write.
+    -- While the medium has not failed, what the core has of a pass's transaction is what it was told of: the live one, or, where it waits for its
+    -- settle, the one that it has offered or that a group has committed since. Another caller's touches for writing no stripe that the pass may read,
+    -- and touches none that it may write.
     pub record HasAlone (core : C) (known : Known C) : Type 0 where
       pub mine : KnowsLive known.number (own_by known) (f.show core).state
       pub reads : (t h : ℕ) → t < 64 → h ≢ known.number → granted (hold_of t known) ≡ 1 → IsFalse (touched (f.show core).state.names (calls_of (f.show core).state h) t mode.Exclusive)

@@ -1,7 +1,7 @@
 // What calls and replies say of a caller's transaction.
 ghost use Rattle.std.specs.Prelude.{◌≡◌};
 ghost use Rattle.caller_steps.specs.Fate.{is_refusal};
-ghost use Rattle.mars_manager.specs.Locks.{is_end, is_last, is_taking_after};
+ghost use Rattle.mars_manager.specs.Locks.{is_end, is_last, takes_after};
 
 use history::{Call, Reply};
 
@@ -27,7 +27,7 @@ pub fn is_end(call: &Call) -> bool
     matches!(call, Call::Commit | Call::Abort | Call::Settle)
 }
 
-// Whether a call leaves its caller without a transaction that takes calls, if it is done.
+// Whether its caller's transaction takes no calls after a call, if it is done.
 fn is_last(call: &Call) -> bool
     ensures { result ≡ is_last call.now }
 {
@@ -37,15 +37,15 @@ fn is_last(call: &Call) -> bool
     )
 }
 
-// Whether a caller has a transaction that takes calls after a call.
-pub fn is_taking_after(taking: bool, call: &Call, reply: &Reply) -> bool
-    ensures { result ≡ is_taking_after taking call.now reply.now }
+// Whether a caller has a live transaction that takes calls, after a call.
+pub fn takes_after(takes: bool, call: &Call, reply: &Reply) -> bool
+    ensures { result ≡ takes_after takes call.now reply.now }
 {
     if matches!(reply, Reply::Media) {
-        return taking && !matches!(call, Call::Commit | Call::Settle);
+        return takes && !matches!(call, Call::Commit | Call::Settle);
     }
     if is_refusal(reply) {
-        return taking;
+        return takes;
     }
     !is_last(call)
 }
