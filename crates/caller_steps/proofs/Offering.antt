@@ -33,7 +33,7 @@ not_first caller first callers out =
     (λ same. true≢false (sym (eq-eqb caller first same) ∙ parts.0), parts.1)
 
 -- one of a list with the first one or without it
-in_if : (caller first : ℕ) (rest : List ℕ) (b : Bool) → caller ≢ first → is_in caller (cond b (first ∷ rest) rest) ≡ is_in caller rest
+pub in_if : (caller first : ℕ) (rest : List ℕ) (b : Bool) → caller ≢ first → is_in caller (cond b (first ∷ rest) rest) ≡ is_in caller rest
 in_if caller first rest true ne = ap (λ (b : Bool). b || is_in caller rest) (ne_eqb caller first ne)
 in_if caller first rest false ne = refl
 

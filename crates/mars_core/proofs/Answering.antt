@@ -53,7 +53,7 @@ use Rattle.mars_core.proofs.Indexing.{IsWithin, InsertsNone, is_within, indexes_
 use Rattle.mars_core.proofs.Mirroring.{IsOfTable, scan_after, mirrors_granted, same_table, answers}
 use Rattle.mars_core.proofs.Rooming.{fits_is, log_lacks, slot_lacks, page_lacks, named_is}
 use Rattle.mars_core.proofs.Entering.{index_room, room_granted}
-use Rattle.mars_core.proofs.Idle.{no_calls, idle_after, idle_still, gone_at, gone_same}
+use Rattle.mars_core.proofs.Idle.{no_calls, idle_after, idle_still}
 use Rattle.mars_core.proofs.Prefixes.{StoreLaws, sound_after, safe_dead, safe_alive}
 use Rattle.mars_core.proofs.Stepping.{ShowsPages, or_false, or_true, media_none, moves_refused, moves_granted, step_of, asks_at, steps_of, time_same, counts_is, saves_at, returns_at, enters_at}
 
@@ -343,7 +343,6 @@ module _ (tells : Bool) (Opens : Shape → List ℕ → List ℕ → Type 0) (in
 
     pub granted_keeps : IsKept tells Opens index q count' rows new
     granted_keeps = record {
-      gone = gone_at s new t offers un (λ u ne. ap (λ (f : ℕ → Option Granted). f u) live ∙ update_apart s.live t (Some (calls ++ (call, answer) ∷ [])) u ne) kept.gone;
       seats = same_count ∙ kept.seats ∙ sym (ap (λ (h : Shape). h.numbers) works.shape);
       in_order = kept.in_order;
       idle = λ _. idle_after p.store.ranges q.store.ranges s.live new.live t works.others (kept.idle alive) (Some (calls ++ (call, answer) ∷ [])) live (λ e. absurd (no_calls (calls ++ (call, answer) ∷ []) e));
@@ -432,7 +431,6 @@ module _ (tells : Bool) (Opens : Shape → List ℕ → List ℕ → Type 0) (in
 
       well_keeps : IsKept tells Opens index q count' rows new
       well_keeps = record {
-        gone = gone_same s new offers live kept.gone;
         seats = same_count ∙ kept.seats ∙ sym (ap (λ (h : Shape). h.numbers) works.shape);
         in_order = kept.in_order;
         idle = λ _. idle_still p.store.ranges q.store.ranges s.live new.live t works.others (kept.idle alive) calls is live;
@@ -460,7 +458,6 @@ module _ (tells : Bool) (Opens : Shape → List ℕ → List ℕ → Type 0) (in
 
     media_keeps : IsKept tells Opens index q count' rows new
     media_keeps = record {
-      gone = gone_same s new offers live kept.gone;
       seats = same_count ∙ kept.seats ∙ sym (ap (λ (h : Shape). h.numbers) works.shape);
       in_order = kept.in_order;
       idle = λ living. absurd (false≢true (sym living ∙ (works.dies refl).0));

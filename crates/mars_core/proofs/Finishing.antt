@@ -25,8 +25,7 @@ use Rattle.history.specs.declared.call.Reply.TheVariants as reply
 use Rattle.history.specs.declared.transaction.Done.{Done}
 use Rattle.history.proofs.OneMore.{records-push}
 use Rattle.history.proofs.Pending.{left_is_written}
-use Rattle.page_store.specs.Pairs.{found}
-use Rattle.record_table.specs.State.{TableState, Keys, seen_by}
+use Rattle.record_table.specs.State.{TableState, seen_by}
 use Rattle.record_table.specs.Causes.{Cause}
 use Rattle.record_table.specs.Calls.{after}
 use Rattle.record_table.specs.Does.{Does, OpensWith}
@@ -47,7 +46,7 @@ use Rattle.mars_core.specs.Held.{core_over}
 use Rattle.mars_core.specs.Kept.{Mirrors, HasHeld, IsTied, IsKept}
 use Rattle.mars_core.proofs.Mirroring.{with_one_here, mirrors_at, apart}
 use Rattle.mars_core.proofs.Entering.{room_empty}
-use Rattle.mars_core.proofs.Idle.{idle_after, gone_at}
+use Rattle.mars_core.proofs.Idle.{idle_after}
 use Rattle.mars_core.proofs.Prefixes.{StoreLaws, prefix_all, prefix_more, sound_after, safe_dead, safe_alive}
 use Rattle.mars_core.proofs.Stepping.{ShowsPages, or_false, or_true, step_of, steps_of, steps_same, time_same}
 
@@ -198,7 +197,6 @@ module _ (tells : Bool) (Opens : Shape → List ℕ → List ℕ → Type 0) (in
 
     pub committed_keeps : q.store.ranges t ≡ None → IsKept tells Opens index q count' rows new
     committed_keeps free = record {
-      gone = gone_at s new t offers un (λ u ne. ap (λ (f : ℕ → Option Granted). f u) live ∙ update_apart s.live t None u ne) kept.gone;
       seats = same_count ∙ kept.seats ∙ sym (ap (λ (h : Shape). h.numbers) does.shape);
       in_order = kept.in_order;
       idle = λ _. idle_after p.store.ranges q.store.ranges s.live new.live t (λ u ne. (does.others u ne).0) (kept.idle alive) None live (λ _. ap (λ (o : Option (List (ℕ × ℕ))). listed o) free);
@@ -253,7 +251,6 @@ module _ (tells : Bool) (Opens : Shape → List ℕ → List ℕ → Type 0) (in
 
     pub doubted_keeps : IsKept tells Opens index q count' rows new
     doubted_keeps = record {
-      gone = gone_at s new t offers un (λ u ne. ap (λ (f : ℕ → Option Granted). f u) live ∙ update_apart s.live t None u ne) kept.gone;
       seats = same_count ∙ kept.seats ∙ sym (ap (λ (h : Shape). h.numbers) does.shape);
       in_order = kept.in_order;
       idle = λ living. absurd (false≢true (sym living ∙ (does.dies refl).0));
@@ -316,7 +313,6 @@ module _ (tells : Bool) (Opens : Shape → List ℕ → List ℕ → Type 0) (in
 
       pub aborted_keeps : q.store.ranges t ≡ None → IsKept tells Opens index q count' rows new
       aborted_keeps free = record {
-        gone = gone_at s new t offers un (λ u ne. ap (λ (f : ℕ → Option Granted). f u) live ∙ update_apart s.live t None u ne) kept.gone;
         seats = same_count ∙ kept.seats ∙ sym (ap (λ (h : Shape). h.numbers) does.shape);
         in_order = kept.in_order;
         idle = λ _. idle_after p.store.ranges q.store.ranges s.live new.live t (λ u ne. (does.others u ne).0) (kept.idle alive) None live (λ _. ap (λ (o : Option (List (ℕ × ℕ))). listed o) free);

@@ -34,7 +34,6 @@ module _ (tells : Bool) (Opens : Shape → List ℕ → List ℕ → Type 0) (in
       let s = state_at index p.store names base history live offers doubt in
       let same = shown_same index p q gives.state counts in
       subst (λ (x : State). IsKept tells Opens index q n rows x) (sym state_same) (record {
-        gone = kept.gone;
         seats = kept.seats ∙ sym (ap (λ (h : Shape). h.numbers) gives.shape);
         in_order = kept.in_order;
         idle = λ alive t none. ap (λ (f : store.Logs (ℕ × ℕ)). listed (f t)) gives.ranges ∙ kept.idle (sym gives.is_dead ∙ alive) t none;

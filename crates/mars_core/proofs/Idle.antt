@@ -1,13 +1,10 @@
 -- Callers without a live transaction, of which nothing is logged.
 use Rattle.std.proofs.Common.{◌≡◌, ◌≢◌, ℕ, inl, inr, nat_eq, List, [], Option, Some, None, sym, ap, subst, ◌∙◌}
 use Rattle.std.specs.Map.{update}
-use Rattle.std.proofs.lemmas.Bool.{cases_eq, true≢false}
+use Rattle.std.proofs.lemmas.Bool.{cases_eq}
 use Rattle.std.proofs.lemmas.Map.{update_here, update_apart}
 use Rattle.eaw_face.specs.State.{listed}
 use Rattle.history.specs.Table.{Granted}
-use Rattle.caller_steps.specs.State.{State, Offer, unoffered, unsettled}
-use Rattle.caller_steps.specs.Offers.{is_unoffered}
-use Rattle.mars_core.specs.Kept.{Gone}
 
 -- where a number's parts lie, if it is live
 abbrev pub Ranges : Type 0
@@ -34,16 +31,3 @@ module _ (was now : Ranges) (live new : ℕ → Option Granted) (t : ℕ) (other
     | inl e ↦ absurd (no_calls calls (sym has ∙ sym (ap (λ (f : ℕ → Option Granted). f t) is) ∙ ap new (sym e) ∙ none))
     | inr ne ↦ same_at u ne (sym (ap (λ (f : ℕ → Option Granted). f u) is) ∙ none)
   ]
-
--- What a group has committed stays gone where only the transaction of one that has offered nothing changes.
-pub gone_at : (s new : State) (t : ℕ) → new.offers ≡ s.offers → s.offers t ≡ unoffered → ((u : ℕ) → u ≢ t → new.live u ≡ s.live u) → Gone s → Gone new
-gone_at s new t offers un others gone u n at = elim (cases_eq u t) [
-  | inl e ↦ absurd (not_unsettled n (sym un ∙ sym (ap (λ (f : ℕ → Offer). f t) offers) ∙ subst (λ (v : ℕ). new.offers v ≡ unsettled n) e at))
-  | inr ne ↦ others u ne ∙ gone u n (sym (ap (λ (f : ℕ → Offer). f u) offers) ∙ at)
-]
-  where
-    not_unsettled : (n : ℕ) → unoffered ≡ unsettled n → ⊥
-    not_unsettled n e = true≢false (ap is_unoffered e)
-
-pub gone_same : (s new : State) → new.offers ≡ s.offers → new.live ≡ s.live → Gone s → Gone new
-gone_same s new offers live gone u n at = ap (λ (f : ℕ → Option Granted). f u) live ∙ gone u n (sym (ap (λ (f : ℕ → Offer). f u) offers) ∙ at)

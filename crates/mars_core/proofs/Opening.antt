@@ -48,7 +48,7 @@ no_log new idle t = ap (λ (o : Option Granted). unwrap_or o []) (idle t)
 module _ (tells : Bool) (Opens : Shape → List ℕ → List ℕ → Type 0) (index : below.Index) (p r : PagesView) (new_laws : StoreLaws tells Opens r.store) (alive : IsAlive p.store) (sound : IsTrue tells → index.sound p.store.state.bytes)
     (idle : IsTrue tells → (t : ℕ) → ((state_of index p).logs t).writes ≡ []) (unsaved : IsTrue tells → (t : ℕ) → ((state_of index p).logs t).saved ≡ []) (upgrades : Upgrades tells (Opens p.store.shape) index p r (Ok tt))
     (rows : List NamedRows) (are : IsTrue tells → records_in rows ≡ entries (shown.table_of index p.store.state.bytes))
-    (free : (t : ℕ) → p.store.ranges t ≡ None) (seats : Seats) (named : IsTrue tells → seats.names ≡ names_of p.store.state.bytes) (count : length seats.live ≡ p.store.shape.numbers) (none : (t : ℕ) → live_in seats t ≡ None) (unoffered_all : (t : ℕ) → offers_in seats t ≡ unoffered) (history : List Done) (empty : history ≡ []) (doubt : List Done) (sure : doubt ≡ []) where
+    (free : (t : ℕ) → p.store.ranges t ≡ None) (seats : Seats) (named : IsTrue tells → seats.names ≡ names_of p.store.state.bytes) (count : length seats.places ≡ p.store.shape.numbers) (none : (t : ℕ) → live_in seats t ≡ None) (unoffered_all : (t : ℕ) → offers_in seats t ≡ unoffered) (history : List Done) (empty : history ≡ []) (doubt : List Done) (sure : doubt ≡ []) where
   lives : IsAlive r.store
   lives = (upgrades.faults refl).0 ∙ alive
 
@@ -87,9 +87,8 @@ module _ (tells : Bool) (Opens : Shape → List ℕ → List ℕ → Type 0) (in
       room = subst (HasHeld (limits_of r.store.shape)) (sym opened_is) (λ caller g. omega arith);
     }
 
-  pub opened_keeps : IsKept tells Opens index r (length seats.live) rows (state_at index r.store seats.names (table_of rows) history (live_in seats) (offers_in seats) doubt)
+  pub opened_keeps : IsKept tells Opens index r (length seats.places) rows (state_at index r.store seats.names (table_of rows) history (live_in seats) (offers_in seats) doubt)
   opened_keeps = record {
-    gone = λ u n at. none u;
     seats = count ∙ sym (ap (λ (h : Shape). h.numbers) upgrades.shape);
     in_order = λ told. base_rows (shown.table_of index p.store.state.bytes) rows (are told);
     idle = λ _ t none. ap (λ (o : Option (List (ℕ × ℕ))). listed o) (still_free t);

@@ -176,7 +176,6 @@ module _ (tells : Bool) (Opens : Shape → List ℕ → List ℕ → Type 0) (in
 
       pub purged_keeps : IsKept tells Opens index q count rows (state_at index q.store seats.names base history (live_in seats) (offers_in seats) doubt)
       purged_keeps = record {
-        gone = kept.gone;
         seats = kept.seats ∙ ap (λ (x : Shape). x.numbers) (sym clears.shape);
         in_order = kept.in_order;
         idle = λ living u none. clears.ranges (not_failed living) u ∙ kept.idle alive u none;

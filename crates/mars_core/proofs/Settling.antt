@@ -45,7 +45,7 @@ use Rattle.caller_steps.proofs.Grouped.{group_whole}
 use Rattle.caller_steps.proofs.Leaving.{group_records, calls_in_group, calls_apart}
 use Rattle.mars_core.specs.Over.{limits_of, index_with}
 use Rattle.mars_core.specs.Held.{core_over}
-use Rattle.mars_core.specs.Kept.{Mirrors, HasHeld, Gone, IsTied, IsKept}
+use Rattle.mars_core.specs.Kept.{Mirrors, HasHeld, IsTied, IsKept}
 use Rattle.mars_core.proofs.Prefixes.{StoreLaws, prefix_all, prefix_more, sound_after, safe_dead, safe_alive}
 use Rattle.mars_core.proofs.Stepping.{ShowsPages, or_false, or_true, step_of, steps_of, steps_same}
 use Rattle.mars_core.proofs.Staying.{update_same}
@@ -191,21 +191,8 @@ module _ (tells : Bool) (Opens : Shape → List ℕ → List ℕ → Type 0) (in
         go false out = ap (λ (o : Option (List (ℕ × ℕ))). listed o) (does.others u out).0
             ∙ kept.idle alive u (sym ((group_apart s end os u out).live) ∙ sym (ap (λ (f : ℕ → Option Granted). f u) live) ∙ none)
 
-    -- one that a group has committed is not live
-    gone_new : Gone new
-    gone_new u n at = elim (cases_Bool (is_in u os)) [
-      | inl is ↦ ap (λ (f : ℕ → Option Granted). f u) live ∙ (group_ends s end os u (offerers_once p.store.shape.numbers s) is).live
-      | inr out ↦ (
-        let apart = group_apart s end os u out in
-        ap (λ (f : ℕ → Option Granted). f u) live ∙ apart.live ∙ kept.gone u n (sym apart.offer ∙ sym (offers_apart group.offers t unoffered u (λ same. apart_from u same out)) ∙ sym (ap (λ (f : ℕ → Offer). f u) offers) ∙ at))
-    ]
-      where
-        apart_from : (u : ℕ) → u ≡ t → is_in u os ≡ false → ⊥
-        apart_from u same out = true≢false (sym (subst (λ (v : ℕ). is_in v os ≡ true) (sym same) (offerer_is p.store.shape.numbers s t inside has)) ∙ out)
-
     pub settled_keeps : IsKept tells Opens index q count' rows new
     settled_keeps = record {
-      gone = gone_new;
       seats = same_count ∙ kept.seats ∙ sym (ap (λ (h : Shape). h.numbers) does.shape);
       in_order = kept.in_order;
       idle = λ _. idle_new;
@@ -252,15 +239,8 @@ module _ (tells : Bool) (Opens : Shape → List ℕ → List ℕ → Type 0) (in
     safe_lost told = let was = kept.tied told alive in
         safe_dead tells Opens index one p q old_laws new_laws told does.shape alive was.index_sound s new (history_whole s was.sound) was.mirrors.table base history (time_lost told)
 
-    gone_lost : Gone new
-    gone_lost u n at = elim (cases_Bool (is_in u os)) [
-      | inl is ↦ ap (λ (f : ℕ → Option Granted). f u) live ∙ (without_ends s os u (offerers_once p.store.shape.numbers s) is).live
-      | inr out ↦ (let apart = without_apart s os u out in ap (λ (f : ℕ → Option Granted). f u) live ∙ apart.live ∙ kept.gone u n (sym apart.offer ∙ sym (ap (λ (f : ℕ → Offer). f u) offers) ∙ at))
-    ]
-
     pub lost_keeps : IsKept tells Opens index q count' rows new
     lost_keeps = record {
-      gone = gone_lost;
       seats = same_count ∙ kept.seats ∙ sym (ap (λ (h : Shape). h.numbers) does.shape);
       in_order = kept.in_order;
       idle = λ living. absurd (false≢true (sym living ∙ (does.dies refl).0));
@@ -297,9 +277,8 @@ module _ (tells : Bool) (Opens : Shape → List ℕ → List ℕ → Type 0) (in
       safe_kept : IsSafe (core_over Opens index p.store new) p.store.moment (length new.history)
       safe_kept = safe_alive tells Opens index p laws new told alive tied_kept
 
-    pub offer_keeps : Gone new → IsKept tells Opens index p count' rows new
-    offer_keeps gone = record {
-      gone = gone;
+    pub offer_keeps : IsKept tells Opens index p count' rows new
+    offer_keeps = record {
       seats = same_count ∙ kept.seats;
       in_order = kept.in_order;
       idle = λ living u none. kept.idle living u (sym (ap (λ (f : ℕ → Option Granted). f u) live) ∙ none);
@@ -317,32 +296,21 @@ module _ (tells : Bool) (Opens : Shape → List ℕ → List ℕ → Type 0) (in
 
     pub given_keeps : IsKept tells Opens index p count' rows new
     given_keeps = offer_keeps call.Offer Fine (ap (λ (x : State). x.live) new_is) (ap (λ (x : State). x.base) new_is) (ap (λ (x : State). x.names) new_is) (ap (λ (x : State). x.history) new_is) (ap (λ (x : State). x.index) new_is) step_given
-        (λ u n at. elim (cases_eq u t) [
-          | inl e ↦ absurd (not_unsettled n (sym (ap (λ (x : State). x.offers t) new_is ∙ offers_here s.offers t offered) ∙ subst (λ (v : ℕ). new.offers v ≡ unsettled n) e at))
-          | inr ne ↦ ap (λ (x : State). x.live u) new_is ∙ kept.gone u n (sym (ap (λ (x : State). x.offers u) new_is ∙ offers_apart s.offers t offered u ne) ∙ at)
-        ])
-      where
-        not_unsettled : (n : ℕ) → offered ≡ unsettled n → ⊥
-        not_unsettled n e = true≢false (ap is_offered e)
 
     pub given_steps : Steps tells t call.Offer (core_over Opens index p.store s) (core_over Opens index p.store new) Fine
     given_steps = offer_steps call.Offer Fine (ap (λ (x : State). x.live) new_is) (ap (λ (x : State). x.base) new_is) (ap (λ (x : State). x.names) new_is) (ap (λ (x : State). x.history) new_is) (ap (λ (x : State). x.index) new_is) step_given
         (fate_moves p.store.shape.numbers s t call.Offer Fine new (given calls un refl refl is new_is)) refl
 
   -- a caller whose transaction a group has committed is told its number
-  module _ (n : ℕ) (has : s.offers t ≡ unsettled n) (settles : new ≡ with_offer s t unoffered) where
+  module _ (n : ℕ) (has : s.offers t ≡ unsettled n) (none : s.live t ≡ None) (settles : new ≡ with_offer s t unoffered) where
     new_is : new ≡ with_offer (with_live s t None) t unoffered
-    new_is = settles ∙ (λ i. record (with_offer s t unoffered) { live = sym (update_same s.live t None (kept.gone t n has)) i })
+    new_is = settles ∙ (λ i. record (with_offer s t unoffered) { live = sym (update_same s.live t None none) i })
 
     step_told : IsTrue tells → Step (limits_of p.store.shape) s t call.Settle (Committed n) new
     step_told _ = step_by (limits_of p.store.shape) (unsettled n) s new t call.Settle (Committed n) (shows.dead ∙ alive) has (refl, new_is)
 
     pub told_keeps : IsKept tells Opens index p count' rows new
     told_keeps = offer_keeps call.Settle (Committed n) (ap (λ (x : State). x.live) settles) (ap (λ (x : State). x.base) settles) (ap (λ (x : State). x.names) settles) (ap (λ (x : State). x.history) settles) (ap (λ (x : State). x.index) settles) step_told
-        (λ u m at. elim (cases_eq u t) [
-          | inl e ↦ ap (λ (x : State). x.live u) settles ∙ ap s.live e ∙ kept.gone t n has
-          | inr ne ↦ ap (λ (x : State). x.live u) settles ∙ kept.gone u m (sym (ap (λ (x : State). x.offers u) settles ∙ offers_apart s.offers t unoffered u ne) ∙ at)
-        ])
 
     pub told_steps : Steps tells t call.Settle (core_over Opens index p.store s) (core_over Opens index p.store new) (Committed n)
     told_steps = offer_steps call.Settle (Committed n) (ap (λ (x : State). x.live) settles) (ap (λ (x : State). x.base) settles) (ap (λ (x : State). x.names) settles) (ap (λ (x : State). x.history) settles) (ap (λ (x : State). x.index) settles) step_told

@@ -36,7 +36,7 @@ use Rattle.mars_core.specs.Works.{HasSaves, IsSaveRefusal, IsShown}
 use Rattle.mars_core.proofs.Touching.{both}
 use Rattle.mars_core.proofs.Mirroring.{IsOfTable, calls_there, mirrors_at, saves_are, has_saves}
 use Rattle.mars_core.proofs.Entering.{room_empty}
-use Rattle.mars_core.proofs.Idle.{no_calls, idle_after, gone_at}
+use Rattle.mars_core.proofs.Idle.{no_calls, idle_after}
 use Rattle.mars_core.proofs.Prefixes.{StoreLaws, safe_alive}
 use Rattle.mars_core.proofs.Stepping.{ShowsPages, or_false, step_of, asks_at, steps_same, steps_of, counts_is, saves_at}
 
@@ -213,7 +213,6 @@ module _ (tells : Bool) (Opens : Shape → List ℕ → List ℕ → Type 0) (in
   -- a begin
   pub begun_keeps : IsKept tells Opens index p count' rows new
   begun_keeps = record {
-    gone = gone_at s new t (ap (λ (x : State). x.offers) begins) un (λ u ne. ap (λ (f : ℕ → Option Granted). f u) live_is ∙ update_apart s.live t (Some []) u ne) kept.gone;
     seats = same_count ∙ kept.seats;
     in_order = kept.in_order;
     idle = λ living. idle_after p.store.ranges p.store.ranges s.live new.live t (λ u ne. refl) (kept.idle living) (Some []) live_is (λ e. absurd (no_calls [] e));

@@ -11,7 +11,7 @@ use Rattle.history.specs.Rows.{NamedRows, records_in, table_of}
 use Rattle.record_table.specs.State.{TableState}
 use Rattle.record_table.specs.Names.{names_of}
 use Rattle.record_table.specs.Shown.{state_of}
-use Rattle.caller_steps.specs.State.{State, unsettled, calls_of, records_of}
+use Rattle.caller_steps.specs.State.{State, calls_of, records_of}
 use Rattle.caller_steps.specs.Room.{Limits, held_on}
 use Rattle.caller_steps.specs.Sound.{IsSound}
 use Rattle.caller_steps.specs.Core.{IsSafe}
@@ -35,16 +35,11 @@ pub record IsTied (index : Index) (pages : PagesView) (state : State) : Type 0 w
   pub sound : IsSound state
   pub room : HasHeld (limits_of pages.store.shape) state
 
--- what a group has committed is no longer live, also before its caller has settled
-abbrev pub Gone : State → Type 0
-Gone state = (caller n : ℕ) → state.offers caller ≡ unsettled n → state.live caller ≡ None
-
 -- There is a seat for each number. The rows at the opening are those of a table. A caller without a live transaction has nothing logged, over
--- any store, and what a group has committed is not live. What the records show is tied to the state. Whatever may be left now opens with the whole history.
+-- any store. What the records show is tied to the state. Whatever may be left now opens with the whole history.
 pub record IsKept (tells : Bool) (Opens : Shape → List ℕ → List ℕ → Type 0) (index : Index) (pages : PagesView) (count : ℕ) (rows : List NamedRows) (state : State) : Type 0 where
   pub seats : count ≡ pages.store.shape.numbers
   pub in_order : IsTrue tells → entries (table_of rows) ≡ records_in rows
   pub idle : IsAlive pages.store → (t : ℕ) → state.live t ≡ None → listed (pages.store.ranges t) ≡ []
-  pub gone : Gone state
   pub tied : IsTrue tells → IsAlive pages.store → IsTied index pages state
   pub safe : IsTrue tells → IsSafe (core_over Opens index pages.store state) pages.store.moment (length state.history)

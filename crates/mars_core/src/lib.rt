@@ -16,6 +16,7 @@ mod offer;
 mod purging;
 mod reading;
 mod replies;
+mod seat;
 mod seats;
 mod table_call;
 mod turns;

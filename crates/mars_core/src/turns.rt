@@ -1,5 +1,5 @@
 // Callers by turns over records.
-ghost use Rattle.std.specs.Prelude.{◌≡◌, ◌<◌, ◌≤◌, ◌⊎◌, [], ℕ, None, Ok, IfOk, IfErr, IsTrue, IsFalse, is_some, length, slice_index_or};
+ghost use Rattle.std.specs.Prelude.{◌≡◌, ◌+◌, ◌<◌, ◌≤◌, ◌⊎◌, [], ℕ, None, Ok, IfOk, IfErr, OnErr, IsTrue, IsFalse, is_some, length, slice_index_or, vec_capacity};
 ghost use Rattle.std.specs.FinMap.{entries};
 ghost use Rattle.history.specs.Rows.{records_in};
 ghost use Rattle.eaw_face.specs.Causes.{IsAlive};
@@ -37,6 +37,7 @@ use crate::live::Live;
 use crate::locks::Locks;
 use crate::offer::Offer;
 use crate::purging::{clear, stopped};
+use crate::seat::Ending;
 use crate::seats::Seats;
 use crate::table_call::{Asked, TableCall};
 use caller_steps::{Core as Steps, PurgeFault};
@@ -48,6 +49,7 @@ use record_slots::{Name, Names};
 use record_table::Records;
 use std::alloc::Global;
 use std::marker::Model;
+use std::mem::replace;
 
 /// Callers that take turns on records over a store, under an index. Each call locks the stripe of its key in its table (of 64), and a scan all
 /// stripes, until the transaction ends: a get and a scan beside other readers, a put and a removal alone.
@@ -72,7 +74,7 @@ impl<S: EawStore, K: KeyIndex> Model for Core<S, K> {
 
     ghost view = { λ c. record { records = c.records; base = c.base; seats = c.seats; history = c.history; doubt = c.doubt } };
 
-    ghost invariant = { λ c. IsKept S.tells S.opens K.index (pages_of (S.view c.records.store) c.records) (length c.seats.live) c.base
+    ghost invariant = { λ c. IsKept S.tells S.opens K.index (pages_of (S.view c.records.store) c.records) (length c.seats.places) c.base
         (state_over K.index (S.view c.records.store) (record { records = c.records; base = c.base; seats = c.seats; history = c.history; doubt = c.doubt })) };
 }
 
@@ -102,10 +104,9 @@ impl<S: EawStore, K: KeyIndex> Core<S, K> {
         &self.base
     }
 
-    /// The transactions whose commit met a fault of the medium: at most one.
+    /// The transactions whose commit met a fault of the medium: one that was committed alone, or a group.
     pub fn doubt(&self) -> &[Done]
-        ensures all { result.now ≡ self.now.doubt }
-        ensures few { length result.now ≤ 1 }
+        ensures { result.now ≡ self.now.doubt }
     {
         self.doubt.as_slice()
     }
@@ -264,7 +265,12 @@ impl<S: EawStore, K: KeyIndex> Core<S, K> {
         let Live { calls, masks } = live;
         let calls = calls.fitted();
         // The history takes the transaction first, so that nothing is committed that there is no memory to keep.
-        match self.history.push(Done { caller, calls, at, last: at }) {
+        match self.history.push(Done {
+            caller,
+            calls,
+            at,
+            last: at,
+        }) {
             Ok(()) => {}
             Err(failed) => {
                 let calls = failed.value.calls;
@@ -316,10 +322,10 @@ impl<S: EawStore, K: KeyIndex> Core<S, K> {
         ensures not_busy { IsFalse (is_busy result) }
         ensures begun { IsFalse (is_refusal result) → IsTrue (takes_calls (core_of S.opens K.index (S.view self.old.records.store) self.old).state caller) }
     {
-        if !self.seats.is_live(caller) {
+        let Some(live) = self.seats.take(caller) else {
             return Reply::NoTransaction;
-        }
-        self.seats.set_offer(caller, Offer::Offered);
+        };
+        self.seats.put_offered(caller, live);
         Reply::Fine
     }
 
@@ -359,9 +365,26 @@ impl<S: EawStore, K: KeyIndex> Core<S, K> {
         ensures sends { Mirrors S.tells (S.view self.old.records.store) (S.view self.new.records.store) }
         ensures not_busy { IsFalse (is_busy result) }
     {
-        // Not yet written: the room for the group, the group itself, and its commit.
-        let _caller = caller;
-        Reply::NoMemory
+        let (callers, count) = self.seats.offered();
+        // There is room for the group before its commit, so that nothing is committed that there is no memory to keep.
+        let Ok((mut history, mut doubt)) = rooms(self.alloc, &mut self.history, count) else {
+            return Reply::NoMemory;
+        };
+        let before = history.len() as u64;
+        let last = before + count as u64;
+        match self.records.commit_group(callers) {
+            Ok(()) => {
+                self.seats.take_offered(Ending::Committed, before, last, &mut history);
+                self.history = History::from(history);
+                Reply::Committed(self.seats.settle(caller))
+            }
+            Err(fault) => {
+                self.seats.take_offered(Ending::Doubtful, before, last, &mut doubt);
+                self.history = History::from(history);
+                self.doubt = Doubt::holding_group(doubt);
+                Reply::from(fault)
+            }
+        }
     }
 
     // Answers a caller that has offered its transaction: it settles, or is refused.
@@ -383,12 +406,12 @@ impl<S: EawStore, K: KeyIndex> Core<S, K> {
         }
     }
 
-    // Answers a caller whose offered transaction a group has committed with this number: it is told that, or is refused.
+    // Answers a caller whose offered transaction a group has committed: it is told its number, or is refused.
     #[tactic(auto, using(crate::proofs::GivingUp::sends_none))]
-    fn make_committed(&mut self, caller: u8, call: &Call, at: u64) -> Reply
+    fn make_committed(&mut self, caller: u8, call: &Call) -> Reply
         requires inside { caller < (S.view self.old.records.store).shape.numbers }
         requires alive { IsAlive (S.view self.old.records.store) }
-        requires committed { offers_in self.old.seats caller ≡ unsettled at }
+        requires committed { (n : ℕ) × (offers_in self.old.seats caller ≡ unsettled n) }
         ensures steps { Steps S.tells caller call.now (core_of S.opens K.index (S.view self.old.records.store) self.old)
             (core_of S.opens K.index (S.view self.new.records.store) self.new) result }
         ensures sends { Mirrors S.tells (S.view self.old.records.store) (S.view self.new.records.store) }
@@ -397,10 +420,7 @@ impl<S: EawStore, K: KeyIndex> Core<S, K> {
     {
         match call {
             Call::Begin => Reply::Already,
-            Call::Settle => {
-                self.seats.set_offer(caller, Offer::Nothing);
-                Reply::Committed(at)
-            }
+            Call::Settle => Reply::Committed(self.seats.settle(caller)),
             _ => Reply::NoTransaction,
         }
     }
@@ -423,7 +443,7 @@ impl<S: EawStore, K: KeyIndex> Core<S, K> {
         match self.seats.offer(caller) {
             Offer::Nothing => self.make_open(caller, call, locks),
             Offer::Offered => self.make_offered(caller, call),
-            Offer::Committed { at } => self.make_committed(caller, call, at),
+            Offer::Committed { .. } => self.make_committed(caller, call),
         }
     }
 }
@@ -456,6 +476,25 @@ impl<S: EawStore, K: KeyIndex> Steps for Core<S, K> {
 
     fn history(&self) -> &History {
         &self.history
+    }
+}
+
+// The history in a vector, and an empty one, each with room for so many more. Without memory the history stays.
+fn rooms(alloc: Global, history: &mut History, more: usize) -> Result<(Vec<Done>, Vec<Done>), NoMemory>
+    ensures items { IfOk result (λ made. made.0.items ≡ history.old) }
+    ensures room { IfOk result (λ made. length made.0.items + more ≤ vec_capacity made.0) }
+    ensures empty { IfOk result (λ made. made.1.items ≡ []) }
+    ensures second_room { IfOk result (λ made. more ≤ vec_capacity made.1) }
+    ensures err { OnErr result (history.new ≡ history.old) }
+{
+    let empty = Vec::with_capacity(alloc, more)?;
+    let mut items = replace(history, History::new(alloc)).into_items();
+    match items.reserve(more) {
+        Ok(()) => Ok((items, empty)),
+        Err(_) => {
+            *history = History::from(items);
+            Err(NoMemory)
+        }
     }
 }
 

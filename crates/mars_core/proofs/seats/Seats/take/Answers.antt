@@ -16,6 +16,6 @@ returns-clause-out c = subst (λ (o : Option Live). Seated c.args.self.now c.arg
 pub returns-clause-masked : goal.returns-clause-masked
 returns-clause-masked c =
     let found = c.index_mut.result.now in
-    let inside : c.args.caller < length c.self.inside.live.items = subst (λ (s : Seats). c.args.caller < length s.live) (sym c.self.view_is) c.requires in
+    let inside : c.args.caller < length c.self.inside.places.items = subst (λ (s : Seats). c.args.caller < length s.places) (sym c.self.view_is) c.requires in
     let seat = found_seat c.self.inside.names c.self.inside.live.items c.args.caller c.from.result c.from.ensures inside found c.index_mut.ensures.value in
     subst (λ (x : Option Live × Seats). IfSome x.0 (IsMasked x.1.names)) (λ i. (sym c.take.ensures.value i, c.self.view_is i)) (masked_at c.self.inside.names c.self.inside.live.items c.args.caller found seat c.self.invariant.0)

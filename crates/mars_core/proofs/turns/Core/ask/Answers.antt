@@ -53,7 +53,7 @@ invariant_of-self g c =
     let i = c.self.inside in
     let same = nothing i.seats c.take.new.self c.args.caller (calls_in c.take.result) c.take.ensures.live (ap calls_in c.in_default.is) c.take.ensures.out.live in
     kept_same g.S.EawStore.tells g.S.EawStore.opens g.K.KeyIndex.index (pages_of (g.S.EawStore.view i.records.store) i.records) (state_at g.K.KeyIndex.index (g.S.EawStore.view i.records.store) i.seats.names (table_of i.base) i.history (live_in i.seats) (offers_in i.seats) i.doubt) _
-    (length i.seats.live) (length c.take.new.self.live) i.base c.self.invariant c.take.ensures.out.count
+    (length i.seats.places) (length c.take.new.self.places) i.base c.self.invariant c.take.ensures.out.count
     (λ j. state_at g.K.KeyIndex.index (g.S.EawStore.view c.self.inside.records.store) (c.take.ensures.out.names j) (table_of c.self.inside.base) c.self.inside.history (same j) (c.take.ensures.out.offers j) c.self.inside.doubt)
 
 pub returns-in_default : goal.returns-in_default
@@ -65,7 +65,7 @@ returns-in_default g c =
           (core_of g.S.EawStore.opens g.K.KeyIndex.index (g.S.EawStore.view c.self.inside.records.store)
           (record { records = c.self.inside.records; base = c.self.inside.base; seats = c.take.new.self; history = c.self.inside.history; doubt = c.self.inside.doubt })) NoTransaction) c.self.view_is
           (absent_steps g.S.EawStore.tells g.S.EawStore.opens g.K.KeyIndex.index (pages_of (g.S.EawStore.view i.records.store) i.records)
-          (state_at g.K.KeyIndex.index (g.S.EawStore.view i.records.store) i.seats.names (table_of i.base) i.history (live_in i.seats) (offers_in i.seats) i.doubt) (record { indexed = refl; dead = refl }) (length i.seats.live) i.base c.self.invariant
+          (state_at g.K.KeyIndex.index (g.S.EawStore.view i.records.store) i.seats.names (table_of i.base) i.history (live_in i.seats) (offers_in i.seats) i.doubt) (record { indexed = refl; dead = refl }) (length i.seats.places) i.base c.self.invariant
           (subst (λ (h : Held g.row.S.Denot). IsAlive (g.S.EawStore.view h.records.store)) (sym c.self.view_is) c.requires.alive) c.args.caller c.args.call.now (sym c.take.ensures.live ∙ ap calls_in c.in_default.is) (subst (λ (h : Held g.row.S.Denot). offers_in h.seats c.args.caller ≡ unoffered) (sym c.self.view_is) c.requires.unoffered)
           (is_absent_at (limits_of (g.S.EawStore.view i.records.store).shape) (state_at g.K.KeyIndex.index (g.S.EawStore.view i.records.store) i.seats.names (table_of i.base) i.history (live_in i.seats) (offers_in i.seats) i.doubt) c.args.caller c.args.asked c.args.call.now c.requires.said) _
           (λ j. state_at g.K.KeyIndex.index (g.S.EawStore.view c.self.inside.records.store) (c.take.ensures.out.names j) (table_of c.self.inside.base) c.self.inside.history (same j) (c.take.ensures.out.offers j) c.self.inside.doubt));
@@ -92,15 +92,15 @@ invariant_of-self-2 g c =
     let alive = subst (λ (h : Held g.row.S.Denot). IsAlive (g.S.EawStore.view h.records.store)) (sym c.self.view_is) c.requires.alive in
     let count = c.put.ensures.count ∙ c.take.ensures.out.count in
     elim c.answer-live.ensures.answered [
-      | inl unmade ↦ subst (λ (r : Shown g.row.S.Denot). IsKept g.S.EawStore.tells g.S.EawStore.opens g.K.KeyIndex.index (pages_of (g.S.EawStore.view r.store) r) (length c.put.new.self.live) c.self.inside.base
+      | inl unmade ↦ subst (λ (r : Shown g.row.S.Denot). IsKept g.S.EawStore.tells g.S.EawStore.opens g.K.KeyIndex.index (pages_of (g.S.EawStore.view r.store) r) (length c.put.new.self.places) c.self.inside.base
           (state_at g.K.KeyIndex.index (g.S.EawStore.view r.store) c.put.new.self.names (table_of c.self.inside.base) c.self.inside.history (live_in c.put.new.self) (offers_in c.put.new.self) c.self.inside.doubt)) (sym unmade.0)
-          (kept_same T E I p s _ (length i.seats.live) (length c.put.new.self.live) i.base c.self.invariant count
+          (kept_same T E I p s _ (length i.seats.places) (length c.put.new.self.places) i.base c.self.invariant count
           (let back = changed_back (live_in i.seats) t None (Some c.answer-live.result.0.calls) (live_in c.take.new.self) (live_in c.put.new.self) c.take.ensures.out.live c.put.ensures.live (is ∙ ap (λ (cs : Granted). Some cs) (sym unmade.1)) in
           λ j. state_at g.K.KeyIndex.index (g.S.EawStore.view c.self.inside.records.store) ((c.put.ensures.names ∙ c.take.ensures.out.names) j) (table_of c.self.inside.base) c.self.inside.history (back j) ((c.put.ensures.offers ∙ c.take.ensures.out.offers) j) c.self.inside.doubt))
-      | inr made ↦ made_keeps T E I p s (record { indexed = refl; dead = refl }) (length i.seats.live) i.base c.self.invariant alive
+      | inr made ↦ made_keeps T E I p s (record { indexed = refl; dead = refl }) (length i.seats.places) i.base c.self.invariant alive
           (subst (λ (h : Held g.row.S.Denot). IsShown g.S.EawStore.tells g.K.KeyIndex.index (pages_of (g.S.EawStore.view h.records.store) h.records)) (sym c.self.view_is) c.requires.shown)
           t c.args.call.now (is_of_table c.args.asked c.args.call.now c.requires.said) c.in-Some.live.calls is un c.take.new.self None c.take.ensures.out.live c.take.ensures.out.names g.met.S.EawStore.one_data (index_laws g) q (laws_at g i.records.store) (laws_at g c.answer-live.new.records.store)
-          new (record { indexed = refl; dead = refl }) (c.put.ensures.names ∙ c.take.ensures.out.names) (c.put.ensures.offers ∙ c.take.ensures.out.offers) refl refl refl (length c.put.new.self.live) count c.answer-live.result.0.calls
+          new (record { indexed = refl; dead = refl }) (c.put.ensures.names ∙ c.take.ensures.out.names) (c.put.ensures.offers ∙ c.take.ensures.out.offers) refl refl refl (length c.put.new.self.places) count c.answer-live.result.0.calls
           (changed_twice (live_in i.seats) t None (Some c.answer-live.result.0.calls) (live_in c.take.new.self) (live_in c.put.new.self) c.take.ensures.out.live c.put.ensures.live) c.answer-live.result.1 made
     ]
 
@@ -138,14 +138,14 @@ returns g c =
                 (record { records = c.self.inside.records; base = c.self.inside.base; seats = c.self.inside.seats; history = c.self.inside.history; doubt = c.self.inside.doubt }))
                 (core_of g.S.EawStore.opens g.K.KeyIndex.index (g.S.EawStore.view r.store)
                 (record { records = r; base = c.self.inside.base; seats = c.put.new.self; history = c.self.inside.history; doubt = c.self.inside.doubt })) c.answer-live.result.1) (sym unmade.0)
-                (unmade_steps T E I p s (record { indexed = refl; dead = refl }) (length i.seats.live) i.base c.self.invariant alive shown t c.args.call.now (is_of_table c.args.asked c.args.call.now c.requires.said) c.in-Some.live.calls is un
+                (unmade_steps T E I p s (record { indexed = refl; dead = refl }) (length i.seats.places) i.base c.self.invariant alive shown t c.args.call.now (is_of_table c.args.asked c.args.call.now c.requires.said) c.in-Some.live.calls is un
                 c.take.new.self None c.take.ensures.out.live c.take.ensures.out.names _
                 (let back = changed_back (live_in i.seats) t None (Some c.answer-live.result.0.calls) (live_in c.take.new.self) (live_in c.put.new.self) c.take.ensures.out.live c.put.ensures.live (is ∙ ap (λ (cs : Granted). Some cs) (sym unmade.1)) in
                 λ j. state_at g.K.KeyIndex.index (g.S.EawStore.view c.self.inside.records.store) ((c.put.ensures.names ∙ c.take.ensures.out.names) j) (table_of c.self.inside.base) c.self.inside.history (back j) ((c.put.ensures.offers ∙ c.take.ensures.out.offers) j) c.self.inside.doubt)
                 c.answer-live.result.1 unmade.2)
-            | inr made ↦ made_steps T E I p s (record { indexed = refl; dead = refl }) (length i.seats.live) i.base c.self.invariant alive shown
+            | inr made ↦ made_steps T E I p s (record { indexed = refl; dead = refl }) (length i.seats.places) i.base c.self.invariant alive shown
                 t c.args.call.now (is_of_table c.args.asked c.args.call.now c.requires.said) c.in-Some.live.calls is un c.take.new.self None c.take.ensures.out.live c.take.ensures.out.names g.met.S.EawStore.one_data (index_laws g) q (laws_at g i.records.store) (laws_at g c.answer-live.new.records.store)
-                new (record { indexed = refl; dead = refl }) (c.put.ensures.names ∙ c.take.ensures.out.names) (c.put.ensures.offers ∙ c.take.ensures.out.offers) refl refl refl (length c.put.new.self.live) count c.answer-live.result.0.calls
+                new (record { indexed = refl; dead = refl }) (c.put.ensures.names ∙ c.take.ensures.out.names) (c.put.ensures.offers ∙ c.take.ensures.out.offers) refl refl refl (length c.put.new.self.places) count c.answer-live.result.0.calls
                 (changed_twice (live_in i.seats) t None (Some c.answer-live.result.0.calls) (live_in c.take.new.self) (live_in c.put.new.self) c.take.ensures.out.live c.put.ensures.live) c.answer-live.result.1 made
           ]);
       begun = λ _. subst (λ (h : Held g.row.S.Denot). takes_calls (core_of g.S.EawStore.opens g.K.KeyIndex.index (g.S.EawStore.view h.records.store) h).state c.args.caller ≡ true) c.self.view_is (λ j. is_unoffered (un j) && is_some (is j));
