@@ -594,25 +594,18 @@ turns_owner limits callers first now turns a all free certain = owners callers n
     no_calls (commits_of caller now.doubt) (known.doubt ∙ ap (λ (o : Own). doubt_in o (now.offers caller)) own ∙ ap (doubt_in nothing_own) (idle.none refl)))
 
 -- the reply to a commit has the next number
-pub number_of_commit : (limits : Limits) (old : State) (caller : ℕ) (new : State) (reply : Reply) → Step limits old caller call.Commit reply new → is_committed reply ≡ true → reply ≡ Committed (length old.history + 1)
-number_of_commit limits old caller new reply step is = go (step_fate limits old caller new call.Commit reply step)
+pub number_of_commit : (limits : Limits) (old : State) (caller : ℕ) (what : Call) (new : State) (reply : Reply) → (what ≡ call.Settle → ⊥) → Step limits old caller what reply new → is_committed reply ≡ true → reply ≡ Committed (length old.history + 1)
+number_of_commit limits old caller what new reply plain step is = go (step_fate limits old caller new what reply step)
   where
-    not_settle : call.Commit ≡ call.Settle → ⊥
-    not_settle e = true≢false (ap (λ (c : Call). is_plain_commit c) e)
-      where
-        is_plain_commit : Call → Bool
-        is_plain_commit call.Commit = true
-        is_plain_commit _ = false
-
-    go : Fate limits.callers old caller call.Commit reply new → reply ≡ Committed (length old.history + 1)
+    go : Fate limits.callers old caller what reply new → reply ≡ Committed (length old.history + 1)
     go (refused refusal sure index e) = absurd (true≢false (sym is ∙ refusal_none reply refusal))
     go (failed apart r index e) = absurd (true≢false (sym is ∙ ap is_committed r))
     go (began un c r e) = absurd (true≢false (sym is ∙ ap is_committed r))
-    go (granted calls un l free answers index e) = absurd (true≢false (sym is ∙ (answer_plain (view_of old caller) call.Commit reply answers).uncommitted))
+    go (granted calls un l free answers index e) = absurd (true≢false (sym is ∙ (answer_plain (view_of old caller) what reply answers).uncommitted))
     go (committed calls un c r l index e) = r
     go (doubted calls un c r l index e) = absurd (true≢false (sym is ∙ ap is_committed r))
     go (aborted un c r e) = absurd (true≢false (sym is ∙ ap is_committed r))
     go (given calls un c r l e) = absurd (true≢false (sym is ∙ ap is_committed r))
-    go (settled inside has c r index e) = absurd (not_settle c)
-    go (unsure inside has c r index e) = absurd (not_settle c)
-    go (told n has c r e) = absurd (not_settle c)
+    go (settled inside has c r index e) = absurd (plain c)
+    go (unsure inside has c r index e) = absurd (plain c)
+    go (told n has c r e) = absurd (plain c)

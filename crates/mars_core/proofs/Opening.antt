@@ -115,7 +115,7 @@ module _ (tells : Bool) (Opens : Shape → List ℕ → List ℕ → Type 0) (in
     shape = upgrades.shape;
     mirrors = upgrades.mirrors;
     state = opened_is;
-    fresh = (empty, none, sure);
+    fresh = (empty, none, sure, unoffered_all);
     sound = sound;
     bytes = upgrades.bytes;
     version = upgrades.version;

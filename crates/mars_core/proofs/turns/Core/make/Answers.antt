@@ -1,11 +1,11 @@
-use Rattle.std.proofs.Common.{◌≡◌, ◌∙◌, ℕ, ◌<◌, true, false, refl, inl, inr, sym, ap, subst, length}
-use Rattle.std.proofs.lemmas.Bool.{false≢true}
+use Rattle.std.proofs.Common.{◌≡◌, ◌∙◌, ℕ, ◌<◌, ◌⊎◌, true, inl, inr, sym, ap, subst}
 use Rattle.page_store.specs.Shown.{pages_of}
 use Rattle.history.specs.Locks.{has_table}
 use Rattle.history.specs.declared.call.Call.{Call}
 use Rattle.history.specs.declared.call.Call.TheVariants as call
+use Rattle.caller_steps.specs.State.{unoffered, offered, unsettled}
 use Rattle.mars_core.specs.Held.{Held}
-use Rattle.mars_core.specs.Seats.{offer_in}
+use Rattle.mars_core.specs.Seats.{offers_in, offer_in}
 use Rattle.mars_core.specs.Works.{IsShown}
 use Rattle.mars_core.proofs.turns.Core.make.Goals as goal
 
@@ -18,6 +18,20 @@ make_open-requires g c = record {
   alive = subst (λ (h : Held g.row.S.Denot). (g.S.EawStore.view h.records.store).is_dead ≡ false) c.self.view_is (sym c.is_dead.ensures.dead ∙ c.if-is_dead.false);
   shown = subst (λ (h : Held g.row.S.Denot). IsShown g.S.EawStore.tells g.K.KeyIndex.index (pages_of (g.S.EawStore.view h.records.store) h.records)) c.self.view_is
       (record { held = c.is_dead.ensures.held; named = c.is_dead.ensures.named });
-  unoffered = ?;
+  unoffered = subst (λ (h : Held g.row.S.Denot). offers_in h.seats c.args.caller ≡ unoffered) c.self.view_is (sym c.offer.ensures ∙ ap offer_in c.in-Nothing.is);
   locked = c.requires.locked;
+}
+
+pub make_offered-requires : goal.make_offered-requires
+make_offered-requires g c = record {
+  inside = c.requires.inside;
+  alive = subst (λ (h : Held g.row.S.Denot). (g.S.EawStore.view h.records.store).is_dead ≡ false) c.self.view_is (sym c.is_dead.ensures.dead ∙ c.if-is_dead.false);
+  offered = subst (λ (h : Held g.row.S.Denot). offers_in h.seats c.args.caller ≡ offered) c.self.view_is (sym c.offer.ensures ∙ ap offer_in c.in-Offered.is);
+}
+
+pub make_committed-requires : goal.make_committed-requires
+make_committed-requires g c = record {
+  inside = c.requires.inside;
+  alive = subst (λ (h : Held g.row.S.Denot). (g.S.EawStore.view h.records.store).is_dead ≡ false) c.self.view_is (sym c.is_dead.ensures.dead ∙ c.if-is_dead.false);
+  committed = subst (λ (h : Held g.row.S.Denot). (n : ℕ) × (offers_in h.seats c.args.caller ≡ unsettled n)) c.self.view_is (c.in-Committed.at, sym c.offer.ensures ∙ ap offer_in c.in-Committed.is);
 }
