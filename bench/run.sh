@@ -11,7 +11,8 @@
 # And of 1,000 records on such a file: their load, a scan of all of them, and a dump. And over the image in memory, of a drawn script of
 # 100,000 transactions a drill beside a run of the same calls, and of 100,000 transactions of one put one, two and four callers that work
 # beside each other, on stripes of their own, beside a run of the same lines. And of puts with frames beside none, and of what follows that
-# output, for 10,000 transactions and for 40,000. Each script is run three times, and the best time counts.
+# output, for 10,000 transactions and for 40,000. And of 100,000 transactions of four callers on threads, of ten calls on 64 keys, of which
+# five in a hundred are puts, or all of them, the share that had to be made again because a key was held. Each script is run three times, and the best time counts.
 # The answers go to a file, and the last is compared, so a run that stops early is no result. A time has the start of the process in it,
 # about a millisecond. The image in memory keeps a record of all its calls, so the peak of memory is that of a run over a file, in a
 # folder that is memory where there is one.
@@ -175,6 +176,28 @@ groups() {
         }'
         rm -f "$image"
     done
+}
+
+# lock_mix TRANSACTIONS PUTS: so many transactions of each of four callers, of ten calls, of a hundred of which so many are puts on 64 keys, and
+# how many had to be made again because a key was held; of a program that `rt run` builds
+lock_mix() {
+    local made=$top/crates/lock_mix/out/lock_mix start again time best=
+    [ -x "$made" ] || {
+        echo "mix: crates/lock_mix is not built"
+        return 0
+    }
+    for _ in 1 2 3; do
+        start=${EPOCHREALTIME/[.,]/}
+        "$made" "$1" "$2" >"$work/answers"
+        time=$((${EPOCHREALTIME/[.,]/} - start))
+        if [ -z "$best" ] || [ "$time" -lt "$best" ]; then
+            best=$time
+            again=$(cut -d " " -f 1 "$work/answers")
+        fi
+    done
+    awk -v puts="$2" -v count="$((4 * $1))" -v again="$again" -v time="$best" 'BEGIN {
+        printf "mix of %d puts in 100 calls: %d transactions, %d a second, %.1f %% made again\n", puts, count, count * 1e6 / time, again * 100 / count
+    }'
 }
 
 # timed FILE WORD..: milliseconds of a run over the image with this input; what it writes goes to $work/answers
@@ -341,6 +364,9 @@ frames 40000
 drills 1 100000
 for callers in 1 2 4; do
     beside "$callers" 100000
+done
+for puts in 5 100; do
+    lock_mix 25000 "$puts"
 done
 [ $# -eq 0 ] || {
     on_file "$1"

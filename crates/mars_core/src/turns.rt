@@ -258,7 +258,12 @@ impl<S: EawStore, K: KeyIndex> Core<S, K> {
         let Live { calls, masks } = live;
         let calls = calls.fitted();
         // The history takes the transaction first, so that nothing is committed that there is no memory to keep.
-        match self.history.push(Done { caller, calls, at, last: at }) {
+        match self.history.push(Done {
+            caller,
+            calls,
+            at,
+            last: at,
+        }) {
             Ok(()) => {}
             Err(failed) => {
                 let calls = failed.value.calls;
