@@ -25,8 +25,7 @@ use Rattle.history.specs.declared.call.Reply.TheVariants as reply
 use Rattle.history.specs.declared.transaction.Done.{Done}
 use Rattle.history.proofs.OneMore.{records-push}
 use Rattle.history.proofs.Pending.{left_is_written}
-use Rattle.page_store.specs.Pairs.{found}
-use Rattle.record_table.specs.State.{TableState, Keys, seen_by}
+use Rattle.record_table.specs.State.{TableState, seen_by}
 use Rattle.record_table.specs.Causes.{Cause}
 use Rattle.record_table.specs.Calls.{after}
 use Rattle.record_table.specs.Does.{Does, OpensWith}

@@ -5,7 +5,6 @@ use Rattle.eaw_face.specs.StoreView.{StoreView}
 use Rattle.page_store.specs.Index.{Index}
 use Rattle.page_store.specs.Shown.{Shown}
 use Rattle.record_table.specs.Does.{OpensWith}
-use Rattle.record_table.specs.Shown.{keys_of}
 use Rattle.history.specs.Rows.{NamedRows, table_of}
 use Rattle.history.specs.Table.{Granted}
 use Rattle.history.specs.Writes.{Table}

@@ -1,9 +1,7 @@
 use Rattle.eaw_face.specs.Mirroring.{Mirrors}
-use Rattle.std.proofs.Common.{◌≡◌, ◌∙◌, ℕ, false, IsTrue, Option, Result, Ok, Err, length, refl, sym, ap, subst}
-use Rattle.eaw_face.specs.Causes.{IsAlive}
-use Rattle.page_store.specs.Shown.{Shown, pages_of}
+use Rattle.std.proofs.Common.{◌≡◌, ◌∙◌, ℕ, Result, Err, length, sym, ap, subst}
+use Rattle.page_store.specs.Shown.{pages_of}
 use Rattle.history.specs.Rows.{table_of}
-use Rattle.record_table.specs.declared.fault.TableFault.{TableFault}
 use Rattle.caller_steps.specs.Purging.{Purges}
 use Rattle.caller_steps.specs.declared.purge_fault.PurgeFault.{PurgeFault}
 use Rattle.mars_core.specs.Held.{Held, core_of}
