@@ -67,7 +67,7 @@ pub fn make_all<R: Wait, C: Core + Drop>(
 ) -> (Pass<C>, u32)
     requires { pass.table ≡ mars.now.table }
 {
-    let mut again = 0;
+    let mut again = 0u32;
     let mut next = mix;
     for _nth in 0..mix.transactions {
         if !make_once(rt, mars, &mut pass, next, value) {
