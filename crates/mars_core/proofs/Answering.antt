@@ -3,7 +3,6 @@ use Rattle.std.proofs.Common.{◌≡◌, ◌≢◌, ◌⊎◌, ℕ, inl, inr, Bo
 use Rattle.std.specs.Prelude.{None, is_some, IsFalse, IsErrOf, IfOk, OnErr}
 use Rattle.std.specs.FinMap.{get}
 use Rattle.std.specs.Map.{update}
-use Rattle.std.proofs.lemmas.Map.{update_apart}
 use Rattle.mars_base.specs.Causes.{Rose}
 use Rattle.std.proofs.lemmas.Bool.{false≢true}
 use Rattle.array_shape.specs.declared.shape.Shape.{Shape}
@@ -186,8 +185,8 @@ listed_is s t Save rows replies = absurd (cc)
 listed_is s t (Back n) rows replies = absurd (let e = replies.1 in cc)
 listed_is s t Commit rows replies = absurd replies
 listed_is s t Abort rows replies = absurd (cc)
-listed_is s t Offer rows replies = absurd (cc)
-listed_is s t Settle rows replies = absurd (cc)
+listed_is s t Offer rows replies = absurd replies
+listed_is s t Settle rows replies = absurd replies
 listed_is s t Begin rows replies = absurd replies
 
 -- a scan whose rows there is no memory to keep has changed nothing

@@ -3,6 +3,7 @@ use Rattle.std.proofs.Common.{◌≡◌, ◌≢◌, ◌<◌, ◌≤◌, ◌+◌,
 use Rattle.std.specs.Prelude.{filter}
 use Rattle.std.specs.List.{range_with_len}
 use Rattle.std.specs.Map.{update}
+use Rattle.std.proofs.Math.ListN.{set}
 use Rattle.std.proofs.lemmas.Bool.{cases_lt, cases_eq}
 use Rattle.std.proofs.lemmas.List.{append_assoc, append-nil}
 use Rattle.std.proofs.lemmas.List.Elements.{filter-append}
@@ -10,14 +11,14 @@ use Rattle.array_shape.specs.NumberSet.{has, numbers_from, members}
 use Rattle.array_shape.specs.declared.number_set.NumberSet.{NumberSet}
 use Rattle.history.specs.Table.{Granted}
 use Rattle.history.specs.declared.transaction.Done.{Done}
-use Rattle.caller_steps.specs.State.{State, Offer, unoffered, unsettled, offers_with, calls_of}
+use Rattle.caller_steps.specs.State.{State, Offer, unsettled, offers_with, calls_of}
 use Rattle.caller_steps.specs.Offers.{is_offered, offerers, done_in, with_done, with_group, group_in, without}
 use Rattle.caller_steps.proofs.Offering.{is_in, in_if, offers_apart, one_out, one_longer, group_apart, without_apart}
 use Rattle.mars_core.specs.declared.seat.Seat.{Seat}
 use Rattle.mars_core.specs.declared.seat.Ending.{Ending}
 use Rattle.mars_core.specs.declared.seat.Ending.TheVariants.{Committed, Doubtful}
-use Rattle.mars_core.specs.Seats.{Seats, seat_in, offer_of, live_in, offers_in, offered_in, calls_in, live_of, bare, seat_of, ended, IsOf, Ends, Given}
-use Rattle.mars_core.proofs.Seating.{free_beyond}
+use Rattle.mars_core.specs.Seats.{Seats, offer_of, live_in, offers_in, offered_in, calls_in, live_of, bare, seat_of, ended, IsOf, Ends, Given}
+use Rattle.mars_core.proofs.Seating.{placed, free_beyond}
 
 -- ---- those of the first numbers that a test finds
 
@@ -50,10 +51,24 @@ module _ (p : ℕ → Bool) where
   grows_by n zero = omega (arith, ap (λ (m : ℕ). length (first m)) (let same : n + 0 ≡ n = omega arith in same))
   grows_by n (suc k) = omega (arith, grows_by n k, grows_if (n + k) (p (n + k)) refl, ap (λ (m : ℕ). length (first m)) (let same : n + k + 1 ≡ n + suc k = omega arith in same))
 
+  -- and at most as many as there are numbers
+  short_if : (n : ℕ) (b : Bool) → p n ≡ b → length (first n) ≤ n → length (first (n + 1)) ≤ n + 1
+  short_if n true is le = omega (arith, le, ap (λ (ns : List ℕ). length ns) (first_with n is), length-append (first n) (n ∷ []))
+  short_if n false is le = omega (arith, le, ap (λ (ns : List ℕ). length ns) (first_without n is))
+
+  pub first_short : (n : ℕ) → length (first n) ≤ n
+  first_short zero = omega arith
+  first_short (suc n) =
+      let next : n + 1 ≡ suc n = omega arith in
+      subst (λ (m : ℕ). length (first m) ≤ m) next (short_if n (p n) refl (first_short n))
+
   -- one that is found is one of them
   pub first_fits : (n all : ℕ) → n < all → p n ≡ true → length (first n) < length (first all)
   first_fits n all lt is = omega (
-    arith, ap (λ (ns : List ℕ). length ns) (first_with n is), length-append (first n) (n ∷ []), grows_by (n + 1) (all - (n + 1)),
+    arith,
+    ap (λ (ns : List ℕ). length ns) (first_with n is),
+    length-append (first n) (n ∷ []),
+    grows_by (n + 1) (all - (n + 1)),
     ap (λ (m : ℕ). length (first m)) (let same : n + 1 + (all - (n + 1)) ≡ all = omega (arith, lt) in same),
   )
 
@@ -65,7 +80,7 @@ module _ (p : ℕ → Bool) where
   pub not_first : (n caller : ℕ) → n ≤ caller → is_in caller (first n) ≡ false
   not_first n caller le = past_from 0 n caller (omega (arith, le))
 
-  -- where the further ones are not found, there are no more of them
+  -- where the further ones are not found, there are idle more of them
   pub first_all : (n k : ℕ) → ((u : ℕ) → n ≤ u → p u ≡ false) → first (n + k) ≡ first n
   first_all n zero none = ap first (let same : n + 0 ≡ n = omega arith in same)
   first_all n (suc k) none = ap first (let same : n + suc k ≡ n + k + 1 = omega arith in same) ∙ first_without (n + k) (none (n + k) (omega arith)) ∙ first_all n k none
@@ -113,13 +128,25 @@ offers_more Committed state last callers caller at is =
     ap (λ (n : ℕ). offers_with (with_group state last callers).offers caller (unsettled n)) is ∙ sym (ap (λ (s : State). s.offers) (group_more state last callers caller))
 offers_more Doubtful state last callers caller at is = sym (ap (λ (s : State). s.offers) (out_more state callers caller))
 
+-- what is left in the seat of one of a group
+no_live : (ending : Ending) (at : ℕ) → live_of (seat_of ending at) ≡ None
+no_live Committed at = refl
+no_live Doubtful at = refl
+
+pub left_in : (ending : Ending) (now left : Seats) (n at : ℕ) (seat : Seat) → n < length now.places → seat ≡ seat_of ending at → left ≡ record now { places = set now.places n seat } → Given now n None (offer_of (seat_of ending at)) left
+left_in ending now left n at seat within is after =
+    subst (λ (s : Seats). Given now n None (offer_of (seat_of ending at)) s) (sym after)
+    (subst (λ (x : Seat). Given now n None (offer_of (seat_of ending at)) (record now { places = set now.places n x })) (sym is)
+    (subst (λ (calls : Option Granted). Given now n calls (offer_of (seat_of ending at)) (record now { places = set now.places n (seat_of ending at) })) (ap calls_in (no_live ending at))
+    (placed now now.names now.places n n refl refl within (seat_of ending at))))
+
 -- ---- the callers, one after another
 
 -- what so many first callers had offered has ended so
 pub record HasEnded (ending : Ending) (before last n : ℕ) (old : Seats) (was now : List Done) (at : ℕ) (new : Seats) : Type 0 where
   pub count : length new.places ≡ length old.places
   pub names : new.names ≡ old.names
-  pub at : at ≡ before + length (offerers n (bare old))
+  pub number : at ≡ before + length (offerers n (bare old))
   pub size : length now ≡ length was + length (offerers n (bare old))
   pub later : (u : ℕ) → n ≤ u → offers_in new u ≡ offers_in old u
   pub all : (state : State) → IsOf old before state → Ends ending last state (offerers n state) old was now new
@@ -137,7 +164,7 @@ module _ (ending : Ending) (before last : ℕ) (old : Seats) (was : List Done) w
   none_ended = record {
     count = refl;
     names = refl;
-    at = omega arith;
+    number = omega arith;
     size = omega arith;
     later = λ u le. refl;
     all = λ state is. record { count = refl; names = refl; live = first_live ending state is; offers = first_offers ending state is; group = sym (append-nil was) };
@@ -157,14 +184,14 @@ module _ (ending : Ending) (before last : ℕ) (old : Seats) (was : List Done) w
 
     -- the next one has offered nothing
     pub one_skipped : is_offered (offers_in new n) ≡ false → HasEnded ending before last (n + 1) old was now at new
-    one_skipped no =
-        let none = was_test false no in
+    one_skipped idle =
+        let none = was_test false idle in
         let same : offerers (n + 1) (bare old) ≡ offerers n (bare old) = first_without (λ caller. is_offered (offers_in old caller)) n none in
         let sizes : length (offerers (n + 1) (bare old)) ≡ length (offerers n (bare old)) = ap (λ (callers : List ℕ). length callers) same in
         record {
           count = had.count;
           names = had.names;
-          at = omega (arith, had.at, sizes);
+          number = omega (arith, had.number, sizes);
           size = omega (arith, had.size, sizes);
           later = λ u le. had.later u (omega (arith, le));
           all = λ state is. subst (λ (callers : List ℕ). Ends ending last state callers old was now new)
@@ -172,11 +199,11 @@ module _ (ending : Ending) (before last : ℕ) (old : Seats) (was : List Done) w
         }
 
     -- it has offered this
-    module _ (yes : is_offered (offers_in new n) ≡ true) (calls : Granted) (live : live_in new n ≡ Some calls) (left : Seats) (more : ℕ) (next : more ≡ at + 1)
+    module _ (gives : is_offered (offers_in new n) ≡ true) (calls : Granted) (live : live_in new n ≡ Some calls) (left : Seats) (more : ℕ) (next : more ≡ at + 1)
         (given : Given new n None (offer_of (seat_of ending more)) left) (kept : Granted) (same_calls : kept ≡ calls) (longer : List Done)
         (pushed : longer ≡ now ++ record { caller = n; calls = kept; at = more; last = last } ∷ []) where
       found : is_offered (offers_in old n) ≡ true
-      found = was_test true yes
+      found = was_test true gives
 
       sizes : length (offerers (n + 1) (bare old)) ≡ length (offerers n (bare old)) + 1
       sizes = ap (λ (callers : List ℕ). length callers) (first_with (λ caller. is_offered (offers_in old caller)) n found) ∙ length-append (offerers n (bare old)) (n ∷ [])
@@ -189,7 +216,7 @@ module _ (ending : Ending) (before last : ℕ) (old : Seats) (was : List Done) w
         ends = had.all state is
 
         at_is : more ≡ length (with_group state last os).history + 1
-        at_is = omega (arith, next, had.at, group_count state last os, is.before, ap (λ (callers : List ℕ). length callers) (same_offerers before n old state is))
+        at_is = omega (arith, next, had.number, group_count state last os, is.long, ap (λ (callers : List ℕ). length callers) (same_offerers before n old state is))
 
         calls_are : kept ≡ calls_of (with_group state last os) n
         calls_are = same_calls ∙ sym (ap (λ (o : Option Granted). unwrap_or o []) (sym (ap (λ (f : ℕ → Option Granted). f n) (live_either ending state last os)) ∙ sym (ap (λ (f : ℕ → Option Granted). f n) ends.live) ∙ live))
@@ -211,7 +238,7 @@ module _ (ending : Ending) (before last : ℕ) (old : Seats) (was : List Done) w
       one_taken = record {
         count = given.count ∙ had.count;
         names = given.names ∙ had.names;
-        at = omega (arith, next, had.at, sizes);
+        number = omega (arith, next, had.number, sizes);
         size = omega (arith, had.size, sizes, ap (λ (dones : List Done). length dones) pushed, length-append now (record { caller = n; calls = kept; at = more; last = last } ∷ []));
         later = λ u le. ap (λ (f : ℕ → Offer). f u) given.offers ∙ offers_apart (offers_in new) n (offer_of (seat_of ending more)) u (λ same. absurd (omega (arith, same, le))) ∙ had.later u (omega (arith, le));
         all = λ state is. subst (λ (callers : List ℕ). Ends ending last state callers old was longer left)
@@ -220,7 +247,7 @@ module _ (ending : Ending) (before last : ℕ) (old : Seats) (was : List Done) w
 
     -- there is a number and room for it
     pub one_fits : n < length old.places → is_offered (offers_in new n) ≡ true → length (offerers n (bare old)) < length (offered_in old)
-    one_fits lt yes = first_fits (λ caller. is_offered (offers_in old caller)) n (length old.places) lt (was_test true yes)
+    one_fits lt gives = first_fits (λ caller. is_offered (offers_in old caller)) n (length old.places) lt (was_test true gives)
 
     -- all are done
     pub all_ended : n ≡ length old.places → (state : State) → IsOf old before state → Ends ending last state (offered_in old) old was now new
@@ -233,31 +260,31 @@ module _ (ending : Ending) (before last : ℕ) (old : Seats) (was : List Done) w
 pub record HasFound (seats : Seats) (n bits count : ℕ) : Type 0 where
   pub below : (u : ℕ) → u < n → has bits u ≡ is_offered (offers_in seats u)
   pub above : (u : ℕ) → n ≤ u → has bits u ≡ false
-  pub count : count ≡ length (offerers n (bare seats))
+  pub total : count ≡ length (offerers n (bare seats))
 
 module _ (seats : Seats) where
   pub none_found : (bits : ℕ) → ((u : ℕ) → has bits u ≡ false) → HasFound seats 0 bits 0
-  none_found bits lacks = record { below = λ u lt. absurd (omega (arith, lt)); above = λ u le. lacks u; count = refl }
+  none_found bits lacks = record { below = λ u lt. absurd (omega (arith, lt)); above = λ u le. lacks u; total = refl }
 
   module _ (n bits count : ℕ) (had : HasFound seats n bits count) where
     pub none_more : is_offered (offers_in seats n) ≡ false → HasFound seats (n + 1) bits count
-    none_more no = record {
+    none_more idle = record {
       below = λ u lt. elim (cases_eq u n) [
-        | inl e ↦ had.above u (omega (arith, e)) ∙ sym (ap (λ (v : ℕ). is_offered (offers_in seats v)) e ∙ no)
+        | inl e ↦ had.above u (omega (arith, e)) ∙ sym (ap (λ (v : ℕ). is_offered (offers_in seats v)) e ∙ idle)
         | inr ne ↦ had.below u (omega (arith, lt, ne))
       ];
       above = λ u le. had.above u (omega (arith, le));
-      count = had.count ∙ sym (ap (λ (callers : List ℕ). length callers) (first_without (λ caller. is_offered (offers_in seats caller)) n no));
+      total = had.total ∙ sym (ap (λ (callers : List ℕ). length callers) (first_without (λ caller. is_offered (offers_in seats caller)) n idle));
     }
 
     pub one_more : is_offered (offers_in seats n) ≡ true → (more : ℕ) → has more n ≡ true → ((u : ℕ) → u ≢ n → has more u ≡ has bits u) → HasFound seats (n + 1) more (count + 1)
-    one_more yes more here others = record {
+    one_more gives more here others = record {
       below = λ u lt. elim (cases_eq u n) [
-        | inl e ↦ ap (has more) e ∙ here ∙ sym (ap (λ (v : ℕ). is_offered (offers_in seats v)) e ∙ yes)
+        | inl e ↦ ap (has more) e ∙ here ∙ sym (ap (λ (v : ℕ). is_offered (offers_in seats v)) e ∙ gives)
         | inr ne ↦ others u ne ∙ had.below u (omega (arith, lt, ne))
       ];
       above = λ u le. others u (λ same. absurd (omega (arith, same, le))) ∙ had.above u (omega (arith, le));
-      count = omega (arith, had.count, ap (λ (callers : List ℕ). length callers) (first_with (λ caller. is_offered (offers_in seats caller)) n yes), length-append (offerers n (bare seats)) (n ∷ []));
+      total = omega (arith, had.total, ap (λ (callers : List ℕ). length callers) (first_with (λ caller. is_offered (offers_in seats caller)) n gives), length-append (offerers n (bare seats)) (n ∷ []));
     }
 
   -- beyond the callers nobody has offered anything

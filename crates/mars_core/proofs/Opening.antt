@@ -1,32 +1,28 @@
 -- How a core begins: with the records of the store's data.
-use Rattle.std.proofs.Common.{◌≡◌, ◌≤◌, ◌<◌, ◌-◌, ◌^◌, ℕ, suc, inl, inr, Bool, false, cond, ◌&&◌, List, [], ◌∷◌, length, filter, IsTrue, Option, Some, None, unwrap_or, Result, Ok, Err, refl, sym, ap, subst, ◌∙◌, arith, eq-eqb, ne_eqb, le-leb}
-use Rattle.std.specs.FinMap.{get, entries, from_entries, get-entries, get-from_entries}
-use Rattle.std.proofs.lemmas.Bool.{cases_eq, cases_lt}
+use Rattle.std.proofs.Common.{◌≡◌, ℕ, inl, inr, Bool, List, [], length, IsTrue, Option, None, unwrap_or, Ok, refl, sym, ap, subst, ◌∙◌, arith}
+use Rattle.std.specs.FinMap.{entries, from_entries, get-entries, get-from_entries}
+use Rattle.std.proofs.lemmas.Bool.{cases_eq}
 use Rattle.array_shape.specs.declared.shape.Shape.{Shape}
-use Rattle.eaw_face.specs.State.{State as StoreState, listed}
-use Rattle.eaw_face.specs.StoreView.{LeavesOnly}
+use Rattle.eaw_face.specs.State.{listed}
 use Rattle.eaw_face.specs.Causes.{IsAlive}
 use Rattle.page_store.specs.Index as below
 use Rattle.page_store.specs.Shown.{PagesView}
 use Rattle.history.specs.Rows.{NamedRows, records_in, table_of}
-use Rattle.history.specs.Writes.{Table, Write, all_written}
+use Rattle.history.specs.Writes.{Table}
 use Rattle.history.specs.Table.{Granted}
 use Rattle.history.specs.declared.transaction.Done.{Done}
 use Rattle.history.proofs.Keys.{key_cmp_total}
 use Rattle.history.proofs.Agreeing.{same_table}
-use Rattle.record_table.specs.State.{TableState, seen_by}
-use Rattle.record_table.specs.Does.{OpensWith, is_failed}
+use Rattle.record_table.specs.State.{TableState}
+use Rattle.record_table.specs.Does.{OpensWith}
 use Rattle.record_slots.specs.Names.{names_in}
 use Rattle.record_table.specs.Names.{names_of}
 use Rattle.record_table.specs.Shown.{state_of}
 use Rattle.record_table.specs.Shown as shown
-use Rattle.record_table.specs.Sought.{LooksAs}
-use Rattle.record_table.specs.Upgrading.{upgraded, OpensUpgraded, Upgrades}
-use Rattle.record_table.specs.declared.fault.TableFault.{TableFault}
+use Rattle.record_table.specs.Upgrading.{upgraded, Upgrades}
 use Rattle.caller_steps.specs.State.{State, unoffered, calls_of, opened}
 use Rattle.caller_steps.specs.Sound.{IsSound}
 use Rattle.caller_steps.proofs.Sound.{opened_sound}
-use Rattle.mars_core.specs.Attached.{LeftAsItWas, scan_fault, is_media_fault}
 use Rattle.mars_core.specs.Over.{limits_of, index_of, Begins}
 use Rattle.mars_core.specs.Held.{core_over, state_at}
 use Rattle.mars_core.specs.Kept.{Mirrors, HasHeld, IsTied, IsKept}

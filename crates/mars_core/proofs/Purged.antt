@@ -5,7 +5,6 @@ use Rattle.std.specs.FinMap.{get}
 use Rattle.std.specs.List.{list_any}
 use Rattle.std.specs.Map.{update}
 use Rattle.std.proofs.lemmas.Bool.{cases_Bool, false≢true, true≢false, or_parts}
-use Rattle.mars_base.specs.Causes.{Rose}
 use Rattle.mars_base.proofs.Going.{stays, weaker}
 use Rattle.array_shape.specs.declared.shape.Shape.{Shape}
 use Rattle.eaw_face.specs.StoreView.{LeavesOnly}
@@ -23,7 +22,7 @@ use Rattle.record_slots.specs.declared.super_page.TableEntry.{TableEntry}
 use Rattle.record_table.specs.Names.{names_of}
 use Rattle.caller_steps.proofs.AtKeys.{at_other_key}
 use Rattle.caller_steps.proofs.Sound.{history_whole}
-use Rattle.history.specs.Log.{Log, log_of}
+use Rattle.history.specs.Log.{log_of}
 use Rattle.history.specs.Rows.{NamedRows}
 use Rattle.history.specs.Table.{Granted}
 use Rattle.history.specs.Writes.{Table, Write, is_of}
@@ -36,17 +35,16 @@ use Rattle.record_table.specs.declared.fault.TableFault.{TableFault}
 use Rattle.record_table.specs.declared.fault.TableFault.TheVariants.{SlotsFull, PagesFull, SavesFull, LogFull, Media, Dead, Damaged, NoMemory}
 use Rattle.caller_steps.specs.Core.{IsSafe}
 use Rattle.caller_steps.specs.Prefix.{HasPrefixOf}
-use Rattle.caller_steps.specs.Purging.{IsTouched, AreFree, Lost, Purged, PurgeStep, PurgeCause, Purges, is_media_refusal}
+use Rattle.caller_steps.specs.Purging.{AreFree, Lost, PurgeStep, PurgeCause, Purges, is_media_refusal}
 use Rattle.caller_steps.specs.Room.{Limits, is_slot_on, is_write_on, held_on}
-use Rattle.caller_steps.specs.State.{State, Index, unoffered, calls_of, records_of}
+use Rattle.caller_steps.specs.State.{State, Index, unoffered}
 use Rattle.caller_steps.specs.Offers.{is_unoffered, is_engaged}
 use Rattle.caller_steps.specs.declared.purge_fault.PurgeFault.{PurgeFault}
 use Rattle.mars_core.specs.Held.{core_over, state_at}
-use Rattle.mars_core.specs.Kept.{HasHeld, IsTied, IsKept}
+use Rattle.mars_core.specs.Kept.{IsTied, IsKept}
 use Rattle.mars_core.specs.Over.{limits_of, index_of}
-use Rattle.mars_core.specs.Purging.{IsOfFirst, Keeps, AreFreeIn, Cleared, IsReady, stopped, ClearCause, Clears}
+use Rattle.mars_core.specs.Purging.{IsOfFirst, Keeps, AreFreeIn, IsReady, stopped, ClearCause, Clears}
 use Rattle.mars_core.specs.Seats.{Seats, live_in, offers_in, calls_at}
-use Rattle.mars_core.specs.Works.{IsShown}
 use Rattle.mars_core.proofs.Answering.{IndexLaws}
 use Rattle.mars_core.proofs.Indexing.{is_within}
 use Rattle.mars_core.proofs.Prefixes.{StoreLaws, safe_dead, safe_alive}

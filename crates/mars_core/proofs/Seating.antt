@@ -1,7 +1,7 @@
 -- Lists of seats.
 use Rattle.std.proofs.Common.{true, false, ◌||◌, nat_eq, sym, ap, Bool, Some, get_or, ◌≡◌, ◌≢◌, ◌⊎◌, ◌≤◌, ◌<◌, ◌+◌, ℕ, zero, suc, inl, inr, [], ◌∷◌, ◌++◌, length, Option, None, unwrap_or, refl, subst, ◌∙◌, arith}
 use Rattle.std.proofs.Math.ListN.{set, length-set}
-use Rattle.std.specs.Prelude.{List, IfSome, slice_get, is_some, not}
+use Rattle.std.specs.Prelude.{List, IfSome, is_some, not}
 use Rattle.std.proofs.lemmas.Option.{slice_get-get_or}
 use Rattle.std.specs.Map.{update}
 use Rattle.std.proofs.lemmas.Map.{update_here, update_apart}
@@ -10,7 +10,7 @@ use Rattle.history.specs.Table.{Granted}
 use Rattle.history.specs.Locks.{touches, touched, clash, Meets}
 use Rattle.history.specs.declared.call.Call.{Call}
 use Rattle.history.proofs.Modes.{clash_none}
-use Rattle.caller_steps.specs.State.{Offer, unoffered, offered, unsettled, offers_with}
+use Rattle.caller_steps.specs.State.{Offer, unoffered, unsettled, offers_with}
 use Rattle.caller_steps.specs.Offers.{is_offered, is_unoffered}
 use Rattle.caller_steps.specs.Locked.{Blocks}
 use Rattle.caller_steps.proofs.Offering.{offers_here, offers_apart}
@@ -95,6 +95,20 @@ module _ (names : List (List ℕ)) (items : Places) (caller at : ℕ) (is : at �
 pub masked_at : (names : List (List ℕ)) (places : Places) (caller : ℕ) (o : Option Live) → live_of (seat_in places caller) ≡ o → AreMasked names places → IfSome o (IsMasked names)
 masked_at names places caller None is are = tt
 masked_at names places caller (Some live) is are = are caller live is
+
+-- a seat whose caller has offered nothing, and which is not that of a live transaction
+pub untaken : (seat : Seat) → offer_of seat ≡ unoffered → ((live : Live) → seat ≡ place.Live live → ⊥) → live_of seat ≡ None
+untaken place.Free un none = refl
+untaken (place.Live live) un none = absurd (none live refl)
+untaken (place.Offered live) un none = absurd (true≢false (ap is_offered un))
+untaken (place.Committed n) un none = refl
+
+-- what a group has committed is not live
+pub gone : (seat : Seat) (n : ℕ) → offer_of seat ≡ unsettled n → live_of seat ≡ None
+gone place.Free n is = refl
+gone (place.Live live) n is = absurd (true≢false (ap is_unoffered is))
+gone (place.Offered live) n is = absurd (true≢false (ap is_offered is))
+gone (place.Committed m) n is = refl
 
 -- an offer that is there already changes nothing
 same_offer : (offers : ℕ → Offer) (caller : ℕ) (offer : Offer) → offers caller ≡ offer → (other : ℕ) → offers_with offers caller offer other ≡ offers other

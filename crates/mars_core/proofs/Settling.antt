@@ -1,26 +1,23 @@
 -- Offers, and the end of what was offered: a settle that commits a group, a fault of the medium in it, and one that is told its number.
-use Rattle.std.proofs.Common.{◌≡◌, ◌≢◌, ◌<◌, ◌≤◌, ◌+◌, ◌⊎◌, ℕ, inl, inr, Bool, true, false, cond, nat_eq, List, [], ◌∷◌, ◌++◌, length, filter, IsTrue, Option, Some, None, unwrap_or, Result, Ok, Err, refl, sym, ap, subst, ◌∙◌, arith}
-use Rattle.std.specs.Prelude.{IsFalse, is_some}
-use Rattle.std.specs.Map.{update}
-use Rattle.std.proofs.lemmas.Bool.{cases_Bool, cases_eq, true≢false, false≢true}
+use Rattle.std.proofs.Common.{◌≡◌, ◌<◌, ◌≤◌, ◌+◌, ◌⊎◌, ℕ, inl, inr, Bool, true, false, cond, List, [], ◌∷◌, ◌++◌, length, filter, IsTrue, Option, Some, None, unwrap_or, Result, Ok, Err, refl, sym, ap, subst, ◌∙◌, arith}
+use Rattle.std.proofs.lemmas.Bool.{false≢true}
 use Rattle.std.proofs.lemmas.List.{append-nil}
 use Rattle.mars_base.proofs.Going.{weaker, stays}
 use Rattle.array_shape.specs.declared.shape.Shape.{Shape}
 use Rattle.eaw_face.specs.StoreView.{LeavesOnly}
 use Rattle.eaw_face.specs.Causes.{IsAlive}
-use Rattle.eaw_face.specs.State.{listed, is_one_of, with_each}
+use Rattle.eaw_face.specs.State.{listed, is_one_of}
 use Rattle.page_store.specs.Index as below
 use Rattle.page_store.specs.Shown.{PagesView}
 use Rattle.history.specs.Writes.{Table, Write, all_written}
-use Rattle.history.specs.Groups.{AreWhole}
 use Rattle.history.specs.Rows.{NamedRows}
 use Rattle.history.specs.Table.{Granted}
 use Rattle.history.specs.Legal.{records}
-use Rattle.history.specs.Log.{Log, log_of}
+use Rattle.history.specs.Log.{log_of}
 use Rattle.history.specs.declared.call.Reply.{Reply}
 use Rattle.history.specs.declared.call.Call.{Call}
 use Rattle.history.specs.declared.call.Call.TheVariants as call
-use Rattle.history.specs.declared.call.Reply.TheVariants.{Fine, Committed, NoMemory}
+use Rattle.history.specs.declared.call.Reply.TheVariants.{Fine, Committed}
 use Rattle.history.specs.declared.call.Reply.TheVariants as reply
 use Rattle.history.specs.declared.transaction.Done.{Done}
 use Rattle.record_table.specs.State.{TableState}
@@ -31,23 +28,23 @@ use Rattle.record_table.specs.Shown.{state_of}
 use Rattle.record_table.specs.declared.fault.TableFault.{TableFault}
 use Rattle.record_table.specs.declared.fault.TableFault.TheVariants as fault
 use Rattle.record_slots.specs.Names.{names_in}
-use Rattle.caller_steps.specs.State.{State, Index, Offer, unoffered, offered, unsettled, calls_of, records_of, with_live, with_offer}
-use Rattle.caller_steps.specs.Offers.{is_offered, offerers, with_group, group_in, group_end, number_among, group_writes, without, committed_group, doubted_group}
+use Rattle.caller_steps.specs.State.{State, Index, Offer, unoffered, offered, unsettled, calls_of, with_live, with_offer}
+use Rattle.caller_steps.specs.Offers.{offerers, group_in, group_end, number_among, group_writes, without, committed_group, doubted_group}
 use Rattle.caller_steps.specs.Room.{Limits, Settles, is_write_on, held_on}
-use Rattle.caller_steps.specs.Step.{Step, StepIf, StepBy}
+use Rattle.caller_steps.specs.Step.{Step, StepAt, StepIf, StepBy}
 use Rattle.caller_steps.specs.Fate.{is_refusal, is_media, is_committed, Moves}
 use Rattle.caller_steps.specs.Prefix.{HasPrefix, HasPrefixOf}
 use Rattle.caller_steps.specs.Core.{IsSafe, Steps}
-use Rattle.caller_steps.proofs.Fates.{Fate, given, settled, unsure, told, fate_moves}
+use Rattle.caller_steps.proofs.Fates.{given, settled, unsure, told, fate_moves}
 use Rattle.caller_steps.proofs.Sound.{step_sound, history_whole}
-use Rattle.caller_steps.proofs.Offering.{is_in, offers_here, offers_apart, offerers_once, offerer_is, group_names, group_base, group_doubt, group_dead, group_history, group_apart, group_ends, without_names, without_base, without_history, without_apart, without_ends}
+use Rattle.caller_steps.proofs.Offering.{is_in, offerers_once, group_names, group_base, group_doubt, group_dead, group_history, group_apart, without_names, without_base, without_history}
 use Rattle.caller_steps.proofs.Grouped.{group_whole}
 use Rattle.caller_steps.proofs.Leaving.{group_records, calls_in_group, calls_apart}
 use Rattle.mars_core.specs.Over.{limits_of, index_with}
 use Rattle.mars_core.specs.Held.{core_over}
 use Rattle.mars_core.specs.Kept.{Mirrors, HasHeld, IsTied, IsKept}
 use Rattle.mars_core.proofs.Prefixes.{StoreLaws, prefix_all, prefix_more, sound_after, safe_dead, safe_alive}
-use Rattle.mars_core.proofs.Stepping.{ShowsPages, or_false, or_true, step_of, steps_of, steps_same}
+use Rattle.mars_core.proofs.Stepping.{ShowsPages, step_of, steps_of, steps_same}
 use Rattle.mars_core.proofs.Staying.{update_same}
 
 -- what numbers have written, and what their callers have
@@ -126,7 +123,7 @@ module _ (tells : Bool) (Opens : Shape → List ℕ → List ℕ → Type 0) (in
       offers = offers i;
       doubt = (doubt ∙ sym (group_doubt s end os)) i;
       is_dead = (dead_same ∙ sym (group_dead s end os)) i;
-      index = new.index
+      index = new.index;
     }
 
     moves : Moves p.store.shape.numbers s t call.Settle (Committed (number_among (length s.history + 1) os t)) new
@@ -220,31 +217,31 @@ module _ (tells : Bool) (Opens : Shape → List ℕ → List ℕ → Type 0) (in
       offers = offers i;
       doubt = doubt i;
       is_dead = died i;
-      index = new.index
+      index = new.index;
     }
 
     step_lost : IsTrue tells → Step (limits_of p.store.shape) s t call.Settle reply.Media new
-    step_lost told = step_by (limits_of p.store.shape) offered s new t call.Settle reply.Media living_state has (inr (
+    step_lost so = step_by (limits_of p.store.shape) offered s new t call.Settle reply.Media living_state has (inr (
       inside,
-      inr (subst (λ (ws : List Write). 0 < length ws) (same_writes (state_of index p) s (kept.tied told alive).mirrors.logs os) (due told), refl, new.index, lost_is),
+      inr (subst (λ (ws : List Write). 0 < length ws) (same_writes (state_of index p) s (kept.tied so alive).mirrors.logs os) (due so), refl, new.index, lost_is),
     ))
 
     doubtful : new.history ++ new.doubt ≡ s.history ++ dones
     doubtful = λ i. history i ++ doubt i
 
     time_lost : IsTrue tells → LeavesOnly (HasPrefixOf (OpensWith (Opens q.store.shape) index) new (length s.history)) p.store q.store
-    time_lost told = time_group (Err fault.Media) does told doubtful
+    time_lost so = time_group (Err fault.Media) does so doubtful
 
     safe_lost : IsTrue tells → IsSafe (core_over Opens index q.store new) q.store.moment (length new.history)
-    safe_lost told = let was = kept.tied told alive in
-        safe_dead tells Opens index one p q old_laws new_laws told does.shape alive was.index_sound s new (history_whole s was.sound) was.mirrors.table base history (time_lost told)
+    safe_lost so = let was = kept.tied so alive in
+        safe_dead tells Opens index one p q old_laws new_laws so does.shape alive was.index_sound s new (history_whole s was.sound) was.mirrors.table base history (time_lost so)
 
     pub lost_keeps : IsKept tells Opens index q count' rows new
     lost_keeps = record {
       seats = same_count ∙ kept.seats ∙ sym (ap (λ (h : Shape). h.numbers) does.shape);
       in_order = kept.in_order;
       idle = λ living. absurd (false≢true (sym living ∙ (does.dies refl).0));
-      tied = λ told living. absurd (false≢true (sym living ∙ (does.dies refl).0));
+      tied = λ so living. absurd (false≢true (sym living ∙ (does.dies refl).0));
       safe = safe_lost;
     }
 
@@ -303,22 +300,55 @@ module _ (tells : Bool) (Opens : Shape → List ℕ → List ℕ → Type 0) (in
 
   -- a caller whose transaction a group has committed is told its number
   module _ (n : ℕ) (has : s.offers t ≡ unsettled n) (none : s.live t ≡ None) (settles : new ≡ with_offer s t unoffered) where
-    new_is : new ≡ with_offer (with_live s t None) t unoffered
-    new_is = settles ∙ (λ i. record (with_offer s t unoffered) { live = sym (update_same s.live t None none) i })
+    ended_is : new ≡ with_offer (with_live s t None) t unoffered
+    ended_is = settles ∙ (λ i. record (with_offer s t unoffered) { live = sym (update_same s.live t None none) i })
 
     step_told : IsTrue tells → Step (limits_of p.store.shape) s t call.Settle (Committed n) new
-    step_told _ = step_by (limits_of p.store.shape) (unsettled n) s new t call.Settle (Committed n) (shows.dead ∙ alive) has (refl, new_is)
+    step_told _ = step_by (limits_of p.store.shape) (unsettled n) s new t call.Settle (Committed n) (shows.dead ∙ alive) has (refl, ended_is)
 
     pub told_keeps : IsKept tells Opens index p count' rows new
     told_keeps = offer_keeps call.Settle (Committed n) (ap (λ (x : State). x.live) settles) (ap (λ (x : State). x.base) settles) (ap (λ (x : State). x.names) settles) (ap (λ (x : State). x.history) settles) (ap (λ (x : State). x.index) settles) step_told
 
     pub told_steps : Steps tells t call.Settle (core_over Opens index p.store s) (core_over Opens index p.store new) (Committed n)
     told_steps = offer_steps call.Settle (Committed n) (ap (λ (x : State). x.live) settles) (ap (λ (x : State). x.base) settles) (ap (λ (x : State). x.names) settles) (ap (λ (x : State). x.history) settles) (ap (λ (x : State). x.index) settles) step_told
-        (fate_moves p.store.shape.numbers s t call.Settle (Committed n) new (told n has refl refl new_is)) refl
+        (fate_moves p.store.shape.numbers s t call.Settle (Committed n) new (told n has refl refl ended_is)) refl
 
--- a call that is refused since its caller has offered its transaction, or has one that it has not settled
-pub closed_steps : (tells : Bool) (Opens : Shape → List ℕ → List ℕ → Type 0) (index : below.Index) (p : PagesView) (s new : State) → ShowsPages index p s → (count : ℕ) (rows : List NamedRows) → IsKept tells Opens index p count rows s → IsAlive p.store
-    → (t : ℕ) (offer : Offer) (call : Call) (answer : Reply) → s.offers t ≡ offer → StepBy (limits_of p.store.shape) offer s t call answer s → is_refusal answer ≡ true → is_media answer ≡ false → is_committed answer ≡ false → new ≡ s
-    → Steps tells t call (core_over Opens index p.store s) (core_over Opens index p.store new) answer
-closed_steps tells Opens index p s new shows count rows kept alive t offer call answer has by refusal sure plain same =
-    steps_same tells Opens index p s new t call answer same kept.safe refusal sure plain (λ told. step_by (limits_of p.store.shape) offer s s t call answer (shows.dead ∙ alive) has by)
+-- Calls that are refused because of what their callers have offered.
+module _ (tells : Bool) (Opens : Shape → List ℕ → List ℕ → Type 0) (index : below.Index) (p : PagesView) (s : State) (shows : ShowsPages index p s) (safe : IsTrue tells → IsSafe (core_over Opens index p.store s) p.store.moment (length s.history)) (alive : IsAlive p.store)
+    (t : ℕ) where
+  closed_steps : (offer : Offer) (asked : Call) (answer : Reply) → s.offers t ≡ offer → StepBy (limits_of p.store.shape) offer s t asked answer s → is_refusal answer ≡ true → is_media answer ≡ false → is_committed answer ≡ false
+      → Steps tells t asked (core_over Opens index p.store s) (core_over Opens index p.store s) answer
+  closed_steps offer asked answer has by refusal sure plain =
+      steps_same tells Opens index p s s t asked answer refl safe refusal sure plain (λ told. step_by (limits_of p.store.shape) offer s s t asked answer (shows.dead ∙ alive) has by)
+
+  -- one that has offered its transaction begins no other, and its own takes no calls
+  pub offered_begins : s.offers t ≡ offered → Steps tells t call.Begin (core_over Opens index p.store s) (core_over Opens index p.store s) reply.Already
+  offered_begins has = closed_steps offered call.Begin reply.Already has (refl, refl) refl refl refl
+
+  pub offered_asks : s.offers t ≡ offered → (asked : Call) → (asked ≡ call.Begin → ⊥) → (asked ≡ call.Settle → ⊥) → Steps tells t asked (core_over Opens index p.store s) (core_over Opens index p.store s) reply.NoTransaction
+  offered_asks has asked begin settle = closed_steps offered asked reply.NoTransaction has (by asked begin settle) refl refl refl
+    where
+      by : (asked : Call) → (asked ≡ call.Begin → ⊥) → (asked ≡ call.Settle → ⊥) → StepBy (limits_of p.store.shape) offered s t asked reply.NoTransaction s
+      by call.Begin begin settle = absurd (begin refl)
+      by call.Settle begin settle = absurd (settle refl)
+      by _ begin settle = (refl, refl)
+
+  -- neither does one that has not settled
+  pub unsettled_begins : (n : ℕ) → s.offers t ≡ unsettled n → Steps tells t call.Begin (core_over Opens index p.store s) (core_over Opens index p.store s) reply.Already
+  unsettled_begins n has = closed_steps (unsettled n) call.Begin reply.Already has (refl, refl) refl refl refl
+
+  pub unsettled_asks : (n : ℕ) → s.offers t ≡ unsettled n → (asked : Call) → (asked ≡ call.Begin → ⊥) → (asked ≡ call.Settle → ⊥) → Steps tells t asked (core_over Opens index p.store s) (core_over Opens index p.store s) reply.NoTransaction
+  unsettled_asks n has asked begin settle = closed_steps (unsettled n) asked reply.NoTransaction has (by asked begin settle) refl refl refl
+    where
+      by : (asked : Call) → (asked ≡ call.Begin → ⊥) → (asked ≡ call.Settle → ⊥) → StepBy (limits_of p.store.shape) (unsettled n) s t asked reply.NoTransaction s
+      by call.Begin begin settle = absurd (begin refl)
+      by call.Settle begin settle = absurd (settle refl)
+      by _ begin settle = (refl, refl)
+
+  -- and one that has offered nothing has nothing to settle
+  pub open_settles : s.offers t ≡ unoffered → Steps tells t call.Settle (core_over Opens index p.store s) (core_over Opens index p.store s) reply.NoTransaction
+  open_settles un = closed_steps unoffered call.Settle reply.NoTransaction un (by (s.live t)) refl refl refl
+    where
+      by : (live : Option Granted) → StepAt (limits_of p.store.shape) live s t call.Settle reply.NoTransaction s
+      by None = (refl, refl)
+      by (Some calls) = (refl, refl)

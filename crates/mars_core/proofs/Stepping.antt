@@ -1,6 +1,6 @@
 -- A step of the core, given what the records do.
 use Rattle.std.proofs.Common.{◌≡◌, ◌<◌, ◌⊎◌, ℕ, inl, inr, Bool, true, false, ◌||◌, nat_eq, List, [], ◌∷◌, ◌++◌, length, filter, IsTrue, Option, Some, None, unwrap_or, refl, sym, ap, subst, ◌∙◌}
-use Rattle.std.specs.Prelude.{IsFalse, is_some, if◌then◌else◌}
+use Rattle.std.specs.Prelude.{IsFalse, is_some}
 use Rattle.std.specs.FinMap.{get}
 use Rattle.std.specs.Map.{update}
 use Rattle.std.proofs.lemmas.Map.{update_here, update_apart}

@@ -1,5 +1,5 @@
 -- A settle that commits a group, in the words of the seats.
-use Rattle.std.proofs.Common.{◌≡◌, ◌<◌, ◌+◌, ℕ, nat_eq, Bool, true, false, IsTrue, List, [], ◌∷◌, ◌++◌, length, Option, Some, None, Result, Ok, Err, refl, sym, ap, subst, ◌∙◌}
+use Rattle.std.proofs.Common.{◌≡◌, ◌<◌, ◌+◌, ℕ, Bool, IsTrue, List, [], length, Option, None, Result, Ok, Err, refl, sym, ap, subst, ◌∙◌}
 use Rattle.std.proofs.lemmas.Bool.{false≢true}
 use Rattle.array_shape.specs.declared.shape.Shape.{Shape}
 use Rattle.eaw_face.specs.Causes.{IsAlive}
@@ -18,7 +18,7 @@ use Rattle.record_table.specs.Shown.{state_of}
 use Rattle.record_table.specs.declared.fault.TableFault.{TableFault}
 use Rattle.record_table.specs.declared.fault.TableFault.TheVariants as fault
 use Rattle.caller_steps.specs.State.{State, Offer, unoffered, offered, unsettled, offers_with, with_offer}
-use Rattle.caller_steps.specs.Offers.{offerers, group_end, number_among, committed_group, without}
+use Rattle.caller_steps.specs.Offers.{offerers, group_end, number_among, committed_group}
 use Rattle.caller_steps.specs.Core.{Steps}
 use Rattle.caller_steps.proofs.Offering.{offerers_once, offerer_is, group_ends}
 use Rattle.mars_core.specs.Held.{core_over, state_at}
@@ -63,7 +63,7 @@ module _ (tells : Bool) (Opens : Shape → List ℕ → List ℕ → Type 0) (in
 
   ends_all : (how : Ending) (mid : Seats) (was longer : List Done) → ((state : State) → IsOf old (length history) state → Ends how last state (offered_in old) old was longer mid) → Ends how (group_end s os) s os old was longer mid
   ends_all how mid was longer ends = subst (λ (x : ℕ × List ℕ). Ends how x.0 s x.1 old was longer mid) (λ i. ((last_is ∙ ap (λ (callers : List ℕ). length history + length callers) same) i, same i))
-      (ends s (record { live = refl; offers = refl; before = refl }))
+      (ends s (record { live = refl; offers = refl; long = refl }))
 
   in_group : (mid : Seats) (longer : List Done) → ((state : State) → IsOf old (length history) state → Ends ending.Committed last state (offered_in old) old history longer mid)
       → (live_in mid t ≡ None) × (offers_in mid t ≡ unsettled (number_among (length history + 1) os t))
@@ -76,6 +76,9 @@ module _ (tells : Bool) (Opens : Shape → List ℕ → List ℕ → Type 0) (in
   pub has_number : (mid : Seats) (longer : List Done) → ((state : State) → IsOf old (length history) state → Ends ending.Committed last state (offered_in old) old history longer mid)
       → (n : ℕ) × (offers_in mid t ≡ unsettled n)
   has_number mid longer ends = (number_among (length history + 1) os t, (in_group mid longer ends).1)
+
+  pub has_seat : (mid : Seats) (longer : List Done) → ((state : State) → IsOf old (length history) state → Ends ending.Committed last state (offered_in old) old history longer mid) → t < length mid.places
+  has_seat mid longer ends = subst (λ (n : ℕ). t < n) (sym ((ends_all ending.Committed mid history longer ends).count ∙ kept.seats)) inside
 
   module _ (callers : List ℕ) (callers_are : callers ≡ offered_in old) (result : Result (Unit {0}) TableFault) (does : CommitsGroup tells (Opens p.store.shape) index callers p q result) where
     does_all : (r : Result (Unit {0}) TableFault) → result ≡ r → CommitsGroup tells (Opens p.store.shape) index os p q r

@@ -1,18 +1,18 @@
 -- A transaction that touches the stripe of a key for writing nowhere has not written the key.
 use Rattle.std.proofs.Common.{◌≡◌, ℕ, zero, suc, ◌-◌, ◌||◌, ◌&&◌, Bool, true, false, cond, List, [], ◌∷◌, ◌++◌, take, drop, get_or, refl, sym, ap, ◌∙◌, eq-eqb}
-use Rattle.std.specs.Prelude.{nat_eq, not, if◌then◌else◌, Some, None}
+use Rattle.std.specs.Prelude.{nat_eq, not, Some, None}
 use Rattle.std.specs.List.{fold, list_any}
 use Rattle.std.proofs.lemmas.Bool.{false_from_ne_true, true≢false, or_parts, or_from}
 use Rattle.history.specs.Key.{is_same_key, of_table}
 use Rattle.history.specs.declared.key.Key.{Key}
 use Rattle.history.proofs.Keys.{same_keys}
-use Rattle.history.specs.Locks.{key_stripe, touches, touched, is_touch, clash, Meets}
+use Rattle.history.specs.Locks.{key_stripe, touches, touched, Meets}
 use Rattle.history.specs.declared.locks.Mode.TheVariants.{Shared, Exclusive}
 use Rattle.history.specs.Log.{Log, save_at, floor_of, written, log_after, log_of}
 use Rattle.history.specs.Table.{Granted, has_save}
 use Rattle.history.specs.Writes.{Write, is_of, replaced, with_write}
 use Rattle.history.specs.declared.call.Call.{Call}
-use Rattle.history.specs.declared.call.Call.TheVariants.{Begin, Get, Put, Del, Scan, Save, Back, Commit, Abort, Offer, Settle}
+use Rattle.history.specs.declared.call.Call.TheVariants.{Put, Del, Save, Back}
 use Rattle.history.specs.declared.call.Reply.{Reply}
 use Rattle.history.specs.declared.call.Reply.TheVariants.{Fine}
 

@@ -106,7 +106,7 @@ ended Doubtful state last callers = without state callers
 pub record IsOf (seats : Seats) (before : ℕ) (state : State) : Type 0 where
   pub live : state.live ≡ live_in seats
   pub offers : state.offers ≡ offers_in seats
-  pub before : length state.history ≡ before
+  pub long : length state.history ≡ before
 
 -- What these callers have offered in the state has ended so, and is behind the others of a list.
 pub record Ends (ending : Ending) (last : ℕ) (state : State) (callers : List ℕ) (old : Seats) (was now : List Done) (new : Seats) : Type 0 where

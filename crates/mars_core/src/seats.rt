@@ -238,7 +238,7 @@ impl Seats {
                 at += 1;
                 let live = self.take_offer(caller, ending.seat(at));
                 let calls = live.calls.fitted();
-                let _room = into.push(Done {
+                into.push_reserved(Done {
                     caller,
                     calls,
                     at,

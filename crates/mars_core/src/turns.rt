@@ -7,10 +7,10 @@ ghost use Rattle.eaw_face.specs.Mirroring.{Mirrors, GivesUp};
 ghost use Rattle.page_store.specs.Shown.{pages_of};
 ghost use Rattle.history.specs.Locks.{touched, has_table};
 ghost use Rattle.history.specs.declared.call.Call.TheVariants as call;
-ghost use Rattle.history.specs.declared.call.Call.TheVariants.{Begin, Commit, Abort};
+ghost use Rattle.history.specs.declared.call.Call.TheVariants.{Begin, Commit, Abort, Settle};
 ghost use Rattle.history.specs.declared.locks.Mode.TheVariants.{Shared, Exclusive};
 ghost use Rattle.history.specs.declared.call.Reply.TheVariants.{Dead};
-ghost use Rattle.caller_steps.specs.Core.{Steps};
+ghost use Rattle.caller_steps.specs.Core.{IsSafe, Steps};
 ghost use Rattle.caller_steps.specs.Fate.{is_busy, is_refusal};
 ghost use Rattle.caller_steps.specs.Purging.{Purges};
 ghost use Rattle.caller_steps.specs.Locked.{IsLocked};
@@ -336,6 +336,7 @@ impl<S: EawStore, K: KeyIndex> Core<S, K> {
         requires alive { IsAlive (S.view self.old.records.store) }
         requires shown { IsShown S.tells K.index (pages_of (S.view self.old.records.store) self.old.records) }
         requires unoffered { offers_in self.old.seats caller ≡ unoffered }
+        requires safe { IsTrue S.tells → IsSafe (core_of S.opens K.index (S.view self.old.records.store) self.old) (S.view self.old.records.store).moment (length self.old.history) }
         requires locked { locks ≡ Held → IsLocked (core_of S.opens K.index (S.view self.old.records.store) self.old).state caller call.now }
         ensures steps { Steps S.tells caller call.now (core_of S.opens K.index (S.view self.old.records.store) self.old)
             (core_of S.opens K.index (S.view self.new.records.store) self.new) result }
@@ -360,7 +361,7 @@ impl<S: EawStore, K: KeyIndex> Core<S, K> {
         requires inside { caller < (S.view self.old.records.store).shape.numbers }
         requires alive { IsAlive (S.view self.old.records.store) }
         requires offered { offers_in self.old.seats caller ≡ offered }
-        ensures steps { Steps S.tells caller call.Settle (core_of S.opens K.index (S.view self.old.records.store) self.old)
+        ensures steps { Steps S.tells caller Settle (core_of S.opens K.index (S.view self.old.records.store) self.old)
             (core_of S.opens K.index (S.view self.new.records.store) self.new) result }
         ensures sends { Mirrors S.tells (S.view self.old.records.store) (S.view self.new.records.store) }
         ensures not_busy { IsFalse (is_busy result) }
@@ -374,12 +375,14 @@ impl<S: EawStore, K: KeyIndex> Core<S, K> {
         let last = before + count as u64;
         match self.records.commit_group(callers) {
             Ok(()) => {
-                self.seats.take_offered(Ending::Committed, before, last, &mut history);
+                self.seats
+                    .take_offered(Ending::Committed, before, last, &mut history);
                 self.history = History::from(history);
                 Reply::Committed(self.seats.settle(caller))
             }
             Err(fault) => {
-                self.seats.take_offered(Ending::Doubtful, before, last, &mut doubt);
+                self.seats
+                    .take_offered(Ending::Doubtful, before, last, &mut doubt);
                 self.history = History::from(history);
                 self.doubt = Doubt::holding_group(doubt);
                 Reply::from(fault)
@@ -393,11 +396,12 @@ impl<S: EawStore, K: KeyIndex> Core<S, K> {
         requires inside { caller < (S.view self.old.records.store).shape.numbers }
         requires alive { IsAlive (S.view self.old.records.store) }
         requires offered { offers_in self.old.seats caller ≡ offered }
+        requires safe { IsTrue S.tells → IsSafe (core_of S.opens K.index (S.view self.old.records.store) self.old) (S.view self.old.records.store).moment (length self.old.history) }
         ensures steps { Steps S.tells caller call.now (core_of S.opens K.index (S.view self.old.records.store) self.old)
             (core_of S.opens K.index (S.view self.new.records.store) self.new) result }
         ensures sends { Mirrors S.tells (S.view self.old.records.store) (S.view self.new.records.store) }
         ensures not_busy { IsFalse (is_busy result) }
-        ensures settles { IsFalse (is_refusal result) → call.now ≡ call.Settle }
+        ensures settles { IsFalse (is_refusal result) → call.now ≡ Settle }
     {
         match call {
             Call::Begin => Reply::Already,
@@ -412,11 +416,12 @@ impl<S: EawStore, K: KeyIndex> Core<S, K> {
         requires inside { caller < (S.view self.old.records.store).shape.numbers }
         requires alive { IsAlive (S.view self.old.records.store) }
         requires committed { (n : ℕ) × (offers_in self.old.seats caller ≡ unsettled n) }
+        requires safe { IsTrue S.tells → IsSafe (core_of S.opens K.index (S.view self.old.records.store) self.old) (S.view self.old.records.store).moment (length self.old.history) }
         ensures steps { Steps S.tells caller call.now (core_of S.opens K.index (S.view self.old.records.store) self.old)
             (core_of S.opens K.index (S.view self.new.records.store) self.new) result }
         ensures sends { Mirrors S.tells (S.view self.old.records.store) (S.view self.new.records.store) }
         ensures not_busy { IsFalse (is_busy result) }
-        ensures settles { IsFalse (is_refusal result) → call.now ≡ call.Settle }
+        ensures settles { IsFalse (is_refusal result) → call.now ≡ Settle }
     {
         match call {
             Call::Begin => Reply::Already,
@@ -434,7 +439,7 @@ impl<S: EawStore, K: KeyIndex> Core<S, K> {
         ensures sends { Mirrors S.tells (S.view self.old.records.store) (S.view self.new.records.store) }
         ensures dead { IsTrue (S.view self.old.records.store).is_dead → (result ≡ Dead) × (self.new ≡ self.old) }
         ensures not_busy { locks ≡ Held → IsFalse (is_busy result) }
-        ensures begun { IsFalse (is_refusal result) → IsTrue (takes_calls (core_of S.opens K.index (S.view self.old.records.store) self.old).state caller) ⊎ ((call.now ≡ Begin) ⊎ (call.now ≡ call.Settle)) }
+        ensures begun { IsFalse (is_refusal result) → IsTrue (takes_calls (core_of S.opens K.index (S.view self.old.records.store) self.old).state caller) ⊎ ((call.now ≡ Begin) ⊎ (call.now ≡ Settle)) }
         ensures tabled { IsFalse (is_refusal result) → IsTrue (has_table self.old.seats.names call.now) }
     {
         if self.records.is_dead() {
@@ -480,7 +485,11 @@ impl<S: EawStore, K: KeyIndex> Steps for Core<S, K> {
 }
 
 // The history in a vector, and an empty one, each with room for so many more. Without memory the history stays.
-fn rooms(alloc: Global, history: &mut History, more: usize) -> Result<(Vec<Done>, Vec<Done>), NoMemory>
+fn rooms(
+    alloc: Global,
+    history: &mut History,
+    more: usize,
+) -> Result<(Vec<Done>, Vec<Done>), NoMemory>
     ensures items { IfOk result (λ made. made.0.items ≡ history.old) }
     ensures room { IfOk result (λ made. length made.0.items + more ≤ vec_capacity made.0) }
     ensures empty { IfOk result (λ made. made.1.items ≡ []) }

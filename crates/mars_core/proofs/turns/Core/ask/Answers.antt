@@ -11,7 +11,7 @@ use Rattle.history.specs.declared.call.Reply.TheVariants.{NoTransaction}
 use Rattle.std.specs.Prelude.{is_some}
 use Rattle.history.specs.Locks.{has_table}
 use Rattle.history.specs.declared.call.Call.{Call}
-use Rattle.caller_steps.specs.State.{State, unoffered}
+use Rattle.caller_steps.specs.State.{State, Offer, unoffered}
 use Rattle.caller_steps.specs.Offers.{is_unoffered, takes_calls}
 use Rattle.caller_steps.specs.Locked.{IsFree, IsLocked}
 use Rattle.caller_steps.specs.Core.{Steps}
@@ -165,6 +165,9 @@ returns g c =
         | inr made ↦ made_plain T (E (V i.records.store).shape) I (length (p.counts t)) c.take.new.self t c.in-Some.live.calls c.args.call.now p q c.answer-live.result.0.calls c.answer-live.result.1 made
       ];
     }
+
+pub put-requires-clause-unoffered : goal.put-requires-clause-unoffered
+put-requires-clause-unoffered g c = ap (λ (f : ℕ → Offer). f c.args.caller) c.take.ensures.out.offers ∙ subst (λ (h : Held g.row.S.Denot). offers_in h.seats c.args.caller ≡ unoffered) (sym c.self.view_is) c.requires.unoffered
 
 pub answer-live-requires-clause-named : goal.answer-live-requires-clause-named
 answer-live-requires-clause-named g c = λ told alive. c.take.ensures.out.names ∙ (c.self.invariant.tied told alive).named

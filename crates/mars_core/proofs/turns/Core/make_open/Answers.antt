@@ -1,12 +1,12 @@
-use Rattle.std.proofs.Common.{◌≡◌, ◌∙◌, true, false, refl, inl, inr, sym, ap, subst}
-use Rattle.std.proofs.lemmas.Bool.{false≢true}
+use Rattle.std.proofs.Common.{◌≡◌, ◌∙◌, true, refl, inl, inr, sym, ap, subst}
 use Rattle.page_store.specs.Shown.{pages_of}
 use Rattle.history.specs.Locks.{has_table}
 use Rattle.history.specs.declared.call.Call.{Call}
+use Rattle.history.specs.declared.call.Reply.TheVariants.{NoTransaction}
 use Rattle.caller_steps.specs.Core.{Steps}
-use Rattle.mars_core.specs.Held.{Held, core_of}
+use Rattle.mars_core.specs.Held.{core_of, state_over}
 use Rattle.mars_core.specs.TableCall.{asking}
-use Rattle.mars_core.specs.Works.{IsShown}
+use Rattle.mars_core.proofs.Settling.{open_settles}
 use Rattle.mars_core.proofs.turns.Core.make_open.Goals as goal
 
 pub begin-requires : goal.begin-requires
@@ -82,3 +82,12 @@ ask-requires g c = record {
 pub returns-in-Table : goal.returns-in-Table
 returns-in-Table g c =
     record { steps = c.ask.ensures.steps; sends = c.ask.ensures.sends; not_busy = c.ask.ensures.not_busy; begun = λ granted. inl (c.ask.ensures.begun granted); tabled = c.ask.ensures.tabled }
+
+pub returns-in-Settle-clause-steps : goal.returns-in-Settle-clause-steps
+returns-in-Settle-clause-steps g c =
+    let V = g.S.EawStore.view in
+    let h = c.args.self.now in
+    let core = core_of g.S.EawStore.opens g.K.KeyIndex.index (V h.records.store) h in
+    subst (λ (call : Call). Steps g.S.EawStore.tells c.args.caller call core core NoTransaction) (sym (ap asking c.in-Settle.is) ∙ c.of.ensures)
+    (open_settles g.S.EawStore.tells g.S.EawStore.opens g.K.KeyIndex.index (pages_of (V h.records.store) h.records) (state_over g.K.KeyIndex.index (V h.records.store) h) (record { indexed = refl; dead = refl })
+    c.requires.safe c.requires.alive c.args.caller c.requires.unoffered)

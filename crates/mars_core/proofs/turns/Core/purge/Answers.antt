@@ -6,7 +6,7 @@ use Rattle.caller_steps.specs.Purging.{Purges}
 use Rattle.caller_steps.specs.declared.purge_fault.PurgeFault.{PurgeFault}
 use Rattle.mars_core.specs.Held.{Held, core_of}
 use Rattle.mars_core.specs.Purging.{Keeps}
-use Rattle.mars_core.specs.Seats.{live_in}
+use Rattle.mars_core.specs.Seats.{live_in, offers_in}
 use Rattle.mars_core.proofs.Answering.{IndexLaws}
 use Rattle.mars_core.proofs.Clearing.{stop_of}
 use Rattle.mars_core.proofs.Prefixes.{StoreLaws}
