@@ -1,7 +1,6 @@
 -- The lines of a script are answered by the turns of a core, with the frames that its store sends.
 use Rattle.std.proofs.Common.{◌≡◌, ◌≢◌, ◌⊎◌, ℕ, ◌+◌, ◌<◌, ◌≤◌, ◌^◌, List, [], ◌∷◌, ◌++◌, length, map, Bool, true, false, inl, inr, refl, sym, ap, subst, ◌∙◌, arith}
 use Rattle.std.specs.Prelude.{IsTrue, All, Contains}
-use Rattle.std.specs.List.{concat}
 use Rattle.array_shape.specs.declared.shape.Shape.{Shape}
 use Rattle.eaw_face.specs.Frame.{Frame, frame_bytes}
 use Rattle.eaw_face.specs.Mirroring.{AreInSequence, followed}
@@ -26,7 +25,7 @@ use Rattle.frame_lines.proofs.Framing.{are_some}
 use Rattle.array_runs.specs.Records.{begun_on}
 use Rattle.mars_shell.specs.OnCore.{TurnsOn}
 use Rattle.mars_shell.specs.Standing.{Progress, callers_of, HasData, line_script, Stands, Comes}
-use Rattle.mars_shell.specs.FramedRun.{framed_lines, framed_start, AnswersFramed, SendsFirst, says_framed}
+use Rattle.mars_shell.specs.FramedRun.{framed_lines, framed_start, says_framed}
 use Rattle.mars_shell.proofs.Acknowledged.{committed_kept}
 use Rattle.mars_shell.proofs.Lining.{gives_clean, stops_clean, answered_turns, safe_now}
 use Rattle.mars_shell.proofs.Unframed.{plain_of}
@@ -115,7 +114,7 @@ module _ (tells : Bool) (Opens : Shape → List ℕ → List ℕ → Type 0) (in
       kept last comes answers rest answered frames caller n few fits has =
           let most : old.shape.numbers ≤ 2 ^ 64 = let r = old.shape.in_range in omega (arith, r.most_numbers) in
           let plain = plain_of first 1 (lines_of input) ended cut answers rest last most answered in
-          committed_kept old.shape.numbers most caller n few fits core.limits core.state later.state (lines_of input) plain.ended plain.cut plain.answers plain.rest last.inner.turns (turned last comes)
+          committed_kept old.shape.numbers most caller n few fits core.limits core.state later.state (lines_of input) plain.ended plain.cut plain.answers plain.rest last.inner.turns (ready.sound told) (turned last comes)
           (answered_turns first.inner 1 (lines_of input) plain.ended plain.cut plain.answers plain.rest last.inner plain.answered) (plain.told frames caller n few has)
 
       module _ (new : StoreView) (data_is : later.state.index.bytes ≡ new.state.bytes) where
