@@ -1,17 +1,18 @@
 -- Tables in memory, and what they stand for.
-use Rattle.std.proofs.Common.{◌≡◌, ℕ, ◌+◌, ◌-◌, ◌<◌, ◌≤◌, nat_lt, nat_le, length, take, drop, get_or, arith, Bool, true, false, cond, ◌&&◌, List, [], ◌∷◌, ◌++◌, map, Option, Some, None, refl, sym, ap, subst, ◌∙◌}
-use Rattle.std.specs.Prelude.{slice_index_or, if◌then◌else◌, filter, T}
+use Rattle.std.proofs.Common.{◌≡◌, ℕ, ◌+◌, ◌-◌, ◌<◌, ◌≤◌, nat_lt, nat_le, length, take, drop, get_or, arith, Bool, true, false, cond, ◌&&◌, List, [], ◌∷◌, ◌++◌, map, Option, Some, refl, sym, ap, ◌∙◌}
+use Rattle.std.specs.Prelude.{slice_index_or, if◌then◌else◌, filter}
 use Rattle.std.specs.Ordering.{nat_cmp, is_eq, on, then_cmp}
 use Rattle.std.specs.Cmp.Lexicographic.{slice_cmp}
 use Rattle.std.specs.declared.cmp.Ordering.{Ordering}
 use Rattle.std.specs.declared.cmp.Ordering.TheVariants.{Less}
-use Rattle.std.specs.FinMap.{get, find, put, entries, insert, from_entries, is_sorted, entries_sorted, get-from_entries, entries-insert, len-entries, len-empty}
+use Rattle.std.specs.FinMap.{get, find, put, entries, insert, from_entries, get-from_entries, entries-insert, len-entries, len-empty}
 use Rattle.std.specs.List.Sorted.{IsStrictlySortedBy}
 use Rattle.std.specs.BTreeMap as tree
 use Rattle.std.specs.BTreeMap.{BTreeMap, is_at}
 use Rattle.std.specs.Map.{lookup, keys_of}
-use Rattle.history.specs.Key.{Key, key_cmp, of_table, is_same_key, is_of_table}
-use Rattle.history.specs.Writes.{Table, Row, rows_of, is_within, rows_within, set_or_remove}
+use Rattle.history.specs.Key.{key_cmp, of_table, is_same_key, is_of_table}
+use Rattle.history.specs.declared.key.Key.{Key}
+use Rattle.history.specs.Writes.{Table, Row, is_within, set_or_remove}
 use Rattle.history.specs.Rows.{NamedRows, all_keyed, records_in, table_of}
 use Rattle.history.specs.Table.{Work, has_save, after}
 use Rattle.history_replay.specs.Replay.{table_in, with_rows, is_listed}
@@ -19,7 +20,6 @@ use Rattle.history.specs.declared.call.Call.TheVariants.{Back}
 use Rattle.std.proofs.lemmas.Bool.{and_parts, ltb-true, leb-true}
 use Rattle.std.proofs.lemmas.List.{length-map, take-map, get_or-map, drop_more}
 use Rattle.history.proofs.Keys.{key_cmp_total, tied, same_turned}
-use Rattle.history.proofs.Keyed.{entries-from_entries}
 use Rattle.history.proofs.Agreeing.{get-set, same_table}
 
 -- the order that a map in memory has

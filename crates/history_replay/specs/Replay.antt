@@ -2,7 +2,8 @@
 use Rattle.std.specs.Prelude.{Bool, ◌&&◌, nat_le, List, [], ◌∷◌, ℕ, map}
 use Rattle.std.specs.BTreeMap.{BTreeMap}
 use Rattle.std.specs.FinMap.{from_entries, insert}
-use Rattle.history.specs.Key.{Key, of_table, is_of_table}
+use Rattle.history.specs.Key.{of_table, is_of_table}
+use Rattle.history.specs.declared.key.Key.{Key}
 use Rattle.history.specs.Writes.{Table, Row}
 use Rattle.history.specs.Table.{Work}
 use Rattle.history_replay.specs.declared.replay.Replay.{Replay}

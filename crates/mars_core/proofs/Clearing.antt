@@ -1,10 +1,10 @@
 -- Keys without records, tried one after another.
-use Rattle.std.proofs.Common.{◌≡◌, ◌≢◌, ℕ, zero, suc, ◌+◌, ◌*◌, ◌^◌, ◌<◌, ◌≤◌, ◌⊎◌, Bool, true, false, cond, inl, inr, IsTrue, List, [], ◌∷◌, ◌++◌, length, length-append, Result, Ok, Err, refl, sym, ◌∙◌, ap, subst, arith}
-use Rattle.std.specs.Prelude.{Option, Some, None, IsSome, IsFalse, IfOk, slice_get, unwrap_or}
+use Rattle.std.proofs.Common.{◌≡◌, ◌≢◌, ℕ, ◌+◌, ◌*◌, ◌^◌, ◌<◌, ◌≤◌, ◌⊎◌, Bool, true, false, cond, inl, inr, IsTrue, List, [], ◌∷◌, ◌++◌, length, length-append, Result, Ok, Err, refl, sym, ◌∙◌, ap, subst, arith}
+use Rattle.std.specs.Prelude.{Option, Some, None, IsSome, IfOk, slice_get, unwrap_or}
 use Rattle.std.specs.FinMap.{get}
 use Rattle.std.specs.List.{list_any}
 use Rattle.std.specs.Map.{update}
-use Rattle.std.proofs.lemmas.Bool.{cases_eq, cases_lt, false≢true, both_ways}
+use Rattle.std.proofs.lemmas.Bool.{cases_eq, false≢true, both_ways}
 use Rattle.std.proofs.lemmas.Nat.{mul-le}
 use Rattle.mars_base.specs.Causes.{Rose}
 use Rattle.mars_base.proofs.Going.{stays, then, weaker}
@@ -16,12 +16,12 @@ use Rattle.eaw_face.specs.Mirroring.{Mirrors}
 use Rattle.eaw_face.proofs.Mirroring.{none_sent, sent_then}
 use Rattle.record_slots.specs.Places.{version_of, used_slots}
 use Rattle.history.proofs.Modes.{clash_none}
-use Rattle.history.specs.Key.{is_same_key, of_table}
+use Rattle.history.specs.Key.{is_same_key}
 use Rattle.history.specs.declared.key.Key.{Key}
 use Rattle.history.proofs.Keys.{cases_key}
 use Rattle.caller_steps.proofs.AtKeys.{at_key, at_other_key}
 use Rattle.history.specs.Locks.{Meets, touches, touched, clash}
-use Rattle.history.specs.Log.{Log, log_of}
+use Rattle.history.specs.Log.{Log}
 use Rattle.history.specs.Table.{Granted}
 use Rattle.history.specs.Writes.{Table, is_of}
 use Rattle.history.specs.declared.call.Call.TheVariants.{Del}

@@ -1,11 +1,11 @@
 -- Which keys a purge has passed.
-use Rattle.std.proofs.Common.{◌≡◌, ◌+◌, ◌^◌, ◌<◌, ◌≤◌, ◌⊎◌, ℕ, zero, suc, min, inl, inr, List, [], ◌∷◌, length, Some, refl, sym, ap, subst, ◌∙◌, arith}
+use Rattle.std.proofs.Common.{◌≡◌, ◌+◌, ◌^◌, ◌<◌, ◌⊎◌, ℕ, zero, suc, min, inl, inr, List, [], ◌∷◌, length, Some, sym, ap, subst, ◌∙◌, arith}
 use Rattle.std.specs.Prelude.{slice_get}
 use Rattle.std.proofs.lemmas.Bool.{cases_eq, cases_lt}
 use Rattle.history.specs.Key.{of_table}
 use Rattle.history.specs.declared.key.Key.{Key}
 use Rattle.page_store.specs.Index.{Index}
-use Rattle.record_table.specs.Removing.{IsAbsent, IsNextAbsent, HasNoAbsent}
+use Rattle.record_table.specs.Removing.{IsAbsent, HasNoAbsent}
 use Rattle.mars_core.specs.Purging.{IsBelow, IsOfTable, IsOfFirst}
 use Rattle.mars_core.proofs.Clearing.{one_name}
 

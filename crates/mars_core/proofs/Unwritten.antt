@@ -12,7 +12,7 @@ use Rattle.history.specs.Log.{Log, save_at, floor_of, written, log_after, log_of
 use Rattle.history.specs.Table.{Granted, has_save}
 use Rattle.history.specs.Writes.{Write, is_of, replaced, with_write}
 use Rattle.history.specs.declared.call.Call.{Call}
-use Rattle.history.specs.declared.call.Call.TheVariants.{Begin, Get, Put, Del, Scan, Save, Back, Commit, Abort}
+use Rattle.history.specs.declared.call.Call.TheVariants.{Begin, Get, Put, Del, Scan, Save, Back, Commit, Abort, Offer, Settle}
 use Rattle.history.specs.declared.call.Reply.{Reply}
 use Rattle.history.specs.declared.call.Reply.TheVariants.{Fine}
 

@@ -1,6 +1,7 @@
 use Rattle.std.proofs.Common.{ap, sym, ◌∙◌, Some}
 use Rattle.std.specs.FinMap.{insert}
-use Rattle.history.specs.Key.{Key, of_table}
+use Rattle.history.specs.Key.{of_table}
+use Rattle.history.specs.declared.key.Key.{Key}
 use Rattle.history.specs.Writes.{Table}
 use Rattle.history_replay.specs.Replay.{table_in}
 use Rattle.history_replay.proofs.Replaying.{table_in-written, with_rows-next}

@@ -21,9 +21,9 @@ pub holder_if-requires-clause-locked : goal.holder_if-requires-clause-locked
 holder_if-requires-clause-locked g c held = c.requires.locked held (has_asked c.args.seats.now.names c.args.call.now c.in-Some-number_for.table (sym c.in-Some-number_for.ensures.number))
 
 -- the calls are those of the transaction and this one, and so are the masks
-pub returns-in-Ok-push-calls-clause-masked : goal.returns-in-Ok-push-calls-clause-masked
-returns-in-Ok-push-calls-clause-masked g c =
+pub returns-in-Ok-push-clause-masked : goal.returns-in-Ok-push-clause-masked
+returns-in-Ok-push-clause-masked g c =
     let names = c.args.seats.now.names in
     let was = subst (λ (calls : Granted). AreMasksOf (touched c.args.seats.now.names calls) c.args.live.masks) (sym c.in-Ok.ensures.ok) c.requires.masked in
     let these = subst (λ (ns : List (List ℕ)). AreMasksOf (touches ns c.args.call.now) c.touched_by.result) c.names.ensures c.touched_by.ensures in
-    rw c.in-Ok-push-calls.ensures.ok (masks-push names c.in-Ok.calls c.merged-masks.result c.args.call.now c.in-Ok-work.reply (c.merged-masks.ensures (touched names c.in-Ok.calls) (touches names c.args.call.now) was these))
+    rw c.in-Ok-push.ensures.ok (masks-push names c.in-Ok.calls c.merged-masks.result c.args.call.now c.in-Ok-work.reply (c.merged-masks.ensures (touched names c.in-Ok.calls) (touches names c.args.call.now) was these))

@@ -1,6 +1,5 @@
-use Rattle.std.proofs.Common.{◌≡◌, ◌<◌, ℕ, Bool, true, false, List, length, Option, Some, None, Result, Ok, Err, refl, sym, ap, subst, ◌∙◌}
-use Rattle.std.specs.Prelude.{IfOk, IsTrue, IsFalse, if◌then◌else◌}
-use Rattle.eaw_face.specs.Causes.{IsAlive}
+use Rattle.std.proofs.Common.{◌≡◌, ℕ, Bool, true, false, List, Option, Some, None, Result, Ok, Err, refl, sym, ap, subst}
+use Rattle.std.specs.Prelude.{IfOk, if◌then◌else◌}
 use Rattle.page_store.specs.Index as below
 use Rattle.page_store.specs.Shown.{PagesView, pages_of}
 use Rattle.history.specs.Table.{found}
@@ -11,13 +10,12 @@ use Rattle.history.specs.declared.call.Reply.TheVariants as reply
 use Rattle.caller_steps.specs.Fate.{is_refusal, is_committed}
 use Rattle.caller_steps.specs.Step.{uses_index}
 use Rattle.record_table.specs.Does.{Does}
-use Rattle.record_table.specs.Names.{names_of, IsCalled}
+use Rattle.record_table.specs.Names.{names_of}
 use Rattle.record_table.specs.declared.fault.TableFault.{TableFault}
 use Rattle.mars_core.specs.TableCall.{call_of, number_for}
 use Rattle.mars_core.specs.Works.{Works}
 use Rattle.mars_core.proofs.Naming.{number_at}
 use Rattle.mars_core.proofs.Passing.{there}
-use Rattle.mars_core.proofs.asking.work.Given.{Over}
 use Rattle.mars_core.proofs.asking.work.Goals as goal
 
 -- a call that uses the index, as the records made it

@@ -1,9 +1,9 @@
-use Rattle.std.proofs.Common.{◌≡◌, ℕ, List, [], refl, sym, subst, ap, ◌∙◌}
+use Rattle.std.proofs.Common.{◌≡◌, ℕ, List, [], sym, subst, ap, ◌∙◌}
 use Rattle.std.specs.Prelude.{Option, None}
 use Rattle.eaw_face.specs.State.{listed}
 use Rattle.eaw_face.specs.Causes.{IsAlive}
 use Rattle.page_store.specs.Shown.{Shown, pages_of}
-use Rattle.mars_core.specs.Attached.{is_media_fault, attach_fault, CoreCause, LeftAsItWas}
+use Rattle.mars_core.specs.Attached.{is_media_fault, CoreCause, LeftAsItWas}
 use Rattle.mars_core.specs.Making.{MakesTable}
 use Rattle.mars_core.specs.declared.fault.CoreFault.{CoreFault}
 use Rattle.mars_core.proofs.Attaching.{attach_cause, attach_left}

@@ -1,4 +1,4 @@
-use Rattle.std.proofs.Common.{◌≡◌, ◌+◌, ℕ, List, Ok, Err, Some, refl, sym, ap, subst, ◌∙◌, arith, length, IsTrue}
+use Rattle.std.proofs.Common.{◌+◌, ℕ, List, Ok, Err, sym, ap, subst, ◌∙◌, arith, length}
 use Rattle.std.specs.Prelude.{slice_get}
 use Rattle.array_shape.specs.declared.shape.Shape.{Shape}
 use Rattle.page_store.specs.Shown.{pages_of}

@@ -1,20 +1,18 @@
-use Rattle.std.proofs.Common.{◌≡◌, ◌≤◌, ◌<◌, ◌+◌, ◌^◌, ℕ, suc, [], min, Bool, true, Some, None, Option, Ok, Err, Result, false, IsTrue, List, refl, sym, ap, subst, ◌∙◌, arith, length}
+use Rattle.std.proofs.Common.{◌≡◌, ◌≤◌, ◌<◌, ◌+◌, ◌^◌, ℕ, suc, [], min, Bool, true, Some, None, Option, Ok, Err, Result, false, IsTrue, List, sym, ap, subst, ◌∙◌, arith, length}
 use Rattle.std.specs.Prelude.{slice_get, unwrap_or}
 use Rattle.array_shape.specs.declared.shape.Shape.{Shape}
-use Rattle.eaw_face.specs.Causes.{IsAlive}
 use Rattle.history.specs.Key.{of_table}
 use Rattle.history.specs.declared.key.Key.{Key}
 use Rattle.page_store.specs.Index.{Index}
 use Rattle.page_store.specs.Looks.{Looks}
-use Rattle.page_store.specs.Shown.{PagesView, pages_of}
+use Rattle.page_store.specs.Shown.{pages_of}
 use Rattle.record_table.specs.Does.{is_failed}
 use Rattle.record_table.specs.Names.{names_of, name_at}
 use Rattle.record_table.specs.Removing.{IsAbsent, IsNextAbsent}
 use Rattle.record_table.specs.declared.fault.TableFault.{TableFault}
-use Rattle.mars_core.specs.Purging.{IsBelow, IsOfTable, IsReady, Tries, Clears}
-use Rattle.mars_core.proofs.Clearing.{Going, one_if, going_first, going_look, going_on, going_to, next_still, all_tried, counted, was_absent, look_refused, try_refused}
+use Rattle.mars_core.specs.Purging.{IsBelow, IsOfTable, Tries}
+use Rattle.mars_core.proofs.Clearing.{one_if, going_first, going_look, going_on, going_to, next_still, all_tried, counted, was_absent, look_refused, try_refused}
 use Rattle.mars_core.proofs.Passing.{there, all_below, below_next, below_none}
-use Rattle.mars_core.proofs.purging.clear_table.Given.{Over}
 use Rattle.mars_core.proofs.purging.clear_table.Goals as goal
 
 -- what is found is found in the table of this name

@@ -1,9 +1,8 @@
-use Rattle.std.proofs.Common.{◌≡◌, ◌<◌, ap, subst, sym, ◌∙◌, IsTrue, List, ℕ, arith}
-use Rattle.std.specs.Prelude.{slice_get, length, Some}
+use Rattle.std.proofs.Common.{◌<◌, ap, subst, sym, ◌∙◌, List, ℕ, arith}
+use Rattle.std.specs.Prelude.{slice_get, length}
 use Rattle.history.specs.Key.{of_table}
 use Rattle.history.specs.declared.key.Key.{Key}
 use Rattle.page_store.specs.Shown.{pages_of}
-use Rattle.record_table.specs.Names.{IsCalled}
 use Rattle.record_table.specs.Removing.{IsAbsent, IsUnwritten}
 use Rattle.mars_core.proofs.Clearing.{all_unwritten, busy_tries, removed_tries, called_key}
 use Rattle.mars_core.proofs.Passing.{there}

@@ -1,6 +1,6 @@
 use Rattle.std.proofs.Common.{sym, subst, ap, ◌∙◌}
 use Rattle.std.proofs.lemmas.Bool.{both_ways, false≢true}
-use Rattle.history.specs.Table.{Work, Granted, Answers, worked, IsRightFrom}
+use Rattle.history.specs.Table.{Work, Answers, worked, IsRightFrom}
 use Rattle.history.specs.Told.{told_reply}
 use Rattle.history.specs.declared.call.Reply.{Reply}
 use Rattle.history_replay.specs.Replay.{work_in}

@@ -1,4 +1,4 @@
-use Rattle.std.proofs.Common.{◌≡◌, ◌+◌, ℕ, length, sym, subst, arith}
+use Rattle.std.proofs.Common.{◌≡◌, ◌+◌, ℕ, length, sym, subst}
 use Rattle.std.proofs.Common.{refl, None}
 use Rattle.mars_core.specs.Seats.{Places, seat_in}
 use Rattle.mars_core.proofs.Seating.{none-push, length-push}

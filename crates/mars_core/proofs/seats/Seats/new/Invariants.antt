@@ -4,4 +4,4 @@ use Rattle.mars_core.proofs.seats.Seats.new.Given as goal
 
 -- so many callers without a live transaction
 abbrev pub invariant-loop-caller : goal.invariant-loop-caller
-invariant-loop-caller l = (length l.live.items ≡ l._caller) × ((caller : ℕ) → seat_in l.live.items caller ≡ None)
+invariant-loop-caller l = (length l.places.items ≡ l._caller) × ((caller : ℕ) → seat_in l.live.items caller ≡ None)

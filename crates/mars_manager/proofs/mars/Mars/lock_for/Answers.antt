@@ -1,4 +1,4 @@
-use Rattle.std.proofs.Common.{◌≡◌, ℕ, List, sym, ap, ◌∙◌}
+use Rattle.std.proofs.Common.{ℕ, List, sym, ap, ◌∙◌}
 use Rattle.history.specs.declared.locks.Mode.TheVariants as mode
 use Rattle.mars_manager.specs.Pass.{PassView, names_of}
 use Rattle.mars_manager.specs.Locks.{number_asked}
