@@ -48,32 +48,6 @@ module _ {C : Type 0} (tells : Bool) (show : C → CoreView) (was : Known C) (ca
   pub told_on : told_of now ≡ told_of was ++ (call, reply) ∷ []
   told_on = ap told_of c.after ∙ last_here was.number call reply c.turns ∙ ap (λ (l : Granted). l ++ (call, reply) ∷ []) (sym told_was)
 
--- a commit was done, and has a number
-done_if : (reply : Reply) → is_committed reply ≡ true → is_refusal reply ≡ false
-done_if (Committed n) is = refl
-done_if _ is = absurd (false≢true is)
-
-number_told : (reply : Reply) → is_committed reply ≡ true → (n : ℕ) × (reply ≡ Committed n)
-number_told (Committed n) is = (n, refl)
-number_told _ is = absurd (false≢true is)
-
-settle_is : (call : Call) → is_settle call ≡ true → call ≡ Settle
-settle_is Settle is = refl
-settle_is _ is = absurd (false≢true is)
-
--- another call than a settle commits its caller's transaction alone
-one_committed : (callers : ℕ) (state : State) (caller : ℕ) (call : Call) → is_settle call ≡ false → committed_by callers state caller call ≡ done_by state caller (calls_of state caller) ∷ []
-one_committed callers state caller Settle plain = absurd (true≢false plain)
-one_committed callers state caller _ plain = refl
-
-fold-push : {A X : Type 0} (f : A → X → A) → (a : A) (xs : List X) (x : X) → fold f a (xs ++ x ∷ []) ≡ f (fold f a xs) x
-fold-push f a [] x = refl
-fold-push f a (y ∷ xs) x = fold-push f (f a y) xs x
-
--- what the caller's own turns say after one more
-pub own_on : {C : Type 0} (was now : Known C) (call : Call) (reply : Reply) → now.number ≡ was.number → told_of now ≡ told_of was ++ (call, reply) ∷ [] → own_by now ≡ own_after was.number (own_by was) (call, reply)
-own_on was now call reply number told = (λ i. own_of (number i) (told i)) ∙ fold-push (own_after was.number) nothing_own (told_of was) (call, reply)
-
 module _ {C : Type 0} (f : Face C) where
   goes_on : (setup : Setup C) (n : ℕ) (call : Call) (reply : Reply) (old new : C) → Steps f.tells n call (f.show old) (f.show new) reply → (IsTrue (f.show old).state.is_dead → (reply ≡ Dead) × (new ≡ old))
       → Since f.tells (f.show setup.first) (f.show old) → Goes f.tells (f.show setup.first).limits (f.show old).state n call reply (f.show new).state
@@ -180,7 +154,6 @@ module _ {C : Type 0} (f : Face C) where
             let t = record_of in
             let all = subst (λ (ks : List (Known C)). AllFit f.tells f.show t.setup t.turns (f.show core).state ks) (ap (λ (m : SeatOf C). m.0.passes) homed) t.fit in
             let fit : Fits f.tells f.show t.setup t.turns (f.show core).state k = found_fit f t.setup t.turns core k.found (finds 0 k) all.0 in
-            let now_called = called t.setup t.turns core new k call reply fit steps_as dead t.since t.whose t.ready in
             let F : SeatOf C → SeatOf C = λ m. (shared_view m.0.passes None, []) in record {
               now = shown f call reply t.turns new k;
               is = give ∙ ap F told_seat;

@@ -17,9 +17,7 @@ use Rattle.history.specs.declared.call.Reply.{Reply}
 use Rattle.history.specs.declared.locks.Mode.{Mode}
 use Rattle.history.specs.declared.locks.Mode.TheVariants as mode
 use Rattle.history.proofs.OneMore.{touched-push}
-use Rattle.caller_steps.specs.State.{State, Offer, unoffered, offered, unsettled, calls_of}
-use Rattle.caller_steps.specs.Offers.{is_unoffered, takes_calls}
-use Rattle.caller_steps.specs.Own.{Own, live_in, KnowsLive}
+use Rattle.caller_steps.specs.State.{State, calls_of}
 use Rattle.caller_steps.specs.Locked.{IsLocked}
 use Rattle.caller_steps.specs.Own.{Own, KnowsLive}
 use Rattle.caller_steps.specs.Offers.{takes_calls}
@@ -34,14 +32,6 @@ use Rattle.mars_manager.specs.Pass.{own_by, takes_of, names_of}
 use Rattle.mars_manager.specs.Locks.{locks, IsCovered, hold_of}
 use Rattle.mars_manager.specs.Rule.{Face, HasAlone, AllHave, AreLocked}
 use Rattle.mars_manager.proofs.Waiting.{live_either, takes_own}
-
-and_true : (b : Bool) → (b && true) ≡ b
-and_true true = refl
-and_true false = refl
-
-and_false : (b : Bool) → (b && false) ≡ false
-and_false true = refl
-and_false false = refl
 
 pub locked_granted : (x : Hold) → locked x ≡ 1 → granted x ≡ 1
 locked_granted Free e = absurd (omega arith)
@@ -126,32 +116,6 @@ module _ {C : Type 0} (f : Face C) (core : C) (k : Known C) (call : Call) (alone
       (λ (write : touches (f.show core).state.names call t mode.Exclusive ≡ true). false≢true (sym (alone.reads t h (small_touch (f.show core).state.names call t mode.Exclusive write) ne (locked_granted (hold_of t k) (c.writes t write))) ∙ p.1))
       (or_cases (touches (f.show core).state.names call t mode.Shared) (touches (f.show core).state.names call t mode.Exclusive) p.0))
       (clash_parts (touches (f.show core).state.names call t) theirs e)
-
--- what a caller's own turns say of whether its transaction takes calls is so while the medium has not failed
-taking_at : (own : Own) (offer : Offer) (live : Option Granted) → live ≡ live_in own offer → (IsFalse own.waits → offer ≡ unoffered) → (own.waits ≡ true → offer ≡ unoffered → ⊥) → (waits : Bool) → own.waits ≡ waits
-    → (is_unoffered offer && is_some live) ≡ (is_some own.live && not waits)
-taking_at own offer live is none some false never =
-    let un = none never in
-    (λ i. is_unoffered (un i) && is_some ((is ∙ ap (live_in own) un ∙ ap (λ (b : Bool). if b then None else own.live) never) i)) ∙ sym (and_true (is_some own.live))
-taking_at own unoffered live is none some true waits = absurd (some waits refl)
-taking_at own offered live is none some true waits = sym (and_false (is_some own.live))
-taking_at own (unsettled n) live is none some true waits = sym (and_false (is_some own.live))
-
-pub taking_is : (n : ℕ) (own : Own) (state : State) → KnowsLive n own state → IsFalse state.is_dead → takes_calls state n ≡ (is_some own.live && not own.waits)
-taking_is n own state knows alive = taking_at own (state.offers n) (state.live n) knows.live knows.none (λ waits. knows.some waits alive) own.waits refl
-
--- what covers the transaction that its caller knows covers the one that is live
-covered_at : (names : List (List ℕ)) (own : Own) (holds : List Hold) (offer : Offer) → IsCovered (touched names (unwrap_or own.live [])) holds → IsCovered (touched names (unwrap_or (live_in own offer) [])) holds
-covered_at names own holds unoffered c = covered_if own.waits
-  where
-    covered_if : (b : Bool) → IsCovered (touched names (unwrap_or (if b then None else own.live) [])) holds
-    covered_if true = covered_none names holds
-    covered_if false = c
-covered_at names own holds offered c = c
-covered_at names own holds (unsettled n) c = covered_none names holds
-
-pub covered_live : (n : ℕ) (names : List (List ℕ)) (own : Own) (state : State) (holds : List Hold) → KnowsLive n own state → IsCovered (touched names (unwrap_or own.live [])) holds → IsCovered (touched names (calls_of state n)) holds
-covered_live n names own state holds knows c = subst (λ (live : Option Granted). IsCovered (touched names (unwrap_or live [])) holds) (sym knows.live) (covered_at names own holds (state.offers n) c)
 
 module _ {C : Type 0} (f : Face C) (core : C) (k : Known C) (call : Call) where
   pub locked_by : names_of k ≡ (f.show core).state.names → (IsFalse (f.show core).state.is_dead → HasAlone f core k) → (IsTrue (takes_of k) → IsCovered (locks (names_of k) call) k.holds) → IsLocked (f.show core).state k.number call

@@ -105,14 +105,6 @@ module _ {C : Type 0} (tells : Bool) (show : C → CoreView) (was : Known C) whe
       let now : finds (a.holder + 1) was ≡ first_of m.0.passes = sym (ap (λ (s : SeatOf C). first_of s.0.passes) again.1) in
       (again.1 ∙ ap (λ (j : Known C). seat_of j) now, subst (λ (j : Known C). Kept was j) now (kept_found (a.holder + 1)))
 
-  -- it has then seen what its caller was told of
-  pub sees_read : (now : Known C) → Reads tells show was now → IsTrue tells → SeesOwn now
-  sees_read now r told = subst (λ (j : Known C). SeesOwn j) (sym r.after)
-      (sees_run (known_at was r.turns (show r.core).state) (show r.setup.first).limits (show r.setup.first).state (show r.core).state r.turns
-      (subst (λ (b : Bool). GoesAlong b (show r.setup.first).limits (show r.setup.first).state r.turns (show r.core).state) told
-      (turn_run tells (show r.setup.first).limits was.number was.past was.seen (show r.setup.first).state (show r.core).state r.turns r.last))
-      (r.ready.live was.number) (r.ready.offers was.number) r.ready.history refl refl)
-
   pub legal_read : (now : Known C) → Reads tells show was now → IsTrue tells → IsLegalIn show now
   legal_read now r told given is =
       let same : r.setup ≡ given = some_same r.setup given (sym r.setup_is ∙ sym (ap (λ (j : Known C). j.setup) r.after) ∙ is) in

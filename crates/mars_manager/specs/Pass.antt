@@ -39,11 +39,7 @@ module _ {C : Type 0} where
 
   -- the live transaction of its caller, as its turns say
   abbrev pub live_of : Known C → Option Granted
-  live_of known = (own_by known).live
-
-  -- that transaction takes calls: it is there and was not offered
-  abbrev pub is_taking : Known C → Bool
-  is_taking known = is_some (live_of known) && not (own_by known).waits
+  live_of known = live_by known.number (told_of known)
 
   -- whether its caller has offered one that waits for its settle
   abbrev pub waits_of : Known C → Bool

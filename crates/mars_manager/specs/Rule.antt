@@ -23,7 +23,6 @@ use Rattle.stripe_words.specs.declared.hold.Hold.TheVariants as hold
 use Rattle.stripe_words.specs.Words.{Stands, granted, locked}
 use Rattle.caller_steps.specs.Own.{KnowsLive}
 use Rattle.caller_steps.specs.State.{State, calls_of}
-use Rattle.caller_steps.specs.Own.{KnowsLive}
 use Rattle.history.specs.Locks.{touched, is_touch}
 use Rattle.history.specs.declared.locks.Mode.{Mode}
 use Rattle.history.specs.declared.locks.Mode.TheVariants as mode

@@ -45,11 +45,6 @@ pub record Since (tells : Bool) (first core : CoreView) : Type 0 where
   pub faults : MatchBool core.state.is_dead (Rose first.faults core.faults) (core.faults ≡ first.faults)
   pub continues : IsTrue tells → Continues first core
 
--- the call asks what became of an offered transaction
-abbrev pub is_settle : Call → Bool
-is_settle Settle = true
-is_settle call = false
-
 module _ {C : Type 0} where
   -- A call that got the turn is one step of a core that the shared one has come to by a run. Before it, the past of the pass was this run up
   -- to its last turn, and it had seen the history then. Now its past is the whole run with this call as the last turn, and it has seen the
@@ -106,13 +101,6 @@ module _ {C : Type 0} where
   -- the transactions of its caller that a pass has seen
   abbrev pub mine_of : Known C → List Done
   mine_of known = commits_of known.number known.seen
-
-  -- The transactions of its caller that a pass has seen are those that it was told of, and perhaps the one that it has offered and not settled:
-  -- another's settle has then committed it.
-  pub record SeesOwn (known : Known C) : Type 0 where
-    pub offer : Offer
-    pub none : IsFalse (own_by known).waits → offer ≡ unoffered
-    pub mine : own.told_of known.number known.seen ≡ mine_in known.number (own_by known) offer
 
   -- A commit: the last transaction that the pass has then seen is its caller's, with exactly its live calls, and it is the only new one
   -- among the caller's own. If the core tells its records, the reply has its number.

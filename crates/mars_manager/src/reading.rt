@@ -1,5 +1,5 @@
 // A pass reads the history of the shared core.
-ghost use Rattle.std.specs.Prelude.{◌≡◌, ◌≤◌, ◌+◌, IsTrue, IsFalse, drop, length, IfOk, IfErr};
+ghost use Rattle.std.specs.Prelude.{◌≡◌, ◌≤◌, ◌+◌, IsTrue, drop, length, IfOk, IfErr};
 ghost use Rattle.history.specs.Legal.{AreNumberedFrom};
 ghost use Rattle.caller_steps.specs.Prefix.{Grows};
 ghost use Rattle.mars_manager.specs.Pass.{told_of, finds, IsOther};

@@ -64,7 +64,7 @@ fn put_rows_head<E, T: TextOut<E>>(out: &mut T, caller: u8, count: u64) -> Resul
 }
 
 fn put_kept_rows<E, T: TextOut<E>>(out: &mut T, caller: u8, rows: KeptRows<'_>) -> Result<(), E>
-    ensures { Appends T.tells (T.view out.old) (T.view out.new) result (row_lines caller (Reply.Listed rows)) }
+    ensures { Appends T.tells (T.view out.old) (T.view out.new) result (row_lines caller (Reply.Listed rows.entry)) }
 {
     let mut left = rows;
     while let Some((key, value, rest)) = left.next() {

@@ -1,15 +1,15 @@
 -- Rooms for values, and the records that they stand for.
 use Rattle.std.proofs.Common.{◌≡◌, ℕ, Bool, true, false, cond, List, [], ◌∷◌, Option, Some, None, refl, sym, ap, subst, ◌∙◌}
 use Rattle.std.specs.Prelude.{is_some, IsSome}
-use Rattle.std.specs.Ordering.{is_eq, eq_by_cmp}
-use Rattle.std.specs.FinMap.{get, get-empty, insert}
+use Rattle.std.specs.Ordering.{eq_by_cmp}
+use Rattle.std.specs.FinMap.{get, get-empty}
 use Rattle.std.specs.BTreeMap as tree
 use Rattle.std.specs.BTreeMap.{BTreeMap, is_at}
 use Rattle.std.specs.Map.{lookup}
 use Rattle.std.proofs.lemmas.Bool.{true≢false}
 use Rattle.history.specs.Key.{key_cmp, is_same_key}
 use Rattle.history.specs.declared.key.Key.{Key}
-use Rattle.history.specs.Writes.{Table, Write, set_or_remove}
+use Rattle.history.specs.Writes.{Write, set_or_remove}
 use Rattle.history.proofs.Keys.{tied, same_turned, same_key}
 use Rattle.history.proofs.Agreeing.{get-set, same_table, remove_absent}
 use Rattle.snapshot_readers.specs.Rooms.{table_in, HasRoom, room_cmp}

@@ -6,7 +6,9 @@ use Rattle.std.proofs.lemmas.List.{length-map, take-map, get_or-map, map_push, t
 use Rattle.std.proofs.lemmas.List.Elements.{All-push}
 use Rattle.std.proofs.lemmas.List.Quantifiers.{all_pairs_push}
 use Rattle.history.specs.Writes.{Table, Write, write_into, all_written}
-use Rattle.history.specs.Table.{Work, begun, has_save, after}
+use Rattle.history.specs.Table.{Granted, Work, begun, has_save, after, worked}
+use Rattle.history.specs.declared.call.Call.{Call}
+use Rattle.history.specs.declared.call.Reply.{Reply}
 use Rattle.history.specs.declared.call.Call.TheVariants.{Save, Back}
 use Rattle.snapshot_readers.specs.Writing.{Writes}
 
@@ -55,6 +57,12 @@ module _ (table : Table) where
     within = All-push (λ count. count ≤ length writes) saves (length writes) h.within (omega arith);
     rising = all_pairs_push (λ count later. count ≤ later) saves (length writes) h.rising h.within;
   }
+
+  -- one call more of those that are left
+  pub call_more : {writes more : List Write} {saves later : List ℕ} {all : Work} {left rest : Granted} {call : Call} {reply : Reply} → left ≡ (call, reply) ∷ rest
+      → ((work : Work) → Writes table writes saves work → Writes table more later (after work call))
+      → ((work : Work) × Writes table writes saves work × (worked work left ≡ all)) → (work : Work) × Writes table more later work × (worked work rest ≡ all)
+  call_more {call = call} front makes (work, so_far, comes) = (after work call, makes work so_far, sym (ap (worked work) front) ∙ comes)
 
   -- the saves up to one have no more writes than it
   below : (saves : List ℕ) (n count : ℕ) → 0 < n → n ≤ length saves → count ≡ get_or saves (n - 1) count → AllPairs (λ one later. one ≤ later) saves → All (λ one. one ≤ count) (take n saves)

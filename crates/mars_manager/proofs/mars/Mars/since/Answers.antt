@@ -3,8 +3,7 @@ use Rattle.caller_steps.specs.Prefix.{Grows}
 use Rattle.mars_manager.specs.Pass.{PassView}
 use Rattle.mars_manager.specs.Sharing.{SeesOwn}
 use Rattle.mars_manager.specs.Seat.{first_of}
-use Rattle.mars_manager.proofs.Looking.{read_kept, sees_read, idle_kept}
-use Rattle.mars_manager.proofs.Making.{if_ok}
+use Rattle.mars_manager.proofs.Looking.{read_kept, idle_kept}
 use Rattle.mars_manager.proofs.mars.Mars.since.Goals as goal
 
 pub invariant_of-pass : goal.invariant_of-pass

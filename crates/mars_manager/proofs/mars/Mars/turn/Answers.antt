@@ -3,7 +3,6 @@ use Rattle.std.specs.Prelude.{IsTrue, IsFalse}
 use mathlib.Core.Option.{none}
 use Rattle.caller_steps.specs.Offers.{takes_calls}
 use Rattle.caller_steps.specs.Locked.{IsLocked}
-use Rattle.caller_steps.specs.Offers.{takes_calls}
 use Rattle.atomic_table.specs.Table.{rest, Allows, step}
 use Rattle.mars_manager.specs.declared.view.Known.{Known}
 use Rattle.mars_manager.specs.Pass.{own_by, takes_of, names_of, times, finds}
