@@ -3,7 +3,7 @@ use Rattle.std.proofs.Common.{◌≡◌, ℕ, inl, inr, Bool, true, false, Optio
 use Rattle.std.proofs.lemmas.Bool.{true≢false, both_ways, cases_order}
 use Rattle.history.specs.Table.{Granted, Work, has_save, Answers}
 use Rattle.history.specs.declared.call.Call.{Call}
-use Rattle.history.specs.declared.call.Call.TheVariants.{Begin, Get, Put, Del, Scan, Save, Back, Commit, Abort, Offer, Settle}
+use Rattle.history.specs.declared.call.Call.TheVariants.{Begin, Get, Put, Del, Scan, Save, Back, Commit, Abort, Offer, Settle, Purge}
 use Rattle.history.specs.declared.call.Reply.{Reply}
 use Rattle.history.specs.declared.call.Reply.TheVariants.{Busy}
 use Rattle.history.specs.Locks.{has_table}
@@ -71,6 +71,8 @@ module _ (limits : Limits) (old : State) (caller : ℕ) where
   one_at : (live : Option Granted) (call : Call) (one other : Reply) (new next : State) → is_of_array one ≡ false → is_of_array other ≡ false
       → StepAt limits live old caller call one new → StepAt limits live old caller call other next → one ≡ other
   one_at None Begin one other new next ok ok' a b = a.0 ∙ sym b.0
+  one_at None Purge one other new next ok ok' (inl a) b = absurd (true≢false (sym (ap is_of_array a.1) ∙ ok))
+  one_at None Purge one other new next ok ok' (inr a) b = absurd (true≢false (sym (ap is_of_array a.0) ∙ ok))
   one_at None _ one other new next ok ok' a b = a.0 ∙ sym b.0
   one_at (Some calls) Begin one other new next ok ok' a b = a.0 ∙ sym b.0
   one_at (Some calls) Commit one other new next ok ok' (inr (inl a)) (inr (inl b)) = a.0 ∙ sym b.0
@@ -81,6 +83,7 @@ module _ (limits : Limits) (old : State) (caller : ℕ) where
   one_at (Some calls) Abort one other new next ok ok' a b = a.0 ∙ sym b.0
   one_at (Some calls) Offer one other new next ok ok' a b = a.0 ∙ sym b.0
   one_at (Some calls) Settle one other new next ok ok' a b = a.0 ∙ sym b.0
+  one_at (Some calls) Purge one other new next ok ok' a b = a.0 ∙ sym b.0
   one_at (Some calls) Save one other new next ok ok' (inl (full, a)) (inl (full', b)) = a.0 ∙ sym b.0
   one_at (Some calls) Save one other new next ok ok' (inl (full, a)) (inr (room, b)) = absurd (omega (arith, full, room))
   one_at (Some calls) Save one other new next ok ok' (inr (room, a)) (inl (full, b)) = absurd (omega (arith, full, room))
@@ -109,6 +112,7 @@ module _ (limits : Limits) (old : State) (caller : ℕ) where
   one_by offered Commit one other new next ok ok' a b = a.0 ∙ sym b.0
   one_by offered Abort one other new next ok ok' a b = a.0 ∙ sym b.0
   one_by offered Offer one other new next ok ok' a b = a.0 ∙ sym b.0
+  one_by offered Purge one other new next ok ok' a b = a.0 ∙ sym b.0
   one_by (unsettled n) Begin one other new next ok ok' a b = a.0 ∙ sym b.0
   one_by (unsettled n) (Get name key) one other new next ok ok' a b = a.0 ∙ sym b.0
   one_by (unsettled n) (Put name key value) one other new next ok ok' a b = a.0 ∙ sym b.0
@@ -120,6 +124,7 @@ module _ (limits : Limits) (old : State) (caller : ℕ) where
   one_by (unsettled n) Abort one other new next ok ok' a b = a.0 ∙ sym b.0
   one_by (unsettled n) Offer one other new next ok ok' a b = a.0 ∙ sym b.0
   one_by (unsettled n) Settle one other new next ok ok' a b = a.0 ∙ sym b.0
+  one_by (unsettled n) Purge one other new next ok ok' a b = a.0 ∙ sym b.0
 
   one_if : (dead : Bool) (call : Call) (one other : Reply) (new next : State) → is_of_array one ≡ false → is_of_array other ≡ false
       → StepIf limits dead old caller call one new → StepIf limits dead old caller call other next → one ≡ other

@@ -11,9 +11,9 @@ use Rattle.history.specs.Key.{of_table}
 use Rattle.history.specs.declared.key.Key.{Key}
 use Rattle.history.specs.Table.{Granted, Work, found, removed, Answers}
 use Rattle.history.specs.declared.call.Call.{Call}
-use Rattle.history.specs.declared.call.Call.TheVariants.{Begin, Get, Put, Del, Scan, Save, Back, Commit, Abort, Offer, Settle}
+use Rattle.history.specs.declared.call.Call.TheVariants.{Begin, Get, Put, Del, Scan, Save, Back, Commit, Abort, Offer, Settle, Purge}
 use Rattle.history.specs.declared.call.Reply.{Reply}
-use Rattle.history.specs.declared.call.Reply.TheVariants.{Fine, Committed, NoTransaction, NoTable, Already, NoSave, SavesFull, Busy, LogFull, SlotsFull, PagesFull, Media, Dead, NoMemory}
+use Rattle.history.specs.declared.call.Reply.TheVariants.{Fine, Committed, Purged, NoTransaction, NoTable, Already, NoSave, SavesFull, Busy, LogFull, SlotsFull, PagesFull, Media, Dead, NoMemory}
 use Rattle.caller_steps.specs.State as state
 use Rattle.caller_steps.specs.State.{State, Index, unoffered, offered, unsettled, offers_with, calls_of, commits_of, view_of, with_live, with_offer, done_by}
 use Rattle.caller_steps.specs.Offers.{is_offered, is_unoffered, offerers, group_in, group_end, group_done, number_among, committed_group, doubted_group}
@@ -45,6 +45,8 @@ pub data Fate (callers : ℕ) (old : State) (caller : ℕ) (call : Call) (reply 
   unsure : caller < callers → old.offers caller ≡ offered → call ≡ Settle → reply ≡ Media → (index : Index) → new ≡ record (doubted_group old (offerers callers old)) { index = index } → Fate callers old caller call reply new
   -- the number of a transaction that a group has committed is told
   told : (n : ℕ) → old.offers caller ≡ unsettled n → call ≡ Settle → reply ≡ Committed n → new ≡ with_offer (with_live old caller None) caller unoffered → Fate callers old caller call reply new
+  -- keys without records were taken out of the index
+  purged : (n : ℕ) → old.offers caller ≡ unoffered → old.live caller ≡ None → call ≡ Purge → reply ≡ Purged n → (index : Index) → new ≡ record old { index = index } → Fate callers old caller call reply new
 
 -- a refusal for lack of room is a reply of the array
 pub lacks_at_of_array : (limits : Limits) (old : State) (caller : ℕ) (key : Key) (slot : Option ℕ) (reply : Reply) → LacksAt limits old caller key slot reply → is_of_array reply ≡ true
@@ -98,6 +100,8 @@ module _ (limits : Limits) (old : State) (caller : ℕ) (new : State) where
   fate_at None Abort reply un is s = says Abort reply NoTransaction refl refl s
   fate_at None Offer reply un is s = says Offer reply NoTransaction refl refl s
   fate_at None Settle reply un is s = says Settle reply NoTransaction refl refl s
+  fate_at None Purge reply un is (inl (n, re, purges)) = purged n un is refl re purges.index purges.same
+  fate_at None Purge reply un is (inr (re, index, e)) = failed refl re index e
   fate_at (Some calls) Begin reply un is s = says Begin reply Already refl refl s
   fate_at (Some calls) (Get name key) reply un is a = tabled calls (Get name key) reply refl un is a
   fate_at (Some calls) (Put name key value) reply un is a = tabled calls (Put name key value) reply refl un is a
@@ -113,6 +117,7 @@ module _ (limits : Limits) (old : State) (caller : ℕ) (new : State) where
   fate_at (Some calls) Abort reply un is (re, e) = aborted un refl re e
   fate_at (Some calls) Offer reply un is (re, e) = given calls un refl re is e
   fate_at (Some calls) Settle reply un is s = says Settle reply NoTransaction refl refl s
+  fate_at (Some calls) Purge reply un is s = says Purge reply Already refl refl s
 
   fate_by : (offer : state.Offer) (call : Call) (reply : Reply) → old.offers caller ≡ offer → StepBy limits offer old caller call reply new → Fate limits.callers old caller call reply new
   fate_by unoffered call reply is s = fate_at (old.live caller) call reply is refl s
@@ -126,6 +131,7 @@ module _ (limits : Limits) (old : State) (caller : ℕ) (new : State) where
   fate_by offered Commit reply is s = says Commit reply NoTransaction refl refl s
   fate_by offered Abort reply is s = says Abort reply NoTransaction refl refl s
   fate_by offered Offer reply is s = says Offer reply NoTransaction refl refl s
+  fate_by offered Purge reply is s = says Purge reply Already refl refl s
   fate_by offered Settle reply is (inl short) = says Settle reply NoMemory refl refl short
   fate_by offered Settle reply is (inr (inside, inl (re, index, settles, e))) = settled inside is refl re index e
   fate_by offered Settle reply is (inr (inside, inr (wrote, re, index, e))) = unsure inside is refl re index e
@@ -140,6 +146,7 @@ module _ (limits : Limits) (old : State) (caller : ℕ) (new : State) where
   fate_by (unsettled n) Abort reply is s = says Abort reply NoTransaction refl refl s
   fate_by (unsettled n) Offer reply is s = says Offer reply NoTransaction refl refl s
   fate_by (unsettled n) Settle reply is (re, e) = told n is refl re e
+  fate_by (unsettled n) Purge reply is s = says Purge reply Already refl refl s
 
   fate_if : (dead : Bool) (call : Call) (reply : Reply) → StepIf limits dead old caller call reply new → Fate limits.callers old caller call reply new
   fate_if true call reply s = says call reply Dead refl refl s
@@ -183,6 +190,7 @@ answered_live calls work Commit reply answers = absurd answers
 answered_live calls work Abort reply answers = absurd answers
 answered_live calls work Offer reply answers = absurd answers
 answered_live calls work Settle reply answers = absurd answers
+answered_live calls work Purge reply answers = absurd answers
 answered_live calls work _ reply answers = refl
 
 or_true : (b : Bool) → (b || true) ≡ true
@@ -413,6 +421,19 @@ module _ (callers : ℕ) (old : State) (caller : ℕ) (call : Call) (reply : Rep
     );
     others = λ other ne. inl (record { live = live_moved other None ne (ap (λ (s : State). s.live) e); offer = ap (λ (s : State). s.offers other) e ∙ offers_apart old.offers caller unoffered other ne; mine = ap (λ (s : State). commits_of other s.history) e });
     closed = λ gate done. c;
+    refused = λ re ok. absurd (true≢false (sym re ∙ ap is_refusal r));
+  }
+  fate_moves (purged n un l c r index e) = record {
+    names = ap (λ (s : State). s.names) e;
+    base = ap (λ (s : State). s.base) e;
+    history = same_history (ap is_committed r) (ap (λ (s : State). s.history) e);
+    dead = alive_same (ap is_media r) (ap (λ (s : State). s.is_dead) e);
+    own = λ done. (
+      ap (λ (s : State). s.live caller) e ∙ l ∙ ap (λ (x : Call). live_with (calls_of old caller) x reply) (sym c),
+      offer_none un (ap (λ (s : State). s.offers) e) (ap offer_with (sym c)),
+    );
+    others = others_same (ap (λ (s : State). s.live) e) (ap (λ (s : State). s.offers) e) (ap (λ (s : State). s.history) e);
+    closed = λ gate done. absurd (true≢false (sym (ap is_unoffered un) ∙ gate));
     refused = λ re ok. absurd (true≢false (sym re ∙ ap is_refusal r));
   }
 

@@ -23,7 +23,7 @@ use Rattle.caller_steps.specs.Fate.{is_refusal, is_media, is_committed, live_wit
 use Rattle.caller_steps.specs.Run.{Turn, Goes, GoesAlong, AreOf, turns_of}
 use Rattle.caller_steps.specs.Own.{is_commit, number_of, Own, nothing_own, own_after, as_told, told_of, calls_among, live_in, mine_in, doubt_in, KnowsLive}
 use Rattle.caller_steps.proofs.Offering.{offers_here, is_in, offerers_once, offerer_has, offerer_is, more_mine, more_theirs, group_history, group_mine, group_with, group_without, group_doubt, without_history, without_apart, without_ends}
-use Rattle.caller_steps.proofs.Fates.{Fate, refused, failed, began, granted, committed, doubted, aborted, given, settled, unsure, told, step_fate, refusal_none, answer_plain}
+use Rattle.caller_steps.proofs.Fates.{Fate, refused, failed, began, granted, committed, doubted, aborted, given, settled, unsure, told, purged, step_fate, refusal_none, answer_plain}
 use Rattle.caller_steps.proofs.Running.{line_here, line_apart, none_beyond, turns_dead}
 
 offered_none : offered ≡ unoffered → ⊥
@@ -193,6 +193,7 @@ module _ (limits : Limits) (old : State) (caller : ℕ) (new : State) (own : Own
       live_ended limits old caller new upon (ap (λ (s : State). s.live caller) e ∙ at.live) (ap (λ (s : State). s.offers caller) e ∙ at.offer)
       (lost_live caller own call reply media (ap is_commit c)) (lost_waits caller own call reply media (ap is_commit c))
   live_faulted media (told n has c r e) was = absurd (true≢false (sym media ∙ ap is_media r))
+  live_faulted media (purged n un l c r index e) was = absurd (true≢false (sym media ∙ ap is_media r))
 
   live_alive : (tells : Bool) (b r : Bool) → is_media reply ≡ b → is_refusal reply ≡ r → old.is_dead ≡ false → Goes tells limits old caller call reply new → IsTrue tells ⊎ (new.is_dead ≡ false) → KnowsLive caller own old → KnowsLive caller upon new
   live_alive tells true r media refusal alive goes (inl so) was = live_faulted media (step_fate limits old caller new call reply (goes.step so)) was
@@ -296,6 +297,7 @@ module _ (limits : Limits) (old : State) (caller : ℕ) (new : State) (own : Own
       ap (λ (s : State). told_of caller s.history) e ∙ mine ∙ ap (mine_in caller own) has
       ∙ (λ i. own.mine ++ record { caller = caller; calls = unwrap_or own.live []; at = sym (ap number_of r) i; last = sym (ap number_of r) i } ∷ [])
       ∙ sym (more_own caller own call reply (ap is_committed r)) ∙ sym (ap (mine_in caller after) (ap (λ (s : State). s.offers caller) e ∙ offers_here old.offers caller unoffered))
+  mine_own (purged n un l c r index e) mine = mine_same (ap (λ (s : State). s.history) e) (ap is_committed r) (mine ∙ ap (mine_in caller own) un) (ap (mine_in caller after) (ap (λ (s : State). s.offers caller) e ∙ un))
 
 -- and what another's call makes of them
 mine_other : (limits : Limits) (old : State) (caller : ℕ) (new : State) (own : Own) (turn : Turn) → KnowsLive caller own old
@@ -350,6 +352,7 @@ sure_same limits old caller new call reply sure (given calls un c r l e) = ap (�
 sure_same limits old caller new call reply sure (settled inside has c r index e) = ap (λ (s : State). s.doubt) e ∙ group_doubt old (group_end old (offerers limits.callers old)) (offerers limits.callers old)
 sure_same limits old caller new call reply sure (unsure inside has c r index e) = absurd (true≢false (sym (ap is_media r) ∙ sure))
 sure_same limits old caller new call reply sure (told n has c r e) = ap (λ (s : State). s.doubt) e
+sure_same limits old caller new call reply sure (purged n un l c r index e) = ap (λ (s : State). s.doubt) e
 
 module _ (limits : Limits) (old : State) (caller : ℕ) (new : State) (own : Own) (alive : old.is_dead ≡ false) (certain : old.doubt ≡ []) (was : KnowsLive caller own old) (doubt : calls_among caller old.doubt ≡ doubt_in own (old.offers caller)) where
   nothing : option_to_list own.doubt ≡ []
@@ -380,6 +383,7 @@ module _ (limits : Limits) (old : State) (caller : ℕ) (new : State) (own : Own
       ∙ ap option_to_list (sym (lost_doubt caller own call reply media (ap is_commit c)))
       ∙ sym (doubt_idle (own_after caller own (call, reply)) (new.offers caller) (lost_waits caller own call reply media (ap is_commit c)) (ap (λ (s : State). s.offers caller) e ∙ at.offer))
   doubt_own call reply media (told n has c r e) = absurd (true≢false (sym media ∙ ap is_media r))
+  doubt_own call reply media (purged n un l c r index e) = absurd (true≢false (sym media ∙ ap is_media r))
 
   -- its offer stays, and what is in doubt is none of its
   theirs : calls_among caller new.doubt ≡ [] → new.offers caller ≡ old.offers caller → calls_among caller new.doubt ≡ doubt_in own (new.offers caller)
@@ -413,6 +417,7 @@ module _ (limits : Limits) (old : State) (caller : ℕ) (new : State) (own : Own
         (ap (λ (s : State). s.offers caller) e ∙ at.offer))
   ]
   doubt_other turn ne media (told n has c r e) = absurd (true≢false (sym media ∙ ap is_media r))
+  doubt_other turn ne media (purged n un l c r index e) = absurd (true≢false (sym media ∙ ap is_media r))
 
 -- ---- along a run
 
@@ -609,3 +614,4 @@ number_of_commit limits old caller what new reply plain step is = go (step_fate 
     go (settled inside has c r index e) = absurd (plain c)
     go (unsure inside has c r index e) = absurd (plain c)
     go (told n has c r e) = absurd (plain c)
+    go (purged n un l c r index e) = absurd (true≢false (sym is ∙ ap is_committed r))

@@ -6,7 +6,7 @@ use Rattle.history.specs.Writes.{Write}
 use Rattle.history.specs.Table.{Granted, has_save}
 use Rattle.history.specs.Log.{Log, save_at, log_after, log_of}
 use Rattle.history.specs.declared.call.Call.{Call}
-use Rattle.history.specs.declared.call.Call.TheVariants.{Begin, Get, Put, Del, Scan, Save, Back, Commit, Abort, Offer, Settle}
+use Rattle.history.specs.declared.call.Call.TheVariants.{Begin, Get, Put, Del, Scan, Save, Back, Commit, Abort, Offer, Settle, Purge}
 use Rattle.history.specs.declared.call.Reply.{Reply}
 use Rattle.history.proofs.OneMore.{log_of-push}
 use Rattle.history.proofs.Saves.{save_is_front}
@@ -53,6 +53,7 @@ module _ (calls : Granted) (none : HasNone calls) where
   log_none Abort reply reads = none
   log_none Offer reply reads = none
   log_none Settle reply reads = none
+  log_none Purge reply reads = absurd (true≢false reads)
 
   more_none : (call : Call) (reply : Reply) → is_write call ≡ false → HasNone (calls ++ (call, reply) ∷ [])
   more_none call reply reads = ap (λ (l : Log). l.writes) (log_of-push calls call reply) ∙ log_none call reply reads
@@ -69,6 +70,7 @@ module _ (calls : Granted) (none : HasNone calls) where
   live_none Abort reply reads = refl
   live_none Offer reply reads = none
   live_none Settle reply reads = refl
+  live_none Purge reply reads = absurd (true≢false reads)
 
 module _ (limits : Limits) (old : State) (caller : ℕ) (new : State) (alive : new.is_dead ≡ false) where
   said : (answer reply : Reply) → Says answer old reply new → new.index ≡ old.index
@@ -88,6 +90,7 @@ module _ (limits : Limits) (old : State) (caller : ℕ) (new : State) (alive : n
   read_at : (live : Option Granted) (call : Call) (reply : Reply) → HasNone (unwrap_or live []) → is_write call ≡ false → StepAt limits live old caller call reply new → new.index ≡ old.index
   read_at live (Put name key value) reply none reads s = absurd (true≢false reads)
   read_at live (Del name key) reply none reads s = absurd (true≢false reads)
+  read_at live Purge reply none reads s = absurd (true≢false reads)
   read_at None Begin reply none reads s = ap (λ (s : State). s.index) s.1
   read_at None (Get name key) reply none reads s = ap (λ (s : State). s.index) s.1
   read_at None (Scan name low high) reply none reads s = ap (λ (s : State). s.index) s.1
@@ -131,6 +134,7 @@ module _ (limits : Limits) (old : State) (caller : ℕ) (new : State) (alive : n
   read_by offered Commit reply none reads s = ap (λ (s : State). s.index) s.1
   read_by offered Abort reply none reads s = ap (λ (s : State). s.index) s.1
   read_by offered Offer reply none reads s = ap (λ (s : State). s.index) s.1
+  read_by offered Purge reply none reads s = ap (λ (s : State). s.index) s.1
   read_by (unsettled n) Begin reply none reads s = ap (λ (s : State). s.index) s.1
   read_by (unsettled n) (Get name key) reply none reads s = ap (λ (s : State). s.index) s.1
   read_by (unsettled n) (Put name key value) reply none reads s = ap (λ (s : State). s.index) s.1
@@ -142,6 +146,7 @@ module _ (limits : Limits) (old : State) (caller : ℕ) (new : State) (alive : n
   read_by (unsettled n) Abort reply none reads s = ap (λ (s : State). s.index) s.1
   read_by (unsettled n) Offer reply none reads s = ap (λ (s : State). s.index) s.1
   read_by (unsettled n) Settle reply none reads s = ap (λ (s : State). s.index) s.1
+  read_by (unsettled n) Purge reply none reads s = ap (λ (s : State). s.index) s.1
 
   read_if : (dead : Bool) (call : Call) (reply : Reply) → ((other : ℕ) → HasNone (calls_of old other)) → is_write call ≡ false → StepIf limits dead old caller call reply new → new.index ≡ old.index
   read_if true call reply none reads s = ap (λ (s : State). s.index) s.1

@@ -1,9 +1,9 @@
--- Why the refusals within a run stand, and which keys its index gains.
-use Rattle.std.proofs.Common.{◌≡◌, ◌⊎◌, ◌||◌, ℕ, ◌-◌, ◌≤◌, inl, inr, ⊎_elim, List, [], ◌∷◌, ◌++◌, Bool, true, false, Option, Some, None, refl, sym, ap, ◌∙◌, subst, arith}
-use Rattle.std.specs.Prelude.{IsTrue, IsFalse, unwrap_or, if◌then◌else◌}
+-- Why the refusals within a run stand, and which keys its index gains and loses.
+use Rattle.std.proofs.Common.{◌≡◌, ◌⊎◌, ◌||◌, ℕ, suc, ◌-◌, ◌≤◌, inl, inr, ⊎_elim, List, [], ◌∷◌, ◌++◌, Bool, true, false, Option, Some, None, refl, sym, ap, ◌∙◌, subst, arith}
+use Rattle.std.specs.Prelude.{IsTrue, IsFalse, IsSome, unwrap_or, if◌then◌else◌}
 use Rattle.std.specs.List.{list_any}
 use Rattle.std.specs.FinMap.{get}
-use Rattle.std.proofs.lemmas.Bool.{true≢false, or_left, or_right, or_parts}
+use Rattle.std.proofs.lemmas.Bool.{true≢false, cases_Bool, or_left, or_right, or_parts}
 use Rattle.std.proofs.lemmas.List.Folds.{list_any-append}
 use Rattle.history.specs.Key.{of_table}
 use Rattle.history.specs.declared.key.Key.{Key}
@@ -12,44 +12,59 @@ use Rattle.history.specs.Writes.{Write}
 use Rattle.history.specs.Table.{Granted, Work, Answers, found, removed}
 use Rattle.history.specs.Locks.{touches, touched, clash}
 use Rattle.history.specs.declared.call.Call.{Call}
-use Rattle.history.specs.declared.call.Call.TheVariants.{Begin, Get, Put, Del, Scan, Save, Back, Commit, Abort, Offer, Settle}
+use Rattle.history.specs.declared.call.Call.TheVariants.{Begin, Get, Put, Del, Scan, Save, Back, Commit, Abort, Offer, Settle, Purge}
 use Rattle.history.specs.declared.call.Reply.{Reply}
-use Rattle.history.specs.declared.call.Reply.TheVariants.{Fine, NoTransaction, NoTable, Already, NoSave, SavesFull, Busy, LogFull, SlotsFull, PagesFull, Media, Dead, NoMemory}
+use Rattle.history.specs.declared.call.Reply.TheVariants.{Fine, Purged, NoTransaction, NoTable, Already, NoSave, SavesFull, Busy, LogFull, SlotsFull, PagesFull, Media, Dead, NoMemory}
 use Rattle.caller_steps.specs.State as state
 use Rattle.caller_steps.specs.State.{State, Index, unoffered, offered, unsettled, view_of}
 use Rattle.caller_steps.specs.Offers.{offerers, group_writes}
 use Rattle.caller_steps.specs.Locked.{Blocks}
+use Rattle.caller_steps.specs.Purging.{Lost, LosesKey}
 use Rattle.caller_steps.specs.Room.{Limits, LacksAt, Lacks, GainsKey, KeepsKeys, TakesPages, Inserts, IndexesAt, Indexes, Settles}
 use Rattle.caller_steps.specs.Step.{Says, Asks, AsksTable, StepAt, StepBy, StepIf, Step, Runs}
 use Rattle.caller_steps.specs.Fate.{is_media}
-use Rattle.caller_steps.specs.Run.{Turn, Goes, GoesAlong, turns_of, has_fault, IsTurn}
+use Rattle.caller_steps.specs.Run.{Turn, Goes, GoesAlong, turns_of, has_fault, is_purge, has_purge, IsTurn}
 use Rattle.history.proofs.Modes.{clash_turned}
 use Rattle.caller_steps.specs.Own.{Own, nothing_own, own_of, live_by, live_in}
-use Rattle.caller_steps.specs.Shown.{is_put, AreAsked, Gained, LacksPages, Shows}
+use Rattle.caller_steps.specs.Shown.{is_put, AreAsked, Change, gain, loss, gained_in, lost_in, Changed, LacksPages, Shows}
 use Rattle.caller_steps.proofs.Running.{turns_cut, turns_names, turns_dead, turns_keep, turns_of_runs}
 use Rattle.caller_steps.proofs.Owning.{turns_live, fresh_live}
 use Rattle.caller_steps.proofs.Fates.{step_moves}
 
 -- an index after a call: it has no fewer pages in use and levels, and the same keys or one more, which the call puts
-pub record IndexMoves (limits : Limits) (call : Call) (old new : Index) : Type 0 where
+pub record Rises (limits : Limits) (call : Call) (old new : Index) : Type 0 where
   pub pages : old.used_pages ≤ new.used_pages
   pub levels : (name : List ℕ) → old.levels name ≤ new.levels name
   pub keys : KeepsKeys old new ⊎ ((key : Key) × IsTrue (is_put key call) × (old.slot_of key ≡ None) × GainsKey limits key old new)
 
+-- so it is, but a purge takes keys out
+pub record IndexMoves (limits : Limits) (call : Call) (old new : Index) : Type 0 where
+  pub rises : is_purge call ≡ false → Rises limits call old new
+  pub falls : is_purge call ≡ true → (keys : List Key) × Lost old keys new
+
+rising : (limits : Limits) (call : Call) (old new : Index) → is_purge call ≡ false → Rises limits call old new → IndexMoves limits call old new
+rising limits call old new plain rises = record { rises = λ _. rises; falls = λ purges. absurd (true≢false (sym purges ∙ plain)) }
+
 -- the data takes writes
-settled_index : (limits : Limits) (call : Call) (writes : List Write) (old new : Index) → Settles writes old new → IndexMoves limits call old new
-settled_index limits call writes old new s = record {
+settled_index : (limits : Limits) (call : Call) (writes : List Write) (old new : Index) → is_purge call ≡ false → Settles writes old new → IndexMoves limits call old new
+settled_index limits call writes old new plain s = rising limits call old new plain (record {
   pages = (let p = ap (λ (i : Index). i.used_pages) s.keys in omega arith);
   levels = λ name. (let l = ap (λ (i : Index). i.levels name) s.keys in omega arith);
   keys = inl (record { slot_of = ap (λ (i : Index). i.slot_of) s.keys; slots = ap (λ (i : Index). i.used_slots) s.keys; due = ap (λ (i : Index). i.due) s.keys });
-}
+})
 
 same_index : (limits : Limits) (call : Call) (old new : Index) → new ≡ old → IndexMoves limits call old new
 same_index limits call old new e = record {
-  pages = (let p = ap (λ (i : Index). i.used_pages) e in omega arith);
-  levels = λ name. (let l = ap (λ (i : Index). i.levels name) e in omega arith);
-  keys = inl (record { slot_of = ap (λ (i : Index). i.slot_of) e; slots = ap (λ (i : Index). i.used_slots) e; due = ap (λ (i : Index). i.due) e });
+  rises = λ _. record {
+    pages = (let p = ap (λ (i : Index). i.used_pages) e in omega arith);
+    levels = λ name. (let l = ap (λ (i : Index). i.levels name) e in omega arith);
+    keys = inl (record { slot_of = ap (λ (i : Index). i.slot_of) e; slots = ap (λ (i : Index). i.used_slots) e; due = ap (λ (i : Index). i.due) e });
+  };
+  falls = λ _. ([], e);
 }
+
+lost_index : (limits : Limits) (keys : List Key) (old new : Index) → Lost old keys new → IndexMoves limits Purge old new
+lost_index limits keys old new lost = record { rises = λ plain. absurd (true≢false plain); falls = λ _. (keys, lost) }
 
 inserts : (limits : Limits) (key : Key) (reply : Reply) (old new : Index) → Inserts limits key reply old new → TakesPages limits old new × (KeepsKeys old new ⊎ GainsKey limits key old new)
 inserts limits key Fine old new i = (i.0, inr i.1)
@@ -60,11 +75,12 @@ inserts limits key _ old new i = (i.0, inl i.1)
 index_at : (limits : Limits) (name : List ℕ) (key : ℕ) (value : List ℕ) (slot : Option ℕ) (reply : Reply) (old new : Index) → old.slot_of (of_table name key) ≡ slot → IndexesAt limits (of_table name key) slot reply old new → IndexMoves limits (Put name key value) old new
 index_at limits name key value (Some slot) reply old new is e = same_index limits (Put name key value) old new e
 index_at limits name key value None reply old new is i =
-    let both = inserts limits (of_table name key) reply old new i in record {
+    let both = inserts limits (of_table name key) reply old new i in
+    rising limits (Put name key value) old new refl (record {
       pages = both.0.used;
       levels = both.0.levels;
       keys = ⊎_elim (λ keeps. inl keeps) (λ gains. inr (of_table name key, same_key (of_table name key) (of_table name key) refl, is, gains)) both.1;
-    }
+    })
 
 index_moves : (limits : Limits) (call : Call) (reply : Reply) (old new : Index) → Indexes limits call reply old new → IndexMoves limits call old new
 index_moves limits (Put name key value) reply old new i = index_at limits name key value (old.slot_of (of_table name key)) reply old new refl i
@@ -78,12 +94,13 @@ index_moves limits Commit reply old new i = same_index limits Commit old new i
 index_moves limits Abort reply old new i = same_index limits Abort old new i
 index_moves limits Offer reply old new i = same_index limits Offer old new i
 index_moves limits Settle reply old new i = same_index limits Settle old new i
+index_moves limits Purge reply old new i = same_index limits Purge old new i
 
 -- if all slots are given out, no key is gained
-slots_stay : (limits : Limits) (call : Call) (old new : Index) → IndexMoves limits call old new → old.used_slots ≡ limits.slots → new.used_slots ≡ limits.slots
+slots_stay : (limits : Limits) (call : Call) (old new : Index) → Rises limits call old new → old.used_slots ≡ limits.slots → new.used_slots ≡ limits.slots
 slots_stay limits call old new moves full = ⊎_elim (λ keeps. keeps.slots ∙ full) (λ gains. let l = gains.3.left in absurd (omega arith)) moves.keys
 
-pages_stay : (limits : Limits) (made call : Call) (n : ℕ) (old new : Index) → IndexMoves limits call old new → LacksPages made n old → LacksPages made n new
+pages_stay : (limits : Limits) (made call : Call) (n : ℕ) (old new : Index) → Rises limits call old new → LacksPages made n old → LacksPages made n new
 pages_stay limits (Put name key value) call n old new moves lacks = ⊎_elim (λ few. inl (let p = moves.pages in omega arith)) (λ high. inr (let l = moves.levels name in omega arith)) lacks
 pages_stay limits Begin call n old new moves lacks = tt
 pages_stay limits (Get name key) call n old new moves lacks = tt
@@ -95,10 +112,26 @@ pages_stay limits Commit call n old new moves lacks = tt
 pages_stay limits Abort call n old new moves lacks = tt
 pages_stay limits Offer call n old new moves lacks = tt
 pages_stay limits Settle call n old new moves lacks = tt
+pages_stay limits Purge call n old new moves lacks = tt
 
-gained_same : (first : Index) (keys : List Key) (old new : Index) → KeepsKeys old new → Gained first keys old → Gained first keys new
-gained_same first [] old new keeps g = (keeps.slot_of ∙ g.0, keeps.slots ∙ g.1)
-gained_same first (key ∷ keys) old new keeps g = (g.0, g.1, g.2, keeps.slot_of ∙ g.3, keeps.slots ∙ g.4)
+changed_same : (first : Index) (changes : List Change) (old new : Index) → KeepsKeys old new → Changed first changes old → Changed first changes new
+changed_same first [] old new keeps g = (keeps.slot_of ∙ g.0, keeps.slots ∙ g.1)
+changed_same first (gain key ∷ changes) old new keeps g = (g.0, g.1, g.2, keeps.slot_of ∙ g.3, keeps.slots ∙ g.4)
+changed_same first (loss key ∷ changes) old new keeps g = (g.0, g.1, g.2, keeps.slot_of ∙ g.3, g.4 ∙ ap (λ (n : ℕ). suc n) (sym keeps.slots))
+
+-- keys that are lost, before what had changed already
+abbrev losses : List Key → List Change → List Change
+losses [] changes = changes
+losses (key ∷ keys) changes = loss key ∷ losses keys changes
+
+losses_gained : (keys : List Key) (changes : List Change) → gained_in (losses keys changes) ≡ gained_in changes
+losses_gained [] changes = refl
+losses_gained (key ∷ keys) changes = losses_gained keys changes
+
+changed_lost : (first : Index) (changes : List Change) (keys : List Key) (old new : Index) → Changed first changes old → Lost old keys new → Changed first (losses keys changes) new
+changed_lost first changes [] old new g lost = subst (Changed first changes) (sym lost) g
+changed_lost first changes (key ∷ keys) old new g (before, lost, loses) =
+    (before, changed_lost first changes keys old before g lost, subst (λ (o : Option ℕ). IsSome o) (sym loses.due) refl, loses.slot_of, loses.slots)
 
 -- what a reply says of the state before a step and of the index after it
 abbrev pub Told : Limits → State → ℕ → State → Call → Reply → Type 0
@@ -194,6 +227,11 @@ module _ (limits : Limits) (old : State) (caller : ℕ) (new : State) where
   left_at None Abort reply s = says Abort reply NoTransaction tt s
   left_at None Offer reply s = says Offer reply NoTransaction tt s
   left_at None Settle reply s = says Settle reply NoTransaction tt s
+  left_at None Purge reply (inl (n, re, purges)) = record {
+    told = subst (λ r. Told limits old caller new Purge r) (sym re) tt;
+    index = λ alive. subst (λ (i : Index). IndexMoves limits Purge old.index i) (sym (ap (λ (s : State). s.index) purges.same)) (lost_index limits purges.keys old.index purges.index purges.lost);
+  }
+  left_at None Purge reply (inr (re, index, e)) = fails Purge reply re (ap (λ (s : State). s.is_dead) e)
   left_at (Some calls) Begin reply s = says Begin reply Already tt s
   left_at (Some calls) (Get name key) reply a = tabled calls (Get name key) reply a
   left_at (Some calls) (Put name key value) reply a = tabled calls (Put name key value) reply a
@@ -206,12 +244,13 @@ module _ (limits : Limits) (old : State) (caller : ℕ) (new : State) where
   left_at (Some calls) Commit reply (inl short) = says Commit reply NoMemory tt short
   left_at (Some calls) Commit reply (inr (inl (re, index, settles, e))) = record {
     told = subst (λ r. Told limits old caller new Commit r) (sym re) tt;
-    index = λ alive. subst (λ (i : Index). IndexMoves limits Commit old.index i) (sym (ap (λ (s : State). s.index) e)) (settled_index limits Commit _ old.index index settles);
+    index = λ alive. subst (λ (i : Index). IndexMoves limits Commit old.index i) (sym (ap (λ (s : State). s.index) e)) (settled_index limits Commit _ old.index index refl settles);
   }
   left_at (Some calls) Commit reply (inr (inr (wrote, re, index, e))) = fails Commit reply re (ap (λ (s : State). s.is_dead) e)
   left_at (Some calls) Abort reply (re, e) = same Abort reply (subst (λ r. Told limits old caller new Abort r) (sym re) tt) (ap (λ (s : State). s.index) e)
   left_at (Some calls) Offer reply (re, e) = same Offer reply (subst (λ r. Told limits old caller new Offer r) (sym re) tt) (ap (λ (s : State). s.index) e)
   left_at (Some calls) Settle reply s = says Settle reply NoTransaction tt s
+  left_at (Some calls) Purge reply s = says Purge reply Already tt s
 
   left_by : (offer : state.Offer) (call : Call) (reply : Reply) → StepBy limits offer old caller call reply new → Left limits old caller new call reply
   unfolding T
@@ -219,7 +258,7 @@ module _ (limits : Limits) (old : State) (caller : ℕ) (new : State) where
   left_by offered Settle reply (inl short) = says Settle reply NoMemory tt short
   left_by offered Settle reply (inr (inside, inl (re, index, settles, e))) = record {
     told = subst (λ r. Told limits old caller new Settle r) (sym re) tt;
-    index = λ alive. subst (λ (i : Index). IndexMoves limits Settle old.index i) (sym (ap (λ (s : State). s.index) e)) (settled_index limits Settle (group_writes old (offerers limits.callers old)) old.index index settles);
+    index = λ alive. subst (λ (i : Index). IndexMoves limits Settle old.index i) (sym (ap (λ (s : State). s.index) e)) (settled_index limits Settle (group_writes old (offerers limits.callers old)) old.index index refl settles);
   }
   left_by offered Settle reply (inr (inside, inr (wrote, re, index, e))) = fails Settle reply re (ap (λ (s : State). s.is_dead) e)
   left_by offered Begin reply s = says Begin reply Already tt s
@@ -232,6 +271,7 @@ module _ (limits : Limits) (old : State) (caller : ℕ) (new : State) where
   left_by offered Commit reply s = says Commit reply NoTransaction tt s
   left_by offered Abort reply s = says Abort reply NoTransaction tt s
   left_by offered Offer reply s = says Offer reply NoTransaction tt s
+  left_by offered Purge reply s = says Purge reply Already tt s
   left_by (unsettled n) Begin reply s = says Begin reply Already tt s
   left_by (unsettled n) (Get name key) reply s = says (Get name key) reply NoTransaction tt s
   left_by (unsettled n) (Put name key value) reply s = says (Put name key value) reply NoTransaction tt s
@@ -242,6 +282,7 @@ module _ (limits : Limits) (old : State) (caller : ℕ) (new : State) where
   left_by (unsettled n) Commit reply s = says Commit reply NoTransaction tt s
   left_by (unsettled n) Abort reply s = says Abort reply NoTransaction tt s
   left_by (unsettled n) Offer reply s = says Offer reply NoTransaction tt s
+  left_by (unsettled n) Purge reply s = says Purge reply Already tt s
   left_by (unsettled n) Settle reply (re, e) = same Settle reply (subst (λ r. Told limits old caller new Settle r) (sym re) tt) (ap (λ (s : State). s.index) e)
 
   left_if : (dead : Bool) (call : Call) (reply : Reply) → old.is_dead ≡ dead → StepIf limits dead old caller call reply new → Left limits old caller new call reply
@@ -285,16 +326,18 @@ module _ (limits : Limits) where
   alive_first : (first now : State) (turns : List Turn) → GoesAlong true limits first turns now → now.is_dead ≡ false → first.is_dead ≡ false
   alive_first first now turns a alive = (or_parts first.is_dead (has_fault turns) (sym (turns_dead true limits first now turns a) ∙ alive)).0
 
-  -- What was lacking stays so.
-  slots_on : (first now : State) (turns : List Turn) → GoesAlong true limits first turns now → now.is_dead ≡ false → first.index.used_slots ≡ limits.slots → now.index.used_slots ≡ limits.slots
-  slots_on first now [] a alive full = ap (λ (s : State). s.index.used_slots) a ∙ full
-  slots_on first now (turn ∷ turns) a alive full =
-      slots_on a.0 now turns a.2 alive (slots_stay limits turn.1 first.index a.0.index (index_goes first a.0 turn a.1 (alive_first a.0 now turns a.2 alive)) full)
+  -- What was lacking stays so, without a purge.
+  slots_on : (first now : State) (turns : List Turn) → GoesAlong true limits first turns now → now.is_dead ≡ false → has_purge turns ≡ false → first.index.used_slots ≡ limits.slots → now.index.used_slots ≡ limits.slots
+  slots_on first now [] a alive plain full = ap (λ (s : State). s.index.used_slots) a ∙ full
+  slots_on first now (turn ∷ turns) a alive plain full =
+      let parts = or_parts (is_purge turn.1) (has_purge turns) plain in
+      slots_on a.0 now turns a.2 alive parts.1 (slots_stay limits turn.1 first.index a.0.index ((index_goes first a.0 turn a.1 (alive_first a.0 now turns a.2 alive)).rises parts.0) full)
 
-  pages_on : (made : Call) (n : ℕ) (first now : State) (turns : List Turn) → GoesAlong true limits first turns now → now.is_dead ≡ false → LacksPages made n first.index → LacksPages made n now.index
-  pages_on made n first now [] a alive lacks = subst (λ (s : State). LacksPages made n s.index) (sym a) lacks
-  pages_on made n first now (turn ∷ turns) a alive lacks =
-      pages_on made n a.0 now turns a.2 alive (pages_stay limits made turn.1 n first.index a.0.index (index_goes first a.0 turn a.1 (alive_first a.0 now turns a.2 alive)) lacks)
+  pages_on : (made : Call) (n : ℕ) (first now : State) (turns : List Turn) → GoesAlong true limits first turns now → now.is_dead ≡ false → has_purge turns ≡ false → LacksPages made n first.index → LacksPages made n now.index
+  pages_on made n first now [] a alive plain lacks = subst (λ (s : State). LacksPages made n s.index) (sym a) lacks
+  pages_on made n first now (turn ∷ turns) a alive plain lacks =
+      let parts = or_parts (is_purge turn.1) (has_purge turns) plain in
+      pages_on made n a.0 now turns a.2 alive parts.1 (pages_stay limits made turn.1 n first.index a.0.index ((index_goes first a.0 turn a.1 (alive_first a.0 now turns a.2 alive)).rises parts.0) lacks)
 
   -- the keys that are asked for
   more_keys : (turns : List Turn) (turn : Turn) (keys : List Key) → AreAsked turns keys → AreAsked (turns ++ turn ∷ []) keys
@@ -303,19 +346,44 @@ module _ (limits : Limits) where
 
   module _ (first : State) where
     abbrev Keys : List Turn → State → Type 0
-    Keys turns now = IsFalse now.is_dead → (keys : List Key) × Gained first.index keys now.index × AreAsked turns keys
+    Keys turns now = IsFalse now.is_dead → (changes : List Change) × Changed first.index changes now.index × AreAsked turns (gained_in changes) × (has_purge turns ≡ false → lost_in changes ≡ [])
+
+    -- the turns before one had no purge if those with it have none
+    none_before : (turns : List Turn) (turn : Turn) → has_purge (turns ++ turn ∷ []) ≡ false → has_purge turns ≡ false
+    none_before turns turn none = (or_parts (has_purge turns) (has_purge (turn ∷ [])) (sym (list_any-append (λ (l : Turn). is_purge l.1) turns (turn ∷ [])) ∙ none)).0
+
+    risen : (turns : List Turn) (turn : Turn) (old new : State) → (before : (changes : List Change) × Changed first.index changes old.index × AreAsked turns (gained_in changes) × (has_purge turns ≡ false → lost_in changes ≡ []))
+        → Rises limits turn.1 old.index new.index
+        → (changes : List Change) × Changed first.index changes new.index × AreAsked (turns ++ turn ∷ []) (gained_in changes) × (has_purge (turns ++ turn ∷ []) ≡ false → lost_in changes ≡ [])
+    risen turns turn old new before rises = ⊎_elim
+        (λ keeps. (before.0, changed_same first.index before.0 old.index new.index keeps before.1, more_keys turns turn (gained_in before.0) before.2, λ plain. before.3 (none_before turns turn plain)))
+        (λ gains. (gain gains.0 ∷ before.0, (old.index, before.1, gains.2, gains.3.slot_of, gains.3.slots), (any_last (λ (l : Turn). is_put gains.0 l.1) turns turn gains.1, more_keys turns turn (gained_in before.0) before.2),
+        λ plain. before.3 (none_before turns turn plain)))
+        rises.keys
+
+    fallen : (turns : List Turn) (turn : Turn) (old new : State) → (before : (changes : List Change) × Changed first.index changes old.index × AreAsked turns (gained_in changes) × (has_purge turns ≡ false → lost_in changes ≡ []))
+        → is_purge turn.1 ≡ true → (keys : List Key) × Lost old.index keys new.index
+        → (changes : List Change) × Changed first.index changes new.index × AreAsked (turns ++ turn ∷ []) (gained_in changes) × (has_purge (turns ++ turn ∷ []) ≡ false → lost_in changes ≡ [])
+    fallen turns turn old new before purges lost = (
+      losses lost.0 before.0,
+      changed_lost first.index before.0 lost.0 old.index new.index before.1 lost.1,
+      subst (AreAsked (turns ++ turn ∷ [])) (sym (losses_gained lost.0 before.0)) (more_keys turns turn (gained_in before.0) before.2),
+      λ plain. absurd (true≢false (sym (any_last (λ (l : Turn). is_purge l.1) turns turn purges) ∙ plain)),
+    )
 
     keys_goes : (turns : List Turn) (turn : Turn) (old new : State) → Keys turns old → Goes true limits old turn.0 turn.1 turn.2 new → Keys (turns ++ turn ∷ []) new
     keys_goes turns turn old new was goes alive =
         let before = was (alive_before old new turn goes alive) in
-        ⊎_elim
-        (λ keeps. (before.0, gained_same first.index before.0 old.index new.index keeps before.1, more_keys turns turn before.0 before.2))
-        (λ gains. (gains.0 ∷ before.0, (old.index, before.1, gains.2, gains.3.slot_of, gains.3.slots), (any_last (λ (l : Turn). is_put gains.0 l.1) turns turn gains.1, more_keys turns turn before.0 before.2)))
-        (index_goes old new turn goes alive).keys
+        let moves = index_goes old new turn goes alive in
+        elim (cases_Bool (is_purge turn.1)) [
+          | inl purges ↦ fallen turns turn old new before purges (moves.falls purges)
+          | inr plain ↦ risen turns turn old new before (moves.rises plain)
+        ]
 
-    -- Unless the medium fails, the index gains only keys that are asked for.
-    pub keys_gained : (now : State) (turns : List Turn) → Runs limits first turns now → IsFalse now.is_dead → (keys : List Key) × Gained first.index keys now.index × AreAsked turns keys
-    keys_gained now turns runs = turns_keep true limits Keys keys_goes [] turns first now (λ alive. ([], (refl, refl), tt)) (turns_of_runs limits first now turns runs)
+    -- Unless the medium fails, the index gains only keys that are asked for, and loses keys only at purges.
+    pub keys_changed : (now : State) (turns : List Turn) → Runs limits first turns now → IsFalse now.is_dead
+        → (changes : List Change) × Changed first.index changes now.index × AreAsked turns (gained_in changes) × (has_purge turns ≡ false → lost_in changes ≡ [])
+    keys_changed now turns runs = turns_keep true limits Keys keys_goes [] turns first now (λ alive. ([], (refl, refl), tt, λ plain. refl)) (turns_of_runs limits first now turns runs)
 
   -- Each turn of a run is a step.
   pub line_is : (first now : State) (before after : List Turn) (turn : Turn) → Runs limits first (before ++ turn ∷ after) now → IsTurn limits first before turn after now
@@ -337,7 +405,7 @@ module _ (limits : Limits) where
       new_alive : now.is_dead ≡ false → at.new.is_dead ≡ false
       new_alive alive = alive_first at.new now after at.since alive
 
-      shows_at : (told : Reply) → reply ≡ told → Told limits at.old caller at.new call told → Shows limits before now caller call told
+      shows_at : (told : Reply) → reply ≡ told → Told limits at.old caller at.new call told → Shows limits before after now caller call told
       shows_at (Busy h) is t = (
         t.0,
         (
@@ -347,8 +415,8 @@ module _ (limits : Limits) where
               (sym (turns_live true limits h first at.old before nothing_own at.until (inl refl) (fresh_live h first (none h).0 (none h).1)).live) ∙ t.1.1),
         ),
       )
-      shows_at (SlotsFull n) is t = (t.0, λ alive. slots_on at.new now after at.since alive t.1)
-      shows_at (PagesFull n) is t = (t.0, λ alive. pages_on call n at.new now after at.since alive t.1)
+      shows_at (SlotsFull n) is t = (t.0, λ alive plain. slots_on at.new now after at.since alive plain t.1)
+      shows_at (PagesFull n) is t = (t.0, λ alive plain. pages_on call n at.new now after at.since alive plain t.1)
       shows_at Media is t = dead_after (faults is)
         where
           faults : reply ≡ Media → at.new.is_dead ≡ true
@@ -357,5 +425,5 @@ module _ (limits : Limits) where
       shows_at _ is t = tt
 
     -- What a refusal shows.
-    pub refusal_shows : first.is_dead ≡ false → Shows limits before now caller call reply
+    pub refusal_shows : first.is_dead ≡ false → Shows limits before after now caller call reply
     refusal_shows fresh = let at = line_is first now before after (caller, call, reply) runs in shows_at at fresh reply refl (left_there at fresh).told

@@ -16,7 +16,7 @@ use Rattle.caller_steps.specs.Fate.{is_committed}
 use Rattle.caller_steps.specs.Sound.{IsCommittedAs, IsOfferOf, IsSound}
 use Rattle.caller_steps.proofs.Offering.{offers_apart, offerers_once, offerer_is, group_history, group_ends}
 use Rattle.caller_steps.proofs.Grouped.{group_sound}
-use Rattle.caller_steps.proofs.Fates.{Fate, refused, failed, began, granted, committed, doubted, aborted, given, settled, unsure, told, step_fate}
+use Rattle.caller_steps.proofs.Fates.{Fate, refused, failed, began, granted, committed, doubted, aborted, given, settled, unsure, told, purged, step_fate}
 
 abbrev is_settle : Call → Bool
 is_settle Settle = true
@@ -54,6 +54,7 @@ module _ (limits : Limits) (old new : State) (caller n : ℕ) where
       let there = committed_there (committed_group old os).history caller (group_done old os caller).at ((committed_group old os).offers caller) ((committed_group old os).live caller) at.offer ((group_sound old sound alive os).offers caller) in
       subst (λ (x : List Done × ℕ). IsCommittedAs x.0 caller x.1) (λ i. (sym (ap (λ (s : State). s.history) e) i, sym (ap number_in r) i)) there
   settle_tells alive sound (unsure inside has c r index e) = absurd (true≢false (ap is_committed r))
+  settle_tells alive sound (purged m un l c r index e) = absurd (true≢false (ap is_settle c))
   settle_tells alive sound (told m has c r e) =
       let there = committed_there old.history caller m (old.offers caller) (old.live caller) has (sound.offers caller) in
       subst (λ (x : List Done × ℕ). IsCommittedAs x.0 caller x.1) (λ i. (sym (ap (λ (s : State). s.history) e) i, sym (ap number_in r) i)) there
@@ -85,6 +86,7 @@ module _ (limits : Limits) (old new : State) (caller n : ℕ) where
             ∙ (group_ends old (group_end old os) os other (offerers_once limits.callers old) (offerer_is limits.callers old other lt is)).offer,
       )
   settles_all gave (unsure inside has c r index e) = absurd (true≢false (ap is_committed r))
+  settles_all gave (purged m un l c r index e) = absurd (true≢false (ap is_settle c))
   settles_all gave (told m has c r e) = absurd (unlike m (sym gave ∙ has))
 
   pub settle_commits : old.offers caller ≡ offered → Step limits old caller Settle (Committed n) new

@@ -21,7 +21,7 @@ use Rattle.caller_steps.specs.Step.{StepIf, Step, Runs}
 use Rattle.caller_steps.specs.Sound.{IsOfferOf, IsSound}
 use Rattle.caller_steps.proofs.Apart.{apart_more, right-update, apart-update, live-update, offer-update, of_none, offer_longer}
 use Rattle.caller_steps.proofs.Grouped.{group_sound, one_without, doubted_sound}
-use Rattle.caller_steps.proofs.Fates.{Fate, refused, failed, began, granted, committed, doubted, aborted, given, settled, unsure, told, step_fate}
+use Rattle.caller_steps.proofs.Fates.{Fate, refused, failed, began, granted, committed, doubted, aborted, given, settled, unsure, told, purged, step_fate}
 
 -- soundness does not depend on the index
 with_index : (state : State) → IsSound state → (index : Index) → IsSound (record state { index = index })
@@ -156,6 +156,7 @@ module _ (old : State) (caller : ℕ) (sound : IsSound old) where
       subst IsSound (sym e) (with_index _ (without_offer (committed_group old (offerers callers old)) caller group) index)
   fate_sound callers call reply new alive (unsure inside has c r index e) = subst IsSound (sym e) (with_index _ (doubted_sound old sound alive (offerers callers old)) index)
   fate_sound callers call reply new alive (told n has c r e) = subst IsSound (sym e) (one_without old caller sound)
+  fate_sound callers call reply new alive (purged n un l c r index e) = subst IsSound (sym e) (same index old.is_dead (λ is. is))
 
   step_sound_if : (dead : Bool) → old.is_dead ≡ dead → (limits : Limits) (call : Call) (reply : Reply) (new : State) → Step limits old caller call reply new → IsSound new
   step_sound_if true dead limits call reply new step = subst IsSound (sym (subst (λ d. StepIf limits d old caller call reply new) dead step).1) sound

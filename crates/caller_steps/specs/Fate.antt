@@ -2,9 +2,9 @@
 use Rattle.std.specs.Prelude.{ℕ, ◌≡◌, ◌≢◌, ◌⊎◌, Bool, true, false, ◌||◌, if◌then◌else◌, IsTrue, IsFalse, List, [], ◌∷◌, ◌++◌, Option, Some, None}
 use Rattle.history.specs.Table.{Granted}
 use Rattle.history.specs.declared.call.Call.{Call}
-use Rattle.history.specs.declared.call.Call.TheVariants.{Begin, Commit, Abort, Offer, Settle}
+use Rattle.history.specs.declared.call.Call.TheVariants.{Begin, Commit, Abort, Offer, Settle, Purge}
 use Rattle.history.specs.declared.call.Reply.{Reply}
-use Rattle.history.specs.declared.call.Reply.TheVariants.{Fine, Found, Absent, Listed, Saved, Committed, Busy, LogFull, SlotsFull, PagesFull, Media, Dead, NoMemory}
+use Rattle.history.specs.declared.call.Reply.TheVariants.{Fine, Found, Absent, Listed, Saved, Committed, Purged, Busy, LogFull, SlotsFull, PagesFull, Media, Dead, NoMemory}
 use Rattle.history.specs.declared.transaction.Done.{Done}
 use Rattle.caller_steps.specs.State as state
 use Rattle.caller_steps.specs.State.{State, unoffered, offered, unsettled, calls_of, commits_of, done_by}
@@ -18,18 +18,20 @@ is_refusal Absent = false
 is_refusal (Listed rows) = false
 is_refusal (Saved n) = false
 is_refusal (Committed n) = false
+is_refusal (Purged n) = false
 is_refusal _ = true
 
 abbrev pub is_media : Reply → Bool
 is_media Media = true
 is_media _ = false
 
--- a reply of an array that is full or fails, or of a lack of memory
+-- a reply of an array that is full or fails, or of how many keys its index gave up, or of a lack of memory
 abbrev pub is_of_array : Reply → Bool
 is_of_array (LogFull logger held needed) = true
 is_of_array (SlotsFull slots) = true
 is_of_array (PagesFull pages) = true
 is_of_array Media = true
+is_of_array (Purged n) = true
 is_of_array NoMemory = true
 is_of_array _ = false
 
@@ -65,6 +67,7 @@ live_with calls Commit reply = None
 live_with calls Abort reply = None
 live_with calls Offer reply = Some calls
 live_with calls Settle reply = None
+live_with calls Purge reply = None
 live_with calls call reply = Some (calls ++ (call, reply) ∷ [])
 
 -- what the caller has then offered

@@ -14,7 +14,8 @@ use Rattle.history.specs.declared.call.Reply.TheVariants.{Fine, LogFull, SlotsFu
 use Rattle.caller_steps.specs.State.{State, Index, calls_of, view_of}
 
 -- how many callers there may be, the slots of an array, its pages for the index, its loggers, the entries that each of them has for a
--- caller, and the logger of each slot
+-- caller, and the logger of each slot; and, of data and a key, whether the index keeps the key's pair as the last of a page, so that no purge
+-- takes it out
 pub record Limits : Type 0 where
   pub callers : ℕ
   pub slots : ℕ
@@ -22,6 +23,7 @@ pub record Limits : Type 0 where
   pub loggers : ℕ
   pub entries : ℕ
   pub logger_of : ℕ → ℕ
+  pub keeps : List ℕ → Key → Bool
 
 -- the key of a write has its slot on this logger
 abbrev pub is_slot_on : Limits → ℕ → Option ℕ → Bool

@@ -3,7 +3,7 @@ use Rattle.std.specs.Prelude.{ℕ, ◌≡◌, ◌<◌, ◌≤◌, Bool, true, fa
 use Rattle.std.specs.List.{list_any}
 use Rattle.history.specs.Table.{Granted}
 use Rattle.history.specs.declared.call.Call.{Call}
-use Rattle.history.specs.declared.call.Call.TheVariants.{Put, Del}
+use Rattle.history.specs.declared.call.Call.TheVariants.{Put, Del, Purge}
 use Rattle.history.specs.declared.call.Reply.{Reply}
 use Rattle.history.specs.declared.call.Reply.TheVariants.{Dead}
 use Rattle.history.specs.declared.transaction.Done.{Done}
@@ -37,15 +37,25 @@ AreOf callers (turn ∷ turns) = (turn.0 < callers) × AreOf callers turns
 abbrev pub turns_of : ℕ → List Turn → Granted
 turns_of caller turns = map (λ (turn : Turn). (turn.1, turn.2)) (filter (λ (turn : Turn). nat_eq turn.0 caller) turns)
 
--- the call asks to write a record, or to remove one
+-- the call asks to write a record, to remove one, or to take keys without records out of the index
 abbrev pub is_write : Call → Bool
 is_write (Put name key value) = true
 is_write (Del name key) = true
+is_write Purge = true
 is_write _ = false
 
 -- a turn asks for that
 abbrev pub has_write : List Turn → Bool
 has_write turns = list_any (λ (turn : Turn). is_write turn.1) turns
+
+-- the call asks to take keys without records out of the index
+abbrev pub is_purge : Call → Bool
+is_purge Purge = true
+is_purge _ = false
+
+-- a turn asks for that
+abbrev pub has_purge : List Turn → Bool
+has_purge turns = list_any (λ (turn : Turn). is_purge turn.1) turns
 
 -- a turn reports a fault of the medium
 abbrev pub has_fault : List Turn → Bool

@@ -1,5 +1,5 @@
--- What a refusal within a run shows, and what an index gains in one.
-use Rattle.std.specs.Prelude.{ℕ, suc, ◌≡◌, ◌≢◌, ◌-◌, ◌≤◌, ◌⊎◌, Bool, false, IsTrue, IsFalse, List, [], ◌∷◌, Some, None, unwrap_or}
+-- What a refusal within a run shows, and which keys an index gains and loses in one.
+use Rattle.std.specs.Prelude.{ℕ, suc, ◌≡◌, ◌≢◌, ◌-◌, ◌≤◌, ◌⊎◌, Bool, false, IsTrue, IsFalse, List, [], ◌∷◌, Some, None, IsSome, unwrap_or}
 use Rattle.std.specs.List.{list_any}
 use Rattle.std.specs.Map.{update}
 use Rattle.history.specs.Key.{is_same_key, of_table}
@@ -12,7 +12,7 @@ use Rattle.history.specs.declared.call.Reply.{Reply}
 use Rattle.history.specs.declared.call.Reply.TheVariants.{Busy, SlotsFull, PagesFull, Media, Dead}
 use Rattle.caller_steps.specs.State.{State, Index}
 use Rattle.caller_steps.specs.Room.{Limits}
-use Rattle.caller_steps.specs.Run.{Turn, turns_of, has_fault}
+use Rattle.caller_steps.specs.Run.{Turn, turns_of, has_fault, has_purge}
 use Rattle.caller_steps.specs.Own.{live_by}
 
 -- the call puts a value for this key
@@ -32,23 +32,40 @@ abbrev pub AreAsked : List Turn → List Key → Type 0
 AreAsked turns [] = Unit {0}
 AreAsked turns (key ∷ keys) = IsTrue (is_asked turns key) × AreAsked turns keys
 
--- an index has gained these keys, the last one first: each was new and got the slot that was due
-abbrev pub Gained : Index → List Key → Index → Type 0
-Gained first [] now = (now.slot_of ≡ first.slot_of) × (now.used_slots ≡ first.used_slots)
-Gained first (key ∷ keys) now = (before : Index) × Gained first keys before × (before.slot_of key ≡ None) × (now.slot_of ≡ update is_same_key before.slot_of key (Some before.due)) × (now.used_slots ≡ suc before.used_slots)
+-- a key that an index has gained, or one that it has lost
+pub data Change : Type 0 where
+  gain : (key : Key) → Change
+  loss : (key : Key) → Change
+
+abbrev pub gained_in : List Change → List Key
+gained_in [] = []
+gained_in (gain key ∷ changes) = key ∷ gained_in changes
+gained_in (loss key ∷ changes) = gained_in changes
+
+abbrev pub lost_in : List Change → List Key
+lost_in [] = []
+lost_in (gain key ∷ changes) = lost_in changes
+lost_in (loss key ∷ changes) = key ∷ lost_in changes
+
+-- An index has changed so, the last change first: a key that it gained was new and got the slot that was due, and a key that it lost was there,
+-- and its slot is due then.
+abbrev pub Changed : Index → List Change → Index → Type 0
+Changed first [] now = (now.slot_of ≡ first.slot_of) × (now.used_slots ≡ first.used_slots)
+Changed first (gain key ∷ changes) now = (before : Index) × Changed first changes before × (before.slot_of key ≡ None) × (now.slot_of ≡ update is_same_key before.slot_of key (Some before.due)) × (now.used_slots ≡ suc before.used_slots)
+Changed first (loss key ∷ changes) now = (before : Index) × Changed first changes before × IsSome (before.slot_of key) × (now.slot_of ≡ update is_same_key before.slot_of key None) × (before.used_slots ≡ suc now.used_slots)
 
 -- a put finds no page for a split, or no further level
 abbrev pub LacksPages : Call → ℕ → Index → Type 0
 LacksPages (Put name key value) n index = (n ≤ index.used_pages) ⊎ (7 ≤ index.levels name)
 LacksPages _ n index = Unit {0}
 
--- What a refusal of a call shows, given the turns before it and any later state. The holder of a stripe is another caller, and its own turns
--- say that the call clashes with its live transaction. Slots and pages had run out, and unless the medium has failed, they still have.
--- After a fault the core is dead, and `Dead` comes only after a fault.
-abbrev pub Shows : Limits → List Turn → State → ℕ → Call → Reply → Type 0
-Shows limits before now caller call (Busy holder) = (holder ≢ caller) × Meets now.names call (unwrap_or (live_by holder (turns_of holder before)) [])
-Shows limits before now caller call (SlotsFull n) = (n ≡ limits.slots) × (IsFalse now.is_dead → now.index.used_slots ≡ limits.slots)
-Shows limits before now caller call (PagesFull n) = (n ≡ limits.index_pages - 1) × (IsFalse now.is_dead → LacksPages call n now.index)
-Shows limits before now caller call Media = IsTrue now.is_dead
-Shows limits before now caller call Dead = IsTrue (has_fault before)
-Shows limits before now caller call _ = Unit {0}
+-- What a refusal of a call shows, given the turns before it, and those after it up to any later state. The holder of a stripe is another
+-- caller, and its own turns say that the call clashes with its live transaction. Slots and pages had run out, and unless the medium has failed
+-- or a purge has come, they still have. After a fault the core is dead, and `Dead` comes only after a fault.
+abbrev pub Shows : Limits → List Turn → List Turn → State → ℕ → Call → Reply → Type 0
+Shows limits before after now caller call (Busy holder) = (holder ≢ caller) × Meets now.names call (unwrap_or (live_by holder (turns_of holder before)) [])
+Shows limits before after now caller call (SlotsFull n) = (n ≡ limits.slots) × (IsFalse now.is_dead → IsFalse (has_purge after) → now.index.used_slots ≡ limits.slots)
+Shows limits before after now caller call (PagesFull n) = (n ≡ limits.index_pages - 1) × (IsFalse now.is_dead → IsFalse (has_purge after) → LacksPages call n now.index)
+Shows limits before after now caller call Media = IsTrue now.is_dead
+Shows limits before after now caller call Dead = IsTrue (has_fault before)
+Shows limits before after now caller call _ = Unit {0}

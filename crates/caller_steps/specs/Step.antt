@@ -4,14 +4,15 @@ use Rattle.history.specs.Locks.{has_table}
 use Rattle.history.specs.Log.{log_of}
 use Rattle.history.specs.Table.{Granted, Answers, has_save}
 use Rattle.history.specs.declared.call.Call.{Call}
-use Rattle.history.specs.declared.call.Call.TheVariants.{Begin, Save, Back, Commit, Abort, Offer, Settle}
+use Rattle.history.specs.declared.call.Call.TheVariants.{Begin, Save, Back, Commit, Abort, Offer, Settle, Purge}
 use Rattle.history.specs.declared.call.Reply.{Reply}
-use Rattle.history.specs.declared.call.Reply.TheVariants.{Fine, Committed, NoTransaction, NoTable, Already, NoSave, SavesFull, Busy, Media, Dead, NoMemory}
+use Rattle.history.specs.declared.call.Reply.TheVariants.{Fine, Committed, Purged, NoTransaction, NoTable, Already, NoSave, SavesFull, Busy, Media, Dead, NoMemory}
 use Rattle.caller_steps.specs.State as state
 use Rattle.caller_steps.specs.State.{State, Index, unoffered, offered, unsettled, view_of, with_live, with_offer, done_by}
 use Rattle.caller_steps.specs.Offers.{offerers, number_among, group_writes, committed_group, doubted_group}
 use Rattle.caller_steps.specs.Locked.{IsFree, IsBusyWith}
 use Rattle.caller_steps.specs.Room.{Limits, Fits, Lacks, Indexes, Settles}
+use Rattle.caller_steps.specs.Purging.{Purges}
 
 -- the most saves that a transaction may have
 abbrev pub most_saves : ℕ
@@ -70,16 +71,23 @@ SettlesAll group old caller reply new = (reply ≡ Committed (number_among (leng
 abbrev pub DoubtsAll : List ℕ → State → Reply → State → Type 0
 DoubtsAll group old reply new = (0 < length (group_writes old group)) × (reply ≡ Media) × (index : Index) × (new ≡ record (doubted_group old group) { index = index })
 
+-- keys without records are taken out of the index, or the medium fails meanwhile
+abbrev pub Clears : Limits → State → Reply → State → Type 0
+Clears limits old reply new = ((n : ℕ) × (reply ≡ Purged n) × Purges limits old n new) ⊎ Fails old reply new
+
 -- a call on a table that is not there is refused, before memory and locks are asked for
 abbrev pub AsksTable : Limits → Granted → State → ℕ → Call → Reply → State → Type 0
 AsksTable limits calls old caller call reply new = (IsFalse (has_table old.names call) × Says NoTable old reply new)
     ⊎ (IsTrue (has_table old.names call) × Asks limits calls old caller call reply new)
 
--- A step with this as the caller's live transaction, which it has not offered, if the medium has not failed before.
+-- A step with this as the caller's live transaction, which it has not offered, if the medium has not failed before. A purge comes outside of
+-- any transaction of its caller's, and may come between the calls of others.
 abbrev pub StepAt : Limits → Option Granted → State → ℕ → Call → Reply → State → Type 0
 StepAt limits None old caller Begin reply new = (reply ≡ Fine) × (new ≡ with_live old caller (Some []))
+StepAt limits None old caller Purge reply new = Clears limits old reply new
 StepAt limits None old caller _ reply new = Says NoTransaction old reply new
 StepAt limits (Some calls) old caller Begin reply new = Says Already old reply new
+StepAt limits (Some calls) old caller Purge reply new = Says Already old reply new
 StepAt limits (Some calls) old caller Commit reply new = Says NoMemory old reply new ⊎ (Commits calls old caller reply new ⊎ Doubts calls old caller reply new)
 StepAt limits (Some calls) old caller Abort reply new = (reply ≡ Fine) × (new ≡ with_live old caller None)
 StepAt limits (Some calls) old caller Offer reply new = (reply ≡ Fine) × (new ≡ with_offer old caller offered)
@@ -90,15 +98,17 @@ StepAt limits (Some calls) old caller (Back n) reply new = (IsFalse (has_save (v
     ⊎ (IsTrue (has_save (view_of old caller).saves n) × Asks limits calls old caller (Back n) reply new)
 StepAt limits (Some calls) old caller call reply new = AsksTable limits calls old caller call reply new
 
--- A step by what the caller has offered. Until it has settled, it begins no other transaction, and its own takes no calls. A settle commits all
+-- A step by what the caller has offered. Until it has settled, it begins no other transaction and purges nothing, and its own takes no calls. A settle commits all
 -- that were offered, unless a group has committed the caller's own already.
 abbrev pub StepBy : Limits → state.Offer → State → ℕ → Call → Reply → State → Type 0
 StepBy limits unoffered old caller call reply new = StepAt limits (old.live caller) old caller call reply new
 StepBy limits offered old caller Begin reply new = Says Already old reply new
+StepBy limits offered old caller Purge reply new = Says Already old reply new
 StepBy limits offered old caller Settle reply new = Says NoMemory old reply new
     ⊎ ((caller < limits.callers) × (SettlesAll (offerers limits.callers old) old caller reply new ⊎ DoubtsAll (offerers limits.callers old) old reply new))
 StepBy limits offered old caller call reply new = Says NoTransaction old reply new
 StepBy limits (unsettled n) old caller Begin reply new = Says Already old reply new
+StepBy limits (unsettled n) old caller Purge reply new = Says Already old reply new
 StepBy limits (unsettled n) old caller Settle reply new = (reply ≡ Committed n) × (new ≡ with_offer (with_live old caller None) caller unoffered)
 StepBy limits (unsettled n) old caller call reply new = Says NoTransaction old reply new
 

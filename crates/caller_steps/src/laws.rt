@@ -48,7 +48,8 @@ pub fn locks_come_first()
         → Step limits old caller call reply new → new ≡ old }
 {}
 
-/// Two replies to one call in one state are equal, except for those of an array that is full or fails, and for `NoMemory`.
+/// Two replies to one call in one state are equal, except for those of an array that is full or fails, for the count of a purge, and for
+/// `NoMemory`.
 pub fn each_call_has_one_reply()
     ensures { (limits : Limits) (old : State) (caller : ℕ) (call : Call) (one other : Reply) (new next : State) → IsFalse (is_of_array one) → IsFalse (is_of_array other)
         → Step limits old caller call one new → Step limits old caller call other next → one ≡ other }

@@ -12,9 +12,9 @@ ghost use Rattle.caller_steps.specs.Fate.{Stays};
 ghost use Rattle.caller_steps.specs.Room.{Limits};
 ghost use Rattle.caller_steps.specs.Step.{Runs};
 ghost use Rattle.caller_steps.specs.Prefix.{Grows};
-ghost use Rattle.caller_steps.specs.Run.{Turn, GoesAlong, AreOf, turns_of, has_fault, has_write, HasNoOthers, LastTurn, IsTurn, IsTold};
+ghost use Rattle.caller_steps.specs.Run.{Turn, GoesAlong, AreOf, turns_of, has_fault, has_write, has_purge, HasNoOthers, LastTurn, IsTurn, IsTold};
 ghost use Rattle.caller_steps.specs.Own.{own_of, told_of, calls_among, mine_in, doubt_in, KnowsLive};
-ghost use Rattle.caller_steps.specs.Shown.{AreAsked, Gained, Shows};
+ghost use Rattle.caller_steps.specs.Shown.{AreAsked, Change, gained_in, lost_in, Changed, Shows};
 
 /// One run after another is a run, and a run can be cut at any turn. A run of a core that tells its records is one of steps.
 pub fn runs_join_and_cut()
@@ -75,20 +75,21 @@ pub fn where_a_caller_was_told()
 /// What each refusal within a run shows, up to any later state.
 pub fn what_a_refusal_shows()
     ensures { (limits : Limits) (first now : State) (before after : List Turn) (caller : ℕ) (call : Call) (reply : Reply) → Runs limits first (before ++ (caller, call, reply) ∷ after) now
-        → ((other : ℕ) → (first.live other ≡ None) × (first.offers other ≡ unoffered)) → IsFalse first.is_dead → Shows limits before now caller call reply }
+        → ((other : ℕ) → (first.live other ≡ None) × (first.offers other ≡ unoffered)) → IsFalse first.is_dead → Shows limits before after now caller call reply }
 {}
 
-/// Unless the medium fails, the index gains only keys that a turn asks to put. The keys that an index has gained were all missing before and
-/// are distinct, so as many more slots are in use.
+/// Unless the medium fails, the index gains only keys that a turn asks to put, and loses keys only at purges. As many more slots are in use as
+/// keys were gained, less those that were lost. If none was lost, those that were gained were all missing before and are distinct.
 pub fn what_an_index_gains()
-    ensures run { (limits : Limits) (first now : State) (turns : List Turn) → Runs limits first turns now → IsFalse now.is_dead → (keys : List Key) × Gained first.index keys now.index × AreAsked turns keys }
-    ensures slots { (first now : Index) (keys : List Key) → Gained first keys now → now.used_slots ≡ first.used_slots + length keys }
-    ensures missing { (first now : Index) (keys : List Key) → Gained first keys now → All (λ key. first.slot_of key ≡ None) keys }
-    ensures apart { (first now : Index) (keys : List Key) → Gained first keys now → AllPairs (λ one other. one ≢ other) keys }
+    ensures run { (limits : Limits) (first now : State) (turns : List Turn) → Runs limits first turns now → IsFalse now.is_dead
+        → (changes : List Change) × Changed first.index changes now.index × AreAsked turns (gained_in changes) × (IsFalse (has_purge turns) → lost_in changes ≡ []) }
+    ensures slots { (first now : Index) (changes : List Change) → Changed first changes now → now.used_slots + length (lost_in changes) ≡ first.used_slots + length (gained_in changes) }
+    ensures missing { (first now : Index) (changes : List Change) → Changed first changes now → lost_in changes ≡ [] → All (λ key. first.slot_of key ≡ None) (gained_in changes) }
+    ensures apart { (first now : Index) (changes : List Change) → Changed first changes now → lost_in changes ≡ [] → AllPairs (λ one other. one ≢ other) (gained_in changes) }
 {}
 
-/// A run from callers without transactions in which no turn asks to write or to remove a record leaves the index and all bytes of the data as
-/// they were, unless the medium fails.
+/// A run from callers without transactions in which no turn asks to write or to remove a record, or to purge, leaves the index and all bytes of
+/// the data as they were, unless the medium fails.
 pub fn what_reads_leave()
     ensures { (limits : Limits) (first now : State) (turns : List Turn) → Runs limits first turns now → ((caller : ℕ) → first.live caller ≡ None) → IsFalse (has_write turns) → IsFalse now.is_dead
         → now.index ≡ first.index }

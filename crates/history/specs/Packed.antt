@@ -6,9 +6,9 @@ use Rattle.record_slots.specs.Text.{IsName, IsValue}
 use Rattle.history.specs.Key.{main_name}
 use Rattle.history.specs.Writes.{Row}
 use Rattle.history.specs.declared.call.Call.{Call}
-use Rattle.history.specs.declared.call.Call.TheVariants.{Begin, Get, Put, Del, Scan, Save, Back, Commit, Abort, Offer, Settle}
+use Rattle.history.specs.declared.call.Call.TheVariants.{Begin, Get, Put, Del, Scan, Save, Back, Commit, Abort, Offer, Settle, Purge}
 use Rattle.history.specs.declared.call.Reply.{Reply}
-use Rattle.history.specs.declared.call.Reply.TheVariants.{Fine, Found, Absent, Listed, Saved, Committed, NoTransaction, NoTable, Already, NoSave, SavesFull, Busy, LogFull, SlotsFull, PagesFull, Media, Dead, NoMemory, Damaged}
+use Rattle.history.specs.declared.call.Reply.TheVariants.{Fine, Found, Absent, Listed, Saved, Committed, Purged, NoTransaction, NoTable, Already, NoSave, SavesFull, Busy, LogFull, SlotsFull, PagesFull, Media, Dead, NoMemory, Damaged}
 
 -- a number as 8 bytes
 abbrev pub word : ℕ → List ℕ
@@ -52,6 +52,7 @@ call_bytes Commit = 7 ∷ []
 call_bytes Abort = 8 ∷ []
 call_bytes Offer = 9 ∷ []
 call_bytes Settle = 10 ∷ []
+call_bytes Purge = 11 ∷ []
 
 -- the call at the front of bytes, and what is behind it, where its kind is read
 abbrev pub get_at : List ℕ → Call × List ℕ
@@ -81,6 +82,7 @@ call_of kind bytes =
     if nat_eq kind 8 then (Abort, bytes) else
     if nat_eq kind 9 then (Offer, bytes) else
     if nat_eq kind 10 then (Settle, bytes) else
+    if nat_eq kind 11 then (Purge, bytes) else
     (Begin, bytes)
 
 -- the call at the front of bytes, and what is behind it
@@ -134,6 +136,7 @@ reply_bytes Media = 15 ∷ []
 reply_bytes Dead = 16 ∷ []
 reply_bytes NoMemory = 17 ∷ []
 reply_bytes (Damaged page) = 18 ∷ word page
+reply_bytes (Purged n) = 19 ∷ word n
 
 -- the reply with a number at the front of bytes, and what is behind it
 abbrev pub number_at : (ℕ → Reply) → List ℕ → Reply × List ℕ
@@ -148,7 +151,8 @@ number_reply kind n =
     if nat_eq kind 11 then Busy n else
     if nat_eq kind 13 then SlotsFull n else
     if nat_eq kind 14 then PagesFull n else
-    Damaged n
+    if nat_eq kind 18 then Damaged n else
+    Purged n
 
 abbrev pub found_at : List ℕ → Reply × List ℕ
 found_at bytes = (Found (text_at bytes).0, (text_at bytes).1)
@@ -179,6 +183,7 @@ reply_of kind bytes =
     if nat_eq kind 16 then (Dead, bytes) else
     if nat_eq kind 17 then (NoMemory, bytes) else
     if nat_eq kind 18 then number_at Damaged bytes else
+    if nat_eq kind 19 then number_at Purged bytes else
     (Fine, bytes)
 
 -- the reply at the front of bytes, and what is behind it
@@ -203,6 +208,7 @@ CanReply (LogFull logger held needed) = (logger < 2 ^ 8) × (held < 2 ^ 16) × (
 CanReply (SlotsFull slots) = slots < 2 ^ 32
 CanReply (PagesFull pages) = pages < 2 ^ 32
 CanReply (Damaged page) = page < 2 ^ 32
+CanReply (Purged n) = n < 2 ^ 32
 CanReply reply = Unit {0}
 
 -- a call with its reply as bytes

@@ -19,6 +19,9 @@ pub enum Call {
     Offer,
     /// Ends the offered transaction: if no group has committed it yet, all that were offered are committed as one.
     Settle,
+    /// Takes keys without records out of the index, so that their slots are given again. It comes outside of any transaction of its caller's,
+    /// and leaves each key whose stripe some live transaction has touched.
+    Purge,
 }
 
 /// The reply to a call.
@@ -34,10 +37,12 @@ pub enum Reply {
     Saved(u32),
     /// The number of the transaction in the history, counted from 1.
     Committed(u64),
+    /// So many keys without records were taken out of the index.
+    Purged(u32),
     NoTransaction,
     /// There is no table of the name that the call asks for.
     NoTable,
-    /// A begin within a transaction.
+    /// A begin or a purge within a transaction, or before the settle of an offered one.
     Already,
     /// The transaction has no such save.
     NoSave { save: u32 },

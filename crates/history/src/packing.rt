@@ -103,6 +103,7 @@ fn append_call(bytes: &mut Vec<u8>, call: &Call)
         Call::Abort => append(bytes, &[8]),
         Call::Offer => append(bytes, &[9]),
         Call::Settle => append(bytes, &[10]),
+        Call::Purge => append(bytes, &[11]),
     }
 }
 
@@ -163,6 +164,7 @@ fn append_plain(bytes: &mut Vec<u8>, reply: &Reply)
         Reply::Dead => append(bytes, &[16]),
         Reply::NoMemory => append(bytes, &[17]),
         Reply::Damaged { page } => append_number(bytes, 18, u64::from(*page)),
+        Reply::Purged(n) => append_number(bytes, 19, u64::from(*n)),
     }
 }
 

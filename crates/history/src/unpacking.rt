@@ -210,6 +210,7 @@ pub(crate) fn read_call(bytes: &[u8]) -> (Call, &[u8])
         8 => (Call::Abort, rest),
         9 => (Call::Offer, rest),
         10 => (Call::Settle, rest),
+        11 => (Call::Purge, rest),
         _ => (Call::Begin, rest),
     }
 }
@@ -293,7 +294,8 @@ fn numbered(kind: u8, n: u64) -> Reply
         11 => Reply::Busy { holder: n as u8 },
         13 => Reply::SlotsFull { slots: n as u32 },
         14 => Reply::PagesFull { pages: n as u32 },
-        _ => Reply::Damaged { page: n as u32 },
+        18 => Reply::Damaged { page: n as u32 },
+        _ => Reply::Purged(n as u32),
     }
 }
 
@@ -331,6 +333,7 @@ fn read_plain(kind: u8, bytes: &[u8]) -> (Reply, &[u8])
         16 => (Reply::Dead, bytes),
         17 => (Reply::NoMemory, bytes),
         18 => read_number(18, bytes),
+        19 => read_number(19, bytes),
         _ => (Reply::Fine, bytes),
     }
 }

@@ -1,11 +1,11 @@
 -- The text of a caller's call is the text of no other, and a line says one thing.
-use Rattle.std.proofs.Common.{◌≡◌, ℕ, zero, suc, length, ◌+◌, ◌*◌, ◌++◌, ◌<◌, ◌≤◌, ◌^◌, List, [], ◌∷◌, get_or, inl, inr, Option, Some, None, refl, ap, ◌∙◌, sym, subst, arith}
+use Rattle.std.proofs.Common.{◌≡◌, ℕ, zero, suc, length, ◌+◌, ◌++◌, ◌<◌, ◌≤◌, ◌^◌, List, [], ◌∷◌, get_or, inl, inr, Option, Some, None, refl, ap, ◌∙◌, sym, subst, arith}
 use Rattle.std.specs.Prelude.{codes, is_some}
 use Rattle.std.specs.Fmt.{decimal}
 use Rattle.std.proofs.lemmas.Fmt.{decimal_injective, decimal_digit, decimal_nonempty, first_decimal}
 use Rattle.std.proofs.lemmas.List.{append_cancel_left, get_or_append_left, length-append}
 use Rattle.history.specs.declared.call.Call.{Call}
-use Rattle.history.specs.declared.call.Call.TheVariants.{Begin, Get, Put, Del, Scan, Save, Back, Commit, Abort, Offer, Settle}
+use Rattle.history.specs.declared.call.Call.TheVariants.{Begin, Get, Put, Del, Scan, Save, Back, Commit, Abort, Offer, Settle, Purge}
 use Rattle.script_text.specs.Line.{asked_table, AreWordsOf, IsTextFor, IsCallText, IsLineOf, IsPassedOver, LineSays}
 use Rattle.script_text.specs.declared.line.Line.{Line}
 use Rattle.script_text.specs.declared.line.Line.TheVariants.{Nothing, Told, Bad}
@@ -15,23 +15,24 @@ use Rattle.script_text.proofs.Fields.{same_long_fields}
 use Rattle.script_text.proofs.Naming.{no_sign, name_is_word, tail_is}
 use Rattle.std.proofs.lemmas.Bool.{false≢true}
 
--- twice the first letter of a text, and the second
+-- the first three letters of a text, added up
 mark : List ℕ → ℕ
-mark text = 2 * get_or text 0 0 + get_or text 1 0
+mark text = get_or text 0 0 + get_or text 1 0 + get_or text 2 0
 
--- together they identify the verb
+-- the sum identifies the verb
 letters : Call → ℕ
-letters Begin = 297
-letters (Get name key) = 307
-letters (Put name key value) = 341
-letters (Del name key) = 301
-letters (Scan name low high) = 329
-letters Save = 327
-letters (Back save) = 293
-letters Commit = 309
-letters Abort = 292
-letters Offer = 324
-letters Settle = 331
+letters Begin = 302
+letters (Get name key) = 320
+letters (Put name key value) = 345
+letters (Del name key) = 309
+letters (Scan name low high) = 311
+letters Save = 330
+letters (Back save) = 294
+letters Commit = 319
+letters Abort = 306
+letters Offer = 315
+letters Settle = 332
+letters Purge = 343
 
 mark_of : (call : Call) (text : List ℕ) → AreWordsOf call text → mark text ≡ letters call
 unfolding mark letters
@@ -46,6 +47,7 @@ mark_of Commit text is = ap mark is
 mark_of Abort text is = ap mark is
 mark_of Offer text is = ap mark is
 mark_of Settle text is = ap mark is
+mark_of Purge text is = ap mark is
 
 same_letters : (call other : Call) (text : List ℕ) → AreWordsOf call text → AreWordsOf other text → letters call ≡ letters other
 same_letters call other text is js = sym (mark_of call text is) ∙ mark_of other text js
@@ -80,6 +82,7 @@ same_words Commit Commit text asks is js = refl
 same_words Abort Abort text asks is js = refl
 same_words Offer Offer text asks is js = refl
 same_words Settle Settle text asks is js = refl
+same_words Purge Purge text asks is js = refl
 same_words call other text asks is js = absurd (let h : letters call ≡ letters other = same_letters call other text is js in omega (arith, h))
 
 -- and tells whether they ask for a table
@@ -96,6 +99,7 @@ same_kind Commit Commit text is js = refl
 same_kind Abort Abort text is js = refl
 same_kind Offer Offer text is js = refl
 same_kind Settle Settle text is js = refl
+same_kind Purge Purge text is js = refl
 same_kind call other text is js = absurd (let h : letters call ≡ letters other = same_letters call other text is js in omega (arith, h))
 
 unlike : {X : Type 0} (call other : Call) (name text : List ℕ) → asked_table call ≡ None → asked_table other ≡ Some name → AreWordsOf call text → AreWordsOf other text → X

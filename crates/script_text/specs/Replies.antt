@@ -4,7 +4,7 @@ use Rattle.std.specs.List.{flat_map}
 use Rattle.std.specs.Fmt.{decimal}
 use Rattle.texts.specs.MediaFault.{media_fault}
 use Rattle.history.specs.declared.call.Reply.{Reply}
-use Rattle.history.specs.declared.call.Reply.TheVariants.{Fine, Found, Absent, Listed, Saved, Committed, NoTransaction, NoTable, Already, NoSave, SavesFull, Busy, LogFull, SlotsFull, PagesFull, Media, Dead, NoMemory, Damaged}
+use Rattle.history.specs.declared.call.Reply.TheVariants.{Fine, Found, Absent, Listed, Saved, Committed, Purged, NoTransaction, NoTable, Already, NoSave, SavesFull, Busy, LogFull, SlotsFull, PagesFull, Media, Dead, NoMemory, Damaged}
 
 -- the words of a reply
 abbrev pub reply_text : Reply → List ℕ
@@ -14,6 +14,7 @@ reply_text Absent = codes "none"
 reply_text (Listed rows) = codes "rows " ++ decimal (length rows)
 reply_text (Saved n) = codes "saved " ++ decimal n
 reply_text (Committed n) = codes "committed " ++ decimal n
+reply_text (Purged n) = codes "purged " ++ decimal n
 reply_text NoTransaction = codes "no transaction"
 reply_text NoTable = codes "no table"
 reply_text Already = codes "already"

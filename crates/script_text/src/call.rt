@@ -56,6 +56,9 @@ fn read_plain(bytes: &[u8]) -> Option<Call>
     if is_text(bytes, b"settle") {
         return Some(Call::Settle);
     }
+    if is_text(bytes, b"purge") {
+        return Some(Call::Purge);
+    }
     let save = read_u32_after(bytes, b"back ")?;
     Some(Call::Back { save })
 }

@@ -95,6 +95,7 @@ pub fn put_reply_text<E, T: TextOut<E>>(out: &mut T, reply: &Reply) -> Result<()
         Reply::Listed(rows) => put_count(out, b"rows ", rows.as_slice().len() as u64),
         Reply::Saved(n) => put_count(out, b"saved ", u64::from(*n)),
         Reply::Committed(n) => put_count(out, b"committed ", *n),
+        Reply::Purged(n) => put_count(out, b"purged ", u64::from(*n)),
         Reply::NoTransaction => out.put(b"no transaction"),
         Reply::NoTable => out.put(b"no table"),
         Reply::Already => out.put(b"already"),

@@ -9,5 +9,6 @@ returns-in_err-save c = rw c.from_residual.ensures (no_plain c.args.bytes.now (r
   abort = c.if-is_text-4.ensures;
   offer = c.if-is_text-5.ensures;
   settle = c.if-is_text-6.ensures;
+  purge = c.if-is_text-7.ensures;
   back = c.in_err-save.ensures;
 }))
