@@ -16,7 +16,7 @@ use Rattle.record_table.specs.declared.fault.TableFault.{TableFault}
 use Rattle.record_table.specs.declared.fault.TableFault.TheVariants.{SlotsFull, PagesFull, SavesFull, LogFull, Media, Dead, Damaged, NoMemory}
 use Rattle.record_table.specs.Faults.{reply_to}
 use Rattle.std.proofs.lemmas.Bool.{true≢false}
-use Rattle.history.specs.declared.call.Call.TheVariants.{Begin, Get, Put, Del, Scan, Save, Back, Commit, Abort, Offer, Settle}
+use Rattle.history.specs.declared.call.Call.TheVariants.{Begin, Get, Put, Del, Scan, Save, Back, Commit, Abort, Offer, Settle, Purge}
 use Rattle.caller_steps.specs.Fate.{is_refusal, is_busy}
 use Rattle.caller_steps.specs.State.{State, unoffered}
 use Rattle.caller_steps.specs.Locked.{IsFree}
@@ -63,6 +63,7 @@ save_plain saves Commit answer refused = absurd refused
 save_plain saves Abort answer refused = absurd refused
 save_plain saves Offer answer refused = absurd refused
 save_plain saves Settle answer refused = absurd refused
+save_plain saves Purge answer refused = absurd refused
 
 save_refuses : (saves : ℕ) (call : Call) (answer : Reply) → IsSaveRefusal saves call answer → is_refusal answer ≡ true
 save_refuses saves Save answer refused = ap is_refusal refused.1
@@ -76,6 +77,7 @@ save_refuses saves Commit answer refused = absurd refused
 save_refuses saves Abort answer refused = absurd refused
 save_refuses saves Offer answer refused = absurd refused
 save_refuses saves Settle answer refused = absurd refused
+save_refuses saves Purge answer refused = absurd refused
 
 -- a call that was not made was refused
 pub unmade_refuses : (saves : ℕ) (seats : Seats) (t : ℕ) (call : Call) (answer : Reply) → Unmade saves seats t call answer → is_refusal answer ≡ true

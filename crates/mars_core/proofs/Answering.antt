@@ -18,7 +18,7 @@ use Rattle.history.specs.Table.{Granted, found, removed, IsRight}
 use Rattle.history.specs.Legal.{records}
 use Rattle.history.specs.Log.{Log, log_of}
 use Rattle.history.specs.declared.call.Call.{Call}
-use Rattle.history.specs.declared.call.Call.TheVariants.{Begin, Get, Put, Del, Scan, Save, Back, Commit, Abort, Offer, Settle}
+use Rattle.history.specs.declared.call.Call.TheVariants.{Begin, Get, Put, Del, Scan, Save, Back, Commit, Abort, Offer, Settle, Purge}
 use Rattle.history.specs.declared.call.Reply.{Reply}
 use Rattle.history.specs.declared.call.Reply.TheVariants as reply
 use Rattle.record_table.specs.State.{TableState, seen_by}
@@ -40,7 +40,7 @@ use Rattle.caller_steps.specs.Core.{IsSafe, Steps}
 use Rattle.caller_steps.proofs.Holding.{AreNamed}
 use Rattle.caller_steps.proofs.Sound.{step_sound, history_whole}
 use Rattle.record_slots.specs.Names.{names_in}
-use Rattle.record_slots.specs.Places.{tables_of}
+use Rattle.record_slots.specs.Places.{version_of, tables_of}
 use Rattle.record_table.specs.Names.{names_of}
 use Rattle.history.specs.Locks.{has_table}
 use Rattle.mars_core.specs.TableCall.{number_for}
@@ -105,6 +105,7 @@ saved_out p t Commit of saves out = out
 saved_out p t Abort of saves out = out
 saved_out p t Offer of saves out = out
 saved_out p t Settle of saves out = out
+saved_out p t Purge of saves out = out
 saved_out p t Begin of saves out = out
 
 -- a call of a table that inserts no key writes nothing into the data
@@ -119,6 +120,7 @@ quiet_of index p t Commit of inserts = absurd of
 quiet_of index p t Abort of inserts = absurd of
 quiet_of index p t Offer of inserts = absurd of
 quiet_of index p t Settle of inserts = absurd of
+quiet_of index p t Purge of inserts = absurd of
 quiet_of index p t Begin of inserts = absurd of
 
 scan_same : (limits : Limits) (call : Call) (answer : Reply) (old new : Index) → IsScan call → Indexes limits call answer old new → new ≡ old
@@ -132,6 +134,7 @@ scan_same limits Commit answer old new scan same = same
 scan_same limits Abort answer old new scan same = same
 scan_same limits Offer answer old new scan same = same
 scan_same limits Settle answer old new scan same = same
+scan_same limits Purge answer old new scan same = same
 scan_same limits Begin answer old new scan same = same
 
 -- What the records made of a call, as far as a core needs it.
@@ -145,6 +148,7 @@ pub record Did (tells : Bool) (Opens : List ℕ → List ℕ → Type 0) (index 
   pub refused : IsTrue tells → IsFalse (is_failed result) → OnErr result (state_of index new ≡ state_of index old)
   pub quiet : IsTrue tells → IsFalse (is_failed result) → IsQuiet index old t call → new.store.state.bytes ≡ old.store.state.bytes
   pub indexed : IsTrue tells → IsAlive old.store → IsFalse (is_failed result) → Indexed table call (keys_of index old.store.state.bytes) (keys_of index new.store.state.bytes) result
+  pub version : IsTrue tells → IsFalse (is_failed result) → version_of old.store.state.bytes ≡ 2 → version_of new.store.state.bytes ≡ 2
   pub tables : IsTrue tells → IsFalse (is_failed result) → tables_of new.store.state.bytes ≡ tables_of old.store.state.bytes
   pub others : (u : ℕ) → u ≢ t → new.store.ranges u ≡ old.store.ranges u
   pub time : IsTrue tells → IsAlive old.store
@@ -162,6 +166,7 @@ did tells Opens index table t call old new result does = record {
   refused = does.refused;
   quiet = does.quiet;
   indexed = does.indexed;
+  version = does.version;
   tables = does.tables;
   others = λ u ne. (does.others u ne).0;
   time = does.time;
@@ -187,6 +192,7 @@ listed_is s t Commit rows replies = absurd replies
 listed_is s t Abort rows replies = absurd (cc)
 listed_is s t Offer rows replies = absurd replies
 listed_is s t Settle rows replies = absurd replies
+listed_is s t Purge rows replies = absurd replies
 listed_is s t Begin rows replies = absurd replies
 
 -- a scan whose rows there is no memory to keep has changed nothing
@@ -204,6 +210,7 @@ did_unkept tells Opens index table t call old new rows alive does = record {
   indexed = λ told living _. let is = scan told in
       subst (λ (c : Call). (let r : Result Reply TableFault = Err NoMemory in Indexed table c (keys_of index old.store.state.bytes) (keys_of index new.store.state.bytes) r)) (sym is.3)
       (subst (λ (c : Call). (let r : Result Reply TableFault = Ok (reply.Listed rows) in Indexed table c (keys_of index old.store.state.bytes) (keys_of index new.store.state.bytes) r)) is.3 (does.indexed told living refl));
+  version = λ told _. does.version told refl;
   tables = λ told _. does.tables told refl;
   others = λ u ne. (does.others u ne).0;
   time = does.time;
@@ -224,6 +231,7 @@ has_asked names Commit table is = refl
 has_asked names Abort table is = refl
 has_asked names Offer table is = refl
 has_asked names Settle table is = refl
+has_asked names Purge table is = refl
 has_asked names Begin table is = refl
 
 -- there is none
@@ -238,6 +246,7 @@ has_none names Commit is = absurd (cc)
 has_none names Abort is = absurd (cc)
 has_none names Offer is = absurd (cc)
 has_none names Settle is = absurd (cc)
+has_none names Purge is = absurd (cc)
 has_none names Begin is = absurd (cc)
 
 mirrors_same : (b : TableState) (s new : State) → records_of new ≡ records_of s → new.live ≡ s.live → Mirrors b s → Mirrors b new
@@ -301,15 +310,15 @@ module _ (tells : Bool) (Opens : Shape → List ℕ → List ℕ → Type 0) (in
     dead_same = shows_new.dead ∙ (works.faults refl).0 ∙ sym shows.dead
 
     module _ (told : IsTrue tells) where
-      indexes : Indexes (limits_of p.store.shape) call answer s.index new.index
-      indexes = subst (λ (x : Index). Indexes (limits_of p.store.shape) call answer x new.index) (sym shows.indexed)
-          (subst (λ (x : Index). Indexes (limits_of p.store.shape) call answer (index_of index p.store.state.bytes) x) (sym shows_new.indexed)
-          (subst (λ (ns : List (List ℕ)). Indexes (limits_of p.store.shape) call answer (index_of index p.store.state.bytes) (index_with ns q.store.state.bytes (keys_of index q.store.state.bytes))) (sym (names_same (Ok answer) told refl works))
-          (indexes_granted p.store.shape table (names_of p.store.state.bytes) p.store.state.bytes q.store.state.bytes (keys_of index p.store.state.bytes) (keys_of index q.store.state.bytes) (within told (Ok answer) works living) call answer answer of
+      indexes : Indexes (limits_of index p.store.shape) call answer s.index new.index
+      indexes = subst (λ (x : Index). Indexes (limits_of index p.store.shape) call answer x new.index) (sym shows.indexed)
+          (subst (λ (x : Index). Indexes (limits_of index p.store.shape) call answer (index_of index p.store.state.bytes) x) (sym shows_new.indexed)
+          (subst (λ (ns : List (List ℕ)). Indexes (limits_of index p.store.shape) call answer (index_of index p.store.state.bytes) (index_with ns q.store.state.bytes (keys_of index q.store.state.bytes))) (sym (names_same (Ok answer) told refl works))
+          (indexes_granted index p.store.shape table (names_of p.store.state.bytes) p.store.state.bytes q.store.state.bytes (keys_of index p.store.state.bytes) (keys_of index q.store.state.bytes) (within told (Ok answer) works living) call answer answer of
           (λ inserts. works.quiet told refl (quiet_of index p t call of inserts))
           (λ name key value e. subst (λ (c : Call). Replies (state_of index p) t c answer) e (works.replies told)) (works.indexed told alive refl))))
 
-      asks : Asks (limits_of p.store.shape) calls s t call answer new
+      asks : Asks (limits_of index p.store.shape) calls s t call answer new
       asks = inr (inr (
         free,
         inl (
@@ -321,18 +330,19 @@ module _ (tells : Bool) (Opens : Shape → List ℕ → List ℕ → Type 0) (in
         ),
       ))
 
-      step : Step (limits_of p.store.shape) s t call answer new
-      step = step_of (limits_of p.store.shape) (Some calls) s new t call answer living_state is un
-          (asks_at (limits_of p.store.shape) calls s new t call answer of there (saves_at index table p s shows (tied told).mirrors (tells_writes.held told alive) t (right told) call has) asks)
+      step : Step (limits_of index p.store.shape) s t call answer new
+      step = step_of (limits_of index p.store.shape) (Some calls) s new t call answer living_state is un
+          (asks_at (limits_of index p.store.shape) calls s new t call answer of there (saves_at index table p s shows (tied told).mirrors (tells_writes.held told alive) t (right told) call has) asks)
 
       tied_new : IsTied index q new
       tied_new = record {
         index_sound = sound_new told (Ok answer) works living;
+        version = works.version told refl (tied told).version;
         named = names ∙ (tied told).named ∙ sym (names_same (Ok answer) told refl works);
         mirrors = subst (λ (b : TableState). Mirrors b new) (sym (works.done told)) (mirrors_granted (state_of index p) s (tied told).mirrors new t calls call answer is live same_records of);
-        sound = step_sound (limits_of p.store.shape) s t call answer new (tied told).sound step;
-        room = subst (λ (h : Shape). HasHeld (limits_of h) new) (sym works.shape)
-            (room_granted (limits_of p.store.shape) s (named told) (tied told).room new.index (indexes_slots (limits_of p.store.shape) call answer s.index new.index indexes) t calls is new call answer refl live
+        sound = step_sound (limits_of index p.store.shape) s t call answer new (tied told).sound step;
+        room = subst (λ (h : Shape). HasHeld (limits_of index h) new) (sym works.shape)
+            (room_granted (limits_of index p.store.shape) s (named told) (tied told).room new.index (indexes_slots (limits_of index p.store.shape) call answer s.index new.index indexes) t calls is new call answer refl live
             (enters_at index table p s shows (tied told).mirrors (tells_writes.held told alive) t (right told) call answer new.index of ((works.cause told).2 told) (works.replies told) indexes)
             (returns_at index table p s shows (tied told).mirrors (tells_writes.held told alive) t (right told) calls (ap (λ (o : Option Granted). unwrap_or o []) is) call has));
       }
@@ -367,16 +377,16 @@ module _ (tells : Bool) (Opens : Shape → List ℕ → List ℕ → Type 0) (in
       changed = λ i. record { names = names i; base = base i; history = history i; live = live i; offers = offers i; doubt = doubt i; is_dead = dead_still i; index = new.index }
 
       module _ (told : IsTrue tells) where
-        indexes_still : Indexes (limits_of p.store.shape) call (reply_to f) s.index new.index
-        indexes_still = subst (λ (x : Index). Indexes (limits_of p.store.shape) call (reply_to f) x new.index) (sym shows.indexed)
-            (subst (λ (x : Index). Indexes (limits_of p.store.shape) call (reply_to f) (index_of index p.store.state.bytes) x) (sym shows_new.indexed)
-            (subst (λ (ns : List (List ℕ)). Indexes (limits_of p.store.shape) call (reply_to f) (index_of index p.store.state.bytes) (index_with ns q.store.state.bytes (keys_of index q.store.state.bytes))) (sym (names_same (Err f) told well works))
-            (indexes_refused p.store.shape table (names_of p.store.state.bytes) p.store.state.bytes q.store.state.bytes (keys_of index p.store.state.bytes) (keys_of index q.store.state.bytes) (within told (Err f) works living_still) Reply call f of (asked_below told)
+        indexes_still : Indexes (limits_of index p.store.shape) call (reply_to f) s.index new.index
+        indexes_still = subst (λ (x : Index). Indexes (limits_of index p.store.shape) call (reply_to f) x new.index) (sym shows.indexed)
+            (subst (λ (x : Index). Indexes (limits_of index p.store.shape) call (reply_to f) (index_of index p.store.state.bytes) x) (sym shows_new.indexed)
+            (subst (λ (ns : List (List ℕ)). Indexes (limits_of index p.store.shape) call (reply_to f) (index_of index p.store.state.bytes) (index_with ns q.store.state.bytes (keys_of index q.store.state.bytes))) (sym (names_same (Err f) told well works))
+            (indexes_refused index p.store.shape table (names_of p.store.state.bytes) p.store.state.bytes q.store.state.bytes (keys_of index p.store.state.bytes) (keys_of index q.store.state.bytes) (within told (Err f) works living_still) Reply call f of (asked_below told)
             (λ inserts. works.quiet told well (quiet_of index p t call of inserts)) well (works.indexed told alive well))))
 
         -- for its cause
-        asks_fault : (g : TableFault) → Well g → (let r : Result Reply TableFault = Err g in Cause tells index table t call p r) → Indexes (limits_of p.store.shape) call (reply_to g) s.index new.index
-            → Asks (limits_of p.store.shape) calls s t call (reply_to g) new
+        asks_fault : (g : TableFault) → Well g → (let r : Result Reply TableFault = Err g in Cause tells index table t call p r) → Indexes (limits_of index p.store.shape) call (reply_to g) s.index new.index
+            → Asks (limits_of index p.store.shape) calls s t call (reply_to g) new
         asks_fault (SlotsFull n) well cause made = inr (inr (
           free,
           inr (inl (
@@ -408,21 +418,22 @@ module _ (tells : Bool) (Opens : Shape → List ℕ → List ℕ → Type 0) (in
         asks_fault Dead well cause made = absurd (false≢true (sym alive ∙ cause))
         asks_fault (Damaged page) well cause made = absurd (cause.2 told)
         asks_fault NoMemory well cause made =
-            inl (refl, changed ∙ ap (λ (x : Index). record s { index = x }) (scan_same (limits_of p.store.shape) call reply.NoMemory s.index new.index cause.1 made))
+            inl (refl, changed ∙ ap (λ (x : Index). record s { index = x }) (scan_same (limits_of index p.store.shape) call reply.NoMemory s.index new.index cause.1 made))
         asks_fault Media well cause made = absurd (false≢true (sym well))
 
-        step_still : Step (limits_of p.store.shape) s t call (reply_to f) new
-        step_still = step_of (limits_of p.store.shape) (Some calls) s new t call (reply_to f) living_state is un
-            (asks_at (limits_of p.store.shape) calls s new t call (reply_to f) of there (saves_at index table p s shows (tied told).mirrors (tells_writes.held told alive) t (right told) call has) (asks_fault f well (works.cause told) indexes_still))
+        step_still : Step (limits_of index p.store.shape) s t call (reply_to f) new
+        step_still = step_of (limits_of index p.store.shape) (Some calls) s new t call (reply_to f) living_state is un
+            (asks_at (limits_of index p.store.shape) calls s new t call (reply_to f) of there (saves_at index table p s shows (tied told).mirrors (tells_writes.held told alive) t (right told) call has) (asks_fault f well (works.cause told) indexes_still))
 
         tied_still : IsTied index q new
         tied_still = record {
           index_sound = sound_new told (Err f) works living_still;
+          version = works.version told well (tied told).version;
           named = names ∙ (tied told).named ∙ sym (names_same (Err f) told well works);
           mirrors = subst (λ (b : TableState). Mirrors b new) (sym (works.refused told well)) (mirrors_same (state_of index p) s new same_records live (tied told).mirrors);
-          sound = step_sound (limits_of p.store.shape) s t call (reply_to f) new (tied told).sound step_still;
-          room = subst (λ (h : Shape). HasHeld (limits_of h) new) (sym works.shape) (subst (HasHeld (limits_of p.store.shape)) (sym changed)
-              (index_room (limits_of p.store.shape) s (named told) (tied told).room new.index (indexes_slots (limits_of p.store.shape) call (reply_to f) s.index new.index indexes_still)));
+          sound = step_sound (limits_of index p.store.shape) s t call (reply_to f) new (tied told).sound step_still;
+          room = subst (λ (h : Shape). HasHeld (limits_of index h) new) (sym works.shape) (subst (HasHeld (limits_of index p.store.shape)) (sym changed)
+              (index_room (limits_of index p.store.shape) s (named told) (tied told).room new.index (indexes_slots (limits_of index p.store.shape) call (reply_to f) s.index new.index indexes_still)));
         }
 
         safe_still : IsSafe (core_over Opens index q.store new) q.store.moment (length new.history)
@@ -447,9 +458,9 @@ module _ (tells : Bool) (Opens : Shape → List ℕ → List ℕ → Type 0) (in
     died : new.is_dead ≡ true
     died = shows_new.dead ∙ (works.dies refl).0
 
-    step_failed : IsTrue tells → Step (limits_of p.store.shape) s t call reply.Media new
-    step_failed told = step_of (limits_of p.store.shape) (Some calls) s new t call reply.Media living_state is un
-        (asks_at (limits_of p.store.shape) calls s new t call reply.Media of there (saves_at index table p s shows (tied told).mirrors (tells_writes.held told alive) t (right told) call has)
+    step_failed : IsTrue tells → Step (limits_of index p.store.shape) s t call reply.Media new
+    step_failed told = step_of (limits_of index p.store.shape) (Some calls) s new t call reply.Media living_state is un
+        (asks_at (limits_of index p.store.shape) calls s new t call reply.Media of there (saves_at index table p s shows (tied told).mirrors (tells_writes.held told alive) t (right told) call has)
         (inr (inr (free, inr (inr (due, (refl, new.index, λ i. record { names = names i; base = base i; history = history i; live = live i; offers = offers i; doubt = doubt i; is_dead = died i; index = new.index })))))))
 
     safe_failed : IsTrue tells → IsSafe (core_over Opens index q.store new) q.store.moment (length new.history)

@@ -46,7 +46,7 @@ use Rattle.mars_core.specs.Over.{index_of}
 use Rattle.record_slots.specs.Names.{names_in, number_of}
 use Rattle.record_table.specs.Names.{IsCalled, names_of, key_in}
 use Rattle.record_table.specs.State as below_state
-use Rattle.mars_core.specs.Purging.{Keeps, IsTouchedIn, AreFreeIn, Cleared, IsReady, IsStop, ClearCause, Tried, Tries, Clears}
+use Rattle.mars_core.specs.Purging.{Keeps, IsTouchedIn, AreFreeIn, Cleared, IsReady, ClearCause, Tried, Tries, Clears}
 use Rattle.mars_core.specs.Seats.{Seats, calls_at, bare}
 use Rattle.mars_core.proofs.Unwritten.{unwritten}
 
@@ -519,17 +519,6 @@ going_to tells Opens index seats t n n' Passed Other old now count passed going 
       (cleared_as index seats old.store.state.bytes now.store.state.bytes Passed n (going.cleared told) Other (passed told));
   time = going.time;
 }
-
--- no other refusal stops it
-pub stop_of : (tells : Bool) (f : TableFault) → (let r : Result ℕ TableFault = Err f in ClearCause tells r) → IsStop f
-stop_of tells Media cause = tt
-stop_of tells (Damaged page) cause = tt
-stop_of tells Dead cause = cause
-stop_of tells (LogFull g h k) cause = cause
-stop_of tells (SlotsFull k) cause = cause
-stop_of tells (PagesFull k) cause = cause
-stop_of tells SavesFull cause = cause
-stop_of tells NoMemory cause = cause
 
 -- a look leaves the next key
 pub next_still : (tells : Bool) (Opens : List ℕ → List ℕ → Type 0) (index : below.Index) (mid new : PagesView) (name : List ℕ) (from : ℕ) (found : Option ℕ) → Looks tells Opens false mid new → IsTrue tells

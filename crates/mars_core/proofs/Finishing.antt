@@ -172,8 +172,8 @@ module _ (tells : Bool) (Opens : Shape → List ℕ → List ℕ → Type 0) (in
         none = λ none. shows_new.indexed ∙ (λ i. index_with (names_in (does.tables told refl i)) (does.quiet told refl (writes_are ∙ none) i) (does.indexed told alive refl i)) ∙ sym shows.indexed;
       }
 
-      step : Step (limits_of p.store.shape) s t Commit (Committed (length s.history + 1)) new
-      step = step_of (limits_of p.store.shape) (Some calls) s new t Commit (Committed (length s.history + 1)) living_state is un
+      step : Step (limits_of index p.store.shape) s t Commit (Committed (length s.history + 1)) new
+      step = step_of (limits_of index p.store.shape) (Some calls) s new t Commit (Committed (length s.history + 1)) living_state is un
           (inr (inl (refl, new.index, settles, λ i. record { names = names i; base = base i; history = longer i; live = live i; offers = offers i; doubt = doubt i; is_dead = dead_same i; index = new.index })))
 
       tied_new : IsTied index q new
@@ -181,12 +181,13 @@ module _ (tells : Bool) (Opens : Shape → List ℕ → List ℕ → Type 0) (in
           let was = kept.tied told alive in
           record {
             index_sound = sound_after tells Opens index one p q old_laws new_laws told does.shape alive was.index_sound _ _ (does.time told alive) living;
+            version = does.version told refl was.version;
             named = names ∙ was.named ∙ sym (ap names_in (does.tables told refl));
             mirrors = subst (λ (b : TableState). Mirrors b new) (sym (does.done told)) (mirrors_at (state_of index p) s was.mirrors (after t Commit (Committed k) (state_of index p)) new t None live
                 (seen_left done done_is (Ok (Committed k)) does live told ∙ (λ i. records (sym base i) (sym history i)))
                 (with_one_here (state_of index p).logs t (record { writes = []; saved = [] })) (apart (state_of index p) t Commit (Committed k)));
-            sound = step_sound (limits_of p.store.shape) s t Commit (Committed (length s.history + 1)) new was.sound step;
-            room = subst (λ (h : Shape). HasHeld (limits_of h) new) (sym does.shape) (room_empty (limits_of p.store.shape) s new t None refl was.room (ap (λ (x : Index). x.slot_of) keys_same) live);
+            sound = step_sound (limits_of index p.store.shape) s t Commit (Committed (length s.history + 1)) new was.sound step;
+            room = subst (λ (h : Shape). HasHeld (limits_of index h) new) (sym does.shape) (room_empty (limits_of index p.store.shape) s new t None refl was.room (ap (λ (x : Index). x.slot_of) keys_same) live);
           }
 
       safe_new : IsSafe (core_over Opens index q.store new) q.store.moment (length new.history)
@@ -235,8 +236,8 @@ module _ (tells : Bool) (Opens : Shape → List ℕ → List ℕ → Type 0) (in
     doubtful : new.history ++ new.doubt ≡ s.history ++ done ∷ []
     doubtful = λ i. history i ++ doubt i
 
-    step_doubt : IsTrue tells → Step (limits_of p.store.shape) s t Commit reply.Media new
-    step_doubt told = step_of (limits_of p.store.shape) (Some calls) s new t Commit reply.Media living_state is un (inr (inr (
+    step_doubt : IsTrue tells → Step (limits_of index p.store.shape) s t Commit reply.Media new
+    step_doubt told = step_of (limits_of index p.store.shape) (Some calls) s new t Commit reply.Media living_state is un (inr (inr (
       wrote told,
       refl,
       new.index,
@@ -287,8 +288,8 @@ module _ (tells : Bool) (Opens : Shape → List ℕ → List ℕ → Type 0) (in
         index_alike : new.index ≡ s.index
         index_alike = shows_new.indexed ∙ (λ i. index_with (names_in (does.tables told refl i)) (does.quiet told refl tt i) (does.indexed told alive refl i)) ∙ sym shows.indexed
 
-        step_abort : Step (limits_of p.store.shape) s t Abort Fine new
-        step_abort = step_of (limits_of p.store.shape) (Some calls) s new t Abort Fine living_state is un
+        step_abort : Step (limits_of index p.store.shape) s t Abort Fine new
+        step_abort = step_of (limits_of index p.store.shape) (Some calls) s new t Abort Fine living_state is un
             (refl, λ i. record { names = names i; base = base i; history = history i; live = live i; offers = offers i; doubt = doubt i; is_dead = dead_alike i; index = index_alike i })
 
         tied_abort : IsTied index q new
@@ -296,12 +297,13 @@ module _ (tells : Bool) (Opens : Shape → List ℕ → List ℕ → Type 0) (in
             let was = kept.tied told alive in
             record {
               index_sound = sound_after tells Opens index one p q old_laws new_laws told does.shape alive was.index_sound _ _ (does.time told alive) lives;
+              version = does.version told refl was.version;
               named = names ∙ was.named ∙ sym (ap names_in (does.tables told refl));
               mirrors = subst (λ (b : TableState). Mirrors b new) (sym (does.done told)) (mirrors_at (state_of index p) s was.mirrors (after t Abort Fine (state_of index p)) new t None live
                   (was.mirrors.table ∙ (λ i. records (sym base i) (sym history i)))
                   (with_one_here (state_of index p).logs t (record { writes = []; saved = [] })) (apart (state_of index p) t Abort Fine));
-              sound = step_sound (limits_of p.store.shape) s t Abort Fine new was.sound step_abort;
-              room = subst (λ (h : Shape). HasHeld (limits_of h) new) (sym does.shape) (room_empty (limits_of p.store.shape) s new t None refl was.room (ap (λ (x : Index). x.slot_of) index_alike) live);
+              sound = step_sound (limits_of index p.store.shape) s t Abort Fine new was.sound step_abort;
+              room = subst (λ (h : Shape). HasHeld (limits_of index h) new) (sym does.shape) (room_empty (limits_of index p.store.shape) s new t None refl was.room (ap (λ (x : Index). x.slot_of) index_alike) live);
             }
 
         safe_abort : IsSafe (core_over Opens index q.store new) q.store.moment (length new.history)
@@ -340,4 +342,4 @@ module _ (tells : Bool) (Opens : Shape → List ℕ → List ℕ → Type 0) (in
 pub unkept : (tells : Bool) (Opens : Shape → List ℕ → List ℕ → Type 0) (index : below.Index) (p : PagesView) (s new : State) (shows : ShowsPages index p s) (count : ℕ) (rows : List NamedRows)
     → IsKept tells Opens index p count rows s → IsAlive p.store → (t : ℕ) (calls : Granted) → s.live t ≡ Some calls → s.offers t ≡ unoffered → new ≡ s → Steps tells t Commit (core_over Opens index p.store s) (core_over Opens index p.store new) NoMemory
 unkept tells Opens index p s new shows count rows kept alive t calls is un same = steps_same tells Opens index p s new t Commit NoMemory same kept.safe refl refl refl (λ told.
-    step_of (limits_of p.store.shape) (Some calls) s s t Commit NoMemory (shows.dead ∙ alive) is un (inl (refl, refl)))
+    step_of (limits_of index p.store.shape) (Some calls) s s t Commit NoMemory (shows.dead ∙ alive) is un (inl (refl, refl)))

@@ -7,6 +7,7 @@ use Rattle.eaw_face.specs.StoreView.{StoreView}
 use Rattle.eaw_face.specs.Mirroring.{Mirrors, GivesUp}
 use Rattle.eaw_face.proofs.Mirroring.{none_sent}
 use Rattle.history.specs.Rows.{NamedRows}
+use Rattle.record_slots.specs.Places.{version_of}
 use Rattle.record_table.specs.Names.{names_of}
 use Rattle.history.specs.Table.{Granted}
 use Rattle.history.specs.Writes.{Table}
@@ -41,13 +42,14 @@ module _ (tells : Bool) (Opens : Shape → List ℕ → List ℕ → Type 0) (in
             let tied = kept.tied told (sym gives.is_dead ∙ alive) in
             record {
               index_sound = subst (λ (d : store.State). index.sound d.bytes) (sym gives.state) tied.index_sound;
+              version = ap (λ (d : store.State). version_of d.bytes) gives.state ∙ tied.version;
               named = tied.named ∙ ap (λ (d : store.State). names_of d.bytes) (sym gives.state);
               mirrors = record {
                 table = ap (λ (x : TableState). x.table) same ∙ tied.mirrors.table;
                 logs = λ caller. ap (λ (x : TableState). x.logs caller) same ∙ tied.mirrors.logs caller;
               };
               sound = tied.sound;
-              room = subst (λ (h : Shape). HasHeld (limits_of h) s) (sym gives.shape) tied.room;
+              room = subst (λ (h : Shape). HasHeld (limits_of index h) s) (sym gives.shape) tied.room;
             };
         safe = λ told image left.
             subst (λ (h : Shape). HasPrefixOf (OpensWith (Opens h) index) s (length history) image) (sym gives.shape)

@@ -8,7 +8,7 @@ use Rattle.page_store.specs.Index as below
 use Rattle.history.specs.Key.{of_table}
 use Rattle.history.specs.declared.key.Key.{Key}
 use Rattle.history.specs.declared.call.Call.{Call}
-use Rattle.history.specs.declared.call.Call.TheVariants.{Begin, Get, Put, Del, Scan, Save, Back, Commit, Abort, Offer, Settle}
+use Rattle.history.specs.declared.call.Call.TheVariants.{Begin, Get, Put, Del, Scan, Save, Back, Commit, Abort, Offer, Settle, Purge}
 use Rattle.history.specs.declared.call.Reply.{Reply}
 use Rattle.history.specs.declared.call.Reply.TheVariants.{Fine}
 use Rattle.history.specs.declared.call.Reply.TheVariants as reply
@@ -40,7 +40,7 @@ abbrev pub InsertsNone : Keys → Call → Type 0
 InsertsNone keys (Put name key value) = IsSome (keys.slot_of (of_table name key))
 InsertsNone keys call = Unit {0}
 
-module _ (shape : Shape) (table : ℕ) (names : List (List ℕ)) (a b : List ℕ) (old new : Keys) (within : IsWithin shape new) where
+module _ (index : below.Index) (shape : Shape) (table : ℕ) (names : List (List ℕ)) (a b : List ℕ) (old new : Keys) (within : IsWithin shape new) where
   both : new ≡ old → b ≡ a → index_with names b new ≡ index_with names a old
   both keys bytes = λ i. index_with names (bytes i) (keys i)
 
@@ -48,13 +48,13 @@ module _ (shape : Shape) (table : ℕ) (names : List (List ℕ)) (a b : List ℕ
   level_rises None rises = omega arith
   level_rises (Some j) rises = rises j
 
-  takes : tables.TakesPages old new → TakesPages (limits_of shape) (index_with names a old) (index_with names b new)
+  takes : tables.TakesPages old new → TakesPages (limits_of index shape) (index_with names a old) (index_with names b new)
   takes t = record { later = t.later; few = t.few; most = within.pages; used = t.used; levels = λ name. level_rises (number_of names name) t.levels }
 
   keeps : tables.KeepsKeys old new → KeepsKeys (index_with names a old) (index_with names b new)
   keeps k = record { slot_of = k.slot_of; slots = k.slots; due = k.due }
 
-  gains : (key : Key) → tables.GainsKey key old new → GainsKey (limits_of shape) key (index_with names a old) (index_with names b new)
+  gains : (key : Key) → tables.GainsKey key old new → GainsKey (limits_of index shape) key (index_with names a old) (index_with names b new)
   gains key g = record {
     left = omega (arith, g.slots, within.slots);
     slot_of = g.slot_of;
@@ -62,7 +62,7 @@ module _ (shape : Shape) (table : ℕ) (names : List (List ℕ)) (a b : List ℕ
   }
 
   refused_at : (T : Type 0) (key : Key) (asked : number_of names key.table ≡ Some table) (o : Option ℕ) → old.slot_of key ≡ o → (IsSome o → b ≡ a) → (f : TableFault) → (let r : Result T TableFault = Err f in IsFalse (is_failed r))
-      → (let r : Result T TableFault = Err f in IndexedAt table key o old new r) → IndexesAt (limits_of shape) key o (reply_to f) (index_with names a old) (index_with names b new)
+      → (let r : Result T TableFault = Err f in IndexedAt table key o old new r) → IndexesAt (limits_of index shape) key o (reply_to f) (index_with names a old) (index_with names b new)
   refused_at T key asked (Some slot) is quiet f well same = both same (quiet refl)
   refused_at T key asked None is quiet (LogFull g h n) well (t, inl k) = (takes t, inl (keeps k))
   refused_at T key asked None is quiet (LogFull g h n) well (t, inr k) = (takes t, inr (gains key k))
@@ -76,13 +76,13 @@ module _ (shape : Shape) (table : ℕ) (names : List (List ℕ)) (a b : List ℕ
   refused_at T key asked None is quiet NoMemory well (t, k) = (takes t, keeps k)
 
   granted_at : {T : Type 0} (key : Key) (o : Option ℕ) → old.slot_of key ≡ o → (IsSome o → b ≡ a) → (answer : T)
-      → (let r : Result T TableFault = Ok answer in IndexedAt table key o old new r) → IndexesAt (limits_of shape) key o Fine (index_with names a old) (index_with names b new)
+      → (let r : Result T TableFault = Ok answer in IndexedAt table key o old new r) → IndexesAt (limits_of index shape) key o Fine (index_with names a old) (index_with names b new)
   granted_at key (Some slot) is quiet answer same = both same (quiet refl)
   granted_at key None is quiet answer (t, k) = (takes t, gains key k)
 
   -- a refusal
   pub indexes_refused : (T : Type 0) (call : Call) (f : TableFault) → IsOfTable call → number_for names call ≡ Some table → (InsertsNone old call → b ≡ a) → (let r : Result T TableFault = Err f in IsFalse (is_failed r))
-      → (let r : Result T TableFault = Err f in Indexed table call old new r) → Indexes (limits_of shape) call (reply_to f) (index_with names a old) (index_with names b new)
+      → (let r : Result T TableFault = Err f in Indexed table call old new r) → Indexes (limits_of index shape) call (reply_to f) (index_with names a old) (index_with names b new)
   indexes_refused T (Put name key value) f of asked quiet well indexed = refused_at T (of_table name key) asked (old.slot_of (of_table name key)) refl quiet f well indexed
   indexes_refused T (Get name key) f of asked quiet well same = both same (quiet tt)
   indexes_refused T (Del name key) f of asked quiet well same = both same (quiet tt)
@@ -93,13 +93,14 @@ module _ (shape : Shape) (table : ℕ) (names : List (List ℕ)) (a b : List ℕ
   indexes_refused T Abort f of asked quiet well same = absurd of
   indexes_refused T Offer f of asked quiet well same = absurd of
   indexes_refused T Settle f of asked quiet well same = absurd of
+  indexes_refused T Purge f of asked quiet well same = absurd of
   indexes_refused T Begin f of asked quiet well same = absurd of
 
   -- a granted call
   pub indexes_granted : {T : Type 0} (call : Call) (answer : T) (told : Reply) → IsOfTable call → (InsertsNone old call → b ≡ a) → ((name : List ℕ) (key : ℕ) (value : List ℕ) → call ≡ Put name key value → told ≡ Fine)
-      → (let r : Result T TableFault = Ok answer in Indexed table call old new r) → Indexes (limits_of shape) call told (index_with names a old) (index_with names b new)
+      → (let r : Result T TableFault = Ok answer in Indexed table call old new r) → Indexes (limits_of index shape) call told (index_with names a old) (index_with names b new)
   indexes_granted (Put name key value) answer told of quiet fine indexed =
-      subst (λ (r : Reply). IndexesAt (limits_of shape) (of_table name key) (old.slot_of (of_table name key)) r (index_with names a old) (index_with names b new)) (sym (fine name key value refl)) (granted_at (of_table name key) (old.slot_of (of_table name key)) refl quiet answer indexed)
+      subst (λ (r : Reply). IndexesAt (limits_of index shape) (of_table name key) (old.slot_of (of_table name key)) r (index_with names a old) (index_with names b new)) (sym (fine name key value refl)) (granted_at (of_table name key) (old.slot_of (of_table name key)) refl quiet answer indexed)
   indexes_granted (Get name key) answer told of quiet fine same = both same (quiet tt)
   indexes_granted (Del name key) answer told of quiet fine same = both same (quiet tt)
   indexes_granted (Scan name low high) answer told of quiet fine same = both same (quiet tt)
@@ -109,6 +110,7 @@ module _ (shape : Shape) (table : ℕ) (names : List (List ℕ)) (a b : List ℕ
   indexes_granted Abort answer told of quiet fine same = absurd of
   indexes_granted Offer answer told of quiet fine same = absurd of
   indexes_granted Settle answer told of quiet fine same = absurd of
+  indexes_granted Purge answer told of quiet fine same = absurd of
   indexes_granted Begin answer told of quiet fine same = absurd of
 
 -- the keys stay, or the index gains one that it lacked

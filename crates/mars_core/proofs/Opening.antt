@@ -77,10 +77,11 @@ module _ (tells : Bool) (Opens : Shape → List ℕ → List ℕ → Type 0) (in
     tied_new : IsTied index r (state_at index r.store seats.names (table_of rows) history (live_in seats) (offers_in seats) doubt)
     tied_new = record {
       index_sound = upgrades.sound told;
+      version = upgrades.version told;
       named = named told ∙ sym names_new;
       mirrors = mirrors;
       sound = subst IsSound (sym opened_is) (opened_sound (names_of p.store.state.bytes) (shown.table_of index p.store.state.bytes) (index_of index (upgraded p.store.state.bytes)));
-      room = subst (HasHeld (limits_of r.store.shape)) (sym opened_is) (λ caller g. omega arith);
+      room = subst (HasHeld (limits_of index r.store.shape)) (sym opened_is) (λ caller g. omega arith);
     }
 
   pub opened_keeps : IsKept tells Opens index r (length seats.places) rows (state_at index r.store seats.names (table_of rows) history (live_in seats) (offers_in seats) doubt)

@@ -1,5 +1,5 @@
 -- A core after a purge.
-use Rattle.std.proofs.Common.{◌≡◌, ℕ, suc, ◌<◌, ◌≤◌, ◌⊎◌, ◌++◌, inl, inr, Bool, true, false, cond, ◌||◌, IsTrue, List, [], ◌∷◌, length, filter, Result, Ok, Err, refl, sym, ◌∙◌, ap, subst, arith}
+use Rattle.std.proofs.Common.{◌≡◌, ℕ, zero, suc, ◌<◌, ◌≤◌, ◌⊎◌, ◌++◌, inl, inr, Bool, true, false, cond, ◌||◌, IsTrue, List, [], ◌∷◌, length, filter, Result, Ok, Err, refl, sym, ◌∙◌, ap, subst, arith}
 use Rattle.std.specs.Prelude.{Option, Some, None, is_some, not, IsSome, IsFalse, unwrap_or, slice_get, map, if◌then◌else◌}
 use Rattle.std.specs.FinMap.{get}
 use Rattle.std.specs.List.{list_any}
@@ -17,9 +17,12 @@ use Rattle.history.specs.declared.key.Key.{Key}
 use Rattle.history.specs.Key.{of_table}
 use Rattle.history.proofs.Keys.{same_key, same_keys}
 use Rattle.page_store.specs.Pairs.{Pair}
-use Rattle.record_slots.specs.Names.{names_in}
+use Rattle.record_slots.specs.Names.{names_in, number_of}
+use Rattle.record_slots.proofs.Numbering.{first_is}
 use Rattle.record_slots.specs.declared.super_page.TableEntry.{TableEntry}
 use Rattle.record_table.specs.Names.{names_of}
+use Rattle.record_table.specs.Faults.{reply_to}
+use Rattle.record_table.proofs.Joint.{tables_apart}
 use Rattle.caller_steps.proofs.AtKeys.{at_other_key}
 use Rattle.caller_steps.proofs.Sound.{history_whole}
 use Rattle.history.specs.Log.{log_of}
@@ -27,28 +30,35 @@ use Rattle.history.specs.Rows.{NamedRows}
 use Rattle.history.specs.Table.{Granted}
 use Rattle.history.specs.Writes.{Table, Write, is_of}
 use Rattle.history.specs.declared.transaction.Done.{Done}
+use Rattle.history.specs.declared.call.Call.TheVariants.{Purge}
+use Rattle.history.specs.declared.call.Reply.{Reply}
+use Rattle.history.specs.declared.call.Reply.TheVariants as reply
 use Rattle.record_table.specs.Does.{OpensWith, is_failed}
 use Rattle.record_table.specs.Shown.{table_of, state_of, pairs_of, keys_of}
 use Rattle.record_table.specs.Shown as shown
 use Rattle.record_table.specs.State.{TableState}
 use Rattle.record_table.specs.declared.fault.TableFault.{TableFault}
 use Rattle.record_table.specs.declared.fault.TableFault.TheVariants.{SlotsFull, PagesFull, SavesFull, LogFull, Media, Dead, Damaged, NoMemory}
-use Rattle.caller_steps.specs.Core.{IsSafe}
+use Rattle.caller_steps.specs.Core.{IsSafe, Steps}
 use Rattle.caller_steps.specs.Prefix.{HasPrefixOf}
-use Rattle.caller_steps.specs.Purging.{AreFree, Lost, PurgeStep, PurgeCause, Purges, is_media_refusal}
+use Rattle.caller_steps.specs.Purging.{AreFree, Lost}
+use Rattle.caller_steps.specs.Fate.{is_busy, is_media, Moves}
+use Rattle.caller_steps.specs.Step.{Step}
+use Rattle.caller_steps.proofs.Fates as fates
+use Rattle.caller_steps.proofs.Fates.{fate_moves}
 use Rattle.caller_steps.specs.Room.{Limits, is_slot_on, is_write_on, held_on}
 use Rattle.caller_steps.specs.State.{State, Index, unoffered}
-use Rattle.caller_steps.specs.Offers.{is_unoffered, is_engaged}
-use Rattle.caller_steps.specs.declared.purge_fault.PurgeFault.{PurgeFault}
 use Rattle.mars_core.specs.Held.{core_over, state_at}
 use Rattle.mars_core.specs.Kept.{IsTied, IsKept}
-use Rattle.mars_core.specs.Over.{limits_of, index_of}
-use Rattle.mars_core.specs.Purging.{IsOfFirst, Keeps, AreFreeIn, IsReady, stopped, ClearCause, Clears}
+use Rattle.mars_core.specs.Over.{limits_of, index_of, keeps_at, keeps_in}
+use Rattle.mars_core.specs.Purging.{IsOfFirst, Keeps, AreFreeIn, IsReady, ClearCause, Clears}
 use Rattle.mars_core.specs.Seats.{Seats, live_in, offers_in, calls_at}
+use Rattle.mars_core.proofs.Answered.{fault_plain}
 use Rattle.mars_core.proofs.Answering.{IndexLaws}
+use Rattle.mars_core.proofs.Clearing.{one_name}
 use Rattle.mars_core.proofs.Indexing.{is_within}
 use Rattle.mars_core.proofs.Prefixes.{StoreLaws, safe_dead, safe_alive}
-use Rattle.mars_core.proofs.Stepping.{time_same}
+use Rattle.mars_core.proofs.Stepping.{step_of, steps_of, time_same}
 use Rattle.mars_core.proofs.Unwritten.{unwritten}
 
 -- a key of the pairs of tables is one of theirs
@@ -73,10 +83,33 @@ module _ (index : below.Index) (d : List ℕ) (key : Key) where
   unfolding pairs_of
   named_key some = named_in (tables_of d) some
 
--- what came of it, as it is told
-abbrev pub outcome : Result ℕ TableFault → Result ℕ PurgeFault
-outcome (Ok n) = Ok n
-outcome (Err fault) = Err (stopped fault)
+-- a name at a number is that of the table there
+entry_at : (entries : List TableEntry) (j : ℕ) (name : List ℕ) → slice_get (names_in entries) j ≡ Some name → (entry : TableEntry) × (slice_get entries j ≡ Some entry) × (entry.name ≡ name)
+entry_at [] j name is = absurd (cc)
+entry_at (entry ∷ entries) zero name is = (entry, refl, one_name entry.name name is)
+entry_at (entry ∷ entries) (suc j) name is = entry_at entries j name is
+
+-- in sound data a table's name has the table's number, since no other table has the name
+numbered : (index : below.Index) (laws : IndexLaws index) (bytes : List ℕ) → index.sound bytes → (table : ℕ) (name : List ℕ) → slice_get (names_of bytes) table ≡ Some name → number_of (names_of bytes) name ≡ Some table
+numbered index laws bytes sound table name called = first_is (names_of bytes) name table called (λ k lt again.
+    let one = entry_at (tables_of bytes) k name again in
+    let other = entry_at (tables_of bytes) table name called in
+    tables_apart bytes (laws.counts bytes sound) k table one.0 other.0 lt one.1 other.1 (one.2 ∙ sym other.2))
+
+-- a key that an index keeps is one of those that callers know to be kept
+keeps_told : (index : below.Index) (laws : IndexLaws index) (bytes : List ℕ) → index.sound bytes → (key : Key) → Keeps index bytes key → keeps_in index bytes key ≡ true
+keeps_told index laws bytes sound key (table, called, kept) =
+    ap (keeps_at index bytes key.key) (numbered index laws bytes sound table key.table called) ∙ ap (λ (o : Option (List ℕ)). not (is_some o)) kept
+
+-- how a purge is answered, by what came of it
+abbrev pub outcome : Result ℕ TableFault → Reply
+outcome (Ok n) = reply.Purged n
+outcome (Err fault) = reply_to fault
+
+-- no other caller's locks refuse it
+pub outcome_plain : (r : Result ℕ TableFault) → is_busy (outcome r) ≡ false
+outcome_plain (Ok n) = refl
+outcome_plain (Err fault) = fault_plain fault
 
 module _ (limits : Limits) (g : ℕ) where
   -- If a key that no write names is lost, the writes on a logger stay the same,
@@ -103,21 +136,17 @@ module _ (tells : Bool) (Opens : Shape → List ℕ → List ℕ → Type 0) (in
   abbrev s : State
   s = state_at index p.store seats.names base history (live_in seats) (offers_in seats) doubt
 
-  -- it has no transaction, live or unsettled
-  free_caller : is_engaged s t ≡ false
-  free_caller = λ i. is_some (none i) || not (is_unoffered (un i))
-
-  pub idle : calls_at seats t ≡ []
+  idle : calls_at seats t ≡ []
   idle = ap (λ (o : Option Granted). unwrap_or o []) none
 
   -- what the purge rests on
-  pub ready : (IsTrue tells → version_of p.store.state.bytes ≡ 2) → IsTrue tells → IsReady index seats t p
-  ready version told =
+  pub ready : IsTrue tells → IsReady index seats t p
+  ready told =
       let tied = kept.tied told alive in
       let counts = index_laws.counts p.store.state.bytes tied.index_sound in
       record {
         sound = tied.index_sound;
-        version = version told;
+        version = tied.version;
         named = sym tied.named;
         logs = tied.mirrors.logs;
         slots = (is_within p.store.shape p.store.state.bytes (keys_of index p.store.state.bytes) (old_laws.long told) counts refl refl).slots;
@@ -137,12 +166,13 @@ module _ (tells : Bool) (Opens : Shape → List ℕ → List ℕ → Type 0) (in
           let cleared = clears.cleared told in
           record {
             index_sound = clears.sound told living;
+            version = (clears.ready told).version;
             named = sym (clears.ready told).named;
             mirrors = record { table = ap (λ (x : TableState). x.table) state ∙ was.mirrors.table; logs = λ u. ap (λ (x : TableState). x.logs u) state ∙ was.mirrors.logs u };
             sound = record { legal = was.sound.legal; certain = λ _. was.sound.certain alive; doubtful = was.sound.doubtful; groups = was.sound.groups; doubtful_groups = was.sound.doubtful_groups; right = was.sound.right; offers = was.sound.offers; apart = was.sound.apart };
-            room = λ u g. subst (λ (l : Limits). held_on l (state_at index q.store seats.names base history (live_in seats) (offers_in seats) doubt) u g ≤ l.entries) (ap limits_of (sym clears.shape))
+            room = λ u g. subst (λ (l : Limits). held_on l (state_at index q.store seats.names base history (live_in seats) (offers_in seats) doubt) u g ≤ l.entries) (ap (limits_of index) (sym clears.shape))
                 (subst (λ (k : ℕ). k ≤ p.store.shape.entries)
-                (sym (ap length (all_lost (limits_of p.store.shape) g index seats p.store.state.bytes u (index_of index p.store.state.bytes) (index_of index q.store.state.bytes) cleared.keys cleared.lost cleared.free))) (was.room u g));
+                (sym (ap length (all_lost (limits_of index p.store.shape) g index seats p.store.state.bytes u (index_of index p.store.state.bytes) (index_of index q.store.state.bytes) cleared.keys cleared.lost cleared.free))) (was.room u g));
           }
 
       -- Where the store tells its data, nothing but a fault of the medium refuses a purge.
@@ -185,45 +215,59 @@ module _ (tells : Bool) (Opens : Shape → List ℕ → List ℕ → Type 0) (in
     free_so told [] free = tt
     free_so told (key ∷ keys) free = (((free.0.0.0, ap (λ (x : Table). get x key) (sym (was told).mirrors.table) ∙ free.0.0.1), free.0.1), free_so told keys free.1)
 
-    step_of : (r : Result ℕ TableFault) → Clears tells (Opens p.store.shape) index seats t (IsOfFirst seats.names (length seats.names)) p q r → IsTrue tells
-        → PurgeStep (Keeps index) (state_at index p.store seats.names base history (live_in seats) (offers_in seats) doubt) t (outcome r) (state_at index q.store seats.names base history (live_in seats) (offers_in seats) doubt)
-    step_of (Ok n) clears told =
+    -- the same callers over another index
+    still : (r : Result ℕ TableFault) → IsFalse (is_failed r) → Clears tells (Opens p.store.shape) index seats t (IsOfFirst seats.names (length seats.names)) p q r → new ≡ record s { index = index_of index q.store.state.bytes }
+    still r well clears = λ i. record new { is_dead = (clears.faults well).0 i }
+
+    -- and dead after a fault of the medium
+    dying : (let r : Result ℕ TableFault = Err Media in Clears tells (Opens p.store.shape) index seats t (IsOfFirst seats.names (length seats.names)) p q r) → new ≡ record s { index = index_of index q.store.state.bytes; is_dead = true }
+    dying clears = λ i. record new { is_dead = (clears.dies refl).0 i }
+
+    moves_of : (r : Result ℕ TableFault) → Clears tells (Opens p.store.shape) index seats t (IsOfFirst seats.names (length seats.names)) p q r → Moves p.store.shape.numbers s t Purge (outcome r) new
+    moves_of (Ok n) clears = fate_moves p.store.shape.numbers s t Purge (reply.Purged n) new (fates.purged n un none refl refl (index_of index q.store.state.bytes) (still (Ok n) refl clears))
+    moves_of (Err Media) clears = fate_moves p.store.shape.numbers s t Purge reply.Media new (fates.failed refl refl (index_of index q.store.state.bytes) (dying clears))
+    moves_of (Err (Damaged page)) clears = fate_moves p.store.shape.numbers s t Purge (reply.Damaged page) new (fates.refused refl refl (index_of index q.store.state.bytes) (still (Err (Damaged page)) refl clears))
+    moves_of (Err Dead) clears = absurd clears.cause
+    moves_of (Err (SlotsFull n)) clears = absurd clears.cause
+    moves_of (Err (PagesFull n)) clears = absurd clears.cause
+    moves_of (Err SavesFull) clears = absurd clears.cause
+    moves_of (Err (LogFull g h n)) clears = absurd clears.cause
+    moves_of (Err NoMemory) clears = absurd clears.cause
+
+    purge_step : (r : Result ℕ TableFault) → Clears tells (Opens p.store.shape) index seats t (IsOfFirst seats.names (length seats.names)) p q r → IsTrue tells → Step (limits_of index p.store.shape) s t Purge (outcome r) new
+    purge_step (Ok n) clears told =
         let cleared = clears.cleared told in
-        let table = ap (λ (x : TableState). x.table) (clears.state told refl) ∙ (was told).mirrors.table in (
-          alive,
-          free_caller,
+        let ready_then = clears.ready told in
+        let table = ap (λ (x : TableState). x.table) (clears.state told refl) ∙ (was told).mirrors.table in
+        step_of (limits_of index p.store.shape) None s new t Purge (reply.Purged n) alive none un (inl (
+          n,
+          refl,
           record {
             keys = cleared.keys;
             count = cleared.count;
             free = free_so told cleared.keys cleared.free;
             index = index_of index q.store.state.bytes;
             lost = cleared.lost;
-            same = λ i. record (state_at index q.store seats.names base history (live_in seats) (offers_in seats) doubt) { is_dead = (clears.faults refl).0 i };
-            left = λ key lt is. cleared.left key (let at = named_key index q.store.state.bytes key is.0 in let same = (clears.ready told).named in
-                (at.0, subst (λ (ns : List (List ℕ)). at.0 < length ns) same at.1, ap (λ (ns : List (List ℕ)). slice_get ns at.0) (sym same) ∙ at.2, lt)) (is.0, ap (λ (x : Table). get x key) table ∙ is.1);
+            same = still (Ok n) refl clears;
+            left = λ key lt is.
+                let at = named_key index q.store.state.bytes key is.0 in
+                let same = ready_then.named in
+                elim (cleared.left key (at.0, subst (λ (ns : List (List ℕ)). at.0 < length ns) same at.1, ap (λ (ns : List (List ℕ)). slice_get ns at.0) (sym same) ∙ at.2, lt) (is.0, ap (λ (x : Table). get x key) table ∙ is.1)) [
+                  | inl touch ↦ inl touch
+                  | inr keeps ↦ inr (keeps_told index index_laws q.store.state.bytes ready_then.sound key keeps)
+                ];
           },
-        )
-    step_of (Err Media) clears told = (alive, free_caller, index_of index q.store.state.bytes, λ i. record (state_at index q.store seats.names base history (live_in seats) (offers_in seats) doubt) { is_dead = (clears.dies refl).0 i })
-    step_of (Err Dead) clears told = absurd clears.cause
-    step_of (Err (SlotsFull n)) clears told = absurd clears.cause
-    step_of (Err (PagesFull n)) clears told = absurd clears.cause
-    step_of (Err SavesFull) clears told = absurd clears.cause
-    step_of (Err (LogFull g h n)) clears told = absurd clears.cause
-    step_of (Err (Damaged page)) clears told = absurd (clears.cause told)
-    step_of (Err NoMemory) clears told = absurd clears.cause
+        ))
+    purge_step (Err Media) clears told = step_of (limits_of index p.store.shape) None s new t Purge reply.Media alive none un (inr (refl, index_of index q.store.state.bytes, dying clears))
+    purge_step (Err Dead) clears told = absurd clears.cause
+    purge_step (Err (SlotsFull n)) clears told = absurd clears.cause
+    purge_step (Err (PagesFull n)) clears told = absurd clears.cause
+    purge_step (Err SavesFull) clears told = absurd clears.cause
+    purge_step (Err (LogFull g h n)) clears told = absurd clears.cause
+    purge_step (Err (Damaged page)) clears told = absurd (clears.cause told)
+    purge_step (Err NoMemory) clears told = absurd clears.cause
 
-    cause_of : (r : Result ℕ TableFault) → Clears tells (Opens p.store.shape) index seats t (IsOfFirst seats.names (length seats.names)) p q r → PurgeCause (state_at index p.store seats.names base history (live_in seats) (offers_in seats) doubt) t (outcome r)
-    cause_of (Ok n) clears = (alive, free_caller)
-    cause_of (Err Dead) clears = absurd clears.cause
-    cause_of (Err Media) clears = (alive, free_caller)
-    cause_of (Err (SlotsFull n)) clears = absurd clears.cause
-    cause_of (Err (PagesFull n)) clears = absurd clears.cause
-    cause_of (Err SavesFull) clears = absurd clears.cause
-    cause_of (Err (LogFull g h n)) clears = absurd clears.cause
-    cause_of (Err (Damaged page)) clears = (alive, free_caller)
-    cause_of (Err NoMemory) clears = absurd clears.cause
-
-    failed_is : (r : Result ℕ TableFault) → ClearCause tells r → is_media_refusal (outcome r) ≡ is_failed r
+    failed_is : (r : Result ℕ TableFault) → ClearCause tells r → is_media (outcome r) ≡ is_failed r
     failed_is (Ok n) cause = refl
     failed_is (Err Media) cause = refl
     failed_is (Err Dead) cause = absurd cause
@@ -234,53 +278,8 @@ module _ (tells : Bool) (Opens : Shape → List ℕ → List ℕ → Type 0) (in
     failed_is (Err (Damaged page)) cause = refl
     failed_is (Err NoMemory) cause = absurd cause
 
-    dead_is : (b old now : Bool) → old ≡ false → (b ≡ false → now ≡ old) → (b ≡ true → now ≡ true) → now ≡ (old || b)
-    dead_is true old now is well ill = ill refl ∙ sym (ap (λ (x : Bool). x || true) is)
-    dead_is false old now is well ill = well refl ∙ is ∙ sym (ap (λ (x : Bool). x || false) is)
-
     module _ (r : Result ℕ TableFault) (clears : Clears tells (Opens p.store.shape) index seats t (IsOfFirst seats.names (length seats.names)) p q r) where
-      pub purged_steps : Purges tells (Keeps index) t (core_over Opens index p.store (state_at index p.store seats.names base history (live_in seats) (offers_in seats) doubt))
-          (core_over Opens index q.store (state_at index q.store seats.names base history (live_in seats) (offers_in seats) doubt)) (outcome r)
-      purged_steps = record {
-        limits = ap limits_of clears.shape;
-        opens = λ image table opens. subst (λ (h : Shape). OpensWith (Opens h) index image table) (sym clears.shape) opens;
-        names = refl;
-        base = refl;
-        history = refl;
-        live = refl;
-        offers = refl;
-        doubt = refl;
-        dead = dead_is (is_media_refusal (outcome r)) p.store.is_dead q.store.is_dead alive (λ well. (clears.faults (sym (failed_is r clears.cause) ∙ well)).0) (λ ill. (clears.dies (sym (failed_is r clears.cause) ∙ ill)).0);
-        cause = cause_of r clears;
-        failed = λ ill. (clears.dies (sym (failed_is r clears.cause) ∙ ill)).1;
-        kept = λ well. (clears.faults (sym (failed_is r clears.cause) ∙ well)).1;
-        step = step_of r clears;
-        time = time_now r clears;
-        now = (purged_keeps r clears).safe;
-      }
-
--- A purge that is refused before it looks at a key.
-pub refused_steps : (tells : Bool) (Opens : Shape → List ℕ → List ℕ → Type 0) (index : below.Index) (p : PagesView) (s : State) (t : ℕ) (answer : Result ℕ PurgeFault)
-    → (IsTrue tells → IsSafe (core_over Opens index p.store s) p.store.moment (length s.history)) → is_media_refusal answer ≡ false → PurgeCause s t answer → PurgeStep (Keeps index) s t answer s
-    → Purges tells (Keeps index) t (core_over Opens index p.store s) (core_over Opens index p.store s) answer
-refused_steps tells Opens index p s t answer safe well cause step = record {
-  limits = refl;
-  opens = λ image table opens. opens;
-  names = refl;
-  base = refl;
-  history = refl;
-  live = refl;
-  offers = refl;
-  doubt = refl;
-  dead = same s.is_dead (is_media_refusal answer) well;
-  cause = cause;
-  failed = λ ill. absurd (false≢true (sym well ∙ ill));
-  kept = λ _. refl;
-  step = λ told. step;
-  time = λ told. stays p.store.moment p.store.left_since _;
-  now = safe;
-}
-  where
-    same : (a b : Bool) → b ≡ false → a ≡ (a || b)
-    same true b is = refl
-    same false b is = sym is
+      pub purged_steps : Steps tells t Purge (core_over Opens index p.store s) (core_over Opens index q.store new) (outcome r)
+      purged_steps = steps_of tells Opens index p q s new t Purge (outcome r) clears.shape (moves_of r clears)
+          (λ ill. (clears.dies (sym (failed_is r clears.cause) ∙ ill)).1) (λ well. (clears.faults (sym (failed_is r clears.cause) ∙ well)).1)
+          (purge_step r clears) (time_now r clears) (purged_keeps r clears).safe

@@ -182,26 +182,3 @@ module _ (seats : Seats) (caller : ℕ) (call : Call) where
     | inr le ↦ (let nothing : Meets seats.names call [] = subst (λ (seat : Seat). Meets seats.names call (unwrap_or (calls_in (live_of seat)) [])) (free_beyond seats.places holder (omega (arith, all, le))) blocks.1 in
         absurd (both_ways (clash (touches seats.names call nothing.0) (touched seats.names [] nothing.0)) (clash_none (touches seats.names call nothing.0)) nothing.1))
   ]
-
--- a caller that has no transaction has none live, and has offered none
-or_false_left : (a b : Bool) → (a || b) ≡ false → a ≡ false
-or_false_left true b e = absurd (true≢false e)
-or_false_left false b e = refl
-
-or_false_right : (a b : Bool) → (a || b) ≡ false → b ≡ false
-or_false_right true b e = absurd (true≢false e)
-or_false_right false b e = e
-
-no_live : (o : Option Granted) → is_some o ≡ false → o ≡ None
-no_live None e = refl
-no_live (Some calls) e = absurd (true≢false e)
-
-not_offered : (offer : Offer) → not (is_unoffered offer) ≡ false → offer ≡ unoffered
-not_offered unoffered e = refl
-not_offered _ e = absurd (true≢false e)
-
-pub free_live : (o : Option Granted) (offer : Offer) → (is_some o || not (is_unoffered offer)) ≡ false → o ≡ None
-free_live o offer e = no_live o (or_false_left (is_some o) (not (is_unoffered offer)) e)
-
-pub free_offer : (o : Option Granted) (offer : Offer) → (is_some o || not (is_unoffered offer)) ≡ false → offer ≡ unoffered
-free_offer o offer e = not_offered offer (or_false_right (is_some o) (not (is_unoffered offer)) e)

@@ -149,28 +149,29 @@ module _ (tells : Bool) (Opens : Shape → List ℕ → List ℕ → Type 0) (in
         none = λ none. shows_new.indexed ∙ (λ i. index_with (names_in (does.tables told refl i)) (does.quiet told refl (same_writes (state_of index p) s was.mirrors.logs os ∙ none) i) (does.indexed told refl i)) ∙ sym shows.indexed;
       }
 
-      step : Step (limits_of p.store.shape) s t call.Settle (Committed (number_among (length s.history + 1) os t)) new
-      step = step_by (limits_of p.store.shape) offered s new t call.Settle (Committed (number_among (length s.history + 1) os t)) living_state has (inr (inside, inl (refl, new.index, settles, new_is)))
+      step : Step (limits_of index p.store.shape) s t call.Settle (Committed (number_among (length s.history + 1) os t)) new
+      step = step_by (limits_of index p.store.shape) offered s new t call.Settle (Committed (number_among (length s.history + 1) os t)) living_state has (inr (inside, inl (refl, new.index, settles, new_is)))
 
       log_here : (u : ℕ) (b : Bool) → is_one_of os u ≡ b → cond b (record { writes = []; saved = [] }) ((state_of index p).logs u) ≡ log_of (calls_of new u)
       log_here u true is = ap log_of (sym (calls_here u is))
       log_here u false out = was.mirrors.logs u ∙ ap log_of (sym (calls_there u out))
 
-      held_here : (u g : ℕ) (b : Bool) → is_one_of os u ≡ b → held_on (limits_of p.store.shape) new u g ≤ (limits_of p.store.shape).entries
-      held_here u g true is = subst (λ (cs : Granted). length (filter (is_write_on (limits_of p.store.shape) new.index g) (log_of cs).writes) ≤ (limits_of p.store.shape).entries) (sym (calls_here u is)) (omega arith)
-      held_here u g false out = subst (λ (x : Index × Granted). length (filter (is_write_on (limits_of p.store.shape) x.0 g) (log_of x.1).writes) ≤ (limits_of p.store.shape).entries)
+      held_here : (u g : ℕ) (b : Bool) → is_one_of os u ≡ b → held_on (limits_of index p.store.shape) new u g ≤ (limits_of index p.store.shape).entries
+      held_here u g true is = subst (λ (cs : Granted). length (filter (is_write_on (limits_of index p.store.shape) new.index g) (log_of cs).writes) ≤ (limits_of index p.store.shape).entries) (sym (calls_here u is)) (omega arith)
+      held_here u g false out = subst (λ (x : Index × Granted). length (filter (is_write_on (limits_of index p.store.shape) x.0 g) (log_of x.1).writes) ≤ (limits_of index p.store.shape).entries)
           (λ i. (sym keys_same i, sym (calls_there u out) i)) (was.room u g)
 
       tied_new : IsTied index q new
       tied_new = record {
         index_sound = sound_after tells Opens index one p q old_laws new_laws told does.shape alive was.index_sound _ _ (does.time told alive) living;
+        version = does.version told refl was.version;
         named = names ∙ was.named ∙ sym (ap names_in (does.tables told refl));
         mirrors = subst (λ (b : TableState). Mirrors b new) (sym (does.done told)) (record {
           table = table_left (Ok tt) does told ∙ (λ i. records (sym base i) (sym history i));
           logs = λ u. log_here u (is_one_of os u) refl;
         });
-        sound = step_sound (limits_of p.store.shape) s t call.Settle (Committed (number_among (length s.history + 1) os t)) new was.sound step;
-        room = subst (λ (h : Shape). HasHeld (limits_of h) new) (sym does.shape) (λ u g. held_here u g (is_one_of os u) refl);
+        sound = step_sound (limits_of index p.store.shape) s t call.Settle (Committed (number_among (length s.history + 1) os t)) new was.sound step;
+        room = subst (λ (h : Shape). HasHeld (limits_of index h) new) (sym does.shape) (λ u g. held_here u g (is_one_of os u) refl);
       }
 
       safe_new : IsSafe (core_over Opens index q.store new) q.store.moment (length new.history)
@@ -220,8 +221,8 @@ module _ (tells : Bool) (Opens : Shape → List ℕ → List ℕ → Type 0) (in
       index = new.index;
     }
 
-    step_lost : IsTrue tells → Step (limits_of p.store.shape) s t call.Settle reply.Media new
-    step_lost so = step_by (limits_of p.store.shape) offered s new t call.Settle reply.Media living_state has (inr (
+    step_lost : IsTrue tells → Step (limits_of index p.store.shape) s t call.Settle reply.Media new
+    step_lost so = step_by (limits_of index p.store.shape) offered s new t call.Settle reply.Media living_state has (inr (
       inside,
       inr (subst (λ (ws : List Write). 0 < length ws) (same_writes (state_of index p) s (kept.tied so alive).mirrors.logs os) (due so), refl, new.index, lost_is),
     ))
@@ -254,20 +255,21 @@ module _ (tells : Bool) (Opens : Shape → List ℕ → List ℕ → Type 0) (in
 module _ (tells : Bool) (Opens : Shape → List ℕ → List ℕ → Type 0) (index : below.Index) (p : PagesView) (laws : StoreLaws tells Opens p.store) (s new : State) (shows : ShowsPages index p s) (count count' : ℕ)
     (same_count : count' ≡ count) (rows : List NamedRows) (kept : IsKept tells Opens index p count rows s) (alive : IsAlive p.store) (t : ℕ) where
   module _ (call : Call) (answer : Reply) (live : new.live ≡ s.live) (base : new.base ≡ s.base) (names : new.names ≡ s.names) (history : new.history ≡ s.history) (slots : new.index ≡ s.index)
-      (step : IsTrue tells → Step (limits_of p.store.shape) s t call answer new) where
+      (step : IsTrue tells → Step (limits_of index p.store.shape) s t call answer new) where
     module _ (told : IsTrue tells) where
       tied_kept : IsTied index p new
       tied_kept =
           let was = kept.tied told alive in
           record {
             index_sound = was.index_sound;
+            version = was.version;
             named = names ∙ was.named;
             mirrors = record {
               table = was.mirrors.table ∙ (λ i. records (sym base i) (sym history i));
               logs = λ u. was.mirrors.logs u ∙ ap (λ (f : ℕ → Option Granted). log_of (unwrap_or (f u) [])) (sym live);
             };
-            sound = step_sound (limits_of p.store.shape) s t call answer new was.sound (step told);
-            room = λ u g. subst (λ (x : Index × (ℕ → Option Granted)). length (filter (is_write_on (limits_of p.store.shape) x.0 g) (log_of (unwrap_or (x.1 u) [])).writes) ≤ (limits_of p.store.shape).entries)
+            sound = step_sound (limits_of index p.store.shape) s t call answer new was.sound (step told);
+            room = λ u g. subst (λ (x : Index × (ℕ → Option Granted)). length (filter (is_write_on (limits_of index p.store.shape) x.0 g) (log_of (unwrap_or (x.1 u) [])).writes) ≤ (limits_of index p.store.shape).entries)
                 (λ i. (sym slots i, sym live i)) (was.room u g);
           }
 
@@ -288,8 +290,8 @@ module _ (tells : Bool) (Opens : Shape → List ℕ → List ℕ → Type 0) (in
 
   -- a caller offers its transaction
   module _ (calls : Granted) (is : s.live t ≡ Some calls) (un : s.offers t ≡ unoffered) (new_is : new ≡ with_offer s t offered) where
-    step_given : IsTrue tells → Step (limits_of p.store.shape) s t call.Offer Fine new
-    step_given _ = step_of (limits_of p.store.shape) (Some calls) s new t call.Offer Fine (shows.dead ∙ alive) is un (refl, new_is)
+    step_given : IsTrue tells → Step (limits_of index p.store.shape) s t call.Offer Fine new
+    step_given _ = step_of (limits_of index p.store.shape) (Some calls) s new t call.Offer Fine (shows.dead ∙ alive) is un (refl, new_is)
 
     pub given_keeps : IsKept tells Opens index p count' rows new
     given_keeps = offer_keeps call.Offer Fine (ap (λ (x : State). x.live) new_is) (ap (λ (x : State). x.base) new_is) (ap (λ (x : State). x.names) new_is) (ap (λ (x : State). x.history) new_is) (ap (λ (x : State). x.index) new_is) step_given
@@ -303,8 +305,8 @@ module _ (tells : Bool) (Opens : Shape → List ℕ → List ℕ → Type 0) (in
     ended_is : new ≡ with_offer (with_live s t None) t unoffered
     ended_is = settles ∙ (λ i. record (with_offer s t unoffered) { live = sym (update_same s.live t None none) i })
 
-    step_told : IsTrue tells → Step (limits_of p.store.shape) s t call.Settle (Committed n) new
-    step_told _ = step_by (limits_of p.store.shape) (unsettled n) s new t call.Settle (Committed n) (shows.dead ∙ alive) has (refl, ended_is)
+    step_told : IsTrue tells → Step (limits_of index p.store.shape) s t call.Settle (Committed n) new
+    step_told _ = step_by (limits_of index p.store.shape) (unsettled n) s new t call.Settle (Committed n) (shows.dead ∙ alive) has (refl, ended_is)
 
     pub told_keeps : IsKept tells Opens index p count' rows new
     told_keeps = offer_keeps call.Settle (Committed n) (ap (λ (x : State). x.live) settles) (ap (λ (x : State). x.base) settles) (ap (λ (x : State). x.names) settles) (ap (λ (x : State). x.history) settles) (ap (λ (x : State). x.index) settles) step_told
@@ -316,39 +318,47 @@ module _ (tells : Bool) (Opens : Shape → List ℕ → List ℕ → Type 0) (in
 -- Calls that are refused because of what their callers have offered.
 module _ (tells : Bool) (Opens : Shape → List ℕ → List ℕ → Type 0) (index : below.Index) (p : PagesView) (s : State) (shows : ShowsPages index p s) (safe : IsTrue tells → IsSafe (core_over Opens index p.store s) p.store.moment (length s.history)) (alive : IsAlive p.store)
     (t : ℕ) where
-  closed_steps : (offer : Offer) (asked : Call) (answer : Reply) → s.offers t ≡ offer → StepBy (limits_of p.store.shape) offer s t asked answer s → is_refusal answer ≡ true → is_media answer ≡ false → is_committed answer ≡ false
+  closed_steps : (offer : Offer) (asked : Call) (answer : Reply) → s.offers t ≡ offer → StepBy (limits_of index p.store.shape) offer s t asked answer s → is_refusal answer ≡ true → is_media answer ≡ false → is_committed answer ≡ false
       → Steps tells t asked (core_over Opens index p.store s) (core_over Opens index p.store s) answer
   closed_steps offer asked answer has by refusal sure plain =
-      steps_same tells Opens index p s s t asked answer refl safe refusal sure plain (λ told. step_by (limits_of p.store.shape) offer s s t asked answer (shows.dead ∙ alive) has by)
+      steps_same tells Opens index p s s t asked answer refl safe refusal sure plain (λ told. step_by (limits_of index p.store.shape) offer s s t asked answer (shows.dead ∙ alive) has by)
 
-  -- one that has offered its transaction begins no other, and its own takes no calls
+  -- one that has offered its transaction begins no other and purges nothing, and its own takes no calls
   pub offered_begins : s.offers t ≡ offered → Steps tells t call.Begin (core_over Opens index p.store s) (core_over Opens index p.store s) reply.Already
   offered_begins has = closed_steps offered call.Begin reply.Already has (refl, refl) refl refl refl
 
-  pub offered_asks : s.offers t ≡ offered → (asked : Call) → (asked ≡ call.Begin → ⊥) → (asked ≡ call.Settle → ⊥) → Steps tells t asked (core_over Opens index p.store s) (core_over Opens index p.store s) reply.NoTransaction
-  offered_asks has asked begin settle = closed_steps offered asked reply.NoTransaction has (by asked begin settle) refl refl refl
+  pub offered_purges : s.offers t ≡ offered → Steps tells t call.Purge (core_over Opens index p.store s) (core_over Opens index p.store s) reply.Already
+  offered_purges has = closed_steps offered call.Purge reply.Already has (refl, refl) refl refl refl
+
+  pub offered_asks : s.offers t ≡ offered → (asked : Call) → (asked ≡ call.Begin → ⊥) → (asked ≡ call.Settle → ⊥) → (asked ≡ call.Purge → ⊥) → Steps tells t asked (core_over Opens index p.store s) (core_over Opens index p.store s) reply.NoTransaction
+  offered_asks has asked begin settle purge = closed_steps offered asked reply.NoTransaction has (by asked begin settle purge) refl refl refl
     where
-      by : (asked : Call) → (asked ≡ call.Begin → ⊥) → (asked ≡ call.Settle → ⊥) → StepBy (limits_of p.store.shape) offered s t asked reply.NoTransaction s
-      by call.Begin begin settle = absurd (begin refl)
-      by call.Settle begin settle = absurd (settle refl)
-      by _ begin settle = (refl, refl)
+      by : (asked : Call) → (asked ≡ call.Begin → ⊥) → (asked ≡ call.Settle → ⊥) → (asked ≡ call.Purge → ⊥) → StepBy (limits_of index p.store.shape) offered s t asked reply.NoTransaction s
+      by call.Begin begin settle purge = absurd (begin refl)
+      by call.Settle begin settle purge = absurd (settle refl)
+      by call.Purge begin settle purge = absurd (purge refl)
+      by _ begin settle purge = (refl, refl)
 
   -- neither does one that has not settled
   pub unsettled_begins : (n : ℕ) → s.offers t ≡ unsettled n → Steps tells t call.Begin (core_over Opens index p.store s) (core_over Opens index p.store s) reply.Already
   unsettled_begins n has = closed_steps (unsettled n) call.Begin reply.Already has (refl, refl) refl refl refl
 
-  pub unsettled_asks : (n : ℕ) → s.offers t ≡ unsettled n → (asked : Call) → (asked ≡ call.Begin → ⊥) → (asked ≡ call.Settle → ⊥) → Steps tells t asked (core_over Opens index p.store s) (core_over Opens index p.store s) reply.NoTransaction
-  unsettled_asks n has asked begin settle = closed_steps (unsettled n) asked reply.NoTransaction has (by asked begin settle) refl refl refl
+  pub unsettled_purges : (n : ℕ) → s.offers t ≡ unsettled n → Steps tells t call.Purge (core_over Opens index p.store s) (core_over Opens index p.store s) reply.Already
+  unsettled_purges n has = closed_steps (unsettled n) call.Purge reply.Already has (refl, refl) refl refl refl
+
+  pub unsettled_asks : (n : ℕ) → s.offers t ≡ unsettled n → (asked : Call) → (asked ≡ call.Begin → ⊥) → (asked ≡ call.Settle → ⊥) → (asked ≡ call.Purge → ⊥) → Steps tells t asked (core_over Opens index p.store s) (core_over Opens index p.store s) reply.NoTransaction
+  unsettled_asks n has asked begin settle purge = closed_steps (unsettled n) asked reply.NoTransaction has (by asked begin settle purge) refl refl refl
     where
-      by : (asked : Call) → (asked ≡ call.Begin → ⊥) → (asked ≡ call.Settle → ⊥) → StepBy (limits_of p.store.shape) (unsettled n) s t asked reply.NoTransaction s
-      by call.Begin begin settle = absurd (begin refl)
-      by call.Settle begin settle = absurd (settle refl)
-      by _ begin settle = (refl, refl)
+      by : (asked : Call) → (asked ≡ call.Begin → ⊥) → (asked ≡ call.Settle → ⊥) → (asked ≡ call.Purge → ⊥) → StepBy (limits_of index p.store.shape) (unsettled n) s t asked reply.NoTransaction s
+      by call.Begin begin settle purge = absurd (begin refl)
+      by call.Settle begin settle purge = absurd (settle refl)
+      by call.Purge begin settle purge = absurd (purge refl)
+      by _ begin settle purge = (refl, refl)
 
   -- and one that has offered nothing has nothing to settle
   pub open_settles : s.offers t ≡ unoffered → Steps tells t call.Settle (core_over Opens index p.store s) (core_over Opens index p.store s) reply.NoTransaction
   open_settles un = closed_steps unoffered call.Settle reply.NoTransaction un (by (s.live t)) refl refl refl
     where
-      by : (live : Option Granted) → StepAt (limits_of p.store.shape) live s t call.Settle reply.NoTransaction s
+      by : (live : Option Granted) → StepAt (limits_of index p.store.shape) live s t call.Settle reply.NoTransaction s
       by None = (refl, refl)
       by (Some calls) = (refl, refl)

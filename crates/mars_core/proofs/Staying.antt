@@ -14,7 +14,7 @@ use Rattle.history.specs.Table.{Granted, has_save}
 use Rattle.history.specs.Locks.{Meets, has_table}
 use Rattle.history.specs.Log.{log_of}
 use Rattle.history.specs.declared.call.Call.{Call}
-use Rattle.history.specs.declared.call.Call.TheVariants.{Begin, Get, Put, Del, Scan, Save, Back, Commit, Abort, Offer, Settle}
+use Rattle.history.specs.declared.call.Call.TheVariants.{Begin, Get, Put, Del, Scan, Save, Back, Commit, Abort, Offer, Settle, Purge}
 use Rattle.history.specs.declared.call.Reply.{Reply}
 use Rattle.history.specs.declared.call.Reply.TheVariants.{Fine, Busy, NoMemory, SavesFull, NoSave, NoTransaction, NoTable}
 use Rattle.record_table.specs.Shown.{state_of}
@@ -107,11 +107,11 @@ module _ (tells : Bool) (Opens : Shape → List ℕ → List ℕ → Type 0) (in
     saved_is : length ((state_of index p).logs t).saved ≡ length (view_of s t).saves
     saved_is = saves_are (state_of index p) s tied.mirrors t (tied.sound.right t)
 
-    save_step : (c : Call) (answer : Reply) → IsSaveRefusal (length (p.counts t)) c answer → Step (limits_of p.store.shape) s t c answer s
-    save_step Save answer refused = subst (λ (r : Reply). Step (limits_of p.store.shape) s t Save r s) (sym refused.1)
-        (step_of (limits_of p.store.shape) (Some calls) s s t Save SavesFull (shows.dead ∙ alive) is un (inl (omega (arith, refused.0, counts_is index p t, saved_is), (refl, refl))))
-    save_step (Back n) answer refused = subst (λ (r : Reply). Step (limits_of p.store.shape) s t (Back n) r s) (sym refused.1)
-        (step_of (limits_of p.store.shape) (Some calls) s s t (Back n) (NoSave n) (shows.dead ∙ alive) is un (inl (
+    save_step : (c : Call) (answer : Reply) → IsSaveRefusal (length (p.counts t)) c answer → Step (limits_of index p.store.shape) s t c answer s
+    save_step Save answer refused = subst (λ (r : Reply). Step (limits_of index p.store.shape) s t Save r s) (sym refused.1)
+        (step_of (limits_of index p.store.shape) (Some calls) s s t Save SavesFull (shows.dead ∙ alive) is un (inl (omega (arith, refused.0, counts_is index p t, saved_is), (refl, refl))))
+    save_step (Back n) answer refused = subst (λ (r : Reply). Step (limits_of index p.store.shape) s t (Back n) r s) (sym refused.1)
+        (step_of (limits_of index p.store.shape) (Some calls) s s t (Back n) (NoSave n) (shows.dead ∙ alive) is un (inl (
           has_saves (state_of index p) s tied.mirrors t (tied.sound.right t) n ∙ no_saves (((state_of index p).logs t).saved) n (subst (λ (k : ℕ). (0 < n) × (n ≤ k) → ⊥) (sym (counts_is index p t)) refused.0),
           (refl, refl),
         )))
@@ -123,6 +123,7 @@ module _ (tells : Bool) (Opens : Shape → List ℕ → List ℕ → Type 0) (in
     save_step Abort answer refused = absurd refused
     save_step Offer answer refused = absurd refused
     save_step Settle answer refused = absurd refused
+    save_step Purge answer refused = absurd refused
     save_step Begin answer refused = absurd refused
 
   -- refused because of its saves
@@ -142,6 +143,7 @@ module _ (tells : Bool) (Opens : Shape → List ℕ → List ℕ → Type 0) (in
       refusal Abort r refused = absurd refused
       refusal Offer r refused = absurd refused
       refusal Settle r refused = absurd refused
+      refusal Purge r refused = absurd refused
       refusal Begin r refused = absurd refused
 
   module _ (of : IsOfTable call) (saves : HasSaves (length (p.counts t)) call) (new : State) (same : new ≡ s) where
@@ -151,9 +153,9 @@ module _ (tells : Bool) (Opens : Shape → List ℕ → List ℕ → Type 0) (in
     -- since its table is not there
     pub table_refused : number_for s.names call ≡ None → Steps tells t call (core_over Opens index p.store s) (core_over Opens index p.store new) NoTable
     table_refused none = steps_same tells Opens index p s new t call NoTable same kept.safe refl refl refl (λ told.
-        step_of (limits_of p.store.shape) (Some calls) s s t call NoTable (shows.dead ∙ alive) is un (none_at call none))
+        step_of (limits_of index p.store.shape) (Some calls) s s t call NoTable (shows.dead ∙ alive) is un (none_at call none))
       where
-        none_at : (c : Call) → number_for s.names c ≡ None → StepAt (limits_of p.store.shape) (Some calls) s t c NoTable s
+        none_at : (c : Call) → number_for s.names c ≡ None → StepAt (limits_of index p.store.shape) (Some calls) s t c NoTable s
         none_at (Get name key) none = inl (ap is_some none, (refl, refl))
         none_at (Put name key value) none = inl (ap is_some none, (refl, refl))
         none_at (Del name key) none = inl (ap is_some none, (refl, refl))
@@ -164,18 +166,19 @@ module _ (tells : Bool) (Opens : Shape → List ℕ → List ℕ → Type 0) (in
         none_at Abort none = absurd (cc)
         none_at Offer none = absurd (cc)
         none_at Settle none = absurd (cc)
+        none_at Purge none = absurd (cc)
         none_at Begin none = absurd (cc)
 
     -- for lack of memory
     pub memory_refused : has_table s.names call ≡ true → Steps tells t call (core_over Opens index p.store s) (core_over Opens index p.store new) NoMemory
     memory_refused there = steps_same tells Opens index p s new t call NoMemory same kept.safe refl refl refl (λ told.
-        step_of (limits_of p.store.shape) (Some calls) s s t call NoMemory (shows.dead ∙ alive) is un (asks_at (limits_of p.store.shape) calls s s t call NoMemory of there
+        step_of (limits_of index p.store.shape) (Some calls) s s t call NoMemory (shows.dead ∙ alive) is un (asks_at (limits_of index p.store.shape) calls s s t call NoMemory of there
         (saves_at index 0 p s shows (tied told).mirrors (tells_writes.held told alive) t ((tied told).sound.right t) call has) (inl (refl, refl))))
 
     -- because another caller holds its keys
     pub busy_refused : has_table s.names call ≡ true → (holder : ℕ) → IsBusyWith s t call holder → Steps tells t call (core_over Opens index p.store s) (core_over Opens index p.store new) (Busy holder)
     busy_refused there holder busy = steps_same tells Opens index p s new t call (Busy holder) same kept.safe refl refl refl (λ told.
-        step_of (limits_of p.store.shape) (Some calls) s s t call (Busy holder) (shows.dead ∙ alive) is un (asks_at (limits_of p.store.shape) calls s s t call (Busy holder) of there
+        step_of (limits_of index p.store.shape) (Some calls) s s t call (Busy holder) (shows.dead ∙ alive) is un (asks_at (limits_of index p.store.shape) calls s s t call (Busy holder) of there
         (saves_at index 0 p s shows (tied told).mirrors (tells_writes.held told alive) t ((tied told).sound.right t) call has) (inr (inl (holder, busy, (refl, refl))))))
 
 -- the invariant holds after no change
@@ -191,8 +194,8 @@ module _ (tells : Bool) (Opens : Shape → List ℕ → List ℕ → Type 0) (in
   live_is = ap (λ (x : State). x.live) begins
 
   module _ (told : IsTrue tells) where
-    step : Step (limits_of p.store.shape) s t Begin Fine new
-    step = step_of (limits_of p.store.shape) None s new t Begin Fine (shows.dead ∙ alive) none un (refl, begins)
+    step : Step (limits_of index p.store.shape) s t Begin Fine new
+    step = step_of (limits_of index p.store.shape) None s new t Begin Fine (shows.dead ∙ alive) none un (refl, begins)
 
     tied_new : IsTied index p new
     tied_new =
@@ -200,11 +203,12 @@ module _ (tells : Bool) (Opens : Shape → List ℕ → List ℕ → Type 0) (in
         let at : calls_of s t ≡ [] = ap (λ (o : Option Granted). unwrap_or o []) none in
         record {
           index_sound = was.index_sound;
+          version = was.version;
           named = ap (λ (x : State). x.names) begins ∙ was.named;
           mirrors = mirrors_at (state_of index p) s was.mirrors (state_of index p) new t (Some []) live_is (was.mirrors.table ∙ sym (ap records_of begins))
               (was.mirrors.logs t ∙ ap (λ (cs : Granted). log_of cs) at) (λ u ne. refl);
-          sound = step_sound (limits_of p.store.shape) s t Begin Fine new was.sound step;
-          room = room_empty (limits_of p.store.shape) s new t (Some []) refl was.room (ap (λ (x : State). x.index.slot_of) begins) live_is;
+          sound = step_sound (limits_of index p.store.shape) s t Begin Fine new was.sound step;
+          room = room_empty (limits_of index p.store.shape) s new t (Some []) refl was.room (ap (λ (x : State). x.index.slot_of) begins) live_is;
         }
 
     safe_new : IsSafe (core_over Opens index p.store new) p.store.moment (length new.history)
@@ -249,7 +253,7 @@ pub is_absent_at : (limits : Limits) (s : State) (t : ℕ) (asked : TableCall) (
 is_absent_at limits s t asked call said = subst (λ (c : Call). StepAt limits None s t c NoTransaction s) said (absent_at limits s t asked)
 
 pub absent_steps : (tells : Bool) (Opens : Shape → List ℕ → List ℕ → Type 0) (index : below.Index) (p : PagesView) (s : State) → ShowsPages index p s → (count : ℕ) (rows : List NamedRows) → IsKept tells Opens index p count rows s
-    → IsAlive p.store → (t : ℕ) (call : Call) → s.live t ≡ None → s.offers t ≡ unoffered → StepAt (limits_of p.store.shape) None s t call NoTransaction s → (new : State) → new ≡ s
+    → IsAlive p.store → (t : ℕ) (call : Call) → s.live t ≡ None → s.offers t ≡ unoffered → StepAt (limits_of index p.store.shape) None s t call NoTransaction s → (new : State) → new ≡ s
     → Steps tells t call (core_over Opens index p.store s) (core_over Opens index p.store new) NoTransaction
 absent_steps tells Opens index p s shows count rows kept alive t call none un at new same = steps_same tells Opens index p s new t call NoTransaction same kept.safe refl refl refl (λ told.
-    step_of (limits_of p.store.shape) None s s t call NoTransaction (shows.dead ∙ alive) none un at)
+    step_of (limits_of index p.store.shape) None s s t call NoTransaction (shows.dead ∙ alive) none un at)

@@ -20,7 +20,7 @@ use Rattle.history.specs.Groups.{AreWhole}
 use Rattle.history.specs.Legal.{records}
 use Rattle.history.specs.Log.{Log, log_of}
 use Rattle.history.specs.declared.call.Call.{Call}
-use Rattle.history.specs.declared.call.Call.TheVariants.{Begin, Get, Put, Del, Scan, Save, Back, Commit, Abort, Offer, Settle}
+use Rattle.history.specs.declared.call.Call.TheVariants.{Begin, Get, Put, Del, Scan, Save, Back, Commit, Abort, Offer, Settle, Purge}
 use Rattle.history.specs.declared.call.Reply.{Reply}
 use Rattle.history.specs.declared.call.Reply.TheVariants.{Fine}
 use Rattle.history.specs.declared.call.Reply.TheVariants as reply
@@ -91,6 +91,7 @@ live_with_is calls Commit answer of = absurd of
 live_with_is calls Abort answer of = absurd of
 live_with_is calls Offer answer of = absurd of
 live_with_is calls Settle answer of = absurd of
+live_with_is calls Purge answer of = absurd of
 live_with_is calls Begin answer of = absurd of
 
 -- it leaves no offer
@@ -144,15 +145,16 @@ asks_at limits calls s new t Commit answer of there saves asks = absurd of
 asks_at limits calls s new t Abort answer of there saves asks = absurd of
 asks_at limits calls s new t Offer answer of there saves asks = absurd of
 asks_at limits calls s new t Settle answer of there saves asks = absurd of
+asks_at limits calls s new t Purge answer of there saves asks = absurd of
 asks_at limits calls s new t Begin answer of there saves asks = absurd of
 
 module _ (tells : Bool) (Opens : Shape → List ℕ → List ℕ → Type 0) (index : below.Index) where
   pub steps_of : (p q : PagesView) (s new : State) (t : ℕ) (call : Call) (answer : Reply) → q.store.shape ≡ p.store.shape → Moves p.store.shape.numbers s t call answer new
-      → (IsTrue (is_media answer) → Rose p.store.faults q.store.faults) → (IsFalse (is_media answer) → q.store.faults ≡ p.store.faults) → (IsTrue tells → Step (limits_of p.store.shape) s t call answer new)
+      → (IsTrue (is_media answer) → Rose p.store.faults q.store.faults) → (IsFalse (is_media answer) → q.store.faults ≡ p.store.faults) → (IsTrue tells → Step (limits_of index p.store.shape) s t call answer new)
       → (IsTrue tells → LeavesOnly (HasPrefixOf (OpensWith (Opens q.store.shape) index) new (length s.history)) p.store q.store)
       → (IsTrue tells → IsSafe (core_over Opens index q.store new) q.store.moment (length new.history)) → Steps tells t call (core_over Opens index p.store s) (core_over Opens index q.store new) answer
   steps_of p q s new t call answer shape moves failed kept step time now = record {
-    limits = ap limits_of shape;
+    limits = ap (limits_of index) shape;
     opens = λ image table opens. subst (λ (h : Shape). OpensWith (Opens h) index image table) (sym shape) opens;
     moves = moves;
     failed = failed;
@@ -164,7 +166,7 @@ module _ (tells : Bool) (Opens : Shape → List ℕ → List ℕ → Type 0) (in
 
   -- a refusal that leaves everything as it was
   pub steps_same : (p : PagesView) (s new : State) (t : ℕ) (call : Call) (answer : Reply) → new ≡ s → (IsTrue tells → IsSafe (core_over Opens index p.store s) p.store.moment (length s.history))
-      → is_refusal answer ≡ true → is_media answer ≡ false → is_committed answer ≡ false → (IsTrue tells → Step (limits_of p.store.shape) s t call answer s)
+      → is_refusal answer ≡ true → is_media answer ≡ false → is_committed answer ≡ false → (IsTrue tells → Step (limits_of index p.store.shape) s t call answer s)
       → Steps tells t call (core_over Opens index p.store s) (core_over Opens index p.store new) answer
   steps_same p s new t call answer same safe refusal no_media plain step =
       subst (λ (x : State). Steps tells t call (core_over Opens index p.store s) (core_over Opens index p.store x) answer) (sym same)
@@ -206,6 +208,7 @@ module _ (index : below.Index) (table : ℕ) (p : PagesView) (s : State) (shows 
   saves_at Abort saves = tt
   saves_at Offer saves = tt
   saves_at Settle saves = tt
+  saves_at Purge saves = tt
   saves_at Begin saves = tt
 
   pub returns_at : (calls : Granted) → calls_of s t ≡ calls → (call : Call) → HasSaves (length ((state_of index p).logs t).saved) call → Returns (log_of calls).saved call
@@ -220,17 +223,18 @@ module _ (index : below.Index) (table : ℕ) (p : PagesView) (s : State) (shows 
   returns_at calls at Abort saves = tt
   returns_at calls at Offer saves = tt
   returns_at calls at Settle saves = tt
+  returns_at calls at Purge saves = tt
   returns_at calls at Begin saves = tt
 
   -- if a call writes, it finds an entry
   pub enters_at : (call : Call) (answer : Reply) (ix : Index) → IsOfTable call → table_causes.Fits index table p t call → Replies (state_of index p) t call answer
-      → Indexes (limits_of p.store.shape) call answer s.index ix → Enters (limits_of p.store.shape) s t ix call answer
+      → Indexes (limits_of index p.store.shape) call answer s.index ix → Enters (limits_of index p.store.shape) s t ix call answer
   enters_at (Put name key value) answer ix of fits replies indexes =
-      let after = slot_after (limits_of p.store.shape) (of_table name key) (s.index.slot_of (of_table name key)) s.index ix refl (subst (λ (r : Reply). IndexesAt (limits_of p.store.shape) (of_table name key) (s.index.slot_of (of_table name key)) r s.index ix) replies indexes) in
-      (after.0, after.1, subst (λ (slot : ℕ). HasEntry (limits_of p.store.shape) s t (of_table name key) slot) (sym after.2) (fits_is index table p s shows.indexed mirrors held t right (Put name key value) of fits))
-  enters_at (Del name key) answer ix of fits replies indexes = subst (Enters (limits_of p.store.shape) s t ix (Del name key)) (sym replies) (go (get (seen_by (state_of index p) t) (of_table name key)) refl)
+      let after = slot_after (limits_of index p.store.shape) (of_table name key) (s.index.slot_of (of_table name key)) s.index ix refl (subst (λ (r : Reply). IndexesAt (limits_of index p.store.shape) (of_table name key) (s.index.slot_of (of_table name key)) r s.index ix) replies indexes) in
+      (after.0, after.1, subst (λ (slot : ℕ). HasEntry (limits_of index p.store.shape) s t (of_table name key) slot) (sym after.2) (fits_is index table p s shows.indexed mirrors held t right (Put name key value) of fits))
+  enters_at (Del name key) answer ix of fits replies indexes = subst (Enters (limits_of index p.store.shape) s t ix (Del name key)) (sym replies) (go (get (seen_by (state_of index p) t) (of_table name key)) refl)
     where
-      go : (o : Option (List ℕ)) → get (seen_by (state_of index p) t) (of_table name key) ≡ o → Enters (limits_of p.store.shape) s t ix (Del name key) (removed o)
+      go : (o : Option (List ℕ)) → get (seen_by (state_of index p) t) (of_table name key) ≡ o → Enters (limits_of index p.store.shape) s t ix (Del name key) (removed o)
       go None none = tt
       go (Some value) some =
           let at = fits (ap is_some some) in
@@ -243,4 +247,5 @@ module _ (index : below.Index) (table : ℕ) (p : PagesView) (s : State) (shows 
   enters_at Abort answer ix of fits replies indexes = tt
   enters_at Offer answer ix of fits replies indexes = tt
   enters_at Settle answer ix of fits replies indexes = tt
+  enters_at Purge answer ix of fits replies indexes = tt
   enters_at Begin answer ix of fits replies indexes = tt

@@ -4,6 +4,7 @@ use Rattle.std.specs.FinMap.{entries}
 use Rattle.array_shape.specs.declared.shape.Shape.{Shape}
 use Rattle.eaw_face.specs.Causes.{IsAlive}
 use Rattle.eaw_face.specs.State.{listed}
+use Rattle.record_slots.specs.Places.{version_of}
 use Rattle.page_store.specs.Index.{Index}
 use Rattle.page_store.specs.Shown.{PagesView}
 use Rattle.history.specs.Log.{log_of}
@@ -27,13 +28,14 @@ pub record Mirrors (below : TableState) (state : State) : Type 0 where
 abbrev pub HasHeld : Limits → State → Type 0
 HasHeld limits state = (caller g : ℕ) → held_on limits state caller g ≤ limits.entries
 
--- what holds while the store is not dead; the names are those of the data
+-- what holds while the store is not dead; the names are those of the data, which is of version 2
 pub record IsTied (index : Index) (pages : PagesView) (state : State) : Type 0 where
   pub index_sound : index.sound pages.store.state.bytes
+  pub version : version_of pages.store.state.bytes ≡ 2
   pub named : state.names ≡ names_of pages.store.state.bytes
   pub mirrors : Mirrors (state_of index pages) state
   pub sound : IsSound state
-  pub room : HasHeld (limits_of pages.store.shape) state
+  pub room : HasHeld (limits_of index pages.store.shape) state
 
 -- There is a seat for each number. The rows at the opening are those of a table. A caller without a live transaction has nothing logged, over
 -- any store. What the records show is tied to the state. Whatever may be left now opens with the whole history.

@@ -1,13 +1,15 @@
 -- A core over a store: what it shows of it, and how it begins.
-use Rattle.std.specs.Prelude.{ℕ, ◌≡◌, Bool, IsTrue, List, [], Option, Some, None}
+use Rattle.std.specs.Prelude.{ℕ, ◌≡◌, Bool, false, not, IsTrue, List, [], Option, Some, None, is_some}
 use Rattle.array_shape.specs.declared.shape.Shape.{Shape}
 use Rattle.eaw_face.specs.StoreView.{StoreView, LeavesOnly}
 use Rattle.eaw_face.specs.Causes.{IsAlive}
 use Rattle.page_store.specs.Index.{Index, slots_of, index_pages_of}
 use Rattle.record_slots.specs.Places.{version_of}
 use Rattle.record_table.specs.Does.{OpensWith}
+use Rattle.history.specs.declared.key.Key.{Key}
 use Rattle.record_slots.specs.Names.{number_of}
 use Rattle.record_table.specs.Names.{names_of}
+use Rattle.record_table.specs.Removing.{removal_in}
 use Rattle.record_table.specs.State.{Keys}
 use Rattle.record_table.specs.Shown.{table_of, keys_of, logger_of_slot}
 use Rattle.record_table.specs.Upgrading.{upgraded, OpensUpgraded}
@@ -17,9 +19,26 @@ use Rattle.caller_steps.specs.Room.{Limits}
 use Rattle.caller_steps.specs.Core.{CoreView}
 use Rattle.eaw_face.specs.Mirroring.{Mirrors}
 
--- the limits of an array of this shape
-abbrev pub limits_of : Shape → Limits
-limits_of shape = record { callers = shape.numbers; slots = slots_of shape; index_pages = index_pages_of shape; loggers = shape.loggers; entries = shape.entries; logger_of = logger_of_slot shape }
+-- the index of the table with this number, if there is one, keeps the pair of the key, as the last of its page
+abbrev pub keeps_at : Index → List ℕ → ℕ → Option ℕ → Bool
+keeps_at index bytes key None = false
+keeps_at index bytes key (Some table) = not (is_some (removal_in index table bytes key))
+
+-- so it is with a key of a table of this data
+abbrev pub keeps_in : Index → List ℕ → Key → Bool
+keeps_in index bytes key = keeps_at index bytes key.key (number_of (names_of bytes) key.table)
+
+-- the limits of an array of this shape, under an index
+abbrev pub limits_of : Index → Shape → Limits
+limits_of index shape = record {
+  callers = shape.numbers;
+  slots = slots_of shape;
+  index_pages = index_pages_of shape;
+  loggers = shape.loggers;
+  entries = shape.entries;
+  logger_of = logger_of_slot shape;
+  keeps = keeps_in index;
+}
 
 -- how many levels of inner pages the index of this table has; none if there is no such table
 abbrev pub level_of : Keys → Option ℕ → ℕ
@@ -44,7 +63,7 @@ index_of index bytes = index_with (names_of bytes) bytes (keys_of index bytes)
 
 -- The core shows its store. While the store is not dead, its data is a sound index with the records of the history.
 pub record IsOver (tells : Bool) (Opens : List ℕ → List ℕ → Type 0) (index : Index) (store : StoreView) (core : CoreView) : Type 0 where
-  pub limits : core.limits ≡ limits_of store.shape
+  pub limits : core.limits ≡ limits_of index store.shape
   pub faults : core.faults ≡ store.faults
   pub moment : core.moment ≡ store.moment
   pub left : (since : ℕ) (image : List ℕ) → (store.left_since since image → core.left_since since image) × (core.left_since since image → store.left_since since image)

@@ -18,8 +18,6 @@ use Rattle.record_table.specs.Shown.{state_of}
 use Rattle.record_table.specs.declared.fault.TableFault.{TableFault}
 use Rattle.record_table.specs.declared.fault.TableFault.TheVariants.{Media, Damaged}
 use Rattle.caller_steps.specs.Purging.{Lost}
-use Rattle.caller_steps.specs.declared.purge_fault.PurgeFault.{PurgeFault}
-use Rattle.caller_steps.specs.declared.purge_fault.PurgeFault.TheVariants as stop
 use Rattle.mars_core.specs.Over.{index_of}
 use Rattle.mars_core.specs.Seats.{Seats, calls_at}
 use Rattle.eaw_face.specs.Mirroring.{Mirrors}
@@ -68,17 +66,7 @@ pub record IsReady (index : Index) (seats : Seats) (t : ℕ) (p : PagesView) : T
   pub logs : (caller : ℕ) → (state_of index p).logs caller ≡ log_of (calls_at seats caller)
   pub slots : used_slots p.store.state.bytes ≤ slots_of p.store.shape
 
--- what may stop it: a fault of the medium, or a page that breaks the layout; and how that is told
-abbrev pub IsStop : TableFault → Type 0
-IsStop Media = Unit {0}
-IsStop (Damaged page) = Unit {0}
-IsStop fault = ⊥
-
-abbrev pub stopped : TableFault → PurgeFault
-stopped (Damaged page) = stop.Damaged page
-stopped fault = stop.Media
-
--- why it is stopped: no page is damaged if the store tells its data
+-- what may stop it: a fault of the medium, or a page that breaks the layout, where the store does not tell its data
 abbrev pub ClearCause : {T : Type 0} → Bool → Result T TableFault → Type 0
 ClearCause tells (Ok n) = Unit {0}
 ClearCause tells (Err Media) = Unit {0}

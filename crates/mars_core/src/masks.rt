@@ -48,6 +48,7 @@ impl Masks {
             Call::Abort => Masks::none(),
             Call::Offer => Masks::none(),
             Call::Settle => Masks::none(),
+            Call::Purge => Masks::none(),
         }
     }
 

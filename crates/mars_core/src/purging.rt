@@ -5,11 +5,10 @@ ghost use Rattle.eaw_face.specs.State.{listed};
 ghost use Rattle.history.specs.Key.{of_table};
 ghost use Rattle.page_store.specs.Shown.{pages_of};
 ghost use Rattle.record_table.specs.Removing.{IsAbsent};
-ghost use Rattle.mars_core.specs.Purging.{IsReady, IsOfTable, IsOfFirst, Tries, Clears, IsStop, stopped};
+ghost use Rattle.mars_core.specs.Purging.{IsReady, IsOfTable, IsOfFirst, Tries, Clears};
 ghost use Rattle.mars_core.specs.Seats.{calls_at};
 
 use crate::seats::Seats;
-use caller_steps::PurgeFault;
 use eaw_face::EawStore;
 use history::Call;
 use page_store::KeyIndex;
@@ -109,21 +108,4 @@ pub fn clear<S: EawStore, K: KeyIndex>(
         }
     }
     Ok(taken)
-}
-
-// What stopped a purge on its way.
-pub fn stopped(fault: TableFault) -> PurgeFault
-    requires { IsStop fault }
-    ensures { result ≡ stopped fault }
-{
-    match fault {
-        TableFault::Media => PurgeFault::Media,
-        TableFault::Damaged { page } => PurgeFault::Damaged { page },
-        TableFault::Dead
-        | TableFault::NoMemory
-        | TableFault::SavesFull
-        | TableFault::SlotsFull { .. }
-        | TableFault::PagesFull { .. }
-        | TableFault::LogFull { .. } => unreachable!(),
-    }
 }

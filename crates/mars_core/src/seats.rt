@@ -1,8 +1,8 @@
 // The callers, each with what it has, and the names of the tables that they ask for.
-ghost use Rattle.std.specs.Prelude.{◌≡◌, ◌+◌, ◌<◌, ◌≤◌, [], List, ℕ, Some, None, IfOk, IfSome, IfNone, is_some, not, ◌||◌, length, slice_set, vec_capacity};
+ghost use Rattle.std.specs.Prelude.{◌≡◌, ◌+◌, ◌<◌, ◌≤◌, [], List, ℕ, Some, None, IfOk, IfSome, IfNone, is_some, length, slice_set, vec_capacity};
 ghost use Rattle.array_shape.specs.NumberSet.{members};
 ghost use Rattle.caller_steps.specs.Locked.{IsFree, IsBusyWith};
-ghost use Rattle.caller_steps.specs.Offers.{is_offered, is_unoffered};
+ghost use Rattle.caller_steps.specs.Offers.{is_offered};
 ghost use Rattle.caller_steps.specs.State.{State, unoffered, offered, unsettled};
 ghost use Rattle.history.specs.Locks.{touched};
 ghost use Rattle.mars_core.specs.Masks.{AreMasksOf};
@@ -105,17 +105,6 @@ impl Seats {
         ensures { result ≡ is_offered (offers_in self.now caller) }
     {
         self.offer(caller) == Offer::Offered
-    }
-
-    /// Whether the caller has a transaction that is live, or one that it has not settled.
-    pub fn is_engaged(&self, caller: u8) -> bool
-        requires { caller < length self.now.places }
-        ensures { result ≡ (is_some (live_in self.now caller) || not (is_unoffered (offers_in self.now caller))) }
-    {
-        match self.offer(caller) {
-            Offer::Nothing => self.is_live(caller),
-            _ => true,
-        }
     }
 
     /// The stripes that the caller's live transaction touched.

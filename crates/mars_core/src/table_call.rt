@@ -5,7 +5,7 @@ ghost use Rattle.mars_core.specs.TableCall.{asking};
 use history::Call;
 use record_slots::{Name, Value};
 
-/// A call that is neither a begin nor the end of a transaction. It borrows the name of its table and a value.
+/// A call that neither begins nor ends a transaction, and is no purge. It borrows the name of its table and a value.
 #[derive(Clone, Copy)]
 pub enum TableCall<'a> {
     Get {
@@ -40,6 +40,7 @@ pub enum Asked<'a> {
     Abort,
     Offer,
     Settle,
+    Purge,
     Table(TableCall<'a>),
 }
 
@@ -53,6 +54,7 @@ impl<'a> Asked<'a> {
             Call::Abort => Asked::Abort,
             Call::Offer => Asked::Offer,
             Call::Settle => Asked::Settle,
+            Call::Purge => Asked::Purge,
             Call::Get { table, key } => Asked::Table(TableCall::Get { table, key: *key }),
             Call::Put { table, key, value } => Asked::Table(TableCall::Put {
                 table,

@@ -7,16 +7,14 @@ ghost use Rattle.eaw_face.specs.Mirroring.{Mirrors, GivesUp};
 ghost use Rattle.page_store.specs.Shown.{pages_of};
 ghost use Rattle.history.specs.Locks.{touched, has_table};
 ghost use Rattle.history.specs.declared.call.Call.TheVariants as call;
-ghost use Rattle.history.specs.declared.call.Call.TheVariants.{Begin, Commit, Abort, Settle};
+ghost use Rattle.history.specs.declared.call.Call.TheVariants.{Begin, Commit, Abort, Settle, Purge};
 ghost use Rattle.history.specs.declared.locks.Mode.TheVariants.{Shared, Exclusive};
 ghost use Rattle.history.specs.declared.call.Reply.TheVariants.{Dead};
 ghost use Rattle.caller_steps.specs.Core.{IsSafe, Steps};
 ghost use Rattle.caller_steps.specs.Fate.{is_busy, is_refusal};
-ghost use Rattle.caller_steps.specs.Purging.{Purges};
 ghost use Rattle.caller_steps.specs.Locked.{IsLocked};
 ghost use Rattle.caller_steps.specs.Offers.{takes_calls};
 ghost use Rattle.caller_steps.specs.State.{unoffered, offered, unsettled, calls_of};
-ghost use Rattle.record_slots.specs.Places.{version_of};
 ghost use Rattle.record_table.specs.Names.{KeepsNames};
 ghost use Rattle.record_table.specs.Shown.{state_of};
 ghost use Rattle.record_table.specs.Upgrading.{Upgrades};
@@ -25,7 +23,6 @@ ghost use Rattle.mars_core.specs.declared.locks.Locks.TheVariants.{Held};
 ghost use Rattle.mars_core.specs.Held.{core_of};
 ghost use Rattle.mars_core.specs.Masks.{IsMaskOf};
 ghost use Rattle.mars_core.specs.Over.{Begins, IsOver};
-ghost use Rattle.mars_core.specs.Purging.{Keeps};
 ghost use Rattle.mars_core.specs.Seats.{live_in, offers_in};
 ghost use Rattle.mars_core.specs.TableCall.{call_of};
 ghost use Rattle.mars_core.specs.Works.{IsShown};
@@ -36,11 +33,11 @@ use crate::fault::CoreFault;
 use crate::live::Live;
 use crate::locks::Locks;
 use crate::offer::Offer;
-use crate::purging::{clear, stopped};
+use crate::purging::clear;
 use crate::seat::Ending;
 use crate::seats::Seats;
 use crate::table_call::{Asked, TableCall};
-use caller_steps::{Core as Steps, PurgeFault};
+use caller_steps::Core as Steps;
 use eaw_face::EawStore;
 use history::{Call, Done, History, Reply, Rows, Tables};
 use mars_base::NoMemory;
@@ -171,30 +168,6 @@ impl<S: EawStore, K: KeyIndex> Core<S, K> {
             doubt: _,
         } = self;
         records.into_pages().into_store()
-    }
-
-    /// Takes keys without records out of the index, so that their slots are given again: each key whose stripe no live transaction touches
-    /// is tried once, by rising table and key. Returns how many were taken out. A key stays whose pair its page keeps as the last one. What
-    /// callers see stays as it is. It is refused with `Dead`, then with `Already` if the caller has a transaction, live or unsettled. A fault of the medium
-    /// stops it, and so does a damaged page, which only a core that does not tell its records meets.
-    #[tactic(auto, using(crate::proofs::GivingUp::sends_none))]
-    pub fn purge(&mut self, caller: u8) -> Result<u32, PurgeFault>
-        requires inside { caller < (S.view self.old.records.store).shape.numbers }
-        requires lists { IsTrue S.tells → IsAlive (S.view self.old.records.store) → version_of (S.view self.old.records.store).state.bytes ≡ 2 }
-        ensures purges { Purges S.tells (Keeps K.index) caller (core_of S.opens K.index (S.view self.old.records.store) self.old)
-            (core_of S.opens K.index (S.view self.new.records.store) self.new) result }
-        ensures sends { Mirrors S.tells (S.view self.old.records.store) (S.view self.new.records.store) }
-    {
-        if self.records.is_dead() {
-            return Err(PurgeFault::Dead);
-        }
-        if self.seats.is_engaged(caller) {
-            return Err(PurgeFault::Already);
-        }
-        match clear(&mut self.records, &self.seats, caller) {
-            Ok(taken) => Ok(taken),
-            Err(fault) => Err(stopped(fault)),
-        }
     }
 
     #[tactic(auto, using(crate::proofs::GivingUp::sends_none))]
@@ -329,6 +302,27 @@ impl<S: EawStore, K: KeyIndex> Core<S, K> {
         Reply::Fine
     }
 
+    // Takes keys without records out of the index: each key whose stripe no live transaction touches is tried once, by rising table and key. A
+    // key stays whose pair its page keeps as the last one.
+    #[tactic(auto, using(crate::proofs::GivingUp::sends_none))]
+    fn purge(&mut self, caller: u8) -> Reply
+        requires inside { caller < (S.view self.old.records.store).shape.numbers }
+        requires alive { IsAlive (S.view self.old.records.store) }
+        requires unoffered { offers_in self.old.seats caller ≡ unoffered }
+        ensures steps { Steps S.tells caller Purge (core_of S.opens K.index (S.view self.old.records.store) self.old)
+            (core_of S.opens K.index (S.view self.new.records.store) self.new) result }
+        ensures sends { Mirrors S.tells (S.view self.old.records.store) (S.view self.new.records.store) }
+        ensures not_busy { IsFalse (is_busy result) }
+    {
+        if self.seats.is_live(caller) {
+            return Reply::Already;
+        }
+        match clear(&mut self.records, &self.seats, caller) {
+            Ok(taken) => Reply::Purged(taken),
+            Err(fault) => Reply::from(fault),
+        }
+    }
+
     // Answers a caller that has offered nothing.
     #[tactic(auto, using(crate::proofs::GivingUp::sends_none))]
     fn make_open(&mut self, caller: u8, call: &Call, locks: Locks) -> Reply
@@ -342,7 +336,7 @@ impl<S: EawStore, K: KeyIndex> Core<S, K> {
             (core_of S.opens K.index (S.view self.new.records.store) self.new) result }
         ensures sends { Mirrors S.tells (S.view self.old.records.store) (S.view self.new.records.store) }
         ensures not_busy { locks ≡ Held → IsFalse (is_busy result) }
-        ensures begun { IsFalse (is_refusal result) → IsTrue (takes_calls (core_of S.opens K.index (S.view self.old.records.store) self.old).state caller) ⊎ (call.now ≡ Begin) }
+        ensures begun { IsFalse (is_refusal result) → IsTrue (takes_calls (core_of S.opens K.index (S.view self.old.records.store) self.old).state caller) ⊎ ((call.now ≡ Begin) ⊎ (call.now ≡ Purge)) }
         ensures tabled { IsFalse (is_refusal result) → IsTrue (has_table self.old.seats.names call.now) }
     {
         match Asked::of(call) {
@@ -351,6 +345,7 @@ impl<S: EawStore, K: KeyIndex> Core<S, K> {
             Asked::Abort => self.abort(caller),
             Asked::Offer => self.offer(caller),
             Asked::Settle => Reply::NoTransaction,
+            Asked::Purge => self.purge(caller),
             Asked::Table(asked) => self.ask(caller, call, asked, locks),
         }
     }
@@ -405,6 +400,7 @@ impl<S: EawStore, K: KeyIndex> Core<S, K> {
     {
         match call {
             Call::Begin => Reply::Already,
+            Call::Purge => Reply::Already,
             Call::Settle => self.settle(caller),
             _ => Reply::NoTransaction,
         }
@@ -425,6 +421,7 @@ impl<S: EawStore, K: KeyIndex> Core<S, K> {
     {
         match call {
             Call::Begin => Reply::Already,
+            Call::Purge => Reply::Already,
             Call::Settle => Reply::Committed(self.seats.settle(caller)),
             _ => Reply::NoTransaction,
         }
@@ -439,7 +436,7 @@ impl<S: EawStore, K: KeyIndex> Core<S, K> {
         ensures sends { Mirrors S.tells (S.view self.old.records.store) (S.view self.new.records.store) }
         ensures dead { IsTrue (S.view self.old.records.store).is_dead → (result ≡ Dead) × (self.new ≡ self.old) }
         ensures not_busy { locks ≡ Held → IsFalse (is_busy result) }
-        ensures begun { IsFalse (is_refusal result) → IsTrue (takes_calls (core_of S.opens K.index (S.view self.old.records.store) self.old).state caller) ⊎ ((call.now ≡ Begin) ⊎ (call.now ≡ Settle)) }
+        ensures begun { IsFalse (is_refusal result) → IsTrue (takes_calls (core_of S.opens K.index (S.view self.old.records.store) self.old).state caller) ⊎ ((call.now ≡ Begin) ⊎ ((call.now ≡ Settle) ⊎ (call.now ≡ Purge))) }
         ensures tabled { IsFalse (is_refusal result) → IsTrue (has_table self.old.seats.names call.now) }
     {
         if self.records.is_dead() {

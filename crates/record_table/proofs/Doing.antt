@@ -16,7 +16,7 @@ use Rattle.history.specs.declared.call.Call.{Call}
 use Rattle.history.specs.declared.call.Call.TheVariants.{Get, Put, Del, Scan}
 use Rattle.history.specs.declared.call.Reply.{Reply}
 use Rattle.history.specs.declared.call.Reply.TheVariants.{Absent, Listed}
-use Rattle.record_slots.specs.Places.{tables_of}
+use Rattle.record_slots.specs.Places.{version_of, tables_of}
 use Rattle.page_store.specs.Index.{Index}
 use Rattle.page_store.specs.State.{with_one}
 use Rattle.page_store.specs.Looks.{LookCause, is_failed}
@@ -76,6 +76,7 @@ module _ (tells : Bool) (Opens : List ℕ → List ℕ → Type 0) (index : Inde
     refused = λ told _. on_err r (moved.state told);
     indexed = λ told _ _. indexed told;
     quiet = λ told _. quiet told;
+    version = λ told _. moved.version told;
     tables = λ told _. moved.tables told;
     saves = on_ok r (λ e. same_counts old new t moved.counts ∙ e) saves;
     same_saves = on_err r moved.counts;
@@ -96,6 +97,7 @@ module _ (tells : Bool) (Opens : List ℕ → List ℕ → Type 0) (index : Inde
     refused = λ told well. absurd (false≢true (sym well));
     indexed = λ told _ well. absurd (false≢true (sym well));
     quiet = λ told well. absurd (false≢true (sym well));
+    version = λ told well. absurd (false≢true (sym well));
     tables = λ told well. absurd (false≢true (sym well));
     saves = tt;
     same_saves = failed.counts;
@@ -116,6 +118,7 @@ module _ (tells : Bool) (Opens : List ℕ → List ℕ → Type 0) (index : Inde
     refused = λ told _. refl;
     indexed = λ told alive _. absurd (false≢true (sym alive ∙ dead));
     quiet = λ told _ _. refl;
+    version = λ told _ two. two;
     tables = λ told _. refl;
     saves = tt;
     same_saves = refl;
@@ -145,6 +148,7 @@ module _ (tells : Bool) (Opens : List ℕ → List ℕ → Type 0) (index : Inde
     refused = λ told _. tt;
     indexed = λ told _ _. subst (λ (b : List ℕ). (let r : Result Reply TableFault = Ok reply in Indexed table c (keys_of index old.store.state.bytes) (keys_of index b) r)) (sym (wrote.bytes told)) (indexed told);
     quiet = λ told _ is. wrote.bytes told ∙ quiet told is;
+    version = λ told _ two. ap version_of (wrote.bytes told) ∙ moved.version told two;
     tables = λ told _. ap tables_of (wrote.bytes told) ∙ moved.tables told;
     saves = same_counts old new t (wrote.counts ∙ moved.counts) ∙ saves;
     same_saves = tt;

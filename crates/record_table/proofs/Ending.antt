@@ -18,7 +18,7 @@ use Rattle.history.specs.declared.call.Reply.TheVariants.{Fine, Saved}
 use Rattle.page_store.specs.Command.{PageCommand}
 use Rattle.page_store.specs.Command as page
 use Rattle.page_store.specs.Does as page_does
-use Rattle.record_slots.specs.Places.{tables_of}
+use Rattle.record_slots.specs.Places.{version_of, tables_of}
 use Rattle.page_store.specs.Index.{Index}
 use Rattle.page_store.specs.Kept.{IsOrdered}
 use Rattle.page_store.specs.Outline.{Outline, outline_after}
@@ -66,6 +66,7 @@ pub record IsCall (tells : Bool) (index : Index) (pc : PageCommand) (table t : �
   pub parts : IsTrue tells → (u : ℕ) → AreSlotParts index (page.after pc (pages.state_of old)).store.bytes (log_of (page.after pc (pages.state_of old)) u)
   pub shown : IsTrue tells → (reply : Reply) → shown_by index (page.after pc (pages.state_of old)) ≡ after t c reply (state_of index old)
   pub keys : IsTrue tells → keys_of index (page.after pc (pages.state_of old)).store.bytes ≡ keys_of index old.store.state.bytes
+  pub version : IsTrue tells → version_of (page.after pc (pages.state_of old)).store.bytes ≡ version_of old.store.state.bytes
   pub tables : IsTrue tells → tables_of (page.after pc (pages.state_of old)).store.bytes ≡ tables_of old.store.state.bytes
   pub indexed : (a b : Keys) (r : Result Reply TableFault) → b ≡ a → Indexed table c a b r
   pub quiet : IsTrue tells → IsQuiet index old t c → (page.after pc (pages.state_of old)).store.bytes ≡ old.store.state.bytes
@@ -104,6 +105,7 @@ module _ (tells : Bool) (Opens : List ℕ → List ℕ → Type 0) (index : Inde
           refused = λ told _. tt;
           indexed = λ told _ _. is.indexed _ _ (Ok (reply answer)) (ap (λ (s : PagesState). keys_of index s.store.bytes) (now told) ∙ is.keys told);
           quiet = λ told _ still. ap (λ (s : PagesState). s.store.bytes) (now told) ∙ is.quiet told still;
+          version = λ told _ two. ap (λ (s : PagesState). version_of s.store.bytes) (now told) ∙ is.version told ∙ two;
           tables = λ told _. ap (λ (s : PagesState). tables_of s.store.bytes) (now told) ∙ is.tables told;
           saves = ap (λ (o : Outline). length (o.counts t)) out ∙ is.saves;
           same_saves = tt;
@@ -132,6 +134,7 @@ module _ (tells : Bool) (Opens : List ℕ → List ℕ → Type 0) (index : Inde
           refused = λ told well. absurd (false≢true (sym well));
           indexed = λ told _ well. absurd (false≢true (sym well));
           quiet = λ told well. absurd (false≢true (sym well));
+          version = λ told well. absurd (false≢true (sym well));
           tables = λ told well. absurd (false≢true (sym well));
           saves = tt;
           same_saves = does.marks.0;
@@ -155,6 +158,7 @@ module _ (tells : Bool) (Opens : List ℕ → List ℕ → Type 0) (index : Inde
           refused = λ told _. refl;
           indexed = λ told _ _. indexed_same Reply table c _ _ SavesFull tt refl;
           quiet = λ told _ _. refl;
+          version = λ told _ two. two;
           tables = λ told _. refl;
           saves = tt;
           same_saves = refl;
@@ -211,6 +215,7 @@ module _ (tells : Bool) (index : Index) (laws : Laws index) (old : PagesView) (r
     parts = λ told. (rests.tied told).parts;
     shown = λ told reply. shown_save index laws (pages.state_of old) t reply;
     keys = λ told. refl;
+    version = λ told. refl;
     tables = λ told. refl;
     indexed = λ a b r same. same;
     quiet = λ told _. refl;
@@ -232,6 +237,7 @@ module _ (tells : Bool) (index : Index) (laws : Laws index) (old : PagesView) (r
         parts = λ told. parts_back index laws (pages.state_of old) t (rests.tied told).sound (rests.tied told).parts n (front told);
         shown = λ told reply. shown_back index laws (pages.state_of old) t n reply (has_save_is ((state_of index old).logs t).saved n some (subst (λ (k : ℕ). n ≤ k) (sym (length-saves index old t)) there)) (front told);
         keys = λ told. refl;
+        version = λ told. refl;
         tables = λ told. refl;
         indexed = λ a b r same. same;
         quiet = λ told _. refl;
@@ -251,6 +257,7 @@ module _ (tells : Bool) (index : Index) (laws : Laws index) (old : PagesView) (r
     parts = λ told. parts_abort index laws (pages.state_of old) t (rests.tied told).sound (rests.tied told).parts;
     shown = λ told reply. shown_abort index laws (pages.state_of old) t reply;
     keys = λ told. refl;
+    version = λ told. refl;
     tables = λ told. refl;
     indexed = λ a b r same. same;
     quiet = λ told _. refl;
@@ -272,6 +279,7 @@ module _ (tells : Bool) (index : Index) (laws : Laws index) (old : PagesView) (r
         parts = λ told. parts_commit index laws (pages.state_of old) t (rests.tied told).sound (rests.tied told).parts;
         shown = λ told reply. shown_commit index laws (pages.state_of old) t reply (rests.tied told).sound ((rests.tied told).parts t);
         keys = λ told. (w told).keys;
+        version = λ told. (w told).version;
         tables = λ told. (w told).tables;
         indexed = λ a b r same. same;
         quiet = λ told none. no_parts index (listed (old.store.state.logs t)) old.store.state.bytes none;

@@ -14,7 +14,7 @@ use Rattle.history.specs.Log.{Log}
 use Rattle.history.specs.Writes.{Write, all_written}
 use Rattle.page_store.specs.Command as page
 use Rattle.page_store.specs.Does as page_does
-use Rattle.record_slots.specs.Places.{tables_of}
+use Rattle.record_slots.specs.Places.{version_of, tables_of}
 use Rattle.page_store.specs.Index.{Index}
 use Rattle.page_store.specs.Outline.{Outline}
 use Rattle.page_store.specs.Shown.{PagesView, Shown, pages_of, outline_of}
@@ -99,6 +99,12 @@ module _ (tells : Bool) (Opens : List ℕ → List ℕ → Type 0) (index : Inde
       let w = group_written index laws before ts tied.sound tied.parts in
       w.tables
 
+  its_version : IsAlive old.store → IsTrue tells → version_of behind.store.bytes ≡ version_of old.store.state.bytes
+  its_version alive told =
+      let tied = (holds alive).tied told in
+      let w = group_written index laws before ts tied.sound tied.parts in
+      w.version
+
   its_state : IsAlive old.store → IsTrue tells → shown_by index behind ≡ after_group ts (state_of index old)
   its_state alive told = let tied = (holds alive).tied told in group_shown index laws before ts tied.sound tied.parts
 
@@ -141,6 +147,7 @@ module _ (tells : Bool) (Opens : List ℕ → List ℕ → Type 0) (index : Inde
           done = λ told. ap (shown_by index) (now told) ∙ its_state alive told;
           refused = λ told _. tt;
           indexed = λ told _. ap (λ (s : PagesState). keys_of index s.store.bytes) (now told) ∙ its_keys alive told;
+          version = λ told _ two. ap (λ (s : PagesState). version_of s.store.bytes) (now told) ∙ its_version alive told ∙ two;
           tables = λ told _. ap (λ (s : PagesState). tables_of s.store.bytes) (now told) ∙ its_tables alive told;
           quiet = λ told _ none. ap (λ (s : PagesState). s.store.bytes) (now told) ∙ its_bytes none;
           free = λ u here. ap (λ (o : Outline). o.ranges u) out ∙ ranges_here u here;
@@ -171,6 +178,7 @@ module _ (tells : Bool) (Opens : List ℕ → List ℕ → Type 0) (index : Inde
           done = λ told. tt;
           refused = λ told well. absurd (false≢true (sym well));
           indexed = λ told well. absurd (false≢true (sym well));
+          version = λ told well. absurd (false≢true (sym well));
           tables = λ told well. absurd (false≢true (sym well));
           quiet = λ told well. absurd (false≢true (sym well));
           free = tt;
@@ -191,6 +199,7 @@ module _ (tells : Bool) (Opens : List ℕ → List ℕ → Type 0) (index : Inde
       done = λ told. tt;
       refused = λ told _. refl;
       indexed = λ told _. refl;
+      version = λ told _ two. two;
       tables = λ told _. refl;
       quiet = λ told _ _. refl;
       free = tt;

@@ -9,7 +9,7 @@ use Rattle.eaw_face.specs.State.{State, listed}
 use Rattle.eaw_face.specs.StoreView.{LeavesOnly}
 use Rattle.eaw_face.specs.Causes.{IsAlive}
 use Rattle.record_slots.specs.Slots.{slot_said, slot_bytes}
-use Rattle.record_slots.specs.Places.{slot_of, slot_due, tables_of}
+use Rattle.record_slots.specs.Places.{slot_of, slot_due, version_of, tables_of}
 use Rattle.record_slots.specs.declared.slot.Slot.TheVariants.{Absent}
 use Rattle.page_store.specs.Index.{Index, IsTable, Grows, Gains}
 use Rattle.page_store.specs.Index as face
@@ -45,6 +45,7 @@ pub record Moved (tells : Bool) (Opens : List ℕ → List ℕ → Type 0) (inde
   pub tops : new.top ≡ old.top
   pub ranges : (u : ℕ) → listed (new.store.ranges u) ≡ listed (old.store.ranges u)
   pub others : (u : ℕ) → u ≢ t → new.store.ranges u ≡ old.store.ranges u
+  pub version : IsTrue tells → version_of old.store.state.bytes ≡ 2 → version_of new.store.state.bytes ≡ 2
   pub tables : IsTrue tells → tables_of new.store.state.bytes ≡ tables_of old.store.state.bytes
   pub state : IsTrue tells → state_of index new ≡ state_of index old
   pub tied : IsTrue tells → IsTied index new
@@ -78,6 +79,7 @@ module _ (tells : Bool) (Opens : List ℕ → List ℕ → Type 0) (index : Inde
     tops = refl;
     ranges = λ u. refl;
     others = λ u ne. refl;
+    version = λ told two. two;
     tables = λ told. refl;
     state = λ told. refl;
     tied = rests.tied;
@@ -97,6 +99,7 @@ module _ (tells : Bool) (Opens : List ℕ → List ℕ → Type 0) (index : Inde
     tops = b.tops ∙ a.tops;
     ranges = λ u. b.ranges u ∙ a.ranges u;
     others = λ u ne. b.others u ne ∙ a.others u ne;
+    version = λ told two. b.version told (a.version told two);
     tables = λ told. b.tables told ∙ a.tables told;
     state = λ told. b.state told ∙ a.state told;
     tied = b.tied;
@@ -129,6 +132,7 @@ module _ (tells : Bool) (Opens : List ℕ → List ℕ → Type 0) (index : Inde
           tops = looks.tops;
           ranges = λ u. ap (λ (f : ℕ → Option (List (ℕ × ℕ))). listed (f u)) same.ranges;
           others = looks.others;
+          version = λ told two. ap (λ (s : State). version_of s.bytes) (same.still.state told) ∙ two;
           tables = λ told. ap (λ (s : State). tables_of s.bytes) (same.still.state told);
           state = λ told. shown_same index old new (same.still.state told) looks.saves;
           tied = λ told. record {
@@ -261,6 +265,7 @@ module _ (tells : Bool) (Opens : List ℕ → List ℕ → Type 0) (index : Inde
         tops = kept.tops;
         ranges = kept.ranges;
         others = does.others;
+        version = λ told two. (made told).0.version ∙ two;
         tables = λ told. (made told).0.tables;
         state = λ told i. record {
           table = (keeps told).0 i;

@@ -97,6 +97,7 @@ module _ (tells : Bool) (Opens : List ℕ → List ℕ → Type 0) (index : Inde
             tops = kept.tops;
             ranges = kept.ranges;
             others = does.others;
+            version = λ told two. (same told).version ∙ two;
             tables = λ told. (same told).tables;
             state = λ told i. record {
               table = (same told).records i;

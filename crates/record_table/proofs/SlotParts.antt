@@ -11,8 +11,8 @@ use Rattle.pcm_media.proofs.Ranges.{range-put}
 use Rattle.array_shape.specs.Logged.{Part, applied}
 use Rattle.record_slots.specs.Slots.{slot_said}
 use Rattle.record_slots.specs.Names.{names_in}
-use Rattle.record_slots.specs.Super.{tables_said}
-use Rattle.record_slots.specs.Places.{page_bytes, slot_count, slot_at, slot_of, next_slot, tables_of, free_slot_of, IsOfKey, Carries}
+use Rattle.record_slots.specs.Super.{version_said, tables_said}
+use Rattle.record_slots.specs.Places.{page_bytes, slot_count, slot_at, slot_of, next_slot, version_of, tables_of, free_slot_of, IsOfKey, Carries}
 use Rattle.record_slots.specs.declared.free.Free.{Free}
 use Rattle.record_slots.specs.declared.slot.Slot.{Slot}
 use Rattle.record_slots.specs.declared.slot.Slot.TheVariants.{Absent, Present}
@@ -183,6 +183,9 @@ module _ (index : Index) (laws : Laws index) where
     part_front : page_bytes (put d part.0 part.1) 0 ≡ page_bytes d 0
     part_front = (let counts = laws.counts d sound in part_keeps.pages 0 (omega (arith, counts.some, counts.pages)))
 
+    part_version : version_of (put d part.0 part.1) ≡ version_of d
+    part_version = ap version_said part_front
+
     part_tables : tables_of (put d part.0 part.1) ≡ tables_of d
     part_tables = ap tables_said part_front
 
@@ -222,11 +225,12 @@ module _ (index : Index) (laws : Laws index) where
     pub pairs : pairs_of index e ≡ pairs_of index d
     pub size : length e ≡ length d
     pub keys : keys_of index e ≡ keys_of index d
+    pub version : version_of e ≡ version_of d
     pub tables : tables_of e ≡ tables_of d
     pub table : table_of index e ≡ all_written (table_of index d) (writes_of d log)
 
   pub applied_parts : (log : List Part) (d : List ℕ) → index.sound d → AreSlotParts index d log → IsWritten d log (applied log d)
-  applied_parts [] d sound parts = record { sound = sound; pairs = refl; size = refl; keys = refl; tables = refl; table = refl }
+  applied_parts [] d sound parts = record { sound = sound; pairs = refl; size = refl; keys = refl; version = refl; tables = refl; table = refl }
   applied_parts (p ∷ ps) d sound parts =
       let one = part_sound d sound p parts.0 in
       let long = part_long d sound p parts.0 in
@@ -236,6 +240,7 @@ module _ (index : Index) (laws : Laws index) where
         pairs = rest.pairs ∙ one.1;
         size = rest.size ∙ long;
         keys = rest.keys ∙ part_keys d sound p parts.0;
+        version = rest.version ∙ part_version d sound p parts.0;
         tables = rest.tables ∙ part_tables d sound p parts.0;
         table = rest.table ∙ (λ i. all_written (part_table d sound p parts.0 i) (writes_same d (put d p.0 p.1) (part_tables d sound p parts.0) ps i));
       }

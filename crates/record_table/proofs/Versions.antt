@@ -278,6 +278,7 @@ module _ (tells : Bool) (Opens : List ℕ → List ℕ → Type 0) (index : Inde
           tops = ap (λ (o : Outline). o.top) out;
           ranges = λ u. ap (λ (o : Outline). listed (o.ranges u)) out;
           others = λ u ne. ap (λ (o : Outline). o.ranges u) out;
+          version = λ told two. ap (λ (s : PagesState). version_of s.store.bytes) (now told) ∙ (facts told).version;
           tables = λ told. ap (λ (s : PagesState). tables_of s.store.bytes) (now told) ∙ (facts told).tables;
           state = λ told. ap (shown_by index) (now told) ∙ (λ i. record { table = (facts told).records i; logs = logs_same mid.store.state.bytes (put mid.store.state.bytes 0 bytes) (facts told).tables mid.store.state.logs (λ u. saved_of (listed (mid.store.state.logs u)) (mid.counts u)) i });
           tied = λ told. record {

@@ -9,7 +9,7 @@ use Rattle.history.specs.Writes.{Table}
 use Rattle.history.specs.declared.call.Call.{Call}
 use Rattle.history.specs.declared.call.Call.TheVariants.{Put, Commit}
 use Rattle.history.specs.declared.call.Reply.{Reply}
-use Rattle.record_slots.specs.Places.{tables_of}
+use Rattle.record_slots.specs.Places.{version_of, tables_of}
 use Rattle.page_store.specs.Index.{Index}
 use Rattle.page_store.specs.Shown.{PagesView}
 use Rattle.record_table.specs.State.{Keys, GainsKey, KeepsKeys, TakesPages}
@@ -71,7 +71,7 @@ IsQuiet index old t call = Unit {0}
 
 -- A caller's call as number t on a table, which it names, on records over a store whose images open as Opens says. Each answer has its cause. An Ok is answered as the
 -- model says, leaves what it says, and hides no fault. After a refusal other than Media, the records and the logs of every number are as
--- before, and the tables always. Media leaves the store dead. A call that writes nothing into the data leaves it byte for byte, also if it is refused. Other
+-- before, and the tables always; data of version 2 stays so. Media leaves the store dead. A call that writes nothing into the data leaves it byte for byte, also if it is refused. Other
 -- numbers keep what they have logged, whatever the answer. At each moment of a store that was not dead, a loss of power leaves what it might
 -- have left before, or an image that opens with the records before the call or after it.
 pub record Does (tells : Bool) (Opens : List ℕ → List ℕ → Type 0) (index : Index) (table t : ℕ) (call : Call) (old new : PagesView) (result : Result Reply TableFault) : Type 0 where
@@ -84,6 +84,7 @@ pub record Does (tells : Bool) (Opens : List ℕ → List ℕ → Type 0) (index
   pub refused : IsTrue tells → IsFalse (is_failed result) → OnErr result (state_of index new ≡ state_of index old)
   pub indexed : IsTrue tells → IsAlive old.store → IsFalse (is_failed result) → Indexed table call (keys_of index old.store.state.bytes) (keys_of index new.store.state.bytes) result
   pub quiet : IsTrue tells → IsFalse (is_failed result) → IsQuiet index old t call → new.store.state.bytes ≡ old.store.state.bytes
+  pub version : IsTrue tells → IsFalse (is_failed result) → version_of old.store.state.bytes ≡ 2 → version_of new.store.state.bytes ≡ 2
   pub tables : IsTrue tells → IsFalse (is_failed result) → tables_of new.store.state.bytes ≡ tables_of old.store.state.bytes
   pub saves : OnOk result (length (new.counts t) ≡ saves_after call (length (old.counts t)))
   pub same_saves : OnErr result (new.counts ≡ old.counts)

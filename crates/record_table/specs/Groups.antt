@@ -5,7 +5,7 @@ use Rattle.eaw_face.specs.State.{is_one_of, with_each}
 use Rattle.eaw_face.specs.StoreView.{LeavesOnly}
 use Rattle.eaw_face.specs.Causes.{IsAlive}
 use Rattle.history.specs.Writes.{Write, all_written}
-use Rattle.record_slots.specs.Places.{tables_of}
+use Rattle.record_slots.specs.Places.{version_of, tables_of}
 use Rattle.page_store.specs.Index.{Index}
 use Rattle.page_store.specs.Shown.{PagesView}
 use Rattle.record_table.specs.State.{TableState}
@@ -32,7 +32,7 @@ GroupCause old (Err fault) = ⊥
 
 -- A commit of these numbers, on records over a store whose images open as Opens says. Each answer has its cause. An Ok leaves the state that
 -- the model says, frees the numbers, and hides no fault. After a refusal other than Media, the records and the logs of every number are as before. Media leaves
--- the store dead. The tables and their indexes stay, and so does the data byte for byte where the numbers have written nothing. Other numbers keep what they
+-- the store dead. The tables and their indexes stay, data of version 2 stays so, and so does the data byte for byte where the numbers have written nothing. Other numbers keep what they
 -- have logged, whatever the answer. At each moment of a store that was not dead, a loss of power leaves what it might have left before, or an
 -- image that opens with the records before the commit or with those after it: all that the numbers have written, or nothing of it.
 pub record CommitsGroup (tells : Bool) (Opens : List ℕ → List ℕ → Type 0) (index : Index) (ts : List ℕ) (old new : PagesView) (result : Result (Unit {0}) TableFault) : Type 0 where
@@ -43,6 +43,7 @@ pub record CommitsGroup (tells : Bool) (Opens : List ℕ → List ℕ → Type 0
   pub done : IsTrue tells → OnOk result (state_of index new ≡ after_group ts (state_of index old))
   pub refused : IsTrue tells → IsFalse (is_failed result) → OnErr result (state_of index new ≡ state_of index old)
   pub indexed : IsTrue tells → IsFalse (is_failed result) → keys_of index new.store.state.bytes ≡ keys_of index old.store.state.bytes
+  pub version : IsTrue tells → IsFalse (is_failed result) → version_of old.store.state.bytes ≡ 2 → version_of new.store.state.bytes ≡ 2
   pub tables : IsTrue tells → IsFalse (is_failed result) → tables_of new.store.state.bytes ≡ tables_of old.store.state.bytes
   pub quiet : IsTrue tells → IsFalse (is_failed result) → group_writes (state_of index old) ts ≡ [] → new.store.state.bytes ≡ old.store.state.bytes
   pub free : OnOk result ((t : ℕ) → is_one_of ts t ≡ true → new.store.ranges t ≡ None)

@@ -9,7 +9,7 @@ use Rattle.mars_core.specs.Held.{Held, core_of, state_at, state_over}
 use Rattle.mars_core.specs.Seats.{live_in, offers_in, seat_in, calls_in}
 use Rattle.mars_core.proofs.Prefixes.{StoreLaws}
 use Rattle.mars_core.proofs.Seating.{gone}
-use Rattle.mars_core.proofs.Settling.{told_keeps, told_steps, unsettled_begins, unsettled_asks}
+use Rattle.mars_core.proofs.Settling.{told_keeps, told_steps, unsettled_begins, unsettled_purges, unsettled_asks}
 use Rattle.mars_core.proofs.GivingUp.{sends_none}
 use Rattle.std.proofs.lemmas.Bool.{true≢false}
 use Rattle.mars_core.proofs.Staying.{update_same}
@@ -60,13 +60,22 @@ returns-in-Begin-clause-steps g c =
     (unsettled_begins g.S.EawStore.tells g.S.EawStore.opens g.K.KeyIndex.index (pages_of (V h.records.store) h.records) (state_over g.K.KeyIndex.index (V h.records.store) h) (record { indexed = refl; dead = refl })
     c.requires.safe c.requires.alive c.args.caller c.requires.committed.0 c.requires.committed.1)
 
+pub returns-in-Purge-clause-steps : goal.returns-in-Purge-clause-steps
+returns-in-Purge-clause-steps g c =
+    let V = g.S.EawStore.view in
+    let h = c.args.self.now in
+    let core = core_of g.S.EawStore.opens g.K.KeyIndex.index (V h.records.store) h in
+    subst (λ (call : Call). Steps g.S.EawStore.tells c.args.caller call core core Already) (sym c.in-Purge.is)
+    (unsettled_purges g.S.EawStore.tells g.S.EawStore.opens g.K.KeyIndex.index (pages_of (V h.records.store) h.records) (state_over g.K.KeyIndex.index (V h.records.store) h) (record { indexed = refl; dead = refl })
+    c.requires.safe c.requires.alive c.args.caller c.requires.committed.0 c.requires.committed.1)
+
 pub returns-in_default : goal.returns-in_default
 returns-in_default g c =
     let V = g.S.EawStore.view in
     let h = c.args.self.now in
     record {
       steps = unsettled_asks g.S.EawStore.tells g.S.EawStore.opens g.K.KeyIndex.index (pages_of (V h.records.store) h.records) (state_over g.K.KeyIndex.index (V h.records.store) h) (record { indexed = refl; dead = refl })
-          c.requires.safe c.requires.alive c.args.caller c.requires.committed.0 c.requires.committed.1 c.args.call.now c.in_default.not-Begin c.in_default.not-Settle;
+          c.requires.safe c.requires.alive c.args.caller c.requires.committed.0 c.requires.committed.1 c.args.call.now c.in_default.not-Begin c.in_default.not-Settle c.in_default.not-Purge;
       sends = sends_none g.S.EawStore.tells (V h.records.store);
       not_busy = refl;
       settles = λ granted. absurd (true≢false granted);

@@ -6,7 +6,7 @@ use Rattle.history.specs.declared.call.Reply.TheVariants.{Already}
 use Rattle.caller_steps.specs.Core.{Steps}
 use Rattle.mars_core.specs.Held.{core_of, state_over}
 use Rattle.mars_core.proofs.GivingUp.{sends_none}
-use Rattle.mars_core.proofs.Settling.{offered_begins, offered_asks}
+use Rattle.mars_core.proofs.Settling.{offered_begins, offered_purges, offered_asks}
 use Rattle.mars_core.proofs.turns.Core.make_offered.Goals as goal
 
 pub returns-in-Begin-clause-steps : goal.returns-in-Begin-clause-steps
@@ -18,13 +18,22 @@ returns-in-Begin-clause-steps g c =
     (offered_begins g.S.EawStore.tells g.S.EawStore.opens g.K.KeyIndex.index (pages_of (V h.records.store) h.records) (state_over g.K.KeyIndex.index (V h.records.store) h) (record { indexed = refl; dead = refl })
     c.requires.safe c.requires.alive c.args.caller c.requires.offered)
 
+pub returns-in-Purge-clause-steps : goal.returns-in-Purge-clause-steps
+returns-in-Purge-clause-steps g c =
+    let V = g.S.EawStore.view in
+    let h = c.args.self.now in
+    let core = core_of g.S.EawStore.opens g.K.KeyIndex.index (V h.records.store) h in
+    subst (λ (call : Call). Steps g.S.EawStore.tells c.args.caller call core core Already) (sym c.in-Purge.is)
+    (offered_purges g.S.EawStore.tells g.S.EawStore.opens g.K.KeyIndex.index (pages_of (V h.records.store) h.records) (state_over g.K.KeyIndex.index (V h.records.store) h) (record { indexed = refl; dead = refl })
+    c.requires.safe c.requires.alive c.args.caller c.requires.offered)
+
 pub returns-in_default : goal.returns-in_default
 returns-in_default g c =
     let V = g.S.EawStore.view in
     let h = c.args.self.now in
     record {
       steps = offered_asks g.S.EawStore.tells g.S.EawStore.opens g.K.KeyIndex.index (pages_of (V h.records.store) h.records) (state_over g.K.KeyIndex.index (V h.records.store) h) (record { indexed = refl; dead = refl })
-          c.requires.safe c.requires.alive c.args.caller c.requires.offered c.args.call.now c.in_default.not-Begin c.in_default.not-Settle;
+          c.requires.safe c.requires.alive c.args.caller c.requires.offered c.args.call.now c.in_default.not-Begin c.in_default.not-Settle c.in_default.not-Purge;
       sends = sends_none g.S.EawStore.tells (V h.records.store);
       not_busy = refl;
       settles = λ granted. absurd (true≢false granted);

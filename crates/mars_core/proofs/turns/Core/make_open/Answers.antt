@@ -20,8 +20,23 @@ returns-in-Begin g c =
       steps = subst (λ (call : Call). Steps g.S.EawStore.tells c.args.caller call (core (V c.args.self.now.records.store) c.args.self.now) (core (V c.begin.new.self.records.store) c.begin.new.self) c.begin.result) (sym (ap asking c.in-Begin.is) ∙ c.of.ensures) c.begin.ensures.steps;
       sends = c.begin.ensures.sends;
       not_busy = λ held. c.begin.ensures.not_busy;
-      begun = λ _. inr (sym (sym (ap asking c.in-Begin.is) ∙ c.of.ensures));
+      begun = λ _. inr (inl (sym (sym (ap asking c.in-Begin.is) ∙ c.of.ensures)));
       tabled = λ _. subst (λ (call : Call). has_table c.args.self.now.seats.names call ≡ true) (sym (ap asking c.in-Begin.is) ∙ c.of.ensures) refl;
+    }
+
+pub purge-requires : goal.purge-requires
+purge-requires g c = record { inside = c.requires.inside; alive = c.requires.alive; unoffered = c.requires.unoffered }
+
+pub returns-in-Purge : goal.returns-in-Purge
+returns-in-Purge g c =
+    let V = g.S.EawStore.view in
+    let core = core_of g.S.EawStore.opens g.K.KeyIndex.index in
+    record {
+      steps = subst (λ (call : Call). Steps g.S.EawStore.tells c.args.caller call (core (V c.args.self.now.records.store) c.args.self.now) (core (V c.purge.new.self.records.store) c.purge.new.self) c.purge.result) (sym (ap asking c.in-Purge.is) ∙ c.of.ensures) c.purge.ensures.steps;
+      sends = c.purge.ensures.sends;
+      not_busy = λ held. c.purge.ensures.not_busy;
+      begun = λ _. inr (inr (sym (sym (ap asking c.in-Purge.is) ∙ c.of.ensures)));
+      tabled = λ _. subst (λ (call : Call). has_table c.args.self.now.seats.names call ≡ true) (sym (ap asking c.in-Purge.is) ∙ c.of.ensures) refl;
     }
 
 pub commit-requires : goal.commit-requires
