@@ -26,13 +26,14 @@ impl Draft {
         }
     }
 
-    /// Whether the call is outside a transaction, is a begin within one, or is a settle.
+    /// Whether the call is outside a transaction, is a begin within one, or is a settle or a purge.
     pub fn is_stray(&self, call: &Call) -> bool
         ensures { result ≡ is_stray (is_within self.now) call.now }
     {
         match call {
             Call::Begin => self.begun.is_some(),
             Call::Settle => true,
+            Call::Purge => true,
             _ => self.begun.is_none(),
         }
     }

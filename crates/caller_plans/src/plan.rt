@@ -33,7 +33,7 @@ pub struct Plan {
 }
 
 impl Plan {
-    /// Whether none of its calls begins or ends a transaction.
+    /// Whether none of its calls begins or ends a transaction, or is a purge.
     pub fn is_plain(&self) -> bool
         ensures { IsTrue result ↔ IsPlain self.now }
     {
@@ -46,11 +46,11 @@ fn is_of_table(call: &Call) -> bool
 {
     !matches!(
         call,
-        Call::Begin | Call::Commit | Call::Abort | Call::Offer | Call::Settle
+        Call::Begin | Call::Commit | Call::Abort | Call::Offer | Call::Settle | Call::Purge
     )
 }
 
-/// Whether no plan has a call that begins or ends a transaction. Plans that `read_script` returns have none.
+/// Whether no plan has a call that begins or ends a transaction, or is a purge. Plans that `read_script` returns have none.
 pub fn are_plain(plans: &Plans) -> bool
     ensures { IsTrue result ↔ ArePlain plans.now }
 {

@@ -132,6 +132,7 @@ media_at call says.Absent told rest = rest
 media_at call (says.Listed v) told rest = rest
 media_at call (says.Saved v) told rest = rest
 media_at call (says.Committed v) told rest = rest
+media_at call (says.Purged v) told rest = rest
 media_at call says.NoTransaction told rest = rest
 media_at call says.NoTable told rest = rest
 media_at call says.Already told rest = rest

@@ -10,7 +10,7 @@ use Rattle.std.proofs.lemmas.List.Sums.{fold-append}
 use Rattle.std.proofs.lemmas.List.Elements.{All-drop}
 use Rattle.history.specs.Table.{Granted}
 use Rattle.history.specs.declared.call.Call.{Call}
-use Rattle.history.specs.declared.call.Call.TheVariants.{Begin, Commit, Abort, Offer, Settle}
+use Rattle.history.specs.declared.call.Call.TheVariants.{Begin, Commit, Abort, Offer, Settle, Purge}
 use Rattle.history.specs.declared.call.Reply.{Reply}
 use Rattle.history.specs.declared.call.Reply.TheVariants as says
 use Rattle.history.specs.declared.transaction.Done.{Done}
@@ -23,7 +23,7 @@ use Rattle.caller_steps.specs.Fate.{is_refusal, is_media, is_busy, is_committed,
 use Rattle.caller_steps.specs.Run.{Turn, Goes, turns_of}
 use Rattle.caller_steps.specs.Own.{is_commit, Own, nothing_own, own_after, number_of, as_told, told_of, mine_in, KnowsLive}
 use Rattle.caller_steps.proofs.Fates.{Fate as Moved, step_fate, refusal_none, answer_plain}
-use Rattle.caller_steps.proofs.Fates.Fate.{refused, failed, began, granted, committed, doubted, aborted, given, settled, unsure, told as numbered}
+use Rattle.caller_steps.proofs.Fates.Fate.{refused, failed, began, granted, committed, doubted, aborted, given, settled, unsure, told as numbered, purged}
 use Rattle.caller_steps.proofs.Running.{line_here, line_apart, goes_of_step, turns_of_runs}
 use Rattle.caller_steps.proofs.Owning.{live_goes, live_other, turns_mine, fresh_live, fresh_mine}
 use Rattle.caller_plans.specs.declared.plan.Plan.{Plan}
@@ -86,6 +86,7 @@ step_commits limits old new caller call reply step sure = go (step_fate limits o
     go (settled inside has c is index e) = inr c
     go (unsure inside has c is index e) = inr c
     go (numbered n has c is e) = inr c
+    go (purged n un live c is index e) = absurd (true≢false (sym sure ∙ ap is_committed is))
 
 closed_by : (offer : state.Offer) → (offer ≡ unoffered → ⊥) → is_unoffered offer ≡ false
 closed_by unoffered ne = absurd (ne refl)
@@ -115,6 +116,7 @@ plain_live calls Commit reply e = absurd (true≢false (sym e))
 plain_live calls Abort reply e = absurd (true≢false (sym e))
 plain_live calls Offer reply e = absurd (true≢false (sym e))
 plain_live calls Settle reply e = absurd (true≢false (sym e))
+plain_live calls Purge reply e = absurd (true≢false (sym e))
 plain_live calls call reply e = refl
 
 plain_open : (call : Call) → is_of_table call ≡ true → is_offered (offer_with call) ≡ false
@@ -289,6 +291,7 @@ module _ (caller : ℕ) where
     at_settle says.Absent is_end = came_refused plan (Err says.Absent) says.Absent own (own_after caller own (Settle, says.Absent)) refl refl (stands_idle plan (own_after caller own (Settle, says.Absent)) refl)
     at_settle (says.Listed v) is_end = came_refused plan (Err (says.Listed v)) (says.Listed v) own (own_after caller own (Settle, says.Listed v)) refl refl (stands_idle plan (own_after caller own (Settle, says.Listed v)) refl)
     at_settle (says.Saved v) is_end = came_refused plan (Err (says.Saved v)) (says.Saved v) own (own_after caller own (Settle, says.Saved v)) refl refl (stands_idle plan (own_after caller own (Settle, says.Saved v)) refl)
+    at_settle (says.Purged v) is_end = came_refused plan (Err (says.Purged v)) (says.Purged v) own (own_after caller own (Settle, says.Purged v)) refl refl (stands_idle plan (own_after caller own (Settle, says.Purged v)) refl)
     at_settle reply is_end = came_refused plan (Err reply) reply own own refl refl (λ _. record { offers = is_end; all = all; live = live; calls = calls })
 
     no_commit : (reply : Reply) → IsLawful own (Abort, reply) → (own_after caller own (Abort, reply)).mine ≡ own.mine
@@ -552,6 +555,7 @@ own_at caller own call says.Absent told rest = rest (own_after caller own (call,
 own_at caller own call (says.Listed v) told rest = rest (own_after caller own (call, says.Listed v))
 own_at caller own call (says.Saved v) told rest = rest (own_after caller own (call, says.Saved v))
 own_at caller own call (says.Committed v) told rest = rest (own_after caller own (call, says.Committed v))
+own_at caller own call (says.Purged v) told rest = rest (own_after caller own (call, says.Purged v))
 own_at caller own call says.NoTransaction told rest = rest (own_after caller own (call, says.NoTransaction))
 own_at caller own call says.NoTable told rest = rest (own_after caller own (call, says.NoTable))
 own_at caller own call says.Already told rest = rest (own_after caller own (call, says.Already))

@@ -136,9 +136,6 @@ module _ (tells : Bool) (Opens : Shape → List ℕ → List ℕ → Type 0) (in
   abbrev s : State
   s = state_at index p.store seats.names base history (live_in seats) (offers_in seats) doubt
 
-  idle : calls_at seats t ≡ []
-  idle = ap (λ (o : Option Granted). unwrap_or o []) none
-
   -- what the purge rests on
   pub ready : IsTrue tells → IsReady index seats t p
   ready told =

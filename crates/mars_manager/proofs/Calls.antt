@@ -11,7 +11,7 @@ use Rattle.caller_steps.specs.State.{State}
 use Rattle.caller_steps.specs.Offers.{takes_calls}
 use Rattle.caller_steps.specs.Room.{Limits}
 use Rattle.caller_steps.specs.Fate.{Moves, is_committed, is_refusal, is_busy}
-use Rattle.history.specs.declared.call.Call.TheVariants.{Begin, Settle}
+use Rattle.history.specs.declared.call.Call.TheVariants.{Begin, Settle, Purge}
 use Rattle.caller_steps.specs.Prefix.{Grows}
 use Rattle.caller_steps.specs.Step.{Step}
 use Rattle.caller_steps.specs.Core.{CoreView, Steps}
@@ -57,7 +57,7 @@ module _ {C : Type 0} (f : Face C) where
     step = λ told. subst (λ limits. Step limits (f.show old).state n call reply (f.show new).state) since.limits (s.step told);
   }
 
-  pub moved : (setup : Setup C) (n : ℕ) (call : Call) (reply : Reply) (old new : C) → Steps f.tells n call (f.show old) (f.show new) reply → (IsTrue (f.show old).state.is_dead → (reply ≡ Dead) × (new ≡ old)) → (IsFalse (is_refusal reply) → IsTrue (takes_calls (f.show old).state n) ⊎ ((call ≡ Begin) ⊎ (call ≡ Settle)))
+  pub moved : (setup : Setup C) (n : ℕ) (call : Call) (reply : Reply) (old new : C) → Steps f.tells n call (f.show old) (f.show new) reply → (IsTrue (f.show old).state.is_dead → (reply ≡ Dead) × (new ≡ old)) → (IsFalse (is_refusal reply) → IsTrue (takes_calls (f.show old).state n) ⊎ ((call ≡ Begin) ⊎ ((call ≡ Settle) ⊎ (call ≡ Purge))))
       → (IsFalse (is_refusal reply) → IsTrue (has_table (f.show old).state.names call)) → Moved f setup n call reply old new
   moved setup n call reply old new s dead begun tabled = record {
     begun = begun;
@@ -116,12 +116,12 @@ module _ {C : Type 0} (f : Face C) where
         back ∙ ap F out_is ∙ ap (λ (m : SeatOf C). F (G m)) took.now ∙ (λ i. F (G (H (core_is m0 m1 core home took taken is i) (idle i))))
 
     module _ (n : ℕ) (call : Call) (reply : Reply) (number : k.number ≡ n) (steps : Steps f.tells n call (f.show core) (f.show new) reply) (dead : IsTrue (f.show core).state.is_dead → (reply ≡ Dead) × (new ≡ core))
-        (begun : IsFalse (is_refusal reply) → IsTrue (takes_calls (f.show core).state n) ⊎ ((call ≡ Begin) ⊎ (call ≡ Settle))) (tabled : IsFalse (is_refusal reply) → IsTrue (has_table (f.show core).state.names call)) (sure : IsFalse (is_busy reply)) where
+        (begun : IsFalse (is_refusal reply) → IsTrue (takes_calls (f.show core).state n) ⊎ ((call ≡ Begin) ⊎ ((call ≡ Settle) ⊎ (call ≡ Purge)))) (tabled : IsFalse (is_refusal reply) → IsTrue (has_table (f.show core).state.names call)) (sure : IsFalse (is_busy reply)) where
       steps_as : Steps f.tells k.number call (f.show core) (f.show new) reply
       steps_as = subst (λ n. Steps f.tells n call (f.show core) (f.show new) reply) (sym number) steps
 
       pub moves : (setup : Setup C) → Moved f setup k.number call reply core new
-      moves setup = moved setup k.number call reply core new steps_as dead (subst (λ (i : ℕ). IsFalse (is_refusal reply) → IsTrue (takes_calls (f.show core).state i) ⊎ ((call ≡ Begin) ⊎ (call ≡ Settle))) (sym number) begun) tabled
+      moves setup = moved setup k.number call reply core new steps_as dead (subst (λ (i : ℕ). IsFalse (is_refusal reply) → IsTrue (takes_calls (f.show core).state i) ⊎ ((call ≡ Begin) ⊎ ((call ≡ Settle) ⊎ (call ≡ Purge)))) (sym number) begun) tabled
 
       tabled_at : IsFalse (is_refusal reply) → IsTrue (has_table (names_of k) call)
       tabled_at granted = subst (λ (names : List (List ℕ)). has_table names call ≡ true)
@@ -133,7 +133,7 @@ module _ {C : Type 0} (f : Face C) where
           let there : (m : SeatOf C) → m ≡ (shared_view (k ∷ []) None, []) → 0 < times k.number m.0.passes = (λ m e. subst (λ (m : SeatOf C). 0 < times k.number m.0.passes) (sym e) (times_first k [])) in
           subst (λ (c : C). k.number < (f.show c).limits.callers) (core_is m0 m1 core home took taken is) (took.few k.number (there m0 idle))
 
-      begun_at : (setup : Setup C) (turns : List Turn) → Fits f.tells f.show setup turns (f.show core).state k → CanShare f.tells setup.callers (f.show setup.first) → (b : Bool) → (f.show core).state.is_dead ≡ b → IsFalse (is_refusal reply) → IsTrue (takes_of k) ⊎ ((call ≡ Begin) ⊎ (call ≡ Settle))
+      begun_at : (setup : Setup C) (turns : List Turn) → Fits f.tells f.show setup turns (f.show core).state k → CanShare f.tells setup.callers (f.show setup.first) → (b : Bool) → (f.show core).state.is_dead ≡ b → IsFalse (is_refusal reply) → IsTrue (takes_of k) ⊎ ((call ≡ Begin) ⊎ ((call ≡ Settle) ⊎ (call ≡ Purge)))
       begun_at setup turns fit can true is granted = absurd (true≢false (sym (ap is_refusal (dead is).0) ∙ granted))
       begun_at setup turns fit can false is granted = ⊎_elim
           (λ (takes : IsTrue (takes_calls (f.show core).state n)). inl (takes_own k.number (own_by k) (f.show core).state (live_at f setup turns core k can fit is) (subst (λ (i : ℕ). takes_calls (f.show core).state i ≡ true) (sym number) takes)))

@@ -12,7 +12,7 @@ use Rattle.history.specs.Table.{Granted}
 use Rattle.history.specs.Locks.{Touch, touches, touched, key_stripe, has_table, clash, is_touch}
 use Rattle.history.proofs.Modes.{clash_parts}
 use Rattle.history.specs.declared.call.Call.{Call}
-use Rattle.history.specs.declared.call.Call.TheVariants.{Begin, Get, Put, Del, Scan, Save, Back, Commit, Abort, Offer, Settle}
+use Rattle.history.specs.declared.call.Call.TheVariants.{Begin, Get, Put, Del, Scan, Save, Back, Commit, Abort, Offer, Settle, Purge}
 use Rattle.history.specs.declared.call.Reply.{Reply}
 use Rattle.history.specs.declared.locks.Mode.{Mode}
 use Rattle.history.specs.declared.locks.Mode.TheVariants as mode
@@ -65,10 +65,12 @@ covered_with names calls Commit reply holds a b = covered_none names holds
 covered_with names calls Abort reply holds a b = covered_none names holds
 covered_with names calls Offer reply holds a b = a
 covered_with names calls Settle reply holds a b = covered_none names holds
+covered_with names calls Purge reply holds a b = covered_none names holds
 
-untouching : (names : List (List ℕ)) (call : Call) (holds : List Hold) → (call ≡ Begin) ⊎ (call ≡ Settle) → IsCovered (touches names call) holds
+untouching : (names : List (List ℕ)) (call : Call) (holds : List Hold) → (call ≡ Begin) ⊎ ((call ≡ Settle) ⊎ (call ≡ Purge)) → IsCovered (touches names call) holds
 untouching names call holds (inl e) = subst (λ (c : Call). IsCovered (touches names c) holds) (sym e) (record { reads = λ t z. absurd (false≢true z); writes = λ t z. absurd (false≢true z) })
-untouching names call holds (inr e) = subst (λ (c : Call). IsCovered (touches names c) holds) (sym e) (record { reads = λ t z. absurd (false≢true z); writes = λ t z. absurd (false≢true z) })
+untouching names call holds (inr (inl e)) = subst (λ (c : Call). IsCovered (touches names c) holds) (sym e) (record { reads = λ t z. absurd (false≢true z); writes = λ t z. absurd (false≢true z) })
+untouching names call holds (inr (inr e)) = subst (λ (c : Call). IsCovered (touches names c) holds) (sym e) (record { reads = λ t z. absurd (false≢true z); writes = λ t z. absurd (false≢true z) })
 
 -- what covers what a call locks covers what it touches, if its table is there
 pub covered_locks : (names : List (List ℕ)) (call : Call) (holds : List Hold) → has_table names call ≡ true → IsCovered (locks names call) holds → IsCovered (touches names call) holds
@@ -77,8 +79,8 @@ covered_locks names call holds there c = record {
   writes = λ t e. c.writes t (and_from (has_table names call) (touches names call t mode.Exclusive) there e);
 }
 
--- the call is covered if it was done: its table is there, and its caller's transaction takes calls, or it is a begin or a settle
-pub covered_call : (names : List (List ℕ)) (call : Call) (takes : Bool) (holds : List Hold) → has_table names call ≡ true → (IsTrue takes → IsCovered (locks names call) holds) → IsTrue takes ⊎ ((call ≡ Begin) ⊎ (call ≡ Settle)) → IsCovered (touches names call) holds
+-- the call is covered if it was done: its table is there, and its caller's transaction takes calls, or it is a begin, a settle or a purge
+pub covered_call : (names : List (List ℕ)) (call : Call) (takes : Bool) (holds : List Hold) → has_table names call ≡ true → (IsTrue takes → IsCovered (locks names call) holds) → IsTrue takes ⊎ ((call ≡ Begin) ⊎ ((call ≡ Settle) ⊎ (call ≡ Purge))) → IsCovered (touches names call) holds
 covered_call names call takes holds there a b = ⊎_elim (λ taking. covered_locks names call holds there (a taking)) (untouching names call holds) b
 
 small_stripe : (names : List (List ℕ)) (name : List ℕ) (key t : ℕ) → nat_eq (key_stripe names (of_table name key)) t ≡ true → t < 64
@@ -101,6 +103,7 @@ small_touch names Commit t m e = absurd (false≢true e)
 small_touch names Abort t m e = absurd (false≢true e)
 small_touch names Offer t m e = absurd (false≢true e)
 small_touch names Settle t m e = absurd (false≢true e)
+small_touch names Purge t m e = absurd (false≢true e)
 
 -- what a pass has that covers its call locks out all other live transactions
 module _ {C : Type 0} (f : Face C) (core : C) (k : Known C) (call : Call) (alone : HasAlone f core k) (c : IsCovered (touches (f.show core).state.names call) k.holds) where
@@ -126,7 +129,7 @@ module _ {C : Type 0} (f : Face C) (core : C) (k : Known C) (call : Call) where
       (touches (f.show core).state.names call b.1.0 mode.Exclusive) (touches (f.show core).state.names call b.1.0 mode.Shared) refl refl b.1.1
 
 own_covered : (names : List (List ℕ)) (total : ℕ) (old new : State) (n : ℕ) (call : Call) (reply : Reply) (holds : List Hold) → Moves total old n call reply new → (IsTrue (takes_calls old n) → IsCovered (locks names call) holds)
-    → (IsFalse (is_refusal reply) → IsTrue (takes_calls old n) ⊎ ((call ≡ Begin) ⊎ (call ≡ Settle))) → (IsFalse (is_refusal reply) → has_table names call ≡ true) → is_media reply ≡ false → (b : Bool) → is_refusal reply ≡ b
+    → (IsFalse (is_refusal reply) → IsTrue (takes_calls old n) ⊎ ((call ≡ Begin) ⊎ ((call ≡ Settle) ⊎ (call ≡ Purge)))) → (IsFalse (is_refusal reply) → has_table names call ≡ true) → is_media reply ≡ false → (b : Bool) → is_refusal reply ≡ b
     → IsCovered (touched names (calls_of old n)) holds → IsCovered (touched names (calls_of new n)) holds
 own_covered names total old new n call reply holds m call_covered begun tabled sure true is c =
     subst (λ (live : Option Granted). IsCovered (touched names (unwrap_or live [])) holds) (sym (ap (λ (f : ℕ → Option Granted). f n) (m.refused is sure).0)) c
@@ -163,7 +166,7 @@ module _ {C : Type 0} (callers : ℕ) (names : List (List ℕ)) where
 
   -- a call of the pass n, which has what the call touches
   pub locked_step : (old new : State) (holds : ℕ → List Hold) (met : ℕ → List Met) (words : List ℕ) (views : List (View C)) (total n : ℕ) (call : Call) (reply : Reply) → AreLocked callers names old holds met words views → Moves total old n call reply new
-      → (IsFalse old.is_dead → IsTrue (takes_calls old n) → IsCovered (locks names call) (holds n)) → (IsFalse (is_refusal reply) → IsTrue (takes_calls old n) ⊎ ((call ≡ Begin) ⊎ (call ≡ Settle))) → (IsFalse (is_refusal reply) → has_table names call ≡ true) → AreLocked callers names new holds met words views
+      → (IsFalse old.is_dead → IsTrue (takes_calls old n) → IsCovered (locks names call) (holds n)) → (IsFalse (is_refusal reply) → IsTrue (takes_calls old n) ⊎ ((call ≡ Begin) ⊎ ((call ≡ Settle) ⊎ (call ≡ Purge)))) → (IsFalse (is_refusal reply) → has_table names call ≡ true) → AreLocked callers names new holds met words views
   locked_step old new holds met words views total n call reply h m call_covered begun tabled = record {
     have = h.have;
     strangers = h.strangers;

@@ -6,7 +6,7 @@ use mathlib.Core.List.{append-nil}
 use Rattle.history.specs.Table.{Granted}
 use Rattle.history.specs.Locks.{Touch, touches, touched}
 use Rattle.history.specs.declared.call.Call.{Call}
-use Rattle.history.specs.declared.call.Call.TheVariants.{Begin, Get, Put, Del, Scan, Save, Back, Commit, Abort, Offer, Settle}
+use Rattle.history.specs.declared.call.Call.TheVariants.{Begin, Get, Put, Del, Scan, Save, Back, Commit, Abort, Offer, Settle, Purge}
 use Rattle.history.specs.declared.call.Reply.{Reply}
 use Rattle.history.specs.declared.locks.Mode.TheVariants as mode
 use Rattle.caller_steps.specs.Core.{CoreView}
@@ -57,6 +57,7 @@ takes_with calls Commit reply = refl
 takes_with calls Abort reply = refl
 takes_with calls Offer reply = refl
 takes_with calls Settle reply = refl
+takes_with calls Purge reply = refl
 
 takes : (w : Bool) (o : Option Granted) (call : Call) (reply : Reply) → (not (waits_after w call reply) && is_some (live_after o call reply)) ≡ takes_after (not w && is_some o) call reply
 takes w o call reply = go (is_media reply) (is_commit call) (is_refusal reply)
@@ -167,7 +168,9 @@ module _ {C : Type 0} where
         (λ (takes : IsTrue (takes_of k1)). absurd (true≢false (sym takes ∙ same_takes ∙ idle)))
         (⊎_elim
         (λ (begin : call ≡ Begin). ap (λ (c : Call). raised_for (locks (names_of k) c t) (hold_of t k)) begin)
-        (λ (settle : call ≡ Settle). absurd (true≢false (sym (ap is_end settle) ∙ d))))
+        (⊎_elim
+        (λ (settle : call ≡ Settle). absurd (true≢false (sym (ap is_end settle) ∙ d)))
+        (λ (purge : call ≡ Purge). absurd (true≢false (sym (ap is_end purge) ∙ d)))))
         (m.begun e))
 
     pub after_done : is_refusal reply ≡ false → is_end call ≡ false → HasAfter call reply k k2

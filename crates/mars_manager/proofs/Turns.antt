@@ -29,7 +29,7 @@ use Rattle.stripe_words.specs.declared.hold.Hold.{Hold}
 use Rattle.stripe_words.specs.declared.hold.Hold.TheVariants.{Free}
 use Rattle.stripe_words.specs.Words.{granted, locked}
 use Rattle.history.specs.Locks.{touched, has_table}
-use Rattle.history.specs.declared.call.Call.TheVariants.{Begin, Settle}
+use Rattle.history.specs.declared.call.Call.TheVariants.{Begin, Settle, Purge}
 use Rattle.history.specs.declared.locks.Mode.TheVariants as mode
 use Rattle.caller_steps.specs.State.{calls_of}
 use Rattle.caller_steps.specs.Offers.{takes_calls}
@@ -71,7 +71,7 @@ pub record Moved {C : Type 0} (f : Face C) (setup : Setup C) (n : ℕ) (call : C
   pub grows : Grows (f.show core).state.history (f.show new).state.history
   pub since : Since f.tells (f.show setup.first) (f.show core) → Since f.tells (f.show setup.first) (f.show new)
   pub goes : Since f.tells (f.show setup.first) (f.show core) → Goes f.tells (f.show setup.first).limits (f.show core).state n call reply (f.show new).state
-  pub begun : IsFalse (is_refusal reply) → IsTrue (takes_calls (f.show core).state n) ⊎ ((call ≡ Begin) ⊎ (call ≡ Settle))
+  pub begun : IsFalse (is_refusal reply) → IsTrue (takes_calls (f.show core).state n) ⊎ ((call ≡ Begin) ⊎ ((call ≡ Settle) ⊎ (call ≡ Purge)))
   pub tabled : IsFalse (is_refusal reply) → IsTrue (has_table (f.show core).state.names call)
 
 module _ {C : Type 0} (f : Face C) (setup : Setup C) where

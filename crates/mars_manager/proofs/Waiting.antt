@@ -17,7 +17,7 @@ use Rattle.caller_steps.specs.Room.{Limits}
 use Rattle.caller_steps.specs.Fate.{is_refusal, is_media, is_committed, live_with, offer_with, committed_by, Stays, EndsWith}
 use Rattle.caller_steps.specs.Run.{Turn, Goes, GoesAlong, turns_of}
 use Rattle.caller_steps.specs.Own.{Own, nothing_own, own_after, own_of, is_commit, live_in, KnowsLive}
-use Rattle.caller_steps.proofs.Fates.{Fate, refused, failed, began, granted, committed, doubted, aborted, given, settled, unsure, told, answer_plain, refusal_none}
+use Rattle.caller_steps.proofs.Fates.{Fate, refused, failed, began, granted, committed, doubted, aborted, given, settled, unsure, told, purged, answer_plain, refusal_none}
 use Rattle.caller_steps.proofs.Running.{last_here, last_apart, none_first, turns_keep}
 use Rattle.caller_steps.proofs.Owning.{live_goes, live_other}
 
@@ -233,3 +233,4 @@ module _ (callers : ℕ) (old : State) (caller : ℕ) (call : Call) (reply : Rep
   number_told (settled inside has c r index e) = r ∙ ap Committed (sym (ap (number_by callers old caller) has))
   number_told (unsure inside has c r index e) = absurd (true≢false (sym is ∙ ap is_committed r))
   number_told (told n has c r e) = r ∙ ap Committed (sym (ap (number_by callers old caller) has))
+  number_told (purged n un l c r index e) = absurd (true≢false (sym is ∙ ap is_committed r))

@@ -5,7 +5,7 @@ use Rattle.record_slots.specs.Names.{number_of}
 use Rattle.history.specs.Table.{Granted}
 use Rattle.history.specs.Locks.{Touch, touches, touched, has_table}
 use Rattle.history.specs.declared.call.Call.{Call}
-use Rattle.history.specs.declared.call.Call.TheVariants.{Get, Put, Del, Scan, Commit, Abort, Offer, Settle}
+use Rattle.history.specs.declared.call.Call.TheVariants.{Get, Put, Del, Scan, Commit, Abort, Offer, Settle, Purge}
 use Rattle.history.specs.declared.call.Reply.{Reply}
 use Rattle.history.specs.declared.call.Reply.TheVariants as says
 use Rattle.history.specs.declared.locks.Mode.{Mode}
@@ -52,14 +52,15 @@ locks names call stripe mode = has_table names call && touches names call stripe
 abbrev pub raised_for : Touch → Hold → Hold
 raised_for touch has = if touch mode.Exclusive then raised mode.Exclusive has else if touch mode.Shared then raised mode.Shared has else has
 
--- the call ends its caller's transaction
+-- the call ends its caller's transaction, or is a purge, which comes where there is none: its caller has none after it
 abbrev pub is_end : Call → Bool
 is_end Commit = true
 is_end Abort = true
 is_end Settle = true
+is_end Purge = true
 is_end call = false
 
--- the transaction takes no calls after it
+-- its caller has no transaction that takes calls after it
 abbrev pub is_last : Call → Bool
 is_last Offer = true
 is_last call = is_end call
@@ -183,7 +184,7 @@ module _ {C : Type 0} where
     pub more : List Met
     pub is : now ≡ finds n (with_locks was.holds (was.met ++ more) was)
 
-  -- What a pass has after a call: what it had if the call was refused, nothing if it ended the transaction, and else also what it locks.
+  -- What a pass has after a call: what it had if the call was refused, nothing if its caller then has no transaction, and else also what it locks.
   abbrev pub HasAfter : Call → Reply → Known C → Known C → Type 0
   HasAfter call reply was now = MatchBool (is_refusal reply) (now.holds ≡ was.holds) (MatchBool (is_end call) (now.holds ≡ replicate 64 Free) ((t : ℕ) → hold_of t now ≡ raised_for (locks (names_of was) call t) (hold_of t was)))
 

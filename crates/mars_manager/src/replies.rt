@@ -15,25 +15,29 @@ pub fn is_refusal(reply: &Reply) -> bool
         | Reply::Absent
         | Reply::Listed(_)
         | Reply::Saved(_)
-        | Reply::Committed(_) => false,
+        | Reply::Committed(_)
+        | Reply::Purged(_) => false,
         _ => true,
     }
 }
 
-// Whether a call ends its caller's transaction, if it is done.
+// Whether its caller has no transaction after a call, if it is done.
 pub fn is_end(call: &Call) -> bool
     ensures { result ≡ is_end call.now }
 {
-    matches!(call, Call::Commit | Call::Abort | Call::Settle)
+    matches!(
+        call,
+        Call::Commit | Call::Abort | Call::Settle | Call::Purge
+    )
 }
 
-// Whether its caller's transaction takes no calls after a call, if it is done.
+// Whether its caller has no transaction that takes calls after a call, if it is done.
 fn is_last(call: &Call) -> bool
     ensures { result ≡ is_last call.now }
 {
     matches!(
         call,
-        Call::Commit | Call::Abort | Call::Offer | Call::Settle
+        Call::Commit | Call::Abort | Call::Offer | Call::Settle | Call::Purge
     )
 }
 
