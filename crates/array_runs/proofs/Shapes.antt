@@ -5,6 +5,7 @@ use Rattle.std.proofs.Math.Nat.{mul-div_cancel_left}
 use Rattle.array_shape.specs.declared.shape.Shape.{Shape}
 use Rattle.array_shape.specs.Numbers.{AreInRange}
 use Rattle.caller_steps.specs.Room.{Limits}
+use Rattle.page_store.specs.Index.{Index}
 use Rattle.mars_core.specs.Over.{limits_of}
 
 in_range_prop : {loggers numbers entries pages : ℕ} → IsProp (AreInRange loggers numbers entries pages)
@@ -26,8 +27,8 @@ same_shape a b loggers numbers entries pages =
 same_pages : (l p q : ℕ) → 1 ≤ l → l * p ≡ l * q → p ≡ q
 same_pages l p q some is = sym (mul-div_cancel_left p some) ∙ ap (λ n. n / l) is ∙ mul-div_cancel_left q some
 
-pub same_limits : (a b : Shape) → limits_of a ≡ limits_of b → a ≡ b
-same_limits a b is =
+pub same_limits : (index : Index) (a b : Shape) → limits_of index a ≡ limits_of index b → a ≡ b
+same_limits index a b is =
     let loggers : a.loggers ≡ b.loggers = ap (λ (l : Limits). l.loggers) is in
     let all : 4 * (a.loggers * a.pages) ≡ 4 * (b.loggers * b.pages) = ap (λ (l : Limits). l.slots) is in
     let each : a.loggers * a.pages ≡ b.loggers * b.pages = omega (arith, all) in

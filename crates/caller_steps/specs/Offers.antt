@@ -22,6 +22,10 @@ offerers callers state = filter (λ caller. is_offered (state.offers caller)) (r
 abbrev pub takes_calls : State → ℕ → Bool
 takes_calls state caller = is_unoffered (state.offers caller) && is_some (state.live caller)
 
+-- the caller has a transaction that is live, or one that it has not settled
+abbrev pub is_engaged : State → ℕ → Bool
+is_engaged state caller = is_some (state.live caller) || not (is_unoffered (state.offers caller))
+
 -- a caller's transaction as the next one of the history, in a group that ends at this number
 abbrev pub done_in : State → ℕ → ℕ → Done
 done_in state last caller = record { caller = caller; calls = calls_of state caller; at = length state.history + 1; last = last }

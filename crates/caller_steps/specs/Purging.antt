@@ -1,12 +1,15 @@
 -- A purge: keys without records, whose stripes no live transaction touches, are taken out of the index.
-use Rattle.std.specs.Prelude.{ℕ, suc, ◌≡◌, ◌≤◌, ◌<◌, ◌^◌, ◌⊎◌, IsTrue, List, [], ◌∷◌, length, Some, None, IsSome}
+use Rattle.std.specs.Prelude.{ℕ, suc, ◌≡◌, ◌≤◌, ◌<◌, ◌^◌, ◌⊎◌, true, false, IsTrue, IsFalse, List, [], ◌∷◌, length, Some, None, IsSome}
 use Rattle.std.specs.FinMap.{get}
 use Rattle.std.specs.Map.{update}
 use Rattle.history.specs.Key.{is_same_key}
 use Rattle.history.specs.declared.key.Key.{Key}
 use Rattle.history.specs.Locks.{Meets}
 use Rattle.history.specs.declared.call.Call.TheVariants.{Del}
+use Rattle.history.specs.declared.call.Reply.{Reply}
+use Rattle.history.specs.declared.call.Reply.TheVariants.{Purged, Already, Media, Dead, Damaged}
 use Rattle.caller_steps.specs.State.{State, Index, calls_of, records_of}
+use Rattle.caller_steps.specs.Offers.{is_engaged}
 use Rattle.caller_steps.specs.Room.{Limits}
 
 -- a live transaction touches the stripe of this key
@@ -47,3 +50,13 @@ pub record Purges (limits : Limits) (old : State) (n : ℕ) (new : State) : Type
   pub lost : Lost old.index keys index
   pub same : new ≡ record old { index = index }
   pub left : (key : Key) → key.key < 2 ^ 64 → IsAbsent new key → IsTouched new key ⊎ IsTrue (limits.keeps new.index.bytes key)
+
+-- Why a purge is answered so, over any store: the medium has failed before, or its caller has a transaction, or neither is the case. Then it took
+-- keys out, the medium failed, or a page that was read breaks the layout.
+abbrev pub PurgeCause : State → ℕ → Reply → Type 0
+PurgeCause old caller Dead = old.is_dead ≡ true
+PurgeCause old caller Already = (old.is_dead ≡ false) × IsTrue (is_engaged old caller)
+PurgeCause old caller (Purged n) = (old.is_dead ≡ false) × IsFalse (is_engaged old caller)
+PurgeCause old caller Media = (old.is_dead ≡ false) × IsFalse (is_engaged old caller)
+PurgeCause old caller (Damaged page) = (old.is_dead ≡ false) × IsFalse (is_engaged old caller)
+PurgeCause old caller reply = ⊥

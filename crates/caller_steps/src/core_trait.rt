@@ -7,6 +7,7 @@ ghost use Rattle.caller_steps.specs.Core.{CoreView, Steps};
 ghost use Rattle.caller_steps.specs.Fate.{is_busy, is_refusal};
 ghost use Rattle.caller_steps.specs.Locked.{IsLocked};
 ghost use Rattle.caller_steps.specs.Offers.{takes_calls};
+ghost use Rattle.caller_steps.specs.Purging.{PurgeCause};
 
 use history::{Call, History, Reply};
 use record_slots::Names;
@@ -21,11 +22,13 @@ pub trait Core {
     /// From a core to the one that a step leaves: what the store below it has sent.
     ghost sends: { Self → Self → Type 0 };
 
-    /// Answers a caller's call.
+    /// Answers a caller's call. Over any store a purge is refused with `Dead`, then with `Already` exactly if its caller has a transaction that is live
+    /// or unsettled; else it is answered with a count, with `Media`, or with `Damaged`.
     fn step(&mut self, caller: u8, call: &Call) -> Reply
         requires { caller < (view self.old).limits.callers }
         ensures steps { Steps tells caller call.now (view self.old) (view self.new) result }
         ensures dead { IsTrue (view self.old).state.is_dead → (result ≡ Dead) × (self.new ≡ self.old) }
+        ensures purge { call.now ≡ Purge → PurgeCause (view self.old).state caller result }
         ensures sends { sends self.old self.new };
 
     /// Answers a caller's call that clashes with no other caller's live transaction, as locks outside of the core have made sure. It makes
@@ -66,6 +69,7 @@ impl<C: Core> Core for Box<C> {
         requires { caller < (C.view self.old.value).limits.callers }
         ensures steps { Steps C.tells caller call.now (C.view self.old.value) (C.view self.new.value) result }
         ensures dead { IsTrue (C.view self.old.value).state.is_dead → (result ≡ Dead) × (self.new ≡ self.old) }
+        ensures purge { call.now ≡ Purge → PurgeCause (C.view self.old.value).state caller result }
         ensures sends { C.sends self.old.value self.new.value }
     {
         self.as_mut().step(caller, call)

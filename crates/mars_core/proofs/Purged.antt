@@ -30,6 +30,7 @@ use Rattle.history.specs.Rows.{NamedRows}
 use Rattle.history.specs.Table.{Granted}
 use Rattle.history.specs.Writes.{Table, Write, is_of}
 use Rattle.history.specs.declared.transaction.Done.{Done}
+use Rattle.history.specs.declared.call.Call.{Call}
 use Rattle.history.specs.declared.call.Call.TheVariants.{Purge}
 use Rattle.history.specs.declared.call.Reply.{Reply}
 use Rattle.history.specs.declared.call.Reply.TheVariants as reply
@@ -41,8 +42,10 @@ use Rattle.record_table.specs.declared.fault.TableFault.{TableFault}
 use Rattle.record_table.specs.declared.fault.TableFault.TheVariants.{SlotsFull, PagesFull, SavesFull, LogFull, Media, Dead, Damaged, NoMemory}
 use Rattle.caller_steps.specs.Core.{IsSafe, Steps}
 use Rattle.caller_steps.specs.Prefix.{HasPrefixOf}
-use Rattle.caller_steps.specs.Purging.{AreFree, Lost}
+use Rattle.caller_steps.specs.Purging.{AreFree, Lost, PurgeCause}
+use Rattle.caller_steps.specs.Offers.{is_unoffered, is_engaged}
 use Rattle.caller_steps.specs.Fate.{is_busy, is_media, Moves}
+use Rattle.caller_steps.specs.Run.{is_purge}
 use Rattle.caller_steps.specs.Step.{Step}
 use Rattle.caller_steps.proofs.Fates as fates
 use Rattle.caller_steps.proofs.Fates.{fate_moves}
@@ -52,6 +55,9 @@ use Rattle.mars_core.specs.Held.{core_over, state_at}
 use Rattle.mars_core.specs.Kept.{IsTied, IsKept}
 use Rattle.mars_core.specs.Over.{limits_of, index_of, keeps_at, keeps_in}
 use Rattle.mars_core.specs.Purging.{IsOfFirst, Keeps, AreFreeIn, IsReady, ClearCause, Clears}
+use Rattle.mars_core.specs.TableCall.{call_of}
+use Rattle.mars_core.specs.declared.table_call.TableCall.{TableCall}
+use Rattle.mars_core.specs.declared.table_call.TableCall.TheVariants as asks
 use Rattle.mars_core.specs.Seats.{Seats, live_in, offers_in, calls_at}
 use Rattle.mars_core.proofs.Answered.{fault_plain}
 use Rattle.mars_core.proofs.Answering.{IndexLaws}
@@ -82,6 +88,21 @@ module _ (index : below.Index) (d : List ℕ) (key : Key) where
   named_key : IsSome (shown.found_key (pairs_of index d) key) → (j : ℕ) × (j < length (names_of d)) × (slice_get (names_of d) j ≡ Some key.table)
   unfolding pairs_of
   named_key some = named_in (tables_of d) some
+
+-- a call of the records is no purge
+pub no_purge : (call : Call) → is_purge call ≡ false → call ≡ Purge → ⊥
+no_purge call plain is = true≢false (sym (ap is_purge is) ∙ plain)
+
+pub table_no_purge : (asked : TableCall) → call_of asked ≡ Purge → ⊥
+table_no_purge asked is = no_purge (call_of asked) (plain asked) is
+  where
+    plain : (asked : TableCall) → is_purge (call_of asked) ≡ false
+    plain (asks.Get name key) = refl
+    plain (asks.Put name key value) = refl
+    plain (asks.Del name key) = refl
+    plain (asks.Scan name low high) = refl
+    plain asks.Save = refl
+    plain (asks.Back n) = refl
 
 -- a name at a number is that of the table there
 entry_at : (entries : List TableEntry) (j : ℕ) (name : List ℕ) → slice_get (names_in entries) j ≡ Some name → (entry : TableEntry) × (slice_get entries j ≡ Some entry) × (entry.name ≡ name)
@@ -135,6 +156,10 @@ module _ (tells : Bool) (Opens : Shape → List ℕ → List ℕ → Type 0) (in
     (kept : IsKept tells Opens index p count rows (state_at index p.store seats.names base history (live_in seats) (offers_in seats) doubt)) (alive : IsAlive p.store) (t : ℕ) (none : live_in seats t ≡ None) (un : offers_in seats t ≡ unoffered) where
   abbrev s : State
   s = state_at index p.store seats.names base history (live_in seats) (offers_in seats) doubt
+
+  -- it has no transaction, live or unsettled
+  free_caller : is_engaged s t ≡ false
+  free_caller = λ i. is_some (none i) || not (is_unoffered (un i))
 
   -- what the purge rests on
   pub ready : IsTrue tells → IsReady index seats t p
@@ -263,6 +288,17 @@ module _ (tells : Bool) (Opens : Shape → List ℕ → List ℕ → Type 0) (in
     purge_step (Err (LogFull g h n)) clears told = absurd clears.cause
     purge_step (Err (Damaged page)) clears told = absurd (clears.cause told)
     purge_step (Err NoMemory) clears told = absurd clears.cause
+
+    pub purge_cause : (r : Result ℕ TableFault) → Clears tells (Opens p.store.shape) index seats t (IsOfFirst seats.names (length seats.names)) p q r → PurgeCause s t (outcome r)
+    purge_cause (Ok n) clears = (alive, free_caller)
+    purge_cause (Err Dead) clears = absurd clears.cause
+    purge_cause (Err Media) clears = (alive, free_caller)
+    purge_cause (Err (SlotsFull n)) clears = absurd clears.cause
+    purge_cause (Err (PagesFull n)) clears = absurd clears.cause
+    purge_cause (Err SavesFull) clears = absurd clears.cause
+    purge_cause (Err (LogFull g h n)) clears = absurd clears.cause
+    purge_cause (Err (Damaged page)) clears = (alive, free_caller)
+    purge_cause (Err NoMemory) clears = absurd clears.cause
 
     failed_is : (r : Result ℕ TableFault) → ClearCause tells r → is_media (outcome r) ≡ is_failed r
     failed_is (Ok n) cause = refl

@@ -14,6 +14,7 @@ ghost use Rattle.caller_steps.specs.Core.{IsSafe, Steps};
 ghost use Rattle.caller_steps.specs.Fate.{is_busy, is_refusal};
 ghost use Rattle.caller_steps.specs.Locked.{IsLocked};
 ghost use Rattle.caller_steps.specs.Offers.{takes_calls};
+ghost use Rattle.caller_steps.specs.Purging.{PurgeCause};
 ghost use Rattle.caller_steps.specs.State.{unoffered, offered, unsettled, calls_of};
 ghost use Rattle.record_table.specs.Names.{KeepsNames};
 ghost use Rattle.record_table.specs.Shown.{state_of};
@@ -311,6 +312,7 @@ impl<S: EawStore, K: KeyIndex> Core<S, K> {
         requires unoffered { offers_in self.old.seats caller ≡ unoffered }
         ensures steps { Steps S.tells caller Purge (core_of S.opens K.index (S.view self.old.records.store) self.old)
             (core_of S.opens K.index (S.view self.new.records.store) self.new) result }
+        ensures cause { PurgeCause (core_of S.opens K.index (S.view self.old.records.store) self.old).state caller result }
         ensures sends { Mirrors S.tells (S.view self.old.records.store) (S.view self.new.records.store) }
         ensures not_busy { IsFalse (is_busy result) }
     {
@@ -334,6 +336,7 @@ impl<S: EawStore, K: KeyIndex> Core<S, K> {
         requires locked { locks ≡ Held → IsLocked (core_of S.opens K.index (S.view self.old.records.store) self.old).state caller call.now }
         ensures steps { Steps S.tells caller call.now (core_of S.opens K.index (S.view self.old.records.store) self.old)
             (core_of S.opens K.index (S.view self.new.records.store) self.new) result }
+        ensures purge { call.now ≡ Purge → PurgeCause (core_of S.opens K.index (S.view self.old.records.store) self.old).state caller result }
         ensures sends { Mirrors S.tells (S.view self.old.records.store) (S.view self.new.records.store) }
         ensures not_busy { locks ≡ Held → IsFalse (is_busy result) }
         ensures begun { IsFalse (is_refusal result) → IsTrue (takes_calls (core_of S.opens K.index (S.view self.old.records.store) self.old).state caller) ⊎ ((call.now ≡ Begin) ⊎ (call.now ≡ Purge)) }
@@ -396,6 +399,7 @@ impl<S: EawStore, K: KeyIndex> Core<S, K> {
             (core_of S.opens K.index (S.view self.new.records.store) self.new) result }
         ensures sends { Mirrors S.tells (S.view self.old.records.store) (S.view self.new.records.store) }
         ensures not_busy { IsFalse (is_busy result) }
+        ensures purge { call.now ≡ Purge → PurgeCause (core_of S.opens K.index (S.view self.old.records.store) self.old).state caller result }
         ensures settles { IsFalse (is_refusal result) → call.now ≡ Settle }
     {
         match call {
@@ -417,6 +421,7 @@ impl<S: EawStore, K: KeyIndex> Core<S, K> {
             (core_of S.opens K.index (S.view self.new.records.store) self.new) result }
         ensures sends { Mirrors S.tells (S.view self.old.records.store) (S.view self.new.records.store) }
         ensures not_busy { IsFalse (is_busy result) }
+        ensures purge { call.now ≡ Purge → PurgeCause (core_of S.opens K.index (S.view self.old.records.store) self.old).state caller result }
         ensures settles { IsFalse (is_refusal result) → call.now ≡ Settle }
     {
         match call {
@@ -435,6 +440,7 @@ impl<S: EawStore, K: KeyIndex> Core<S, K> {
             (core_of S.opens K.index (S.view self.new.records.store) self.new) result }
         ensures sends { Mirrors S.tells (S.view self.old.records.store) (S.view self.new.records.store) }
         ensures dead { IsTrue (S.view self.old.records.store).is_dead → (result ≡ Dead) × (self.new ≡ self.old) }
+        ensures purge { call.now ≡ Purge → PurgeCause (core_of S.opens K.index (S.view self.old.records.store) self.old).state caller result }
         ensures not_busy { locks ≡ Held → IsFalse (is_busy result) }
         ensures begun { IsFalse (is_refusal result) → IsTrue (takes_calls (core_of S.opens K.index (S.view self.old.records.store) self.old).state caller) ⊎ ((call.now ≡ Begin) ⊎ ((call.now ≡ Settle) ⊎ (call.now ≡ Purge))) }
         ensures tabled { IsFalse (is_refusal result) → IsTrue (has_table self.old.seats.names call.now) }

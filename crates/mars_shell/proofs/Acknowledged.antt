@@ -10,9 +10,9 @@ use Rattle.std.proofs.lemmas.List.{append_cancel_left, append_cancel_right, appe
 use Rattle.std.proofs.lemmas.List.Elements.{Contains-append_cases, Contains-push_cases}
 use Rattle.std.proofs.lemmas.Str.Parse.{numerals_by_value, tells_digits, digit_at}
 use Rattle.history.specs.declared.call.Call.{Call}
-use Rattle.history.specs.declared.call.Call.TheVariants.{Begin, Get, Put, Del, Scan, Save, Back, Commit, Abort, Offer, Settle}
+use Rattle.history.specs.declared.call.Call.TheVariants.{Begin, Get, Put, Del, Scan, Save, Back, Commit, Abort, Offer, Settle, Purge}
 use Rattle.history.specs.declared.call.Reply.{Reply}
-use Rattle.history.specs.declared.call.Reply.TheVariants.{Fine, Found, Absent, Listed, Saved, Committed, NoTransaction, NoTable, Already, NoSave, SavesFull, Busy, LogFull, SlotsFull, PagesFull, Media, Dead, NoMemory, Damaged}
+use Rattle.history.specs.declared.call.Reply.TheVariants.{Fine, Found, Absent, Listed, Saved, Committed, Purged, NoTransaction, NoTable, Already, NoSave, SavesFull, Busy, LogFull, SlotsFull, PagesFull, Media, Dead, NoMemory, Damaged}
 use Rattle.history.specs.Table.{Work, found, removed, Answers}
 use Rattle.history.specs.declared.transaction.Done.{Done}
 use Rattle.caller_steps.specs.State.{State, done_by}
@@ -21,7 +21,7 @@ use Rattle.caller_steps.specs.Run.{Turn}
 use Rattle.caller_steps.specs.Step.{Step, Runs}
 use Rattle.caller_steps.proofs.Continuing.{grows_longer}
 use Rattle.caller_steps.specs.Sound.{IsCommittedAs, IsSound}
-use Rattle.caller_steps.proofs.Fates.{Fate, refused, failed, began, granted, committed, doubted, aborted, given, settled, unsure, told as numbered, step_fate}
+use Rattle.caller_steps.proofs.Fates.{Fate, refused, failed, began, granted, committed, doubted, aborted, given, settled, unsure, told as numbered, purged, step_fate}
 use Rattle.caller_steps.proofs.Settling.{settle_told}
 use Rattle.caller_steps.proofs.Sound.{runs_sound}
 use Rattle.caller_steps.proofs.Refusing.{line_is as turn_is}
@@ -60,6 +60,7 @@ same_reply (Found value) caller n fits is = absurd (let h = ap first is in omega
 same_reply Absent caller n fits is = absurd (let h = ap first is in omega (arith, h))
 same_reply (Listed rows) caller n fits is = absurd (let h = ap first is in omega (arith, h))
 same_reply (Saved m) caller n fits is = absurd (let h = ap first is in omega (arith, h))
+same_reply (Purged m) caller n fits is = absurd (let h = ap first is in omega (arith, h))
 same_reply NoTransaction caller n fits is = absurd (let h = ap first is in omega (arith, h))
 same_reply NoTable caller n fits is = absurd (let h = ap first is in omega (arith, h))
 same_reply Already caller n fits is = absurd (let h = ap first is in omega (arith, h))
@@ -154,6 +155,7 @@ table_commits_nothing work Commit k is = is
 table_commits_nothing work Abort k is = is
 table_commits_nothing work Offer k is = is
 table_commits_nothing work Settle k is = is
+table_commits_nothing work Purge k is = is
 
 -- the number of a transaction of the history is none beyond it
 number_within : (history : List Done) (caller n : ℕ) → IsCommittedAs history caller n → n ≤ length history
@@ -180,6 +182,7 @@ committed_long limits old caller call k new sound step = go (step_fate limits ol
     go (settled inside has is re index e) = settles is
     go (unsure inside has is re index e) = absurd (cc)
     go (numbered n has is re e) = settles is
+    go (purged n un live is re index e) = absurd (cc)
 
 -- The lines of a script only add turns.
 record Adds (old new : List Turn) : Type 0 where

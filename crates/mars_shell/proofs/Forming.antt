@@ -34,8 +34,8 @@ module _ (tells : Bool) (told : IsTrue tells) (Opens : Shape → List ℕ → Li
   bytes_are = ap (λ (s : State). s.bytes) (says.state told)
 
   -- what holds of the first state
-  of_first : (spares : Bool) (P : Limits → face.State → Type 0) → P (limits_of mid.shape) (begun_on spares index mid.state.bytes) → P (limits_of old.shape) (begun_on spares index old.state.bytes)
-  of_first spares P holds = subst (λ (b : List ℕ). P (limits_of old.shape) (begun_on spares index b)) bytes_are (subst (λ (s : Shape). P (limits_of s) (begun_on spares index mid.state.bytes)) says.shape holds)
+  of_first : (spares : Bool) (P : Limits → face.State → Type 0) → P (limits_of index mid.shape) (begun_on spares index mid.state.bytes) → P (limits_of index old.shape) (begun_on spares index old.state.bytes)
+  of_first spares P holds = subst (λ (b : List ℕ). P (limits_of index old.shape) (begun_on spares index b)) bytes_are (subst (λ (s : Shape). P (limits_of index s) (begun_on spares index mid.state.bytes)) says.shape holds)
 
   module _ (new : StoreView) where
     served_on : (spares : Bool) (Says : Limits → List Turn → face.State → Type 0) (ended : Ended) → Served spares Says Opens index mid ended new → Served spares Says Opens index old ended new
@@ -48,7 +48,7 @@ module _ (tells : Bool) (told : IsTrue tells) (Opens : Shape → List ℕ → Li
           turns = served.turns;
           final = served.final;
           runs = of_first spares (λ l s. Runs l s served.turns served.final) served.runs;
-          says = subst (λ (s : Shape). Says (limits_of s) served.turns served.final) says.shape served.says;
+          says = subst (λ (s : Shape). Says (limits_of index s) served.turns served.final) says.shape served.says;
           base = base;
           legal = served.legal;
           since = going.then (going.weaker (λ image opens. record {

@@ -30,7 +30,7 @@ use Rattle.mars_shell.proofs.Acknowledged.{committed_kept}
 use Rattle.mars_shell.proofs.Lining.{gives_clean, stops_clean, answered_turns, safe_now}
 use Rattle.mars_shell.proofs.Unframed.{plain_of}
 use Rattle.mars_shell.proofs.Making.{living}
-use Rattle.mars_shell.proofs.Serving.{limits_are, begun_is}
+use Rattle.mars_shell.proofs.Serving.{begun_is}
 
 -- ---- turns without a fault of the medium
 
@@ -72,11 +72,11 @@ module _ (tells : Bool) (Opens : Shape → List ℕ → List ℕ → Type 0) (in
   module _ (told : IsTrue tells) (callers : ℕ) (ready : CanShare tells callers (core_of Opens index mid held)) (listed : IsTrue old.sending.told) (none : old.sending.frames ≡ [])
       (mirroring : old.sending.mirrors ≡ true) (from_one : old.sending.sent ≡ 0) where
     abbrev pub first : Framed Progress
-    first = framed_start old.shape old.state.bytes (begun_on false index old.state.bytes) sent
+    first = framed_start (core_of Opens index mid held).limits old.shape old.state.bytes (begun_on false index old.state.bytes) sent
 
     pub stands_first : Stands (core_of Opens index mid held) first.inner
     stands_first = record {
-      limits_are = sym (limits_are tells Opens index old mid (core_of Opens index mid held) begins);
+      limits_are = refl;
       state_is = sym (begun_is tells Opens index old mid (core_of Opens index mid held) begins told);
       runs = refl;
       sound = ready.sound told;

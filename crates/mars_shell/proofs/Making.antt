@@ -56,6 +56,7 @@ no_fault told.Absent goes = refl
 no_fault (told.Listed rows) goes = refl
 no_fault (told.Saved n) goes = refl
 no_fault (told.Committed n) goes = refl
+no_fault (told.Purged n) goes = refl
 no_fault told.NoTransaction goes = refl
 no_fault told.NoTable goes = refl
 no_fault told.Already goes = refl

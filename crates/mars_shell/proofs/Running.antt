@@ -51,8 +51,8 @@ module _ (tells : Bool) (told : IsTrue tells) (old : View) (only_now : (image : 
           holds = holds tells told old only_now store attached keeps served.sound;
           turns = served.turns;
           final = served.final;
-          runs = subst (λ (b : List ℕ). Runs (limits_of store.shape) (begun_on spares (index_at b) b) served.turns served.final) (attached.bytes told) served.runs;
-          says = served.says;
+          runs = subst (λ (b : List ℕ). Runs (limits_of (index_at b) store.shape) (begun_on spares (index_at b) b) served.turns served.final) (attached.bytes told) served.runs;
+          says = subst (λ (b : List ℕ). Says (limits_of (index_at b) store.shape) served.turns served.final) (attached.bytes told) served.says;
           base = served.base ∙ ap (λ (b : List ℕ). table_of (index_at b) b) (attached.bytes told);
           legal = served.legal;
           prefix_law = record {

@@ -13,7 +13,6 @@ use Rattle.history.specs.declared.call.Reply.TheVariants.{Committed}
 use Rattle.caller_steps.specs.State.{State}
 use Rattle.caller_steps.specs.Room.{Limits}
 use Rattle.caller_steps.specs.Run.{Turn}
-use Rattle.mars_core.specs.Over.{limits_of}
 use Rattle.texts.specs.Written.{IsWritten}
 use Rattle.script_text.specs.Replies.{reply_line}
 use Rattle.script_run.specs.Lines.{lines_of}
@@ -33,9 +32,9 @@ abbrev pub framed_lines : Script (Framed Progress)
 framed_lines = framed HasData line_script
 
 -- no caller has had a turn, and the opening has sent these frames from the data that was opened on
-abbrev pub framed_start : Shape → List ℕ → State → List Frame → Framed Progress
-framed_start shape opened begun sent = record {
-  inner = record { start = record { limits = limits_of shape; state = begun }; turns = []; state = begun };
+abbrev pub framed_start : Limits → Shape → List ℕ → State → List Frame → Framed Progress
+framed_start limits shape opened begun sent = record {
+  inner = record { start = record { limits = limits; state = begun }; turns = []; state = begun };
   shape = shape;
   opened = opened;
   frames = sent;
@@ -56,18 +55,18 @@ pub record AnswersFramed (first : Framed Progress) (input : List ℕ) (ended : E
 
 -- The frames that the opening has sent are in sequence from 1, and bring the data to that of the callers' first state. Their lines were written
 -- before all else, whole or in part.
-pub record SendsFirst (shape : Shape) (opened : List ℕ) (begun : State) (input : List ℕ) (ended : Ended) (cut : Bool) (text : List ℕ) (turns : List Turn) (final : State) : Type 0 where
+pub record SendsFirst (limits : Limits) (shape : Shape) (opened : List ℕ) (begun : State) (input : List ℕ) (ended : Ended) (cut : Bool) (text : List ℕ) (turns : List Turn) (final : State) : Type 0 where
   pub sent : List Frame
   pub good : All (IsFrameIn shape) sent
   pub sequence : AreInSequence 1 sent
   pub brought : begun.index.bytes ≡ followed sent opened
-  pub wrote : AnswersFramed (framed_start shape opened begun sent) input ended cut text turns final
+  pub wrote : AnswersFramed (framed_start limits shape opened begun sent) input ended cut text turns final
       ⊎ ((turns ≡ []) × (ended ≡ WriteFault) × (cut ≡ true) × IsWritten true text (lines_of_frames sent))
 
 -- that, or there was no memory to send the frames of the opening, or to write them
 abbrev pub SaysFramed : Shape → List ℕ → State → List ℕ → Ended → Bool → List ℕ → Limits → List Turn → State → Type 0
 SaysFramed shape opened begun input ended cut text limits turns final =
-    SendsFirst shape opened begun input ended cut text turns final ⊎ ((turns ≡ []) × (ended ≡ NoMemory) × (cut ≡ false) × (text ≡ []))
+    SendsFirst limits shape opened begun input ended cut text turns final ⊎ ((turns ≡ []) × (ended ≡ NoMemory) × (cut ≡ false) × (text ≡ []))
 
 -- the same over the data of a store, under an index
 abbrev pub says_framed : Index → StoreView → List ℕ → Bool → List ℕ → Ended → Limits → List Turn → State → Type 0

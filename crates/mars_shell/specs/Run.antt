@@ -33,8 +33,8 @@ pub record TakesTurns (spares late : Bool) (Says : Limits → List Turn → Stat
   pub holds : HoldsRecords shape old
   pub turns : List Turn
   pub final : State
-  pub runs : Runs (limits_of shape) (begun_on spares (index_in shape old) (settled_data shape old.content.bytes)) turns final
-  pub says : Says (limits_of shape) turns final
+  pub runs : Runs (limits_of (index_in shape old) shape) (begun_on spares (index_in shape old) (settled_data shape old.content.bytes)) turns final
+  pub says : Says (limits_of (index_in shape old) shape) turns final
   pub base : final.base ≡ table_of (index_in shape old) (settled_data shape old.content.bytes)
   pub legal : IsLegal final.base (final.history ++ final.doubt)
   pub prefix_law : PrefixLaw shape old final new

@@ -33,8 +33,8 @@ pub record Served (spares : Bool) (Says : Limits → List Turn → State → Typ
   pub shape : new.shape ≡ old.shape
   pub turns : List Turn
   pub final : State
-  pub runs : Runs (limits_of old.shape) (begun_on spares index old.state.bytes) turns final
-  pub says : Says (limits_of old.shape) turns final
+  pub runs : Runs (limits_of index old.shape) (begun_on spares index old.state.bytes) turns final
+  pub says : Says (limits_of index old.shape) turns final
   pub base : final.base ≡ table_of index old.state.bytes
   pub legal : IsLegal final.base (final.history ++ final.doubt)
   pub since : LeavesOnly (opens_of Opens old.shape index final 0) old new

@@ -92,6 +92,7 @@ fn tell(out: &mut Vec<u8>, caller: u8, reply: &Reply) -> Result<(), Stop>
         | Reply::Listed(_)
         | Reply::Saved(_)
         | Reply::Committed(_)
+        | Reply::Purged(_)
         | Reply::NoTransaction
         | Reply::NoTable
         | Reply::Already

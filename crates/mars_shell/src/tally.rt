@@ -56,6 +56,7 @@ impl Tally {
             | Reply::Absent
             | Reply::Listed(_)
             | Reply::Saved(_)
+            | Reply::Purged(_)
             | Reply::NoTransaction
             | Reply::NoTable
             | Reply::Already
@@ -83,7 +84,8 @@ impl Tally {
             | Call::Back { .. }
             | Call::Commit
             | Call::Offer
-            | Call::Settle => {}
+            | Call::Settle
+            | Call::Purge => {}
         }
     }
 }

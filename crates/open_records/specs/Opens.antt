@@ -18,7 +18,7 @@ use Rattle.open_records.specs.declared.opening.OpenFault.TheVariants.{Array, Rec
 -- the core begins with the tables and the records of the data that the image opens with, over that data in version 2, and has the limits of
 -- its array
 pub record Begins (index : Index) (shape : Shape) (bytes : List ℕ) (core : CoreView) : Type 0 where
-  pub limits : core.limits ≡ limits_of shape
+  pub limits : core.limits ≡ limits_of index shape
   pub state : core.state ≡ opened (names_of bytes) (table_of index bytes) (index_of index (upgraded bytes))
   pub sound : index.sound bytes
 

@@ -73,7 +73,8 @@ impl Writing {
             | Call::Commit
             | Call::Abort
             | Call::Offer
-            | Call::Settle => (),
+            | Call::Settle
+            | Call::Purge => (),
         }
         Ok(())
     }

@@ -1,5 +1,5 @@
 -- A purge of the records of an array that was opened.
-use Rattle.std.proofs.Common.{◌≡◌, ◌⊎◌, ◌≤◌, ◌||◌, inl, inr, ⊎_elim, ℕ, zero, suc, Bool, true, false, List, [], ◌++◌, None, Result, Ok, Err, IfOk, IfErr, refl, sym, ap, subst, ◌∙◌, arith}
+use Rattle.std.proofs.Common.{◌≡◌, ◌⊎◌, ◌≤◌, ◌||◌, inl, inr, ⊎_elim, ℕ, zero, suc, Bool, true, false, List, [], ◌++◌, Option, None, Result, Ok, Err, IfOk, IfErr, refl, sym, ap, subst, ◌∙◌, arith}
 use Rattle.std.specs.Prelude.{IsTrue, IsFalse, is_some, not, take, if◌then◌else◌}
 use Rattle.std.proofs.lemmas.Bool.{false≢true}
 use Rattle.mars_base.specs.Causes.{Rose}
@@ -16,19 +16,23 @@ use Rattle.page_store.specs.Index.{Index}
 use Rattle.record_table.specs.Does.{OpensWith}
 use Rattle.record_table.specs.Shown.{table_of}
 use Rattle.record_table.specs.Upgrading.{upgraded, OpensUpgraded}
-use Rattle.history.specs.declared.key.Key.{Key}
 use Rattle.history.specs.Legal.{records}
 use Rattle.history.specs.Writes.{Table}
 use Rattle.history.specs.declared.transaction.Done.{Done}
-use Rattle.caller_steps.specs.Core.{CoreView}
+use Rattle.history.specs.Table.{Granted}
+use Rattle.history.specs.declared.call.Call.TheVariants.{Purge}
+use Rattle.history.specs.declared.call.Reply.{Reply}
+use Rattle.history.specs.declared.call.Reply.TheVariants as says
+use Rattle.caller_steps.specs.Core.{CoreView, Steps}
+use Rattle.caller_steps.specs.Fate.{is_media}
 use Rattle.caller_steps.specs.Offers.{is_unoffered, is_engaged}
 use Rattle.caller_steps.specs.Prefix.{HasPrefixOf}
-use Rattle.caller_steps.specs.Purging.{Purged, PurgeStep, PurgeCause, Purges, is_media_refusal}
-use Rattle.caller_steps.specs.State.{State, unoffered}
-use Rattle.caller_steps.specs.declared.purge_fault.PurgeFault.{PurgeFault}
-use Rattle.caller_steps.specs.declared.purge_fault.PurgeFault.TheVariants as stop
-use Rattle.mars_core.specs.Over.{IsOver, Begins}
-use Rattle.mars_core.specs.Purging.{Keeps}
+use Rattle.caller_steps.specs.Purging.{PurgeCause, Purges}
+use Rattle.caller_steps.specs.Room.{Limits}
+use Rattle.caller_steps.specs.State.{State, Offer, unoffered}
+use Rattle.caller_steps.specs.Step.{StepAt, StepBy, StepIf, Step}
+use Rattle.caller_steps.specs.Step as steps_of_callers
+use Rattle.mars_core.specs.Over.{IsOver, Begins, limits_of}
 use Rattle.mars_core.specs.declared.fault.CoreFault.{CoreFault}
 use Rattle.mars_core.specs.declared.fault.CoreFault.TheVariants as core
 use Rattle.texts.specs.Written.{IsWritten}
@@ -36,7 +40,7 @@ use Rattle.script_run.specs.declared.ended.Ended.{Ended}
 use Rattle.script_run.specs.declared.ended.Ended.TheVariants as script
 use Rattle.array_runs.specs.Forms.{index_of_form, index_at, SaysForm}
 use Rattle.array_runs.specs.Records.{HoldsRecords, IsDamaged, Exceeds, OverRecords, HasAll, begun_on}
-use Rattle.told_commands.specs.Purge.{ClearsTo, ClearsStore, ClearedCounts, IsStop, StopCause, cleared, HasRecords, Clears, PurgesRecords, PurgedBy, PurgeOutcome, purged_line, purged_end, LeavesPurged}
+use Rattle.told_commands.specs.Purge.{ClearsTo, ClearsStore, ClearedCounts, IsAnswer, StopCause, cleared, HasRecords, Clears, PurgesRecords, PurgedBy, PurgeOutcome, purged_line, purged_end, LeavesPurged}
 use Rattle.told_commands.specs.Told.{Tells, FaultCounts, Ran}
 use Rattle.array_runs.specs.Statuses.{Counts, IsEarly, served_status}
 use Rattle.array_runs.specs.declared.status.Status.{Status}
@@ -52,30 +56,45 @@ pub idle_as : (state : State) → state.live 0 ≡ None → state.offers 0 ≡ u
 idle_as state none free = λ i. is_some (none i) || not (is_unoffered (free i))
 
 -- of a core that nobody else calls nothing but its medium or a damaged page stops a purge
-pub stops : (old : State) (r : Result ℕ PurgeFault) → old.is_dead ≡ false → is_engaged old 0 ≡ false → PurgeCause old 0 r → IfErr r IsStop
-stops old (Ok n) alive idle cause = tt
-stops old (Err stop.Media) alive idle cause = tt
-stops old (Err (stop.Damaged page)) alive idle cause = tt
-stops old (Err stop.Dead) alive idle cause = absurd (false≢true (sym alive ∙ cause))
-stops old (Err stop.Already) alive idle cause = absurd (false≢true (sym idle ∙ cause.1))
+pub answers : (old : State) (reply : Reply) → old.is_dead ≡ false → is_engaged old 0 ≡ false → PurgeCause old 0 reply → IsAnswer reply
+answers old (says.Purged n) alive idle cause = tt
+answers old says.Media alive idle cause = tt
+answers old (says.Damaged page) alive idle cause = tt
+answers old says.Dead alive idle cause = absurd (false≢true (sym alive ∙ cause))
+answers old says.Already alive idle cause = absurd (false≢true (sym idle ∙ cause.1))
+answers old _ alive idle cause = absurd cause
+
+-- what a step of such a core is
+cleared_step : (limits : Limits) (old new : State) (reply : Reply) → old.is_dead ≡ false → old.live 0 ≡ None → old.offers 0 ≡ unoffered → Step limits old 0 Purge reply new → steps_of_callers.Clears limits old reply new
+cleared_step limits old new reply alive none free step =
+    subst (λ (o : Option Granted). StepAt limits o old 0 Purge reply new) none
+    (subst (λ (o : Offer). StepBy limits o old 0 Purge reply new) free (subst (λ (b : Bool). StepIf limits b old 0 Purge reply new) alive step))
+
+-- it changes neither the history nor what is in doubt
+unchanged : (limits : Limits) (old new : State) (reply : Reply) → steps_of_callers.Clears limits old reply new → (new.history ≡ old.history) × (new.doubt ≡ old.doubt)
+unchanged limits old new reply (inl (n, re, purges)) = (ap (λ (s : State). s.history) purges.same, ap (λ (s : State). s.doubt) purges.same)
+unchanged limits old new reply (inr (re, index, e)) = (ap (λ (s : State). s.history) e, ap (λ (s : State). s.doubt) e)
 
 -- a store that tells its data has no damaged page
-stop_cause : (tells : Bool) (Keeps : List ℕ → Key → Type 0) (old new : State) (r : Result ℕ PurgeFault) → old.is_dead ≡ false → is_engaged old 0 ≡ false → PurgeCause old 0 r → (IsTrue tells → PurgeStep Keeps old 0 r new)
-    → IfErr (cleared r) (StopCause tells)
-stop_cause tells Keeps old new (Ok n) alive idle cause step = tt
-stop_cause tells Keeps old new (Err stop.Media) alive idle cause step = tt
-stop_cause tells Keeps old new (Err (stop.Damaged page)) alive idle cause step = step
-stop_cause tells Keeps old new (Err stop.Dead) alive idle cause step = absurd (false≢true (sym alive ∙ cause))
-stop_cause tells Keeps old new (Err stop.Already) alive idle cause step = absurd (false≢true (sym idle ∙ cause.1))
+undamaged : (limits : Limits) (old new : State) (page : ℕ) → steps_of_callers.Clears limits old (says.Damaged page) new → ⊥
+undamaged limits old new page (inl (n, re, purges)) = absurd (cc)
+undamaged limits old new page (inr (re, index, e)) = absurd (cc)
+
+stop_cause : (tells : Bool) (limits : Limits) (old new : State) (reply : Reply) → IsAnswer reply → (IsTrue tells → steps_of_callers.Clears limits old reply new) → IfErr (cleared reply) (StopCause tells)
+stop_cause tells limits old new (says.Purged n) is step = tt
+stop_cause tells limits old new says.Media is step = tt
+stop_cause tells limits old new (says.Damaged page) is step = λ told. undamaged limits old new page (step told)
+stop_cause tells limits old new _ is step = absurd is
 
 -- the count of the medium's faults
-counted : (old : State) (r : Result ℕ PurgeFault) (m m' : ℕ) → old.is_dead ≡ false → is_engaged old 0 ≡ false → (IsTrue (is_media_refusal r) → Rose m m') → (IsFalse (is_media_refusal r) → m' ≡ m) → PurgeCause old 0 r
-    → ClearedCounts (cleared r) m m'
-counted old (Ok n) m m' alive idle failed kept cause = kept refl
-counted old (Err stop.Media) m m' alive idle failed kept cause = failed refl
-counted old (Err (stop.Damaged page)) m m' alive idle failed kept cause = kept refl
-counted old (Err stop.Dead) m m' alive idle failed kept cause = absurd (false≢true (sym alive ∙ cause))
-counted old (Err stop.Already) m m' alive idle failed kept cause = absurd (false≢true (sym idle ∙ cause.1))
+counted : (reply : Reply) (m m' : ℕ) → IsAnswer reply → (IsTrue (is_media reply) → Rose m m') → (IsFalse (is_media reply) → m' ≡ m) → ClearedCounts (cleared reply) m m'
+counted (says.Purged n) m m' is failed kept = kept refl
+counted says.Media m m' is failed kept = failed refl
+counted (says.Damaged page) m m' is failed kept = kept refl
+counted _ m m' is failed kept = absurd is
+
+same_count : (n m : ℕ) → says.Purged n ≡ says.Purged m → n ≡ m
+same_count n m e = cc
 
 none_taken : (n : ℕ) → (let none : List Done = [] in take n none ≡ none)
 none_taken zero = refl
@@ -83,9 +102,12 @@ none_taken (suc n) = refl
 
 -- a core that has just begun was purged
 module _ (tells : Bool) (Opens : Shape → List ℕ → List ℕ → Type 0) (index : Index) (old mid new : StoreView) (core later : CoreView) (begins : Begins tells (Opens old.shape) index old mid core)
-    (over : IsOver tells (Opens new.shape) index new later) (r : Result ℕ PurgeFault) (purges : Purges tells (Keeps index) 0 core later r) where
+    (over : IsOver tells (Opens new.shape) index new later) (reply : Reply) (steps : Steps tells 0 Purge core later reply) (cause : PurgeCause core.state 0 reply) where
   shape : new.shape ≡ old.shape
-  shape = same_limits new.shape mid.shape (sym over.limits ∙ purges.limits ∙ begins.over.limits) ∙ begins.shape
+  shape = same_limits index new.shape mid.shape (sym over.limits ∙ steps.limits ∙ begins.over.limits) ∙ begins.shape
+
+  limits : core.limits ≡ limits_of index old.shape
+  limits = begins.over.limits ∙ ap (limits_of index) begins.shape
 
   living : core.state.is_dead ≡ false
   living = begins.over.dead ∙ begins.alive
@@ -94,8 +116,18 @@ module _ (tells : Bool) (Opens : Shape → List ℕ → List ℕ → Type 0) (in
   idle : is_engaged core.state 0 ≡ false
   idle = idle_as core.state (begins.fresh.1 0) (begins.fresh.3 0)
 
-  empty : later.state.history ++ later.state.doubt ≡ []
-  empty = let history = purges.history ∙ begins.fresh.0 in let doubt = purges.doubt ∙ begins.fresh.2 in λ i. history i ++ doubt i
+  answer : IsAnswer reply
+  answer = answers core.state reply living idle cause
+
+  step : IsTrue tells → steps_of_callers.Clears core.limits core.state reply later.state
+  step told = cleared_step core.limits core.state later.state reply living (begins.fresh.1 0) (begins.fresh.3 0) (steps.step told)
+
+  empty : IsTrue tells → later.state.history ++ later.state.doubt ≡ []
+  empty told =
+      let same = unchanged core.limits core.state later.state reply (step told) in
+      let history = same.0 ∙ begins.fresh.0 in
+      let doubt = same.1 ∙ begins.fresh.2 in
+      λ i. history i ++ doubt i
 
   first_base : IsTrue tells → core.state.base ≡ table_of index old.state.bytes
   first_base told = ap (λ (s : State). s.base) (begins.state told)
@@ -105,15 +137,15 @@ module _ (tells : Bool) (Opens : Shape → List ℕ → List ℕ → Type 0) (in
   has_records told least image has =
       let table = records later.state.base (take has.count (later.state.history ++ later.state.doubt)) in
       let is : table ≡ table_of index old.state.bytes =
-      ap (λ (l : List Done). records later.state.base (take has.count l)) empty ∙ ap (records later.state.base) (none_taken has.count) ∙ purges.base ∙ first_base told in
+      ap (λ (l : List Done). records later.state.base (take has.count l)) (empty told) ∙ ap (records later.state.base) (none_taken has.count) ∙ steps.moves.base ∙ first_base told in
       subst (λ (x : Shape × Table). OpensWith (Opens x.0) index image x.1) (λ i. (shape i, is i)) ((over.opens_to image table).1 has.opens)
 
   purge_time : IsTrue tells → LeavesOnly (λ image. OpensWith (Opens old.shape) index image (table_of index old.state.bytes)) mid new
   purge_time told = record {
-    later = omega (arith, begins.over.moment, over.moment, (purges.time told).later);
-    keeps = λ t image le left. (over.left t image).1 ((purges.time told).keeps t image (omega (arith, le, begins.over.moment)) ((begins.over.left t image).0 left));
+    later = omega (arith, begins.over.moment, over.moment, (steps.time told).later);
+    keeps = λ t image le left. (over.left t image).1 ((steps.time told).keeps t image (omega (arith, le, begins.over.moment)) ((begins.over.left t image).0 left));
     only = λ t image le left. ⊎_elim (λ was. inl ((begins.over.left t image).1 was)) (λ has. inr (has_records told _ image has))
-        ((purges.time told).only t image (omega (arith, le, begins.over.moment)) ((over.left t image).0 left));
+        ((steps.time told).only t image (omega (arith, le, begins.over.moment)) ((over.left t image).0 left));
   }
 
   -- data in version 2 has the same records
@@ -124,37 +156,47 @@ module _ (tells : Bool) (Opens : Shape → List ℕ → List ℕ → Type 0) (in
   first_has told image opens = ⊎_elim (λ was. record { bytes = old.state.bytes; opened = was; sound = begins.sound told; shows = refl })
       (λ is. record { bytes = upgraded old.state.bytes; opened = is; sound = subst index.sound (begins.bytes told) (begins.over.sound told begins.alive); shows = same_two told }) opens
 
-  counts : ClearedCounts (cleared r) old.faults new.faults
+  counts : ClearedCounts (cleared reply) old.faults new.faults
   counts =
       let before = begins.over.faults ∙ begins.faults in
-      counted core.state r old.faults new.faults living idle (λ failed. subst (λ (x : ℕ × ℕ). Rose x.0 x.1) (λ i. (before i, over.faults i)) (purges.failed failed))
-      (λ kept. sym over.faults ∙ purges.kept kept ∙ before) purges.cause
+      counted reply old.faults new.faults answer (λ failed. subst (λ (x : ℕ × ℕ). Rose x.0 x.1) (λ i. (before i, over.faults i)) (steps.failed failed)) (λ kept. sym over.faults ∙ steps.kept kept ∙ before)
 
   module _ (told : IsTrue tells) (lives : new.is_dead ≡ false) where
     all : HasAll index new.state.bytes later.state
     all = record { sound = over.sound told lives; names = over.names told lives; table = over.table told lives; keys = over.keys told }
 
-  alive_after : (r : Result ℕ PurgeFault) → new.is_dead ≡ is_media_refusal r → IfOk (cleared r) (λ n. new.is_dead ≡ false)
-  alive_after (Ok n) dead = dead
-  alive_after (Err given) dead = tt
+  alive_after : (said : Reply) → new.is_dead ≡ is_media said → IsAnswer said → IfOk (cleared said) (λ n. new.is_dead ≡ false)
+  alive_after (says.Purged n) dead is = dead
+  alive_after says.Media dead is = tt
+  alive_after (says.Damaged page) dead is = tt
+  alive_after _ dead is = absurd is
 
-  to_data : (told : IsTrue tells) (r : Result ℕ PurgeFault) → new.is_dead ≡ is_media_refusal r → PurgeStep (Keeps index) (begun_on false index old.state.bytes) 0 r later.state → IfOk (cleared r) (λ n. ClearsTo index old.state.bytes n new.state.bytes)
-  to_data told (Ok n) dead step = record { final = later.state; purged = step.2; left = all told dead }
-  to_data told (Err given) dead step = tt
+  to_data : (told : IsTrue tells) (said : Reply) → new.is_dead ≡ is_media said → IsAnswer said → steps_of_callers.Clears (limits_of index old.shape) (begun_on false index old.state.bytes) said later.state
+      → IfOk (cleared said) (λ n. ClearsTo index old.shape old.state.bytes n new.state.bytes)
+  to_data told (says.Purged n) dead is (inl (m, re, purges)) = record {
+    final = later.state;
+    purged = subst (λ (k : ℕ). Purges (limits_of index old.shape) (begun_on false index old.state.bytes) k later.state) (sym (same_count n m re)) purges;
+    left = all told dead;
+  }
+  to_data told (says.Purged n) dead is (inr (re, rest)) = absurd (cc)
+  to_data told says.Media dead is clears = tt
+  to_data told (says.Damaged page) dead is clears = tt
+  to_data told _ dead is clears = absurd is
 
-  dead : new.is_dead ≡ is_media_refusal r
-  dead = sym over.dead ∙ purges.dead ∙ ap (λ (b : Bool). b || is_media_refusal r) living
+  dead : new.is_dead ≡ is_media reply
+  dead = sym over.dead ∙ steps.moves.dead ∙ ap (λ (b : Bool). b || is_media reply) living
 
-  pub clears_store : ClearsStore tells (Opens old.shape) index old new (cleared r)
+  pub clears_store : ClearsStore tells (Opens old.shape) index old new (cleared reply)
   clears_store = record {
     shape = shape;
     sound = begins.sound;
-    cause = stop_cause tells (Keeps index) core.state later.state r living idle purges.cause purges.step;
+    cause = stop_cause tells core.limits core.state later.state reply answer step;
     counts = counts;
-    alive = alive_after r dead;
-    cleared = λ told. to_data told r dead (subst (λ (s : State). PurgeStep (Keeps index) s 0 r later.state) (begins.state told) (purges.step told));
+    alive = alive_after reply dead answer;
+    cleared = λ told. to_data told reply dead answer
+        (subst (λ (x : Limits × State). steps_of_callers.Clears x.0 x.1 reply later.state) (λ i. (limits i, begins.state told i)) (step told));
     time = λ told. going.then (going.weaker (first_has told) (begins.time told)) (purge_time told);
-    now = λ told image left. has_records told _ image (purges.now told image ((over.left later.moment image).0 (subst (λ (t : ℕ). new.left_since t image) (sym over.moment) left)));
+    now = λ told image left. has_records told _ image (steps.now told image ((over.left later.moment image).0 (subst (λ (t : ℕ). new.left_since t image) (sym over.moment) left)));
   }
 
 -- the same under the index that the data names
@@ -166,7 +208,7 @@ clears_over tells Opens form old mid new says r clears = record {
   cause = clears.cause;
   counts = subst (λ (n : ℕ). ClearedCounts r n new.faults) says.faults clears.counts;
   alive = clears.alive;
-  cleared = λ told. moved told (λ h b i. IfOk r (λ n. ClearsTo i b n new.state.bytes)) (clears.cleared told);
+  cleared = λ told. moved told (λ h b i. IfOk r (λ n. ClearsTo i h b n new.state.bytes)) (clears.cleared told);
   time = λ told. going.then (going.weaker (λ image opens. record { bytes = old.state.bytes; opened = opens; sound = sound told; shows = refl }) (says.time told))
       (moved told (λ h b i. LeavesOnly (λ image. OpensWith (Opens h) i image (table_of i b)) mid new) (clears.time told));
   now = λ told. moved told (λ h b i. (image : List ℕ) → new.left_since new.moment image → OpensWith (Opens h) i image (table_of i b)) (clears.now told);
@@ -221,7 +263,7 @@ module _ (tells : Bool) (told : IsTrue tells) (old : View) (only_now : (image : 
         clears = clear (Ok n) clears;
         count = n;
         final = to.final;
-        purged = own (λ b. Purged (Keeps (index_at b)) (begun_on false (index_at b) b) n to.final) to.purged;
+        purged = own (λ b. Purges (limits_of (index_at b) store.shape) (begun_on false (index_at b) b) n to.final) to.purged;
         left = subst (λ (b : List ℕ). HasAll (index_at b) b to.final) (sym bytes)
             (subst (λ (i : Index). HasAll i later.state.bytes to.final) (sym (sound_says store.state.bytes later.state.bytes to.left.sound)) to.left);
         now = λ image left. has (Ok n) clears image (clears.now told image (left_now image left));

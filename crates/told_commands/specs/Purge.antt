@@ -13,11 +13,11 @@ use Rattle.eaw_device.specs.Opens.{Opens, AllOpen, OpensLike}
 use Rattle.page_store.specs.Index.{Index}
 use Rattle.record_table.specs.Does.{OpensWith}
 use Rattle.record_table.specs.Shown.{table_of}
-use Rattle.caller_steps.specs.Purging.{Purged}
+use Rattle.history.specs.declared.call.Reply.{Reply}
+use Rattle.history.specs.declared.call.Reply.TheVariants as says
+use Rattle.caller_steps.specs.Purging.{Purges}
 use Rattle.caller_steps.specs.State.{State}
-use Rattle.caller_steps.specs.declared.purge_fault.PurgeFault.{PurgeFault}
-use Rattle.caller_steps.specs.declared.purge_fault.PurgeFault.TheVariants as stop
-use Rattle.mars_core.specs.Purging.{Keeps}
+use Rattle.mars_core.specs.Over.{limits_of}
 use Rattle.mars_core.specs.declared.fault.CoreFault.{CoreFault}
 use Rattle.mars_core.specs.declared.fault.CoreFault.TheVariants as core
 use Rattle.texts.specs.Written.{IsWritten}
@@ -34,25 +34,23 @@ purged_line n = codes "purged " ++ (decimal n ++ 10 ∷ [])
 
 -- Of n keys without a record the index, in version 2, has lost each, and each key without a record that it still has is the last of its page.
 -- This is said of the data of a store.
-pub record ClearsTo (index : Index) (old : List ℕ) (n : ℕ) (new : List ℕ) : Type 0 where
+pub record ClearsTo (index : Index) (shape : Shape) (old : List ℕ) (n : ℕ) (new : List ℕ) : Type 0 where
   pub final : State
-  pub purged : Purged (Keeps index) (begun_on false index old) n final
+  pub purged : Purges (limits_of index shape) (begun_on false index old) n final
   pub left : HasAll index new final
 
--- what may stop a purge of a core that nobody else calls, and how that is told
-abbrev pub IsStop : PurgeFault → Type 0
-IsStop stop.Media = Unit {0}
-IsStop (stop.Damaged page) = Unit {0}
-IsStop stop.Dead = ⊥
-IsStop stop.Already = ⊥
+-- how a purge of a core that nobody else calls may be answered
+abbrev pub IsAnswer : Reply → Type 0
+IsAnswer (says.Purged n) = Unit {0}
+IsAnswer says.Media = Unit {0}
+IsAnswer (says.Damaged page) = Unit {0}
+IsAnswer reply = ⊥
 
-abbrev pub purge_fault : PurgeFault → CoreFault
-purge_fault (stop.Damaged page) = core.Damaged page
-purge_fault _ = core.Media
-
-abbrev pub cleared : Result ℕ PurgeFault → Result ℕ CoreFault
-cleared (Ok n) = Ok n
-cleared (Err fault) = Err (purge_fault fault)
+-- what it then came to: so many keys were taken out, or this stopped it
+abbrev pub cleared : Reply → Result ℕ CoreFault
+cleared (says.Purged n) = Ok n
+cleared (says.Damaged page) = Err (core.Damaged page)
+cleared reply = Err core.Media
 
 -- why it is stopped: for want of memory never, and by a damaged page only over a store that does not tell its data
 abbrev pub StopCause : Bool → CoreFault → Type 0
@@ -73,7 +71,7 @@ pub record ClearsStore (tells : Bool) (Opens : List ℕ → List ℕ → Type 0)
   pub cause : IfErr result (StopCause tells)
   pub counts : ClearedCounts result old.faults new.faults
   pub alive : IfOk result (λ n. IsAlive new)
-  pub cleared : IsTrue tells → IfOk result (λ n. ClearsTo index old.state.bytes n new.state.bytes)
+  pub cleared : IsTrue tells → IfOk result (λ n. ClearsTo index old.shape old.state.bytes n new.state.bytes)
   pub time : IsTrue tells → LeavesOnly (λ image. OpensWith Opens index image (table_of index old.state.bytes)) old new
   pub now : IsTrue tells → (image : List ℕ) → new.left_since new.moment image → OpensWith Opens index image (table_of index old.state.bytes)
 
@@ -96,7 +94,7 @@ pub record PurgesRecords (ended : Ended) (old new : View) (cut : Bool) (text : L
   pub clears : Clears shape old new
   pub count : ℕ
   pub final : State
-  pub purged : Purged (Keeps (index_in shape old)) (begun_on false (index_in shape old) (settled_data shape old.content.bytes)) count final
+  pub purged : Purges (limits_of (index_in shape old) shape) (begun_on false (index_in shape old) (settled_data shape old.content.bytes)) count final
   pub left : HasAll (index_in shape new) (settled_data shape new.content.bytes) final
   pub now : (image : List ℕ) → MayLeave new.content image → HasRecords shape old image
   pub quiet : HasNoVote shape new.content.bytes

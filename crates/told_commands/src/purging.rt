@@ -1,11 +1,12 @@
 // Takes keys without records out of the index of an array's records, and tells how many.
-ghost use Rattle.std.specs.Prelude.{◌≡◌, IfErr};
-ghost use Rattle.told_commands.specs.Purge.{IsStop, cleared, purge_fault, purged_line};
+ghost use Rattle.std.specs.Prelude.{◌≡◌};
+ghost use Rattle.told_commands.specs.Purge.{IsAnswer, cleared, purged_line};
 
 use crate::told_work::{Told, ToldWork};
 use array_runs::{Status, served_status};
-use caller_steps::PurgeFault;
+use caller_steps::Core as Steps;
 use eaw_face::EawStore;
+use history::{Call, Reply};
 use mars_core::{Core, CoreFault};
 use page_store::{KeyIndex, SaveRoom};
 use pcm_media::Media;
@@ -39,7 +40,8 @@ impl ToldWork for Purge {
             Ok(core) => core,
             Err((fault, store)) => return (Err(served_status(Err(fault))), store),
         };
-        let purged = cleared(core.purge(CALLER));
+        let reply = core.step(CALLER, &Call::Purge);
+        let purged = cleared(&reply);
         let store = core.into_store();
         match purged {
             Ok(count) => (Ok(Told::Line(purged_line(count))), store),
@@ -50,26 +52,17 @@ impl ToldWork for Purge {
     fn laws<S: EawStore, M: Media>(&self) {}
 }
 
-// How many keys were taken out, or what stopped the purge.
-fn cleared(purged: Result<u32, PurgeFault>) -> Result<u32, CoreFault>
-    requires { IfErr purged IsStop }
-    ensures { result ≡ cleared purged }
+// How many keys were taken out, or what stopped the purge of a core that nobody else calls: the medium, or a page that says something else when
+// it is read again.
+fn cleared(reply: &Reply) -> Result<u32, CoreFault>
+    requires { IsAnswer reply.now }
+    ensures { result ≡ cleared reply.now }
 {
-    match purged {
-        Ok(count) => Ok(count),
-        Err(fault) => Err(purge_fault(fault)),
-    }
-}
-
-// What stopped a purge of a core that nobody else calls: the medium, or a page that says something else when it is read again.
-fn purge_fault(fault: PurgeFault) -> CoreFault
-    requires { IsStop fault }
-    ensures { result ≡ purge_fault fault }
-{
-    match fault {
-        PurgeFault::Media => CoreFault::Media,
-        PurgeFault::Damaged { page } => CoreFault::Damaged { page },
-        PurgeFault::Dead | PurgeFault::Already => unreachable!(),
+    match reply {
+        Reply::Purged(count) => Ok(*count),
+        Reply::Media => Err(CoreFault::Media),
+        Reply::Damaged { page } => Err(CoreFault::Damaged { page: *page }),
+        _ => unreachable!(),
     }
 }
 

@@ -14,7 +14,7 @@ returns-in-Ok-attach-2-clause-opened g c told shape bytes opens =
     let begins = c.in-Ok-attach-2.ensures.begins in
     let index = g.K.KeyIndex.index in
     record {
-      limits = begins.over.limits ∙ ap limits_of (begins.shape ∙ found.0);
+      limits = begins.over.limits ∙ ap (limits_of index) (begins.shape ∙ found.0);
       state = begins.state told ∙ ap (λ (b : List ℕ). opened (names_of b) (table_of index b) (index_of index (upgraded b))) found.1;
       sound = subst (λ (b : List ℕ). index.sound b) found.1 (begins.sound told);
     }

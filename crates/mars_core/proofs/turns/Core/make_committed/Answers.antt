@@ -76,6 +76,7 @@ returns-in_default g c =
     record {
       steps = unsettled_asks g.S.EawStore.tells g.S.EawStore.opens g.K.KeyIndex.index (pages_of (V h.records.store) h.records) (state_over g.K.KeyIndex.index (V h.records.store) h) (record { indexed = refl; dead = refl })
           c.requires.safe c.requires.alive c.args.caller c.requires.committed.0 c.requires.committed.1 c.args.call.now c.in_default.not-Begin c.in_default.not-Settle c.in_default.not-Purge;
+      purge = λ is. absurd (c.in_default.not-Purge is);
       sends = sends_none g.S.EawStore.tells (V h.records.store);
       not_busy = refl;
       settles = λ granted. absurd (true≢false granted);

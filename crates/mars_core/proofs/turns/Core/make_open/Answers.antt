@@ -2,10 +2,12 @@ use Rattle.std.proofs.Common.{◌≡◌, ◌∙◌, true, refl, inl, inr, sym, a
 use Rattle.page_store.specs.Shown.{pages_of}
 use Rattle.history.specs.Locks.{has_table}
 use Rattle.history.specs.declared.call.Call.{Call}
+use Rattle.history.specs.declared.call.Call.TheVariants as call
 use Rattle.history.specs.declared.call.Reply.TheVariants.{NoTransaction}
 use Rattle.caller_steps.specs.Core.{Steps}
 use Rattle.mars_core.specs.Held.{core_of, state_over}
 use Rattle.mars_core.specs.TableCall.{asking}
+use Rattle.mars_core.proofs.Purged.{no_purge, table_no_purge}
 use Rattle.mars_core.proofs.Settling.{open_settles}
 use Rattle.mars_core.proofs.turns.Core.make_open.Goals as goal
 
@@ -18,6 +20,7 @@ returns-in-Begin g c =
     let core = core_of g.S.EawStore.opens g.K.KeyIndex.index in
     record {
       steps = subst (λ (call : Call). Steps g.S.EawStore.tells c.args.caller call (core (V c.args.self.now.records.store) c.args.self.now) (core (V c.begin.new.self.records.store) c.begin.new.self) c.begin.result) (sym (ap asking c.in-Begin.is) ∙ c.of.ensures) c.begin.ensures.steps;
+      purge = λ is. absurd (no_purge call.Begin refl (sym (ap asking c.in-Begin.is) ∙ c.of.ensures ∙ is));
       sends = c.begin.ensures.sends;
       not_busy = λ held. c.begin.ensures.not_busy;
       begun = λ _. inr (inl (sym (sym (ap asking c.in-Begin.is) ∙ c.of.ensures)));
@@ -33,6 +36,7 @@ returns-in-Purge g c =
     let core = core_of g.S.EawStore.opens g.K.KeyIndex.index in
     record {
       steps = subst (λ (call : Call). Steps g.S.EawStore.tells c.args.caller call (core (V c.args.self.now.records.store) c.args.self.now) (core (V c.purge.new.self.records.store) c.purge.new.self) c.purge.result) (sym (ap asking c.in-Purge.is) ∙ c.of.ensures) c.purge.ensures.steps;
+      purge = λ _. c.purge.ensures.cause;
       sends = c.purge.ensures.sends;
       not_busy = λ held. c.purge.ensures.not_busy;
       begun = λ _. inr (inr (sym (sym (ap asking c.in-Purge.is) ∙ c.of.ensures)));
@@ -48,6 +52,7 @@ returns-in-Commit g c =
     let core = core_of g.S.EawStore.opens g.K.KeyIndex.index in
     record {
       steps = subst (λ (call : Call). Steps g.S.EawStore.tells c.args.caller call (core (V c.args.self.now.records.store) c.args.self.now) (core (V c.commit.new.self.records.store) c.commit.new.self) c.commit.result) (sym (ap asking c.in-Commit.is) ∙ c.of.ensures) c.commit.ensures.steps;
+      purge = λ is. absurd (no_purge call.Commit refl (sym (ap asking c.in-Commit.is) ∙ c.of.ensures ∙ is));
       sends = c.commit.ensures.sends;
       not_busy = λ held. c.commit.ensures.not_busy;
       begun = λ granted. inl (c.commit.ensures.begun granted);
@@ -63,6 +68,7 @@ returns-in-Abort g c =
     let core = core_of g.S.EawStore.opens g.K.KeyIndex.index in
     record {
       steps = subst (λ (call : Call). Steps g.S.EawStore.tells c.args.caller call (core (V c.args.self.now.records.store) c.args.self.now) (core (V c.abort.new.self.records.store) c.abort.new.self) c.abort.result) (sym (ap asking c.in-Abort.is) ∙ c.of.ensures) c.abort.ensures.steps;
+      purge = λ is. absurd (no_purge call.Abort refl (sym (ap asking c.in-Abort.is) ∙ c.of.ensures ∙ is));
       sends = c.abort.ensures.sends;
       not_busy = λ held. c.abort.ensures.not_busy;
       begun = λ granted. inl (c.abort.ensures.begun granted);
@@ -78,6 +84,7 @@ returns-in-Offer g c =
     let core = core_of g.S.EawStore.opens g.K.KeyIndex.index in
     record {
       steps = subst (λ (call : Call). Steps g.S.EawStore.tells c.args.caller call (core (V c.args.self.now.records.store) c.args.self.now) (core (V c.offer.new.self.records.store) c.offer.new.self) c.offer.result) (sym (ap asking c.in-Offer.is) ∙ c.of.ensures) c.offer.ensures.steps;
+      purge = λ is. absurd (no_purge call.Offer refl (sym (ap asking c.in-Offer.is) ∙ c.of.ensures ∙ is));
       sends = c.offer.ensures.sends;
       not_busy = λ held. c.offer.ensures.not_busy;
       begun = λ granted. inl (c.offer.ensures.begun granted);
@@ -96,7 +103,7 @@ ask-requires g c = record {
 
 pub returns-in-Table : goal.returns-in-Table
 returns-in-Table g c =
-    record { steps = c.ask.ensures.steps; sends = c.ask.ensures.sends; not_busy = c.ask.ensures.not_busy; begun = λ granted. inl (c.ask.ensures.begun granted); tabled = c.ask.ensures.tabled }
+    record { steps = c.ask.ensures.steps; purge = λ is. absurd (table_no_purge c.in-Table.asked (sym (ap asking c.in-Table.is) ∙ c.of.ensures ∙ is)); sends = c.ask.ensures.sends; not_busy = c.ask.ensures.not_busy; begun = λ granted. inl (c.ask.ensures.begun granted); tabled = c.ask.ensures.tabled }
 
 pub returns-in-Settle-clause-steps : goal.returns-in-Settle-clause-steps
 returns-in-Settle-clause-steps g c =

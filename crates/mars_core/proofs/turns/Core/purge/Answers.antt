@@ -7,12 +7,13 @@ use Rattle.history.specs.Table.{Granted}
 use Rattle.history.specs.declared.call.Call.TheVariants.{Purge}
 use Rattle.caller_steps.specs.Core.{Steps}
 use Rattle.caller_steps.specs.Fate.{is_busy}
+use Rattle.caller_steps.specs.Purging.{PurgeCause}
 use Rattle.caller_steps.specs.State.{unoffered}
 use Rattle.mars_core.specs.Held.{Held, core_of}
 use Rattle.mars_core.specs.Seats.{live_in, offers_in}
 use Rattle.mars_core.proofs.Answering.{IndexLaws}
 use Rattle.mars_core.proofs.Prefixes.{StoreLaws}
-use Rattle.mars_core.proofs.Purged.{outcome, outcome_plain, ready, purged_keeps, purged_steps}
+use Rattle.mars_core.proofs.Purged.{outcome, outcome_plain, ready, purge_cause, purged_keeps, purged_steps}
 use Rattle.mars_core.proofs.Staying.{none_of}
 use Rattle.mars_core.proofs.turns.Core.purge.Given.{Over}
 use Rattle.mars_core.proofs.turns.Core.purge.Goals.{in-Ok, in-Err}
@@ -69,6 +70,11 @@ returns g c =
     let i = c.self.inside in
     record {
       sends = subst (λ (h : Held g.row.S.Denot). Mirrors g.S.EawStore.tells (V h.records.store) (V c.clear.new.records.store)) c.self.view_is c.clear.ensures.clears.mirrors;
+      cause = subst (λ (h : Held g.row.S.Denot). PurgeCause (core_of g.S.EawStore.opens g.K.KeyIndex.index (V h.records.store) h).state c.args.caller c.match-clear.result) c.self.view_is
+          (rw (answer_is g c) (purge_cause g.S.EawStore.tells g.S.EawStore.opens g.K.KeyIndex.index (index_laws g) g.met.S.EawStore.one_data (pages_of (V i.records.store) i.records) (laws_at g i.records.store) i.base (table_of i.base) i.history i.seats i.doubt (length i.seats.places) c.self.invariant
+          (subst (λ (h : Held g.row.S.Denot). IsAlive (V h.records.store)) (sym c.self.view_is) c.requires.alive) c.args.caller (none_of (live_in i.seats c.args.caller) (sym c.is_live.ensures ∙ c.if-is_live.false))
+          (subst (λ (h : Held g.row.S.Denot). offers_in h.seats c.args.caller ≡ unoffered) (sym c.self.view_is) c.requires.unoffered)
+          (pages_of (V c.clear.new.records.store) c.clear.new.records) (laws_at g c.clear.new.records.store) c.clear.result c.clear.ensures.clears));
       not_busy = ap is_busy (answer_is g c) ∙ outcome_plain c.clear.result;
       steps = subst (λ (h : Held g.row.S.Denot). Steps g.S.EawStore.tells c.args.caller Purge (core_of g.S.EawStore.opens g.K.KeyIndex.index (V h.records.store) h)
           (core_of g.S.EawStore.opens g.K.KeyIndex.index (V c.clear.new.records.store)
