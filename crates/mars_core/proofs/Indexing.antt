@@ -127,6 +127,7 @@ inserts_slots limits key reply.Absent old new none (t, k) = inl k.slot_of
 inserts_slots limits key (reply.Listed rows) old new none (t, k) = inl k.slot_of
 inserts_slots limits key (reply.Saved n) old new none (t, k) = inl k.slot_of
 inserts_slots limits key (reply.Committed n) old new none (t, k) = inl k.slot_of
+inserts_slots limits key (reply.Purged n) old new none (t, k) = inl k.slot_of
 inserts_slots limits key reply.NoTable old new none (t, k) = inl k.slot_of
 inserts_slots limits key reply.NoTransaction old new none (t, k) = inl k.slot_of
 inserts_slots limits key reply.Already old new none (t, k) = inl k.slot_of

@@ -1,4 +1,4 @@
-// What two passes are answered that lock stripes of keys. The keys 5 and 69 are of stripe 5.
+// What two passes are answered that lock stripes of keys, and one that purges beside the other. The keys 5 and 69 are of stripe 5.
 ghost use Rattle.std.specs.Prelude.{◌≡◌};
 ghost use Rattle.mars_manager.specs.Pass.{dealt};
 ghost use Rattle.mars_manager.specs.Sharing.{CanShare};
@@ -8,6 +8,7 @@ use super::sharing::fresh;
 use caller_steps::Core;
 use history::{Call, Mode, Reply, main_table};
 use mars_manager::{Lock, Mars, Pass, Passes};
+use record_slots::Value;
 use std::alloc::Global;
 use std::test::*;
 
@@ -25,6 +26,7 @@ enum Line {
     Calls(Call, Reply),
     // These are of records of `main`.
     Gets(u64, Reply),
+    Puts(u64, Reply),
     Dels(u64, Reply),
     Scans(u64, u64, Reply),
 }
@@ -77,6 +79,27 @@ const READERS: [(By, Line); 9] = [
     (By::One, Line::Dels(69, Reply::Absent)),
 ];
 
+// Puts that were dropped leave their keys in the index. A purge takes out those that no live transaction touches, and comes outside of any
+// transaction of its pass's.
+const PURGES: [(By, Line); 16] = [
+    (By::Zero, Line::Calls(Call::Begin, Reply::Fine)),
+    (By::Zero, Line::Puts(5, Reply::Fine)),
+    (By::Zero, Line::Puts(6, Reply::Fine)),
+    (By::Zero, Line::Calls(Call::Abort, Reply::Fine)),
+    (By::One, Line::Calls(Call::Begin, Reply::Fine)),
+    (By::One, Line::Gets(69, Reply::Absent)),
+    (By::One, Line::Calls(Call::Purge, Reply::Already)),
+    (By::Zero, Line::Calls(Call::Purge, Reply::Purged(1))),
+    (By::One, Line::Gets(5, Reply::Absent)),
+    (By::One, Line::Calls(Call::Offer, Reply::Fine)),
+    (By::One, Line::Calls(Call::Purge, Reply::Already)),
+    (By::Zero, Line::Calls(Call::Purge, Reply::Purged(0))),
+    (By::One, Line::Calls(Call::Settle, Reply::Committed(1))),
+    (By::One, Line::Calls(Call::Purge, Reply::Purged(1))),
+    (By::Zero, Line::Calls(Call::Begin, Reply::Fine)),
+    (By::One, Line::Calls(Call::Purge, Reply::Purged(0))),
+];
+
 fn is_answered<C: Core + Drop>(mars: &Mars<C>, pass: &mut Pass<C>, line: &Line) -> bool
     requires { pass.old.table ≡ mars.now.table }
     ensures table { pass.new.table ≡ pass.old.table }
@@ -91,6 +114,17 @@ fn is_answered<C: Core + Drop>(mars: &Mars<C>, pass: &mut Pass<C>, line: &Line) 
         Line::Gets(key, reply) => {
             let table = main_table();
             is_told(mars, pass, &Call::Get { table, key: *key }, reply)
+        }
+        Line::Puts(key, reply) => {
+            let Some(value) = Value::of(b"a") else {
+                return false;
+            };
+            let put = Call::Put {
+                table: main_table(),
+                key: *key,
+                value,
+            };
+            is_told(mars, pass, &put, reply)
         }
         Line::Dels(key, reply) => {
             let table = main_table();
@@ -178,5 +212,11 @@ fn passes_are_kept_out_by_locks(rt: HostRuntime) -> Result<(), Fail> {
     assert_eq!(rt; answered(rt.alloc(), &EXCLUSIVE), Some(EXCLUSIVE.len()));
     assert_eq!(rt; answered(rt.alloc(), &SHARED), Some(SHARED.len()));
     assert_eq!(rt; answered(rt.alloc(), &READERS), Some(READERS.len()));
+    Ok(())
+}
+
+#[test]
+fn a_pass_purges_beside_another(rt: HostRuntime) -> Result<(), Fail> {
+    assert_eq!(rt; answered(rt.alloc(), &PURGES), Some(PURGES.len()));
     Ok(())
 }
