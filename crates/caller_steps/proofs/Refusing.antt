@@ -47,11 +47,12 @@ rising limits call old new plain rises = record { rises = λ _. rises; falls = �
 
 -- the data takes writes
 settled_index : (limits : Limits) (call : Call) (writes : List Write) (old new : Index) → is_purge call ≡ false → Settles writes old new → IndexMoves limits call old new
-settled_index limits call writes old new plain s = rising limits call old new plain (record {
-  pages = (let p = ap (λ (i : Index). i.used_pages) s.keys in omega arith);
-  levels = λ name. (let l = ap (λ (i : Index). i.levels name) s.keys in omega arith);
-  keys = inl (record { slot_of = ap (λ (i : Index). i.slot_of) s.keys; slots = ap (λ (i : Index). i.used_slots) s.keys; due = ap (λ (i : Index). i.due) s.keys });
-})
+settled_index limits call writes old new plain s =
+    rising limits call old new plain (record {
+      pages = (let p = ap (λ (i : Index). i.used_pages) s.keys in omega arith);
+      levels = λ name. (let l = ap (λ (i : Index). i.levels name) s.keys in omega arith);
+      keys = inl (record { slot_of = ap (λ (i : Index). i.slot_of) s.keys; slots = ap (λ (i : Index). i.used_slots) s.keys; due = ap (λ (i : Index). i.due) s.keys });
+    })
 
 same_index : (limits : Limits) (call : Call) (old new : Index) → new ≡ old → IndexMoves limits call old new
 same_index limits call old new e = record {
@@ -357,8 +358,12 @@ module _ (limits : Limits) where
         → (changes : List Change) × Changed first.index changes new.index × AreAsked (turns ++ turn ∷ []) (gained_in changes) × (has_purge (turns ++ turn ∷ []) ≡ false → lost_in changes ≡ [])
     risen turns turn old new before rises = ⊎_elim
         (λ keeps. (before.0, changed_same first.index before.0 old.index new.index keeps before.1, more_keys turns turn (gained_in before.0) before.2, λ plain. before.3 (none_before turns turn plain)))
-        (λ gains. (gain gains.0 ∷ before.0, (old.index, before.1, gains.2, gains.3.slot_of, gains.3.slots), (any_last (λ (l : Turn). is_put gains.0 l.1) turns turn gains.1, more_keys turns turn (gained_in before.0) before.2),
-        λ plain. before.3 (none_before turns turn plain)))
+        (λ gains. (
+          gain gains.0 ∷ before.0,
+          (old.index, before.1, gains.2, gains.3.slot_of, gains.3.slots),
+          (any_last (λ (l : Turn). is_put gains.0 l.1) turns turn gains.1, more_keys turns turn (gained_in before.0) before.2),
+          λ plain. before.3 (none_before turns turn plain),
+        ))
         rises.keys
 
     fallen : (turns : List Turn) (turn : Turn) (old new : State) → (before : (changes : List Change) × Changed first.index changes old.index × AreAsked turns (gained_in changes) × (has_purge turns ≡ false → lost_in changes ≡ []))

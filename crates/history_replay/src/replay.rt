@@ -105,12 +105,8 @@ impl Replay {
             Call::Scan { table, low, high } => self.lists(table, *low, *high, reply, alloc),
             Call::Save => Ok(self.saves_as(reply)),
             Call::Back { save } => Ok(self.has_save(*save) && is_fine(reply)),
-            Call::Begin
-            | Call::Commit
-            | Call::Abort
-            | Call::Offer
-            | Call::Settle
-            | Call::Purge => Ok(false),
+            Call::Begin | Call::Commit | Call::Abort | Call::Offer | Call::Settle | Call::Purge =>
+                Ok(false),
         }
     }
 

@@ -1,6 +1,7 @@
 -- Offers, and the end of what was offered: a settle that commits a group, a fault of the medium in it, and one that is told its number.
 use Rattle.std.proofs.Common.{◌≡◌, ◌<◌, ◌≤◌, ◌+◌, ◌⊎◌, ℕ, inl, inr, Bool, true, false, cond, List, [], ◌∷◌, ◌++◌, length, filter, IsTrue, Option, Some, None, unwrap_or, Result, Ok, Err, refl, sym, ap, subst, ◌∙◌, arith}
-use Rattle.std.proofs.lemmas.Bool.{false≢true}
+use Rattle.std.specs.Prelude.{is_some, not}
+use Rattle.std.proofs.lemmas.Bool.{false≢true, or_right}
 use Rattle.std.proofs.lemmas.List.{append-nil}
 use Rattle.mars_base.proofs.Going.{weaker, stays}
 use Rattle.array_shape.specs.declared.shape.Shape.{Shape}
@@ -29,11 +30,12 @@ use Rattle.record_table.specs.declared.fault.TableFault.{TableFault}
 use Rattle.record_table.specs.declared.fault.TableFault.TheVariants as fault
 use Rattle.record_slots.specs.Names.{names_in}
 use Rattle.caller_steps.specs.State.{State, Index, Offer, unoffered, offered, unsettled, calls_of, with_live, with_offer}
-use Rattle.caller_steps.specs.Offers.{offerers, group_in, group_end, number_among, group_writes, without, committed_group, doubted_group}
+use Rattle.caller_steps.specs.Offers.{is_unoffered, offerers, group_in, group_end, number_among, group_writes, without, committed_group, doubted_group}
 use Rattle.caller_steps.specs.Room.{Limits, Settles, is_write_on, held_on}
 use Rattle.caller_steps.specs.Step.{Step, StepAt, StepIf, StepBy}
 use Rattle.caller_steps.specs.Fate.{is_refusal, is_media, is_committed, Moves}
 use Rattle.caller_steps.specs.Prefix.{HasPrefix, HasPrefixOf}
+use Rattle.caller_steps.specs.Purging.{PurgeCause}
 use Rattle.caller_steps.specs.Core.{IsSafe, Steps}
 use Rattle.caller_steps.proofs.Fates.{given, settled, unsure, told, fate_moves}
 use Rattle.caller_steps.proofs.Sound.{step_sound, history_whole}
@@ -330,6 +332,9 @@ module _ (tells : Bool) (Opens : Shape → List ℕ → List ℕ → Type 0) (in
   pub offered_purges : s.offers t ≡ offered → Steps tells t call.Purge (core_over Opens index p.store s) (core_over Opens index p.store s) reply.Already
   offered_purges has = closed_steps offered call.Purge reply.Already has (refl, refl) refl refl refl
 
+  pub offered_cause : s.offers t ≡ offered → PurgeCause s t reply.Already
+  offered_cause has = (shows.dead ∙ alive, or_right (is_some (s.live t)) (not (is_unoffered (s.offers t))) (ap (λ (o : Offer). not (is_unoffered o)) has))
+
   pub offered_asks : s.offers t ≡ offered → (asked : Call) → (asked ≡ call.Begin → ⊥) → (asked ≡ call.Settle → ⊥) → (asked ≡ call.Purge → ⊥) → Steps tells t asked (core_over Opens index p.store s) (core_over Opens index p.store s) reply.NoTransaction
   offered_asks has asked begin settle purge = closed_steps offered asked reply.NoTransaction has (by asked begin settle purge) refl refl refl
     where
@@ -345,6 +350,9 @@ module _ (tells : Bool) (Opens : Shape → List ℕ → List ℕ → Type 0) (in
 
   pub unsettled_purges : (n : ℕ) → s.offers t ≡ unsettled n → Steps tells t call.Purge (core_over Opens index p.store s) (core_over Opens index p.store s) reply.Already
   unsettled_purges n has = closed_steps (unsettled n) call.Purge reply.Already has (refl, refl) refl refl refl
+
+  pub unsettled_cause : (n : ℕ) → s.offers t ≡ unsettled n → PurgeCause s t reply.Already
+  unsettled_cause n has = (shows.dead ∙ alive, or_right (is_some (s.live t)) (not (is_unoffered (s.offers t))) (ap (λ (o : Offer). not (is_unoffered o)) has))
 
   pub unsettled_asks : (n : ℕ) → s.offers t ≡ unsettled n → (asked : Call) → (asked ≡ call.Begin → ⊥) → (asked ≡ call.Settle → ⊥) → (asked ≡ call.Purge → ⊥) → Steps tells t asked (core_over Opens index p.store s) (core_over Opens index p.store s) reply.NoTransaction
   unsettled_asks n has asked begin settle purge = closed_steps (unsettled n) asked reply.NoTransaction has (by asked begin settle purge) refl refl refl

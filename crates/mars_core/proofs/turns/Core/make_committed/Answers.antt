@@ -3,13 +3,15 @@ use Rattle.eaw_face.specs.Causes.{IsAlive}
 use Rattle.page_store.specs.Shown.{pages_of}
 use Rattle.history.specs.Rows.{table_of}
 use Rattle.history.specs.declared.call.Call.{Call}
+use Rattle.history.specs.declared.call.Call.TheVariants as call
 use Rattle.history.specs.declared.call.Reply.TheVariants.{Committed, Already}
 use Rattle.caller_steps.specs.Core.{Steps}
 use Rattle.mars_core.specs.Held.{Held, core_of, state_at, state_over}
 use Rattle.mars_core.specs.Seats.{live_in, offers_in, seat_in, calls_in}
 use Rattle.mars_core.proofs.Prefixes.{StoreLaws}
 use Rattle.mars_core.proofs.Seating.{gone}
-use Rattle.mars_core.proofs.Settling.{told_keeps, told_steps, unsettled_begins, unsettled_purges, unsettled_asks}
+use Rattle.mars_core.proofs.Purged.{no_purge}
+use Rattle.mars_core.proofs.Settling.{told_keeps, told_steps, unsettled_begins, unsettled_purges, unsettled_cause, unsettled_asks}
 use Rattle.mars_core.proofs.GivingUp.{sends_none}
 use Rattle.std.proofs.lemmas.Bool.{true≢false}
 use Rattle.mars_core.proofs.Staying.{update_same}
@@ -68,6 +70,19 @@ returns-in-Purge-clause-steps g c =
     subst (λ (call : Call). Steps g.S.EawStore.tells c.args.caller call core core Already) (sym c.in-Purge.is)
     (unsettled_purges g.S.EawStore.tells g.S.EawStore.opens g.K.KeyIndex.index (pages_of (V h.records.store) h.records) (state_over g.K.KeyIndex.index (V h.records.store) h) (record { indexed = refl; dead = refl })
     c.requires.safe c.requires.alive c.args.caller c.requires.committed.0 c.requires.committed.1)
+
+pub returns-in-Purge-clause-purge : goal.returns-in-Purge-clause-purge
+returns-in-Purge-clause-purge g c _ =
+    let V = g.S.EawStore.view in
+    let h = c.args.self.now in
+    unsettled_cause g.S.EawStore.tells g.S.EawStore.opens g.K.KeyIndex.index (pages_of (V h.records.store) h.records) (state_over g.K.KeyIndex.index (V h.records.store) h) (record { indexed = refl; dead = refl })
+    c.requires.safe c.requires.alive c.args.caller c.requires.committed.0 c.requires.committed.1
+
+pub returns-in-Begin-clause-purge : goal.returns-in-Begin-clause-purge
+returns-in-Begin-clause-purge g c is = absurd (no_purge call.Begin refl (sym c.in-Begin.is ∙ is))
+
+pub returns-in-Settle-clause-purge : goal.returns-in-Settle-clause-purge
+returns-in-Settle-clause-purge g c is = absurd (no_purge call.Settle refl (sym c.in-Settle.is ∙ is))
 
 pub returns-in_default : goal.returns-in_default
 returns-in_default g c =

@@ -1,12 +1,14 @@
-use Rattle.std.proofs.Common.{refl, sym, subst}
+use Rattle.std.proofs.Common.{refl, sym, subst, ◌∙◌}
 use Rattle.std.proofs.lemmas.Bool.{true≢false}
 use Rattle.page_store.specs.Shown.{pages_of}
 use Rattle.history.specs.declared.call.Call.{Call}
+use Rattle.history.specs.declared.call.Call.TheVariants as call
 use Rattle.history.specs.declared.call.Reply.TheVariants.{Already}
 use Rattle.caller_steps.specs.Core.{Steps}
 use Rattle.mars_core.specs.Held.{core_of, state_over}
 use Rattle.mars_core.proofs.GivingUp.{sends_none}
-use Rattle.mars_core.proofs.Settling.{offered_begins, offered_purges, offered_asks}
+use Rattle.mars_core.proofs.Purged.{no_purge}
+use Rattle.mars_core.proofs.Settling.{offered_begins, offered_purges, offered_cause, offered_asks}
 use Rattle.mars_core.proofs.turns.Core.make_offered.Goals as goal
 
 pub returns-in-Begin-clause-steps : goal.returns-in-Begin-clause-steps
@@ -26,6 +28,19 @@ returns-in-Purge-clause-steps g c =
     subst (λ (call : Call). Steps g.S.EawStore.tells c.args.caller call core core Already) (sym c.in-Purge.is)
     (offered_purges g.S.EawStore.tells g.S.EawStore.opens g.K.KeyIndex.index (pages_of (V h.records.store) h.records) (state_over g.K.KeyIndex.index (V h.records.store) h) (record { indexed = refl; dead = refl })
     c.requires.safe c.requires.alive c.args.caller c.requires.offered)
+
+pub returns-in-Purge-clause-purge : goal.returns-in-Purge-clause-purge
+returns-in-Purge-clause-purge g c _ =
+    let V = g.S.EawStore.view in
+    let h = c.args.self.now in
+    offered_cause g.S.EawStore.tells g.S.EawStore.opens g.K.KeyIndex.index (pages_of (V h.records.store) h.records) (state_over g.K.KeyIndex.index (V h.records.store) h) (record { indexed = refl; dead = refl })
+    c.requires.safe c.requires.alive c.args.caller c.requires.offered
+
+pub returns-in-Begin-clause-purge : goal.returns-in-Begin-clause-purge
+returns-in-Begin-clause-purge g c is = absurd (no_purge call.Begin refl (sym c.in-Begin.is ∙ is))
+
+pub returns-in-Settle-clause-purge : goal.returns-in-Settle-clause-purge
+returns-in-Settle-clause-purge g c is = absurd (no_purge call.Settle refl (sym c.in-Settle.is ∙ is))
 
 pub returns-in_default : goal.returns-in_default
 returns-in_default g c =

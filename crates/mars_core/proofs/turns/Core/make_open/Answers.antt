@@ -113,3 +113,6 @@ returns-in-Settle-clause-steps g c =
     subst (λ (call : Call). Steps g.S.EawStore.tells c.args.caller call core core NoTransaction) (sym (ap asking c.in-Settle.is) ∙ c.of.ensures)
     (open_settles g.S.EawStore.tells g.S.EawStore.opens g.K.KeyIndex.index (pages_of (V h.records.store) h.records) (state_over g.K.KeyIndex.index (V h.records.store) h) (record { indexed = refl; dead = refl })
     c.requires.safe c.requires.alive c.args.caller c.requires.unoffered)
+
+pub returns-in-Settle-clause-purge : goal.returns-in-Settle-clause-purge
+returns-in-Settle-clause-purge g c is = absurd (no_purge call.Settle refl (sym (ap asking c.in-Settle.is) ∙ c.of.ensures ∙ is))
