@@ -11,7 +11,7 @@
 # And of 1,000 records on such a file: their load, a scan of all of them, and a dump. And over the image in memory, of a drawn script of
 # 100,000 transactions a drill beside a run of the same calls, and of 100,000 transactions of one put one, two and four callers that work
 # beside each other, on stripes of their own, beside a run of the same lines. And of puts with frames beside none, and of what follows that
-# output, for 10,000 transactions and for 40,000. And of 100,000 transactions of four callers on threads, of ten calls on 64 keys, of which
+# output, for 10,000 transactions and for 40,000. And a purge of 1,000 keys without records and of 10,000. And of 100,000 transactions of four callers on threads, of ten calls on 64 keys, of which
 # five in a hundred are puts, or all of them, the share that had to be made again because a key was held. Each script is run three times, and the best time counts.
 # The answers go to a file, and the last is compared, so a run that stops early is no result. A time has the start of the process in it,
 # about a millisecond. The image in memory keeps a record of all its calls, so the peak of memory is that of a run over a file, in a
@@ -377,6 +377,49 @@ frames() {
     }'
 }
 
+# keyed COUNT WORDS..: the lines of so many calls of keys that rise from 0, eight in a transaction
+keyed() {
+    awk -v count="$1" -v verb="$2" -v value="$3" 'BEGIN {
+        for (n = 0; n < count; n++) {
+            if (n % 8 == 0) print "0 begin"
+            print "0 " verb " " n value
+            if (n % 8 == 7 || n == count - 1) print "0 commit"
+        }
+    }'
+}
+
+# purge COUNT: milliseconds of a purge of so many keys whose records were removed, less those of one that finds none; it leaves them in $best.
+# Of a hundred keys at most one may stay, as the last of a leaf that keeps it.
+purge() {
+    local time none
+    best=
+    for _ in 1 2 3; do
+        rm -f "$room/image"
+        "$program" "$room/image" format --pages 1024 >"$work/answers"
+        { keyed "$1" put " v"; keyed "$1" del ""; } >"$work/load"
+        "$program" "$room/image" run <"$work/load" >"$work/answers"
+        time=$(timed /dev/null purge)
+        awk -v count="$1" '$1 == "purged" && $2 <= count && 100 * $2 >= 99 * count { whole = 1 } END { exit !whole }' "$work/answers" || {
+            echo "bench: a purge of $1 keys told $(cat "$work/answers")" >&2
+            exit 1
+        }
+        none=$(timed /dev/null purge)
+        best=$(awk -v best="$best" -v time="$time" -v none="$none" 'BEGIN { t = time - none; printf "%.1f", best == "" || t < best ? t : best }')
+    done
+    rm -f "$room/image"
+}
+
+# purges: of 1,000 keys and of 10,000
+purges() {
+    local small
+    purge 1000
+    small=$best
+    purge 10000
+    awk -v small="$small" -v large="$best" 'BEGIN {
+        printf "purge of 1000 keys: %.1f ms; of 10000: %.1f ms, %.1f times as long\n", small, large, large / small
+    }'
+}
+
 # last_record COUNT: the record of the last key behind so many transactions of stripes
 last_record() {
     printf 'rec 63 value%011d' "$((($1 - 64) / 64 * 64 + 63))"
@@ -398,6 +441,7 @@ records 100
 records 1000
 frames 10000
 frames 40000
+purges
 drills 1 100000
 for callers in 1 2 4; do
     beside "$callers" 100000
