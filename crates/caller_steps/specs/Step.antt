@@ -98,8 +98,8 @@ StepAt limits (Some calls) old caller (Back n) reply new = (IsFalse (has_save (v
     ⊎ (IsTrue (has_save (view_of old caller).saves n) × Asks limits calls old caller (Back n) reply new)
 StepAt limits (Some calls) old caller call reply new = AsksTable limits calls old caller call reply new
 
--- A step by what the caller has offered. Until it has settled, it begins no other transaction and purges nothing, and its own takes no calls. A settle commits all
--- that were offered, unless a group has committed the caller's own already.
+-- A step by what the caller has offered. Until it has settled, it begins no other transaction and purges nothing, and its own takes no calls.
+-- A settle commits all that were offered, unless a group has committed the caller's own already.
 abbrev pub StepBy : Limits → state.Offer → State → ℕ → Call → Reply → State → Type 0
 StepBy limits unoffered old caller call reply new = StepAt limits (old.live caller) old caller call reply new
 StepBy limits offered old caller Begin reply new = Says Already old reply new

@@ -22,8 +22,8 @@ pub trait Core {
     /// From a core to the one that a step leaves: what the store below it has sent.
     ghost sends: { Self → Self → Type 0 };
 
-    /// Answers a caller's call. Over any store a purge is refused with `Dead`, then with `Already` exactly if its caller has a transaction that is live
-    /// or unsettled; else it is answered with a count, with `Media`, or with `Damaged`.
+    /// Answers a caller's call. Over any store a purge is refused with `Dead`, then with `Already` exactly if its caller has a
+    /// transaction that is live or unsettled; else it is answered with a count, with `Media`, or with `Damaged`.
     fn step(&mut self, caller: u8, call: &Call) -> Reply
         requires { caller < (view self.old).limits.callers }
         ensures steps { Steps tells caller call.now (view self.old) (view self.new) result }

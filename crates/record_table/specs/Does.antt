@@ -69,11 +69,11 @@ IsQuiet index old t (Put name key value) = IsSome (slot_in index old (of_table n
 IsQuiet index old t Commit = ((state_of index old).logs t).writes ≡ []
 IsQuiet index old t call = Unit {0}
 
--- A caller's call as number t on a table, which it names, on records over a store whose images open as Opens says. Each answer has its cause. An Ok is answered as the
--- model says, leaves what it says, and hides no fault. After a refusal other than Media, the records and the logs of every number are as
--- before, and the tables always; data of version 2 stays so. Media leaves the store dead. A call that writes nothing into the data leaves it byte for byte, also if it is refused. Other
--- numbers keep what they have logged, whatever the answer. At each moment of a store that was not dead, a loss of power leaves what it might
--- have left before, or an image that opens with the records before the call or after it.
+-- A caller's call as number t on a table, which it names, on records over a store whose images open as Opens says. Each answer has its cause. An
+-- Ok is answered as the model says, leaves what it says, and hides no fault. After a refusal other than Media, the records and the logs of every
+-- number are as before, and the tables always; data of version 2 stays so. Media leaves the store dead. A call that writes nothing into the data
+-- leaves it byte for byte, also if it is refused. Other numbers keep what they have logged, whatever the answer. At each moment of a store that
+-- was not dead, a loss of power leaves what it might have left before, or an image that opens with the records before the call or after it.
 pub record Does (tells : Bool) (Opens : List ℕ → List ℕ → Type 0) (index : Index) (table t : ℕ) (call : Call) (old new : PagesView) (result : Result Reply TableFault) : Type 0 where
   pub shape : new.store.shape ≡ old.store.shape
   pub cause : Cause tells index table t call old result

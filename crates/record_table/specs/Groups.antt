@@ -30,11 +30,12 @@ GroupCause old (Err Dead) = old.store.is_dead ≡ true
 GroupCause old (Err Media) = IsAlive old.store
 GroupCause old (Err fault) = ⊥
 
--- A commit of these numbers, on records over a store whose images open as Opens says. Each answer has its cause. An Ok leaves the state that
--- the model says, frees the numbers, and hides no fault. After a refusal other than Media, the records and the logs of every number are as before. Media leaves
--- the store dead. The tables and their indexes stay, data of version 2 stays so, and so does the data byte for byte where the numbers have written nothing. Other numbers keep what they
--- have logged, whatever the answer. At each moment of a store that was not dead, a loss of power leaves what it might have left before, or an
--- image that opens with the records before the commit or with those after it: all that the numbers have written, or nothing of it.
+-- A commit of these numbers, on records over a store whose images open as Opens says. Each answer has its cause. An Ok leaves the state that the
+-- model says, frees the numbers, and hides no fault. After a refusal other than Media, the records and the logs of every number are as before.
+-- Media leaves the store dead. The tables and their indexes stay, data of version 2 stays so, and so does the data byte for byte where the
+-- numbers have written nothing. Other numbers keep what they have logged, whatever the answer. At each moment of a store that was not dead, a
+-- loss of power leaves what it might have left before, or an image that opens with the records before the commit or with those after it: all
+-- that the numbers have written, or nothing of it.
 pub record CommitsGroup (tells : Bool) (Opens : List ℕ → List ℕ → Type 0) (index : Index) (ts : List ℕ) (old new : PagesView) (result : Result (Unit {0}) TableFault) : Type 0 where
   pub shape : new.store.shape ≡ old.store.shape
   pub cause : GroupCause old result
