@@ -67,7 +67,7 @@ returns-in_default g c =
           (absent_steps g.S.EawStore.tells g.S.EawStore.opens g.K.KeyIndex.index (pages_of (g.S.EawStore.view i.records.store) i.records)
           (state_at g.K.KeyIndex.index (g.S.EawStore.view i.records.store) i.seats.names (table_of i.base) i.history (live_in i.seats) (offers_in i.seats) i.doubt) (record { indexed = refl; dead = refl }) (length i.seats.places) i.base c.self.invariant
           (subst (λ (h : Held g.row.S.Denot). IsAlive (g.S.EawStore.view h.records.store)) (sym c.self.view_is) c.requires.alive) c.args.caller c.args.call.now (sym c.take.ensures.live ∙ ap calls_in c.in_default.is) (subst (λ (h : Held g.row.S.Denot). offers_in h.seats c.args.caller ≡ unoffered) (sym c.self.view_is) c.requires.unoffered)
-          (is_absent_at (limits_of (g.S.EawStore.view i.records.store).shape) (state_at g.K.KeyIndex.index (g.S.EawStore.view i.records.store) i.seats.names (table_of i.base) i.history (live_in i.seats) (offers_in i.seats) i.doubt) c.args.caller c.args.asked c.args.call.now c.requires.said) _
+          (is_absent_at (limits_of g.K.KeyIndex.index (g.S.EawStore.view i.records.store).shape) (state_at g.K.KeyIndex.index (g.S.EawStore.view i.records.store) i.seats.names (table_of i.base) i.history (live_in i.seats) (offers_in i.seats) i.doubt) c.args.caller c.args.asked c.args.call.now c.requires.said) _
           (λ j. state_at g.K.KeyIndex.index (g.S.EawStore.view c.self.inside.records.store) (c.take.ensures.out.names j) (table_of c.self.inside.base) c.self.inside.history (same j) (c.take.ensures.out.offers j) c.self.inside.doubt));
       sends = subst (λ (h : Held g.row.S.Denot). Mirrors g.S.EawStore.tells (g.S.EawStore.view h.records.store) (g.S.EawStore.view c.self.inside.records.store)) c.self.view_is (sends_none g.S.EawStore.tells (g.S.EawStore.view c.self.inside.records.store));
       not_busy = λ held. refl;
