@@ -11,7 +11,7 @@ use Rattle.history.specs.declared.call.Reply.{Reply}
 use Rattle.history.specs.declared.locks.Mode.TheVariants as mode
 use Rattle.caller_steps.specs.Core.{CoreView}
 use Rattle.caller_steps.specs.Offers.{is_offered}
-use Rattle.caller_steps.specs.Fate.{is_refusal, is_media, live_with, offer_with}
+use Rattle.caller_steps.specs.Fate.{is_refusal, is_media, is_committed, live_with, offer_with}
 use Rattle.caller_steps.specs.Own.{Own, own_of, own_after, nothing_own, is_commit, live_after, waits_after}
 use Rattle.stripe_words.specs.declared.hold.Hold.{Hold}
 use Rattle.stripe_words.specs.declared.hold.Hold.TheVariants.{Free, Trying, Shared, Exclusive}
@@ -19,7 +19,7 @@ use Rattle.stripe_words.specs.Words.{granted, locked, raised}
 use Rattle.mars_manager.specs.declared.view.Known.{Known}
 use Rattle.mars_manager.specs.Pass.{told_of, own_by, live_of, waits_of, takes_of, names_in, names_of, known_after}
 use Rattle.mars_manager.specs.Locks.{locks, IsCovered, IsBelow, raised_for, is_end, is_last, takes_after, touched_by, hold_of, with_holds, with_locks, HasLockedFor, HasReadied, HasAfter}
-use Rattle.mars_manager.specs.Sharing.{Called}
+use Rattle.mars_manager.specs.Sharing.{Called, Commits, HasCommitted, HasSettled, SeesOwn}
 use Rattle.mars_manager.specs.Seat.{HasMade}
 use Rattle.mars_manager.proofs.Knowns.{below_raised, below_same}
 use Rattle.mars_manager.proofs.Waiting.{fold-push}
@@ -150,6 +150,21 @@ module _ {C : Type 0} where
           dead = c.dead;
           after = e ∙ ap (with_holds hs) c.after ∙ (λ i. with_locks (sym holds i) (sym met i) (known_after k c.turns (show c.new).state call reply));
         }
+
+    -- what it says of its caller's own transactions asks for no stripes
+    pub called_commits : (k3 : Known C) (hs : List Hold) → k3 ≡ with_holds hs k2 → Commits tells k call reply k3
+    called_commits k3 hs e =
+        subst (λ (j : Known C). Commits tells k call reply j) (sym e)
+        (go (is_committed reply) (waits_of k) (subst (λ (j : Known C). Commits tells j call reply k2) r.same m.commits))
+      where
+        k' : Known C
+        k' = with_locks k1.holds (k.met ++ r.more) k
+
+        go : (b w : Bool) → MatchBool b (MatchBool w (HasSettled tells k' reply k2) (call ≢ Settle → HasCommitted tells k' reply k2)) (SeesOwn k' k2)
+            → MatchBool b (MatchBool w (HasSettled tells k reply (with_holds hs k2)) (call ≢ Settle → HasCommitted tells k reply (with_holds hs k2))) (SeesOwn k (with_holds hs k2))
+        go true true s = record { at = s.at; last = s.last; before = s.before; mine = s.mine; seen = s.seen; told = s.told }
+        go true false s = λ apart. let h = s apart in record { before = h.before; seen = h.seen; mine = h.mine; told = h.told }
+        go false w s = s
 
     pub after_refusal : (k3 : Known C) → is_refusal reply ≡ true → k3.holds ≡ k.holds → HasAfter call reply k k3
     after_refusal k3 e h = subst (λ b. MatchBool b (k3.holds ≡ k.holds) (MatchBool (is_end call) (k3.holds ≡ replicate 64 Free) ((t : ℕ) → hold_of t k3 ≡ raised_for (locks (names_of k) call t) (hold_of t k)))) (sym e) h
