@@ -8,6 +8,23 @@ use sample_array::write_both;
 use std::alloc::Global;
 use std::test::Fail;
 
+type NearArray = Primary<Eaw<MemoryMedia>, MemoryLink>;
+
+// A primary over a medium, which keeps its frames in memory.
+fn primary_over(alloc: Global, media: MemoryMedia) -> Option<NearArray> {
+    let Ok(store) = Eaw::attach(alloc, media) else {
+        return None;
+    };
+    Primary::attach(alloc, store, MemoryLink::new(alloc)).ok()
+}
+
+fn follower_over(alloc: Global, media: MemoryMedia) -> Option<Follower<Eaw<MemoryMedia>>> {
+    let Ok(store) = Eaw::attach(alloc, media) else {
+        return None;
+    };
+    Follower::attach(alloc, store).ok()
+}
+
 // Three commits over one medium, and the same over another, which has the same data at first. The frames come in two pieces, cut at this
 // byte. Answers how many frames were applied, and the data that both sides have at the end.
 fn follow_cut_at(
@@ -16,10 +33,8 @@ fn follow_cut_at(
     far: MemoryMedia,
     cut: usize,
 ) -> Option<(u64, Vec<u8>, Vec<u8>)> {
-    let near = Eaw::attach(alloc, near).ok()?;
-    let far = Eaw::attach(alloc, far).ok()?;
-    let mut primary = Primary::attach(alloc, near, MemoryLink::new(alloc)).ok()?;
-    let mut follower = Follower::attach(alloc, far).ok()?;
+    let mut primary = primary_over(alloc, near)?;
+    let mut follower = follower_over(alloc, far)?;
 
     let mut stream = Vec::new(alloc);
     for n in 1..4 {
