@@ -1,6 +1,6 @@
 #!/usr/bin/env bash
 # Lines a second, growth and peak memory of `mars`. With a folder as argument also transactions a second on a file in it: one after another, of
-# eight callers in turn with and without commits that wait for their write-back, and in groups.
+# eight callers in turn with and without commits that wait for their write-back, in groups, and of callers who offer beside callers who commit.
 #
 # Five mixes of lines over the image in memory, of some lines and of ten times as many; keys are below 1,000, values have 16 bytes:
 #   puts   run: a transaction is a begin, a put and a commit
@@ -176,6 +176,43 @@ groups() {
         }'
         rm -f "$image"
     done
+}
+
+# rounds CALLERS TRANSACTIONS END: the lines of so many transactions of one put, each caller's of a key of its own, a round of all callers
+# after another; with the end `offer` one settle a round commits all of them
+rounds() {
+    awk -v callers="$1" -v count="$2" -v end="$3" 'BEGIN {
+        for (n = 0; n < count; n += callers) {
+            for (c = 0; c < callers; c++) printf "%d begin\n%d put %d value%011d\n%d %s\n", c, c, c, n + c, c, end
+            if (end == "offer") for (c = 0; c < callers; c++) print c " settle"
+        }
+    }'
+}
+
+# offers FOLDER: transactions a second of callers who offer beside those of the same callers who commit, on a fresh file, with one logger and
+# with four; keys are there before
+offers() {
+    local image=$1/mars-bench.$$ loggers callers end time peak count=4096
+    for loggers in 1 4; do
+        for callers in 8 32; do
+            for end in commit offer; do
+                rm -f "$image"
+                "$program" "$image" format --numbers 32 --loggers "$loggers" >/dev/null
+                rounds "$callers" "$callers" commit >"$work/file"
+                "$program" "$image" run <"$work/file" >/dev/null
+                rounds "$callers" "$count" "$end" >"$work/file"
+                read -r time peak <<<"$(once "$image" "$work/file" run)"
+                [ "$(grep -c " committed " "$work/answers")" = "$count" ] || {
+                    echo "bench: of $count transactions that $end others are told" >&2
+                    exit 1
+                }
+                awk -v loggers="$loggers" -v callers="$callers" -v end="$end" -v count="$count" -v time="$time" 'BEGIN {
+                    printf "file   %d callers, %d loggers, %s: %d a second\n", callers, loggers, end, count * 1e6 / time
+                }'
+            done
+        done
+    done
+    rm -f "$image"
 }
 
 # lock_mix TRANSACTIONS PUTS: so many transactions of each of four callers, of ten calls, of a hundred of which so many are puts on 64 keys, and
@@ -372,4 +409,5 @@ done
     on_file "$1"
     late "$1"
     groups "$1"
+    offers "$1"
 }

@@ -1,7 +1,7 @@
 -- What each caller of a script plans.
 use Rattle.std.specs.Prelude.{ℕ, zero, suc, Bool, true, false, IsTrue, not, nat_eq, if◌then◌else◌, List, [], ◌∷◌, ◌++◌, All, Option, Some, None}
 use Rattle.history.specs.declared.call.Call.{Call}
-use Rattle.history.specs.declared.call.Call.TheVariants.{Begin, Commit, Abort}
+use Rattle.history.specs.declared.call.Call.TheVariants.{Begin, Commit, Abort, Offer, Settle}
 use Rattle.script_text.specs.declared.joint_line.JointLine.{JointLine}
 use Rattle.script_text.specs.declared.joint_line.JointLine.TheVariants.{Nothing, Told, Read, Bad}
 use Rattle.script_text.specs.JointLine.{JointLineSays}
@@ -11,7 +11,7 @@ use Rattle.caller_plans.specs.declared.fate.LineFault.{LineFault}
 use Rattle.caller_plans.specs.declared.fate.LineFault.TheVariants as fault
 
 -- The transactions that a caller's calls make, from outside a transaction or after these calls of one that has begun. A call outside a
--- transaction is passed over, and so is a begin within one.
+-- transaction is passed over, and so are a begin within one and each settle: what is offered is settled without a call.
 abbrev pub planned : Option (List Call) → List Call → List Plan
 planned None [] = []
 planned (Some made) [] = record { calls = made; end = end.Unended } ∷ []
@@ -20,6 +20,8 @@ planned None (call ∷ calls) = planned None calls
 planned (Some made) (Begin ∷ calls) = planned (Some made) calls
 planned (Some made) (Commit ∷ calls) = record { calls = made; end = end.Commit } ∷ planned None calls
 planned (Some made) (Abort ∷ calls) = record { calls = made; end = end.Abort } ∷ planned None calls
+planned (Some made) (Offer ∷ calls) = record { calls = made; end = end.Offer } ∷ planned None calls
+planned (Some made) (Settle ∷ calls) = planned (Some made) calls
 planned (Some made) (call ∷ calls) = planned (Some (made ++ call ∷ [])) calls
 
 -- whether a caller is within a transaction after a call, given whether it was before
@@ -27,11 +29,13 @@ abbrev pub within_after : Bool → Call → Bool
 within_after was Begin = true
 within_after was Commit = false
 within_after was Abort = false
+within_after was Offer = false
 within_after was call = was
 
--- a call outside a transaction, or a begin within one
+-- a call outside a transaction, a begin within one, or a settle
 abbrev pub is_stray : Bool → Call → Bool
 is_stray within Begin = within
+is_stray within Settle = true
 is_stray within call = not within
 
 -- the calls of a caller, in order
@@ -60,11 +64,13 @@ abbrev pub plans_from : ℕ → ℕ → List JointLine → List (List Plan)
 plans_from caller zero lines = []
 plans_from caller (suc n) lines = planned None (calls_by caller lines) ∷ plans_from (suc caller) n lines
 
--- a call of a table: no begin, commit or abort
+-- a call of a transaction: no begin and no end
 abbrev pub is_of_table : Call → Bool
 is_of_table Begin = false
 is_of_table Commit = false
 is_of_table Abort = false
+is_of_table Offer = false
+is_of_table Settle = false
 is_of_table call = true
 
 -- the plan has only calls of a table between begin and end

@@ -26,12 +26,13 @@ impl Draft {
         }
     }
 
-    /// Whether the call is outside a transaction, or is a begin within one.
+    /// Whether the call is outside a transaction, is a begin within one, or is a settle.
     pub fn is_stray(&self, call: &Call) -> bool
         ensures { result ≡ is_stray (is_within self.now) call.now }
     {
         match call {
             Call::Begin => self.begun.is_some(),
+            Call::Settle => true,
             _ => self.begun.is_none(),
         }
     }
@@ -46,6 +47,7 @@ impl Draft {
             Call::Begin => self.begin(alloc),
             Call::Commit => self.end(PlanEnd::Commit),
             Call::Abort => self.end(PlanEnd::Abort),
+            Call::Offer => self.end(PlanEnd::Offer),
             _ => self.ask(call),
         }
     }

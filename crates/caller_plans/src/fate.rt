@@ -18,7 +18,7 @@ pub enum Fate {
 pub enum LineFault {
     /// It cannot be read.
     Bad { line: u64 },
-    /// It is a call outside a transaction, or a begin within one.
+    /// It is a call outside a transaction, a begin within one, or a settle.
     Stray { line: u64 },
 }
 

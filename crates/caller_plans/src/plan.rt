@@ -19,6 +19,8 @@ pub type Plans = Listed<Plan>;
 pub enum PlanEnd {
     Commit,
     Abort,
+    /// It is offered, and then settled.
+    Offer,
     /// The script ends within it.
     Unended,
 }
@@ -31,7 +33,7 @@ pub struct Plan {
 }
 
 impl Plan {
-    /// Whether none of its calls is a begin, a commit or an abort.
+    /// Whether none of its calls begins or ends a transaction.
     pub fn is_plain(&self) -> bool
         ensures { IsTrue result ↔ IsPlain self.now }
     {
@@ -42,10 +44,13 @@ impl Plan {
 fn is_of_table(call: &Call) -> bool
     ensures { result ≡ is_of_table call.now }
 {
-    !matches!(call, Call::Begin | Call::Commit | Call::Abort)
+    !matches!(
+        call,
+        Call::Begin | Call::Commit | Call::Abort | Call::Offer | Call::Settle
+    )
 }
 
-/// Whether no plan has a begin, a commit or an abort among its calls. Plans that `read_script` returns have none.
+/// Whether no plan has a call that begins or ends a transaction. Plans that `read_script` returns have none.
 pub fn are_plain(plans: &Plans) -> bool
     ensures { IsTrue result ↔ ArePlain plans.now }
 {

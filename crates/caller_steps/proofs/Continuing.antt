@@ -1,5 +1,5 @@
 -- The prefix law along steps.
-use Rattle.std.proofs.Common.{◌≡◌, ℕ, ◌≤◌, Bool, true, false, ⊎_elim, List, [], ◌∷◌, ◌++◌, length, take, refl, sym, ap, subst, ◌∙◌, arith, length-append}
+use Rattle.std.proofs.Common.{◌≡◌, ℕ, ◌≤◌, Bool, true, false, ⊎_elim, List, [], ◌++◌, length, take, refl, sym, ap, subst, ◌∙◌, arith, length-append}
 use Rattle.std.specs.Prelude.{IsTrue, if◌then◌else◌}
 use Rattle.std.proofs.lemmas.List.{take-append-le, append_assoc, append-nil}
 use Rattle.mars_base.proofs.Going as going
@@ -9,11 +9,11 @@ use Rattle.history.specs.Groups.{AreWhole}
 use Rattle.history.specs.declared.call.Call.{Call}
 use Rattle.history.specs.declared.call.Reply.{Reply}
 use Rattle.history.specs.declared.transaction.Done.{Done}
-use Rattle.caller_steps.specs.State.{State, calls_of, done_by}
+use Rattle.caller_steps.specs.State.{State}
 use Rattle.caller_steps.specs.Prefix.{HasPrefix, HasPrefixOf, Grows}
 use Rattle.caller_steps.specs.Sound.{IsSound}
 use Rattle.caller_steps.specs.Step.{StepIf}
-use Rattle.caller_steps.specs.Fate.{is_committed, history_after}
+use Rattle.caller_steps.specs.Fate.{is_committed, committed_by, history_after}
 use Rattle.caller_steps.specs.Core.{CoreView, IsSafe, Steps, Continues}
 use Rattle.caller_steps.proofs.Sound.{step_sound}
 
@@ -86,17 +86,17 @@ continues_on old mid new a b = record {
   now = b.now;
 }
 
--- a step extends the history by one transaction or none
-pub after_grows : (old : State) (caller : ℕ) (reply : Reply) → Grows old.history (history_after old caller reply)
-after_grows old caller reply = go (is_committed reply)
+-- a step extends the history by what it commits
+pub after_grows : (callers : ℕ) (old : State) (caller : ℕ) (call : Call) (reply : Reply) → Grows old.history (history_after callers old caller call reply)
+after_grows callers old caller call reply = go (is_committed reply)
   where
-    go : (b : Bool) → Grows old.history (if b then old.history ++ done_by old caller (calls_of old caller) ∷ [] else old.history)
-    go true = record { more = done_by old caller (calls_of old caller) ∷ []; is = refl }
+    go : (b : Bool) → Grows old.history (if b then old.history ++ committed_by callers old caller call else old.history)
+    go true = record { more = committed_by callers old caller call; is = refl }
     go false = grows_none old.history
 
 module _ (tells : Bool) (caller : ℕ) (call : Call) (old new : CoreView) (reply : Reply) (sound : IsSound old.state) (steps : Steps tells caller call old new reply) (told : IsTrue tells) where
   step_grows : Grows old.state.history new.state.history
-  step_grows = subst (λ h. Grows old.state.history h) (sym steps.moves.history) (after_grows old.state caller reply)
+  step_grows = subst (λ h. Grows old.state.history h) (sym steps.moves.history) (after_grows old.limits.callers old.state caller call reply)
 
   -- If the medium has not failed before, nothing was in doubt; else nothing changes.
   doubt_if : (dead : Bool) → old.state.is_dead ≡ dead → StepIf old.limits dead old.state caller call reply new.state

@@ -3,14 +3,15 @@ use Rattle.std.proofs.Common.{◌≡◌, ℕ, inl, inr, Bool, true, false, Optio
 use Rattle.std.proofs.lemmas.Bool.{true≢false, both_ways, cases_order}
 use Rattle.history.specs.Table.{Granted, Work, has_save, Answers}
 use Rattle.history.specs.declared.call.Call.{Call}
-use Rattle.history.specs.declared.call.Call.TheVariants.{Begin, Get, Put, Del, Scan, Save, Back, Commit, Abort}
+use Rattle.history.specs.declared.call.Call.TheVariants.{Begin, Get, Put, Del, Scan, Save, Back, Commit, Abort, Offer, Settle}
 use Rattle.history.specs.declared.call.Reply.{Reply}
 use Rattle.history.specs.declared.call.Reply.TheVariants.{Busy}
 use Rattle.history.specs.Locks.{has_table}
-use Rattle.caller_steps.specs.State.{State, view_of}
+use Rattle.caller_steps.specs.State as state
+use Rattle.caller_steps.specs.State.{State, unoffered, offered, unsettled, view_of}
 use Rattle.caller_steps.specs.Locked.{IsFree, IsBusyWith}
 use Rattle.caller_steps.specs.Room.{Limits}
-use Rattle.caller_steps.specs.Step.{Asks, AsksTable, StepAt, StepIf, Step}
+use Rattle.caller_steps.specs.Step.{Asks, AsksTable, StepAt, StepBy, StepIf, Step}
 use Rattle.caller_steps.specs.Fate.{is_of_array}
 use Rattle.caller_steps.proofs.Fates.{lacks_of_array}
 
@@ -78,6 +79,8 @@ module _ (limits : Limits) (old : State) (caller : ℕ) where
   one_at (Some calls) Commit one other new next ok ok' (inr (inl a)) (inl b) = absurd (true≢false (sym (ap is_of_array b.0) ∙ ok'))
   one_at (Some calls) Commit one other new next ok ok' (inr (inl a)) (inr (inr b)) = absurd (true≢false (sym (ap is_of_array b.1) ∙ ok'))
   one_at (Some calls) Abort one other new next ok ok' a b = a.0 ∙ sym b.0
+  one_at (Some calls) Offer one other new next ok ok' a b = a.0 ∙ sym b.0
+  one_at (Some calls) Settle one other new next ok ok' a b = a.0 ∙ sym b.0
   one_at (Some calls) Save one other new next ok ok' (inl (full, a)) (inl (full', b)) = a.0 ∙ sym b.0
   one_at (Some calls) Save one other new next ok ok' (inl (full, a)) (inr (room, b)) = absurd (omega (arith, full, room))
   one_at (Some calls) Save one other new next ok ok' (inr (room, a)) (inl (full, b)) = absurd (omega (arith, full, room))
@@ -88,10 +91,40 @@ module _ (limits : Limits) (old : State) (caller : ℕ) where
   one_at (Some calls) (Back n) one other new next ok ok' (inr (some, a)) (inr (some', b)) = asks_one calls (Back n) one other new next ok ok' a b
   one_at (Some calls) call one other new next ok ok' a b = tabled_one calls call one other new next ok ok' a b
 
+  one_by : (offer : state.Offer) (call : Call) (one other : Reply) (new next : State) → is_of_array one ≡ false → is_of_array other ≡ false
+      → StepBy limits offer old caller call one new → StepBy limits offer old caller call other next → one ≡ other
+  one_by unoffered call one other new next ok ok' a b = one_at (old.live caller) call one other new next ok ok' a b
+  one_by offered Settle one other new next ok ok' (inl a) b = absurd (true≢false (sym (ap is_of_array a.0) ∙ ok))
+  one_by offered Settle one other new next ok ok' (inr (inside, inr a)) b = absurd (true≢false (sym (ap is_of_array a.1) ∙ ok))
+  one_by offered Settle one other new next ok ok' (inr (inside, inl a)) (inl b) = absurd (true≢false (sym (ap is_of_array b.0) ∙ ok'))
+  one_by offered Settle one other new next ok ok' (inr (inside, inl a)) (inr (inside', inr b)) = absurd (true≢false (sym (ap is_of_array b.1) ∙ ok'))
+  one_by offered Settle one other new next ok ok' (inr (inside, inl a)) (inr (inside', inl b)) = a.0 ∙ sym b.0
+  one_by offered Begin one other new next ok ok' a b = a.0 ∙ sym b.0
+  one_by offered (Get name key) one other new next ok ok' a b = a.0 ∙ sym b.0
+  one_by offered (Put name key value) one other new next ok ok' a b = a.0 ∙ sym b.0
+  one_by offered (Del name key) one other new next ok ok' a b = a.0 ∙ sym b.0
+  one_by offered (Scan name low high) one other new next ok ok' a b = a.0 ∙ sym b.0
+  one_by offered Save one other new next ok ok' a b = a.0 ∙ sym b.0
+  one_by offered (Back n) one other new next ok ok' a b = a.0 ∙ sym b.0
+  one_by offered Commit one other new next ok ok' a b = a.0 ∙ sym b.0
+  one_by offered Abort one other new next ok ok' a b = a.0 ∙ sym b.0
+  one_by offered Offer one other new next ok ok' a b = a.0 ∙ sym b.0
+  one_by (unsettled n) Begin one other new next ok ok' a b = a.0 ∙ sym b.0
+  one_by (unsettled n) (Get name key) one other new next ok ok' a b = a.0 ∙ sym b.0
+  one_by (unsettled n) (Put name key value) one other new next ok ok' a b = a.0 ∙ sym b.0
+  one_by (unsettled n) (Del name key) one other new next ok ok' a b = a.0 ∙ sym b.0
+  one_by (unsettled n) (Scan name low high) one other new next ok ok' a b = a.0 ∙ sym b.0
+  one_by (unsettled n) Save one other new next ok ok' a b = a.0 ∙ sym b.0
+  one_by (unsettled n) (Back m) one other new next ok ok' a b = a.0 ∙ sym b.0
+  one_by (unsettled n) Commit one other new next ok ok' a b = a.0 ∙ sym b.0
+  one_by (unsettled n) Abort one other new next ok ok' a b = a.0 ∙ sym b.0
+  one_by (unsettled n) Offer one other new next ok ok' a b = a.0 ∙ sym b.0
+  one_by (unsettled n) Settle one other new next ok ok' a b = a.0 ∙ sym b.0
+
   one_if : (dead : Bool) (call : Call) (one other : Reply) (new next : State) → is_of_array one ≡ false → is_of_array other ≡ false
       → StepIf limits dead old caller call one new → StepIf limits dead old caller call other next → one ≡ other
   one_if true call one other new next ok ok' a b = a.0 ∙ sym b.0
-  one_if false call one other new next ok ok' a b = one_at (old.live caller) call one other new next ok ok' a b
+  one_if false call one other new next ok ok' a b = one_by (old.offers caller) call one other new next ok ok' a b
 
   -- Two replies to a call in one state are equal, except for those of an array that is full or fails, and for `NoMemory`.
   pub one_reply : (call : Call) (one other : Reply) (new next : State) → is_of_array one ≡ false → is_of_array other ≡ false

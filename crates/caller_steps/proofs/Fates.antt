@@ -1,35 +1,50 @@
 -- What a step comes to: the call is refused, or it begins, extends or ends the caller's transaction. And what follows from that.
-use Rattle.std.proofs.Common.{◌≡◌, ◌||◌, Bool, ◌≢◌, ℕ, inl, inr, true, false, nat_eq, List, [], ◌∷◌, ◌++◌, ◌+◌, length, Option, Some, None, unwrap_or, refl, sym, ap, ◌∙◌}
+use Rattle.history.specs.declared.transaction.Done.{Done}
+use Rattle.std.proofs.Common.{◌≡◌, ◌⊎◌, ◌<◌, ◌||◌, Bool, ◌≢◌, ℕ, inl, inr, true, false, nat_eq, List, [], ◌∷◌, ◌++◌, ◌+◌, length, Option, Some, None, unwrap_or, refl, sym, ap, ◌∙◌}
 use Rattle.std.specs.Map.{update}
 use Rattle.std.specs.FinMap.{get}
 use Rattle.std.proofs.lemmas.Map.{update_here, update_apart}
-use Rattle.std.proofs.lemmas.Bool.{true≢false, cond-true, cond-false}
+use Rattle.std.specs.Prelude.{if◌then◌else◌}
+use Rattle.std.proofs.lemmas.Bool.{true≢false, cond-true, cond-false, cases_Bool}
+use Rattle.std.proofs.lemmas.List.{append-nil}
 use Rattle.history.specs.Key.{of_table}
 use Rattle.history.specs.declared.key.Key.{Key}
 use Rattle.history.specs.Table.{Granted, Work, found, removed, Answers}
 use Rattle.history.specs.declared.call.Call.{Call}
-use Rattle.history.specs.declared.call.Call.TheVariants.{Begin, Get, Put, Del, Scan, Save, Back, Commit, Abort}
+use Rattle.history.specs.declared.call.Call.TheVariants.{Begin, Get, Put, Del, Scan, Save, Back, Commit, Abort, Offer, Settle}
 use Rattle.history.specs.declared.call.Reply.{Reply}
 use Rattle.history.specs.declared.call.Reply.TheVariants.{Fine, Committed, NoTransaction, NoTable, Already, NoSave, SavesFull, Busy, LogFull, SlotsFull, PagesFull, Media, Dead, NoMemory}
-use Rattle.caller_steps.specs.State.{State, Index, calls_of, view_of, with_live, done_by}
+use Rattle.caller_steps.specs.State as state
+use Rattle.caller_steps.specs.State.{State, Index, unoffered, offered, unsettled, offers_with, calls_of, commits_of, view_of, with_live, with_offer, done_by}
+use Rattle.caller_steps.specs.Offers.{is_offered, is_unoffered, offerers, group_in, group_end, group_done, number_among, committed_group, doubted_group}
 use Rattle.caller_steps.specs.Locked.{IsFree}
 use Rattle.caller_steps.specs.Room.{Limits, Lacks, LacksAt}
-use Rattle.caller_steps.specs.Step.{Says, Asks, AsksTable, StepAt, StepIf, Step, Runs}
-use Rattle.caller_steps.specs.Fate.{is_refusal, is_media, is_committed, is_of_array, history_after, live_with, Moves}
+use Rattle.caller_steps.proofs.Offering.{offers_here, offers_apart, is_in, more_theirs, group_without, group_with, group_mine, offerers_once, offerer_has, offerer_is, group_history, group_names, group_base, group_dead, group_apart, group_ends, without_history, without_names, without_base, without_apart, without_ends}
+use Rattle.caller_steps.specs.Step.{Says, Asks, AsksTable, StepAt, StepBy, StepIf, Step, Runs}
+use Rattle.caller_steps.specs.Own.{is_commit}
+use Rattle.caller_steps.specs.Fate.{is_refusal, is_media, is_committed, is_of_array, committed_by, history_after, live_with, offer_with, Stays, EndsWith, Moves}
 
-pub data Fate (old : State) (caller : ℕ) (call : Call) (reply : Reply) (new : State) : Type 0 where
+pub data Fate (callers : ℕ) (old : State) (caller : ℕ) (call : Call) (reply : Reply) (new : State) : Type 0 where
   -- nothing changes for the callers
-  refused : is_refusal reply ≡ true → is_media reply ≡ false → (index : Index) → new ≡ record old { index = index } → Fate old caller call reply new
-  failed : reply ≡ Media → (index : Index) → new ≡ record old { index = index; is_dead = true } → Fate old caller call reply new
-  began : call ≡ Begin → reply ≡ Fine → new ≡ with_live old caller (Some []) → Fate old caller call reply new
+  refused : is_refusal reply ≡ true → is_media reply ≡ false → (index : Index) → new ≡ record old { index = index } → Fate callers old caller call reply new
+  failed : is_commit call ≡ false → reply ≡ Media → (index : Index) → new ≡ record old { index = index; is_dead = true } → Fate callers old caller call reply new
+  began : old.offers caller ≡ unoffered → call ≡ Begin → reply ≡ Fine → new ≡ with_live old caller (Some []) → Fate callers old caller call reply new
   -- the reply is that of the one-thread table
-  granted : (calls : Granted) → old.live caller ≡ Some calls → IsFree old caller call → Answers (view_of old caller) call reply
-      → (index : Index) → new ≡ record (with_live old caller (Some (calls ++ (call, reply) ∷ []))) { index = index } → Fate old caller call reply new
-  committed : (calls : Granted) → call ≡ Commit → reply ≡ Committed (length old.history + 1) → old.live caller ≡ Some calls
-      → (index : Index) → new ≡ record (with_live old caller None) { history = old.history ++ done_by old caller calls ∷ []; index = index } → Fate old caller call reply new
-  doubted : (calls : Granted) → call ≡ Commit → reply ≡ Media → old.live caller ≡ Some calls → (index : Index)
-      → new ≡ record (with_live old caller None) { doubt = done_by old caller calls ∷ []; index = index; is_dead = true } → Fate old caller call reply new
-  aborted : call ≡ Abort → reply ≡ Fine → new ≡ with_live old caller None → Fate old caller call reply new
+  granted : (calls : Granted) → old.offers caller ≡ unoffered → old.live caller ≡ Some calls → IsFree old caller call → Answers (view_of old caller) call reply
+      → (index : Index) → new ≡ record (with_live old caller (Some (calls ++ (call, reply) ∷ []))) { index = index } → Fate callers old caller call reply new
+  committed : (calls : Granted) → old.offers caller ≡ unoffered → call ≡ Commit → reply ≡ Committed (length old.history + 1) → old.live caller ≡ Some calls
+      → (index : Index) → new ≡ record (with_live old caller None) { history = old.history ++ done_by old caller calls ∷ []; index = index } → Fate callers old caller call reply new
+  doubted : (calls : Granted) → old.offers caller ≡ unoffered → call ≡ Commit → reply ≡ Media → old.live caller ≡ Some calls → (index : Index)
+      → new ≡ record (with_live old caller None) { doubt = done_by old caller calls ∷ []; index = index; is_dead = true } → Fate callers old caller call reply new
+  aborted : old.offers caller ≡ unoffered → call ≡ Abort → reply ≡ Fine → new ≡ with_live old caller None → Fate callers old caller call reply new
+  -- the transaction takes no more calls
+  given : (calls : Granted) → old.offers caller ≡ unoffered → call ≡ Offer → reply ≡ Fine → old.live caller ≡ Some calls → new ≡ with_offer old caller offered → Fate callers old caller call reply new
+  -- all that were offered are committed, or in doubt
+  settled : caller < callers → old.offers caller ≡ offered → call ≡ Settle → reply ≡ Committed (number_among (length old.history + 1) (offerers callers old) caller) → (index : Index)
+      → new ≡ record (with_offer (committed_group old (offerers callers old)) caller unoffered) { index = index } → Fate callers old caller call reply new
+  unsure : caller < callers → old.offers caller ≡ offered → call ≡ Settle → reply ≡ Media → (index : Index) → new ≡ record (doubted_group old (offerers callers old)) { index = index } → Fate callers old caller call reply new
+  -- the number of a transaction that a group has committed is told
+  told : (n : ℕ) → old.offers caller ≡ unsettled n → call ≡ Settle → reply ≡ Committed n → new ≡ with_offer (with_live old caller None) caller unoffered → Fate callers old caller call reply new
 
 -- a refusal for lack of room is a reply of the array
 pub lacks_at_of_array : (limits : Limits) (old : State) (caller : ℕ) (key : Key) (slot : Option ℕ) (reply : Reply) → LacksAt limits old caller key slot reply → is_of_array reply ≡ true
@@ -57,50 +72,81 @@ lacks_refusal limits old caller (Del name key) reply lacks = lacks_at_refusal li
 lacks_refusal limits old caller _ reply lacks = absurd lacks
 
 module _ (limits : Limits) (old : State) (caller : ℕ) (new : State) where
-  says : (call : Call) (reply answer : Reply) → is_refusal answer ≡ true → is_media answer ≡ false → Says answer old reply new → Fate old caller call reply new
+  says : (call : Call) (reply answer : Reply) → is_refusal answer ≡ true → is_media answer ≡ false → Says answer old reply new → Fate limits.callers old caller call reply new
   says call reply answer refusal sure is = refused (ap is_refusal is.0 ∙ refusal) (ap is_media is.0 ∙ sure) old.index is.1
 
-  asks : (calls : Granted) (call : Call) (reply : Reply) → old.live caller ≡ Some calls → Asks limits calls old caller call reply new → Fate old caller call reply new
-  asks calls call reply is (inl short) = says call reply NoMemory refl refl short
-  asks calls call reply is (inr (inl held)) = says call reply (Busy held.0) refl refl held.2
-  asks calls call reply is (inr (inr (free, inl (answers, fits, index, indexes, e)))) = granted calls is free answers index e
-  asks calls call reply is (inr (inr (free, inr (inl (lacks, index, indexes, e))))) = let both = lacks_refusal limits old caller call reply lacks in refused both.0 both.1 index e
-  asks calls call reply is (inr (inr (free, inr (inr (uses, (re, index, e)))))) = failed re index e
+  asks : (calls : Granted) (call : Call) (reply : Reply) → is_commit call ≡ false → old.offers caller ≡ unoffered → old.live caller ≡ Some calls → Asks limits calls old caller call reply new → Fate limits.callers old caller call reply new
+  asks calls call reply apart un is (inl short) = says call reply NoMemory refl refl short
+  asks calls call reply apart un is (inr (inl held)) = says call reply (Busy held.0) refl refl held.2
+  asks calls call reply apart un is (inr (inr (free, inl (answers, fits, index, indexes, e)))) = granted calls un is free answers index e
+  asks calls call reply apart un is (inr (inr (free, inr (inl (lacks, index, indexes, e))))) = let both = lacks_refusal limits old caller call reply lacks in refused both.0 both.1 index e
+  asks calls call reply apart un is (inr (inr (free, inr (inr (uses, (re, index, e)))))) = failed apart re index e
 
-  tabled : (calls : Granted) (call : Call) (reply : Reply) → old.live caller ≡ Some calls → AsksTable limits calls old caller call reply new → Fate old caller call reply new
-  tabled calls call reply is (inl (none, s)) = says call reply NoTable refl refl s
-  tabled calls call reply is (inr (some, a)) = asks calls call reply is a
+  tabled : (calls : Granted) (call : Call) (reply : Reply) → is_commit call ≡ false → old.offers caller ≡ unoffered → old.live caller ≡ Some calls → AsksTable limits calls old caller call reply new → Fate limits.callers old caller call reply new
+  tabled calls call reply apart un is (inl (none, s)) = says call reply NoTable refl refl s
+  tabled calls call reply apart un is (inr (some, a)) = asks calls call reply apart un is a
 
-  fate_at : (live : Option Granted) (call : Call) (reply : Reply) → old.live caller ≡ live → StepAt limits live old caller call reply new → Fate old caller call reply new
-  fate_at None Begin reply is (re, e) = began refl re e
-  fate_at None (Get name key) reply is s = says (Get name key) reply NoTransaction refl refl s
-  fate_at None (Put name key value) reply is s = says (Put name key value) reply NoTransaction refl refl s
-  fate_at None (Del name key) reply is s = says (Del name key) reply NoTransaction refl refl s
-  fate_at None (Scan name low high) reply is s = says (Scan name low high) reply NoTransaction refl refl s
-  fate_at None Save reply is s = says Save reply NoTransaction refl refl s
-  fate_at None (Back n) reply is s = says (Back n) reply NoTransaction refl refl s
-  fate_at None Commit reply is s = says Commit reply NoTransaction refl refl s
-  fate_at None Abort reply is s = says Abort reply NoTransaction refl refl s
-  fate_at (Some calls) Begin reply is s = says Begin reply Already refl refl s
-  fate_at (Some calls) (Get name key) reply is a = tabled calls (Get name key) reply is a
-  fate_at (Some calls) (Put name key value) reply is a = tabled calls (Put name key value) reply is a
-  fate_at (Some calls) (Del name key) reply is a = tabled calls (Del name key) reply is a
-  fate_at (Some calls) (Scan name low high) reply is a = tabled calls (Scan name low high) reply is a
-  fate_at (Some calls) Save reply is (inl (full, s)) = says Save reply SavesFull refl refl s
-  fate_at (Some calls) Save reply is (inr (room, a)) = asks calls Save reply is a
-  fate_at (Some calls) (Back n) reply is (inl (none, s)) = says (Back n) reply (NoSave n) refl refl s
-  fate_at (Some calls) (Back n) reply is (inr (some, a)) = asks calls (Back n) reply is a
-  fate_at (Some calls) Commit reply is (inl short) = says Commit reply NoMemory refl refl short
-  fate_at (Some calls) Commit reply is (inr (inl (re, index, settles, e))) = committed calls refl re is index e
-  fate_at (Some calls) Commit reply is (inr (inr (wrote, re, index, e))) = doubted calls refl re is index e
-  fate_at (Some calls) Abort reply is (re, e) = aborted refl re e
+  fate_at : (live : Option Granted) (call : Call) (reply : Reply) → old.offers caller ≡ unoffered → old.live caller ≡ live → StepAt limits live old caller call reply new → Fate limits.callers old caller call reply new
+  fate_at None Begin reply un is (re, e) = began un refl re e
+  fate_at None (Get name key) reply un is s = says (Get name key) reply NoTransaction refl refl s
+  fate_at None (Put name key value) reply un is s = says (Put name key value) reply NoTransaction refl refl s
+  fate_at None (Del name key) reply un is s = says (Del name key) reply NoTransaction refl refl s
+  fate_at None (Scan name low high) reply un is s = says (Scan name low high) reply NoTransaction refl refl s
+  fate_at None Save reply un is s = says Save reply NoTransaction refl refl s
+  fate_at None (Back n) reply un is s = says (Back n) reply NoTransaction refl refl s
+  fate_at None Commit reply un is s = says Commit reply NoTransaction refl refl s
+  fate_at None Abort reply un is s = says Abort reply NoTransaction refl refl s
+  fate_at None Offer reply un is s = says Offer reply NoTransaction refl refl s
+  fate_at None Settle reply un is s = says Settle reply NoTransaction refl refl s
+  fate_at (Some calls) Begin reply un is s = says Begin reply Already refl refl s
+  fate_at (Some calls) (Get name key) reply un is a = tabled calls (Get name key) reply refl un is a
+  fate_at (Some calls) (Put name key value) reply un is a = tabled calls (Put name key value) reply refl un is a
+  fate_at (Some calls) (Del name key) reply un is a = tabled calls (Del name key) reply refl un is a
+  fate_at (Some calls) (Scan name low high) reply un is a = tabled calls (Scan name low high) reply refl un is a
+  fate_at (Some calls) Save reply un is (inl (full, s)) = says Save reply SavesFull refl refl s
+  fate_at (Some calls) Save reply un is (inr (room, a)) = asks calls Save reply refl un is a
+  fate_at (Some calls) (Back n) reply un is (inl (none, s)) = says (Back n) reply (NoSave n) refl refl s
+  fate_at (Some calls) (Back n) reply un is (inr (some, a)) = asks calls (Back n) reply refl un is a
+  fate_at (Some calls) Commit reply un is (inl short) = says Commit reply NoMemory refl refl short
+  fate_at (Some calls) Commit reply un is (inr (inl (re, index, settles, e))) = committed calls un refl re is index e
+  fate_at (Some calls) Commit reply un is (inr (inr (wrote, re, index, e))) = doubted calls un refl re is index e
+  fate_at (Some calls) Abort reply un is (re, e) = aborted un refl re e
+  fate_at (Some calls) Offer reply un is (re, e) = given calls un refl re is e
+  fate_at (Some calls) Settle reply un is s = says Settle reply NoTransaction refl refl s
 
-  fate_if : (dead : Bool) (call : Call) (reply : Reply) → StepIf limits dead old caller call reply new → Fate old caller call reply new
+  fate_by : (offer : state.Offer) (call : Call) (reply : Reply) → old.offers caller ≡ offer → StepBy limits offer old caller call reply new → Fate limits.callers old caller call reply new
+  fate_by unoffered call reply is s = fate_at (old.live caller) call reply is refl s
+  fate_by offered Begin reply is s = says Begin reply Already refl refl s
+  fate_by offered (Get name key) reply is s = says (Get name key) reply NoTransaction refl refl s
+  fate_by offered (Put name key value) reply is s = says (Put name key value) reply NoTransaction refl refl s
+  fate_by offered (Del name key) reply is s = says (Del name key) reply NoTransaction refl refl s
+  fate_by offered (Scan name low high) reply is s = says (Scan name low high) reply NoTransaction refl refl s
+  fate_by offered Save reply is s = says Save reply NoTransaction refl refl s
+  fate_by offered (Back n) reply is s = says (Back n) reply NoTransaction refl refl s
+  fate_by offered Commit reply is s = says Commit reply NoTransaction refl refl s
+  fate_by offered Abort reply is s = says Abort reply NoTransaction refl refl s
+  fate_by offered Offer reply is s = says Offer reply NoTransaction refl refl s
+  fate_by offered Settle reply is (inl short) = says Settle reply NoMemory refl refl short
+  fate_by offered Settle reply is (inr (inside, inl (re, index, settles, e))) = settled inside is refl re index e
+  fate_by offered Settle reply is (inr (inside, inr (wrote, re, index, e))) = unsure inside is refl re index e
+  fate_by (unsettled n) Begin reply is s = says Begin reply Already refl refl s
+  fate_by (unsettled n) (Get name key) reply is s = says (Get name key) reply NoTransaction refl refl s
+  fate_by (unsettled n) (Put name key value) reply is s = says (Put name key value) reply NoTransaction refl refl s
+  fate_by (unsettled n) (Del name key) reply is s = says (Del name key) reply NoTransaction refl refl s
+  fate_by (unsettled n) (Scan name low high) reply is s = says (Scan name low high) reply NoTransaction refl refl s
+  fate_by (unsettled n) Save reply is s = says Save reply NoTransaction refl refl s
+  fate_by (unsettled n) (Back m) reply is s = says (Back m) reply NoTransaction refl refl s
+  fate_by (unsettled n) Commit reply is s = says Commit reply NoTransaction refl refl s
+  fate_by (unsettled n) Abort reply is s = says Abort reply NoTransaction refl refl s
+  fate_by (unsettled n) Offer reply is s = says Offer reply NoTransaction refl refl s
+  fate_by (unsettled n) Settle reply is (re, e) = told n is refl re e
+
+  fate_if : (dead : Bool) (call : Call) (reply : Reply) → StepIf limits dead old caller call reply new → Fate limits.callers old caller call reply new
   fate_if true call reply s = says call reply Dead refl refl s
-  fate_if false call reply s = fate_at (old.live caller) call reply refl s
+  fate_if false call reply s = fate_by (old.offers caller) call reply refl s
 
   -- Each step has one of the fates.
-  pub step_fate : (call : Call) (reply : Reply) → Step limits old caller call reply new → Fate old caller call reply new
+  pub step_fate : (call : Call) (reply : Reply) → Step limits old caller call reply new → Fate limits.callers old caller call reply new
   step_fate call reply step = fate_if old.is_dead call reply step
 
 -- a refusal is no reply of a commit
@@ -135,6 +181,8 @@ answered_live : (calls : Granted) (work : Work) (call : Call) (reply : Reply) �
 answered_live calls work Begin reply answers = absurd answers
 answered_live calls work Commit reply answers = absurd answers
 answered_live calls work Abort reply answers = absurd answers
+answered_live calls work Offer reply answers = absurd answers
+answered_live calls work Settle reply answers = absurd answers
 answered_live calls work _ reply answers = refl
 
 or_true : (b : Bool) → (b || true) ≡ true
@@ -145,15 +193,38 @@ or_none : (b : Bool) → (b || false) ≡ b
 or_none true = refl
 or_none false = refl
 
-module _ (old : State) (caller : ℕ) (call : Call) (reply : Reply) (new : State) where
+answered_offer : (work : Work) (call : Call) (reply : Reply) → Answers work call reply → unoffered ≡ offer_with call
+answered_offer work Offer reply answers = absurd answers
+answered_offer work _ reply answers = refl
+
+module _ (callers : ℕ) (old : State) (caller : ℕ) (call : Call) (reply : Reply) (new : State) where
   live_moved : (other : ℕ) (calls : Option Granted) → other ≢ caller → new.live ≡ update nat_eq old.live caller calls → new.live other ≡ old.live other
   live_moved other calls ne e = ap (λ (f : ℕ → Option Granted). f other) e ∙ update_apart old.live caller calls other ne
 
   live_set : (calls : Option Granted) → new.live ≡ update nat_eq old.live caller calls → new.live caller ≡ calls
   live_set calls e = ap (λ (f : ℕ → Option Granted). f caller) e ∙ update_here old.live caller calls
 
-  same_history : is_committed reply ≡ false → new.history ≡ old.history → new.history ≡ history_after old caller reply
-  same_history none e = e ∙ sym (cond-false (is_committed reply) (old.history ++ done_by old caller (calls_of old caller) ∷ []) old.history none)
+  -- others stay where neither what is live nor what is offered or committed changes, or only this caller's
+  others_same : new.live ≡ old.live → new.offers ≡ old.offers → new.history ≡ old.history → (other : ℕ) → other ≢ caller → Stays old new other ⊎ EndsWith callers old caller call reply new other
+  others_same l o h other ne = inl (record { live = ap (λ (f : ℕ → Option Granted). f other) l; offer = ap (λ (f : ℕ → state.Offer). f other) o; mine = ap (commits_of other) h })
+
+  others_live : (calls : Option Granted) → new.live ≡ update nat_eq old.live caller calls → new.offers ≡ old.offers → ((other : ℕ) → other ≢ caller → commits_of other new.history ≡ commits_of other old.history)
+      → (other : ℕ) → other ≢ caller → Stays old new other ⊎ EndsWith callers old caller call reply new other
+  others_live calls l o mine other ne = inl (record { live = live_moved other calls ne l; offer = ap (λ (f : ℕ → state.Offer). f other) o; mine = mine other ne })
+
+  -- nobody's commits change
+  none_more : new.history ≡ old.history → (other : ℕ) → other ≢ caller → commits_of other new.history ≡ commits_of other old.history
+  none_more h other ne = ap (commits_of other) h
+
+  -- its own offer is none as before
+  offer_none : old.offers caller ≡ unoffered → new.offers ≡ old.offers → unoffered ≡ offer_with call → new.offers caller ≡ offer_with call
+  offer_none un o is = ap (λ (f : ℕ → state.Offer). f caller) o ∙ un ∙ is
+
+  same_history : is_committed reply ≡ false → new.history ≡ old.history → new.history ≡ history_after callers old caller call reply
+  same_history none e = e ∙ sym (cond-false (is_committed reply) (old.history ++ committed_by callers old caller call) old.history none)
+
+  more_history : is_committed reply ≡ true → new.history ≡ old.history ++ committed_by callers old caller call → new.history ≡ history_after callers old caller call reply
+  more_history is e = e ∙ sym (cond-true (is_committed reply) (old.history ++ committed_by callers old caller call) old.history is)
 
   alive_same : is_media reply ≡ false → new.is_dead ≡ old.is_dead → new.is_dead ≡ (old.is_dead || is_media reply)
   alive_same none e = e ∙ sym (ap (λ (b : Bool). old.is_dead || b) none ∙ or_none old.is_dead)
@@ -161,80 +232,193 @@ module _ (old : State) (caller : ℕ) (call : Call) (reply : Reply) (new : State
   dead_now : is_media reply ≡ true → new.is_dead ≡ true → new.is_dead ≡ (old.is_dead || is_media reply)
   dead_now media e = e ∙ sym (ap (λ (b : Bool). old.is_dead || b) media ∙ or_true old.is_dead)
 
+  -- what a settle commits, by what its caller has offered
+  settles_as : (offer : state.Offer) → call ≡ Settle → old.offers caller ≡ offer
+      → committed_by callers old caller call ≡ (if is_offered offer then group_in old (group_end old (offerers callers old)) (offerers callers old) else [])
+  settles_as offer c is = ap (committed_by callers old caller) c ∙ ap (λ (o : state.Offer). if is_offered o then group_in old (group_end old (offerers callers old)) (offerers callers old) else []) is
+
   -- what each fate does to transactions
-  pub fate_moves : Fate old caller call reply new → Moves old caller call reply new
+  pub fate_moves : Fate callers old caller call reply new → Moves callers old caller call reply new
   fate_moves (refused refusal sure index e) = record {
     names = ap (λ (s : State). s.names) e;
     base = ap (λ (s : State). s.base) e;
     history = same_history (refusal_none reply refusal) (ap (λ (s : State). s.history) e);
     dead = alive_same sure (ap (λ (s : State). s.is_dead) e);
     own = λ done. absurd (true≢false (sym refusal ∙ done));
-    others = λ other ne. ap (λ (s : State). s.live other) e;
-    refused = λ re ok. ap (λ (s : State). s.live) e;
+    others = others_same (ap (λ (s : State). s.live) e) (ap (λ (s : State). s.offers) e) (ap (λ (s : State). s.history) e);
+    closed = λ gate done. absurd (true≢false (sym refusal ∙ done));
+    refused = λ re ok. (ap (λ (s : State). s.live) e, ap (λ (s : State). s.offers) e);
   }
-  fate_moves (failed r index e) = record {
+  fate_moves (failed apart r index e) = record {
     names = ap (λ (s : State). s.names) e;
     base = ap (λ (s : State). s.base) e;
     history = same_history (ap is_committed r) (ap (λ (s : State). s.history) e);
     dead = dead_now (ap is_media r) (ap (λ (s : State). s.is_dead) e);
     own = λ done. absurd (true≢false (sym (ap is_refusal r) ∙ done));
-    others = λ other ne. ap (λ (s : State). s.live other) e;
-    refused = λ re ok. ap (λ (s : State). s.live) e;
+    others = others_same (ap (λ (s : State). s.live) e) (ap (λ (s : State). s.offers) e) (ap (λ (s : State). s.history) e);
+    closed = λ gate done. absurd (true≢false (sym (ap is_refusal r) ∙ done));
+    refused = λ re ok. (ap (λ (s : State). s.live) e, ap (λ (s : State). s.offers) e);
   }
-  fate_moves (began c r e) = record {
+  fate_moves (began un c r e) = record {
     names = ap (λ (s : State). s.names) e;
     base = ap (λ (s : State). s.base) e;
     history = same_history (ap is_committed r) (ap (λ (s : State). s.history) e);
     dead = alive_same (ap is_media r) (ap (λ (s : State). s.is_dead) e);
-    own = λ done. live_set (Some []) (ap (λ (s : State). s.live) e) ∙ ap (λ (x : Call). live_with (calls_of old caller) x reply) (sym c);
-    others = λ other ne. live_moved other (Some []) ne (ap (λ (s : State). s.live) e);
+    own = λ done. (
+      live_set (Some []) (ap (λ (s : State). s.live) e) ∙ ap (λ (x : Call). live_with (calls_of old caller) x reply) (sym c),
+      offer_none un (ap (λ (s : State). s.offers) e) (ap offer_with (sym c)),
+    );
+    others = others_live (Some []) (ap (λ (s : State). s.live) e) (ap (λ (s : State). s.offers) e) (none_more (ap (λ (s : State). s.history) e));
+    closed = λ gate done. absurd (true≢false (sym (ap is_unoffered un) ∙ gate));
     refused = λ re ok. absurd (true≢false (sym re ∙ ap is_refusal r));
   }
-  fate_moves (granted calls l free answers index e) =
+  fate_moves (granted calls un l free answers index e) =
       let plain : IsPlain reply = answer_plain (view_of old caller) call reply answers in
       record {
         names = ap (λ (s : State). s.names) e;
         base = ap (λ (s : State). s.base) e;
         history = same_history plain.uncommitted (ap (λ (s : State). s.history) e);
         dead = alive_same plain.sure (ap (λ (s : State). s.is_dead) e);
-        own = λ done. live_set (Some (calls ++ (call, reply) ∷ [])) (ap (λ (s : State). s.live) e)
-            ∙ ap (λ (cs : Granted). Some (cs ++ (call, reply) ∷ [])) (sym (ap (λ (o : Option Granted). unwrap_or o []) l)) ∙ answered_live (calls_of old caller) (view_of old caller) call reply answers;
-        others = λ other ne. live_moved other (Some (calls ++ (call, reply) ∷ [])) ne (ap (λ (s : State). s.live) e);
+        own = λ done. (
+          live_set (Some (calls ++ (call, reply) ∷ [])) (ap (λ (s : State). s.live) e)
+              ∙ ap (λ (cs : Granted). Some (cs ++ (call, reply) ∷ [])) (sym (ap (λ (o : Option Granted). unwrap_or o []) l)) ∙ answered_live (calls_of old caller) (view_of old caller) call reply answers,
+          offer_none un (ap (λ (s : State). s.offers) e) (answered_offer (view_of old caller) call reply answers),
+        );
+        others = others_live (Some (calls ++ (call, reply) ∷ [])) (ap (λ (s : State). s.live) e) (ap (λ (s : State). s.offers) e) (none_more (ap (λ (s : State). s.history) e));
+        closed = λ gate done. absurd (true≢false (sym (ap is_unoffered un) ∙ gate));
         refused = λ re ok. absurd (true≢false (sym re ∙ plain.done));
       }
-  fate_moves (committed calls c r l index e) = record {
+  fate_moves (committed calls un c r l index e) = record {
     names = ap (λ (s : State). s.names) e;
     base = ap (λ (s : State). s.base) e;
-    history = ap (λ (s : State). s.history) e
+    history = more_history (ap is_committed r) (ap (λ (s : State). s.history) e
         ∙ ap (λ (cs : Granted). old.history ++ done_by old caller cs ∷ []) (sym (ap (λ (o : Option Granted). unwrap_or o []) l))
-        ∙ sym (cond-true (is_committed reply) (old.history ++ done_by old caller (calls_of old caller) ∷ []) old.history (ap is_committed r));
+        ∙ ap (λ (x : Call). old.history ++ committed_by callers old caller x) (sym c));
     dead = alive_same (ap is_media r) (ap (λ (s : State). s.is_dead) e);
-    own = λ done. live_set None (ap (λ (s : State). s.live) e) ∙ ap (λ (x : Call). live_with (calls_of old caller) x reply) (sym c);
-    others = λ other ne. live_moved other None ne (ap (λ (s : State). s.live) e);
+    own = λ done. (
+      live_set None (ap (λ (s : State). s.live) e) ∙ ap (λ (x : Call). live_with (calls_of old caller) x reply) (sym c),
+      offer_none un (ap (λ (s : State). s.offers) e) (ap offer_with (sym c)),
+    );
+    others = others_live None (ap (λ (s : State). s.live) e) (ap (λ (s : State). s.offers) e) (λ other ne. ap (λ (s : State). commits_of other s.history) e ∙ more_theirs other old.history (done_by old caller calls) (λ same. ne (sym same)));
+    closed = λ gate done. absurd (true≢false (sym (ap is_unoffered un) ∙ gate));
     refused = λ re ok. absurd (true≢false (sym re ∙ ap is_refusal r));
   }
-  fate_moves (doubted calls c r l index e) = record {
+  fate_moves (doubted calls un c r l index e) = record {
     names = ap (λ (s : State). s.names) e;
     base = ap (λ (s : State). s.base) e;
     history = same_history (ap is_committed r) (ap (λ (s : State). s.history) e);
     dead = dead_now (ap is_media r) (ap (λ (s : State). s.is_dead) e);
     own = λ done. absurd (true≢false (sym (ap is_refusal r) ∙ done));
-    others = λ other ne. live_moved other None ne (ap (λ (s : State). s.live) e);
+    others = others_live None (ap (λ (s : State). s.live) e) (ap (λ (s : State). s.offers) e) (none_more (ap (λ (s : State). s.history) e));
+    closed = λ gate done. absurd (true≢false (sym (ap is_refusal r) ∙ done));
     refused = λ re ok. absurd (true≢false (sym (ap is_media r) ∙ ok));
   }
-  fate_moves (aborted c r e) = record {
+  fate_moves (aborted un c r e) = record {
     names = ap (λ (s : State). s.names) e;
     base = ap (λ (s : State). s.base) e;
     history = same_history (ap is_committed r) (ap (λ (s : State). s.history) e);
     dead = alive_same (ap is_media r) (ap (λ (s : State). s.is_dead) e);
-    own = λ done. live_set None (ap (λ (s : State). s.live) e) ∙ ap (λ (x : Call). live_with (calls_of old caller) x reply) (sym c);
-    others = λ other ne. live_moved other None ne (ap (λ (s : State). s.live) e);
+    own = λ done. (
+      live_set None (ap (λ (s : State). s.live) e) ∙ ap (λ (x : Call). live_with (calls_of old caller) x reply) (sym c),
+      offer_none un (ap (λ (s : State). s.offers) e) (ap offer_with (sym c)),
+    );
+    others = others_live None (ap (λ (s : State). s.live) e) (ap (λ (s : State). s.offers) e) (none_more (ap (λ (s : State). s.history) e));
+    closed = λ gate done. absurd (true≢false (sym (ap is_unoffered un) ∙ gate));
+    refused = λ re ok. absurd (true≢false (sym re ∙ ap is_refusal r));
+  }
+  fate_moves (given calls un c r l e) = record {
+    names = ap (λ (s : State). s.names) e;
+    base = ap (λ (s : State). s.base) e;
+    history = same_history (ap is_committed r) (ap (λ (s : State). s.history) e);
+    dead = alive_same (ap is_media r) (ap (λ (s : State). s.is_dead) e);
+    own = λ done. (
+      ap (λ (s : State). s.live caller) e ∙ l ∙ ap (λ (cs : Granted). Some cs) (sym (ap (λ (o : Option Granted). unwrap_or o []) l)) ∙ ap (λ (x : Call). live_with (calls_of old caller) x reply) (sym c),
+      ap (λ (s : State). s.offers caller) e ∙ offers_here old.offers caller offered ∙ ap offer_with (sym c),
+    );
+    others = λ other ne. inl (record {
+      live = ap (λ (s : State). s.live other) e;
+      offer = ap (λ (s : State). s.offers other) e ∙ offers_apart old.offers caller offered other ne;
+      mine = ap (λ (s : State). commits_of other s.history) e;
+    });
+    closed = λ gate done. absurd (true≢false (sym (ap is_unoffered un) ∙ gate));
+    refused = λ re ok. absurd (true≢false (sym re ∙ ap is_refusal r));
+  }
+  fate_moves (settled inside has c r index e) =
+      let os = offerers callers old in
+      let group = committed_group old os in
+      record {
+        names = ap (λ (s : State). s.names) e ∙ group_names old (group_end old os) os;
+        base = ap (λ (s : State). s.base) e ∙ group_base old (group_end old os) os;
+        history = more_history (ap is_committed r) (ap (λ (s : State). s.history) e ∙ group_history old (group_end old os) os
+            ∙ ap (λ (l : List Done). old.history ++ l) (sym (settles_as offered c has)));
+        dead = alive_same (ap is_media r) (ap (λ (s : State). s.is_dead) e ∙ group_dead old (group_end old os) os);
+        own = λ done. (
+          ap (λ (s : State). s.live caller) e ∙ (group_ends old (group_end old os) os caller (offerers_once callers old) (offerer_is callers old caller inside has)).live
+              ∙ ap (λ (x : Call). live_with (calls_of old caller) x reply) (sym c),
+          ap (λ (s : State). s.offers caller) e ∙ offers_here group.offers caller unoffered ∙ ap offer_with (sym c),
+        );
+        others = λ other ne. elim (cases_Bool (is_in other os)) [
+          | inl is ↦ (let at = group_ends old (group_end old os) os other (offerers_once callers old) is in inr (record {
+            settles = c;
+            own = has;
+            its = offerer_has callers old other is;
+            live = ap (λ (s : State). s.live other) e ∙ at.live;
+            offer = ap (λ (s : State). s.offers other) e ∙ offers_apart group.offers caller unoffered other ne ∙ at.offer
+                ∙ sym (cond-false (is_media reply) unoffered (unsettled (group_done old os other).at) (ap is_media r));
+            mine = ap (λ (s : State). commits_of other s.history) e ∙ ap (commits_of other) (group_history old (group_end old os) os) ∙ group_mine old (group_end old os) os other
+                ∙ ap (λ (l : List Done). commits_of other old.history ++ l) (group_with old (group_end old os) os other (offerers_once callers old) is)
+                ∙ sym (cond-false (is_media reply) (commits_of other old.history) (commits_of other old.history ++ group_done old os other ∷ []) (ap is_media r));
+          }))
+          | inr out ↦ (let at = group_apart old (group_end old os) os other out in inl (record {
+            live = ap (λ (s : State). s.live other) e ∙ at.live;
+            offer = ap (λ (s : State). s.offers other) e ∙ offers_apart group.offers caller unoffered other ne ∙ at.offer;
+            mine = ap (λ (s : State). commits_of other s.history) e ∙ ap (commits_of other) (group_history old (group_end old os) os) ∙ group_mine old (group_end old os) os other
+                ∙ ap (λ (l : List Done). commits_of other old.history ++ l) (group_without old (group_end old os) os other out) ∙ append-nil (commits_of other old.history);
+          }))
+        ];
+        closed = λ gate done. c;
+        refused = λ re ok. absurd (true≢false (sym re ∙ ap is_refusal r));
+      }
+  fate_moves (unsure inside has c r index e) =
+      let os = offerers callers old in
+      record {
+        names = ap (λ (s : State). s.names) e ∙ without_names old os;
+        base = ap (λ (s : State). s.base) e ∙ without_base old os;
+        history = same_history (ap is_committed r) (ap (λ (s : State). s.history) e ∙ without_history old os);
+        dead = dead_now (ap is_media r) (ap (λ (s : State). s.is_dead) e);
+        own = λ done. absurd (true≢false (sym (ap is_refusal r) ∙ done));
+        others = λ other ne. elim (cases_Bool (is_in other os)) [
+          | inl is ↦ (let at = without_ends old os other (offerers_once callers old) is in inr (record {
+            settles = c;
+            own = has;
+            its = offerer_has callers old other is;
+            live = ap (λ (s : State). s.live other) e ∙ at.live;
+            offer = ap (λ (s : State). s.offers other) e ∙ at.offer ∙ sym (cond-true (is_media reply) unoffered (unsettled (group_done old os other).at) (ap is_media r));
+            mine = ap (λ (s : State). commits_of other s.history) e ∙ ap (commits_of other) (without_history old os)
+                ∙ sym (cond-true (is_media reply) (commits_of other old.history) (commits_of other old.history ++ group_done old os other ∷ []) (ap is_media r));
+          }))
+          | inr out ↦ (let at = without_apart old os other out in inl (record { live = ap (λ (s : State). s.live other) e ∙ at.live; offer = ap (λ (s : State). s.offers other) e ∙ at.offer; mine = ap (λ (s : State). commits_of other s.history) e ∙ ap (commits_of other) (without_history old os) }))
+        ];
+        closed = λ gate done. c;
+        refused = λ re ok. absurd (true≢false (sym (ap is_media r) ∙ ok));
+      }
+  fate_moves (told n has c r e) = record {
+    names = ap (λ (s : State). s.names) e;
+    base = ap (λ (s : State). s.base) e;
+    history = more_history (ap is_committed r) (ap (λ (s : State). s.history) e ∙ sym (append-nil old.history) ∙ ap (λ (l : List Done). old.history ++ l) (sym (settles_as (unsettled n) c has)));
+    dead = alive_same (ap is_media r) (ap (λ (s : State). s.is_dead) e);
+    own = λ done. (
+      live_set None (ap (λ (s : State). s.live) e) ∙ ap (λ (x : Call). live_with (calls_of old caller) x reply) (sym c),
+      ap (λ (s : State). s.offers caller) e ∙ offers_here old.offers caller unoffered ∙ ap offer_with (sym c),
+    );
+    others = λ other ne. inl (record { live = live_moved other None ne (ap (λ (s : State). s.live) e); offer = ap (λ (s : State). s.offers other) e ∙ offers_apart old.offers caller unoffered other ne; mine = ap (λ (s : State). commits_of other s.history) e });
+    closed = λ gate done. c;
     refused = λ re ok. absurd (true≢false (sym re ∙ ap is_refusal r));
   }
 
 -- So each step does this to transactions.
-pub step_moves : (limits : Limits) (old : State) (caller : ℕ) (call : Call) (reply : Reply) (new : State) → Step limits old caller call reply new → Moves old caller call reply new
-step_moves limits old caller call reply new step = fate_moves old caller call reply new (step_fate limits old caller new call reply step)
+pub step_moves : (limits : Limits) (old : State) (caller : ℕ) (call : Call) (reply : Reply) (new : State) → Step limits old caller call reply new → Moves limits.callers old caller call reply new
+step_moves limits old caller call reply new step = fate_moves limits.callers old caller call reply new (step_fate limits old caller new call reply step)
 
 -- a run keeps the base
 pub runs_base : (limits : Limits) (old : State) (turns : List (ℕ × Call × Reply)) (new : State) → Runs limits old turns new → new.base ≡ old.base

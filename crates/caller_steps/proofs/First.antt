@@ -6,10 +6,11 @@ use Rattle.history.specs.Locks.{has_table}
 use Rattle.history.specs.declared.call.Call.{Call}
 use Rattle.history.specs.declared.call.Call.TheVariants.{Get, Put, Del, Scan}
 use Rattle.history.specs.declared.call.Reply.{Reply}
-use Rattle.caller_steps.specs.State.{State}
+use Rattle.caller_steps.specs.State as state
+use Rattle.caller_steps.specs.State.{State, unoffered}
 use Rattle.caller_steps.specs.Locked.{Blocks}
 use Rattle.caller_steps.specs.Room.{Limits}
-use Rattle.caller_steps.specs.Step.{Asks, AsksTable, StepAt, StepIf, Step}
+use Rattle.caller_steps.specs.Step.{Asks, AsksTable, StepAt, StepBy, StepIf, Step}
 use Rattle.caller_steps.specs.Fate.{may_come_held}
 
 module _ (limits : Limits) (old : State) (caller : ℕ) (new : State) (holder : ℕ) where
@@ -32,10 +33,11 @@ module _ (limits : Limits) (old : State) (caller : ℕ) (new : State) (holder : 
   at_held calls (Scan name low high) reply there blocks s = tabled_held calls (Scan name low high) reply there blocks s
   at_held calls _ reply there blocks s = absurd (false≢true blocks.1.1)
 
-  held_if : (dead : Bool) (calls : Granted) (call : Call) (reply : Reply) → old.live caller ≡ Some calls → has_table old.names call ≡ true → Blocks old caller call holder → StepIf limits dead old caller call reply new → IsLeft reply
-  held_if true calls call reply is there blocks s = (ap may_come_held s.0, s.1)
-  held_if false calls call reply is there blocks s = at_held calls call reply there blocks (subst (λ live. StepAt limits live old caller call reply new) is s)
+  held_if : (dead : Bool) (calls : Granted) (call : Call) (reply : Reply) → old.offers caller ≡ unoffered → old.live caller ≡ Some calls → has_table old.names call ≡ true → Blocks old caller call holder → StepIf limits dead old caller call reply new → IsLeft reply
+  held_if true calls call reply un is there blocks s = (ap may_come_held s.0, s.1)
+  held_if false calls call reply un is there blocks s =
+      at_held calls call reply there blocks (subst (λ live. StepAt limits live old caller call reply new) is (subst (λ (o : state.Offer). StepBy limits o old caller call reply new) un s))
 
   -- While another caller holds a stripe of a live caller's call, the reply is `Busy`, `Dead` or `NoMemory`, and nothing changes.
-  pub locks_first : (calls : Granted) (call : Call) (reply : Reply) → old.live caller ≡ Some calls → has_table old.names call ≡ true → Blocks old caller call holder → Step limits old caller call reply new → IsLeft reply
-  locks_first calls call reply is there blocks step = held_if old.is_dead calls call reply is there blocks step
+  pub locks_first : (calls : Granted) (call : Call) (reply : Reply) → old.offers caller ≡ unoffered → old.live caller ≡ Some calls → has_table old.names call ≡ true → Blocks old caller call holder → Step limits old caller call reply new → IsLeft reply
+  locks_first calls call reply un is there blocks step = held_if old.is_dead calls call reply un is there blocks step

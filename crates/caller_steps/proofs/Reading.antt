@@ -1,19 +1,21 @@
 -- What a run leaves in which no turn asks to write.
-use Rattle.std.proofs.Common.{◌≡◌, ℕ, zero, suc, inl, inr, Bool, true, false, ◌||◌, List, [], ◌∷◌, ◌++◌, take, length, Option, Some, None, unwrap_or, refl, sym, ap, subst, ◌∙◌}
-use Rattle.std.specs.Prelude.{IsFalse, if◌then◌else◌}
+use Rattle.std.proofs.Common.{◌≡◌, ◌⊎◌, ℕ, zero, suc, inl, inr, Bool, true, false, ◌||◌, List, [], ◌∷◌, ◌++◌, take, length, Option, Some, None, unwrap_or, refl, sym, ap, subst, ◌∙◌}
+use Rattle.std.specs.Prelude.{if◌then◌else◌}
 use Rattle.std.proofs.lemmas.Bool.{cases_eq, true≢false}
 use Rattle.history.specs.Writes.{Write}
 use Rattle.history.specs.Table.{Granted, has_save}
 use Rattle.history.specs.Log.{Log, save_at, log_after, log_of}
 use Rattle.history.specs.declared.call.Call.{Call}
-use Rattle.history.specs.declared.call.Call.TheVariants.{Begin, Get, Put, Del, Scan, Save, Back, Commit, Abort}
+use Rattle.history.specs.declared.call.Call.TheVariants.{Begin, Get, Put, Del, Scan, Save, Back, Commit, Abort, Offer, Settle}
 use Rattle.history.specs.declared.call.Reply.{Reply}
 use Rattle.history.proofs.OneMore.{log_of-push}
 use Rattle.history.proofs.Saves.{save_is_front}
-use Rattle.caller_steps.specs.State.{State, Index, calls_of}
+use Rattle.caller_steps.specs.State as state
+use Rattle.caller_steps.specs.State.{State, Index, unoffered, offered, unsettled, calls_of}
+use Rattle.caller_steps.specs.Offers.{offerers, group_writes}
 use Rattle.caller_steps.specs.Room.{Limits, Indexes}
-use Rattle.caller_steps.specs.Step.{Says, Asks, AsksTable, StepAt, StepIf, Step, Runs}
-use Rattle.caller_steps.specs.Fate.{is_refusal, is_media, live_with, Moves}
+use Rattle.caller_steps.specs.Step.{Says, Asks, AsksTable, StepAt, StepBy, StepIf, Step, Runs}
+use Rattle.caller_steps.specs.Fate.{is_refusal, is_media, live_with, Stays, EndsWith, Moves}
 use Rattle.caller_steps.specs.Run.{Turn, is_write, has_write}
 use Rattle.caller_steps.proofs.Fates.{step_moves}
 use Rattle.caller_steps.proofs.Running.{turns_dead, turns_of_runs}
@@ -49,6 +51,8 @@ module _ (calls : Granted) (none : HasNone calls) where
   log_none Begin reply reads = none
   log_none Commit reply reads = none
   log_none Abort reply reads = none
+  log_none Offer reply reads = none
+  log_none Settle reply reads = none
 
   more_none : (call : Call) (reply : Reply) → is_write call ≡ false → HasNone (calls ++ (call, reply) ∷ [])
   more_none call reply reads = ap (λ (l : Log). l.writes) (log_of-push calls call reply) ∙ log_none call reply reads
@@ -63,6 +67,8 @@ module _ (calls : Granted) (none : HasNone calls) where
   live_none (Back n) reply reads = more_none (Back n) reply reads
   live_none Commit reply reads = refl
   live_none Abort reply reads = refl
+  live_none Offer reply reads = none
+  live_none Settle reply reads = refl
 
 module _ (limits : Limits) (old : State) (caller : ℕ) (new : State) (alive : new.is_dead ≡ false) where
   said : (answer reply : Reply) → Says answer old reply new → new.index ≡ old.index
@@ -89,6 +95,8 @@ module _ (limits : Limits) (old : State) (caller : ℕ) (new : State) (alive : n
   read_at None (Back n) reply none reads s = ap (λ (s : State). s.index) s.1
   read_at None Commit reply none reads s = ap (λ (s : State). s.index) s.1
   read_at None Abort reply none reads s = ap (λ (s : State). s.index) s.1
+  read_at None Offer reply none reads s = ap (λ (s : State). s.index) s.1
+  read_at None Settle reply none reads s = ap (λ (s : State). s.index) s.1
   read_at (Some calls) Begin reply none reads s = ap (λ (s : State). s.index) s.1
   read_at (Some calls) (Get name key) reply none reads a = tabled calls (Get name key) reply (λ index same. same) a
   read_at (Some calls) (Scan name low high) reply none reads a = tabled calls (Scan name low high) reply (λ index same. same) a
@@ -100,28 +108,66 @@ module _ (limits : Limits) (old : State) (caller : ℕ) (new : State) (alive : n
   read_at (Some calls) Commit reply none reads (inr (inl (re, index, settles, e))) = ap (λ (s : State). s.index) e ∙ settles.none none
   read_at (Some calls) Commit reply none reads (inr (inr (wrote, re, index, e))) = absurd (true≢false (sym (ap (λ (s : State). s.is_dead) e) ∙ alive))
   read_at (Some calls) Abort reply none reads s = ap (λ (s : State). s.index) s.1
+  read_at (Some calls) Offer reply none reads s = ap (λ (s : State). s.index) s.1
+  read_at (Some calls) Settle reply none reads s = ap (λ (s : State). s.index) s.1
 
-  read_if : (dead : Bool) (call : Call) (reply : Reply) → HasNone (calls_of old caller) → is_write call ≡ false → StepIf limits dead old caller call reply new → new.index ≡ old.index
+  -- a group of transactions that have written nothing has written nothing
+  group_none : (callers : List ℕ) → ((other : ℕ) → HasNone (calls_of old other)) → group_writes old callers ≡ []
+  group_none [] none = refl
+  group_none (first ∷ callers) none = (λ i. none first i ++ group_writes old callers) ∙ group_none callers none
+
+  read_by : (offer : state.Offer) (call : Call) (reply : Reply) → ((other : ℕ) → HasNone (calls_of old other)) → is_write call ≡ false → StepBy limits offer old caller call reply new → new.index ≡ old.index
+  read_by unoffered call reply none reads s = read_at (old.live caller) call reply (none caller) reads s
+  read_by offered Settle reply none reads (inl short) = ap (λ (s : State). s.index) short.1
+  read_by offered Settle reply none reads (inr (inside, inl (re, index, settles, e))) = ap (λ (s : State). s.index) e ∙ settles.none (group_none (offerers limits.callers old) none)
+  read_by offered Settle reply none reads (inr (inside, inr (wrote, re, index, e))) = absurd (true≢false (sym (ap (λ (s : State). s.is_dead) e) ∙ alive))
+  read_by offered Begin reply none reads s = ap (λ (s : State). s.index) s.1
+  read_by offered (Get name key) reply none reads s = ap (λ (s : State). s.index) s.1
+  read_by offered (Put name key value) reply none reads s = ap (λ (s : State). s.index) s.1
+  read_by offered (Del name key) reply none reads s = ap (λ (s : State). s.index) s.1
+  read_by offered (Scan name low high) reply none reads s = ap (λ (s : State). s.index) s.1
+  read_by offered Save reply none reads s = ap (λ (s : State). s.index) s.1
+  read_by offered (Back n) reply none reads s = ap (λ (s : State). s.index) s.1
+  read_by offered Commit reply none reads s = ap (λ (s : State). s.index) s.1
+  read_by offered Abort reply none reads s = ap (λ (s : State). s.index) s.1
+  read_by offered Offer reply none reads s = ap (λ (s : State). s.index) s.1
+  read_by (unsettled n) Begin reply none reads s = ap (λ (s : State). s.index) s.1
+  read_by (unsettled n) (Get name key) reply none reads s = ap (λ (s : State). s.index) s.1
+  read_by (unsettled n) (Put name key value) reply none reads s = ap (λ (s : State). s.index) s.1
+  read_by (unsettled n) (Del name key) reply none reads s = ap (λ (s : State). s.index) s.1
+  read_by (unsettled n) (Scan name low high) reply none reads s = ap (λ (s : State). s.index) s.1
+  read_by (unsettled n) Save reply none reads s = ap (λ (s : State). s.index) s.1
+  read_by (unsettled n) (Back m) reply none reads s = ap (λ (s : State). s.index) s.1
+  read_by (unsettled n) Commit reply none reads s = ap (λ (s : State). s.index) s.1
+  read_by (unsettled n) Abort reply none reads s = ap (λ (s : State). s.index) s.1
+  read_by (unsettled n) Offer reply none reads s = ap (λ (s : State). s.index) s.1
+  read_by (unsettled n) Settle reply none reads s = ap (λ (s : State). s.index) s.1
+
+  read_if : (dead : Bool) (call : Call) (reply : Reply) → ((other : ℕ) → HasNone (calls_of old other)) → is_write call ≡ false → StepIf limits dead old caller call reply new → new.index ≡ old.index
   read_if true call reply none reads s = ap (λ (s : State). s.index) s.1
-  read_if false call reply none reads s = read_at (old.live caller) call reply none reads s
+  read_if false call reply none reads s = read_by (old.offers caller) call reply none reads s
 
   -- a step leaves the index and the data
-  step_reads : (call : Call) (reply : Reply) → HasNone (calls_of old caller) → is_write call ≡ false → Step limits old caller call reply new → new.index ≡ old.index
+  step_reads : (call : Call) (reply : Reply) → ((other : ℕ) → HasNone (calls_of old other)) → is_write call ≡ false → Step limits old caller call reply new → new.index ≡ old.index
   step_reads call reply none reads s = read_if old.is_dead call reply none reads s
 
   -- and nothing is written by a live transaction
   step_none : (call : Call) (reply : Reply) → ((other : ℕ) → HasNone (calls_of old other)) → is_write call ≡ false → Step limits old caller call reply new → (other : ℕ) → HasNone (calls_of new other)
   step_none call reply none reads s other = elim (cases_eq other caller) [
     | inl e ↦ subst (λ (o : ℕ). HasNone (calls_of new o)) (sym e) (own (is_refusal reply) refl)
-    | inr ne ↦ subst (λ (o : Option Granted). HasNone (unwrap_or o [])) (sym (moves.others other ne)) (none other)
+    | inr ne ↦ apart (moves.others other ne)
   ]
     where
-      moves : Moves old caller call reply new
+      moves : Moves limits.callers old caller call reply new
       moves = step_moves limits old caller call reply new s
 
+      apart : Stays old new other ⊎ EndsWith limits.callers old caller call reply new other → HasNone (calls_of new other)
+      apart (inl stays) = subst (λ (o : Option Granted). HasNone (unwrap_or o [])) (sym stays.live) (none other)
+      apart (inr ends) = subst (λ (o : Option Granted). HasNone (unwrap_or o [])) (sym ends.live) refl
+
       own : (b : Bool) → is_refusal reply ≡ b → HasNone (calls_of new caller)
-      own true refusal = subst (λ (f : ℕ → Option Granted). HasNone (unwrap_or (f caller) [])) (sym (moves.refused refusal (either old.is_dead (is_media reply) (sym moves.dead ∙ alive)).1)) (none caller)
-      own false done = subst (λ (o : Option Granted). HasNone (unwrap_or o [])) (sym (moves.own done)) (live_none (calls_of old caller) (none caller) call reply reads)
+      own true refusal = subst (λ (f : ℕ → Option Granted). HasNone (unwrap_or (f caller) [])) (sym (moves.refused refusal (either old.is_dead (is_media reply) (sym moves.dead ∙ alive)).1).0) (none caller)
+      own false done = subst (λ (o : Option Granted). HasNone (unwrap_or o [])) (sym (moves.own done).0) (live_none (calls_of old caller) (none caller) call reply reads)
 
 module _ (limits : Limits) where
   alive_first : (first now : State) (turns : List Turn) → Runs limits first turns now → now.is_dead ≡ false → first.is_dead ≡ false
@@ -133,7 +179,7 @@ module _ (limits : Limits) where
       let living = alive_first runs.0 now turns runs.2 alive in
       let both = either (is_write turn.1) (has_write turns) reads in
       runs_read runs.0 now turns runs.2 (step_none limits first turn.0 runs.0 living turn.1 turn.2 none both.0 runs.1) both.1 alive
-      ∙ step_reads limits first turn.0 runs.0 living turn.1 turn.2 (none turn.0) both.0 runs.1
+      ∙ step_reads limits first turn.0 runs.0 living turn.1 turn.2 none both.0 runs.1
 
   pub reads_leave : (first now : State) (turns : List Turn) → Runs limits first turns now → ((caller : ℕ) → first.live caller ≡ None) → has_write turns ≡ false → now.is_dead ≡ false → now.index ≡ first.index
   reads_leave first now turns runs fresh reads alive =

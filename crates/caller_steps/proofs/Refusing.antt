@@ -1,6 +1,6 @@
 -- Why the refusals within a run stand, and which keys its index gains.
 use Rattle.std.proofs.Common.{◌≡◌, ◌⊎◌, ◌||◌, ℕ, ◌-◌, ◌≤◌, inl, inr, ⊎_elim, List, [], ◌∷◌, ◌++◌, Bool, true, false, Option, Some, None, refl, sym, ap, ◌∙◌, subst, arith}
-use Rattle.std.specs.Prelude.{IsTrue, IsFalse, unwrap_or}
+use Rattle.std.specs.Prelude.{IsTrue, IsFalse, unwrap_or, if◌then◌else◌}
 use Rattle.std.specs.List.{list_any}
 use Rattle.std.specs.FinMap.{get}
 use Rattle.std.proofs.lemmas.Bool.{true≢false, or_left, or_right, or_parts}
@@ -12,19 +12,22 @@ use Rattle.history.specs.Writes.{Write}
 use Rattle.history.specs.Table.{Granted, Work, Answers, found, removed}
 use Rattle.history.specs.Locks.{touches, touched, clash}
 use Rattle.history.specs.declared.call.Call.{Call}
-use Rattle.history.specs.declared.call.Call.TheVariants.{Begin, Get, Put, Del, Scan, Save, Back, Commit, Abort}
+use Rattle.history.specs.declared.call.Call.TheVariants.{Begin, Get, Put, Del, Scan, Save, Back, Commit, Abort, Offer, Settle}
 use Rattle.history.specs.declared.call.Reply.{Reply}
 use Rattle.history.specs.declared.call.Reply.TheVariants.{Fine, NoTransaction, NoTable, Already, NoSave, SavesFull, Busy, LogFull, SlotsFull, PagesFull, Media, Dead, NoMemory}
-use Rattle.caller_steps.specs.State.{State, Index, view_of}
+use Rattle.caller_steps.specs.State as state
+use Rattle.caller_steps.specs.State.{State, Index, unoffered, offered, unsettled, view_of}
+use Rattle.caller_steps.specs.Offers.{offerers, group_writes}
 use Rattle.caller_steps.specs.Locked.{Blocks}
 use Rattle.caller_steps.specs.Room.{Limits, LacksAt, Lacks, GainsKey, KeepsKeys, TakesPages, Inserts, IndexesAt, Indexes, Settles}
-use Rattle.caller_steps.specs.Step.{Says, Asks, AsksTable, StepAt, StepIf, Step, Runs}
+use Rattle.caller_steps.specs.Step.{Says, Asks, AsksTable, StepAt, StepBy, StepIf, Step, Runs}
 use Rattle.caller_steps.specs.Fate.{is_media}
 use Rattle.caller_steps.specs.Run.{Turn, Goes, GoesAlong, turns_of, has_fault, IsTurn}
-use Rattle.caller_steps.specs.Own.{nothing_own, live_by}
+use Rattle.history.proofs.Modes.{clash_turned}
+use Rattle.caller_steps.specs.Own.{Own, nothing_own, own_of, live_by, live_in}
 use Rattle.caller_steps.specs.Shown.{is_put, AreAsked, Gained, LacksPages, Shows}
 use Rattle.caller_steps.proofs.Running.{turns_cut, turns_names, turns_dead, turns_keep, turns_of_runs}
-use Rattle.caller_steps.proofs.Owning.{turns_live}
+use Rattle.caller_steps.proofs.Owning.{turns_live, fresh_live}
 use Rattle.caller_steps.proofs.Fates.{step_moves}
 
 -- an index after a call: it has no fewer pages in use and levels, and the same keys or one more, which the call puts
@@ -73,6 +76,8 @@ index_moves limits Save reply old new i = same_index limits Save old new i
 index_moves limits (Back n) reply old new i = same_index limits (Back n) old new i
 index_moves limits Commit reply old new i = same_index limits Commit old new i
 index_moves limits Abort reply old new i = same_index limits Abort old new i
+index_moves limits Offer reply old new i = same_index limits Offer old new i
+index_moves limits Settle reply old new i = same_index limits Settle old new i
 
 -- if all slots are given out, no key is gained
 slots_stay : (limits : Limits) (call : Call) (old new : Index) → IndexMoves limits call old new → old.used_slots ≡ limits.slots → new.used_slots ≡ limits.slots
@@ -88,6 +93,8 @@ pages_stay limits Save call n old new moves lacks = tt
 pages_stay limits (Back m) call n old new moves lacks = tt
 pages_stay limits Commit call n old new moves lacks = tt
 pages_stay limits Abort call n old new moves lacks = tt
+pages_stay limits Offer call n old new moves lacks = tt
+pages_stay limits Settle call n old new moves lacks = tt
 
 gained_same : (first : Index) (keys : List Key) (old new : Index) → KeepsKeys old new → Gained first keys old → Gained first keys new
 gained_same first [] old new keeps g = (keeps.slot_of ∙ g.0, keeps.slots ∙ g.1)
@@ -185,6 +192,8 @@ module _ (limits : Limits) (old : State) (caller : ℕ) (new : State) where
   left_at None (Back n) reply s = says (Back n) reply NoTransaction tt s
   left_at None Commit reply s = says Commit reply NoTransaction tt s
   left_at None Abort reply s = says Abort reply NoTransaction tt s
+  left_at None Offer reply s = says Offer reply NoTransaction tt s
+  left_at None Settle reply s = says Settle reply NoTransaction tt s
   left_at (Some calls) Begin reply s = says Begin reply Already tt s
   left_at (Some calls) (Get name key) reply a = tabled calls (Get name key) reply a
   left_at (Some calls) (Put name key value) reply a = tabled calls (Put name key value) reply a
@@ -201,14 +210,64 @@ module _ (limits : Limits) (old : State) (caller : ℕ) (new : State) where
   }
   left_at (Some calls) Commit reply (inr (inr (wrote, re, index, e))) = fails Commit reply re (ap (λ (s : State). s.is_dead) e)
   left_at (Some calls) Abort reply (re, e) = same Abort reply (subst (λ r. Told limits old caller new Abort r) (sym re) tt) (ap (λ (s : State). s.index) e)
+  left_at (Some calls) Offer reply (re, e) = same Offer reply (subst (λ r. Told limits old caller new Offer r) (sym re) tt) (ap (λ (s : State). s.index) e)
+  left_at (Some calls) Settle reply s = says Settle reply NoTransaction tt s
+
+  left_by : (offer : state.Offer) (call : Call) (reply : Reply) → StepBy limits offer old caller call reply new → Left limits old caller new call reply
+  unfolding T
+  left_by unoffered call reply s = left_at (old.live caller) call reply s
+  left_by offered Settle reply (inl short) = says Settle reply NoMemory tt short
+  left_by offered Settle reply (inr (inside, inl (re, index, settles, e))) = record {
+    told = subst (λ r. Told limits old caller new Settle r) (sym re) tt;
+    index = λ alive. subst (λ (i : Index). IndexMoves limits Settle old.index i) (sym (ap (λ (s : State). s.index) e)) (settled_index limits Settle (group_writes old (offerers limits.callers old)) old.index index settles);
+  }
+  left_by offered Settle reply (inr (inside, inr (wrote, re, index, e))) = fails Settle reply re (ap (λ (s : State). s.is_dead) e)
+  left_by offered Begin reply s = says Begin reply Already tt s
+  left_by offered (Get name key) reply s = says (Get name key) reply NoTransaction tt s
+  left_by offered (Put name key value) reply s = says (Put name key value) reply NoTransaction tt s
+  left_by offered (Del name key) reply s = says (Del name key) reply NoTransaction tt s
+  left_by offered (Scan name low high) reply s = says (Scan name low high) reply NoTransaction tt s
+  left_by offered Save reply s = says Save reply NoTransaction tt s
+  left_by offered (Back n) reply s = says (Back n) reply NoTransaction tt s
+  left_by offered Commit reply s = says Commit reply NoTransaction tt s
+  left_by offered Abort reply s = says Abort reply NoTransaction tt s
+  left_by offered Offer reply s = says Offer reply NoTransaction tt s
+  left_by (unsettled n) Begin reply s = says Begin reply Already tt s
+  left_by (unsettled n) (Get name key) reply s = says (Get name key) reply NoTransaction tt s
+  left_by (unsettled n) (Put name key value) reply s = says (Put name key value) reply NoTransaction tt s
+  left_by (unsettled n) (Del name key) reply s = says (Del name key) reply NoTransaction tt s
+  left_by (unsettled n) (Scan name low high) reply s = says (Scan name low high) reply NoTransaction tt s
+  left_by (unsettled n) Save reply s = says Save reply NoTransaction tt s
+  left_by (unsettled n) (Back m) reply s = says (Back m) reply NoTransaction tt s
+  left_by (unsettled n) Commit reply s = says Commit reply NoTransaction tt s
+  left_by (unsettled n) Abort reply s = says Abort reply NoTransaction tt s
+  left_by (unsettled n) Offer reply s = says Offer reply NoTransaction tt s
+  left_by (unsettled n) Settle reply (re, e) = same Settle reply (subst (λ r. Told limits old caller new Settle r) (sym re) tt) (ap (λ (s : State). s.index) e)
 
   left_if : (dead : Bool) (call : Call) (reply : Reply) → old.is_dead ≡ dead → StepIf limits dead old caller call reply new → Left limits old caller new call reply
   unfolding T
   left_if true call reply is s = says call reply Dead is s
-  left_if false call reply is s = left_at (old.live caller) call reply s
+  left_if false call reply is s = left_by (old.offers caller) call reply s
 
   pub step_left : (call : Call) (reply : Reply) → Step limits old caller call reply new → Left limits old caller new call reply
   step_left call reply step = left_if old.is_dead call reply refl step
+
+-- a call that clashes with what is live of a caller clashes with what its own turns say is live
+held_by : (names : List (List ℕ)) (call : Call) (stripe : ℕ) (own : Own) (offer : state.Offer) → clash (touches names call stripe) (touched names (unwrap_or (live_in own offer) []) stripe) ≡ true
+    → clash (touches names call stripe) (touched names (unwrap_or own.live []) stripe) ≡ true
+held_by names call stripe own offer meets = elim (live_or_none own offer) [
+  | inl same ↦ ap (λ (o : Option Granted). clash (touches names call stripe) (touched names (unwrap_or o []) stripe)) (sym same) ∙ meets
+  | inr none ↦ absurd (true≢false (sym meets ∙ ap (λ (o : Option Granted). clash (touches names call stripe) (touched names (unwrap_or o []) stripe)) none ∙ clash_turned (touches names call stripe) (touched names [] stripe)))
+]
+  where
+    live_or_none : (own : Own) (offer : state.Offer) → (live_in own offer ≡ own.live) ⊎ (live_in own offer ≡ None)
+    live_or_none own unoffered = go own.waits
+      where
+        go : (b : Bool) → ((if b then None else own.live) ≡ own.live) ⊎ ((if b then None else own.live) ≡ None)
+        go true = inr refl
+        go false = inl refl
+    live_or_none own offered = inl refl
+    live_or_none own (unsettled n) = inr refl
 
 any_left : {X : Type 0} (p : X → Bool) (xs ys : List X) → list_any p xs ≡ true → list_any p (xs ++ ys) ≡ true
 any_left p xs ys e = list_any-append p xs ys ∙ or_left (list_any p xs) (list_any p ys) e
@@ -264,7 +323,7 @@ module _ (limits : Limits) where
       let c = turns_cut true limits first now before (turn ∷ after) (turns_of_runs limits first now (before ++ turn ∷ after) runs) in
       record { old = c.0; new = c.2.0; until = c.1; step = c.2.1.step refl; since = c.2.2 }
 
-  module _ (first now : State) (before after : List Turn) (caller : ℕ) (call : Call) (reply : Reply) (runs : Runs limits first (before ++ (caller, call, reply) ∷ after) now) (none : (other : ℕ) → first.live other ≡ None) where
+  module _ (first now : State) (before after : List Turn) (caller : ℕ) (call : Call) (reply : Reply) (runs : Runs limits first (before ++ (caller, call, reply) ∷ after) now) (none : (other : ℕ) → (first.live other ≡ None) × (first.offers other ≡ unoffered)) where
     module _ (at : IsTurn limits first before (caller, call, reply) after now) (fresh : first.is_dead ≡ false) where
       left_there : Left limits at.old caller at.new call reply
       left_there = step_left limits at.old caller at.new call reply at.step
@@ -284,7 +343,8 @@ module _ (limits : Limits) where
         (
           t.1.0,
           ap (λ (names : List (List ℕ)). clash (touches names call t.1.0) (touched names (unwrap_or (live_by h (turns_of h before)) []) t.1.0)) names_there
-              ∙ ap (λ (o : Option Granted). clash (touches at.old.names call t.1.0) (touched at.old.names (unwrap_or o []) t.1.0)) (sym (turns_live true limits h first at.old before nothing_own at.until (inl refl) (none h))) ∙ t.1.1,
+              ∙ held_by at.old.names call t.1.0 (own_of h (turns_of h before)) (at.old.offers h) (ap (λ (o : Option Granted). clash (touches at.old.names call t.1.0) (touched at.old.names (unwrap_or o []) t.1.0))
+              (sym (turns_live true limits h first at.old before nothing_own at.until (inl refl) (fresh_live h first (none h).0 (none h).1)).live) ∙ t.1.1),
         ),
       )
       shows_at (SlotsFull n) is t = (t.0, λ alive. slots_on at.new now after at.since alive t.1)

@@ -1,6 +1,6 @@
 -- Runs of a core: one after another, and what they leave of the callers that they do not name.
-use Rattle.std.proofs.Common.{◌≡◌, ◌≢◌, ◌||◌, ℕ, ◌≤◌, Bool, true, false, List, [], ◌∷◌, ◌++◌, length, map, refl, sym, ap, ◌∙◌, subst, arith, eq-eqb, ne_eqb, append_assoc}
-use Rattle.std.specs.Prelude.{nat_eq, IsTrue, filter, cond, if◌then◌else◌}
+use Rattle.std.proofs.Common.{◌≡◌, ◌≢◌, ◌||◌, ◌⊎◌, inl, inr, ℕ, ◌≤◌, Bool, true, false, List, [], ◌∷◌, ◌++◌, length, map, refl, sym, ap, ◌∙◌, subst, arith, eq-eqb, ne_eqb, append_assoc}
+use Rattle.std.specs.Prelude.{nat_eq, IsTrue, filter, cond}
 use Rattle.std.proofs.lemmas.Bool.{true≢false, eqb-false}
 use Rattle.std.proofs.lemmas.List.{append-nil, map-append}
 use Rattle.std.proofs.lemmas.List.Elements.{filter-append}
@@ -9,38 +9,15 @@ use Rattle.history.specs.declared.call.Call.{Call}
 use Rattle.history.specs.declared.call.Reply.{Reply}
 use Rattle.history.specs.declared.call.Reply.TheVariants.{Dead}
 use Rattle.history.specs.declared.transaction.Done.{Done}
-use Rattle.caller_steps.specs.State.{State, calls_of, done_by}
+use Rattle.caller_steps.specs.State.{State, commits_of}
+use Rattle.caller_steps.specs.Offers.{is_offered}
 use Rattle.caller_steps.specs.Room.{Limits}
 use Rattle.caller_steps.specs.Step.{Step, StepIf, Runs}
-use Rattle.caller_steps.specs.Fate.{is_media, is_committed, history_after}
+use Rattle.caller_steps.specs.Fate.{is_media, Stays, EndsWith}
 use Rattle.caller_steps.specs.Prefix.{Grows}
-use Rattle.caller_steps.specs.Run.{Turn, Goes, GoesAlong, AreOf, turns_of, commits_of, has_fault, HasNoOthers, LastTurn}
+use Rattle.caller_steps.specs.Run.{Turn, Goes, GoesAlong, AreOf, turns_of, has_fault, HasNoOthers, LastTurn}
 use Rattle.caller_steps.proofs.Fates.{step_moves}
 use Rattle.caller_steps.proofs.Continuing.{grows_none, grows_on, after_grows}
-
-one_of : (caller : ℕ) (done : Done) (b : Bool) → nat_eq done.caller caller ≡ b → commits_of caller (done ∷ []) ≡ (if b then done ∷ [] else [])
-one_of caller done b is = ap (λ b. if b then done ∷ [] else []) is
-
--- A caller's own transactions gain the one that it commits,
-pub own_commits : (old : State) (caller : ℕ) (reply : Reply)
-    → commits_of caller (history_after old caller reply) ≡ (if is_committed reply then commits_of caller old.history ++ done_by old caller (calls_of old caller) ∷ [] else commits_of caller old.history)
-own_commits old caller reply = go (is_committed reply)
-  where
-    go : (b : Bool) → commits_of caller (if b then old.history ++ done_by old caller (calls_of old caller) ∷ [] else old.history)
-        ≡ (if b then commits_of caller old.history ++ done_by old caller (calls_of old caller) ∷ [] else commits_of caller old.history)
-    go true = filter-append (λ (done : Done). nat_eq done.caller caller) old.history (done_by old caller (calls_of old caller) ∷ [])
-        ∙ ap (λ l. commits_of caller old.history ++ l) (one_of caller (done_by old caller (calls_of old caller)) true (eq-eqb caller caller refl))
-    go false = refl
-
--- and another caller's stay.
-pub other_commits : (old : State) (caller other : ℕ) (reply : Reply) → other ≢ caller → commits_of other (history_after old caller reply) ≡ commits_of other old.history
-other_commits old caller other reply apart = go (is_committed reply)
-  where
-    go : (b : Bool) → commits_of other (if b then old.history ++ done_by old caller (calls_of old caller) ∷ [] else old.history) ≡ commits_of other old.history
-    go true = filter-append (λ (done : Done). nat_eq done.caller other) old.history (done_by old caller (calls_of old caller) ∷ [])
-        ∙ ap (λ l. commits_of other old.history ++ l) (one_of other (done_by old caller (calls_of old caller)) false (ne_eqb caller other (λ e. apart (sym e))))
-        ∙ append-nil (commits_of other old.history)
-    go false = refl
 
 -- The turns of a caller are those of the front and then those of the rest.
 pub lines_append : (caller : ℕ) (xs ys : List Turn) → turns_of caller (xs ++ ys) ≡ turns_of caller xs ++ turns_of caller ys
@@ -103,7 +80,7 @@ module _ (tells : Bool) (limits : Limits) where
       subst (λ (l : List Turn). P l now) (append_assoc before (turn ∷ []) turns) (turns_keep P step (before ++ turn ∷ []) turns a.0 now (step before turn old a.0 p a.1) a.2)
 
   goes_grows : (old new : State) (turn : Turn) → Goes tells limits old turn.0 turn.1 turn.2 new → Grows old.history new.history
-  goes_grows old new turn goes = subst (λ h. Grows old.history h) (sym goes.moves.history) (after_grows old turn.0 turn.2)
+  goes_grows old new turn goes = subst (λ h. Grows old.history h) (sym goes.moves.history) (after_grows limits.callers old turn.0 turn.1 turn.2)
 
   -- The history only grows,
   pub turns_grow : (first now : State) (turns : List Turn) → GoesAlong tells limits first turns now → Grows first.history now.history
@@ -139,22 +116,25 @@ module _ (tells : Bool) (limits : Limits) where
   turns_still first now (turn ∷ turns) a dead =
       let same = (a.1.dead dead).1 in turns_still a.0 now turns a.2 (ap (λ (s : State). s.is_dead) same ∙ dead) ∙ same
 
-  -- A caller that no turn names has the same transactions as before.
-  pub turns_of_others : (caller : ℕ) (first now : State) (turns : List Turn) → GoesAlong tells limits first turns now → turns_of caller turns ≡ [] → (commits_of caller now.history ≡ commits_of caller first.history) × (now.live caller ≡ first.live caller)
-  turns_of_others caller first now [] a none = (ap (λ (s : State). commits_of caller s.history) a, ap (λ (s : State). s.live caller) a)
-  turns_of_others caller first now (turn ∷ turns) a none =
+  -- A caller that no turn names, and that has offered nothing, has the same transactions as before.
+  pub turns_of_others : (caller : ℕ) (first now : State) (turns : List Turn) → GoesAlong tells limits first turns now → turns_of caller turns ≡ [] → is_offered (first.offers caller) ≡ false → Stays first now caller
+  turns_of_others caller first now [] a none free = record { live = ap (λ (s : State). s.live caller) a; offer = ap (λ (s : State). s.offers caller) a; mine = ap (λ (s : State). commits_of caller s.history) a }
+  turns_of_others caller first now (turn ∷ turns) a none free =
       let parts = none_first caller turn turns none in
-      let ne : caller ≢ turn.0 = λ e. parts.0 (sym e) in
-      let more = turns_of_others caller a.0 now turns a.2 parts.1 in (
-        more.0 ∙ ap (commits_of caller) a.1.moves.history ∙ other_commits first turn.0 caller turn.2 ne,
-        more.1 ∙ a.1.moves.others caller ne,
-      )
+      let here = still (a.1.moves.others caller (λ e. parts.0 (sym e))) in
+      let more = turns_of_others caller a.0 now turns a.2 parts.1 (ap is_offered here.offer ∙ free) in
+      record { live = more.live ∙ here.live; offer = more.offer ∙ here.offer; mine = more.mine ∙ here.mine }
+    where
+      still : Stays first a.0 caller ⊎ EndsWith limits.callers first turn.0 turn.1 turn.2 a.0 caller → Stays first a.0 caller
+      still (inl stays) = stays
+      still (inr ends) = absurd (true≢false (sym (ap is_offered ends.its) ∙ free))
 
   -- So only the callers of turns have any.
   pub turns_no_others : (callers : ℕ) (first now : State) (turns : List Turn) → GoesAlong tells limits first turns now → AreOf callers turns → HasNoOthers callers first → HasNoOthers callers now
   turns_no_others callers first now turns a all none caller le =
-      let same = turns_of_others caller first now turns a (none_beyond callers caller turns all le) in
-      (same.0 ∙ (none caller le).0, same.1 ∙ (none caller le).1)
+      let before = none caller le in
+      let same = turns_of_others caller first now turns a (none_beyond callers caller turns all le) (ap is_offered before.2) in
+      (same.mine ∙ before.0, same.live ∙ before.1, same.offer ∙ before.2)
 
   -- A run of a core that tells its records is one of steps.
   pub turns_tell : (first now : State) (turns : List Turn) → IsTrue tells → GoesAlong tells limits first turns now → Runs limits first turns now
@@ -194,9 +174,9 @@ module _ (tells : Bool) (limits : Limits) where
     pub turn_grows : Grows seen now.history
     turn_grows = subst (λ (h : List Done). Grows h now.history) (sym t.shown) (turns_grow t.mid now t.after t.since)
 
-    -- since then the caller's transactions are the same
-    pub turn_commits : commits_of caller seen ≡ commits_of caller now.history
-    turn_commits = ap (commits_of caller) t.shown ∙ sym (turns_of_others caller t.mid now t.after t.since t.none).0
+    -- since then the caller's transactions are the same, unless one is offered
+    pub turn_commits : is_offered (t.mid.offers caller) ≡ false → commits_of caller seen ≡ commits_of caller now.history
+    turn_commits free = ap (commits_of caller) t.shown ∙ sym (turns_of_others caller t.mid now t.after t.since t.none free).mine
 
 -- What a step does is what is known of a call of a core that tells its records.
 dead_if : (limits : Limits) (dead : Bool) (old : State) (caller : ℕ) (call : Call) (reply : Reply) (new : State) → StepIf limits dead old caller call reply new → old.is_dead ≡ dead → IsTrue old.is_dead → (reply ≡ Dead) × (new ≡ old)

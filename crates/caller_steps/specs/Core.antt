@@ -32,7 +32,7 @@ IsSafe core since least = (image : List ℕ) → core.left_since since image →
 pub record Steps (tells : Bool) (caller : ℕ) (call : Call) (old new : CoreView) (reply : Reply) : Type 0 where
   pub limits : new.limits ≡ old.limits
   pub opens : (image : List ℕ) (table : Table) → old.opens image table → new.opens image table
-  pub moves : Moves old.state caller call reply new.state
+  pub moves : Moves old.limits.callers old.state caller call reply new.state
   pub failed : IsTrue (is_media reply) → Rose old.faults new.faults
   pub kept : IsFalse (is_media reply) → new.faults ≡ old.faults
   pub step : IsTrue tells → Step old.limits old.state caller call reply new.state

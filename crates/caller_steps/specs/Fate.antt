@@ -1,12 +1,14 @@
 -- What replies say about transactions.
-use Rattle.std.specs.Prelude.{ℕ, ◌≡◌, ◌≢◌, Bool, true, false, ◌||◌, if◌then◌else◌, IsTrue, IsFalse, List, [], ◌∷◌, ◌++◌, Option, Some, None}
+use Rattle.std.specs.Prelude.{ℕ, ◌≡◌, ◌≢◌, ◌⊎◌, Bool, true, false, ◌||◌, if◌then◌else◌, IsTrue, IsFalse, List, [], ◌∷◌, ◌++◌, Option, Some, None}
 use Rattle.history.specs.Table.{Granted}
 use Rattle.history.specs.declared.call.Call.{Call}
-use Rattle.history.specs.declared.call.Call.TheVariants.{Begin, Commit, Abort}
+use Rattle.history.specs.declared.call.Call.TheVariants.{Begin, Commit, Abort, Offer, Settle}
 use Rattle.history.specs.declared.call.Reply.{Reply}
 use Rattle.history.specs.declared.call.Reply.TheVariants.{Fine, Found, Absent, Listed, Saved, Committed, Busy, LogFull, SlotsFull, PagesFull, Media, Dead, NoMemory}
 use Rattle.history.specs.declared.transaction.Done.{Done}
-use Rattle.caller_steps.specs.State.{State, calls_of, done_by}
+use Rattle.caller_steps.specs.State as state
+use Rattle.caller_steps.specs.State.{State, unoffered, offered, unsettled, calls_of, commits_of, done_by}
+use Rattle.caller_steps.specs.Offers.{is_offered, is_unoffered, offerers, group_in, group_end, group_done}
 
 -- a reply to a call that was not done
 abbrev pub is_refusal : Reply → Bool
@@ -46,23 +48,53 @@ abbrev pub is_committed : Reply → Bool
 is_committed (Committed n) = true
 is_committed _ = false
 
--- the history after a reply: a commit appends the caller's transaction, and nothing else changes it
-abbrev pub history_after : State → ℕ → Reply → List Done
-history_after old caller reply = if is_committed reply then old.history ++ done_by old caller (calls_of old caller) ∷ [] else old.history
+-- What a call of this caller commits: a commit its own transaction, and a settle all that were offered, or nothing if a group has committed its
+-- own already.
+abbrev pub committed_by : ℕ → State → ℕ → Call → List Done
+committed_by callers old caller Settle = if is_offered (old.offers caller) then group_in old (group_end old (offerers callers old)) (offerers callers old) else []
+committed_by callers old caller call = done_by old caller (calls_of old caller) ∷ []
+
+-- the history after a reply: what was committed comes behind it, and nothing else changes it
+abbrev pub history_after : ℕ → State → ℕ → Call → Reply → List Done
+history_after callers old caller call reply = if is_committed reply then old.history ++ committed_by callers old caller call else old.history
 
 -- the caller's live transaction after a call that was done
 abbrev pub live_with : Granted → Call → Reply → Option Granted
 live_with calls Begin reply = Some []
 live_with calls Commit reply = None
 live_with calls Abort reply = None
+live_with calls Offer reply = Some calls
+live_with calls Settle reply = None
 live_with calls call reply = Some (calls ++ (call, reply) ∷ [])
 
--- What each step does to transactions, over any store. A fault of the medium in a commit may end the caller's transaction.
-pub record Moves (old : State) (caller : ℕ) (call : Call) (reply : Reply) (new : State) : Type 0 where
+-- what the caller has then offered
+abbrev pub offer_with : Call → state.Offer
+offer_with Offer = offered
+offer_with call = unoffered
+
+-- a caller's live transaction stays, and so do its offer and those that it has committed
+pub record Stays (old new : State) (caller : ℕ) : Type 0 where
+  pub live : new.live caller ≡ old.live caller
+  pub offer : new.offers caller ≡ old.offers caller
+  pub mine : commits_of caller new.history ≡ commits_of caller old.history
+
+-- The other's transaction, which was offered, has ended in a settle of this caller's: they were committed together, or the medium has failed.
+pub record EndsWith (callers : ℕ) (old : State) (caller : ℕ) (call : Call) (reply : Reply) (new : State) (other : ℕ) : Type 0 where
+  pub settles : call ≡ Settle
+  pub own : old.offers caller ≡ offered
+  pub its : old.offers other ≡ offered
+  pub live : new.live other ≡ None
+  pub offer : new.offers other ≡ (if is_media reply then unoffered else unsettled (group_done old (offerers callers old) other).at)
+  pub mine : commits_of other new.history ≡ (if is_media reply then commits_of other old.history else commits_of other old.history ++ group_done old (offerers callers old) other ∷ [])
+
+-- What each step does to transactions, over any store, where there are so many callers. A fault of the medium in a commit or a settle may end
+-- the caller's transaction, and in a settle all that were offered. What is offered takes no call but its settle.
+pub record Moves (callers : ℕ) (old : State) (caller : ℕ) (call : Call) (reply : Reply) (new : State) : Type 0 where
   pub names : new.names ≡ old.names
   pub base : new.base ≡ old.base
-  pub history : new.history ≡ history_after old caller reply
+  pub history : new.history ≡ history_after callers old caller call reply
   pub dead : new.is_dead ≡ (old.is_dead || is_media reply)
-  pub own : IsFalse (is_refusal reply) → new.live caller ≡ live_with (calls_of old caller) call reply
-  pub others : (other : ℕ) → other ≢ caller → new.live other ≡ old.live other
-  pub refused : IsTrue (is_refusal reply) → IsFalse (is_media reply) → new.live ≡ old.live
+  pub own : IsFalse (is_refusal reply) → (new.live caller ≡ live_with (calls_of old caller) call reply) × (new.offers caller ≡ offer_with call)
+  pub others : (other : ℕ) → other ≢ caller → Stays old new other ⊎ EndsWith callers old caller call reply new other
+  pub closed : IsFalse (is_unoffered (old.offers caller)) → IsFalse (is_refusal reply) → call ≡ Settle
+  pub refused : IsTrue (is_refusal reply) → IsFalse (is_media reply) → (new.live ≡ old.live) × (new.offers ≡ old.offers)

@@ -1,8 +1,9 @@
 -- Which caller's locks a call meets.
-use Rattle.std.specs.Prelude.{ℕ, ◌≢◌, ◌<◌, IsTrue, IsFalse, is_some}
+use Rattle.std.specs.Prelude.{ℕ, ◌≢◌, ◌<◌, IsTrue, IsFalse}
 use Rattle.history.specs.Locks.{Meets, has_table}
 use Rattle.history.specs.declared.call.Call.{Call}
 use Rattle.caller_steps.specs.State.{State, calls_of}
+use Rattle.caller_steps.specs.Offers.{takes_calls}
 
 -- the call clashes with another caller's live transaction at some stripe
 abbrev pub Blocks : State → ℕ → Call → ℕ → Type 0
@@ -12,9 +13,10 @@ Blocks state caller call holder = (holder ≢ caller) × Meets state.names call 
 abbrev pub IsFree : State → ℕ → Call → Type 0
 IsFree state caller call = (holder : ℕ) → Blocks state caller call holder → ⊥
 
--- it clashes with none, if it asks for locks at all: the medium has not failed, its caller is live, and the table that it asks for is there
+-- it clashes with none, if it asks for locks at all: the medium has not failed, its caller has a live transaction that takes calls, and the table
+-- that it asks for is there
 abbrev pub IsLocked : State → ℕ → Call → Type 0
-IsLocked state caller call = IsFalse state.is_dead → IsTrue (is_some (state.live caller)) → IsTrue (has_table state.names call) → IsFree state caller call
+IsLocked state caller call = IsFalse state.is_dead → IsTrue (takes_calls state caller) → IsTrue (has_table state.names call) → IsFree state caller call
 
 -- the lowest caller with whose transaction it clashes
 abbrev pub IsBusyWith : State → ℕ → Call → ℕ → Type 0

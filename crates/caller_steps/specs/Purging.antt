@@ -1,5 +1,5 @@
 -- A purge: keys without records, whose stripes no live transaction touches, are taken out of the index.
-use Rattle.std.specs.Prelude.{ℕ, suc, ◌≡◌, ◌≤◌, ◌<◌, ◌^◌, ◌⊎◌, Bool, true, false, ◌||◌, IsTrue, IsFalse, List, [], ◌∷◌, length, Option, Some, None, IsSome, Result, Ok, Err}
+use Rattle.std.specs.Prelude.{ℕ, suc, ◌≡◌, ◌≤◌, ◌<◌, ◌^◌, ◌⊎◌, Bool, true, false, ◌||◌, IsTrue, IsFalse, List, [], ◌∷◌, length, Some, None, IsSome, Result, Ok, Err}
 use Rattle.std.specs.FinMap.{get}
 use Rattle.std.specs.Map.{update}
 use Rattle.mars_base.specs.Causes.{Rose}
@@ -10,6 +10,7 @@ use Rattle.history.specs.Locks.{Meets}
 use Rattle.history.specs.Writes.{Table}
 use Rattle.history.specs.declared.call.Call.TheVariants.{Del}
 use Rattle.caller_steps.specs.State.{State, Index, calls_of, records_of}
+use Rattle.caller_steps.specs.Offers.{is_engaged}
 use Rattle.caller_steps.specs.Core.{CoreView, IsSafe}
 use Rattle.caller_steps.specs.Prefix.{HasPrefixOf}
 use Rattle.caller_steps.specs.declared.purge_fault.PurgeFault.{PurgeFault}
@@ -54,20 +55,20 @@ pub record Purged (Keeps : List ℕ → Key → Type 0) (old : State) (n : ℕ) 
   pub same : new ≡ record old { index = index }
   pub left : (key : Key) → key.key < 2 ^ 64 → IsAbsent new key → IsTouched new key ⊎ Keeps new.index.bytes key
 
--- How a purge is answered, and what it leaves: how many keys it took out; or it is refused, since the medium has failed, or its caller is live,
+-- How a purge is answered, and what it leaves: how many keys it took out; or it is refused, since the medium has failed, or its caller has a transaction,
 -- and nothing changes; or the medium fails in it, and the index may then be anything. No page is damaged where the records are told.
 abbrev pub PurgeStep : (List ℕ → Key → Type 0) → State → ℕ → Result ℕ PurgeFault → State → Type 0
-PurgeStep Keeps old caller (Ok n) new = (old.is_dead ≡ false) × (old.live caller ≡ None) × Purged Keeps old n new
+PurgeStep Keeps old caller (Ok n) new = (old.is_dead ≡ false) × IsFalse (is_engaged old caller) × Purged Keeps old n new
 PurgeStep Keeps old caller (Err Dead) new = (old.is_dead ≡ true) × (new ≡ old)
-PurgeStep Keeps old caller (Err Already) new = (old.is_dead ≡ false) × IsSome (old.live caller) × (new ≡ old)
-PurgeStep Keeps old caller (Err Media) new = (old.is_dead ≡ false) × (old.live caller ≡ None) × (index : Index) × (new ≡ record old { index = index; is_dead = true })
+PurgeStep Keeps old caller (Err Already) new = (old.is_dead ≡ false) × IsTrue (is_engaged old caller) × (new ≡ old)
+PurgeStep Keeps old caller (Err Media) new = (old.is_dead ≡ false) × IsFalse (is_engaged old caller) × (index : Index) × (new ≡ record old { index = index; is_dead = true })
 PurgeStep Keeps old caller (Err (Damaged page)) new = ⊥
 
 -- when it is refused before it looks at a key, over any store
 abbrev pub PurgeCause : State → ℕ → Result ℕ PurgeFault → Type 0
 PurgeCause old caller (Err Dead) = old.is_dead ≡ true
-PurgeCause old caller (Err Already) = (old.is_dead ≡ false) × IsSome (old.live caller)
-PurgeCause old caller result = (old.is_dead ≡ false) × (old.live caller ≡ None)
+PurgeCause old caller (Err Already) = (old.is_dead ≡ false) × IsTrue (is_engaged old caller)
+PurgeCause old caller result = (old.is_dead ≡ false) × IsFalse (is_engaged old caller)
 
 abbrev pub is_media_refusal : Result ℕ PurgeFault → Bool
 is_media_refusal (Err Media) = true
@@ -82,6 +83,7 @@ pub record Purges (tells : Bool) (Keeps : List ℕ → Key → Type 0) (caller :
   pub base : new.state.base ≡ old.state.base
   pub history : new.state.history ≡ old.state.history
   pub live : new.state.live ≡ old.state.live
+  pub offers : new.state.offers ≡ old.state.offers
   pub doubt : new.state.doubt ≡ old.state.doubt
   pub dead : new.state.is_dead ≡ (old.state.is_dead || is_media_refusal result)
   pub cause : PurgeCause old.state caller result

@@ -7,7 +7,7 @@ use Rattle.history.specs.declared.call.Call.TheVariants.{Put, Del}
 use Rattle.history.specs.declared.call.Reply.{Reply}
 use Rattle.history.specs.declared.call.Reply.TheVariants.{Dead}
 use Rattle.history.specs.declared.transaction.Done.{Done}
-use Rattle.caller_steps.specs.State.{State}
+use Rattle.caller_steps.specs.State.{State, unoffered, commits_of}
 use Rattle.caller_steps.specs.Room.{Limits}
 use Rattle.caller_steps.specs.Step.{Step}
 use Rattle.caller_steps.specs.Fate.{Moves, is_media}
@@ -19,7 +19,7 @@ Turn = ℕ × Call × Reply
 -- what is known of a call of a core: what it does to transactions, that a dead core stays as it is, and that it is a step if the core tells
 -- its records
 pub record Goes (tells : Bool) (limits : Limits) (old : State) (caller : ℕ) (call : Call) (reply : Reply) (new : State) : Type 0 where
-  pub moves : Moves old caller call reply new
+  pub moves : Moves limits.callers old caller call reply new
   pub dead : IsTrue old.is_dead → (reply ≡ Dead) × (new ≡ old)
   pub step : IsTrue tells → Step limits old caller call reply new
 
@@ -37,10 +37,6 @@ AreOf callers (turn ∷ turns) = (turn.0 < callers) × AreOf callers turns
 abbrev pub turns_of : ℕ → List Turn → Granted
 turns_of caller turns = map (λ (turn : Turn). (turn.1, turn.2)) (filter (λ (turn : Turn). nat_eq turn.0 caller) turns)
 
--- the transactions of a caller in a history, in order
-abbrev pub commits_of : ℕ → List Done → List Done
-commits_of caller history = filter (λ (done : Done). nat_eq done.caller caller) history
-
 -- the call asks to write a record, or to remove one
 abbrev pub is_write : Call → Bool
 is_write (Put name key value) = true
@@ -57,7 +53,7 @@ has_fault turns = list_any (λ (turn : Turn). is_media turn.2) turns
 
 -- no caller but the first so many has done anything
 abbrev pub HasNoOthers : ℕ → State → Type 0
-HasNoOthers callers state = (caller : ℕ) → callers ≤ caller → (commits_of caller state.history ≡ []) × (state.live caller ≡ None)
+HasNoOthers callers state = (caller : ℕ) → callers ≤ caller → (commits_of caller state.history ≡ []) × (state.live caller ≡ None) × (state.offers caller ≡ unoffered)
 
 -- The run up to a caller's last turn, or an empty one if it had none: the history was then this one, and since then the others have gone on.
 pub record LastTurn (tells : Bool) (limits : Limits) (caller : ℕ) (past : List Turn) (seen : List Done) (first : State) (turns : List Turn) (now : State) : Type 0 where

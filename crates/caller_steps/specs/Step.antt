@@ -4,10 +4,12 @@ use Rattle.history.specs.Locks.{has_table}
 use Rattle.history.specs.Log.{log_of}
 use Rattle.history.specs.Table.{Granted, Answers, has_save}
 use Rattle.history.specs.declared.call.Call.{Call}
-use Rattle.history.specs.declared.call.Call.TheVariants.{Begin, Save, Back, Commit, Abort}
+use Rattle.history.specs.declared.call.Call.TheVariants.{Begin, Save, Back, Commit, Abort, Offer, Settle}
 use Rattle.history.specs.declared.call.Reply.{Reply}
 use Rattle.history.specs.declared.call.Reply.TheVariants.{Fine, Committed, NoTransaction, NoTable, Already, NoSave, SavesFull, Busy, Media, Dead, NoMemory}
-use Rattle.caller_steps.specs.State.{State, Index, view_of, with_live, done_by}
+use Rattle.caller_steps.specs.State as state
+use Rattle.caller_steps.specs.State.{State, Index, unoffered, offered, unsettled, view_of, with_live, with_offer, done_by}
+use Rattle.caller_steps.specs.Offers.{offerers, number_among, group_writes, committed_group, doubted_group}
 use Rattle.caller_steps.specs.Locked.{IsFree, IsBusyWith}
 use Rattle.caller_steps.specs.Room.{Limits, Fits, Lacks, Indexes, Settles}
 
@@ -58,28 +60,52 @@ abbrev pub Doubts : Granted → State → ℕ → Reply → State → Type 0
 Doubts calls old caller reply new =
     (0 < length (log_of calls).writes) × (reply ≡ Media) × (index : Index) × (new ≡ record (with_live old caller None) { doubt = done_by old caller calls ∷ []; index = index; is_dead = true })
 
+-- The transactions that were offered are committed as one group, by rising caller; the data takes the writes of all of them, and the caller's own
+-- has then ended.
+abbrev pub SettlesAll : List ℕ → State → ℕ → Reply → State → Type 0
+SettlesAll group old caller reply new = (reply ≡ Committed (number_among (length old.history + 1) group caller)) × (index : Index) × Settles (group_writes old group) old.index index
+    × (new ≡ record (with_offer (committed_group old group) caller unoffered) { index = index })
+
+-- the medium failed in a commit of a group that has written something, so all of it is in doubt
+abbrev pub DoubtsAll : List ℕ → State → Reply → State → Type 0
+DoubtsAll group old reply new = (0 < length (group_writes old group)) × (reply ≡ Media) × (index : Index) × (new ≡ record (doubted_group old group) { index = index })
+
 -- a call on a table that is not there is refused, before memory and locks are asked for
 abbrev pub AsksTable : Limits → Granted → State → ℕ → Call → Reply → State → Type 0
 AsksTable limits calls old caller call reply new = (IsFalse (has_table old.names call) × Says NoTable old reply new)
     ⊎ (IsTrue (has_table old.names call) × Asks limits calls old caller call reply new)
 
--- A step with this as the caller's live transaction, if the medium has not failed before.
+-- A step with this as the caller's live transaction, which it has not offered, if the medium has not failed before.
 abbrev pub StepAt : Limits → Option Granted → State → ℕ → Call → Reply → State → Type 0
 StepAt limits None old caller Begin reply new = (reply ≡ Fine) × (new ≡ with_live old caller (Some []))
 StepAt limits None old caller _ reply new = Says NoTransaction old reply new
 StepAt limits (Some calls) old caller Begin reply new = Says Already old reply new
 StepAt limits (Some calls) old caller Commit reply new = Says NoMemory old reply new ⊎ (Commits calls old caller reply new ⊎ Doubts calls old caller reply new)
 StepAt limits (Some calls) old caller Abort reply new = (reply ≡ Fine) × (new ≡ with_live old caller None)
+StepAt limits (Some calls) old caller Offer reply new = (reply ≡ Fine) × (new ≡ with_offer old caller offered)
+StepAt limits (Some calls) old caller Settle reply new = Says NoTransaction old reply new
 StepAt limits (Some calls) old caller Save reply new = ((most_saves ≤ length (view_of old caller).saves) × Says SavesFull old reply new)
     ⊎ ((length (view_of old caller).saves < most_saves) × Asks limits calls old caller Save reply new)
 StepAt limits (Some calls) old caller (Back n) reply new = (IsFalse (has_save (view_of old caller).saves n) × Says (NoSave n) old reply new)
     ⊎ (IsTrue (has_save (view_of old caller).saves n) × Asks limits calls old caller (Back n) reply new)
 StepAt limits (Some calls) old caller call reply new = AsksTable limits calls old caller call reply new
 
+-- A step by what the caller has offered. Until it has settled, it begins no other transaction, and its own takes no calls. A settle commits all
+-- that were offered, unless a group has committed the caller's own already.
+abbrev pub StepBy : Limits → state.Offer → State → ℕ → Call → Reply → State → Type 0
+StepBy limits unoffered old caller call reply new = StepAt limits (old.live caller) old caller call reply new
+StepBy limits offered old caller Begin reply new = Says Already old reply new
+StepBy limits offered old caller Settle reply new = Says NoMemory old reply new
+    ⊎ ((caller < limits.callers) × (SettlesAll (offerers limits.callers old) old caller reply new ⊎ DoubtsAll (offerers limits.callers old) old reply new))
+StepBy limits offered old caller call reply new = Says NoTransaction old reply new
+StepBy limits (unsettled n) old caller Begin reply new = Says Already old reply new
+StepBy limits (unsettled n) old caller Settle reply new = (reply ≡ Committed n) × (new ≡ with_offer (with_live old caller None) caller unoffered)
+StepBy limits (unsettled n) old caller call reply new = Says NoTransaction old reply new
+
 -- If the medium has failed in an earlier call, the reply is `Dead`.
 abbrev pub StepIf : Limits → Bool → State → ℕ → Call → Reply → State → Type 0
 StepIf limits true old caller call reply new = Says Dead old reply new
-StepIf limits false old caller call reply new = StepAt limits (old.live caller) old caller call reply new
+StepIf limits false old caller call reply new = StepBy limits (old.offers caller) old caller call reply new
 
 abbrev pub Step : Limits → State → ℕ → Call → Reply → State → Type 0
 Step limits old caller call reply new = StepIf limits old.is_dead old caller call reply new

@@ -1,19 +1,22 @@
 // Laws of callers by turns, each of which follows from the definitions alone.
-ghost use Rattle.std.specs.Prelude.{◌≡◌, ◌≢◌, ◌≤◌, ◌++◌, List, ℕ, Some, IsTrue, IsFalse, length};
-ghost use Rattle.history.specs.Writes.{Table};
+ghost use Rattle.std.specs.Prelude.{◌≡◌, ◌≢◌, ◌≤◌, ◌<◌, ◌++◌, List, ℕ, Some, All, IsTrue, IsFalse, length};
+ghost use Rattle.history.specs.Writes.{Table, all_written};
 ghost use Rattle.history.specs.Table.{Granted};
 ghost use Rattle.history.specs.Legal.{IsLegal};
 ghost use Rattle.history.specs.Locks.{has_table};
 ghost use Rattle.history.specs.declared.call.Call.{Call};
+ghost use Rattle.history.specs.declared.call.Call.TheVariants.{Settle};
 ghost use Rattle.history.specs.declared.call.Reply.{Reply};
-ghost use Rattle.caller_steps.specs.State.{State, Index, opened};
+ghost use Rattle.history.specs.declared.call.Reply.TheVariants.{Committed};
+ghost use Rattle.history.specs.declared.transaction.Done.{Done};
+ghost use Rattle.caller_steps.specs.State.{State, Index, unoffered, offered, unsettled, opened, records_of};
 ghost use Rattle.caller_steps.specs.Locked.{Blocks};
 ghost use Rattle.caller_steps.specs.Room.{Limits};
 ghost use Rattle.caller_steps.specs.Step.{Step, Runs};
-ghost use Rattle.caller_steps.specs.Sound.{IsSound};
+ghost use Rattle.caller_steps.specs.Sound.{IsCommittedAs, IsSound};
 ghost use Rattle.caller_steps.specs.Fate.{Moves, is_of_array, may_come_held};
 ghost use Rattle.caller_steps.specs.Core.{IsSafe, Steps, Continues};
-ghost use Rattle.caller_steps.specs.Offers.{group_in, group_end, committed_group, doubted_group};
+ghost use Rattle.caller_steps.specs.Offers.{offerers, group_in, group_end, group_done, group_writes, committed_group, doubted_group};
 
 use crate::Core;
 
@@ -31,17 +34,17 @@ pub fn every_run_is_legal()
     ensures { (limits : Limits) (names : List (List ℕ)) (base : Table) (index : Index) (turns : List (ℕ × Call × Reply)) (new : State) → Runs limits (opened names base index) turns new → IsLegal base new.history }
 {}
 
-/// A step changes no live transaction but its caller's, and the history only at a commit. It is refused or done as its reply says.
+/// A step changes no live transaction but its caller's and, at a settle, those that were offered, and the history only at a commit or a settle. It is refused or done as its reply says.
 pub fn what_a_step_does()
-    ensures { (limits : Limits) (old new : State) (caller : ℕ) (call : Call) (reply : Reply) → Step limits old caller call reply new → Moves old caller call reply new }
+    ensures { (limits : Limits) (old new : State) (caller : ℕ) (call : Call) (reply : Reply) → Step limits old caller call reply new → Moves limits.callers old caller call reply new }
 {}
 
-/// While a live caller's call on a table that is there clashes with another caller's live transaction, the reply is `Busy`, `Dead` or `NoMemory`, and nothing
+/// While a live caller's call on a table that is there clashes with another caller's live transaction, also one that was offered, the reply is `Busy`, `Dead` or `NoMemory`, and nothing
 /// changes.
 pub fn locks_come_first()
-    ensures reply { (limits : Limits) (old new : State) (caller holder : ℕ) (calls : Granted) (call : Call) (reply : Reply) → old.live caller ≡ Some calls → IsTrue (has_table old.names call) → Blocks old caller call holder
+    ensures reply { (limits : Limits) (old new : State) (caller holder : ℕ) (calls : Granted) (call : Call) (reply : Reply) → old.offers caller ≡ unoffered → old.live caller ≡ Some calls → IsTrue (has_table old.names call) → Blocks old caller call holder
         → Step limits old caller call reply new → IsTrue (may_come_held reply) }
-    ensures unchanged { (limits : Limits) (old new : State) (caller holder : ℕ) (calls : Granted) (call : Call) (reply : Reply) → old.live caller ≡ Some calls → IsTrue (has_table old.names call) → Blocks old caller call holder
+    ensures unchanged { (limits : Limits) (old new : State) (caller holder : ℕ) (calls : Granted) (call : Call) (reply : Reply) → old.offers caller ≡ unoffered → old.live caller ≡ Some calls → IsTrue (has_table old.names call) → Blocks old caller call holder
         → Step limits old caller call reply new → new ≡ old }
 {}
 
@@ -67,4 +70,17 @@ pub fn groups_keep_all_sound()
     ensures history { (state : State) (callers : List ℕ) → (committed_group state callers).history ≡ state.history ++ group_in state (group_end state callers) callers }
     ensures sound { (state : State) (callers : List ℕ) → IsSound state → IsFalse state.is_dead → IsSound (committed_group state callers) }
     ensures doubted { (state : State) (callers : List ℕ) → IsSound state → IsFalse state.is_dead → IsSound (doubted_group state callers) }
+{}
+
+/// The number that a settle tells is that of a transaction of its caller's in the history. If no group had committed it before, all that
+/// callers had offered are then committed, as one group behind the history, and the records have the writes of all of it.
+pub fn what_a_settle_commits()
+    ensures told { (limits : Limits) (old new : State) (caller n : ℕ) → IsSound old → Step limits old caller Settle (Committed n) new → IsCommittedAs new.history caller n }
+    ensures group { (limits : Limits) (old new : State) (caller n : ℕ) → old.offers caller ≡ offered → Step limits old caller Settle (Committed n) new
+        → new.history ≡ old.history ++ group_in old (group_end old (offerers limits.callers old)) (offerers limits.callers old) }
+    ensures all { (limits : Limits) (old new : State) (caller n other : ℕ) → old.offers caller ≡ offered → Step limits old caller Settle (Committed n) new
+        → other < limits.callers → other ≢ caller → old.offers other ≡ offered → new.offers other ≡ unsettled (group_done old (offerers limits.callers old) other).at }
+    ensures records { (state : State) (callers : ℕ) → IsSound state
+        → records_of (committed_group state (offerers callers state)) ≡ all_written (records_of state) (group_writes state (offerers callers state)) }
+    ensures last { (state : State) (last : ℕ) (callers : List ℕ) → All (λ (done : Done). done.last ≡ last) (group_in state last callers) }
 {}

@@ -6,12 +6,14 @@ ghost use Rattle.history.specs.Table.{Granted};
 ghost use Rattle.history.specs.declared.call.Call.{Call};
 ghost use Rattle.history.specs.declared.call.Reply.{Reply};
 ghost use Rattle.history.specs.declared.transaction.Done.{Done};
-ghost use Rattle.caller_steps.specs.State.{State, Index};
+ghost use Rattle.caller_steps.specs.State.{State, Index, unoffered, commits_of};
+ghost use Rattle.caller_steps.specs.Offers.{is_offered};
+ghost use Rattle.caller_steps.specs.Fate.{Stays};
 ghost use Rattle.caller_steps.specs.Room.{Limits};
 ghost use Rattle.caller_steps.specs.Step.{Runs};
 ghost use Rattle.caller_steps.specs.Prefix.{Grows};
-ghost use Rattle.caller_steps.specs.Run.{Turn, GoesAlong, AreOf, turns_of, commits_of, has_fault, has_write, HasNoOthers, LastTurn, IsTurn, IsTold};
-ghost use Rattle.caller_steps.specs.Own.{own_of, live_by, doubtful};
+ghost use Rattle.caller_steps.specs.Run.{Turn, GoesAlong, AreOf, turns_of, has_fault, has_write, HasNoOthers, LastTurn, IsTurn, IsTold};
+ghost use Rattle.caller_steps.specs.Own.{own_of, told_of, calls_among, mine_in, doubt_in, KnowsLive};
 ghost use Rattle.caller_steps.specs.Shown.{AreAsked, Gained, Shows};
 
 /// One run after another is a run, and a run can be cut at any turn. A run of a core that tells its records is one of steps.
@@ -24,41 +26,42 @@ pub fn runs_join_and_cut()
 {}
 
 /// What a run leaves, of any core: the history only grows, the core is dead exactly if a turn reports a fault of the medium, a dead core
-/// stays as it is, and the transactions of a caller that no turn names stay the same.
+/// stays as it is, and the transactions of a caller that no turn names, and that has offered none, stay the same.
 pub fn what_a_run_leaves()
     ensures names { (tells : Bool) (limits : Limits) (first now : State) (turns : List Turn) → GoesAlong tells limits first turns now → now.names ≡ first.names }
     ensures base { (tells : Bool) (limits : Limits) (first now : State) (turns : List Turn) → GoesAlong tells limits first turns now → now.base ≡ first.base }
     ensures grows { (tells : Bool) (limits : Limits) (first now : State) (turns : List Turn) → GoesAlong tells limits first turns now → Grows first.history now.history }
     ensures dead { (tells : Bool) (limits : Limits) (first now : State) (turns : List Turn) → GoesAlong tells limits first turns now → now.is_dead ≡ (first.is_dead || has_fault turns) }
     ensures still { (tells : Bool) (limits : Limits) (first now : State) (turns : List Turn) → GoesAlong tells limits first turns now → IsTrue first.is_dead → now ≡ first }
-    ensures others { (tells : Bool) (limits : Limits) (caller : ℕ) (first now : State) (turns : List Turn) → GoesAlong tells limits first turns now → turns_of caller turns ≡ []
-        → (commits_of caller now.history ≡ commits_of caller first.history) × (now.live caller ≡ first.live caller) }
+    ensures others { (tells : Bool) (limits : Limits) (caller : ℕ) (first now : State) (turns : List Turn) → GoesAlong tells limits first turns now → turns_of caller turns ≡ [] → IsFalse (is_offered (first.offers caller))
+        → Stays first now caller }
     ensures nobody_else { (tells : Bool) (limits : Limits) (callers : ℕ) (first now : State) (turns : List Turn) → GoesAlong tells limits first turns now → AreOf callers turns
         → HasNoOthers callers first → HasNoOthers callers now }
 {}
 
 /// What a caller was told says what its own transactions are, whatever the others do: the live one, also on a core that does not tell its
-/// records as long as the medium has not failed, the committed ones with their numbers, and those in doubt.
+/// records as long as the medium has not failed, the committed ones with their numbers, and those in doubt. One that it has offered and not
+/// settled may meanwhile have been committed, or be in doubt, by another's settle.
 pub fn a_caller_knows_its_own()
     ensures live { (tells : Bool) (limits : Limits) (caller : ℕ) (first now : State) (turns : List Turn) → GoesAlong tells limits first turns now → first.live caller ≡ None
-        → IsTrue tells ⊎ IsFalse now.is_dead → now.live caller ≡ live_by caller (turns_of caller turns) }
-    ensures mine { (limits : Limits) (caller : ℕ) (first now : State) (turns : List Turn) → Runs limits first turns now → first.live caller ≡ None → commits_of caller first.history ≡ []
-        → commits_of caller now.history ≡ (own_of caller (turns_of caller turns)).mine }
-    ensures doubt { (limits : Limits) (caller : ℕ) (first now : State) (turns : List Turn) → Runs limits first turns now → first.live caller ≡ None → first.doubt ≡ []
-        → commits_of caller now.doubt ≡ doubtful caller (length now.history) (own_of caller (turns_of caller turns)).doubt }
-    ensures owner { (limits : Limits) (callers : ℕ) (first now : State) (turns : List Turn) → Runs limits first turns now → AreOf callers turns → ((caller : ℕ) → first.live caller ≡ None)
+        → first.offers caller ≡ unoffered → IsTrue tells ⊎ IsFalse now.is_dead → KnowsLive caller (own_of caller (turns_of caller turns)) now }
+    ensures mine { (limits : Limits) (caller : ℕ) (first now : State) (turns : List Turn) → Runs limits first turns now → first.live caller ≡ None → first.offers caller ≡ unoffered
+        → commits_of caller first.history ≡ [] → told_of caller now.history ≡ mine_in caller (own_of caller (turns_of caller turns)) (now.offers caller) }
+    ensures doubt { (limits : Limits) (caller : ℕ) (first now : State) (turns : List Turn) → Runs limits first turns now → first.live caller ≡ None → first.offers caller ≡ unoffered
+        → first.doubt ≡ [] → calls_among caller now.doubt ≡ doubt_in (own_of caller (turns_of caller turns)) (now.offers caller) }
+    ensures owner { (limits : Limits) (callers : ℕ) (first now : State) (turns : List Turn) → Runs limits first turns now → AreOf callers turns → ((caller : ℕ) → (first.live caller ≡ None) × (first.offers caller ≡ unoffered))
         → first.doubt ≡ [] → All (λ (done : Done). done.caller < callers) now.doubt }
 {}
 
 /// What a caller knows of its last turn: the turns up to it begin the run and have all of its own, and the history then has all of its
-/// transactions up to now.
+/// transactions up to now, unless it has offered one and not settled.
 pub fn what_was_seen_at_the_last_turn()
     ensures run { (tells : Bool) (limits : Limits) (caller : ℕ) (past : List Turn) (seen : List Done) (first now : State) (turns : List Turn) → LastTurn tells limits caller past seen first turns now → GoesAlong tells limits first turns now }
     ensures told { (tells : Bool) (limits : Limits) (caller : ℕ) (past : List Turn) (seen : List Done) (first now : State) (turns : List Turn) → LastTurn tells limits caller past seen first turns now
         → turns_of caller past ≡ turns_of caller turns }
     ensures grows { (tells : Bool) (limits : Limits) (caller : ℕ) (past : List Turn) (seen : List Done) (first now : State) (turns : List Turn) → LastTurn tells limits caller past seen first turns now → Grows seen now.history }
-    ensures mine { (tells : Bool) (limits : Limits) (caller : ℕ) (past : List Turn) (seen : List Done) (first now : State) (turns : List Turn) → LastTurn tells limits caller past seen first turns now
-        → commits_of caller seen ≡ commits_of caller now.history }
+    ensures mine { (tells : Bool) (limits : Limits) (caller : ℕ) (past : List Turn) (seen : List Done) (first now : State) (turns : List Turn) (last : LastTurn tells limits caller past seen first turns now)
+        → IsFalse (is_offered (last.mid.offers caller)) → commits_of caller seen ≡ commits_of caller now.history }
 {}
 
 /// Where in a run a caller was told something.
@@ -72,7 +75,7 @@ pub fn where_a_caller_was_told()
 /// What each refusal within a run shows, up to any later state.
 pub fn what_a_refusal_shows()
     ensures { (limits : Limits) (first now : State) (before after : List Turn) (caller : ℕ) (call : Call) (reply : Reply) → Runs limits first (before ++ (caller, call, reply) ∷ after) now
-        → ((other : ℕ) → first.live other ≡ None) → IsFalse first.is_dead → Shows limits before now caller call reply }
+        → ((other : ℕ) → (first.live other ≡ None) × (first.offers other ≡ unoffered)) → IsFalse first.is_dead → Shows limits before now caller call reply }
 {}
 
 /// Unless the medium fails, the index gains only keys that a turn asks to put. The keys that an index has gained were all missing before and

@@ -9,7 +9,7 @@ use native.Mathlib.Decide.{dec_le}
 use Rattle.history.specs.Table.{Granted}
 use Rattle.history.specs.Locks.{touches, has_table, clash}
 use Rattle.history.specs.declared.call.Call.{Call}
-use Rattle.history.specs.declared.call.Call.TheVariants.{Begin, Commit, Abort}
+use Rattle.history.specs.declared.call.Call.TheVariants.{Begin, Commit, Abort, Offer, Settle}
 use Rattle.history.specs.declared.call.Reply.{Reply}
 use Rattle.history.specs.declared.call.Reply.TheVariants as says
 use Rattle.history.specs.declared.locks.Mode.{Mode}
@@ -28,7 +28,7 @@ use Rattle.caller_plans.specs.declared.plan.PlanEnd.TheVariants as end
 use Rattle.caller_plans.specs.declared.fate.Fate.{Fate}
 use Rattle.caller_work.specs.declared.tries.Tries.{Tries}
 use Rattle.caller_work.specs.declared.tries.Tries.TheVariants.{NoLimit}
-use Rattle.caller_work.specs.Tries.{end_call, is_last, refusal_outcome, IsOne, GivesUp, Takes, IsTry, AreHeldUp, IsMade, Works, IsWork}
+use Rattle.caller_work.specs.Tries.{is_last, end_outcome, refusal_outcome, IsOne, Ends, GivesUp, Takes, IsTry, AreHeldUp, IsMade, Works, IsWork}
 use Rattle.caller_work.specs.Asked.{IsHit, IsToldOf, IsPlanned, HaveCauses}
 
 -- no call, and the calls of one list after another
@@ -76,7 +76,7 @@ module _ {C : Type 0} where
   }
 
 -- each call that a caller was told of has a property that the calls of its plans have
-module _ (P : Call → Type 0) (begin : P Begin) (commit : P Commit) (abort : P Abort) where
+module _ (P : Call → Type 0) (begin : P Begin) (commit : P Commit) (abort : P Abort) (offer : P Offer) (settle : P Settle) where
   abbrev pub AllAre : Granted → Type 0
   AllAre told = (entry : Call × Reply) → Contains told entry → P entry.0
 
@@ -89,10 +89,15 @@ module _ (P : Call → Type 0) (begin : P Begin) (commit : P Commit) (abort : P 
   are_one : (told : Granted) (call : Call) (reply : Reply) → told ≡ (call, reply) ∷ [] → P call → AllAre told
   are_one told call reply is holds entry there = subst (λ (x : Call × Reply). P x.0) (only_one (call, reply) entry (subst (λ (l : Granted). Contains l entry) is there)) holds
 
-  ending : (ends : PlanEnd) → P (end_call ends)
-  ending end.Commit = commit
-  ending end.Abort = abort
-  ending end.Unended = abort
+  ending : (ends : PlanEnd) (told : Granted) (made : Result Fate Reply) → Ends ends told made → AllAre told
+  ending end.Commit told made (reply, is, outcome) = are_one told Commit reply is commit
+  ending end.Abort told made (reply, is, outcome) = are_one told Abort reply is abort
+  ending end.Unended told made (reply, is, outcome) = are_one told Abort reply is abort
+  ending end.Offer told made (reply, rest, is, follows) = are_both told ((Offer, reply) ∷ []) rest is (are_one ((Offer, reply) ∷ []) Offer reply refl offer) (go (is_refusal reply) follows)
+    where
+      go : (b : Bool) → MatchBool b ((rest ≡ []) × (made ≡ Err reply)) (IsOne Settle (end_outcome end.Offer) rest made) → AllAre rest
+      go true (none, outcome) = are_none rest none
+      go false (answer, one, outcome) = are_one rest Settle answer one settle
 
   given_up : (reply : Reply) (told : Granted) (made : Result Fate Reply) → (b : Bool) → MatchBool b ((told ≡ []) × (made ≡ Err reply)) (IsOne Abort (λ answer. if is_refusal answer then Err answer else refusal_outcome reply) told made) → AllAre told
   given_up reply told made true (none, is) = are_none told none
@@ -103,7 +108,7 @@ module _ (P : Call → Type 0) (begin : P Begin) (commit : P Commit) (abort : P 
   either_way calls ends reply rest made false takes on = on takes
 
   taken : (calls : List Call) (ends : PlanEnd) (told : Granted) (made : Result Fate Reply) → ((call : Call) → Contains calls call → P call) → Takes calls ends told made → AllAre told
-  taken [] ends told made each (reply, is, outcome) = are_one told (end_call ends) reply is (ending ends)
+  taken [] ends told made each last = ending ends told made last
   taken (call ∷ calls) ends told made each (reply, rest, is, more) = are_both told ((call, reply) ∷ []) rest is (are_one ((call, reply) ∷ []) call reply refl (each call (Contains-append_left (call ∷ []) calls call (one_here call))))
       (either_way calls ends reply rest made (is_refusal reply) more (λ takes. taken calls ends rest made (λ other there. each other (Contains-append_right (call ∷ []) calls other there)) takes))
 
@@ -141,7 +146,7 @@ module _ (P : Call → Type 0) (begin : P Begin) (commit : P Commit) (abort : P 
 -- a call that a caller was told of and that touches a stripe is one of its plans'
 pub planned_by : (names : List (List ℕ)) (tries : Tries) (plans : List Plan) (told : Granted) (fates : List Fate) (stopped : Option Reply) → IsWork tries plans told fates stopped → (entry : Call × Reply) → Contains told entry → (t : ℕ) (asked : Mode) → touches names entry.0 t asked ≡ true → IsPlanned plans entry.0
 planned_by names tries plans told fates stopped work entry there t asked touch = all_worked (λ (call : Call). (t : ℕ) (asked : Mode) → touches names call t asked ≡ true → IsPlanned plans call)
-    (λ t asked e. absurd (false≢true e)) (λ t asked e. absurd (false≢true e)) (λ t asked e. absurd (false≢true e)) tries plans told fates stopped
+    (λ t asked e. absurd (false≢true e)) (λ t asked e. absurd (false≢true e)) (λ t asked e. absurd (false≢true e)) (λ t asked e. absurd (false≢true e)) (λ t asked e. absurd (false≢true e)) tries plans told fates stopped
     (λ plan has call its t asked e. record { plan = plan; there = has; its = its }) work entry there t asked touch
 
 or_right : (a b : Bool) → b ≡ true → (a || b) ≡ true

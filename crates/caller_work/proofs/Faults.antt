@@ -5,7 +5,7 @@ use Rattle.std.proofs.lemmas.Bool.{true≢false}
 use Rattle.std.proofs.lemmas.List.Folds.{list_any-append}
 use Rattle.history.specs.Table.{Granted}
 use Rattle.history.specs.declared.call.Call.{Call}
-use Rattle.history.specs.declared.call.Call.TheVariants.{Begin, Abort}
+use Rattle.history.specs.declared.call.Call.TheVariants.{Begin, Abort, Settle}
 use Rattle.history.specs.declared.call.Reply.{Reply}
 use Rattle.history.specs.declared.call.Reply.TheVariants as says
 use Rattle.caller_steps.specs.Fate.{is_media, is_refusal}
@@ -17,7 +17,7 @@ use Rattle.caller_plans.specs.declared.plan.PlanEnd.TheVariants as end
 use Rattle.caller_plans.specs.declared.fate.Fate.{Fate}
 use Rattle.caller_work.specs.declared.tries.Tries.{Tries}
 use Rattle.caller_work.specs.declared.tries.Tries.TheVariants.{NoLimit}
-use Rattle.caller_work.specs.Tries.{end_call, is_last, end_outcome, refusal_outcome, IsOne, GivesUp, Takes, IsTry, AreHeldUp, IsMade, Works, IsWork}
+use Rattle.caller_work.specs.Tries.{end_call, is_last, end_outcome, refusal_outcome, IsOne, Ends, GivesUp, Takes, IsTry, AreHeldUp, IsMade, Works, IsWork}
 use Rattle.caller_work.specs.Standing.{stop_for}
 use Rattle.caller_work.specs.Worked.{is_fault, end_of}
 
@@ -29,6 +29,8 @@ fault_in (Err reply) = is_media reply
 at_end : (ends : PlanEnd) (reply : Reply) → is_media reply ≡ fault_in (end_outcome ends reply)
 at_end end.Commit (says.Committed at) = refl
 at_end end.Commit reply = refl
+at_end end.Offer (says.Committed at) = refl
+at_end end.Offer reply = refl
 at_end end.Abort says.Fine = refl
 at_end end.Abort reply = refl
 at_end end.Unended says.Fine = refl
@@ -68,8 +70,18 @@ in_given_up reply told made gives = go (is_last reply) refl gives
     go true e (none, is) = ap (λ (l : Granted). is_media reply || has_media l) none ∙ either_none (is_media reply) ∙ ap fault_in (sym is)
     go false e one = ap (λ (b : Bool). b || has_media told) (not_last_sure reply e) ∙ in_one Abort (λ answer. if is_refusal answer then Err answer else refusal_outcome reply) told made (λ answer. aborts answer (is_refusal answer) refl) one
 
+in_ends : (ends : PlanEnd) (told : Granted) (made : Result Fate Reply) → Ends ends told made → has_media told ≡ fault_in made
+in_ends end.Commit told made one = in_one (end_call end.Commit) (end_outcome end.Commit) told made (at_end end.Commit) one
+in_ends end.Abort told made one = in_one (end_call end.Abort) (end_outcome end.Abort) told made (at_end end.Abort) one
+in_ends end.Unended told made one = in_one (end_call end.Unended) (end_outcome end.Unended) told made (at_end end.Unended) one
+in_ends end.Offer told made (reply, rest, is, follows) = ap has_media is ∙ go (is_refusal reply) refl follows
+  where
+    go : (b : Bool) → is_refusal reply ≡ b → MatchBool b ((rest ≡ []) × (made ≡ Err reply)) (IsOne Settle (end_outcome end.Offer) rest made) → (is_media reply || has_media rest) ≡ fault_in made
+    go true e (none, came) = ap (λ (l : Granted). is_media reply || has_media l) none ∙ either_none (is_media reply) ∙ ap fault_in (sym came)
+    go false e one = ap (λ (b : Bool). b || has_media rest) (granted_sure reply e) ∙ in_one Settle (end_outcome end.Offer) rest made (at_end end.Offer) one
+
 in_takes : (calls : List Call) (ends : PlanEnd) (told : Granted) (made : Result Fate Reply) → Takes calls ends told made → has_media told ≡ fault_in made
-in_takes [] ends told made one = in_one (end_call ends) (end_outcome ends) told made (at_end ends) one
+in_takes [] ends told made last = in_ends ends told made last
 in_takes (call ∷ calls) ends told made (reply, rest, is, follows) = ap has_media is ∙ go (λ takes. in_takes calls ends rest made takes) (is_refusal reply) refl follows
   where
     go : (Takes calls ends rest made → has_media rest ≡ fault_in made) → (b : Bool) → is_refusal reply ≡ b → MatchBool b (GivesUp reply rest made) (Takes calls ends rest made) → (is_media reply || has_media rest) ≡ fault_in made

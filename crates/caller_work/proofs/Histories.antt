@@ -1,27 +1,31 @@
 -- A caller's transactions in a history, from the turns that its plans ask for.
-use Rattle.std.proofs.Common.{◌≡◌, inl, inr, ℕ, zero, suc, Bool, true, false, List, [], ◌∷◌, ◌++◌, append_assoc, All, length, map, Option, Some, None, unwrap_or, Result, Ok, Err, drop, arith, refl, sym, ap, ◌∙◌, subst}
-use Rattle.std.specs.Prelude.{IsTrue, not, ◌≢◌, nat_eq, filter, if◌then◌else◌, MatchBool}
+use Rattle.std.proofs.Common.{◌≡◌, ◌≢◌, ◌⊎◌, inl, inr, ℕ, zero, suc, Bool, true, false, List, [], ◌∷◌, ◌++◌, append_assoc, All, length, map, Option, Some, None, unwrap_or, Result, Ok, Err, drop, arith, refl, sym, ap, ◌∙◌, subst}
+use Rattle.std.specs.Prelude.{IsTrue, IsFalse, not, if◌then◌else◌, MatchBool}
 use Rattle.std.specs.List.{fold}
-use Rattle.std.proofs.lemmas.Bool.{true≢false}
+use mathlib.Core.Logic.{dite}
+use native.Mathlib.Decide.{ℕ_discrete}
+use Rattle.std.proofs.lemmas.Bool.{true≢false, cases_Bool}
 use Rattle.std.proofs.lemmas.List.{append-nil, map-append}
 use Rattle.std.proofs.lemmas.List.Sums.{fold-append}
 use Rattle.std.proofs.lemmas.List.Elements.{All-drop}
 use Rattle.history.specs.Table.{Granted}
 use Rattle.history.specs.declared.call.Call.{Call}
-use Rattle.history.specs.declared.call.Call.TheVariants.{Begin, Commit, Abort}
+use Rattle.history.specs.declared.call.Call.TheVariants.{Begin, Commit, Abort, Offer, Settle}
 use Rattle.history.specs.declared.call.Reply.{Reply}
 use Rattle.history.specs.declared.call.Reply.TheVariants as says
 use Rattle.history.specs.declared.transaction.Done.{Done}
-use Rattle.caller_steps.specs.State.{State}
+use Rattle.caller_steps.specs.State as state
+use Rattle.caller_steps.specs.State.{State, unoffered, offered, unsettled, commits_of}
+use Rattle.caller_steps.specs.Offers.{is_offered, is_unoffered}
 use Rattle.caller_steps.specs.Room.{Limits}
 use Rattle.caller_steps.specs.Step.{Step, Runs}
-use Rattle.caller_steps.specs.Fate.{is_refusal, is_media, is_busy, is_committed, live_with}
-use Rattle.caller_steps.specs.Run.{Turn, turns_of, commits_of}
-use Rattle.caller_steps.specs.Own.{is_commit, Own, nothing_own, own_after, live_after, number_of}
+use Rattle.caller_steps.specs.Fate.{is_refusal, is_media, is_busy, is_committed, live_with, offer_with}
+use Rattle.caller_steps.specs.Run.{Turn, Goes, turns_of}
+use Rattle.caller_steps.specs.Own.{is_commit, Own, nothing_own, own_after, number_of, as_told, told_of, mine_in, KnowsLive}
 use Rattle.caller_steps.proofs.Fates.{Fate as Moved, step_fate, refusal_none, answer_plain}
-use Rattle.caller_steps.proofs.Fates.Fate.{refused, failed, began, granted, committed, doubted, aborted}
-use Rattle.caller_steps.proofs.Running.{turns_of_runs}
-use Rattle.caller_steps.proofs.Owning.{turns_mine}
+use Rattle.caller_steps.proofs.Fates.Fate.{refused, failed, began, granted, committed, doubted, aborted, given, settled, unsure, told as numbered}
+use Rattle.caller_steps.proofs.Running.{line_here, line_apart, goes_of_step, turns_of_runs}
+use Rattle.caller_steps.proofs.Owning.{live_goes, live_other, turns_mine, fresh_live, fresh_mine}
 use Rattle.caller_plans.specs.declared.plan.Plan.{Plan}
 use Rattle.caller_plans.specs.declared.plan.PlanEnd.{PlanEnd}
 use Rattle.caller_plans.specs.declared.plan.PlanEnd.TheVariants as end
@@ -30,74 +34,100 @@ use Rattle.caller_plans.specs.declared.fate.Fate.TheVariants.{Committed, Aborted
 use Rattle.caller_plans.specs.Plans.{is_of_table, IsPlain, ArePlain}
 use Rattle.caller_work.specs.declared.tries.Tries.{Tries}
 use Rattle.caller_work.specs.declared.tries.Tries.TheVariants.{NoLimit}
-use Rattle.caller_work.specs.Tries.{end_call, is_last, end_outcome, refusal_outcome, IsOne, GivesUp, Takes, IsTry, AreHeldUp, IsMade, Works, IsWork, IsWorkOf}
+use Rattle.caller_work.specs.Tries.{is_last, end_outcome, refusal_outcome, IsOne, Ends, GivesUp, Takes, IsTry, AreHeldUp, IsMade, Works, IsWork, IsWorkOf}
 use Rattle.mars_manager.specs.Locks.{steps_of}
-use Rattle.caller_work.specs.Fated.{IsDoneAs, AreFated}
-
--- only commits are answered with a number of the history
-abbrev AreCommits : Granted → Type 0
-AreCommits [] = Unit {0}
-AreCommits (entry ∷ told) = (is_committed entry.1 ≡ true → entry.0 ≡ Commit) × AreCommits told
-
-both_parts : (xs ys : Granted) → AreCommits (xs ++ ys) → AreCommits xs × AreCommits ys
-both_parts [] ys all = (tt, all)
-both_parts (entry ∷ xs) ys (one, all) = let both = both_parts xs ys all in ((one, both.0), both.1)
-
--- a step that answers so is a commit
-step_commits : (limits : Limits) (old new : State) (caller : ℕ) (call : Call) (reply : Reply) → Step limits old caller call reply new → is_committed reply ≡ true → call ≡ Commit
-step_commits limits old new caller call reply step sure = go (step_fate limits old caller new call reply step)
-  where
-    go : Moved old caller call reply new → call ≡ Commit
-    go (refused not media index e) = absurd (true≢false (sym sure ∙ refusal_none reply not))
-    go (failed is index e) = absurd (true≢false (sym sure ∙ ap is_committed is))
-    go (began c is e) = absurd (true≢false (sym sure ∙ ap is_committed is))
-    go (granted calls live unheld answers index e) = absurd (true≢false (sym sure ∙ (answer_plain _ call reply answers).uncommitted))
-    go (committed calls c is live index e) = c
-    go (doubted calls c is live index e) = c
-    go (aborted c is e) = absurd (true≢false (sym sure ∙ ap is_committed is))
-
--- and so each turn of a run that answers so is one
-runs_commit : (limits : Limits) (caller : ℕ) (turns : List Turn) (first now : State) → Runs limits first turns now → AreCommits (turns_of caller turns)
-runs_commit limits caller [] first now run = tt
-runs_commit limits caller (turn ∷ turns) first now (mid, step, run) = go (nat_eq turn.0 caller) (runs_commit limits caller turns mid now run)
-  where
-    go : (b : Bool) → AreCommits (turns_of caller turns) → AreCommits (map (λ (t : Turn). (t.1, t.2)) (if b then turn ∷ filter (λ (t : Turn). nat_eq t.0 caller) turns else filter (λ (t : Turn). nat_eq t.0 caller) turns))
-    go true rest = (step_commits limits first mid turn.0 turn.1 turn.2 step, rest)
-    go false rest = rest
+use Rattle.caller_work.specs.Fated.{commits, IsDoneAs, AreFated}
 
 pick_false : {X : Type 0} (b : Bool) (x y : X) → b ≡ false → (if b then x else y) ≡ y
 pick_false true x y e = absurd (true≢false e)
 pick_false false x y e = refl
 
--- a call that is no commit is not answered as one
-uncommitted : (call : Call) (reply : Reply) → (call ≡ Commit → ⊥) → (is_committed reply ≡ true → call ≡ Commit) → is_committed reply ≡ false
-uncommitted call reply other sure = go (is_committed reply) refl
-  where
-    go : (b : Bool) → is_committed reply ≡ b → is_committed reply ≡ false
-    go true e = absurd (other (sure e))
-    go false e = e
+-- what a reply leaves of something: a fault of the medium, a refusal, and else
+refused_if : {X : Type 0} (media commit refusal : Bool) (lost was done : X) → commit ≡ false → refusal ≡ true → (if media then (if commit then lost else was) else (if refusal then was else done)) ≡ was
+refused_if true true refusal lost was done c r = absurd (true≢false c)
+refused_if true false refusal lost was done c r = refl
+refused_if false commit true lost was done c r = refl
+refused_if false commit false lost was done c r = absurd (true≢false (sym r))
 
-of_table : (call : Call) → is_of_table call ≡ true → call ≡ Commit → ⊥
-of_table call plain is = true≢false (sym plain ∙ ap is_of_table is)
+done_if : {X : Type 0} (media commit refusal : Bool) (lost was done : X) → media ≡ false → refusal ≡ false → (if media then (if commit then lost else was) else (if refusal then was else done)) ≡ done
+done_if true commit refusal lost was done m r = absurd (true≢false m)
+done_if false commit true lost was done m r = absurd (true≢false r)
+done_if false commit false lost was done m r = refl
 
--- a granted call goes to the live transaction
-granted_live : (live : Option Granted) (call : Call) (reply : Reply) → is_refusal reply ≡ false → is_media reply ≡ false → live_after live call reply ≡ live_with (unwrap_or live []) call reply
-granted_live live call reply done sure =
-    pick_false (is_media reply) (if is_commit call then None else live) (if is_refusal reply then live else live_with (unwrap_or live []) call reply) sure
-    ∙ pick_false (is_refusal reply) live (live_with (unwrap_or live []) call reply) done
+all_if : {X : Type 0} (media commit refusal : Bool) (lost was done x : X) → lost ≡ x → was ≡ x → done ≡ x → (if media then (if commit then lost else was) else (if refusal then was else done)) ≡ x
+all_if true true refusal lost was done x l w d = l
+all_if true false refusal lost was done x l w d = w
+all_if false commit true lost was done x l w d = w
+all_if false commit false lost was done x l w d = d
 
 granted_sure : (reply : Reply) → is_refusal reply ≡ false → is_media reply ≡ false
 granted_sure says.Media e = absurd (true≢false e)
 granted_sure reply e = refl
 
+-- What a reply shows of its caller's transactions: only a commit or a settle is answered with a number of the history, and one that was offered
+-- takes no call but its settle.
+record IsLawful (own : Own) (entry : Call × Reply) : Type 0 where
+  commits : is_committed entry.1 ≡ true → (entry.0 ≡ Commit) ⊎ (entry.0 ≡ Settle)
+  closed : own.waits ≡ true → is_refusal entry.1 ≡ false → entry.0 ≡ Settle
+
+-- a step that answers so is a commit or a settle
+step_commits : (limits : Limits) (old new : State) (caller : ℕ) (call : Call) (reply : Reply) → Step limits old caller call reply new → is_committed reply ≡ true → (call ≡ Commit) ⊎ (call ≡ Settle)
+step_commits limits old new caller call reply step sure = go (step_fate limits old caller new call reply step)
+  where
+    go : Moved limits.callers old caller call reply new → (call ≡ Commit) ⊎ (call ≡ Settle)
+    go (refused not media index e) = absurd (true≢false (sym sure ∙ refusal_none reply not))
+    go (failed apart is index e) = absurd (true≢false (sym sure ∙ ap is_committed is))
+    go (began un c is e) = absurd (true≢false (sym sure ∙ ap is_committed is))
+    go (granted calls un live unheld answers index e) = absurd (true≢false (sym sure ∙ (answer_plain _ call reply answers).uncommitted))
+    go (committed calls un c is live index e) = inl c
+    go (doubted calls un c is live index e) = inl c
+    go (aborted un c is e) = absurd (true≢false (sym sure ∙ ap is_committed is))
+    go (given calls un c is live e) = absurd (true≢false (sym sure ∙ ap is_committed is))
+    go (settled inside has c is index e) = inr c
+    go (unsure inside has c is index e) = inr c
+    go (numbered n has c is e) = inr c
+
+closed_by : (offer : state.Offer) → (offer ≡ unoffered → ⊥) → is_unoffered offer ≡ false
+closed_by unoffered ne = absurd (ne refl)
+closed_by _ ne = refl
+
+-- a call that is no commit is not answered as one
+uncommitted : (call : Call) (reply : Reply) → (call ≡ Commit → ⊥) → (call ≡ Settle → ⊥) → (is_committed reply ≡ true → (call ≡ Commit) ⊎ (call ≡ Settle)) → is_committed reply ≡ false
+uncommitted call reply other another sure = go (is_committed reply) refl
+  where
+    either : (call ≡ Commit) ⊎ (call ≡ Settle) → is_committed reply ≡ false
+    either (inl c) = absurd (other c)
+    either (inr c) = absurd (another c)
+
+    go : (b : Bool) → is_committed reply ≡ b → is_committed reply ≡ false
+    go true e = either (sure e)
+    go false e = e
+
+plain_commit : (call : Call) → is_of_table call ≡ true → call ≡ Commit → ⊥
+plain_commit call plain is = true≢false (sym plain ∙ ap is_of_table is)
+
+plain_settle : (call : Call) → is_of_table call ≡ true → call ≡ Settle → ⊥
+plain_settle call plain is = true≢false (sym plain ∙ ap is_of_table is)
+
 plain_live : (calls : Granted) (call : Call) (reply : Reply) → is_of_table call ≡ true → live_with calls call reply ≡ Some (calls ++ (call, reply) ∷ [])
 plain_live calls Begin reply e = absurd (true≢false (sym e))
 plain_live calls Commit reply e = absurd (true≢false (sym e))
 plain_live calls Abort reply e = absurd (true≢false (sym e))
+plain_live calls Offer reply e = absurd (true≢false (sym e))
+plain_live calls Settle reply e = absurd (true≢false (sym e))
 plain_live calls call reply e = refl
+
+plain_open : (call : Call) → is_of_table call ≡ true → is_offered (offer_with call) ≡ false
+plain_open Offer e = absurd (true≢false (sym e))
+plain_open _ e = refl
 
 abbrev first_of : Call × Reply → Call
 first_of entry = entry.0
+
+-- a try came to a fate
+abbrev is_made : Result Fate Reply → Bool
+is_made (Ok fate) = true
+is_made (Err reply) = false
 
 module _ (caller : ℕ) where
   abbrev after : Own → Granted → Own
@@ -106,14 +136,89 @@ module _ (caller : ℕ) where
   after_both : (own : Own) (xs ys : Granted) → after own (xs ++ ys) ≡ after (after own xs) ys
   after_both own xs ys = fold-append (own_after caller) own xs ys
 
+  -- so it is of each of these turns
+  abbrev AreLawful : Own → Granted → Type 0
+  AreLawful own [] = Unit {0}
+  AreLawful own (entry ∷ told) = IsLawful own entry × AreLawful (own_after caller own entry) told
+
+  both_parts : (own : Own) (xs ys : Granted) → AreLawful own (xs ++ ys) → AreLawful own xs × AreLawful (after own xs) ys
+  both_parts own [] ys all = (tt, all)
+  both_parts own (entry ∷ xs) ys (one, all) = let both = both_parts (own_after caller own entry) xs ys all in ((one, both.0), both.1)
+
+  -- Each turn of a run is lawful.
+  lawful_step : (limits : Limits) (old new : State) (own : Own) (call : Call) (reply : Reply) → Step limits old caller call reply new → KnowsLive caller own old → IsLawful own (call, reply)
+  lawful_step limits old new own call reply step knows = record {
+    commits = step_commits limits old new caller call reply step;
+    closed = λ waits done. go old.is_dead refl waits done;
+  }
+    where
+      goes : Goes true limits old caller call reply new
+      goes = goes_of_step limits old caller call reply new step
+
+      go : (dead : Bool) → old.is_dead ≡ dead → own.waits ≡ true → is_refusal reply ≡ false → call ≡ Settle
+      go true dead waits done = absurd (true≢false (sym (ap is_refusal (goes.dead dead).0) ∙ done))
+      go false alive waits done = goes.moves.closed (closed_by (old.offers caller) (knows.some waits alive)) done
+
+  lawful_run : (limits : Limits) (turns : List Turn) (first now : State) (own : Own) → Runs limits first turns now → KnowsLive caller own first → AreLawful own (turns_of caller turns)
+  lawful_run limits [] first now own run knows = tt
+  lawful_run limits (turn ∷ turns) first now own (mid, step, run) knows = dite (ℕ_discrete turn.0 caller)
+      (λ (same : turn.0 ≡ caller).
+      let its = subst (λ (n : ℕ). Step limits first n turn.1 turn.2 mid) same step in
+      let next = live_goes limits first caller mid own turn.1 turn.2 true (goes_of_step limits first caller turn.1 turn.2 mid its) (inl refl) knows in
+      subst (λ (l : Granted). AreLawful own l) (sym (subst (λ (n : ℕ). turns_of n (turn ∷ turns) ≡ (turn.1, turn.2) ∷ turns_of n turns) same (line_here turn.0 turn.1 turn.2 turns)))
+      (lawful_step limits first mid own turn.1 turn.2 its knows, lawful_run limits turns mid now (own_after caller own (turn.1, turn.2)) run next))
+      (λ (ne : turn.0 ≢ caller).
+      subst (λ (l : Granted). AreLawful own l) (sym (line_apart caller turn turns ne))
+      (lawful_run limits turns mid now own run (live_other limits first caller mid own turn (λ e. ne (sym e)) true (goes_of_step limits first turn.0 turn.1 turn.2 mid step) knows)))
+
   -- one call that is not answered as a commit
   mine_same : (own : Own) (call : Call) (reply : Reply) → is_committed reply ≡ false → (own_after caller own (call, reply)).mine ≡ own.mine
   mine_same own call reply e = pick_false (is_committed reply) (own.mine ++ record { caller = caller; calls = unwrap_or own.live []; at = number_of reply; last = number_of reply } ∷ []) own.mine e
 
+  module _ (own : Own) (call : Call) (reply : Reply) where
+    abbrev next : Own
+    next = own_after caller own (call, reply)
+
+    -- a call that was done
+    done_live : is_refusal reply ≡ false → next.live ≡ live_with (unwrap_or own.live []) call reply
+    done_live done = done_if (is_media reply) (is_commit call) (is_refusal reply) None own.live (live_with (unwrap_or own.live []) call reply) (granted_sure reply done) done
+
+    done_waits : is_refusal reply ≡ false → next.waits ≡ is_offered (offer_with call)
+    done_waits done = done_if (is_media reply) (is_commit call) (is_refusal reply) false own.waits (is_offered (offer_with call)) (granted_sure reply done) done
+
+    -- one that was refused, and is no commit
+    refused_live : is_refusal reply ≡ true → is_commit call ≡ false → next.live ≡ own.live
+    refused_live refusal apart = refused_if (is_media reply) (is_commit call) (is_refusal reply) None own.live (live_with (unwrap_or own.live []) call reply) apart refusal
+
+    refused_waits : is_refusal reply ≡ true → is_commit call ≡ false → next.waits ≡ own.waits
+    refused_waits refusal apart = refused_if (is_media reply) (is_commit call) (is_refusal reply) false own.waits (is_offered (offer_with call)) apart refusal
+
+    -- where nothing waits, only an offer lets something wait
+    idle_stays : own.waits ≡ false → is_offered (offer_with call) ≡ false → next.waits ≡ false
+    idle_stays idle none = all_if (is_media reply) (is_commit call) (is_refusal reply) false own.waits (is_offered (offer_with call)) false refl idle none
+
+  -- what waits for its settle is this plan, which was offered with all its calls
+  record IsWaiting (plan : Plan) (own : Own) : Type 0 where
+    offers : plan.end ≡ end.Offer
+    all : Granted
+    live : own.live ≡ Some all
+    calls : map first_of all ≡ plan.calls
+
+  abbrev Stands : Plan → Own → Type 0
+  Stands plan own = own.waits ≡ true → IsWaiting plan own
+
+  stands_idle : (plan : Plan) (own : Own) → own.waits ≡ false → Stands plan own
+  stands_idle plan own idle waits = absurd (true≢false (sym waits ∙ idle))
+
+  stands_refused : (plan : Plan) (own : Own) (call : Call) (reply : Reply) → Stands plan own → is_refusal reply ≡ true → is_commit call ≡ false → Stands plan (own_after caller own (call, reply))
+  stands_refused plan own call reply stands refusal apart waits =
+      let w = stands (sym (refused_waits own call reply refusal apart) ∙ waits) in
+      record { offers = w.offers; all = w.all; live = refused_live own call reply refusal apart ∙ w.live; calls = w.calls }
+
   -- what a try adds to a caller's transactions
   abbrev Gains : Plan → Result Fate Reply → List Done → List Done → Type 0
   Gains plan (Ok (Committed at)) old new = (done : Done) × IsDoneAs caller plan at done × (new ≡ old ++ done ∷ [])
-  Gains plan (Ok Aborted) old new = (plan.end ≢ end.Commit) × (new ≡ old)
+  Gains plan (Ok Aborted) old new = IsFalse (commits plan.end) × (new ≡ old)
   Gains plan (Ok (Refused reply)) old new = new ≡ old
   Gains plan (Err reply) old new = new ≡ old
 
@@ -124,162 +229,319 @@ module _ (caller : ℕ) where
   refusal_gains plan (says.Busy holder) old new same = same
   refusal_gains plan refusal old new same = same
 
+  -- What comes of a try. Once the plan has a fate nothing waits, and else only the plan itself may.
+  record Came (plan : Plan) (made : Result Fate Reply) (old new : Own) : Type 0 where
+    gains : Gains plan made old.mine new.mine
+    stands : Stands plan new
+    idle : is_made made ≡ true → new.waits ≡ false
+
+  onto : (plan : Plan) (made : Result Fate Reply) (old mid new : Own) → mid.mine ≡ old.mine → Came plan made mid new → Came plan made old new
+  onto plan made old mid new same came = record { gains = subst (λ (l : List Done). Gains plan made l new.mine) same came.gains; stands = came.stands; idle = came.idle }
+
+  came_refused : (plan : Plan) (made : Result Fate Reply) (reply : Reply) (old new : Own) → made ≡ Err reply → new.mine ≡ old.mine → Stands plan new → Came plan made old new
+  came_refused plan made reply old new is same stands = record {
+    gains = gains_nothing plan made reply old.mine new.mine is same;
+    stands = stands;
+    idle = λ e. absurd (true≢false (sym e ∙ ap is_made is));
+  }
+
+  came_idle : (plan : Plan) (made : Result Fate Reply) (old new : Own) → Gains plan made old.mine new.mine → new.waits ≡ false → Came plan made old new
+  came_idle plan made old new gains idle = record { gains = gains; stands = stands_idle plan new idle; idle = λ _. idle }
+
   -- a refusal, and the abort that may follow it, add nothing
-  given_up : (plan : Plan) (refusal : Reply) (made : Result Fate Reply) (told : Granted) (own : Own) → GivesUp refusal told made → AreCommits told → Gains plan made own.mine (after own told).mine
-  given_up plan refusal made told own gives commits = go (is_last refusal) gives
+  given_up : (plan : Plan) (refusal : Reply) (made : Result Fate Reply) (told : Granted) (own : Own) → GivesUp refusal told made → AreLawful own told → Stands plan own → Came plan made own (after own told)
+  given_up plan refusal made told own gives lawful stands = go (is_last refusal) gives
     where
-      go : (b : Bool) → MatchBool b ((told ≡ []) × (made ≡ Err refusal)) (IsOne Abort (λ answer. if is_refusal answer then Err answer else refusal_outcome refusal) told made) → Gains plan made own.mine (after own told).mine
-      go true (none, is) = gains_nothing plan made refusal own.mine (after own told).mine is (ap (λ (l : Granted). (after own l).mine) none)
-      go false (answer, is, came) =
-          let one : AreCommits ((Abort, answer) ∷ []) = subst AreCommits is commits in
-          let free : is_committed answer ≡ false = uncommitted Abort answer (λ same. cc) one.0 in
-          let same : (after own told).mine ≡ own.mine = ap (λ (l : Granted). (after own l).mine) is ∙ mine_same own Abort answer free in
-          subst (λ (r : Result Fate Reply). Gains plan r own.mine (after own told).mine) (sym came) (by answer (is_refusal answer) same)
+      go : (b : Bool) → MatchBool b ((told ≡ []) × (made ≡ Err refusal)) (IsOne Abort (λ answer. if is_refusal answer then Err answer else refusal_outcome refusal) told made) → Came plan made own (after own told)
+      go true (none, is) = subst (λ (l : Granted). Came plan made own (after own l)) (sym none) (came_refused plan made refusal own own is refl stands)
+      go false (answer, is, came) = subst (λ (l : Granted). Came plan made own (after own l)) (sym is) (by (is_refusal answer) refl came)
         where
-          by : (answer : Reply) (b : Bool) → (after own told).mine ≡ own.mine → Gains plan (if b then Err answer else refusal_outcome refusal) own.mine (after own told).mine
-          by answer true same = same
-          by answer false same = refusal_gains plan refusal own.mine (after own told).mine same
+          one : IsLawful own (Abort, answer)
+          one = (subst (AreLawful own) is lawful).0
 
-  -- a commit adds the live transaction, and an abort nothing
-  ended : (plan : Plan) (ends : PlanEnd) (made : Result Fate Reply) (told : Granted) (own : Own) (all : Granted) → plan.end ≡ ends → own.live ≡ Some all → map first_of all ≡ plan.calls
-      → IsOne (end_call ends) (end_outcome ends) told made → AreCommits told → Gains plan made own.mine (after own told).mine
-  ended plan ends made told own all is_end live calls (reply, is, came) commits =
-      subst (λ (l : Granted). Gains plan made own.mine (after own l).mine) (sym is)
-      (subst (λ (r : Result Fate Reply). Gains plan r own.mine (own_after caller own (end_call ends, reply)).mine) (sym came) (by ends reply is_end (subst AreCommits is commits)))
+          same : (own_after caller own (Abort, answer)).mine ≡ own.mine
+          same = mine_same own Abort answer (uncommitted Abort answer (λ same. cc) (λ same. cc) one.commits)
+
+          by : (b : Bool) → is_refusal answer ≡ b → made ≡ (if is_refusal answer then Err answer else refusal_outcome refusal) → Came plan made own (own_after caller own (Abort, answer))
+          by true e came = came_refused plan made answer own (own_after caller own (Abort, answer)) (came ∙ ap (λ (b : Bool). if b then Err answer else refusal_outcome refusal) e) same
+              (stands_refused plan own Abort answer stands e refl)
+          by false e came = came_idle plan made own (own_after caller own (Abort, answer))
+              (subst (λ (r : Result Fate Reply). Gains plan r own.mine (own_after caller own (Abort, answer)).mine) (sym (came ∙ ap (λ (b : Bool). if b then Err answer else refusal_outcome refusal) e))
+              (refusal_gains plan refusal own.mine (own_after caller own (Abort, answer)).mine same))
+              (done_waits own Abort answer e)
+
+  -- A commit adds the live transaction, and so does a settle; an abort adds nothing.
+  module _ (plan : Plan) (own : Own) (all : Granted) (live : own.live ≡ Some all) (calls : map first_of all ≡ plan.calls) where
+    committed_as : (at : ℕ) (is_end : commits plan.end ≡ true) → IsDoneAs caller plan at (record { caller = caller; calls = unwrap_or own.live []; at = at; last = at })
+    committed_as at is_end = record { commits = is_end; caller_is = refl; calls = ap (λ (l : Option Granted). map first_of (unwrap_or l [])) live ∙ calls; number = refl }
+
+    at_commit : (reply : Reply) → commits plan.end ≡ true → Gains plan (end_outcome end.Commit reply) own.mine (own_after caller own (Commit, reply)).mine
+    at_commit (says.Committed at) is_end = (record { caller = caller; calls = unwrap_or own.live []; at = at; last = at }, committed_as at is_end, refl)
+    at_commit reply is_end = refl
+
+    -- the reply to a settle
+    at_settle : (reply : Reply) → plan.end ≡ end.Offer → Came plan (end_outcome end.Offer reply) own (own_after caller own (Settle, reply))
+    at_settle (says.Committed at) is_end = came_idle plan (Ok (Committed at)) own (own_after caller own (Settle, says.Committed at))
+        (record { caller = caller; calls = unwrap_or own.live []; at = at; last = at }, committed_as at (ap commits is_end), refl) refl
+    at_settle says.Media is_end = came_refused plan (Err says.Media) says.Media own (own_after caller own (Settle, says.Media)) refl refl (stands_idle plan (own_after caller own (Settle, says.Media)) refl)
+    at_settle says.Fine is_end = came_refused plan (Err says.Fine) says.Fine own (own_after caller own (Settle, says.Fine)) refl refl (stands_idle plan (own_after caller own (Settle, says.Fine)) refl)
+    at_settle (says.Found v) is_end = came_refused plan (Err (says.Found v)) (says.Found v) own (own_after caller own (Settle, says.Found v)) refl refl (stands_idle plan (own_after caller own (Settle, says.Found v)) refl)
+    at_settle says.Absent is_end = came_refused plan (Err says.Absent) says.Absent own (own_after caller own (Settle, says.Absent)) refl refl (stands_idle plan (own_after caller own (Settle, says.Absent)) refl)
+    at_settle (says.Listed v) is_end = came_refused plan (Err (says.Listed v)) (says.Listed v) own (own_after caller own (Settle, says.Listed v)) refl refl (stands_idle plan (own_after caller own (Settle, says.Listed v)) refl)
+    at_settle (says.Saved v) is_end = came_refused plan (Err (says.Saved v)) (says.Saved v) own (own_after caller own (Settle, says.Saved v)) refl refl (stands_idle plan (own_after caller own (Settle, says.Saved v)) refl)
+    at_settle reply is_end = came_refused plan (Err reply) reply own own refl refl (λ _. record { offers = is_end; all = all; live = live; calls = calls })
+
+    no_commit : (reply : Reply) → IsLawful own (Abort, reply) → (own_after caller own (Abort, reply)).mine ≡ own.mine
+    no_commit reply lawful = mine_same own Abort reply (uncommitted Abort reply (λ same. cc) (λ same. cc) lawful.commits)
+
+    at_abort : (reply : Reply) → commits plan.end ≡ false → (own_after caller own (Abort, reply)).mine ≡ own.mine → Gains plan (end_outcome end.Abort reply) own.mine (own_after caller own (Abort, reply)).mine
+    at_abort says.Fine never same = (never, same)
+    at_abort reply never same = same
+
+    at_unended : (reply : Reply) → commits plan.end ≡ false → (own_after caller own (Abort, reply)).mine ≡ own.mine → Gains plan (end_outcome end.Unended reply) own.mine (own_after caller own (Abort, reply)).mine
+    at_unended says.Fine never same = (never, same)
+    at_unended reply never same = same
+
+  -- one call ends a plan
+  one_ends : (plan : Plan) (made : Result Fate Reply) (told : Granted) (own : Own) (call : Call) (outcome : Reply → Result Fate Reply) → IsOne call outcome told made → AreLawful own told
+      → ((reply : Reply) → IsLawful own (call, reply) → Came plan (outcome reply) own (own_after caller own (call, reply))) → Came plan made own (after own told)
+  one_ends plan made told own call outcome (reply, is, came) lawful by =
+      subst (λ (l : Granted). Came plan made own (after own l)) (sym is)
+      (subst (λ (r : Result Fate Reply). Came plan r own (own_after caller own (call, reply))) (sym came) (by reply (subst (AreLawful own) is lawful).0))
+
+  ended : (plan : Plan) (ends : PlanEnd) (made : Result Fate Reply) (told : Granted) (own : Own) (all : Granted) → plan.end ≡ ends → own.live ≡ Some all → own.waits ≡ false → map first_of all ≡ plan.calls
+      → Ends ends told made → AreLawful own told → Came plan made own (after own told)
+  ended plan end.Commit made told own all is_end live idle calls last lawful = one_ends plan made told own Commit (end_outcome end.Commit) last lawful
+      (λ reply so. came_idle plan (end_outcome end.Commit reply) own (own_after caller own (Commit, reply)) (at_commit plan own all live calls reply (ap commits is_end)) (idle_stays own Commit reply idle refl))
+  ended plan end.Abort made told own all is_end live idle calls last lawful = one_ends plan made told own Abort (end_outcome end.Abort) last lawful
+      (λ reply so. came_idle plan (end_outcome end.Abort reply) own (own_after caller own (Abort, reply)) (at_abort plan own all live calls reply (ap commits is_end) (no_commit plan own all live calls reply so)) (idle_stays own Abort reply idle refl))
+  ended plan end.Unended made told own all is_end live idle calls last lawful = one_ends plan made told own Abort (end_outcome end.Unended) last lawful
+      (λ reply so. came_idle plan (end_outcome end.Unended reply) own (own_after caller own (Abort, reply)) (at_unended plan own all live calls reply (ap commits is_end) (no_commit plan own all live calls reply so)) (idle_stays own Abort reply idle refl))
+  ended plan end.Offer made told own all is_end live idle calls (reply, rest, is, follows) lawful =
+      subst (λ (l : Granted). Came plan made own (after own l)) (sym is) (go (is_refusal reply) refl follows)
     where
-      at_commit : (reply : Reply) → plan.end ≡ end.Commit → Gains plan (end_outcome end.Commit reply) own.mine (own_after caller own (Commit, reply)).mine
-      at_commit (says.Committed at) is_end = (
-        record { caller = caller; calls = unwrap_or own.live []; at = at; last = at },
-        record { commits = is_end; caller_is = refl; calls = ap (λ (l : Option Granted). map first_of (unwrap_or l [])) live ∙ calls; number = refl },
-        refl,
-      )
-      at_commit reply is_end = refl
+      both : AreLawful own ((Offer, reply) ∷ rest)
+      both = subst (AreLawful own) is lawful
 
-      no_commit : (reply : Reply) → AreCommits ((Abort, reply) ∷ []) → (own_after caller own (Abort, reply)).mine ≡ own.mine
-      no_commit reply all = mine_same own Abort reply (uncommitted Abort reply (λ same. cc) all.0)
+      given : (own_after caller own (Offer, reply)).mine ≡ own.mine
+      given = mine_same own Offer reply (uncommitted Offer reply (λ same. cc) (λ same. cc) both.0.commits)
 
-      at_abort : (reply : Reply) → plan.end ≡ end.Abort → (own_after caller own (Abort, reply)).mine ≡ own.mine → Gains plan (end_outcome end.Abort reply) own.mine (own_after caller own (Abort, reply)).mine
-      at_abort says.Fine is_end same = ((λ (c : plan.end ≡ end.Commit). let bad : end.Abort ≡ end.Commit = sym is_end ∙ c in cc), same)
-      at_abort reply is_end same = same
-
-      at_unended : (reply : Reply) → plan.end ≡ end.Unended → (own_after caller own (Abort, reply)).mine ≡ own.mine → Gains plan (end_outcome end.Unended reply) own.mine (own_after caller own (Abort, reply)).mine
-      at_unended says.Fine is_end same = ((λ (c : plan.end ≡ end.Commit). let bad : end.Unended ≡ end.Commit = sym is_end ∙ c in cc), same)
-      at_unended reply is_end same = same
-
-      by : (ends : PlanEnd) (reply : Reply) → plan.end ≡ ends → AreCommits ((end_call ends, reply) ∷ []) → Gains plan (end_outcome ends reply) own.mine (own_after caller own (end_call ends, reply)).mine
-      by end.Commit reply is_end all = at_commit reply is_end
-      by end.Abort reply is_end all = at_abort reply is_end (no_commit reply all)
-      by end.Unended reply is_end all = at_unended reply is_end (no_commit reply all)
+      go : (b : Bool) → is_refusal reply ≡ b → MatchBool b ((rest ≡ []) × (made ≡ Err reply)) (IsOne Settle (end_outcome end.Offer) rest made) → Came plan made own (after (own_after caller own (Offer, reply)) rest)
+      go true e (none, came) = subst (λ (l : Granted). Came plan made own (after (own_after caller own (Offer, reply)) l)) (sym none)
+          (came_refused plan made reply own (own_after caller own (Offer, reply)) came given (stands_refused plan own Offer reply (stands_idle plan own idle) e refl))
+      go false e one =
+          let now : (own_after caller own (Offer, reply)).live ≡ Some all = done_live own Offer reply e ∙ ap (λ (l : Option Granted). Some (unwrap_or l [])) live in
+          onto plan made own (own_after caller own (Offer, reply)) (after (own_after caller own (Offer, reply)) rest) given
+          (one_ends plan made rest (own_after caller own (Offer, reply)) Settle (end_outcome end.Offer) one both.1 (λ answer so. at_settle plan (own_after caller own (Offer, reply)) all now calls answer is_end))
 
   -- calls of a table, granted one after another, and then the end
-  takes_gain : (plan : Plan) (calls : List Call) (told : Granted) (made : Result Fate Reply) → Takes calls plan.end told made → All (λ call. IsTrue (is_of_table call)) calls → AreCommits told
-      → (before : Granted) (own : Own) → own.live ≡ Some before → map first_of before ++ calls ≡ plan.calls → Gains plan made own.mine (after own told).mine
-  takes_gain plan [] told made one plain commits before own live are = ended plan plan.end made told own before refl live (sym (append-nil (map first_of before)) ∙ are) one commits
-  takes_gain plan (call ∷ calls) told made (reply, rest, is, follows) plain commits before own live are =
-      subst (λ (l : Granted). Gains plan made own.mine (after own l).mine) (sym is)
-      (go (λ takes plain' commits' before' own' live' are'. takes_gain plan calls rest made takes plain' commits' before' own' live' are') (is_refusal reply) refl follows)
+  takes_gain : (plan : Plan) (calls : List Call) (told : Granted) (made : Result Fate Reply) → Takes calls plan.end told made → All (λ call. IsTrue (is_of_table call)) calls
+      → (before : Granted) (own : Own) → AreLawful own told → own.live ≡ Some before → own.waits ≡ false → map first_of before ++ calls ≡ plan.calls → Came plan made own (after own told)
+  takes_gain plan [] told made last plain before own lawful live idle are = ended plan plan.end made told own before refl live idle (sym (append-nil (map first_of before)) ∙ are) last lawful
+  takes_gain plan (call ∷ calls) told made (reply, rest, is, follows) plain before own lawful live idle are =
+      subst (λ (l : Granted). Came plan made own (after own l)) (sym is)
+      (go (λ takes plain' before' own' lawful' live' idle' are'. takes_gain plan calls rest made takes plain' before' own' lawful' live' idle' are') (is_refusal reply) refl follows)
     where
       table : is_of_table call ≡ true
       table = plain 0 call (omega arith)
 
-      both : AreCommits ((call, reply) ∷ rest)
-      both = subst AreCommits is commits
-
-      free : is_committed reply ≡ false
-      free = uncommitted call reply (of_table call table) both.0
+      both : AreLawful own ((call, reply) ∷ rest)
+      both = subst (AreLawful own) is lawful
 
       mine : (own_after caller own (call, reply)).mine ≡ own.mine
-      mine = mine_same own call reply free
+      mine = mine_same own call reply (uncommitted call reply (plain_commit call table) (plain_settle call table) both.0.commits)
 
-      onto : (old : List Done) → old ≡ own.mine → Gains plan made old (after (own_after caller own (call, reply)) rest).mine → Gains plan made own.mine (after (own_after caller own (call, reply)) rest).mine
-      onto old same gains = subst (λ (l : List Done). Gains plan made l (after (own_after caller own (call, reply)) rest).mine) same gains
+      still : (own_after caller own (call, reply)).waits ≡ false
+      still = idle_stays own call reply idle (plain_open call table)
 
-      go : (Takes calls plan.end rest made → All (λ call. IsTrue (is_of_table call)) calls → AreCommits rest → (before : Granted) (own : Own) → own.live ≡ Some before → map first_of before ++ calls ≡ plan.calls → Gains plan made own.mine (after own rest).mine)
-          → (b : Bool) → is_refusal reply ≡ b → MatchBool b (GivesUp reply rest made) (Takes calls plan.end rest made) → Gains plan made own.mine (after (own_after caller own (call, reply)) rest).mine
-      go more true e gives = onto (own_after caller own (call, reply)).mine mine (given_up plan reply made rest (own_after caller own (call, reply)) gives both.1)
+      go : (Takes calls plan.end rest made → All (λ call. IsTrue (is_of_table call)) calls → (before : Granted) (own : Own) → AreLawful own rest → own.live ≡ Some before → own.waits ≡ false → map first_of before ++ calls ≡ plan.calls → Came plan made own (after own rest))
+          → (b : Bool) → is_refusal reply ≡ b → MatchBool b (GivesUp reply rest made) (Takes calls plan.end rest made) → Came plan made own (after (own_after caller own (call, reply)) rest)
+      go more true e gives = onto plan made own (own_after caller own (call, reply)) (after (own_after caller own (call, reply)) rest) mine
+          (given_up plan reply made rest (own_after caller own (call, reply)) gives both.1 (stands_idle plan (own_after caller own (call, reply)) still))
       go more false e takes =
           let now : (own_after caller own (call, reply)).live ≡ Some (before ++ (call, reply) ∷ []) =
-          granted_live own.live call reply e (granted_sure reply e) ∙ ap (λ (l : Option Granted). live_with (unwrap_or l []) call reply) live ∙ plain_live before call reply table in
+          done_live own call reply e ∙ ap (λ (l : Option Granted). live_with (unwrap_or l []) call reply) live ∙ plain_live before call reply table in
           let next : map first_of (before ++ (call, reply) ∷ []) ++ calls ≡ plan.calls =
           ap (λ (l : List Call). l ++ calls) (map-append first_of before ((call, reply) ∷ [])) ∙ append_assoc (map first_of before) (call ∷ []) calls ∙ are in
-          onto (own_after caller own (call, reply)).mine mine (more takes (λ i d within. plain (suc i) d (omega arith)) both.1 (before ++ (call, reply) ∷ []) (own_after caller own (call, reply)) now next)
+          onto plan made own (own_after caller own (call, reply)) (after (own_after caller own (call, reply)) rest) mine
+          (more takes (λ i d within. plain (suc i) d (omega arith)) (before ++ (call, reply) ∷ []) (own_after caller own (call, reply)) both.1 now still next)
 
-  try_gains : (plan : Plan) (told : Granted) (made : Result Fate Reply) → IsTry plan told made → IsPlain plan → AreCommits told → (own : Own) → Gains plan made own.mine (after own told).mine
-  try_gains plan told made (reply, rest, is, follows) plain commits own =
-      subst (λ (l : Granted). Gains plan made own.mine (after own l).mine) (sym is) (go (is_refusal reply) refl follows)
+  try_gains : (plan : Plan) (told : Granted) (made : Result Fate Reply) → IsTry plan told made → IsPlain plan → (own : Own) → AreLawful own told → Stands plan own → Came plan made own (after own told)
+  try_gains plan told made (reply, rest, is, follows) plain own lawful stands =
+      subst (λ (l : Granted). Came plan made own (after own l)) (sym is) (go (is_refusal reply) refl follows)
     where
-      both : AreCommits ((Begin, reply) ∷ rest)
-      both = subst AreCommits is commits
+      both : AreLawful own ((Begin, reply) ∷ rest)
+      both = subst (AreLawful own) is lawful
 
       mine : (own_after caller own (Begin, reply)).mine ≡ own.mine
-      mine = mine_same own Begin reply (uncommitted Begin reply (λ same. cc) both.0)
+      mine = mine_same own Begin reply (uncommitted Begin reply (λ same. cc) (λ same. cc) both.0.commits)
 
-      onto : (old : List Done) → old ≡ own.mine → Gains plan made old (after (own_after caller own (Begin, reply)) rest).mine → Gains plan made own.mine (after (own_after caller own (Begin, reply)) rest).mine
-      onto old same gains = subst (λ (l : List Done). Gains plan made l (after (own_after caller own (Begin, reply)) rest).mine) same gains
+      go : (b : Bool) → is_refusal reply ≡ b → MatchBool b (GivesUp reply rest made) (Takes plan.calls plan.end rest made) → Came plan made own (after (own_after caller own (Begin, reply)) rest)
+      go true e gives = onto plan made own (own_after caller own (Begin, reply)) (after (own_after caller own (Begin, reply)) rest) mine
+          (given_up plan reply made rest (own_after caller own (Begin, reply)) gives both.1 (stands_refused plan own Begin reply stands e refl))
+      go false e takes = onto plan made own (own_after caller own (Begin, reply)) (after (own_after caller own (Begin, reply)) rest) mine
+          (takes_gain plan plan.calls rest made takes plain [] (own_after caller own (Begin, reply)) both.1 (done_live own Begin reply e) (done_waits own Begin reply e) refl)
 
-      go : (b : Bool) → is_refusal reply ≡ b → MatchBool b (GivesUp reply rest made) (Takes plan.calls plan.end rest made) → Gains plan made own.mine (after (own_after caller own (Begin, reply)) rest).mine
-      go true e gives = onto (own_after caller own (Begin, reply)).mine mine (given_up plan reply made rest (own_after caller own (Begin, reply)) gives both.1)
-      go false e takes =
-          let live : (own_after caller own (Begin, reply)).live ≡ Some [] = granted_live own.live Begin reply e (granted_sure reply e) in
-          onto (own_after caller own (Begin, reply)).mine mine (takes_gain plan plan.calls rest made takes plain both.1 [] (own_after caller own (Begin, reply)) live refl)
+  -- tries that a locked key stopped add nothing
+  held_up : (plan : Plan) (n : ℕ) (told : Granted) → AreHeldUp plan n told → IsPlain plan → (own : Own) → AreLawful own told → Stands plan own → ((after own told).mine ≡ own.mine) × Stands plan (after own told)
+  held_up plan zero told none plain own lawful stands = (ap (λ (l : Granted). (after own l).mine) none, subst (λ (l : Granted). Stands plan (after own l)) (sym none) stands)
+  held_up plan (suc n) told (front, last, holder, is, before, one) plain own lawful stands =
+      let parts = both_parts own front last (subst (AreLawful own) is lawful) in
+      let first = held_up plan n front before plain own parts.0 stands in
+      let came = try_gains plan last (Err (says.Busy holder)) one plain (after own front) parts.1 first.1 in
+      let here : after own told ≡ after (after own front) last = ap (after own) is ∙ after_both own front last in
+      (ap (λ (o : Own). o.mine) here ∙ came.gains ∙ first.0, subst (λ (o : Own). Stands plan o) (sym here) came.stands)
 
-  held_up : (plan : Plan) (n : ℕ) (told : Granted) → AreHeldUp plan n told → IsPlain plan → AreCommits told → (own : Own) → (after own told).mine ≡ own.mine
-  held_up plan zero told none plain commits own = ap (λ (l : Granted). (after own l).mine) none
-  held_up plan (suc n) told (front, last, holder, is, before, one) plain commits own =
-      let parts = both_parts front last (subst AreCommits is commits) in
-      ap (λ (l : Granted). (after own l).mine) is ∙ ap (λ (o : Own). o.mine) (after_both own front last)
-      ∙ try_gains plan last (Err (says.Busy holder)) one plain parts.1 (after own front) ∙ held_up plan n front before plain parts.0 own
+  made_gains : (tries : Tries) (plan : Plan) (told : Granted) (made : Result Fate Reply) → IsMade tries plan told made → IsPlain plan → (own : Own) → AreLawful own told → Stands plan own → Came plan made own (after own told)
+  made_gains tries plan told made (held, front, last, is, before, ends, count) plain own lawful stands =
+      let parts = both_parts own front last (subst (AreLawful own) is lawful) in
+      let first = held_up plan held front before plain own parts.0 stands in
+      subst (λ (o : Own). Came plan made own o) (sym (ap (after own) is ∙ after_both own front last))
+      (onto plan made own (after own front) (after (after own front) last) first.0 (try_gains plan last made ends plain (after own front) parts.1 first.1))
 
-  made_gains : (tries : Tries) (plan : Plan) (told : Granted) (made : Result Fate Reply) → IsMade tries plan told made → IsPlain plan → AreCommits told → (own : Own) → Gains plan made own.mine (after own told).mine
-  made_gains tries plan told made (held, front, last, is, before, ends, count) plain commits own =
-      let parts = both_parts front last (subst AreCommits is commits) in
-      subst (λ (x : List Done × List Done). Gains plan made x.0 x.1)
-      (λ k. (held_up plan held front before plain parts.0 own k, (ap (λ (o : Own). o.mine) (sym (after_both own front last)) ∙ ap (λ (l : Granted). (after own l).mine) (sym is)) k))
-      (try_gains plan last made ends plain parts.1 (after own front))
+  -- what the fates say of the transactions that the caller was told of
+  abbrev AreTold : List Plan → List Fate → List Done → Type 0
+  AreTold plans [] mine = mine ≡ []
+  AreTold [] (fate ∷ fates) mine = ⊥
+  AreTold (plan ∷ plans) (Committed at ∷ fates) mine = (done : Done) × (behind : List Done) × (mine ≡ done ∷ behind) × IsDoneAs caller plan at done × AreTold plans fates behind
+  AreTold (plan ∷ plans) (Aborted ∷ fates) mine = IsFalse (commits plan.end) × AreTold plans fates mine
+  AreTold (plan ∷ plans) (Refused reply ∷ fates) mine = AreTold plans fates mine
+
+  -- what waits is the first of the plans that are left
+  abbrev StandsFor : List Plan → Own → Type 0
+  StandsFor [] own = own.waits ≡ false
+  StandsFor (plan ∷ plans) own = Stands plan own
+
+  for_idle : (plans : List Plan) (own : Own) → own.waits ≡ false → StandsFor plans own
+  for_idle [] own idle = idle
+  for_idle (plan ∷ plans) own idle = stands_idle plan own idle
 
   -- what all of a worker's turns add
-  abbrev Adds : List Plan → List Fate → List Done → List Done → Type 0
-  Adds plans fates old new = (mine : List Done) × (new ≡ old ++ mine) × AreFated caller plans fates mine
+  abbrev Adds : List Plan → List Fate → Own → Own → Type 0
+  Adds plans fates old new = (mine : List Done) × (new.mine ≡ old.mine ++ mine) × AreTold plans fates mine × StandsFor (drop (length fates) plans) new
 
-  fate_first : (plan : Plan) (plans : List Plan) (fate : Fate) (fates : List Fate) (old mid new : List Done) → Gains plan (Ok fate) old mid → Adds plans fates mid new → Adds (plan ∷ plans) (fate ∷ fates) old new
-  fate_first plan plans (Committed at) fates old mid new (done, fits, is) (mine, are, so) = (done ∷ mine, are ∙ ap (λ (l : List Done). l ++ mine) is ∙ append_assoc old (done ∷ []) mine, (done, mine, refl, fits, so))
-  fate_first plan plans Aborted fates old mid new (never, is) (mine, are, so) = (mine, are ∙ ap (λ (l : List Done). l ++ mine) is, (never, so))
-  fate_first plan plans (Refused reply) fates old mid new is (mine, are, so) = (mine, are ∙ ap (λ (l : List Done). l ++ mine) is, so)
+  fate_first : (plan : Plan) (plans : List Plan) (fate : Fate) (fates : List Fate) (old mid new : Own) → Gains plan (Ok fate) old.mine mid.mine → Adds plans fates mid new → Adds (plan ∷ plans) (fate ∷ fates) old new
+  fate_first plan plans (Committed at) fates old mid new (done, fits, is) (mine, are, so, left) = (done ∷ mine, are ∙ ap (λ (l : List Done). l ++ mine) is ∙ append_assoc old.mine (done ∷ []) mine, (done, mine, refl, fits, so), left)
+  fate_first plan plans Aborted fates old mid new (never, is) (mine, are, so, left) = (mine, are ∙ ap (λ (l : List Done). l ++ mine) is, (never, so), left)
+  fate_first plan plans (Refused reply) fates old mid new is (mine, are, so, left) = (mine, are ∙ ap (λ (l : List Done). l ++ mine) is, so, left)
 
-  works_add : (tries : Tries) (plans : List Plan) (told : Granted) (fates : List Fate) (stopped : Option Reply) → Works tries plans told fates stopped → ArePlain plans → AreCommits told → (own : Own)
-      → Adds plans fates own.mine (after own told).mine
-  works_add tries [] told [] stopped (none, is) plain commits own = ([], ap (λ (l : Granted). (after own l).mine) none ∙ sym (append-nil own.mine), refl)
-  works_add tries [] told (fate ∷ fates) stopped works plain commits own = absurd works
-  works_add tries (plan ∷ plans) told [] stopped (reply, is, made) plain commits own =
-      ([], made_gains tries plan told (Err reply) made (plain 0 plan (omega arith)) commits own ∙ sym (append-nil own.mine), refl)
-  works_add tries (plan ∷ plans) told (fate ∷ fates) stopped (front, back, is, made, works) plain commits own =
-      let parts = both_parts front back (subst AreCommits is commits) in
-      let one = made_gains tries plan front (Ok fate) made (plain 0 plan (omega arith)) parts.0 own in
-      let others = works_add tries plans back fates stopped works (λ i d within. plain (suc i) d (omega arith)) parts.1 (after own front) in
-      subst (λ (l : List Done). Adds (plan ∷ plans) (fate ∷ fates) own.mine l) (ap (λ (o : Own). o.mine) (sym (after_both own front back)) ∙ ap (λ (l : Granted). (after own l).mine) (sym is))
-      (fate_first plan plans fate fates own.mine (after own front).mine (after (after own front) back).mine one others)
+  works_add : (tries : Tries) (plans : List Plan) (told : Granted) (fates : List Fate) (stopped : Option Reply) → Works tries plans told fates stopped → ArePlain plans → (own : Own) → AreLawful own told → StandsFor plans own
+      → Adds plans fates own (after own told)
+  works_add tries [] told [] stopped (none, is) plain own lawful left = ([], ap (λ (l : Granted). (after own l).mine) none ∙ sym (append-nil own.mine), refl, ap (λ (l : Granted). (after own l).waits) none ∙ left)
+  works_add tries [] told (fate ∷ fates) stopped works plain own lawful left = absurd works
+  works_add tries (plan ∷ plans) told [] stopped (reply, is, made) plain own lawful left =
+      let came = made_gains tries plan told (Err reply) made (plain 0 plan (omega arith)) own lawful left in
+      ([], came.gains ∙ sym (append-nil own.mine), refl, came.stands)
+  works_add tries (plan ∷ plans) told (fate ∷ fates) stopped (front, back, is, made, works) plain own lawful left =
+      let parts = both_parts own front back (subst (AreLawful own) is lawful) in
+      let one = made_gains tries plan front (Ok fate) made (plain 0 plan (omega arith)) own parts.0 left in
+      let others = works_add tries plans back fates stopped works (λ i d within. plain (suc i) d (omega arith)) (after own front) parts.1 (for_idle plans (after own front) (one.idle refl)) in
+      subst (λ (o : Own). Adds (plan ∷ plans) (fate ∷ fates) own o) (sym (after_both own front back) ∙ ap (after own) (sym is))
+      (fate_first plan plans fate fates own (after own front) (after (after own front) back) one.gains others)
 
   -- fates of some plans and of the ones behind them
-  fated_both : (plans : List Plan) (early late : List Fate) (xs ys : List Done) → AreFated caller plans early xs → AreFated caller (drop (length early) plans) late ys → AreFated caller plans (early ++ late) (xs ++ ys)
-  fated_both plans [] late xs ys none so = subst (λ (l : List Done). AreFated caller plans late (l ++ ys)) (sym none) so
-  fated_both [] (fate ∷ early) late xs ys one so = absurd one
-  fated_both (plan ∷ plans) (Committed at ∷ early) late xs ys (done, behind, is, fits, one) so =
-      (done, behind ++ ys, ap (λ (l : List Done). l ++ ys) is, fits, fated_both plans early late behind ys one so)
-  fated_both (plan ∷ plans) (Aborted ∷ early) late xs ys (never, one) so = (never, fated_both plans early late xs ys one so)
-  fated_both (plan ∷ plans) (Refused reply ∷ early) late xs ys one so = fated_both plans early late xs ys one so
+  told_both : (plans : List Plan) (early late : List Fate) (xs ys : List Done) → AreTold plans early xs → AreTold (drop (length early) plans) late ys → AreTold plans (early ++ late) (xs ++ ys)
+  told_both plans [] late xs ys none so = subst (λ (l : List Done). AreTold plans late (l ++ ys)) (sym none) so
+  told_both [] (fate ∷ early) late xs ys one so = absurd one
+  told_both (plan ∷ plans) (Committed at ∷ early) late xs ys (done, behind, is, fits, one) so =
+      (done, behind ++ ys, ap (λ (l : List Done). l ++ ys) is, fits, told_both plans early late behind ys one so)
+  told_both (plan ∷ plans) (Aborted ∷ early) late xs ys (never, one) so = (never, told_both plans early late xs ys one so)
+  told_both (plan ∷ plans) (Refused reply ∷ early) late xs ys one so = told_both plans early late xs ys one so
+
+  abbrev no_plan : List Plan
+  no_plan = []
+
+  none_left : (fates : List Fate) → drop (length fates) no_plan ≡ no_plan
+  none_left [] = refl
+  none_left (fate ∷ fates) = refl
+
+  left_both : (plans : List Plan) (early late : List Fate) → drop (length (early ++ late)) plans ≡ drop (length late) (drop (length early) plans)
+  left_both plans [] late = refl
+  left_both [] (fate ∷ early) late = sym (none_left late)
+  left_both (plan ∷ plans) (fate ∷ early) late = left_both plans early late
 
   plain_behind : (n : ℕ) (plans : List Plan) → ArePlain plans → ArePlain (drop n plans)
   plain_behind n plans plain = All-drop IsPlain n plans plain
 
-  work_adds : (tries : Tries) (plans : List Plan) (told : Granted) (fates : List Fate) (stopped : Option Reply) → IsWork tries plans told fates stopped → ArePlain plans → AreCommits told → (own : Own)
-      → Adds plans fates own.mine (after own told).mine
-  work_adds tries plans told fates stopped (inl works) plain commits own = works_add tries plans told fates stopped works plain commits own
-  work_adds tries plans told fates stopped (inr (front, back, early, late, holder, is, are, first, last)) plain commits own =
-      let parts = both_parts front back (subst AreCommits is commits) in
-      let one = works_add tries plans front early (Some (says.Busy holder)) first plain parts.0 own in
-      let other = works_add NoLimit (drop (length early) plans) back late stopped last (plain_behind (length early) plans plain) parts.1 (after own front) in
-      subst (λ (x : List Fate × List Done). Adds plans x.0 own.mine x.1) (λ k. (sym are k, (ap (λ (o : Own). o.mine) (sym (after_both own front back)) ∙ ap (λ (l : Granted). (after own l).mine) (sym is)) k))
-      (one.0 ++ other.0, other.1 ∙ ap (λ (l : List Done). l ++ other.0) one.1 ∙ append_assoc own.mine one.0 other.0, fated_both plans early late one.0 other.0 one.2 other.2)
+  work_adds : (tries : Tries) (plans : List Plan) (told : Granted) (fates : List Fate) (stopped : Option Reply) → IsWork tries plans told fates stopped → ArePlain plans → (own : Own) → AreLawful own told → StandsFor plans own
+      → Adds plans fates own (after own told)
+  work_adds tries plans told fates stopped (inl works) plain own lawful left = works_add tries plans told fates stopped works plain own lawful left
+  work_adds tries plans told fates stopped (inr (front, back, early, late, holder, is, are, first, last)) plain own lawful left =
+      let parts = both_parts own front back (subst (AreLawful own) is lawful) in
+      let one = works_add tries plans front early (Some (says.Busy holder)) first plain own parts.0 left in
+      let other = works_add NoLimit (drop (length early) plans) back late stopped last (plain_behind (length early) plans plain) (after own front) parts.1 one.3 in
+      subst (λ (x : List Fate × Own). Adds plans x.0 own x.1) (λ k. (sym are k, (sym (after_both own front back) ∙ ap (after own) (sym is)) k)) (
+        one.0 ++ other.0,
+        other.1 ∙ ap (λ (l : List Done). l ++ other.0) one.1 ∙ append_assoc own.mine one.0 other.0,
+        told_both plans early late one.0 other.0 one.2 other.2,
+        subst (λ (l : List Plan). StandsFor l (after (after own front) back)) (sym (left_both plans early late)) other.3,
+      )
+
+  -- one more that waits, and that a group has committed
+  record IsExtra (own : Own) (done : Done) : Type 0 where
+    waits : own.waits ≡ true
+    caller_is : done.caller ≡ caller
+    calls : done.calls ≡ unwrap_or own.live []
+
+  -- with it the fates say what the history has
+  abbrev Extra : Own → List Done → Type 0
+  Extra own more = (more ≡ []) ⊎ ((done : Done) × IsExtra own done × (more ≡ done ∷ []))
+
+  fated_more : (plans : List Plan) (fates : List Fate) (mine : List Done) (own : Own) (more : List Done) → AreTold plans fates mine → StandsFor (drop (length fates) plans) own → Extra own more → AreFated caller plans fates (mine ++ more)
+  fated_more [] [] mine own more none left (inl nil) = (λ i. none i ++ nil i)
+  fated_more [] [] mine own more none left (inr (done, extra, is)) = absurd (true≢false (sym extra.waits ∙ left))
+  fated_more (plan ∷ plans) [] mine own more none left (inl nil) = inl (λ i. none i ++ nil i)
+  fated_more (plan ∷ plans) [] mine own more none left (inr (done, extra, is)) =
+      let w : IsWaiting plan own = left extra.waits in
+      inr (record {
+        offers = w.offers;
+        done = done;
+        only = (λ i. none i ++ is i);
+        caller_is = extra.caller_is;
+        calls = ap (map first_of) (extra.calls ∙ ap (λ (l : Option Granted). unwrap_or l []) w.live) ∙ w.calls;
+      })
+  fated_more [] (fate ∷ fates) mine own more so left extra = absurd so
+  fated_more (plan ∷ plans) (Committed at ∷ fates) mine own more (done, behind, is, fits, so) left extra = (done, behind ++ more, ap (λ (l : List Done). l ++ more) is, fits, fated_more plans fates behind own more so left extra)
+  fated_more (plan ∷ plans) (Aborted ∷ fates) mine own more (never, so) left extra = (never, fated_more plans fates mine own more so left extra)
+  fated_more (plan ∷ plans) (Refused reply ∷ fates) mine own more so left extra = fated_more plans fates mine own more so left extra
+
+  -- where a group ends, no fate says
+  none_told : (dones : List Done) → map as_told dones ≡ [] → dones ≡ []
+  none_told [] e = refl
+  none_told (done ∷ dones) e = absurd (cc)
+
+  one_told : (dones : List Done) (done : Done) (behind : List Done) → map as_told dones ≡ done ∷ behind → (first : Done) × (rest : List Done) × (dones ≡ first ∷ rest) × (as_told first ≡ done) × (map as_told rest ≡ behind)
+  one_told [] done behind e = absurd (cc)
+  one_told (first ∷ rest) done behind e = (first, rest, refl, (let same : as_told first ≡ done = cc in same), (let same : map as_told rest ≡ behind = cc in same))
+
+  fated_as : (plans : List Plan) (fates : List Fate) (dones : List Done) → AreFated caller plans fates (map as_told dones) → AreFated caller plans fates dones
+  fated_as [] [] dones none = none_told dones none
+  fated_as [] (fate ∷ fates) dones never = never
+  fated_as (plan ∷ plans) [] dones (inl none) = inl (none_told dones none)
+  fated_as (plan ∷ plans) [] dones (inr more) =
+      let one = one_told dones more.done [] more.only in
+      inr (record {
+        offers = more.offers;
+        done = one.0;
+        only = one.2 ∙ ap (λ (l : List Done). one.0 ∷ l) (none_told one.1 one.4);
+        caller_is = ap (λ (d : Done). d.caller) one.3 ∙ more.caller_is;
+        calls = ap (λ (d : Done). map first_of d.calls) one.3 ∙ more.calls;
+      })
+  fated_as (plan ∷ plans) (Committed at ∷ fates) dones (done, behind, is, fits, so) =
+      let one = one_told dones done behind is in (
+        one.0,
+        one.1,
+        one.2,
+        record {
+          commits = fits.commits;
+          caller_is = ap (λ (d : Done). d.caller) one.3 ∙ fits.caller_is;
+          calls = ap (λ (d : Done). map first_of d.calls) one.3 ∙ fits.calls;
+          number = ap (λ (d : Done). d.at) one.3 ∙ fits.number;
+        },
+        fated_as plans fates one.1 (subst (λ (l : List Done). AreFated caller plans fates l) (sym one.4) so),
+      )
+  fated_as (plan ∷ plans) (Aborted ∷ fates) dones (never, so) = (never, fated_as plans fates dones so)
+  fated_as (plan ∷ plans) (Refused reply ∷ fates) dones so = fated_as plans fates dones so
 
 -- a `Busy` changes nothing of a caller's transactions
 own_at : (caller : ℕ) (own : Own) (call : Call) (reply : Reply) (told : Granted) → ((own : Own) → fold (own_after caller) own (steps_of told) ≡ fold (own_after caller) own told)
@@ -308,23 +570,49 @@ steps_own : (caller : ℕ) (told : Granted) (own : Own) → fold (own_after call
 steps_own caller [] own = refl
 steps_own caller ((call, reply) ∷ told) own = own_at caller own call reply told (steps_own caller told)
 
-busy_sure : (reply : Reply) → is_busy reply ≡ true → is_committed reply ≡ false
-busy_sure (says.Busy holder) e = refl
-busy_sure reply e = absurd (true≢false (sym e))
+busy_is : (reply : Reply) → is_busy reply ≡ true → (holder : ℕ) × (reply ≡ says.Busy holder)
+busy_is (says.Busy holder) e = (holder, refl)
+busy_is reply e = absurd (true≢false (sym e))
 
-commits_at : (call : Call) (reply : Reply) (told : Granted) (b : Bool) → is_busy reply ≡ b → (AreCommits (steps_of told) → AreCommits told) → AreCommits (if not b then (call, reply) ∷ steps_of told else steps_of told) → AreCommits ((call, reply) ∷ told)
-commits_at call reply told true e rest all = ((λ sure. absurd (true≢false (sym sure ∙ busy_sure reply e))), rest all)
-commits_at call reply told false e rest all = (all.0, rest all.1)
+-- and is lawful
+lawful_at : (caller : ℕ) (own : Own) (call : Call) (reply : Reply) (told : Granted) (b : Bool) → is_busy reply ≡ b → ((own : Own) → AreLawful caller own (steps_of told) → AreLawful caller own told)
+    → AreLawful caller own (if not b then (call, reply) ∷ steps_of told else steps_of told) → AreLawful caller own ((call, reply) ∷ told)
+lawful_at caller own call reply told true e rest all =
+    let busy = busy_is reply e in
+    subst (λ (r : Reply). AreLawful caller own ((call, r) ∷ told)) (sym busy.1) (record { commits = λ sure. absurd (true≢false (sym sure)); closed = λ waits done. absurd (true≢false done) }, rest own all)
+lawful_at caller own call reply told false e rest all = (all.0, rest (own_after caller own (call, reply)) all.1)
 
--- and is no commit
-steps_commits : (told : Granted) → AreCommits (steps_of told) → AreCommits told
-steps_commits [] all = tt
-steps_commits ((call, reply) ∷ told) all = commits_at call reply told (is_busy reply) refl (steps_commits told) all
+steps_lawful : (caller : ℕ) (told : Granted) (own : Own) → AreLawful caller own (steps_of told) → AreLawful caller own told
+steps_lawful caller [] own all = tt
+steps_lawful caller ((call, reply) ∷ told) own all = lawful_at caller own call reply told (is_busy reply) refl (steps_lawful caller told) all
 
-pub fated : (limits : Limits) (caller : ℕ) (first now : State) (turns : List Turn) → Runs limits first turns now → first.live caller ≡ None → commits_of caller first.history ≡ [] → (tries : Tries) (plans : List Plan)
+-- what a caller has committed beyond what it was told
+extra_of : (caller : ℕ) (own : Own) (now : State) → KnowsLive caller own now → (more : List Done) × Extra caller own more × (mine_in caller own (now.offers caller) ≡ own.mine ++ more)
+extra_of caller own now knows = go (now.offers caller) refl
+  where
+    go : (offer : state.Offer) → now.offers caller ≡ offer → (more : List Done) × Extra caller own more × (mine_in caller own offer ≡ own.mine ++ more)
+    go unoffered is = ([], inl refl, sym (append-nil own.mine))
+    go offered is = ([], inl refl, sym (append-nil own.mine))
+    go (unsettled n) is =
+        let done : Done = record { caller = caller; calls = unwrap_or own.live []; at = n; last = n } in
+        (done ∷ [], inr (done, record { waits = waits; caller_is = refl; calls = refl }, refl), refl)
+      where
+        waits : own.waits ≡ true
+        waits = elim (cases_Bool own.waits) [
+          | inl has ↦ has
+          | inr idle ↦ absurd (true≢false (ap is_unoffered (sym (knows.none idle) ∙ is)))
+        ]
+
+pub fated : (limits : Limits) (caller : ℕ) (first now : State) (turns : List Turn) → Runs limits first turns now → first.live caller ≡ None → first.offers caller ≡ unoffered → commits_of caller first.history ≡ [] → (tries : Tries) (plans : List Plan)
     (fates : List Fate) (stopped : Option Reply) → ArePlain plans → IsWorkOf tries plans (turns_of caller turns) fates stopped → AreFated caller plans fates (commits_of caller now.history)
-fated limits caller first now turns run none nothing tries plans fates stopped plain work =
-    let its = work_adds caller tries plans work.0 fates stopped work.2 plain (steps_commits work.0 (subst (λ (l : Granted). AreCommits l) work.1 (runs_commit limits caller turns first now run))) nothing_own in
+fated limits caller first now turns run none free nothing tries plans fates stopped plain work =
+    let fresh = fresh_live caller first none free in
+    let lawful = lawful_run caller limits turns first now nothing_own run fresh in
+    let its = work_adds caller tries plans work.0 fates stopped work.2 plain nothing_own (steps_lawful caller work.0 nothing_own (subst (λ (l : Granted). AreLawful caller nothing_own l) work.1 lawful)) (for_idle caller plans nothing_own refl) in
     let same : fold (own_after caller) nothing_own (turns_of caller turns) ≡ fold (own_after caller) nothing_own work.0 = ap (λ (l : Granted). fold (own_after caller) nothing_own l) work.1 ∙ steps_own caller work.0 nothing_own in
-    let mine = turns_mine true limits caller first now turns nothing_own (turns_of_runs limits first now turns run) refl none nothing in
-    subst (λ (l : List Done). AreFated caller plans fates l) (sym (mine ∙ ap (λ (o : Own). o.mine) same ∙ its.1)) its.2
+    let own : Own = fold (own_after caller) nothing_own work.0 in
+    let known = turns_mine limits caller first now turns nothing_own (turns_of_runs limits first now turns run) (fresh_mine caller first none free nothing) in
+    let extra = extra_of caller own now (subst (λ (o : Own). KnowsLive caller o now) same known.live) in
+    let mine : told_of caller now.history ≡ its.0 ++ extra.0 = known.mine ∙ ap (λ (o : Own). mine_in caller o (now.offers caller)) same ∙ extra.2 ∙ ap (λ (l : List Done). l ++ extra.0) its.1 in
+    fated_as caller plans fates (commits_of caller now.history)
+    (subst (λ (l : List Done). AreFated caller plans fates l) (sym mine) (fated_more caller plans fates its.0 own extra.0 its.2 its.3 extra.1))

@@ -5,16 +5,17 @@ use Rattle.std.proofs.lemmas.Bool.{true≢false}
 use Rattle.std.proofs.lemmas.Bool.Decides.{nat_tests}
 use Rattle.history.specs.Table.{Granted}
 use Rattle.history.specs.declared.call.Call.{Call}
-use Rattle.history.specs.declared.call.Call.TheVariants.{Abort}
+use Rattle.history.specs.declared.call.Call.TheVariants.{Abort, Offer, Settle}
 use Rattle.history.specs.declared.call.Reply.{Reply}
 use Rattle.history.specs.declared.call.Reply.TheVariants as says
 use Rattle.caller_steps.specs.Fate.{is_refusal}
 use Rattle.caller_plans.specs.declared.plan.Plan.{Plan}
 use Rattle.caller_plans.specs.declared.plan.PlanEnd.{PlanEnd}
+use Rattle.caller_plans.specs.declared.plan.PlanEnd.TheVariants as end
 use Rattle.caller_plans.specs.declared.fate.Fate.{Fate}
 use Rattle.caller_work.specs.declared.tries.Tries.{Tries}
 use Rattle.caller_work.specs.declared.tries.Tries.TheVariants.{Times, NoLimit}
-use Rattle.caller_work.specs.Tries.{end_call, is_last, end_outcome, refusal_outcome, IsOne, GivesUp, Takes, IsTry, AreHeldUp, Allows, IsMade, Works}
+use Rattle.caller_work.specs.Tries.{end_call, is_last, end_outcome, refusal_outcome, IsOne, Ends, GivesUp, Takes, IsTry, AreHeldUp, Allows, IsMade, Works}
 use Rattle.caller_work.specs.Standing.{is_held_up, AreSome, after_one, AreGranted, IsRefused}
 
 -- a try that a locked key stopped, and one that came to something else
@@ -56,11 +57,33 @@ takes_more call calls ends reply rest made free others = (reply, rest, refl, mat
 pub takes_refused : (call : Call) (calls : List Call) (ends : PlanEnd) (reply : Reply) (rest : Granted) (made : Result Fate Reply) → is_refusal reply ≡ true → GivesUp reply rest made → Takes (call ∷ calls) ends ((call, reply) ∷ rest) made
 takes_refused call calls ends reply rest made refused gives = (reply, rest, refl, match_true (is_refusal reply) (GivesUp reply rest made) (Takes calls ends rest made) refused gives)
 
--- all were granted, and then comes the last one
-pub takes_all : (calls : List Call) (ends : PlanEnd) (asked end : Granted) (made : Result Fate Reply) → AreGranted calls asked → IsOne (end_call ends) (end_outcome ends) end made → Takes calls ends (asked ++ end) made
-takes_all [] ends asked end made none one = subst (λ (l : Granted). IsOne (end_call ends) (end_outcome ends) (l ++ end) made) (sym none) one
+-- all were granted, and then come those that end it
+pub takes_all : (calls : List Call) (ends : PlanEnd) (asked end : Granted) (made : Result Fate Reply) → AreGranted calls asked → Ends ends end made → Takes calls ends (asked ++ end) made
+takes_all [] ends asked end made none one = subst (λ (l : Granted). Ends ends (l ++ end) made) (sym none) one
 takes_all (call ∷ calls) ends asked end made (reply, rest, is, free, others) one =
     subst (λ (l : Granted). Takes (call ∷ calls) ends (l ++ end) made) (sym is) (takes_more call calls ends reply (rest ++ end) made free (takes_all calls ends rest end made others one))
+
+abbrev nothing : Granted
+nothing = []
+
+abbrev stopped_by : Reply → Result Fate Reply
+stopped_by reply = Err reply
+
+-- it is not offered: one call ends it
+pub ends_alone : (ends : PlanEnd) (told : Granted) (made : Result Fate Reply) → (ends ≡ end.Offer → ⊥) → IsOne (end_call ends) (end_outcome ends) told made → Ends ends told made
+ends_alone end.Offer told made ne one = absurd (ne refl)
+ends_alone end.Commit told made ne one = one
+ends_alone end.Abort told made ne one = one
+ends_alone end.Unended told made ne one = one
+
+-- it is offered, and the offer is refused, or it is settled then
+pub ends_refused : (ends : PlanEnd) (reply : Reply) → ends ≡ end.Offer → is_refusal reply ≡ true → Ends ends ((Offer, reply) ∷ []) (Err reply)
+ends_refused ends reply is refused = subst (λ (e : PlanEnd). Ends e ((Offer, reply) ∷ []) (Err reply)) (sym is)
+    (reply, [], refl, match_true (is_refusal reply) ((nothing ≡ []) × (stopped_by reply ≡ Err reply)) (IsOne Settle (end_outcome end.Offer) nothing (stopped_by reply)) refused (refl, refl))
+
+pub ends_settled : (ends : PlanEnd) (reply answer : Reply) → ends ≡ end.Offer → is_refusal reply ≡ false → Ends ends ((Offer, reply) ∷ (end_call ends, answer) ∷ []) (end_outcome ends answer)
+ends_settled ends reply answer is free = subst (λ (e : PlanEnd). Ends e ((Offer, reply) ∷ (end_call e, answer) ∷ []) (end_outcome e answer)) (sym is)
+    (reply, (Settle, answer) ∷ [], refl, match_false (is_refusal reply) (((Settle, answer) ∷ [] ≡ []) × (end_outcome end.Offer answer ≡ Err reply)) (IsOne Settle (end_outcome end.Offer) ((Settle, answer) ∷ []) (end_outcome end.Offer answer)) free (answer, refl, refl))
 
 -- one of them was refused, and then the try was given up
 pub takes_some : (calls : List Call) (ends : PlanEnd) (refusal : Reply) (asked end : Granted) (made : Result Fate Reply) → IsRefused calls refusal asked → GivesUp refusal end made → Takes calls ends (asked ++ end) made
@@ -70,12 +93,6 @@ takes_some (call ∷ calls) ends refusal asked end made (reply, rest, is, inl (f
 takes_some (call ∷ calls) ends refusal asked end made (reply, rest, is, inr (refused, none, same)) gives =
     subst (λ (l : Granted). Takes (call ∷ calls) ends (l ++ end) made) (sym is)
     (takes_refused call calls ends reply (rest ++ end) made refused (subst (λ (r : Reply). GivesUp r (rest ++ end) made) same (subst (λ (l : Granted). GivesUp refusal (l ++ end) made) (sym none) gives)))
-
-abbrev nothing : Granted
-nothing = []
-
-abbrev stopped_by : Reply → Result Fate Reply
-stopped_by reply = Err reply
 
 -- a refusal after which the worker makes no call, and one for which it aborts
 pub gives_last : (reply : Reply) → is_last reply ≡ true → GivesUp reply [] (Err reply)

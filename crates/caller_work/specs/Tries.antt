@@ -2,7 +2,7 @@
 use Rattle.std.specs.Prelude.{ℕ, zero, suc, ◌≡◌, ◌+◌, ◌<◌, ◌⊎◌, Bool, true, false, MatchBool, if◌then◌else◌, List, [], ◌∷◌, ◌++◌, length, drop, Option, Some, None, Result, Ok, Err}
 use Rattle.history.specs.Table.{Granted}
 use Rattle.history.specs.declared.call.Call.{Call}
-use Rattle.history.specs.declared.call.Call.TheVariants.{Begin, Commit, Abort}
+use Rattle.history.specs.declared.call.Call.TheVariants.{Begin, Commit, Abort, Offer, Settle}
 use Rattle.history.specs.declared.call.Reply.{Reply}
 use Rattle.history.specs.declared.call.Reply.TheVariants as says
 use Rattle.caller_steps.specs.Fate.{is_refusal}
@@ -15,9 +15,10 @@ use Rattle.caller_plans.specs.declared.fate.Fate.TheVariants.{Committed, Aborted
 use Rattle.caller_work.specs.declared.tries.Tries.{Tries}
 use Rattle.caller_work.specs.declared.tries.Tries.TheVariants.{Times, NoLimit}
 
--- the call that ends a plan
+-- the last call of a plan: what was offered is settled
 abbrev pub end_call : PlanEnd → Call
 end_call end.Commit = Commit
+end_call end.Offer = Settle
 end_call _ = Abort
 
 -- a worker makes no further call after this refusal: the medium has failed, or there was no memory
@@ -31,6 +32,8 @@ is_last _ = false
 abbrev pub end_outcome : PlanEnd → Reply → Result Fate Reply
 end_outcome end.Commit (says.Committed at) = Ok (Committed at)
 end_outcome end.Commit reply = Err reply
+end_outcome end.Offer (says.Committed at) = Ok (Committed at)
+end_outcome end.Offer reply = Err reply
 end_outcome _ says.Fine = Ok Aborted
 end_outcome _ reply = Err reply
 
@@ -43,13 +46,18 @@ refusal_outcome reply = Ok (Refused reply)
 abbrev pub IsOne : Call → (Reply → Result Fate Reply) → Granted → Result Fate Reply → Type 0
 IsOne call outcome told made = (reply : Reply) × (told ≡ (call, reply) ∷ []) × (made ≡ outcome reply)
 
+-- These turns end a plan whose calls were all granted, and this came of it. What is offered is settled at once, unless the offer is refused.
+abbrev pub Ends : PlanEnd → Granted → Result Fate Reply → Type 0
+Ends end.Offer told made = (reply : Reply) × (rest : Granted) × (told ≡ (Offer, reply) ∷ rest) × MatchBool (is_refusal reply) ((rest ≡ []) × (made ≡ Err reply)) (IsOne Settle (end_outcome end.Offer) rest made)
+Ends ends told made = IsOne (end_call ends) (end_outcome ends) told made
+
 -- a try is given up for this refusal by an abort, unless that is the worker's last call
 abbrev pub GivesUp : Reply → Granted → Result Fate Reply → Type 0
 GivesUp reply told made = MatchBool (is_last reply) ((told ≡ []) × (made ≡ Err reply)) (IsOne Abort (λ answer. if is_refusal answer then Err answer else refusal_outcome reply) told made)
 
--- these calls are made in order and then the one that ends the plan, up to the first refusal; and what comes of that
+-- these calls are made in order and then those that end the plan, up to the first refusal; and what comes of that
 abbrev pub Takes : List Call → PlanEnd → Granted → Result Fate Reply → Type 0
-Takes [] ends told made = IsOne (end_call ends) (end_outcome ends) told made
+Takes [] ends told made = Ends ends told made
 Takes (call ∷ calls) ends told made = (reply : Reply) × (rest : Granted) × (told ≡ (call, reply) ∷ rest) × MatchBool (is_refusal reply) (GivesUp reply rest made) (Takes calls ends rest made)
 
 -- one try of a plan

@@ -7,7 +7,7 @@ use Rattle.history.specs.Table.{Granted, Work, begun, found, removed, has_save, 
 use Rattle.history.specs.declared.locks.Mode.TheVariants.{Shared, Exclusive}
 use Rattle.history.specs.Locks.{key_stripe, touches, touched, has_touched, has_written, clash, AreApart, Agree, AgreeOff}
 use Rattle.history.specs.declared.call.Call.{Call}
-use Rattle.history.specs.declared.call.Call.TheVariants.{Begin, Get, Put, Del, Scan, Save, Back, Commit, Abort}
+use Rattle.history.specs.declared.call.Call.TheVariants.{Begin, Get, Put, Del, Scan, Save, Back, Commit, Abort, Offer, Settle}
 use Rattle.history.specs.declared.call.Reply.{Reply}
 use Rattle.history.specs.declared.call.Reply.TheVariants.{Saved, Listed}
 use Rattle.history.proofs.Modes.{clash_written}
@@ -104,6 +104,8 @@ module _ (names : List (List ℕ)) (keys written : Key → Bool) (start : Table)
       (same_saves n one other alike) (alike-back n one other (has_save one.saves n) alike)
   after-alike Commit one other within alike = alike
   after-alike Abort one other within alike = alike
+  after-alike Offer one other within alike = alike
+  after-alike Settle one other within alike = alike
 
   answers-alike : (call : Call) (reply : Reply) (one other : Work) → Within names keys written call → IsAlike keys written start one other → Answers one call reply → Answers other call reply
   answers-alike Begin reply one other within alike answers = answers
@@ -116,6 +118,8 @@ module _ (names : List (List ℕ)) (keys written : Key → Bool) (start : Table)
   answers-alike (Back n) reply one other within alike answers = (sym (same_saves n one other alike) ∙ answers.0, answers.1)
   answers-alike Commit reply one other within alike answers = answers
   answers-alike Abort reply one other within alike answers = answers
+  answers-alike Offer reply one other within alike answers = answers
+  answers-alike Settle reply one other within alike answers = answers
 
   head_within : (entry : Call × Reply) (calls : Granted) → AllWithin names keys written (entry ∷ calls) → Within names keys written entry.0
   head_within entry calls within = record {

@@ -10,7 +10,7 @@ use Rattle.history.specs.Writes.{Table, Write, write_into, all_written, is_of, r
 use Rattle.history.specs.Table.{Granted, Work, begun, removed, has_save, Answers, after, worked, IsRightFrom, IsRight, left_by}
 use Rattle.history.specs.Log.{Log, save_at, floor_of, written, log_after, log_of}
 use Rattle.history.specs.declared.call.Call.{Call}
-use Rattle.history.specs.declared.call.Call.TheVariants.{Begin, Get, Put, Del, Scan, Save, Back, Commit, Abort}
+use Rattle.history.specs.declared.call.Call.TheVariants.{Begin, Get, Put, Del, Scan, Save, Back, Commit, Abort, Offer, Settle}
 use Rattle.history.specs.declared.call.Reply.{Reply}
 use Rattle.history.proofs.Keys.{cases_key, same_key, same_keys}
 use Rattle.history.proofs.Agreeing.{get-set_here, get-set_there, same_table, remove_absent}
@@ -132,6 +132,8 @@ module _ (base : Table) where
       (shown-back log work n is shown))
   shown-after log work Commit reply answers shown = shown
   shown-after log work Abort reply answers shown = shown
+  shown-after log work Offer reply answers shown = shown
+  shown-after log work Settle reply answers shown = shown
 
   -- the log after more calls
   abbrev logged : Log → Granted → Log

@@ -12,7 +12,7 @@ use Rattle.record_slots.specs.Text.{IsName, IsValue}
 use Rattle.history.specs.Key.{main_name}
 use Rattle.history.specs.Writes.{Row}
 use Rattle.history.specs.declared.call.Call.{Call}
-use Rattle.history.specs.declared.call.Call.TheVariants.{Begin, Get, Put, Del, Scan, Save, Back, Commit, Abort}
+use Rattle.history.specs.declared.call.Call.TheVariants.{Begin, Get, Put, Del, Scan, Save, Back, Commit, Abort, Offer, Settle}
 use Rattle.history.specs.declared.call.Reply.{Reply}
 use Rattle.history.specs.declared.call.Reply.TheVariants.{Fine, Found, Absent, Listed, Saved, Committed, NoTransaction, NoTable, Already, NoSave, SavesFull, Busy, LogFull, SlotsFull, PagesFull, Media, Dead, NoMemory, Damaged}
 use Rattle.history.specs.Packed.{word, word_at, texted, text_at, kept_name, whole_name, name_at, call_bytes, get_at, put_at, del_at, scan_at, call_at, CanCall, CanRow, row_bytes, row_at, rows_at, reply_bytes, number_at, found_at, listed_at, log_full_at, reply_at, CanReply, entry_bytes, CanEnter, entries_within, entries_in, ArePacked}
@@ -89,6 +89,8 @@ call_read Save rest can = refl
 call_read (Back save) rest can = ap (λ (p : ℕ × List ℕ). (Back p.0, p.1)) (word_read save rest (omega (arith, can)))
 call_read Commit rest can = refl
 call_read Abort rest can = refl
+call_read Offer rest can = refl
+call_read Settle rest can = refl
 
 row_read : (row : Row) (rest : List ℕ) → row.0 < 2 ^ 64 → row_at (row_bytes row ++ rest) ≡ (row, rest)
 row_read row rest small =
@@ -154,6 +156,8 @@ call_some Save = (5, [], refl)
 call_some (Back save) = (6, word save, refl)
 call_some Commit = (7, [], refl)
 call_some Abort = (8, [], refl)
+call_some Offer = (9, [], refl)
+call_some Settle = (10, [], refl)
 
 -- an entry has some byte
 entry_some : (entry : Call × Reply) (rest : List ℕ) → length rest < length (entry_bytes entry ++ rest)

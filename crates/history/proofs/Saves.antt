@@ -9,7 +9,7 @@ use Rattle.history.specs.Writes.{Write, replaced, with_write}
 use Rattle.history.specs.Table.{Granted, has_save}
 use Rattle.history.specs.Log.{Log, save_at, floor_of, written, log_after, log_of}
 use Rattle.history.specs.declared.call.Call.{Call}
-use Rattle.history.specs.declared.call.Call.TheVariants.{Begin, Get, Put, Del, Scan, Save, Back, Commit, Abort}
+use Rattle.history.specs.declared.call.Call.TheVariants.{Begin, Get, Put, Del, Scan, Save, Back, Commit, Abort, Offer, Settle}
 use Rattle.history.specs.declared.call.Reply.{Reply}
 use Rattle.history.specs.declared.call.Reply.TheVariants.{Fine}
 
@@ -122,6 +122,8 @@ rising-after log (Back n) reply rising = go (has_save log.saved n) refl
     go false is = rising
 rising-after log Commit reply rising = rising
 rising-after log Abort reply rising = rising
+rising-after log Offer reply rising = rising
+rising-after log Settle reply rising = rising
 
 rising_through : (calls : Granted) (log : Log) → IsRising log → IsRising (fold (λ was entry. log_after was entry.0 entry.1) log calls)
 rising_through [] log rising = rising

@@ -6,7 +6,7 @@ use Rattle.record_slots.specs.Text.{IsName, IsValue}
 use Rattle.history.specs.Key.{main_name}
 use Rattle.history.specs.Writes.{Row}
 use Rattle.history.specs.declared.call.Call.{Call}
-use Rattle.history.specs.declared.call.Call.TheVariants.{Begin, Get, Put, Del, Scan, Save, Back, Commit, Abort}
+use Rattle.history.specs.declared.call.Call.TheVariants.{Begin, Get, Put, Del, Scan, Save, Back, Commit, Abort, Offer, Settle}
 use Rattle.history.specs.declared.call.Reply.{Reply}
 use Rattle.history.specs.declared.call.Reply.TheVariants.{Fine, Found, Absent, Listed, Saved, Committed, NoTransaction, NoTable, Already, NoSave, SavesFull, Busy, LogFull, SlotsFull, PagesFull, Media, Dead, NoMemory, Damaged}
 
@@ -50,6 +50,8 @@ call_bytes Save = 5 ∷ []
 call_bytes (Back save) = 6 ∷ word save
 call_bytes Commit = 7 ∷ []
 call_bytes Abort = 8 ∷ []
+call_bytes Offer = 9 ∷ []
+call_bytes Settle = 10 ∷ []
 
 -- the call at the front of bytes, and what is behind it, where its kind is read
 abbrev pub get_at : List ℕ → Call × List ℕ
@@ -77,6 +79,8 @@ call_of kind bytes =
     if nat_eq kind 6 then back_at bytes else
     if nat_eq kind 7 then (Commit, bytes) else
     if nat_eq kind 8 then (Abort, bytes) else
+    if nat_eq kind 9 then (Offer, bytes) else
+    if nat_eq kind 10 then (Settle, bytes) else
     (Begin, bytes)
 
 -- the call at the front of bytes, and what is behind it

@@ -35,7 +35,7 @@ removed (Some value) = Fine
 abbrev pub has_save : {A : Type 0} → List A → ℕ → Bool
 has_save saves n = nat_lt 0 n && nat_le n (length saves)
 
--- The reply is the table's to this call. Begin, commit and abort are no calls of a table.
+-- The reply is the table's to this call. Begin, commit, abort, offer and settle are no calls of a table.
 abbrev pub Answers : Work → Call → Reply → Type 0
 Answers work (Get name key) reply = reply ≡ found (get work.table (of_table name key))
 Answers work (Put name key value) reply = reply ≡ Fine

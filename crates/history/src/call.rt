@@ -15,12 +15,16 @@ pub enum Call {
     Back { save: u32 },
     Commit,
     Abort,
+    /// Gives the transaction to the next group: it takes no more calls, and is committed together with all that were offered by then.
+    Offer,
+    /// Ends the offered transaction: if no group has committed it yet, all that were offered are committed as one.
+    Settle,
 }
 
 /// The reply to a call.
 #[derive(Debug, PartialEq, Eq, Drop)]
 pub enum Reply {
-    /// A begin, a put, the removal of an existing record, a way back, or an abort was done.
+    /// A begin, a put, the removal of an existing record, a way back, an abort, or an offer was done.
     Fine,
     Found(Value),
     /// There is no such record.

@@ -101,6 +101,8 @@ fn append_call(bytes: &mut Vec<u8>, call: &Call)
         Call::Back { save } => append_number(bytes, 6, u64::from(*save)),
         Call::Commit => append(bytes, &[7]),
         Call::Abort => append(bytes, &[8]),
+        Call::Offer => append(bytes, &[9]),
+        Call::Settle => append(bytes, &[10]),
     }
 }
 

@@ -9,6 +9,9 @@ use mars_base::{Listed, NoMemory};
 use std::alloc::Global;
 use std::marker::Model;
 
+// A run of fewer bytes is copied where its room is given back.
+const SHORT: usize = 4096;
+
 /// The granted calls of a transaction, each with its reply, one behind the other in one run of bytes.
 #[derive(Debug, Drop)]
 pub struct Calls {
@@ -61,6 +64,12 @@ impl Calls {
     pub fn fitted(self) -> Calls
         ensures { result ≡ self }
     {
+        // What is cut off behind a short run is too small for the next one, and would lie between both for good. So it is copied.
+        if self.bytes.len() < SHORT {
+            if let Ok(copy) = self.copy() {
+                return copy;
+            }
+        }
         let Calls { mut bytes } = self;
         bytes.shrink_to_fit();
         Calls { bytes }

@@ -208,6 +208,8 @@ pub(crate) fn read_call(bytes: &[u8]) -> (Call, &[u8])
         6 => read_back(rest),
         7 => (Call::Commit, rest),
         8 => (Call::Abort, rest),
+        9 => (Call::Offer, rest),
+        10 => (Call::Settle, rest),
         _ => (Call::Begin, rest),
     }
 }

@@ -105,7 +105,7 @@ impl Replay {
             Call::Scan { table, low, high } => self.lists(table, *low, *high, reply, alloc),
             Call::Save => Ok(self.saves_as(reply)),
             Call::Back { save } => Ok(self.has_save(*save) && is_fine(reply)),
-            Call::Begin | Call::Commit | Call::Abort => Ok(false),
+            Call::Begin | Call::Commit | Call::Abort | Call::Offer | Call::Settle => Ok(false),
         }
     }
 
@@ -194,9 +194,13 @@ impl Replay {
             }
             Call::Save => self.save(),
             Call::Back { save } => self.back(*save),
-            Call::Begin | Call::Get { .. } | Call::Scan { .. } | Call::Commit | Call::Abort => Ok(
-                (),
-            ),
+            Call::Begin
+            | Call::Get { .. }
+            | Call::Scan { .. }
+            | Call::Commit
+            | Call::Abort
+            | Call::Offer
+            | Call::Settle => Ok(()),
         }
     }
 

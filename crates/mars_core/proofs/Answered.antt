@@ -16,9 +16,9 @@ use Rattle.record_table.specs.declared.fault.TableFault.{TableFault}
 use Rattle.record_table.specs.declared.fault.TableFault.TheVariants.{SlotsFull, PagesFull, SavesFull, LogFull, Media, Dead, Damaged, NoMemory}
 use Rattle.record_table.specs.Faults.{reply_to}
 use Rattle.std.proofs.lemmas.Bool.{true≢false}
-use Rattle.history.specs.declared.call.Call.TheVariants.{Begin, Get, Put, Del, Scan, Save, Back, Commit, Abort}
+use Rattle.history.specs.declared.call.Call.TheVariants.{Begin, Get, Put, Del, Scan, Save, Back, Commit, Abort, Offer, Settle}
 use Rattle.caller_steps.specs.Fate.{is_refusal, is_busy}
-use Rattle.caller_steps.specs.State.{State}
+use Rattle.caller_steps.specs.State.{State, unoffered}
 use Rattle.caller_steps.specs.Locked.{IsFree}
 use Rattle.caller_steps.specs.Core.{Steps}
 use Rattle.mars_core.specs.Held.{core_over}
@@ -61,6 +61,8 @@ save_plain saves (Scan name low high) answer refused = absurd refused
 save_plain saves Begin answer refused = absurd refused
 save_plain saves Commit answer refused = absurd refused
 save_plain saves Abort answer refused = absurd refused
+save_plain saves Offer answer refused = absurd refused
+save_plain saves Settle answer refused = absurd refused
 
 save_refuses : (saves : ℕ) (call : Call) (answer : Reply) → IsSaveRefusal saves call answer → is_refusal answer ≡ true
 save_refuses saves Save answer refused = ap is_refusal refused.1
@@ -72,6 +74,8 @@ save_refuses saves (Scan name low high) answer refused = absurd refused
 save_refuses saves Begin answer refused = absurd refused
 save_refuses saves Commit answer refused = absurd refused
 save_refuses saves Abort answer refused = absurd refused
+save_refuses saves Offer answer refused = absurd refused
+save_refuses saves Settle answer refused = absurd refused
 
 -- a call that was not made was refused
 pub unmade_refuses : (saves : ℕ) (seats : Seats) (t : ℕ) (call : Call) (answer : Reply) → Unmade saves seats t call answer → is_refusal answer ≡ true
@@ -98,7 +102,7 @@ made_plain tells Opens index saves seats t calls call p q left answer made = go 
 
 -- A state s over pages p, of which the caller's transaction has these calls, and the seats without it.
 module _ (tells : Bool) (Opens : Shape → List ℕ → List ℕ → Type 0) (index : below.Index) (p : PagesView) (s : State) (shows : ShowsPages index p s) (count : ℕ) (rows : List NamedRows)
-    (kept : IsKept tells Opens index p count rows s) (alive : IsAlive p.store) (tells_writes : IsShown tells index p) (t : ℕ) (call : Call) (of : IsOfTable call) (calls : Granted) (is : s.live t ≡ Some calls)
+    (kept : IsKept tells Opens index p count rows s) (alive : IsAlive p.store) (tells_writes : IsShown tells index p) (t : ℕ) (call : Call) (of : IsOfTable call) (calls : Granted) (is : s.live t ≡ Some calls) (un : s.offers t ≡ unoffered)
     (mid : Seats) (x : Option Granted) (out : live_in mid ≡ update nat_eq s.live t x) (same_names : mid.names ≡ s.names) where
   asked_in : (table : ℕ) → number_for mid.names call ≡ Some table → number_for s.names call ≡ Some table
   asked_in table asked = ap (λ (ns : List (List ℕ)). number_for ns call) (sym same_names) ∙ asked
@@ -110,20 +114,20 @@ module _ (tells : Bool) (Opens : Shape → List ℕ → List ℕ → Type 0) (in
   pub unmade_steps : (new : State) → new ≡ s → (answer : Reply) → Unmade (length (p.counts t)) mid t call answer → Steps tells t call (core_over Opens index p.store s) (core_over Opens index p.store new) answer
   unmade_steps new same answer (inl refused) =
       subst (λ (state : State). Steps tells t call (core_over Opens index p.store s) (core_over Opens index p.store state) answer) (sym same)
-      (save_refused tells Opens index p s shows count rows kept alive tells_writes t call calls is answer refused)
+      (save_refused tells Opens index p s shows count rows kept alive tells_writes t call calls is un answer refused)
   unmade_steps new same answer (inr (saves, inl (none, told))) =
       subst (λ (r : Reply). Steps tells t call (core_over Opens index p.store s) (core_over Opens index p.store new) r) (sym told)
-      (table_refused tells Opens index p s shows count rows kept alive tells_writes t call calls is of saves new same (ap (λ (ns : List (List ℕ)). number_for ns call) (sym same_names) ∙ none))
+      (table_refused tells Opens index p s shows count rows kept alive tells_writes t call calls is un of saves new same (ap (λ (ns : List (List ℕ)). number_for ns call) (sym same_names) ∙ none))
   unmade_steps new same answer (inr (saves, inr (table, asked, inl none))) =
       subst (λ (r : Reply). Steps tells t call (core_over Opens index p.store s) (core_over Opens index p.store new) r) (sym none)
-      (memory_refused tells Opens index p s shows count rows kept alive tells_writes t call calls is of saves new same (there_is table asked))
+      (memory_refused tells Opens index p s shows count rows kept alive tells_writes t call calls is un of saves new same (there_is table asked))
   unmade_steps new same answer (inr (saves, inr (table, asked, inr (holder, held, busy)))) =
       subst (λ (r : Reply). Steps tells t call (core_over Opens index p.store s) (core_over Opens index p.store new) r) (sym held)
-      (busy_refused tells Opens index p s shows count rows kept alive tells_writes t call calls is of saves new same (there_is table asked) holder (busy_before s (bare mid) t x out same_names call holder busy))
+      (busy_refused tells Opens index p s shows count rows kept alive tells_writes t call calls is un of saves new same (there_is table asked) holder (busy_before s (bare mid) t x out same_names call holder busy))
 
   -- the call was made
   module _ (one : (shape : Shape) (image a b : List ℕ) → Opens shape image a → Opens shape image b → a ≡ b) (laws : IndexLaws index) (q : PagesView) (old_laws : StoreLaws tells Opens p.store) (new_laws : StoreLaws tells Opens q.store)
-      (new : State) (shows_new : ShowsPages index q new) (names : new.names ≡ s.names) (base : new.base ≡ s.base) (history : new.history ≡ s.history) (doubt : new.doubt ≡ s.doubt) (count' : ℕ) (same_count : count' ≡ count)
+      (new : State) (shows_new : ShowsPages index q new) (names : new.names ≡ s.names) (offers : new.offers ≡ s.offers) (base : new.base ≡ s.base) (history : new.history ≡ s.history) (doubt : new.doubt ≡ s.doubt) (count' : ℕ) (same_count : count' ≡ count)
       (left : Granted) (put : new.live ≡ update nat_eq s.live t (Some left)) (answer : Reply) (made : Made tells (Opens p.store.shape) index (length (p.counts t)) mid t calls call p q left answer) where
     free : IsFree s t call
     free = free_before s (bare mid) t x out same_names call made.free
@@ -141,11 +145,11 @@ module _ (tells : Bool) (Opens : Shape → List ℕ → List ℕ → Type 0) (in
     made_keeps = go made.result made.works made.answered
       where
         go : (result : Result Reply TableFault) → Works tells (Opens p.store.shape) index made.table t call p q result → IsAnswered calls call result left answer → IsKept tells Opens index q count' rows new
-        go (Ok r) works (inl (more, told)) = granted_keeps tells Opens index one laws p q old_laws new_laws s new shows shows_new names base history doubt count count' same_count rows kept alive tells_writes made.table t call of (asked_in made.table made.number) made.saves_there calls is free
+        go (Ok r) works (inl (more, told)) = granted_keeps tells Opens index one laws p q old_laws new_laws s new shows shows_new names offers base history doubt count count' same_count rows kept alive tells_writes made.table t call of (asked_in made.table made.number) made.saves_there calls is un free
             r (did tells (Opens p.store.shape) index made.table t call p q (Ok r) works.does) works.granted works.plain (grows r more)
-        go (Ok r) works (inr (listed_rows, same, still, told)) = refused_keeps tells Opens index one laws p q old_laws new_laws s new shows shows_new names base history doubt count count' same_count rows kept alive tells_writes made.table t call of (asked_in made.table made.number) made.saves_there calls is free
+        go (Ok r) works (inr (listed_rows, same, still, told)) = refused_keeps tells Opens index one laws p q old_laws new_laws s new shows shows_new names offers base history doubt count count' same_count rows kept alive tells_writes made.table t call of (asked_in made.table made.number) made.saves_there calls is un free
             NoMemory (did_unkept tells (Opens p.store.shape) index made.table t call p q listed_rows alive (listed r listed_rows same works)) (λ failed. absurd (no_media failed)) (stays still)
-        go (Err f) works (still, told) = refused_keeps tells Opens index one laws p q old_laws new_laws s new shows shows_new names base history doubt count count' same_count rows kept alive tells_writes made.table t call of (asked_in made.table made.number) made.saves_there calls is free
+        go (Err f) works (still, told) = refused_keeps tells Opens index one laws p q old_laws new_laws s new shows shows_new names offers base history doubt count count' same_count rows kept alive tells_writes made.table t call of (asked_in made.table made.number) made.saves_there calls is un free
             f (did tells (Opens p.store.shape) index made.table t call p q (Err f) works.does) works.due (stays still)
 
     pub made_steps : Steps tells t call (core_over Opens index p.store s) (core_over Opens index q.store new) answer
@@ -153,11 +157,11 @@ module _ (tells : Bool) (Opens : Shape → List ℕ → List ℕ → Type 0) (in
       where
         go : (result : Result Reply TableFault) → Works tells (Opens p.store.shape) index made.table t call p q result → IsAnswered calls call result left answer → Steps tells t call (core_over Opens index p.store s) (core_over Opens index q.store new) answer
         go (Ok r) works (inl (more, told)) = subst (λ (r : Reply). Steps tells t call (core_over Opens index p.store s) (core_over Opens index q.store new) r) (sym told)
-            (granted_steps tells Opens index one laws p q old_laws new_laws s new shows shows_new names base history doubt count count' same_count rows kept alive tells_writes made.table t call of (asked_in made.table made.number) made.saves_there calls is free
+            (granted_steps tells Opens index one laws p q old_laws new_laws s new shows shows_new names offers base history doubt count count' same_count rows kept alive tells_writes made.table t call of (asked_in made.table made.number) made.saves_there calls is un free
             r (did tells (Opens p.store.shape) index made.table t call p q (Ok r) works.does) works.granted works.plain (grows r more))
         go (Ok r) works (inr (listed_rows, same, still, told)) = subst (λ (r : Reply). Steps tells t call (core_over Opens index p.store s) (core_over Opens index q.store new) r) (sym told)
-            (refused_steps tells Opens index one laws p q old_laws new_laws s new shows shows_new names base history doubt count count' same_count rows kept alive tells_writes made.table t call of (asked_in made.table made.number) made.saves_there calls is free
+            (refused_steps tells Opens index one laws p q old_laws new_laws s new shows shows_new names offers base history doubt count count' same_count rows kept alive tells_writes made.table t call of (asked_in made.table made.number) made.saves_there calls is un free
             NoMemory (did_unkept tells (Opens p.store.shape) index made.table t call p q listed_rows alive (listed r listed_rows same works)) (λ failed. absurd (no_media failed)) (stays still))
         go (Err f) works (still, told) = subst (λ (r : Reply). Steps tells t call (core_over Opens index p.store s) (core_over Opens index q.store new) r) (sym told)
-            (refused_steps tells Opens index one laws p q old_laws new_laws s new shows shows_new names base history doubt count count' same_count rows kept alive tells_writes made.table t call of (asked_in made.table made.number) made.saves_there calls is free
+            (refused_steps tells Opens index one laws p q old_laws new_laws s new shows shows_new names offers base history doubt count count' same_count rows kept alive tells_writes made.table t call of (asked_in made.table made.number) made.saves_there calls is un free
             f (did tells (Opens p.store.shape) index made.table t call p q (Err f) works.does) works.due (stays still))

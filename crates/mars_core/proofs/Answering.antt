@@ -18,7 +18,7 @@ use Rattle.history.specs.Table.{Granted, found, removed, IsRight}
 use Rattle.history.specs.Legal.{records}
 use Rattle.history.specs.Log.{Log, log_of}
 use Rattle.history.specs.declared.call.Call.{Call}
-use Rattle.history.specs.declared.call.Call.TheVariants.{Begin, Get, Put, Del, Scan, Save, Back, Commit, Abort}
+use Rattle.history.specs.declared.call.Call.TheVariants.{Begin, Get, Put, Del, Scan, Save, Back, Commit, Abort, Offer, Settle}
 use Rattle.history.specs.declared.call.Reply.{Reply}
 use Rattle.history.specs.declared.call.Reply.TheVariants as reply
 use Rattle.record_table.specs.State.{TableState, seen_by}
@@ -30,7 +30,7 @@ use Rattle.record_table.specs.Shown.{state_of, pairs_of, keys_of}
 use Rattle.record_table.specs.Shown as shown
 use Rattle.record_table.specs.declared.fault.TableFault.{TableFault}
 use Rattle.record_table.specs.declared.fault.TableFault.TheVariants.{SlotsFull, PagesFull, SavesFull, LogFull, Media, Dead, Damaged, NoMemory}
-use Rattle.caller_steps.specs.State.{State, Index, calls_of, records_of}
+use Rattle.caller_steps.specs.State.{State, unoffered, Index, calls_of, records_of}
 use Rattle.caller_steps.specs.Locked.{IsFree}
 use Rattle.caller_steps.specs.Room.{Limits, Indexes}
 use Rattle.caller_steps.specs.Step.{Asks, Step, uses_index}
@@ -103,6 +103,8 @@ saved_out p t (Scan name low high) of saves out = out
 saved_out p t (Back n) of saves out = out
 saved_out p t Commit of saves out = out
 saved_out p t Abort of saves out = out
+saved_out p t Offer of saves out = out
+saved_out p t Settle of saves out = out
 saved_out p t Begin of saves out = out
 
 -- a call of a table that inserts no key writes nothing into the data
@@ -115,6 +117,8 @@ quiet_of index p t Save of inserts = tt
 quiet_of index p t (Back n) of inserts = tt
 quiet_of index p t Commit of inserts = absurd of
 quiet_of index p t Abort of inserts = absurd of
+quiet_of index p t Offer of inserts = absurd of
+quiet_of index p t Settle of inserts = absurd of
 quiet_of index p t Begin of inserts = absurd of
 
 scan_same : (limits : Limits) (call : Call) (answer : Reply) (old new : Index) → IsScan call → Indexes limits call answer old new → new ≡ old
@@ -126,6 +130,8 @@ scan_same limits Save answer old new scan same = same
 scan_same limits (Back n) answer old new scan same = same
 scan_same limits Commit answer old new scan same = same
 scan_same limits Abort answer old new scan same = same
+scan_same limits Offer answer old new scan same = same
+scan_same limits Settle answer old new scan same = same
 scan_same limits Begin answer old new scan same = same
 
 -- What the records made of a call, as far as a core needs it.
@@ -179,6 +185,8 @@ listed_is s t Save rows replies = absurd (cc)
 listed_is s t (Back n) rows replies = absurd (let e = replies.1 in cc)
 listed_is s t Commit rows replies = absurd replies
 listed_is s t Abort rows replies = absurd (cc)
+listed_is s t Offer rows replies = absurd replies
+listed_is s t Settle rows replies = absurd replies
 listed_is s t Begin rows replies = absurd replies
 
 -- a scan whose rows there is no memory to keep has changed nothing
@@ -214,6 +222,8 @@ has_asked names Save table is = refl
 has_asked names (Back n) table is = refl
 has_asked names Commit table is = refl
 has_asked names Abort table is = refl
+has_asked names Offer table is = refl
+has_asked names Settle table is = refl
 has_asked names Begin table is = refl
 
 -- there is none
@@ -226,6 +236,8 @@ has_none names Save is = absurd (cc)
 has_none names (Back n) is = absurd (cc)
 has_none names Commit is = absurd (cc)
 has_none names Abort is = absurd (cc)
+has_none names Offer is = absurd (cc)
+has_none names Settle is = absurd (cc)
 has_none names Begin is = absurd (cc)
 
 mirrors_same : (b : TableState) (s new : State) → records_of new ≡ records_of s → new.live ≡ s.live → Mirrors b s → Mirrors b new
@@ -233,9 +245,9 @@ mirrors_same b s new same live m = record { table = m.table ∙ sym same; logs =
 
 module _ (tells : Bool) (Opens : Shape → List ℕ → List ℕ → Type 0) (index : below.Index) (one : (shape : Shape) (image a b : List ℕ) → Opens shape image a → Opens shape image b → a ≡ b) (laws : IndexLaws index)
     (p q : PagesView) (old_laws : StoreLaws tells Opens p.store) (new_laws : StoreLaws tells Opens q.store) (s new : State) (shows : ShowsPages index p s) (shows_new : ShowsPages index q new)
-    (names : new.names ≡ s.names) (base : new.base ≡ s.base) (history : new.history ≡ s.history) (doubt : new.doubt ≡ s.doubt) (count count' : ℕ) (same_count : count' ≡ count) (rows : List NamedRows)
+    (names : new.names ≡ s.names) (offers : new.offers ≡ s.offers) (base : new.base ≡ s.base) (history : new.history ≡ s.history) (doubt : new.doubt ≡ s.doubt) (count count' : ℕ) (same_count : count' ≡ count) (rows : List NamedRows)
     (kept : IsKept tells Opens index p count rows s) (alive : IsAlive p.store) (tells_writes : IsShown tells index p) (table t : ℕ) (call : Call) (of : IsOfTable call) (asked : number_for s.names call ≡ Some table)
-    (saves : HasSaves (length (p.counts t)) call) (calls : Granted) (is : s.live t ≡ Some calls) (free : IsFree s t call) where
+    (saves : HasSaves (length (p.counts t)) call) (calls : Granted) (is : s.live t ≡ Some calls) (un : s.offers t ≡ unoffered) (free : IsFree s t call) where
   same_records : records_of new ≡ records_of s
   same_records = λ i. records (base i) (history i)
 
@@ -305,12 +317,12 @@ module _ (tells : Bool) (Opens : Shape → List ℕ → List ℕ → Type 0) (in
           fits_is index table p s shows.indexed (tied told).mirrors (tells_writes.held told alive) t (right told) call of ((works.cause told).2 told),
           new.index,
           indexes,
-          λ i. record { names = names i; base = base i; history = history i; live = live i; doubt = doubt i; is_dead = dead_same i; index = new.index },
+          λ i. record { names = names i; base = base i; history = history i; live = live i; offers = offers i; doubt = doubt i; is_dead = dead_same i; index = new.index },
         ),
       ))
 
       step : Step (limits_of p.store.shape) s t call answer new
-      step = step_of (limits_of p.store.shape) (Some calls) s new t call answer living_state is
+      step = step_of (limits_of p.store.shape) (Some calls) s new t call answer living_state is un
           (asks_at (limits_of p.store.shape) calls s new t call answer of there (saves_at index table p s shows (tied told).mirrors (tells_writes.held told alive) t (right told) call has) asks)
 
       tied_new : IsTied index q new
@@ -339,7 +351,7 @@ module _ (tells : Bool) (Opens : Shape → List ℕ → List ℕ → Type 0) (in
 
     pub granted_steps : Steps tells t call (core_over Opens index p.store s) (core_over Opens index q.store new) answer
     granted_steps = steps_of tells Opens index p q s new t call answer works.shape
-        (moves_granted s new t calls call answer names base history dead_same is live of granted plain) (λ failed. absurd (false≢true (sym (media_none answer granted) ∙ failed)))
+        (moves_granted p.store.shape.numbers s new t calls call answer names base history dead_same offers un is live of granted plain) (λ failed. absurd (false≢true (sym (media_none answer granted) ∙ failed)))
         (λ _. (works.faults refl).1) step (λ told. time told (Ok answer) works) safe_new
 
   -- the call was refused
@@ -352,7 +364,7 @@ module _ (tells : Bool) (Opens : Shape → List ℕ → List ℕ → Type 0) (in
       dead_still = shows_new.dead ∙ (works.faults well).0 ∙ sym shows.dead
 
       changed : new ≡ record s { index = new.index }
-      changed = λ i. record { names = names i; base = base i; history = history i; live = live i; doubt = doubt i; is_dead = dead_still i; index = new.index }
+      changed = λ i. record { names = names i; base = base i; history = history i; live = live i; offers = offers i; doubt = doubt i; is_dead = dead_still i; index = new.index }
 
       module _ (told : IsTrue tells) where
         indexes_still : Indexes (limits_of p.store.shape) call (reply_to f) s.index new.index
@@ -400,7 +412,7 @@ module _ (tells : Bool) (Opens : Shape → List ℕ → List ℕ → Type 0) (in
         asks_fault Media well cause made = absurd (false≢true (sym well))
 
         step_still : Step (limits_of p.store.shape) s t call (reply_to f) new
-        step_still = step_of (limits_of p.store.shape) (Some calls) s new t call (reply_to f) living_state is
+        step_still = step_of (limits_of p.store.shape) (Some calls) s new t call (reply_to f) living_state is un
             (asks_at (limits_of p.store.shape) calls s new t call (reply_to f) of there (saves_at index table p s shows (tied told).mirrors (tells_writes.held told alive) t (right told) call has) (asks_fault f well (works.cause told) indexes_still))
 
         tied_still : IsTied index q new
@@ -427,7 +439,7 @@ module _ (tells : Bool) (Opens : Shape → List ℕ → List ℕ → Type 0) (in
 
       well_steps : Steps tells t call (core_over Opens index p.store s) (core_over Opens index q.store new) (reply_to f)
       well_steps = steps_of tells Opens index p q s new t call (reply_to f) works.shape
-          (moves_refused s new t call (reply_to f) names base history live (dead_still ∙ sym (ap (λ (b : Bool). s.is_dead || b) (media_of f well) ∙ or_false s.is_dead)) (refusal_of f) (plain_of f))
+          (moves_refused p.store.shape.numbers s new t call (reply_to f) names base history live offers (dead_still ∙ sym (ap (λ (b : Bool). s.is_dead || b) (media_of f well) ∙ or_false s.is_dead)) (refusal_of f) (plain_of f))
           (λ failed. absurd (false≢true (sym (media_of f well) ∙ failed))) (λ _. (works.faults well).1) step_still (λ told. time told (Err f) works) safe_still
 
   -- the medium failed
@@ -436,9 +448,9 @@ module _ (tells : Bool) (Opens : Shape → List ℕ → List ℕ → Type 0) (in
     died = shows_new.dead ∙ (works.dies refl).0
 
     step_failed : IsTrue tells → Step (limits_of p.store.shape) s t call reply.Media new
-    step_failed told = step_of (limits_of p.store.shape) (Some calls) s new t call reply.Media living_state is
+    step_failed told = step_of (limits_of p.store.shape) (Some calls) s new t call reply.Media living_state is un
         (asks_at (limits_of p.store.shape) calls s new t call reply.Media of there (saves_at index table p s shows (tied told).mirrors (tells_writes.held told alive) t (right told) call has)
-        (inr (inr (free, inr (inr (due, (refl, new.index, λ i. record { names = names i; base = base i; history = history i; live = live i; doubt = doubt i; is_dead = died i; index = new.index })))))))
+        (inr (inr (free, inr (inr (due, (refl, new.index, λ i. record { names = names i; base = base i; history = history i; live = live i; offers = offers i; doubt = doubt i; is_dead = died i; index = new.index })))))))
 
     safe_failed : IsTrue tells → IsSafe (core_over Opens index q.store new) q.store.moment (length new.history)
     safe_failed told = safe_dead tells Opens index one p q old_laws new_laws told works.shape alive (tied told).index_sound s new (history_whole s (tied told).sound) (tied told).mirrors.table base history (time told (Err Media) works)
@@ -454,7 +466,7 @@ module _ (tells : Bool) (Opens : Shape → List ℕ → List ℕ → Type 0) (in
 
     media_steps : Steps tells t call (core_over Opens index p.store s) (core_over Opens index q.store new) reply.Media
     media_steps = steps_of tells Opens index p q s new t call reply.Media works.shape
-        (moves_refused s new t call reply.Media names base history live (died ∙ sym (or_true s.is_dead)) refl refl)
+        (moves_refused p.store.shape.numbers s new t call reply.Media names base history live offers (died ∙ sym (or_true s.is_dead)) refl refl)
         (λ _. (works.dies refl).1) (λ kept. absurd (false≢true (sym kept))) step_failed (λ told. time told (Err Media) works) safe_failed
 
   module _ (f : TableFault) (works : Did tells (Opens p.store.shape) index table t call p q (Err f)) (due : (let r : Result Reply TableFault = Err f in IsErrOf r Media → IsTrue (uses_index call))) (live : new.live ≡ s.live) where

@@ -32,7 +32,9 @@ use Rattle.record_table.specs.Does.{Does, OpensWith}
 use Rattle.record_table.specs.Shown.{state_of}
 use Rattle.record_table.specs.declared.fault.TableFault.{TableFault}
 use Rattle.record_table.specs.declared.fault.TableFault.TheVariants as fault
-use Rattle.caller_steps.specs.State.{State, Index, calls_of, records_of, done_by}
+use Rattle.caller_steps.specs.State.{State, Index, Offer, unoffered, calls_of, commits_of, records_of, done_by}
+use Rattle.caller_steps.specs.Offers.{is_unoffered}
+use Rattle.caller_steps.proofs.Offering.{more_theirs}
 use Rattle.caller_steps.specs.Room.{Settles}
 use Rattle.caller_steps.specs.Step.{Step}
 use Rattle.caller_steps.specs.Prefix.{HasPrefix, HasPrefixOf}
@@ -99,8 +101,8 @@ abort_fails tells index p t alive fault.NoMemory cause = absurd cause.1
 
 module _ (tells : Bool) (Opens : Shape → List ℕ → List ℕ → Type 0) (index : below.Index) (one : (shape : Shape) (image a b : List ℕ) → Opens shape image a → Opens shape image b → a ≡ b)
     (p q : PagesView) (old_laws : StoreLaws tells Opens p.store) (new_laws : StoreLaws tells Opens q.store) (s new : State) (shows : ShowsPages index p s) (shows_new : ShowsPages index q new)
-    (names : new.names ≡ s.names) (base : new.base ≡ s.base) (count count' : ℕ) (same_count : count' ≡ count) (rows : List NamedRows) (kept : IsKept tells Opens index p count rows s) (alive : IsAlive p.store)
-    (t : ℕ) (calls : Granted) (is : s.live t ≡ Some calls) where
+    (names : new.names ≡ s.names) (offers : new.offers ≡ s.offers) (base : new.base ≡ s.base) (count count' : ℕ) (same_count : count' ≡ count) (rows : List NamedRows) (kept : IsKept tells Opens index p count rows s) (alive : IsAlive p.store)
+    (t : ℕ) (calls : Granted) (is : s.live t ≡ Some calls) (un : s.offers t ≡ unoffered) where
   living_state : s.is_dead ≡ false
   living_state = shows.dead ∙ alive
 
@@ -171,8 +173,8 @@ module _ (tells : Bool) (Opens : Shape → List ℕ → List ℕ → Type 0) (in
       }
 
       step : Step (limits_of p.store.shape) s t Commit (Committed (length s.history + 1)) new
-      step = step_of (limits_of p.store.shape) (Some calls) s new t Commit (Committed (length s.history + 1)) living_state is
-          (inr (inl (refl, new.index, settles, λ i. record { names = names i; base = base i; history = longer i; live = live i; doubt = doubt i; is_dead = dead_same i; index = new.index })))
+      step = step_of (limits_of p.store.shape) (Some calls) s new t Commit (Committed (length s.history + 1)) living_state is un
+          (inr (inl (refl, new.index, settles, λ i. record { names = names i; base = base i; history = longer i; live = live i; offers = offers i; doubt = doubt i; is_dead = dead_same i; index = new.index })))
 
       tied_new : IsTied index q new
       tied_new =
@@ -209,8 +211,13 @@ module _ (tells : Bool) (Opens : Shape → List ℕ → List ℕ → Type 0) (in
           base = base;
           history = longer ∙ ap (λ (cs : Granted). s.history ++ done_by s t cs ∷ []) (sym at);
           dead = dead_same ∙ sym (or_false s.is_dead);
-          own = λ _. ap (λ (f : ℕ → Option Granted). f t) live ∙ update_here s.live t None;
-          others = λ other ne. ap (λ (f : ℕ → Option Granted). f other) live ∙ update_apart s.live t None other ne;
+          own = λ _. (ap (λ (f : ℕ → Option Granted). f t) live ∙ update_here s.live t None, ap (λ (f : ℕ → Offer). f t) offers ∙ un);
+          others = λ other ne. inl (record {
+            live = ap (λ (f : ℕ → Option Granted). f other) live ∙ update_apart s.live t None other ne;
+            offer = ap (λ (f : ℕ → Offer). f other) offers;
+            mine = ap (commits_of other) longer ∙ more_theirs other s.history (done_by s t calls) (λ e. ne (sym e));
+          });
+          closed = λ gate _. absurd (false≢true (sym gate ∙ ap is_unoffered un));
           refused = λ refusal _. absurd (false≢true refusal);
         }) (λ failed. absurd (false≢true failed)) (λ _. (does.faults refl).1) step
         (λ told. time_commit done done_is (Ok (Committed k)) does live told (no_doubt told)) safe_new)
@@ -229,11 +236,11 @@ module _ (tells : Bool) (Opens : Shape → List ℕ → List ℕ → Type 0) (in
     doubtful = λ i. history i ++ doubt i
 
     step_doubt : IsTrue tells → Step (limits_of p.store.shape) s t Commit reply.Media new
-    step_doubt told = step_of (limits_of p.store.shape) (Some calls) s new t Commit reply.Media living_state is (inr (inr (
+    step_doubt told = step_of (limits_of p.store.shape) (Some calls) s new t Commit reply.Media living_state is un (inr (inr (
       wrote told,
       refl,
       new.index,
-      λ i. record { names = names i; base = base i; history = history i; live = live i; doubt = (doubt ∙ ap (λ (d : Done). d ∷ []) done_is) i; is_dead = died i; index = new.index },
+      λ i. record { names = names i; base = base i; history = history i; live = live i; offers = offers i; doubt = (doubt ∙ ap (λ (d : Done). d ∷ []) done_is) i; is_dead = died i; index = new.index },
     )))
 
     time_doubt : IsTrue tells → LeavesOnly (HasPrefixOf (OpensWith (Opens q.store.shape) index) new (length s.history)) p.store q.store
@@ -258,7 +265,12 @@ module _ (tells : Bool) (Opens : Shape → List ℕ → List ℕ → Type 0) (in
       history = history;
       dead = died ∙ sym (or_true s.is_dead);
       own = λ granted. absurd (false≢true (sym granted));
-      others = λ other ne. ap (λ (f : ℕ → Option Granted). f other) live ∙ update_apart s.live t None other ne;
+      others = λ other ne. inl (record {
+        live = ap (λ (f : ℕ → Option Granted). f other) live ∙ update_apart s.live t None other ne;
+        offer = ap (λ (f : ℕ → Offer). f other) offers;
+        mine = ap (commits_of other) history;
+      });
+      closed = λ gate granted. absurd (false≢true (sym granted));
       refused = λ _ well. absurd (false≢true (sym well));
     }) (λ _. (does.dies refl).1) (λ well. absurd (false≢true (sym well))) step_doubt time_doubt safe_doubt
 
@@ -276,8 +288,8 @@ module _ (tells : Bool) (Opens : Shape → List ℕ → List ℕ → Type 0) (in
         index_alike = shows_new.indexed ∙ (λ i. index_with (names_in (does.tables told refl i)) (does.quiet told refl tt i) (does.indexed told alive refl i)) ∙ sym shows.indexed
 
         step_abort : Step (limits_of p.store.shape) s t Abort Fine new
-        step_abort = step_of (limits_of p.store.shape) (Some calls) s new t Abort Fine living_state is
-            (refl, λ i. record { names = names i; base = base i; history = history i; live = live i; doubt = doubt i; is_dead = dead_alike i; index = index_alike i })
+        step_abort = step_of (limits_of p.store.shape) (Some calls) s new t Abort Fine living_state is un
+            (refl, λ i. record { names = names i; base = base i; history = history i; live = live i; offers = offers i; doubt = doubt i; is_dead = dead_alike i; index = index_alike i })
 
         tied_abort : IsTied index q new
         tied_abort =
@@ -314,13 +326,18 @@ module _ (tells : Bool) (Opens : Shape → List ℕ → List ℕ → Type 0) (in
         base = base;
         history = history;
         dead = dead_alike ∙ sym (or_false s.is_dead);
-        own = λ _. ap (λ (f : ℕ → Option Granted). f t) live ∙ update_here s.live t None;
-        others = λ other ne. ap (λ (f : ℕ → Option Granted). f other) live ∙ update_apart s.live t None other ne;
+        own = λ _. (ap (λ (f : ℕ → Option Granted). f t) live ∙ update_here s.live t None, ap (λ (f : ℕ → Offer). f t) offers ∙ un);
+        others = λ other ne. inl (record {
+          live = ap (λ (f : ℕ → Option Granted). f other) live ∙ update_apart s.live t None other ne;
+          offer = ap (λ (f : ℕ → Offer). f other) offers;
+          mine = ap (commits_of other) history;
+        });
+        closed = λ gate _. absurd (false≢true (sym gate ∙ ap is_unoffered un));
         refused = λ refusal _. absurd (false≢true refusal);
       }) (λ failed. absurd (false≢true failed)) (λ _. (does.faults refl).1) step_abort time_abort safe_abort
 
 -- a commit for which the history has no memory
 pub unkept : (tells : Bool) (Opens : Shape → List ℕ → List ℕ → Type 0) (index : below.Index) (p : PagesView) (s new : State) (shows : ShowsPages index p s) (count : ℕ) (rows : List NamedRows)
-    → IsKept tells Opens index p count rows s → IsAlive p.store → (t : ℕ) (calls : Granted) → s.live t ≡ Some calls → new ≡ s → Steps tells t Commit (core_over Opens index p.store s) (core_over Opens index p.store new) NoMemory
-unkept tells Opens index p s new shows count rows kept alive t calls is same = steps_same tells Opens index p s new t Commit NoMemory same kept.safe refl refl refl (λ told.
-    step_of (limits_of p.store.shape) (Some calls) s s t Commit NoMemory (shows.dead ∙ alive) is (inl (refl, refl)))
+    → IsKept tells Opens index p count rows s → IsAlive p.store → (t : ℕ) (calls : Granted) → s.live t ≡ Some calls → s.offers t ≡ unoffered → new ≡ s → Steps tells t Commit (core_over Opens index p.store s) (core_over Opens index p.store new) NoMemory
+unkept tells Opens index p s new shows count rows kept alive t calls is un same = steps_same tells Opens index p s new t Commit NoMemory same kept.safe refl refl refl (λ told.
+    step_of (limits_of p.store.shape) (Some calls) s s t Commit NoMemory (shows.dead ∙ alive) is un (inl (refl, refl)))

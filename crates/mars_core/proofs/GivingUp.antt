@@ -17,21 +17,21 @@ use Rattle.page_store.specs.Shown.{PagesView}
 use Rattle.record_table.specs.Does.{OpensWith}
 use Rattle.record_table.specs.State.{TableState}
 use Rattle.record_table.proofs.Moving.{shown_same}
-use Rattle.caller_steps.specs.State.{State}
+use Rattle.caller_steps.specs.State.{State, Offer}
 use Rattle.caller_steps.specs.Prefix.{HasPrefixOf}
 use Rattle.mars_core.specs.Over.{limits_of, index_of}
 use Rattle.mars_core.specs.Held.{state_at}
 use Rattle.mars_core.specs.Kept.{HasHeld, IsKept}
 
 module _ (tells : Bool) (Opens : Shape → List ℕ → List ℕ → Type 0) (index : Index) (p q : PagesView) (gives : GivesUp p.store q.store) (counts : q.counts ≡ p.counts)
-    (names : List (List ℕ)) (base : Table) (history : List Done) (live : ℕ → Option Granted) (doubt : List Done) where
+    (names : List (List ℕ)) (base : Table) (history : List Done) (live : ℕ → Option Granted) (offers : ℕ → Offer) (doubt : List Done) where
   -- the same state
-  state_same : state_at index q.store names base history live doubt ≡ state_at index p.store names base history live doubt
-  state_same = λ i. record { names = names; base = base; history = history; live = live; doubt = doubt; is_dead = gives.is_dead i; index = index_of index (gives.state i).bytes }
+  state_same : state_at index q.store names base history live offers doubt ≡ state_at index p.store names base history live offers doubt
+  state_same = λ i. record { names = names; base = base; history = history; live = live; offers = offers; doubt = doubt; is_dead = gives.is_dead i; index = index_of index (gives.state i).bytes }
 
-  pub kept_on : (n : ℕ) (rows : List NamedRows) → IsKept tells Opens index p n rows (state_at index p.store names base history live doubt) → IsKept tells Opens index q n rows (state_at index q.store names base history live doubt)
+  pub kept_on : (n : ℕ) (rows : List NamedRows) → IsKept tells Opens index p n rows (state_at index p.store names base history live offers doubt) → IsKept tells Opens index q n rows (state_at index q.store names base history live offers doubt)
   kept_on n rows kept =
-      let s = state_at index p.store names base history live doubt in
+      let s = state_at index p.store names base history live offers doubt in
       let same = shown_same index p q gives.state counts in
       subst (λ (x : State). IsKept tells Opens index q n rows x) (sym state_same) (record {
         seats = kept.seats ∙ sym (ap (λ (h : Shape). h.numbers) gives.shape);

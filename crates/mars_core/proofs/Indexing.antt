@@ -8,7 +8,7 @@ use Rattle.page_store.specs.Index as below
 use Rattle.history.specs.Key.{of_table}
 use Rattle.history.specs.declared.key.Key.{Key}
 use Rattle.history.specs.declared.call.Call.{Call}
-use Rattle.history.specs.declared.call.Call.TheVariants.{Begin, Get, Put, Del, Scan, Save, Back, Commit, Abort}
+use Rattle.history.specs.declared.call.Call.TheVariants.{Begin, Get, Put, Del, Scan, Save, Back, Commit, Abort, Offer, Settle}
 use Rattle.history.specs.declared.call.Reply.{Reply}
 use Rattle.history.specs.declared.call.Reply.TheVariants.{Fine}
 use Rattle.history.specs.declared.call.Reply.TheVariants as reply
@@ -91,6 +91,8 @@ module _ (shape : Shape) (table : ℕ) (names : List (List ℕ)) (a b : List ℕ
   indexes_refused T (Back n) f of asked quiet well same = both same (quiet tt)
   indexes_refused T Commit f of asked quiet well same = absurd of
   indexes_refused T Abort f of asked quiet well same = absurd of
+  indexes_refused T Offer f of asked quiet well same = absurd of
+  indexes_refused T Settle f of asked quiet well same = absurd of
   indexes_refused T Begin f of asked quiet well same = absurd of
 
   -- a granted call
@@ -105,6 +107,8 @@ module _ (shape : Shape) (table : ℕ) (names : List (List ℕ)) (a b : List ℕ
   indexes_granted (Back n) answer told of quiet fine same = both same (quiet tt)
   indexes_granted Commit answer told of quiet fine same = absurd of
   indexes_granted Abort answer told of quiet fine same = absurd of
+  indexes_granted Offer answer told of quiet fine same = absurd of
+  indexes_granted Settle answer told of quiet fine same = absurd of
   indexes_granted Begin answer told of quiet fine same = absurd of
 
 -- the keys stay, or the index gains one that it lacked

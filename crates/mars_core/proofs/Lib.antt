@@ -11,6 +11,9 @@ pub mod Answering
 pub mod Staying
 pub mod Answered
 pub mod Finishing
+pub mod Settling
+pub mod Grouping
+pub mod Together
 pub mod Opening
 pub mod Attaching
 pub mod Unwritten

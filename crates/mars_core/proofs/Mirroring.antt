@@ -7,7 +7,7 @@ use Rattle.page_store.specs.State.{with_one}
 use Rattle.history.specs.Table.{Granted, Work, has_save, Answers, IsRight}
 use Rattle.history.specs.Log.{Log, log_after, log_of}
 use Rattle.history.specs.declared.call.Call.{Call}
-use Rattle.history.specs.declared.call.Call.TheVariants.{Begin, Get, Put, Del, Scan, Save, Back, Commit, Abort}
+use Rattle.history.specs.declared.call.Call.TheVariants.{Begin, Get, Put, Del, Scan, Save, Back, Commit, Abort, Offer, Settle}
 use Rattle.history.specs.declared.call.Reply.{Reply}
 use Rattle.history.proofs.OneMore.{log_of-push}
 use Rattle.history.proofs.Pending.{left_is_written, saves_are_written, as_many_saves, has_same_saves}
@@ -48,6 +48,8 @@ abbrev pub IsOfTable : Call → Type 0
 IsOfTable Begin = ⊥
 IsOfTable Commit = ⊥
 IsOfTable Abort = ⊥
+IsOfTable Offer = ⊥
+IsOfTable Settle = ⊥
 IsOfTable _ = Unit {0}
 
 of_table : (call : TableCall) → IsOfTable (call_of call)
@@ -71,6 +73,8 @@ same_table s t Save of = refl
 same_table s t (Back n) of = refl
 same_table s t Commit of = absurd of
 same_table s t Abort of = absurd of
+same_table s t Offer of = absurd of
+same_table s t Settle of = absurd of
 same_table s t Begin of = absurd of
 
 -- its number's log is then that of the history
@@ -83,6 +87,8 @@ own_is l Save answer of = refl
 own_is l (Back n) answer of = refl
 own_is l Commit answer of = absurd of
 own_is l Abort answer of = absurd of
+own_is l Offer answer of = absurd of
+own_is l Settle answer of = absurd of
 own_is l Begin answer of = absurd of
 
 -- and the reply is the table's
@@ -95,6 +101,8 @@ replies_is s t Save answer of replies = replies
 replies_is s t (Back n) answer of replies = replies
 replies_is s t Commit answer of replies = absurd of
 replies_is s t Abort answer of replies = absurd of
+replies_is s t Offer answer of replies = absurd of
+replies_is s t Settle answer of replies = absurd of
 replies_is s t Begin answer of replies = absurd of
 
 pub has_save_is : {A : Type 0} (saved : List A) (n : ℕ) → 0 < n → n ≤ length saved → has_save saved n ≡ true

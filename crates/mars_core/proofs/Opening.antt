@@ -20,13 +20,13 @@ use Rattle.record_table.specs.Names.{names_of}
 use Rattle.record_table.specs.Shown.{state_of}
 use Rattle.record_table.specs.Shown as shown
 use Rattle.record_table.specs.Upgrading.{upgraded, Upgrades}
-use Rattle.caller_steps.specs.State.{State, calls_of, opened}
+use Rattle.caller_steps.specs.State.{State, unoffered, calls_of, opened}
 use Rattle.caller_steps.specs.Sound.{IsSound}
 use Rattle.caller_steps.proofs.Sound.{opened_sound}
 use Rattle.mars_core.specs.Over.{limits_of, index_of, Begins}
 use Rattle.mars_core.specs.Held.{core_over, state_at}
 use Rattle.mars_core.specs.Kept.{Mirrors, HasHeld, IsTied, IsKept}
-use Rattle.mars_core.specs.Seats.{Seats, live_in}
+use Rattle.mars_core.specs.Seats.{Seats, live_in, offers_in}
 use Rattle.mars_core.proofs.Prefixes.{StoreLaws, safe_alive}
 
 -- the rows of a table are that table's
@@ -44,7 +44,7 @@ no_log new idle t = ap (λ (o : Option Granted). unwrap_or o []) (idle t)
 module _ (tells : Bool) (Opens : Shape → List ℕ → List ℕ → Type 0) (index : below.Index) (p r : PagesView) (new_laws : StoreLaws tells Opens r.store) (alive : IsAlive p.store) (sound : IsTrue tells → index.sound p.store.state.bytes)
     (idle : IsTrue tells → (t : ℕ) → ((state_of index p).logs t).writes ≡ []) (unsaved : IsTrue tells → (t : ℕ) → ((state_of index p).logs t).saved ≡ []) (upgrades : Upgrades tells (Opens p.store.shape) index p r (Ok tt))
     (rows : List NamedRows) (are : IsTrue tells → records_in rows ≡ entries (shown.table_of index p.store.state.bytes))
-    (free : (t : ℕ) → p.store.ranges t ≡ None) (seats : Seats) (named : IsTrue tells → seats.names ≡ names_of p.store.state.bytes) (count : length seats.live ≡ p.store.shape.numbers) (none : (t : ℕ) → live_in seats t ≡ None) (history : List Done) (empty : history ≡ []) (doubt : List Done) (sure : doubt ≡ []) where
+    (free : (t : ℕ) → p.store.ranges t ≡ None) (seats : Seats) (named : IsTrue tells → seats.names ≡ names_of p.store.state.bytes) (count : length seats.places ≡ p.store.shape.numbers) (none : (t : ℕ) → live_in seats t ≡ None) (unoffered_all : (t : ℕ) → offers_in seats t ≡ unoffered) (history : List Done) (empty : history ≡ []) (doubt : List Done) (sure : doubt ≡ []) where
   lives : IsAlive r.store
   lives = (upgrades.faults refl).0 ∙ alive
 
@@ -65,16 +65,16 @@ module _ (tells : Bool) (Opens : Shape → List ℕ → List ℕ → Type 0) (in
     table_is = base_is (shown.table_of index p.store.state.bytes) rows (are told)
 
     -- its state is that of a core that was just opened
-    opened_is : state_at index r.store seats.names (table_of rows) history (live_in seats) doubt ≡ opened (names_of p.store.state.bytes) (shown.table_of index p.store.state.bytes) (index_of index (upgraded p.store.state.bytes))
-    opened_is = λ i. record { names = named told i; base = table_is i; history = empty i; live = λ t. none t i; doubt = sure i; is_dead = lives i; index = index_of index (upgrades.bytes told i) }
+    opened_is : state_at index r.store seats.names (table_of rows) history (live_in seats) (offers_in seats) doubt ≡ opened (names_of p.store.state.bytes) (shown.table_of index p.store.state.bytes) (index_of index (upgraded p.store.state.bytes))
+    opened_is = λ i. record { names = named told i; base = table_is i; history = empty i; live = λ t. none t i; offers = λ t. unoffered_all t i; doubt = sure i; is_dead = lives i; index = index_of index (upgrades.bytes told i) }
 
-    mirrors : Mirrors (state_of index r) (state_at index r.store seats.names (table_of rows) history (live_in seats) doubt)
+    mirrors : Mirrors (state_of index r) (state_at index r.store seats.names (table_of rows) history (live_in seats) (offers_in seats) doubt)
     mirrors = subst (λ (s : State). Mirrors (state_of index r) s) (sym opened_is) (record {
       table = ap (λ (b : TableState). b.table) state_new;
       logs = λ t. ap (λ (b : TableState). b.logs t) state_new ∙ (λ i. record { writes = idle told t i; saved = unsaved told t i });
     })
 
-    tied_new : IsTied index r (state_at index r.store seats.names (table_of rows) history (live_in seats) doubt)
+    tied_new : IsTied index r (state_at index r.store seats.names (table_of rows) history (live_in seats) (offers_in seats) doubt)
     tied_new = record {
       index_sound = upgrades.sound told;
       named = named told ∙ sym names_new;
@@ -83,16 +83,16 @@ module _ (tells : Bool) (Opens : Shape → List ℕ → List ℕ → Type 0) (in
       room = subst (HasHeld (limits_of r.store.shape)) (sym opened_is) (λ caller g. omega arith);
     }
 
-  pub opened_keeps : IsKept tells Opens index r (length seats.live) rows (state_at index r.store seats.names (table_of rows) history (live_in seats) doubt)
+  pub opened_keeps : IsKept tells Opens index r (length seats.places) rows (state_at index r.store seats.names (table_of rows) history (live_in seats) (offers_in seats) doubt)
   opened_keeps = record {
     seats = count ∙ sym (ap (λ (h : Shape). h.numbers) upgrades.shape);
     in_order = λ told. base_rows (shown.table_of index p.store.state.bytes) rows (are told);
     idle = λ _ t none. ap (λ (o : Option (List (ℕ × ℕ))). listed o) (still_free t);
     tied = λ told _. tied_new told;
-    safe = λ told. safe_alive tells Opens index r new_laws (state_at index r.store seats.names (table_of rows) history (live_in seats) doubt) told lives (tied_new told);
+    safe = λ told. safe_alive tells Opens index r new_laws (state_at index r.store seats.names (table_of rows) history (live_in seats) (offers_in seats) doubt) told lives (tied_new told);
   }
 
-  pub opened_begins : Begins tells (Opens p.store.shape) index p.store r.store (core_over Opens index r.store (state_at index r.store seats.names (table_of rows) history (live_in seats) doubt))
+  pub opened_begins : Begins tells (Opens p.store.shape) index p.store r.store (core_over Opens index r.store (state_at index r.store seats.names (table_of rows) history (live_in seats) (offers_in seats) doubt))
   opened_begins = record {
     over = record {
       limits = refl;
@@ -111,7 +111,7 @@ module _ (tells : Bool) (Opens : Shape → List ℕ → List ℕ → Type 0) (in
     shape = upgrades.shape;
     mirrors = upgrades.mirrors;
     state = opened_is;
-    fresh = (empty, none, sure);
+    fresh = (empty, none, sure, unoffered_all);
     sound = sound;
     bytes = upgrades.bytes;
     version = upgrades.version;

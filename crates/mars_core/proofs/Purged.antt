@@ -1,6 +1,6 @@
 -- A core after a purge.
 use Rattle.std.proofs.Common.{◌≡◌, ℕ, suc, ◌<◌, ◌≤◌, ◌⊎◌, ◌++◌, inl, inr, Bool, true, false, cond, ◌||◌, IsTrue, List, [], ◌∷◌, length, filter, Result, Ok, Err, refl, sym, ◌∙◌, ap, subst, arith}
-use Rattle.std.specs.Prelude.{Option, Some, None, IsSome, IsFalse, unwrap_or, slice_get, map, if◌then◌else◌}
+use Rattle.std.specs.Prelude.{Option, Some, None, is_some, not, IsSome, IsFalse, unwrap_or, slice_get, map, if◌then◌else◌}
 use Rattle.std.specs.FinMap.{get}
 use Rattle.std.specs.List.{list_any}
 use Rattle.std.specs.Map.{update}
@@ -37,13 +37,14 @@ use Rattle.caller_steps.specs.Core.{IsSafe}
 use Rattle.caller_steps.specs.Prefix.{HasPrefixOf}
 use Rattle.caller_steps.specs.Purging.{AreFree, Lost, PurgeStep, PurgeCause, Purges, is_media_refusal}
 use Rattle.caller_steps.specs.Room.{Limits, is_slot_on, is_write_on, held_on}
-use Rattle.caller_steps.specs.State.{State, Index}
+use Rattle.caller_steps.specs.State.{State, Index, unoffered}
+use Rattle.caller_steps.specs.Offers.{is_unoffered, is_engaged}
 use Rattle.caller_steps.specs.declared.purge_fault.PurgeFault.{PurgeFault}
 use Rattle.mars_core.specs.Held.{core_over, state_at}
 use Rattle.mars_core.specs.Kept.{IsTied, IsKept}
 use Rattle.mars_core.specs.Over.{limits_of, index_of}
 use Rattle.mars_core.specs.Purging.{IsOfFirst, Keeps, AreFreeIn, IsReady, stopped, ClearCause, Clears}
-use Rattle.mars_core.specs.Seats.{Seats, live_in, calls_at}
+use Rattle.mars_core.specs.Seats.{Seats, live_in, offers_in, calls_at}
 use Rattle.mars_core.proofs.Answering.{IndexLaws}
 use Rattle.mars_core.proofs.Indexing.{is_within}
 use Rattle.mars_core.proofs.Prefixes.{StoreLaws, safe_dead, safe_alive}
@@ -98,9 +99,13 @@ module _ (limits : Limits) (g : ℕ) where
 
 module _ (tells : Bool) (Opens : Shape → List ℕ → List ℕ → Type 0) (index : below.Index) (index_laws : IndexLaws index) (one : (shape : Shape) (image a b : List ℕ) → Opens shape image a → Opens shape image b → a ≡ b)
     (p : PagesView) (old_laws : StoreLaws tells Opens p.store) (rows : List NamedRows) (base : Table) (history : List Done) (seats : Seats) (doubt : List Done) (count : ℕ)
-    (kept : IsKept tells Opens index p count rows (state_at index p.store seats.names base history (live_in seats) doubt)) (alive : IsAlive p.store) (t : ℕ) (none : live_in seats t ≡ None) where
+    (kept : IsKept tells Opens index p count rows (state_at index p.store seats.names base history (live_in seats) (offers_in seats) doubt)) (alive : IsAlive p.store) (t : ℕ) (none : live_in seats t ≡ None) (un : offers_in seats t ≡ unoffered) where
   abbrev s : State
-  s = state_at index p.store seats.names base history (live_in seats) doubt
+  s = state_at index p.store seats.names base history (live_in seats) (offers_in seats) doubt
+
+  -- it has no transaction, live or unsettled
+  free_caller : is_engaged s t ≡ false
+  free_caller = λ i. is_some (none i) || not (is_unoffered (un i))
 
   pub idle : calls_at seats t ≡ []
   idle = ap (λ (o : Option Granted). unwrap_or o []) none
@@ -120,13 +125,13 @@ module _ (tells : Bool) (Opens : Shape → List ℕ → List ℕ → Type 0) (in
 
   module _ (q : PagesView) (new_laws : StoreLaws tells Opens q.store) where
     abbrev new : State
-    new = state_at index q.store seats.names base history (live_in seats) doubt
+    new = state_at index q.store seats.names base history (live_in seats) (offers_in seats) doubt
 
     module _ (told : IsTrue tells) where
-      was : IsTied index p (state_at index p.store seats.names base history (live_in seats) doubt)
+      was : IsTied index p (state_at index p.store seats.names base history (live_in seats) (offers_in seats) doubt)
       was = kept.tied told alive
 
-      tied_new : (n : ℕ) → Clears tells (Opens p.store.shape) index seats t (IsOfFirst seats.names (length seats.names)) p q (Ok n) → IsAlive q.store → IsTied index q (state_at index q.store seats.names base history (live_in seats) doubt)
+      tied_new : (n : ℕ) → Clears tells (Opens p.store.shape) index seats t (IsOfFirst seats.names (length seats.names)) p q (Ok n) → IsAlive q.store → IsTied index q (state_at index q.store seats.names base history (live_in seats) (offers_in seats) doubt)
       tied_new n clears living =
           let state = clears.state told refl in
           let cleared = clears.cleared told in
@@ -134,14 +139,14 @@ module _ (tells : Bool) (Opens : Shape → List ℕ → List ℕ → Type 0) (in
             index_sound = clears.sound told living;
             named = sym (clears.ready told).named;
             mirrors = record { table = ap (λ (x : TableState). x.table) state ∙ was.mirrors.table; logs = λ u. ap (λ (x : TableState). x.logs u) state ∙ was.mirrors.logs u };
-            sound = record { legal = was.sound.legal; certain = λ _. was.sound.certain alive; doubtful = was.sound.doubtful; groups = was.sound.groups; doubtful_groups = was.sound.doubtful_groups; right = was.sound.right; apart = was.sound.apart };
-            room = λ u g. subst (λ (l : Limits). held_on l (state_at index q.store seats.names base history (live_in seats) doubt) u g ≤ l.entries) (ap limits_of (sym clears.shape))
+            sound = record { legal = was.sound.legal; certain = λ _. was.sound.certain alive; doubtful = was.sound.doubtful; groups = was.sound.groups; doubtful_groups = was.sound.doubtful_groups; right = was.sound.right; offers = was.sound.offers; apart = was.sound.apart };
+            room = λ u g. subst (λ (l : Limits). held_on l (state_at index q.store seats.names base history (live_in seats) (offers_in seats) doubt) u g ≤ l.entries) (ap limits_of (sym clears.shape))
                 (subst (λ (k : ℕ). k ≤ p.store.shape.entries)
                 (sym (ap length (all_lost (limits_of p.store.shape) g index seats p.store.state.bytes u (index_of index p.store.state.bytes) (index_of index q.store.state.bytes) cleared.keys cleared.lost cleared.free))) (was.room u g));
           }
 
       -- Where the store tells its data, nothing but a fault of the medium refuses a purge.
-      tied_of : (r : Result ℕ TableFault) → Clears tells (Opens p.store.shape) index seats t (IsOfFirst seats.names (length seats.names)) p q r → IsAlive q.store → IsTied index q (state_at index q.store seats.names base history (live_in seats) doubt)
+      tied_of : (r : Result ℕ TableFault) → Clears tells (Opens p.store.shape) index seats t (IsOfFirst seats.names (length seats.names)) p q r → IsAlive q.store → IsTied index q (state_at index q.store seats.names base history (live_in seats) (offers_in seats) doubt)
       tied_of (Ok n) clears living = tied_new n clears living
       tied_of (Err Media) clears living = absurd (false≢true (sym living ∙ (clears.dies refl).0))
       tied_of (Err Dead) clears living = absurd clears.cause
@@ -153,12 +158,12 @@ module _ (tells : Bool) (Opens : Shape → List ℕ → List ℕ → Type 0) (in
       tied_of (Err NoMemory) clears living = absurd clears.cause
 
     module _ (r : Result ℕ TableFault) (clears : Clears tells (Opens p.store.shape) index seats t (IsOfFirst seats.names (length seats.names)) p q r) where
-      time_now : IsTrue tells → LeavesOnly (HasPrefixOf (OpensWith (Opens q.store.shape) index) (state_at index q.store seats.names base history (live_in seats) doubt) (length history)) p.store q.store
+      time_now : IsTrue tells → LeavesOnly (HasPrefixOf (OpensWith (Opens q.store.shape) index) (state_at index q.store seats.names base history (live_in seats) (offers_in seats) doubt) (length history)) p.store q.store
       time_now told = time_same tells Opens index p q s new (state_of index p).table (state_of index p).table (history_whole s (was told).sound) clears.shape (was told).mirrors.table (was told).mirrors.table refl refl
           (weaker (λ image opens. inl opens) (clears.time told))
 
-      safe_now : (b : Bool) → q.store.is_dead ≡ b → IsTrue tells → IsSafe (core_over Opens index q.store (state_at index q.store seats.names base history (live_in seats) doubt)) q.store.moment (length history)
-      safe_now false living told = safe_alive tells Opens index q new_laws (state_at index q.store seats.names base history (live_in seats) doubt) told living (tied_of told r clears living)
+      safe_now : (b : Bool) → q.store.is_dead ≡ b → IsTrue tells → IsSafe (core_over Opens index q.store (state_at index q.store seats.names base history (live_in seats) (offers_in seats) doubt)) q.store.moment (length history)
+      safe_now false living told = safe_alive tells Opens index q new_laws (state_at index q.store seats.names base history (live_in seats) (offers_in seats) doubt) told living (tied_of told r clears living)
       safe_now true dead told = safe_dead tells Opens index one p q old_laws new_laws told clears.shape alive (was told).index_sound s new (history_whole s (was told).sound) (was told).mirrors.table refl refl (time_now told)
 
       not_failed : IsAlive q.store → IsFalse (is_failed r)
@@ -167,7 +172,7 @@ module _ (tells : Bool) (Opens : Shape → List ℕ → List ℕ → Type 0) (in
         | inr well ↦ well
       ]
 
-      pub purged_keeps : IsKept tells Opens index q count rows (state_at index q.store seats.names base history (live_in seats) doubt)
+      pub purged_keeps : IsKept tells Opens index q count rows (state_at index q.store seats.names base history (live_in seats) (offers_in seats) doubt)
       purged_keeps = record {
         seats = kept.seats ∙ ap (λ (x : Shape). x.numbers) (sym clears.shape);
         in_order = kept.in_order;
@@ -176,29 +181,29 @@ module _ (tells : Bool) (Opens : Shape → List ℕ → List ℕ → Type 0) (in
         safe = safe_now q.store.is_dead refl;
       }
 
-    free_so : IsTrue tells → (keys : List Key) → AreFreeIn index seats p.store.state.bytes keys → AreFree (state_at index p.store seats.names base history (live_in seats) doubt) keys
+    free_so : IsTrue tells → (keys : List Key) → AreFreeIn index seats p.store.state.bytes keys → AreFree (state_at index p.store seats.names base history (live_in seats) (offers_in seats) doubt) keys
     free_so told [] free = tt
     free_so told (key ∷ keys) free = (((free.0.0.0, ap (λ (x : Table). get x key) (sym (was told).mirrors.table) ∙ free.0.0.1), free.0.1), free_so told keys free.1)
 
     step_of : (r : Result ℕ TableFault) → Clears tells (Opens p.store.shape) index seats t (IsOfFirst seats.names (length seats.names)) p q r → IsTrue tells
-        → PurgeStep (Keeps index) (state_at index p.store seats.names base history (live_in seats) doubt) t (outcome r) (state_at index q.store seats.names base history (live_in seats) doubt)
+        → PurgeStep (Keeps index) (state_at index p.store seats.names base history (live_in seats) (offers_in seats) doubt) t (outcome r) (state_at index q.store seats.names base history (live_in seats) (offers_in seats) doubt)
     step_of (Ok n) clears told =
         let cleared = clears.cleared told in
         let table = ap (λ (x : TableState). x.table) (clears.state told refl) ∙ (was told).mirrors.table in (
           alive,
-          none,
+          free_caller,
           record {
             keys = cleared.keys;
             count = cleared.count;
             free = free_so told cleared.keys cleared.free;
             index = index_of index q.store.state.bytes;
             lost = cleared.lost;
-            same = λ i. record (state_at index q.store seats.names base history (live_in seats) doubt) { is_dead = (clears.faults refl).0 i };
+            same = λ i. record (state_at index q.store seats.names base history (live_in seats) (offers_in seats) doubt) { is_dead = (clears.faults refl).0 i };
             left = λ key lt is. cleared.left key (let at = named_key index q.store.state.bytes key is.0 in let same = (clears.ready told).named in
                 (at.0, subst (λ (ns : List (List ℕ)). at.0 < length ns) same at.1, ap (λ (ns : List (List ℕ)). slice_get ns at.0) (sym same) ∙ at.2, lt)) (is.0, ap (λ (x : Table). get x key) table ∙ is.1);
           },
         )
-    step_of (Err Media) clears told = (alive, none, index_of index q.store.state.bytes, λ i. record (state_at index q.store seats.names base history (live_in seats) doubt) { is_dead = (clears.dies refl).0 i })
+    step_of (Err Media) clears told = (alive, free_caller, index_of index q.store.state.bytes, λ i. record (state_at index q.store seats.names base history (live_in seats) (offers_in seats) doubt) { is_dead = (clears.dies refl).0 i })
     step_of (Err Dead) clears told = absurd clears.cause
     step_of (Err (SlotsFull n)) clears told = absurd clears.cause
     step_of (Err (PagesFull n)) clears told = absurd clears.cause
@@ -207,15 +212,15 @@ module _ (tells : Bool) (Opens : Shape → List ℕ → List ℕ → Type 0) (in
     step_of (Err (Damaged page)) clears told = absurd (clears.cause told)
     step_of (Err NoMemory) clears told = absurd clears.cause
 
-    cause_of : (r : Result ℕ TableFault) → Clears tells (Opens p.store.shape) index seats t (IsOfFirst seats.names (length seats.names)) p q r → PurgeCause (state_at index p.store seats.names base history (live_in seats) doubt) t (outcome r)
-    cause_of (Ok n) clears = (alive, none)
+    cause_of : (r : Result ℕ TableFault) → Clears tells (Opens p.store.shape) index seats t (IsOfFirst seats.names (length seats.names)) p q r → PurgeCause (state_at index p.store seats.names base history (live_in seats) (offers_in seats) doubt) t (outcome r)
+    cause_of (Ok n) clears = (alive, free_caller)
     cause_of (Err Dead) clears = absurd clears.cause
-    cause_of (Err Media) clears = (alive, none)
+    cause_of (Err Media) clears = (alive, free_caller)
     cause_of (Err (SlotsFull n)) clears = absurd clears.cause
     cause_of (Err (PagesFull n)) clears = absurd clears.cause
     cause_of (Err SavesFull) clears = absurd clears.cause
     cause_of (Err (LogFull g h n)) clears = absurd clears.cause
-    cause_of (Err (Damaged page)) clears = (alive, none)
+    cause_of (Err (Damaged page)) clears = (alive, free_caller)
     cause_of (Err NoMemory) clears = absurd clears.cause
 
     failed_is : (r : Result ℕ TableFault) → ClearCause tells r → is_media_refusal (outcome r) ≡ is_failed r
@@ -234,8 +239,8 @@ module _ (tells : Bool) (Opens : Shape → List ℕ → List ℕ → Type 0) (in
     dead_is false old now is well ill = well refl ∙ is ∙ sym (ap (λ (x : Bool). x || false) is)
 
     module _ (r : Result ℕ TableFault) (clears : Clears tells (Opens p.store.shape) index seats t (IsOfFirst seats.names (length seats.names)) p q r) where
-      pub purged_steps : Purges tells (Keeps index) t (core_over Opens index p.store (state_at index p.store seats.names base history (live_in seats) doubt))
-          (core_over Opens index q.store (state_at index q.store seats.names base history (live_in seats) doubt)) (outcome r)
+      pub purged_steps : Purges tells (Keeps index) t (core_over Opens index p.store (state_at index p.store seats.names base history (live_in seats) (offers_in seats) doubt))
+          (core_over Opens index q.store (state_at index q.store seats.names base history (live_in seats) (offers_in seats) doubt)) (outcome r)
       purged_steps = record {
         limits = ap limits_of clears.shape;
         opens = λ image table opens. subst (λ (h : Shape). OpensWith (Opens h) index image table) (sym clears.shape) opens;
@@ -243,6 +248,7 @@ module _ (tells : Bool) (Opens : Shape → List ℕ → List ℕ → Type 0) (in
         base = refl;
         history = refl;
         live = refl;
+        offers = refl;
         doubt = refl;
         dead = dead_is (is_media_refusal (outcome r)) p.store.is_dead q.store.is_dead alive (λ well. (clears.faults (sym (failed_is r clears.cause) ∙ well)).0) (λ ill. (clears.dies (sym (failed_is r clears.cause) ∙ ill)).0);
         cause = cause_of r clears;
@@ -264,6 +270,7 @@ refused_steps tells Opens index p s t answer safe well cause step = record {
   base = refl;
   history = refl;
   live = refl;
+  offers = refl;
   doubt = refl;
   dead = same s.is_dead (is_media_refusal answer) well;
   cause = cause;

@@ -17,7 +17,7 @@ use Rattle.history.specs.Table.{IsRight}
 use Rattle.history.specs.Log.{Log, log_of, log_after, save_at}
 use Rattle.history.specs.Log as log
 use Rattle.history.specs.declared.call.Call.{Call}
-use Rattle.history.specs.declared.call.Call.TheVariants.{Begin, Get, Put, Del, Scan, Save, Back, Commit, Abort}
+use Rattle.history.specs.declared.call.Call.TheVariants.{Begin, Get, Put, Del, Scan, Save, Back, Commit, Abort, Offer, Settle}
 use Rattle.history.specs.declared.call.Reply.TheVariants.{Fine}
 use Rattle.history.specs.declared.call.Reply.TheVariants as reply
 use Rattle.history.proofs.Counting.{length-filter-rewritten, length-filter-anew}
@@ -89,6 +89,8 @@ module _ (index : below.Index) (table : ℕ) (p : PagesView) (s : State) (indexe
     fits_is (Back n) of fits = tt
     fits_is Commit of fits = tt
     fits_is Abort of fits = tt
+    fits_is Offer of fits = tt
+    fits_is Settle of fits = tt
     fits_is Begin of fits = tt
 
     -- Refusals of a full array, if no logger holds more than it has entries for.
@@ -155,6 +157,8 @@ module _ (index : below.Index) (table : ℕ) (p : PagesView) (s : State) (indexe
       log_lacks (Back m) g h n of lacks short = absurd short
       log_lacks Commit g h n of lacks short = absurd short
       log_lacks Abort g h n of lacks short = absurd short
+      log_lacks Offer g h n of lacks short = absurd short
+      log_lacks Settle g h n of lacks short = absurd short
       log_lacks Begin g h n of lacks short = absurd of
 
       pub slot_lacks : (call : Call) (n : ℕ) → IsOfTable call → table_causes.LacksSlot index p n call → n ≡ slots_of p.store.shape
@@ -168,6 +172,8 @@ module _ (index : below.Index) (table : ℕ) (p : PagesView) (s : State) (indexe
       slot_lacks (Back m) n of lacks most = absurd lacks
       slot_lacks Commit n of lacks most = absurd lacks
       slot_lacks Abort n of lacks most = absurd lacks
+      slot_lacks Offer n of lacks most = absurd lacks
+      slot_lacks Settle n of lacks most = absurd lacks
       slot_lacks Begin n of lacks most = absurd lacks
 
       pub page_lacks : (call : Call) (n : ℕ) → IsOfTable call → table_causes.LacksPage index table p t call → n ≡ (limits_of p.store.shape).index_pages - 1
@@ -180,6 +186,8 @@ module _ (index : below.Index) (table : ℕ) (p : PagesView) (s : State) (indexe
       page_lacks (Back m) n of lacks most = absurd lacks
       page_lacks Commit n of lacks most = absurd lacks
       page_lacks Abort n of lacks most = absurd lacks
+      page_lacks Offer n of lacks most = absurd lacks
+      page_lacks Settle n of lacks most = absurd lacks
       page_lacks Begin n of lacks most = absurd lacks
 
 -- a write that finds an entry leaves no logger with more than it has entries for

@@ -14,11 +14,12 @@ use Rattle.history.specs.Table.{Granted, has_save}
 use Rattle.history.specs.Locks.{Meets, has_table}
 use Rattle.history.specs.Log.{log_of}
 use Rattle.history.specs.declared.call.Call.{Call}
-use Rattle.history.specs.declared.call.Call.TheVariants.{Begin, Get, Put, Del, Scan, Save, Back, Commit, Abort}
+use Rattle.history.specs.declared.call.Call.TheVariants.{Begin, Get, Put, Del, Scan, Save, Back, Commit, Abort, Offer, Settle}
 use Rattle.history.specs.declared.call.Reply.{Reply}
 use Rattle.history.specs.declared.call.Reply.TheVariants.{Fine, Busy, NoMemory, SavesFull, NoSave, NoTransaction, NoTable}
 use Rattle.record_table.specs.Shown.{state_of}
-use Rattle.caller_steps.specs.State.{State, calls_of, records_of, view_of, with_live}
+use Rattle.caller_steps.specs.State.{State, unoffered, calls_of, commits_of, records_of, view_of, with_live}
+use Rattle.caller_steps.specs.Offers.{is_unoffered}
 use Rattle.caller_steps.specs.Locked.{Blocks, IsFree, IsBusyWith}
 use Rattle.caller_steps.specs.Room.{Limits}
 use Rattle.caller_steps.specs.Step.{Step, StepAt}
@@ -98,7 +99,7 @@ no_saves saves n none = false_from_ne_true (has_save saves n) (λ there.
     let parts = both (nat_lt 0 n) (nat_le n (length saves)) there in none (ltb-true 0 n parts.0, leb-true n (length saves) parts.1))
 
 module _ (tells : Bool) (Opens : Shape → List ℕ → List ℕ → Type 0) (index : below.Index) (p : PagesView) (s : State) (shows : ShowsPages index p s) (count : ℕ) (rows : List NamedRows)
-    (kept : IsKept tells Opens index p count rows s) (alive : IsAlive p.store) (tells_writes : IsShown tells index p) (t : ℕ) (call : Call) (calls : Granted) (is : s.live t ≡ Some calls) where
+    (kept : IsKept tells Opens index p count rows s) (alive : IsAlive p.store) (tells_writes : IsShown tells index p) (t : ℕ) (call : Call) (calls : Granted) (is : s.live t ≡ Some calls) (un : s.offers t ≡ unoffered) where
   module _ (told : IsTrue tells) where
     tied : IsTied index p s
     tied = kept.tied told alive
@@ -108,9 +109,9 @@ module _ (tells : Bool) (Opens : Shape → List ℕ → List ℕ → Type 0) (in
 
     save_step : (c : Call) (answer : Reply) → IsSaveRefusal (length (p.counts t)) c answer → Step (limits_of p.store.shape) s t c answer s
     save_step Save answer refused = subst (λ (r : Reply). Step (limits_of p.store.shape) s t Save r s) (sym refused.1)
-        (step_of (limits_of p.store.shape) (Some calls) s s t Save SavesFull (shows.dead ∙ alive) is (inl (omega (arith, refused.0, counts_is index p t, saved_is), (refl, refl))))
+        (step_of (limits_of p.store.shape) (Some calls) s s t Save SavesFull (shows.dead ∙ alive) is un (inl (omega (arith, refused.0, counts_is index p t, saved_is), (refl, refl))))
     save_step (Back n) answer refused = subst (λ (r : Reply). Step (limits_of p.store.shape) s t (Back n) r s) (sym refused.1)
-        (step_of (limits_of p.store.shape) (Some calls) s s t (Back n) (NoSave n) (shows.dead ∙ alive) is (inl (
+        (step_of (limits_of p.store.shape) (Some calls) s s t (Back n) (NoSave n) (shows.dead ∙ alive) is un (inl (
           has_saves (state_of index p) s tied.mirrors t (tied.sound.right t) n ∙ no_saves (((state_of index p).logs t).saved) n (subst (λ (k : ℕ). (0 < n) × (n ≤ k) → ⊥) (sym (counts_is index p t)) refused.0),
           (refl, refl),
         )))
@@ -120,6 +121,8 @@ module _ (tells : Bool) (Opens : Shape → List ℕ → List ℕ → Type 0) (in
     save_step (Scan name low high) answer refused = absurd refused
     save_step Commit answer refused = absurd refused
     save_step Abort answer refused = absurd refused
+    save_step Offer answer refused = absurd refused
+    save_step Settle answer refused = absurd refused
     save_step Begin answer refused = absurd refused
 
   -- refused because of its saves
@@ -137,6 +140,8 @@ module _ (tells : Bool) (Opens : Shape → List ℕ → List ℕ → Type 0) (in
       refusal (Scan name low high) r refused = absurd refused
       refusal Commit r refused = absurd refused
       refusal Abort r refused = absurd refused
+      refusal Offer r refused = absurd refused
+      refusal Settle r refused = absurd refused
       refusal Begin r refused = absurd refused
 
   module _ (of : IsOfTable call) (saves : HasSaves (length (p.counts t)) call) (new : State) (same : new ≡ s) where
@@ -146,7 +151,7 @@ module _ (tells : Bool) (Opens : Shape → List ℕ → List ℕ → Type 0) (in
     -- since its table is not there
     pub table_refused : number_for s.names call ≡ None → Steps tells t call (core_over Opens index p.store s) (core_over Opens index p.store new) NoTable
     table_refused none = steps_same tells Opens index p s new t call NoTable same kept.safe refl refl refl (λ told.
-        step_of (limits_of p.store.shape) (Some calls) s s t call NoTable (shows.dead ∙ alive) is (none_at call none))
+        step_of (limits_of p.store.shape) (Some calls) s s t call NoTable (shows.dead ∙ alive) is un (none_at call none))
       where
         none_at : (c : Call) → number_for s.names c ≡ None → StepAt (limits_of p.store.shape) (Some calls) s t c NoTable s
         none_at (Get name key) none = inl (ap is_some none, (refl, refl))
@@ -157,18 +162,20 @@ module _ (tells : Bool) (Opens : Shape → List ℕ → List ℕ → Type 0) (in
         none_at (Back n) none = absurd (cc)
         none_at Commit none = absurd (cc)
         none_at Abort none = absurd (cc)
+        none_at Offer none = absurd (cc)
+        none_at Settle none = absurd (cc)
         none_at Begin none = absurd (cc)
 
     -- for lack of memory
     pub memory_refused : has_table s.names call ≡ true → Steps tells t call (core_over Opens index p.store s) (core_over Opens index p.store new) NoMemory
     memory_refused there = steps_same tells Opens index p s new t call NoMemory same kept.safe refl refl refl (λ told.
-        step_of (limits_of p.store.shape) (Some calls) s s t call NoMemory (shows.dead ∙ alive) is (asks_at (limits_of p.store.shape) calls s s t call NoMemory of there
+        step_of (limits_of p.store.shape) (Some calls) s s t call NoMemory (shows.dead ∙ alive) is un (asks_at (limits_of p.store.shape) calls s s t call NoMemory of there
         (saves_at index 0 p s shows (tied told).mirrors (tells_writes.held told alive) t ((tied told).sound.right t) call has) (inl (refl, refl))))
 
     -- because another caller holds its keys
     pub busy_refused : has_table s.names call ≡ true → (holder : ℕ) → IsBusyWith s t call holder → Steps tells t call (core_over Opens index p.store s) (core_over Opens index p.store new) (Busy holder)
     busy_refused there holder busy = steps_same tells Opens index p s new t call (Busy holder) same kept.safe refl refl refl (λ told.
-        step_of (limits_of p.store.shape) (Some calls) s s t call (Busy holder) (shows.dead ∙ alive) is (asks_at (limits_of p.store.shape) calls s s t call (Busy holder) of there
+        step_of (limits_of p.store.shape) (Some calls) s s t call (Busy holder) (shows.dead ∙ alive) is un (asks_at (limits_of p.store.shape) calls s s t call (Busy holder) of there
         (saves_at index 0 p s shows (tied told).mirrors (tells_writes.held told alive) t ((tied told).sound.right t) call has) (inr (inl (holder, busy, (refl, refl))))))
 
 -- the invariant holds after no change
@@ -178,14 +185,14 @@ kept_same tells Opens index p s new count count' rows kept counts same =
     subst (λ (x : State). IsKept tells Opens index p count' rows x) (sym same) (subst (λ (n : ℕ). IsKept tells Opens index p n rows s) (sym counts) kept)
 
 module _ (tells : Bool) (Opens : Shape → List ℕ → List ℕ → Type 0) (index : below.Index) (p : PagesView) (laws : StoreLaws tells Opens p.store) (s new : State) (shows : ShowsPages index p s) (count count' : ℕ)
-    (same_count : count' ≡ count) (rows : List NamedRows) (kept : IsKept tells Opens index p count rows s) (alive : IsAlive p.store) (t : ℕ) (none : s.live t ≡ None)
+    (same_count : count' ≡ count) (rows : List NamedRows) (kept : IsKept tells Opens index p count rows s) (alive : IsAlive p.store) (t : ℕ) (none : s.live t ≡ None) (un : s.offers t ≡ unoffered)
     (begins : new ≡ with_live s t (Some [])) where
   live_is : new.live ≡ update nat_eq s.live t (Some [])
   live_is = ap (λ (x : State). x.live) begins
 
   module _ (told : IsTrue tells) where
     step : Step (limits_of p.store.shape) s t Begin Fine new
-    step = step_of (limits_of p.store.shape) None s new t Begin Fine (shows.dead ∙ alive) none (refl, begins)
+    step = step_of (limits_of p.store.shape) None s new t Begin Fine (shows.dead ∙ alive) none un (refl, begins)
 
     tied_new : IsTied index p new
     tied_new =
@@ -219,8 +226,13 @@ module _ (tells : Bool) (Opens : Shape → List ℕ → List ℕ → Type 0) (in
     base = ap (λ (x : State). x.base) begins;
     history = ap (λ (x : State). x.history) begins;
     dead = ap (λ (x : State). x.is_dead) begins ∙ sym (or_false s.is_dead);
-    own = λ _. ap (λ (f : ℕ → Option Granted). f t) live_is ∙ update_here s.live t (Some []);
-    others = λ other ne. ap (λ (f : ℕ → Option Granted). f other) live_is ∙ update_apart s.live t (Some []) other ne;
+    own = λ _. (ap (λ (f : ℕ → Option Granted). f t) live_is ∙ update_here s.live t (Some []), ap (λ (x : State). x.offers t) begins ∙ un);
+    others = λ other ne. inl (record {
+      live = ap (λ (f : ℕ → Option Granted). f other) live_is ∙ update_apart s.live t (Some []) other ne;
+      offer = ap (λ (x : State). x.offers other) begins;
+      mine = ap (λ (x : State). commits_of other x.history) begins;
+    });
+    closed = λ gate _. absurd (false≢true (sym gate ∙ ap is_unoffered un));
     refused = λ refusal _. absurd (false≢true refusal);
   }) (λ failed. absurd (false≢true failed)) (λ _. refl) step (λ told. stays p.store.moment p.store.left_since _) safe_new
 
@@ -237,7 +249,7 @@ pub is_absent_at : (limits : Limits) (s : State) (t : ℕ) (asked : TableCall) (
 is_absent_at limits s t asked call said = subst (λ (c : Call). StepAt limits None s t c NoTransaction s) said (absent_at limits s t asked)
 
 pub absent_steps : (tells : Bool) (Opens : Shape → List ℕ → List ℕ → Type 0) (index : below.Index) (p : PagesView) (s : State) → ShowsPages index p s → (count : ℕ) (rows : List NamedRows) → IsKept tells Opens index p count rows s
-    → IsAlive p.store → (t : ℕ) (call : Call) → s.live t ≡ None → StepAt (limits_of p.store.shape) None s t call NoTransaction s → (new : State) → new ≡ s
+    → IsAlive p.store → (t : ℕ) (call : Call) → s.live t ≡ None → s.offers t ≡ unoffered → StepAt (limits_of p.store.shape) None s t call NoTransaction s → (new : State) → new ≡ s
     → Steps tells t call (core_over Opens index p.store s) (core_over Opens index p.store new) NoTransaction
-absent_steps tells Opens index p s shows count rows kept alive t call none at new same = steps_same tells Opens index p s new t call NoTransaction same kept.safe refl refl refl (λ told.
-    step_of (limits_of p.store.shape) None s s t call NoTransaction (shows.dead ∙ alive) none at)
+absent_steps tells Opens index p s shows count rows kept alive t call none un at new same = steps_same tells Opens index p s new t call NoTransaction same kept.safe refl refl refl (λ told.
+    step_of (limits_of p.store.shape) None s s t call NoTransaction (shows.dead ∙ alive) none un at)

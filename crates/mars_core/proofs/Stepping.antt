@@ -1,10 +1,10 @@
 -- A step of the core, given what the records do.
 use Rattle.std.proofs.Common.{◌≡◌, ◌<◌, ◌⊎◌, ℕ, inl, inr, Bool, true, false, ◌||◌, nat_eq, List, [], ◌∷◌, ◌++◌, length, filter, IsTrue, Option, Some, None, unwrap_or, refl, sym, ap, subst, ◌∙◌}
-use Rattle.std.specs.Prelude.{IsFalse, is_some, if◌then◌else◌}
+use Rattle.std.specs.Prelude.{IsFalse, is_some}
 use Rattle.std.specs.FinMap.{get}
 use Rattle.std.specs.Map.{update}
 use Rattle.std.proofs.lemmas.Map.{update_here, update_apart}
-use Rattle.std.proofs.lemmas.Bool.{false≢true}
+use Rattle.std.proofs.lemmas.Bool.{false≢true, cond-false}
 use Rattle.std.proofs.lemmas.List.{length-map}
 use Rattle.mars_base.specs.Causes.{Rose}
 use Rattle.mars_base.proofs.Going.{stays, weaker}
@@ -20,7 +20,7 @@ use Rattle.history.specs.Groups.{AreWhole}
 use Rattle.history.specs.Legal.{records}
 use Rattle.history.specs.Log.{Log, log_of}
 use Rattle.history.specs.declared.call.Call.{Call}
-use Rattle.history.specs.declared.call.Call.TheVariants.{Begin, Get, Put, Del, Scan, Save, Back, Commit, Abort}
+use Rattle.history.specs.declared.call.Call.TheVariants.{Begin, Get, Put, Del, Scan, Save, Back, Commit, Abort, Offer, Settle}
 use Rattle.history.specs.declared.call.Reply.{Reply}
 use Rattle.history.specs.declared.call.Reply.TheVariants.{Fine}
 use Rattle.history.specs.declared.call.Reply.TheVariants as reply
@@ -29,10 +29,12 @@ use Rattle.record_table.specs.State.{seen_by}
 use Rattle.record_table.specs.Does.{OpensWith}
 use Rattle.record_table.specs.Shown.{state_of, pairs_of, keys_of, held_on, is_write_on}
 use Rattle.record_table.specs.Shown as shown
-use Rattle.caller_steps.specs.State.{State, Index, calls_of, records_of, view_of}
+use Rattle.caller_steps.specs.State as state
+use Rattle.caller_steps.specs.State.{State, Index, unoffered, calls_of, commits_of, records_of, view_of}
+use Rattle.caller_steps.specs.Offers.{is_unoffered}
 use Rattle.caller_steps.specs.Room.{Limits, HasEntry, IndexesAt, Indexes}
-use Rattle.caller_steps.specs.Step.{Asks, StepAt, StepIf, Step, most_saves}
-use Rattle.caller_steps.specs.Fate.{Moves, is_refusal, is_media, is_committed, history_after, live_with}
+use Rattle.caller_steps.specs.Step.{Asks, StepAt, StepBy, StepIf, Step, most_saves}
+use Rattle.caller_steps.specs.Fate.{Moves, is_refusal, is_media, is_committed, committed_by, live_with, offer_with}
 use Rattle.caller_steps.specs.Prefix.{HasPrefix, HasPrefixOf}
 use Rattle.caller_steps.specs.Core.{IsSafe, Steps}
 use Rattle.mars_core.specs.Over.{limits_of, index_of}
@@ -61,16 +63,17 @@ or_true true = refl
 or_true false = refl
 
 -- a refused call moves nothing
-pub moves_refused : (s new : State) (t : ℕ) (call : Call) (answer : Reply) → new.names ≡ s.names → new.base ≡ s.base → new.history ≡ s.history → new.live ≡ s.live → new.is_dead ≡ (s.is_dead || is_media answer)
-    → is_refusal answer ≡ true → is_committed answer ≡ false → Moves s t call answer new
-moves_refused s new t call answer names base history live dead refusal plain = record {
+pub moves_refused : (callers : ℕ) (s new : State) (t : ℕ) (call : Call) (answer : Reply) → new.names ≡ s.names → new.base ≡ s.base → new.history ≡ s.history → new.live ≡ s.live → new.offers ≡ s.offers → new.is_dead ≡ (s.is_dead || is_media answer)
+    → is_refusal answer ≡ true → is_committed answer ≡ false → Moves callers s t call answer new
+moves_refused callers s new t call answer names base history live offers dead refusal plain = record {
   names = names;
   base = base;
-  history = history ∙ sym (ap (λ (b : Bool). if b then history_after s t (reply.Committed 0) else s.history) plain);
+  history = history ∙ sym (cond-false (is_committed answer) (s.history ++ committed_by callers s t call) s.history plain);
   dead = dead;
   own = λ granted. absurd (false≢true (sym granted ∙ refusal));
-  others = λ other ne. ap (λ (f : ℕ → Option Granted). f other) live;
-  refused = λ _ _. live;
+  others = λ other ne. inl (record { live = ap (λ (f : ℕ → Option Granted). f other) live; offer = ap (λ (f : ℕ → state.Offer). f other) offers; mine = ap (commits_of other) history });
+  closed = λ gate granted. absurd (false≢true (sym granted ∙ refusal));
+  refused = λ _ _. (live, offers);
 }
 
 pub media_none : (r : Reply) → is_refusal r ≡ false → is_media r ≡ false
@@ -86,26 +89,43 @@ live_with_is calls Save answer of = refl
 live_with_is calls (Back n) answer of = refl
 live_with_is calls Commit answer of = absurd of
 live_with_is calls Abort answer of = absurd of
+live_with_is calls Offer answer of = absurd of
+live_with_is calls Settle answer of = absurd of
 live_with_is calls Begin answer of = absurd of
 
+-- it leaves no offer
+offer_with_is : (call : Call) → IsOfTable call → offer_with call ≡ unoffered
+offer_with_is Offer of = absurd of
+offer_with_is _ of = refl
+
 -- what a granted call moves
-pub moves_granted : (s new : State) (t : ℕ) (calls : Granted) (call : Call) (answer : Reply) → new.names ≡ s.names → new.base ≡ s.base → new.history ≡ s.history → new.is_dead ≡ s.is_dead
-    → s.live t ≡ Some calls → new.live ≡ update nat_eq s.live t (Some (calls ++ (call, answer) ∷ [])) → IsOfTable call → is_refusal answer ≡ false → is_committed answer ≡ false → Moves s t call answer new
-moves_granted s new t calls call answer names base history dead is live of granted plain = record {
+pub moves_granted : (callers : ℕ) (s new : State) (t : ℕ) (calls : Granted) (call : Call) (answer : Reply) → new.names ≡ s.names → new.base ≡ s.base → new.history ≡ s.history → new.is_dead ≡ s.is_dead
+    → new.offers ≡ s.offers → s.offers t ≡ unoffered
+    → s.live t ≡ Some calls → new.live ≡ update nat_eq s.live t (Some (calls ++ (call, answer) ∷ [])) → IsOfTable call → is_refusal answer ≡ false → is_committed answer ≡ false → Moves callers s t call answer new
+moves_granted callers s new t calls call answer names base history dead offers un is live of granted plain = record {
   names = names;
   base = base;
-  history = history ∙ sym (ap (λ (b : Bool). if b then history_after s t (reply.Committed 0) else s.history) plain);
+  history = history ∙ sym (cond-false (is_committed answer) (s.history ++ committed_by callers s t call) s.history plain);
   dead = dead ∙ sym (ap (λ (b : Bool). s.is_dead || b) (media_none answer granted) ∙ or_false s.is_dead);
-  own = λ _. ap (λ (f : ℕ → Option Granted). f t) live ∙ update_here s.live t (Some (calls ++ (call, answer) ∷ []))
-      ∙ sym (ap (λ (o : Option Granted). live_with (unwrap_or o []) call answer) is ∙ live_with_is calls call answer of);
-  others = λ other ne. ap (λ (f : ℕ → Option Granted). f other) live ∙ update_apart s.live t (Some (calls ++ (call, answer) ∷ [])) other ne;
+  own = λ _. (
+    ap (λ (f : ℕ → Option Granted). f t) live ∙ update_here s.live t (Some (calls ++ (call, answer) ∷ []))
+        ∙ sym (ap (λ (o : Option Granted). live_with (unwrap_or o []) call answer) is ∙ live_with_is calls call answer of),
+    ap (λ (f : ℕ → state.Offer). f t) offers ∙ un ∙ sym (offer_with_is call of),
+  );
+  others = λ other ne. inl (record {
+    live = ap (λ (f : ℕ → Option Granted). f other) live ∙ update_apart s.live t (Some (calls ++ (call, answer) ∷ [])) other ne;
+    offer = ap (λ (f : ℕ → state.Offer). f other) offers;
+    mine = ap (commits_of other) history;
+  });
+  closed = λ gate _. absurd (false≢true (sym gate ∙ ap is_unoffered un));
   refused = λ refusal _. absurd (false≢true (sym granted ∙ refusal));
 }
 
--- a step of a core that is not dead, by a caller with these calls
-pub step_of : (limits : Limits) (calls : Option Granted) (s new : State) (t : ℕ) (call : Call) (answer : Reply) → s.is_dead ≡ false → s.live t ≡ calls → StepAt limits calls s t call answer new → Step limits s t call answer new
-step_of limits calls s new t call answer alive is at =
-    subst (λ (b : Bool). StepIf limits b s t call answer new) (sym alive) (subst (λ (o : Option Granted). StepAt limits o s t call answer new) (sym is) at)
+-- a step of a core that is not dead, by a caller with these calls, which has offered nothing
+pub step_of : (limits : Limits) (calls : Option Granted) (s new : State) (t : ℕ) (call : Call) (answer : Reply) → s.is_dead ≡ false → s.live t ≡ calls → s.offers t ≡ unoffered → StepAt limits calls s t call answer new → Step limits s t call answer new
+step_of limits calls s new t call answer alive is un at =
+    subst (λ (b : Bool). StepIf limits b s t call answer new) (sym alive)
+    (subst (λ (o : state.Offer). StepBy limits o s t call answer new) (sym un) (subst (λ (o : Option Granted). StepAt limits o s t call answer new) (sym is) at))
 
 -- the caller sees the saves that its call needs
 abbrev pub SavesAt : State → ℕ → Call → Type 0
@@ -122,10 +142,12 @@ asks_at limits calls s new t Save answer of there saves asks = inr (saves, asks)
 asks_at limits calls s new t (Back n) answer of there saves asks = inr (saves, asks)
 asks_at limits calls s new t Commit answer of there saves asks = absurd of
 asks_at limits calls s new t Abort answer of there saves asks = absurd of
+asks_at limits calls s new t Offer answer of there saves asks = absurd of
+asks_at limits calls s new t Settle answer of there saves asks = absurd of
 asks_at limits calls s new t Begin answer of there saves asks = absurd of
 
 module _ (tells : Bool) (Opens : Shape → List ℕ → List ℕ → Type 0) (index : below.Index) where
-  pub steps_of : (p q : PagesView) (s new : State) (t : ℕ) (call : Call) (answer : Reply) → q.store.shape ≡ p.store.shape → Moves s t call answer new
+  pub steps_of : (p q : PagesView) (s new : State) (t : ℕ) (call : Call) (answer : Reply) → q.store.shape ≡ p.store.shape → Moves p.store.shape.numbers s t call answer new
       → (IsTrue (is_media answer) → Rose p.store.faults q.store.faults) → (IsFalse (is_media answer) → q.store.faults ≡ p.store.faults) → (IsTrue tells → Step (limits_of p.store.shape) s t call answer new)
       → (IsTrue tells → LeavesOnly (HasPrefixOf (OpensWith (Opens q.store.shape) index) new (length s.history)) p.store q.store)
       → (IsTrue tells → IsSafe (core_over Opens index q.store new) q.store.moment (length new.history)) → Steps tells t call (core_over Opens index p.store s) (core_over Opens index q.store new) answer
@@ -146,7 +168,7 @@ module _ (tells : Bool) (Opens : Shape → List ℕ → List ℕ → Type 0) (in
       → Steps tells t call (core_over Opens index p.store s) (core_over Opens index p.store new) answer
   steps_same p s new t call answer same safe refusal no_media plain step =
       subst (λ (x : State). Steps tells t call (core_over Opens index p.store s) (core_over Opens index p.store x) answer) (sym same)
-      (steps_of p p s s t call answer refl (moves_refused s s t call answer refl refl refl refl (sym (ap (λ (b : Bool). s.is_dead || b) no_media ∙ or_false s.is_dead)) refusal plain)
+      (steps_of p p s s t call answer refl (moves_refused p.store.shape.numbers s s t call answer refl refl refl refl refl (sym (ap (λ (b : Bool). s.is_dead || b) no_media ∙ or_false s.is_dead)) refusal plain)
       (λ failed. absurd (false≢true (sym no_media ∙ failed))) (λ _. refl) step (λ told. stays p.store.moment p.store.left_since _) safe)
 
   -- what a loss of power leaves within a call that does not change the table
@@ -182,6 +204,8 @@ module _ (index : below.Index) (table : ℕ) (p : PagesView) (s : State) (shows 
   saves_at (Scan name low high) saves = tt
   saves_at Commit saves = tt
   saves_at Abort saves = tt
+  saves_at Offer saves = tt
+  saves_at Settle saves = tt
   saves_at Begin saves = tt
 
   pub returns_at : (calls : Granted) → calls_of s t ≡ calls → (call : Call) → HasSaves (length ((state_of index p).logs t).saved) call → Returns (log_of calls).saved call
@@ -194,6 +218,8 @@ module _ (index : below.Index) (table : ℕ) (p : PagesView) (s : State) (shows 
   returns_at calls at Save saves = tt
   returns_at calls at Commit saves = tt
   returns_at calls at Abort saves = tt
+  returns_at calls at Offer saves = tt
+  returns_at calls at Settle saves = tt
   returns_at calls at Begin saves = tt
 
   -- if a call writes, it finds an entry
@@ -215,4 +241,6 @@ module _ (index : below.Index) (table : ℕ) (p : PagesView) (s : State) (shows 
   enters_at (Back n) answer ix of fits replies indexes = tt
   enters_at Commit answer ix of fits replies indexes = tt
   enters_at Abort answer ix of fits replies indexes = tt
+  enters_at Offer answer ix of fits replies indexes = tt
+  enters_at Settle answer ix of fits replies indexes = tt
   enters_at Begin answer ix of fits replies indexes = tt

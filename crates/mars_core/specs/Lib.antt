@@ -1,6 +1,7 @@
 pub mod Over
 pub mod Held
 pub mod Seats
+pub mod Doubt
 pub mod Masks
 pub mod Kept
 pub mod Attached

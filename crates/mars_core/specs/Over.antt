@@ -12,7 +12,7 @@ use Rattle.record_table.specs.State.{Keys}
 use Rattle.record_table.specs.Shown.{table_of, keys_of, logger_of_slot}
 use Rattle.record_table.specs.Upgrading.{upgraded, OpensUpgraded}
 use Rattle.caller_steps.specs.State as face
-use Rattle.caller_steps.specs.State.{opened, records_of}
+use Rattle.caller_steps.specs.State.{unoffered, opened, records_of}
 use Rattle.caller_steps.specs.Room.{Limits}
 use Rattle.caller_steps.specs.Core.{CoreView}
 use Rattle.eaw_face.specs.Mirroring.{Mirrors}
@@ -63,7 +63,7 @@ pub record Begins (tells : Bool) (Opens : List ℕ → List ℕ → Type 0) (ind
   pub faults : new.faults ≡ old.faults
   pub shape : new.shape ≡ old.shape
   pub state : IsTrue tells → core.state ≡ opened (names_of old.state.bytes) (table_of index old.state.bytes) (index_of index (upgraded old.state.bytes))
-  pub fresh : (core.state.history ≡ []) × ((caller : ℕ) → core.state.live caller ≡ None) × (core.state.doubt ≡ [])
+  pub fresh : (core.state.history ≡ []) × ((caller : ℕ) → core.state.live caller ≡ None) × (core.state.doubt ≡ []) × ((caller : ℕ) → core.state.offers caller ≡ unoffered)
   pub sound : IsTrue tells → index.sound old.state.bytes
   pub bytes : IsTrue tells → new.state.bytes ≡ upgraded old.state.bytes
   pub version : IsTrue tells → version_of new.state.bytes ≡ 2

@@ -4,7 +4,7 @@ use Rattle.record_slots.specs.Names.{number_of}
 use Rattle.history.specs.declared.call.Call.{Call}
 use Rattle.history.specs.declared.call.Call.TheVariants as call
 use Rattle.mars_core.specs.declared.table_call.Asked.{Asked}
-use Rattle.mars_core.specs.declared.table_call.Asked.TheVariants.{Begin, Commit, Abort, Table}
+use Rattle.mars_core.specs.declared.table_call.Asked.TheVariants.{Begin, Commit, Abort, Offer, Settle, Table}
 use Rattle.mars_core.specs.declared.table_call.TableCall.{TableCall}
 use Rattle.mars_core.specs.declared.table_call.TableCall.TheVariants.{Get, Put, Del, Scan, Save, Back}
 
@@ -22,6 +22,8 @@ abbrev pub asking : Asked → Call
 asking Begin = call.Begin
 asking Commit = call.Commit
 asking Abort = call.Abort
+asking Offer = call.Offer
+asking Settle = call.Settle
 asking (Table asked) = call_of asked
 
 -- the number of the table that a call asks for, if there is one of that name; 0 if it asks for none

@@ -112,7 +112,7 @@ pub fn answer<S: EawStore, K: KeyIndex>(
 ) -> (Live, Reply)
     requires said { call_of asked ≡ call.now }
     requires inside { caller < (S.view records.old.store).shape.numbers }
-    requires few { length seats.now.live ≤ 64 }
+    requires few { length seats.now.places ≤ 64 }
     requires named { KeepsNames S.tells (pages_of (S.view records.old.store) records.old) seats.now.names }
     requires masked { IsMasked seats.now.names live }
     requires locked { locks ≡ Held → IsTrue (has_table seats.now.names call.now) → IsFree (bare seats.now) caller call.now }

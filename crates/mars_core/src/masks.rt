@@ -46,6 +46,8 @@ impl Masks {
             Call::Back { save: _ } => Masks::none(),
             Call::Commit => Masks::none(),
             Call::Abort => Masks::none(),
+            Call::Offer => Masks::none(),
+            Call::Settle => Masks::none(),
         }
     }
 

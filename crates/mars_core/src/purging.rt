@@ -26,7 +26,7 @@ fn try_key<S: EawStore, K: KeyIndex>(
     key: u64,
 ) -> Result<bool, TableFault>
     requires inside { caller < (S.view records.old.store).shape.numbers }
-    requires few { length seats.now.live ≤ 64 }
+    requires few { length seats.now.places ≤ 64 }
     requires alive { IsAlive (S.view records.old.store) }
     requires idle { calls_at seats.now caller ≡ [] }
     requires unheld { listed ((S.view records.old.store).ranges caller) ≡ [] }
@@ -53,7 +53,7 @@ fn clear_table<S: EawStore, K: KeyIndex>(
     name: &Name,
 ) -> Result<u32, TableFault>
     requires inside { caller < (S.view records.old.store).shape.numbers }
-    requires few { length seats.now.live ≤ 64 }
+    requires few { length seats.now.places ≤ 64 }
     requires alive { IsAlive (S.view records.old.store) }
     requires idle { calls_at seats.now caller ≡ [] }
     requires unheld { listed ((S.view records.old.store).ranges caller) ≡ [] }
@@ -90,7 +90,7 @@ pub fn clear<S: EawStore, K: KeyIndex>(
     caller: u8,
 ) -> Result<u32, TableFault>
     requires inside { caller < (S.view records.old.store).shape.numbers }
-    requires few { length seats.now.live ≤ 64 }
+    requires few { length seats.now.places ≤ 64 }
     requires alive { IsAlive (S.view records.old.store) }
     requires idle { calls_at seats.now caller ≡ [] }
     requires unheld { listed ((S.view records.old.store).ranges caller) ≡ [] }

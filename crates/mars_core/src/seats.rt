@@ -1,25 +1,32 @@
-// The callers, each with its live transaction if it has one, and the names of the tables that they ask for.
-ghost use Rattle.std.specs.Prelude.{◌≡◌, ◌<◌, ◌≤◌, [], List, ℕ, Some, None, IfOk, IfSome, IfNone, is_some, length};
+// The callers, each with what it has, and the names of the tables that they ask for.
+ghost use Rattle.std.specs.Prelude.{◌≡◌, ◌+◌, ◌<◌, ◌≤◌, [], List, ℕ, Some, None, IfOk, IfSome, IfNone, is_some, not, ◌||◌, length, slice_set, vec_capacity};
+ghost use Rattle.array_shape.specs.NumberSet.{members};
 ghost use Rattle.caller_steps.specs.Locked.{IsFree, IsBusyWith};
+ghost use Rattle.caller_steps.specs.Offers.{is_offered, is_unoffered};
+ghost use Rattle.caller_steps.specs.State.{State, unoffered, offered, unsettled};
 ghost use Rattle.history.specs.Locks.{touched};
 ghost use Rattle.mars_core.specs.Masks.{AreMasksOf};
 ghost use Rattle.mars_core.specs.declared.locks.Locks.TheVariants.{Held};
-ghost use Rattle.mars_core.specs.Seats.{live_in, calls_at, calls_in, IsMasked, Seated, bare};
+ghost use Rattle.mars_core.specs.Seats.{live_of, live_in, offer_in, offers_in, offered_in, calls_at, calls_in, IsMasked, Seated, Given, IsOf, Ends, bare};
 ghost use Rattle.mars_core.specs.TableCall.{number_for};
 
 use crate::live::Live;
 use crate::locks::Locks;
 use crate::masks::Masks;
-use history::Call;
+use crate::offer::Offer;
+use crate::seat::{Ending, Seat};
+use array_shape::NumberSet;
+use history::{Call, Done};
 use mars_base::NoMemory;
 use record_slots::Names;
 use std::alloc::Global;
 use std::marker::Model;
+use std::mem::replace;
 
 #[derive(Drop)]
 pub struct Seats {
     names: Names,
-    live: Vec<Option<Live>>,
+    places: Vec<Seat>,
 }
 
 impl Model for Seats {
@@ -28,25 +35,26 @@ impl Model for Seats {
 
     ghost Value = { seats.Seats };
 
-    ghost view = { λ s. record { names = s.names; live = s.live.items } };
+    ghost view = { λ s. record { names = s.names; places = s.places.items } };
 
-    ghost invariant = { λ s. seats.AreMasked s.names s.live.items × (length s.names ≤ 8) };
+    ghost invariant = { λ s. seats.AreMasked s.names s.places.items × (length s.names ≤ 8) };
 }
 
 impl Seats {
-    /// `count` callers without a live transaction, beside tables of these names.
+    /// `count` callers without a transaction, beside tables of these names.
     pub fn new(alloc: Global, names: Names, count: u8) -> Result<Seats, NoMemory>
         ensures names { IfOk result (λ seats. seats.names ≡ names) }
-        ensures count { IfOk result (λ seats. length seats.live ≡ count) }
+        ensures count { IfOk result (λ seats. length seats.places ≡ count) }
         ensures none { IfOk result (λ seats. (caller : ℕ) → live_in seats caller ≡ None) }
+        ensures unoffered { IfOk result (λ seats. (caller : ℕ) → offers_in seats caller ≡ unoffered) }
     {
         // There are at most eight names.
         let _few = names.count();
-        let mut live = Vec::with_capacity(alloc, usize::from(count))?;
+        let mut places = Vec::with_capacity(alloc, usize::from(count))?;
         for _caller in 0..count {
-            live.push(None)?;
+            places.push(Seat::Free)?;
         }
-        Ok(Seats { names, live })
+        Ok(Seats { names, places })
     }
 
     /// The names of the tables, by their numbers.
@@ -71,66 +79,183 @@ impl Seats {
     }
 
     pub fn is_live(&self, caller: u8) -> bool
-        requires { caller < length self.now.live }
+        requires { caller < length self.now.places }
         ensures { result ≡ is_some (live_in self.now caller) }
     {
-        self.live[usize::from(caller)].is_some()
+        match &self.places[usize::from(caller)] {
+            Seat::Live(_) | Seat::Offered(_) => true,
+            Seat::Free | Seat::Committed { .. } => false,
+        }
+    }
+
+    /// What the caller has offered and not settled.
+    pub fn offer(&self, caller: u8) -> Offer
+        requires { caller < length self.now.places }
+        ensures { offer_in result ≡ offers_in self.now caller }
+    {
+        match &self.places[usize::from(caller)] {
+            Seat::Free | Seat::Live(_) => Offer::Nothing,
+            Seat::Offered(_) => Offer::Offered,
+            Seat::Committed { at } => Offer::Committed { at: *at },
+        }
+    }
+
+    fn is_offered(&self, caller: u8) -> bool
+        requires { caller < length self.now.places }
+        ensures { result ≡ is_offered (offers_in self.now caller) }
+    {
+        self.offer(caller) == Offer::Offered
+    }
+
+    /// Whether the caller has a transaction that is live, or one that it has not settled.
+    pub fn is_engaged(&self, caller: u8) -> bool
+        requires { caller < length self.now.places }
+        ensures { result ≡ (is_some (live_in self.now caller) || not (is_unoffered (offers_in self.now caller))) }
+    {
+        match self.offer(caller) {
+            Offer::Nothing => self.is_live(caller),
+            _ => true,
+        }
     }
 
     /// The stripes that the caller's live transaction touched.
     pub fn touched(&self, caller: u8) -> Masks
-        requires { caller < length self.now.live }
+        requires { caller < length self.now.places }
         ensures { AreMasksOf (touched self.now.names (calls_at self.now caller)) result }
     {
-        match &self.live[usize::from(caller)] {
-            Some(live) => live.masks,
-            None => Masks::none(),
+        match &self.places[usize::from(caller)] {
+            Seat::Live(live) | Seat::Offered(live) => live.masks,
+            Seat::Free | Seat::Committed { .. } => Masks::none(),
         }
     }
 
     /// Begins a transaction. It takes no memory.
     pub fn begin(&mut self, alloc: Global, caller: u8)
-        requires { caller < length self.old.live }
+        requires inside { caller < length self.old.places }
+        requires unoffered { offers_in self.old caller ≡ unoffered }
         ensures { Seated self.old caller (Some []) self.new }
     {
-        self.live[usize::from(caller)] = Some(Live::new(alloc));
+        self.places[usize::from(caller)] = Seat::Live(Live::new(alloc));
     }
 
     /// Removes and returns the caller's live transaction.
     pub fn take(&mut self, caller: u8) -> Option<Live>
-        requires { caller < length self.old.live }
+        requires inside { caller < length self.old.places }
+        requires unoffered { offers_in self.old caller ≡ unoffered }
         ensures live { calls_in result ≡ live_in self.old caller }
         ensures masked { IfSome result (IsMasked self.old.names) }
         ensures out { Seated self.old caller None self.new }
     {
-        self.live[usize::from(caller)].take()
+        match replace(&mut self.places[usize::from(caller)], Seat::Free) {
+            Seat::Live(live) => Some(live),
+            _ => None,
+        }
     }
 
     /// Ends the caller's live transaction.
     pub fn end(&mut self, caller: u8)
-        requires { caller < length self.old.live }
+        requires inside { caller < length self.old.places }
+        requires unoffered { offers_in self.old caller ≡ unoffered }
         ensures { Seated self.old caller None self.new }
     {
-        self.live[usize::from(caller)] = None;
+        self.places[usize::from(caller)] = Seat::Free;
     }
 
     /// Makes this the caller's live transaction.
     pub fn put(&mut self, caller: u8, live: Live)
-        requires inside { caller < length self.old.live }
+        requires inside { caller < length self.old.places }
+        requires unoffered { offers_in self.old caller ≡ unoffered }
         requires masked { IsMasked self.old.names live }
         ensures { Seated self.old caller (Some live.calls) self.new }
     {
-        self.live[usize::from(caller)] = Some(live);
+        self.places[usize::from(caller)] = Seat::Live(live);
+    }
+
+    /// Makes this the caller's live transaction, which it has offered.
+    pub fn put_offered(&mut self, caller: u8, live: Live)
+        requires inside { caller < length self.old.places }
+        requires masked { IsMasked self.old.names live }
+        ensures { Given self.old caller (Some live.calls) offered self.new }
+    {
+        self.places[usize::from(caller)] = Seat::Offered(live);
+    }
+
+    /// Frees the seat of a caller whose transaction a group has committed, and returns its number.
+    pub fn settle(&mut self, caller: u8) -> u64
+        requires inside { caller < length self.old.places }
+        requires committed { (n : ℕ) × (offers_in self.old caller ≡ unsettled n) }
+        ensures number { offers_in self.old caller ≡ unsettled result }
+        ensures free { Given self.old caller None unoffered self.new }
+    {
+        match replace(&mut self.places[usize::from(caller)], Seat::Free) {
+            Seat::Committed { at } => at,
+            _ => unreachable!(),
+        }
+    }
+
+    /// The callers that have offered a transaction which no group has committed, and how many they are.
+    pub fn offered(&self) -> (NumberSet, usize)
+        requires { length self.now.places ≤ 64 }
+        ensures callers { members result.0 ≡ offered_in self.now }
+        ensures count { result.1 ≡ length (offered_in self.now) }
+    {
+        let mut callers = NumberSet::empty();
+        let mut count = 0;
+        for caller in 0..self.places.len() as u8 {
+            if self.is_offered(caller) {
+                callers = callers.with(caller);
+                count += 1;
+            }
+        }
+        (callers, count)
+    }
+
+    // Removes and returns the transaction that the caller has offered, and leaves this in its place.
+    fn take_offer(&mut self, caller: u8, seat: Seat) -> Live
+        requires inside { caller < length self.old.places }
+        requires offered { offers_in self.old caller ≡ offered }
+        requires ended { live_of seat ≡ None }
+        ensures live { live_in self.old caller ≡ Some result.calls }
+        ensures after { self.new ≡ record self.old { places = slice_set self.old.places caller seat } }
+    {
+        match replace(&mut self.places[usize::from(caller)], seat) {
+            Seat::Offered(live) => live,
+            _ => unreachable!(),
+        }
+    }
+
+    /// Ends all transactions that were offered, as one group, and puts them behind those of a list that has room for them, by rising caller.
+    /// `before` transactions were committed before it, and `last` is the number of the group's last one.
+    pub fn take_offered(&mut self, ending: Ending, before: u64, last: u64, into: &mut Vec<Done>)
+        requires few { length self.old.places ≤ 64 }
+        requires last { before + length (offered_in self.old) ≡ last }
+        requires room { length into.old.items + length (offered_in self.old) ≤ vec_capacity into.old }
+        ensures { (state : State) → IsOf self.old before state → Ends ending last state (offered_in self.old) self.old into.old.items into.new.items self.new }
+    {
+        let mut at = before;
+        for caller in 0..self.places.len() as u8 {
+            if self.is_offered(caller) {
+                at += 1;
+                let live = self.take_offer(caller, ending.seat(at));
+                let calls = live.calls.fitted();
+                into.push_reserved(Done {
+                    caller,
+                    calls,
+                    at,
+                    last,
+                });
+            }
+        }
     }
 
     /// The lowest other caller whose live transaction has touched a stripe of the call, where one of the two touches is for writing.
     pub fn holder(&self, caller: u8, call: &Call) -> Option<u8>
-        requires { length self.now.live ≤ 64 }
+        requires { length self.now.places ≤ 64 }
         ensures busy { IfSome result (IsBusyWith (bare self.now) caller call.now) }
         ensures free { IfNone result (IsFree (bare self.now) caller call.now) }
     {
         let masks = Masks::touched_by(&self.names, call);
-        for other in 0..self.live.len() as u8 {
+        for other in 0..self.places.len() as u8 {
             if other != caller && masks.clash(self.touched(other)) {
                 return Some(other);
             }
@@ -140,7 +265,7 @@ impl Seats {
 
     /// The same where it is not known that there is none.
     pub fn holder_if(&self, locks: Locks, caller: u8, call: &Call) -> Option<u8>
-        requires few { length self.now.live ≤ 64 }
+        requires few { length self.now.places ≤ 64 }
         requires locked { locks ≡ Held → IsFree (bare self.now) caller call.now }
         ensures busy { IfSome result (IsBusyWith (bare self.now) caller call.now) }
         ensures free { IfNone result (IsFree (bare self.now) caller call.now) }

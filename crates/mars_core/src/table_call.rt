@@ -38,6 +38,8 @@ pub enum Asked<'a> {
     Begin,
     Commit,
     Abort,
+    Offer,
+    Settle,
     Table(TableCall<'a>),
 }
 
@@ -49,6 +51,8 @@ impl<'a> Asked<'a> {
             Call::Begin => Asked::Begin,
             Call::Commit => Asked::Commit,
             Call::Abort => Asked::Abort,
+            Call::Offer => Asked::Offer,
+            Call::Settle => Asked::Settle,
             Call::Get { table, key } => Asked::Table(TableCall::Get { table, key: *key }),
             Call::Put { table, key, value } => Asked::Table(TableCall::Put {
                 table,

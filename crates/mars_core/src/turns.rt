@@ -1,19 +1,21 @@
 // Callers by turns over records.
-ghost use Rattle.std.specs.Prelude.{◌≡◌, ◌<◌, ◌≤◌, ◌⊎◌, [], ℕ, None, Ok, IfOk, IfErr, IsTrue, IsFalse, is_some, length, slice_index_or};
+ghost use Rattle.std.specs.Prelude.{◌≡◌, ◌+◌, ◌<◌, ◌≤◌, ◌⊎◌, [], ℕ, None, Ok, IfOk, IfErr, OnErr, IsTrue, IsFalse, is_some, length, slice_index_or, vec_capacity};
 ghost use Rattle.std.specs.FinMap.{entries};
 ghost use Rattle.history.specs.Rows.{records_in};
 ghost use Rattle.eaw_face.specs.Causes.{IsAlive};
 ghost use Rattle.eaw_face.specs.Mirroring.{Mirrors, GivesUp};
 ghost use Rattle.page_store.specs.Shown.{pages_of};
 ghost use Rattle.history.specs.Locks.{touched, has_table};
-ghost use Rattle.history.specs.declared.call.Call.TheVariants.{Begin, Commit, Abort};
+ghost use Rattle.history.specs.declared.call.Call.TheVariants as call;
+ghost use Rattle.history.specs.declared.call.Call.TheVariants.{Begin, Commit, Abort, Settle};
 ghost use Rattle.history.specs.declared.locks.Mode.TheVariants.{Shared, Exclusive};
 ghost use Rattle.history.specs.declared.call.Reply.TheVariants.{Dead};
-ghost use Rattle.caller_steps.specs.Core.{Steps};
+ghost use Rattle.caller_steps.specs.Core.{IsSafe, Steps};
 ghost use Rattle.caller_steps.specs.Fate.{is_busy, is_refusal};
 ghost use Rattle.caller_steps.specs.Purging.{Purges};
 ghost use Rattle.caller_steps.specs.Locked.{IsLocked};
-ghost use Rattle.caller_steps.specs.State.{calls_of};
+ghost use Rattle.caller_steps.specs.Offers.{takes_calls};
+ghost use Rattle.caller_steps.specs.State.{unoffered, offered, unsettled, calls_of};
 ghost use Rattle.record_slots.specs.Places.{version_of};
 ghost use Rattle.record_table.specs.Names.{KeepsNames};
 ghost use Rattle.record_table.specs.Shown.{state_of};
@@ -24,7 +26,7 @@ ghost use Rattle.mars_core.specs.Held.{core_of};
 ghost use Rattle.mars_core.specs.Masks.{IsMaskOf};
 ghost use Rattle.mars_core.specs.Over.{Begins, IsOver};
 ghost use Rattle.mars_core.specs.Purging.{Keeps};
-ghost use Rattle.mars_core.specs.Seats.{live_in};
+ghost use Rattle.mars_core.specs.Seats.{live_in, offers_in};
 ghost use Rattle.mars_core.specs.TableCall.{call_of};
 ghost use Rattle.mars_core.specs.Works.{IsShown};
 
@@ -33,7 +35,9 @@ use crate::doubt::Doubt;
 use crate::fault::CoreFault;
 use crate::live::Live;
 use crate::locks::Locks;
+use crate::offer::Offer;
 use crate::purging::{clear, stopped};
+use crate::seat::Ending;
 use crate::seats::Seats;
 use crate::table_call::{Asked, TableCall};
 use caller_steps::{Core as Steps, PurgeFault};
@@ -45,6 +49,7 @@ use record_slots::{Name, Names};
 use record_table::Records;
 use std::alloc::Global;
 use std::marker::Model;
+use std::mem::replace;
 
 /// Callers that take turns on records over a store, under an index. Each call locks the stripe of its key in its table (of 64), and a scan all
 /// stripes, until the transaction ends: a get and a scan beside other readers, a put and a removal alone.
@@ -69,7 +74,7 @@ impl<S: EawStore, K: KeyIndex> Model for Core<S, K> {
 
     ghost view = { λ c. record { records = c.records; base = c.base; seats = c.seats; history = c.history; doubt = c.doubt } };
 
-    ghost invariant = { λ c. IsKept S.tells S.opens K.index (pages_of (S.view c.records.store) c.records) (length c.seats.live) c.base
+    ghost invariant = { λ c. IsKept S.tells S.opens K.index (pages_of (S.view c.records.store) c.records) (length c.seats.places) c.base
         (state_over K.index (S.view c.records.store) (record { records = c.records; base = c.base; seats = c.seats; history = c.history; doubt = c.doubt })) };
 }
 
@@ -99,10 +104,9 @@ impl<S: EawStore, K: KeyIndex> Core<S, K> {
         &self.base
     }
 
-    /// The transactions whose commit met a fault of the medium: at most one.
+    /// The transactions whose commit met a fault of the medium: one that was committed alone, or a group.
     pub fn doubt(&self) -> &[Done]
-        ensures all { result.now ≡ self.now.doubt }
-        ensures few { length result.now ≤ 1 }
+        ensures { result.now ≡ self.now.doubt }
     {
         self.doubt.as_slice()
     }
@@ -171,7 +175,7 @@ impl<S: EawStore, K: KeyIndex> Core<S, K> {
 
     /// Takes keys without records out of the index, so that their slots are given again: each key whose stripe no live transaction touches
     /// is tried once, by rising table and key. Returns how many were taken out. A key stays whose pair its page keeps as the last one. What
-    /// callers see stays as it is. It is refused with `Dead`, then with `Already` if the caller has a live transaction. A fault of the medium
+    /// callers see stays as it is. It is refused with `Dead`, then with `Already` if the caller has a transaction, live or unsettled. A fault of the medium
     /// stops it, and so does a damaged page, which only a core that does not tell its records meets.
     #[tactic(auto, using(crate::proofs::GivingUp::sends_none))]
     pub fn purge(&mut self, caller: u8) -> Result<u32, PurgeFault>
@@ -184,7 +188,7 @@ impl<S: EawStore, K: KeyIndex> Core<S, K> {
         if self.records.is_dead() {
             return Err(PurgeFault::Dead);
         }
-        if self.seats.is_live(caller) {
+        if self.seats.is_engaged(caller) {
             return Err(PurgeFault::Already);
         }
         match clear(&mut self.records, &self.seats, caller) {
@@ -197,6 +201,7 @@ impl<S: EawStore, K: KeyIndex> Core<S, K> {
     fn begin(&mut self, caller: u8) -> Reply
         requires inside { caller < (S.view self.old.records.store).shape.numbers }
         requires alive { IsAlive (S.view self.old.records.store) }
+        requires unoffered { offers_in self.old.seats caller ≡ unoffered }
         ensures steps { Steps S.tells caller Begin (core_of S.opens K.index (S.view self.old.records.store) self.old)
             (core_of S.opens K.index (S.view self.new.records.store) self.new) result }
         ensures sends { Mirrors S.tells (S.view self.old.records.store) (S.view self.new.records.store) }
@@ -215,13 +220,14 @@ impl<S: EawStore, K: KeyIndex> Core<S, K> {
         requires said { call_of asked ≡ call.now }
         requires inside { caller < (S.view self.old.records.store).shape.numbers }
         requires alive { IsAlive (S.view self.old.records.store) }
+        requires unoffered { offers_in self.old.seats caller ≡ unoffered }
         requires shown { IsShown S.tells K.index (pages_of (S.view self.old.records.store) self.old.records) }
         requires locked { locks ≡ Held → IsLocked (core_of S.opens K.index (S.view self.old.records.store) self.old).state caller call.now }
         ensures steps { Steps S.tells caller call.now (core_of S.opens K.index (S.view self.old.records.store) self.old)
             (core_of S.opens K.index (S.view self.new.records.store) self.new) result }
         ensures sends { Mirrors S.tells (S.view self.old.records.store) (S.view self.new.records.store) }
         ensures not_busy { locks ≡ Held → IsFalse (is_busy result) }
-        ensures begun { IsFalse (is_refusal result) → IsTrue (is_some ((core_of S.opens K.index (S.view self.old.records.store) self.old).state.live caller)) }
+        ensures begun { IsFalse (is_refusal result) → IsTrue (takes_calls (core_of S.opens K.index (S.view self.old.records.store) self.old).state caller) }
         ensures tabled { IsFalse (is_refusal result) → IsTrue (has_table self.old.seats.names call.now) }
     {
         let Some(live) = self.seats.take(caller) else {
@@ -245,11 +251,12 @@ impl<S: EawStore, K: KeyIndex> Core<S, K> {
     fn commit(&mut self, caller: u8) -> Reply
         requires inside { caller < (S.view self.old.records.store).shape.numbers }
         requires alive { IsAlive (S.view self.old.records.store) }
+        requires unoffered { offers_in self.old.seats caller ≡ unoffered }
         ensures steps { Steps S.tells caller Commit (core_of S.opens K.index (S.view self.old.records.store) self.old)
             (core_of S.opens K.index (S.view self.new.records.store) self.new) result }
         ensures sends { Mirrors S.tells (S.view self.old.records.store) (S.view self.new.records.store) }
         ensures not_busy { IsFalse (is_busy result) }
-        ensures begun { IsFalse (is_refusal result) → IsTrue (is_some ((core_of S.opens K.index (S.view self.old.records.store) self.old).state.live caller)) }
+        ensures begun { IsFalse (is_refusal result) → IsTrue (takes_calls (core_of S.opens K.index (S.view self.old.records.store) self.old).state caller) }
     {
         let at = self.history.as_slice().len() as u64 + 1;
         let Some(live) = self.seats.take(caller) else {
@@ -284,11 +291,12 @@ impl<S: EawStore, K: KeyIndex> Core<S, K> {
     fn abort(&mut self, caller: u8) -> Reply
         requires inside { caller < (S.view self.old.records.store).shape.numbers }
         requires alive { IsAlive (S.view self.old.records.store) }
+        requires unoffered { offers_in self.old.seats caller ≡ unoffered }
         ensures steps { Steps S.tells caller Abort (core_of S.opens K.index (S.view self.old.records.store) self.old)
             (core_of S.opens K.index (S.view self.new.records.store) self.new) result }
         ensures sends { Mirrors S.tells (S.view self.old.records.store) (S.view self.new.records.store) }
         ensures not_busy { IsFalse (is_busy result) }
-        ensures begun { IsFalse (is_refusal result) → IsTrue (is_some ((core_of S.opens K.index (S.view self.old.records.store) self.old).state.live caller)) }
+        ensures begun { IsFalse (is_refusal result) → IsTrue (takes_calls (core_of S.opens K.index (S.view self.old.records.store) self.old).state caller) }
     {
         if !self.seats.is_live(caller) {
             return Reply::NoTransaction;
@@ -302,6 +310,126 @@ impl<S: EawStore, K: KeyIndex> Core<S, K> {
         }
     }
 
+    // A caller offers its live transaction, which then takes no more calls.
+    #[tactic(auto, using(crate::proofs::GivingUp::sends_none))]
+    fn offer(&mut self, caller: u8) -> Reply
+        requires inside { caller < (S.view self.old.records.store).shape.numbers }
+        requires alive { IsAlive (S.view self.old.records.store) }
+        requires unoffered { offers_in self.old.seats caller ≡ unoffered }
+        ensures steps { Steps S.tells caller call.Offer (core_of S.opens K.index (S.view self.old.records.store) self.old)
+            (core_of S.opens K.index (S.view self.new.records.store) self.new) result }
+        ensures sends { Mirrors S.tells (S.view self.old.records.store) (S.view self.new.records.store) }
+        ensures not_busy { IsFalse (is_busy result) }
+        ensures begun { IsFalse (is_refusal result) → IsTrue (takes_calls (core_of S.opens K.index (S.view self.old.records.store) self.old).state caller) }
+    {
+        let Some(live) = self.seats.take(caller) else {
+            return Reply::NoTransaction;
+        };
+        self.seats.put_offered(caller, live);
+        Reply::Fine
+    }
+
+    // Answers a caller that has offered nothing.
+    #[tactic(auto, using(crate::proofs::GivingUp::sends_none))]
+    fn make_open(&mut self, caller: u8, call: &Call, locks: Locks) -> Reply
+        requires inside { caller < (S.view self.old.records.store).shape.numbers }
+        requires alive { IsAlive (S.view self.old.records.store) }
+        requires shown { IsShown S.tells K.index (pages_of (S.view self.old.records.store) self.old.records) }
+        requires unoffered { offers_in self.old.seats caller ≡ unoffered }
+        requires safe { IsTrue S.tells → IsSafe (core_of S.opens K.index (S.view self.old.records.store) self.old) (S.view self.old.records.store).moment (length self.old.history) }
+        requires locked { locks ≡ Held → IsLocked (core_of S.opens K.index (S.view self.old.records.store) self.old).state caller call.now }
+        ensures steps { Steps S.tells caller call.now (core_of S.opens K.index (S.view self.old.records.store) self.old)
+            (core_of S.opens K.index (S.view self.new.records.store) self.new) result }
+        ensures sends { Mirrors S.tells (S.view self.old.records.store) (S.view self.new.records.store) }
+        ensures not_busy { locks ≡ Held → IsFalse (is_busy result) }
+        ensures begun { IsFalse (is_refusal result) → IsTrue (takes_calls (core_of S.opens K.index (S.view self.old.records.store) self.old).state caller) ⊎ (call.now ≡ Begin) }
+        ensures tabled { IsFalse (is_refusal result) → IsTrue (has_table self.old.seats.names call.now) }
+    {
+        match Asked::of(call) {
+            Asked::Begin => self.begin(caller),
+            Asked::Commit => self.commit(caller),
+            Asked::Abort => self.abort(caller),
+            Asked::Offer => self.offer(caller),
+            Asked::Settle => Reply::NoTransaction,
+            Asked::Table(asked) => self.ask(caller, call, asked, locks),
+        }
+    }
+
+    // Commits all that callers have offered as one group, and ends the caller's own.
+    #[tactic(auto, using(crate::proofs::GivingUp::sends_none))]
+    fn settle(&mut self, caller: u8) -> Reply
+        requires inside { caller < (S.view self.old.records.store).shape.numbers }
+        requires alive { IsAlive (S.view self.old.records.store) }
+        requires offered { offers_in self.old.seats caller ≡ offered }
+        ensures steps { Steps S.tells caller Settle (core_of S.opens K.index (S.view self.old.records.store) self.old)
+            (core_of S.opens K.index (S.view self.new.records.store) self.new) result }
+        ensures sends { Mirrors S.tells (S.view self.old.records.store) (S.view self.new.records.store) }
+        ensures not_busy { IsFalse (is_busy result) }
+    {
+        let (callers, count) = self.seats.offered();
+        // There is room for the group before its commit, so that nothing is committed that there is no memory to keep.
+        let Ok((mut history, mut doubt)) = rooms(self.alloc, &mut self.history, count) else {
+            return Reply::NoMemory;
+        };
+        let before = history.len() as u64;
+        let last = before + count as u64;
+        match self.records.commit_group(callers) {
+            Ok(()) => {
+                self.seats
+                    .take_offered(Ending::Committed, before, last, &mut history);
+                self.history = History::from(history);
+                Reply::Committed(self.seats.settle(caller))
+            }
+            Err(fault) => {
+                self.seats
+                    .take_offered(Ending::Doubtful, before, last, &mut doubt);
+                self.history = History::from(history);
+                self.doubt = Doubt::holding_group(doubt);
+                Reply::from(fault)
+            }
+        }
+    }
+
+    // Answers a caller that has offered its transaction: it settles, or is refused.
+    #[tactic(auto, using(crate::proofs::GivingUp::sends_none))]
+    fn make_offered(&mut self, caller: u8, call: &Call) -> Reply
+        requires inside { caller < (S.view self.old.records.store).shape.numbers }
+        requires alive { IsAlive (S.view self.old.records.store) }
+        requires offered { offers_in self.old.seats caller ≡ offered }
+        requires safe { IsTrue S.tells → IsSafe (core_of S.opens K.index (S.view self.old.records.store) self.old) (S.view self.old.records.store).moment (length self.old.history) }
+        ensures steps { Steps S.tells caller call.now (core_of S.opens K.index (S.view self.old.records.store) self.old)
+            (core_of S.opens K.index (S.view self.new.records.store) self.new) result }
+        ensures sends { Mirrors S.tells (S.view self.old.records.store) (S.view self.new.records.store) }
+        ensures not_busy { IsFalse (is_busy result) }
+        ensures settles { IsFalse (is_refusal result) → call.now ≡ Settle }
+    {
+        match call {
+            Call::Begin => Reply::Already,
+            Call::Settle => self.settle(caller),
+            _ => Reply::NoTransaction,
+        }
+    }
+
+    // Answers a caller whose offered transaction a group has committed: it is told its number, or is refused.
+    #[tactic(auto, using(crate::proofs::GivingUp::sends_none))]
+    fn make_committed(&mut self, caller: u8, call: &Call) -> Reply
+        requires inside { caller < (S.view self.old.records.store).shape.numbers }
+        requires alive { IsAlive (S.view self.old.records.store) }
+        requires committed { (n : ℕ) × (offers_in self.old.seats caller ≡ unsettled n) }
+        requires safe { IsTrue S.tells → IsSafe (core_of S.opens K.index (S.view self.old.records.store) self.old) (S.view self.old.records.store).moment (length self.old.history) }
+        ensures steps { Steps S.tells caller call.now (core_of S.opens K.index (S.view self.old.records.store) self.old)
+            (core_of S.opens K.index (S.view self.new.records.store) self.new) result }
+        ensures sends { Mirrors S.tells (S.view self.old.records.store) (S.view self.new.records.store) }
+        ensures not_busy { IsFalse (is_busy result) }
+        ensures settles { IsFalse (is_refusal result) → call.now ≡ Settle }
+    {
+        match call {
+            Call::Begin => Reply::Already,
+            Call::Settle => Reply::Committed(self.seats.settle(caller)),
+            _ => Reply::NoTransaction,
+        }
+    }
+
     #[tactic(auto, using(crate::proofs::GivingUp::sends_none))]
     fn make(&mut self, caller: u8, call: &Call, locks: Locks) -> Reply
         requires inside { caller < (S.view self.old.records.store).shape.numbers }
@@ -311,17 +439,16 @@ impl<S: EawStore, K: KeyIndex> Core<S, K> {
         ensures sends { Mirrors S.tells (S.view self.old.records.store) (S.view self.new.records.store) }
         ensures dead { IsTrue (S.view self.old.records.store).is_dead → (result ≡ Dead) × (self.new ≡ self.old) }
         ensures not_busy { locks ≡ Held → IsFalse (is_busy result) }
-        ensures begun { IsFalse (is_refusal result) → IsTrue (is_some ((core_of S.opens K.index (S.view self.old.records.store) self.old).state.live caller)) ⊎ (call.now ≡ Begin) }
+        ensures begun { IsFalse (is_refusal result) → IsTrue (takes_calls (core_of S.opens K.index (S.view self.old.records.store) self.old).state caller) ⊎ ((call.now ≡ Begin) ⊎ (call.now ≡ Settle)) }
         ensures tabled { IsFalse (is_refusal result) → IsTrue (has_table self.old.seats.names call.now) }
     {
         if self.records.is_dead() {
             return Reply::Dead;
         }
-        match Asked::of(call) {
-            Asked::Begin => self.begin(caller),
-            Asked::Commit => self.commit(caller),
-            Asked::Abort => self.abort(caller),
-            Asked::Table(asked) => self.ask(caller, call, asked, locks),
+        match self.seats.offer(caller) {
+            Offer::Nothing => self.make_open(caller, call, locks),
+            Offer::Offered => self.make_offered(caller, call),
+            Offer::Committed { .. } => self.make_committed(caller, call),
         }
     }
 }
@@ -354,6 +481,29 @@ impl<S: EawStore, K: KeyIndex> Steps for Core<S, K> {
 
     fn history(&self) -> &History {
         &self.history
+    }
+}
+
+// The history in a vector, and an empty one, each with room for so many more. Without memory the history stays.
+fn rooms(
+    alloc: Global,
+    history: &mut History,
+    more: usize,
+) -> Result<(Vec<Done>, Vec<Done>), NoMemory>
+    ensures items { IfOk result (λ made. made.0.items ≡ history.old) }
+    ensures room { IfOk result (λ made. length made.0.items + more ≤ vec_capacity made.0) }
+    ensures empty { IfOk result (λ made. made.1.items ≡ []) }
+    ensures second_room { IfOk result (λ made. more ≤ vec_capacity made.1) }
+    ensures err { OnErr result (history.new ≡ history.old) }
+{
+    let empty = Vec::with_capacity(alloc, more)?;
+    let mut items = replace(history, History::new(alloc)).into_items();
+    match items.reserve(more) {
+        Ok(()) => Ok((items, empty)),
+        Err(_) => {
+            *history = History::from(items);
+            Err(NoMemory)
+        }
     }
 }
 

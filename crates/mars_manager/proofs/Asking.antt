@@ -8,7 +8,7 @@ use mathlib.Core.List.{append-nil}
 use Rattle.std.proofs.lemmas.List.Elements.{Contains-append_left, Contains-append_right, Contains-append_cases}
 use Rattle.history.specs.Locks.{has_table, touches, key_stripe, stripe_of}
 use Rattle.history.specs.declared.call.Call.{Call}
-use Rattle.history.specs.declared.call.Call.TheVariants.{Begin, Get, Put, Del, Scan, Save, Back, Commit, Abort}
+use Rattle.history.specs.declared.call.Call.TheVariants.{Begin, Get, Put, Del, Scan, Save, Back, Commit, Abort, Offer, Settle}
 use Rattle.std.proofs.lemmas.Bool.{lt-ltb, eq-eqb, and_from}
 use Rattle.history.specs.declared.locks.Mode.{Mode}
 use Rattle.history.specs.declared.locks.Mode.TheVariants as mode
@@ -64,6 +64,8 @@ locks_none names Save t m none = refl
 locks_none names (Back save) t m none = refl
 locks_none names Commit t m none = refl
 locks_none names Abort t m none = refl
+locks_none names Offer t m none = refl
+locks_none names Settle t m none = refl
 
 -- one of a table that is there locks the stripe of its key
 pub locks_key : (names : List (List ℕ)) (name : List ℕ) (key table : ℕ) → number_of names name ≡ Some table → (t : ℕ) → (is_some (number_of names name) && nat_eq (key_stripe names (of_table name key)) t) ≡ nat_eq (stripe_of table key) t

@@ -1,34 +1,37 @@
 -- What a whole turn guarantees, given what its steps guarantee and what the core's step does.
-use Rattle.std.proofs.Common.{◌≡◌, ◌⊎◌, inl, inr, ⊎_elim, ℕ, ◌+◌, List, Bool, true, false, [], ◌∷◌, ◌++◌, length, Option, Some, None, refl, sym, ap, ◌∙◌, subst, arith, map, length-append, append_assoc}
-use Rattle.std.specs.Prelude.{IsTrue, IsFalse, is_some, MatchBool, unwrap_or}
-use Rattle.std.proofs.lemmas.Bool.{true≢false, cond-true, cond-false}
+use Rattle.std.proofs.Common.{◌≡◌, ◌≢◌, ◌<◌, ◌⊎◌, inl, inr, ⊎_elim, ℕ, List, Bool, true, false, [], ◌∷◌, ◌++◌, Option, Some, None, refl, sym, ap, ◌∙◌, subst, map, append_assoc}
+use Rattle.std.specs.Prelude.{IsTrue, IsFalse, MatchBool}
+use Rattle.std.proofs.lemmas.Bool.{true≢false}
 use Rattle.history.specs.Table.{Granted}
 use Rattle.history.specs.declared.call.Call.{Call}
 use Rattle.history.specs.declared.call.Reply.{Reply}
-use Rattle.history.specs.declared.call.Reply.TheVariants.{Committed, Dead}
+use Rattle.history.specs.declared.call.Reply.TheVariants.{Dead}
 use Rattle.history.specs.Legal.{IsLegal}
-use Rattle.caller_steps.specs.State.{State, calls_of, done_by}
-use Rattle.caller_steps.specs.Fate.{is_committed, is_refusal, is_busy}
-use Rattle.history.specs.declared.call.Call.TheVariants.{Begin}
+use Rattle.caller_steps.specs.State.{State}
+use Rattle.caller_steps.specs.Offers.{takes_calls}
+use Rattle.caller_steps.specs.Room.{Limits}
+use Rattle.caller_steps.specs.Fate.{Moves, is_committed, is_refusal, is_busy}
+use Rattle.history.specs.declared.call.Call.TheVariants.{Begin, Settle}
 use Rattle.caller_steps.specs.Prefix.{Grows}
 use Rattle.caller_steps.specs.Step.{Step}
 use Rattle.caller_steps.specs.Core.{CoreView, Steps}
-use Rattle.caller_steps.specs.Run.{Turn, Goes, AreOf, turns_of, commits_of}
-use Rattle.caller_steps.specs.Own.{live_by}
+use Rattle.caller_steps.specs.Run.{Turn, Goes, AreOf, turns_of}
 use Rattle.caller_steps.proofs.Continuing.{grows_on, after_grows}
-use Rattle.caller_steps.proofs.Running.{own_commits, last_here, turn_run, turn_told, turn_grows, turn_commits}
-use Rattle.caller_steps.proofs.Owning.{number_of_commit, turns_live}
+use Rattle.caller_steps.proofs.Running.{last_here, turn_told, turn_grows}
 use Rattle.atomic_table.specs.Table.{rest}
 use Rattle.mars_manager.specs.declared.view.Known.{Known}
 use Rattle.mars_manager.specs.declared.view.Met.{Met}
 use Rattle.mars_manager.specs.declared.setup.Setup.{Setup}
-use Rattle.mars_manager.specs.Pass.{Fits, AllFit, names_of, live_of, finds, told_of}
+use Rattle.mars_manager.specs.Pass.{Fits, AllFit, names_of, own_by, waits_of, takes_of, finds, told_of, times}
 use Rattle.mars_manager.specs.Locks.{with_locks, IsAgain, HasAfter}
-use Rattle.mars_manager.specs.Sharing.{CanShare, Since, Called, IsLegalIn, done_of, mine_of, HasCommitted, Commits}
+use Rattle.mars_manager.specs.Sharing.{CanShare, Since, Called, IsLegalIn, HasCommitted, HasSettled, SeesOwn, Commits}
 use Rattle.mars_manager.specs.Seat.{SeatOf, first_of, shared_view, Makes}
 use Rattle.history.specs.Locks.{has_table}
 use Rattle.mars_manager.specs.Rule.{Face, shown, Took, Told}
 use Rattle.mars_manager.proofs.Past.{since_step}
+use Rattle.mars_manager.proofs.Waiting.{takes_own}
+use Rattle.mars_manager.proofs.Seats.{times_first}
+use Rattle.mars_manager.proofs.Committing.{commits_on}
 use Rattle.mars_manager.proofs.Turns.{out, top_of, some_same, found_fit, live_at, Moved}
 
 module _ {C : Type 0} where
@@ -49,17 +52,17 @@ module _ {C : Type 0} (f : Face C) where
   goes_on : (setup : Setup C) (n : ℕ) (call : Call) (reply : Reply) (old new : C) → Steps f.tells n call (f.show old) (f.show new) reply → (IsTrue (f.show old).state.is_dead → (reply ≡ Dead) × (new ≡ old))
       → Since f.tells (f.show setup.first) (f.show old) → Goes f.tells (f.show setup.first).limits (f.show old).state n call reply (f.show new).state
   goes_on setup n call reply old new s dead since = record {
-    moves = s.moves;
+    moves = subst (λ (limits : Limits). Moves limits.callers (f.show old).state n call reply (f.show new).state) since.limits s.moves;
     dead = λ is. ((dead is).0, ap (λ (c : C). (f.show c).state) (dead is).1);
     step = λ told. subst (λ limits. Step limits (f.show old).state n call reply (f.show new).state) since.limits (s.step told);
   }
 
-  pub moved : (setup : Setup C) (n : ℕ) (call : Call) (reply : Reply) (old new : C) → Steps f.tells n call (f.show old) (f.show new) reply → (IsTrue (f.show old).state.is_dead → (reply ≡ Dead) × (new ≡ old)) → (IsFalse (is_refusal reply) → IsTrue (is_some ((f.show old).state.live n)) ⊎ (call ≡ Begin))
+  pub moved : (setup : Setup C) (n : ℕ) (call : Call) (reply : Reply) (old new : C) → Steps f.tells n call (f.show old) (f.show new) reply → (IsTrue (f.show old).state.is_dead → (reply ≡ Dead) × (new ≡ old)) → (IsFalse (is_refusal reply) → IsTrue (takes_calls (f.show old).state n) ⊎ ((call ≡ Begin) ⊎ (call ≡ Settle)))
       → (IsFalse (is_refusal reply) → IsTrue (has_table (f.show old).state.names call)) → Moved f setup n call reply old new
   moved setup n call reply old new s dead begun tabled = record {
     begun = begun;
     tabled = tabled;
-    grows = subst (λ h. Grows (f.show old).state.history h) (sym s.moves.history) (after_grows (f.show old).state n reply);
+    grows = subst (λ h. Grows (f.show old).state.history h) (sym s.moves.history) (after_grows (f.show old).limits.callers (f.show old).state n call reply);
     since = since_step f.tells n call reply (f.show setup.first) (f.show old) (f.show new) s;
     goes = goes_on setup n call reply old new s dead;
   }
@@ -85,7 +88,7 @@ module _ {C : Type 0} (f : Face C) where
 
     pub seen_grows : Grows k.seen (shown f call reply turns new k).seen
     seen_grows = grows_on k.seen (f.show old).state.history (f.show new).state.history (turn_grows f.tells (f.show setup.first).limits k.number k.past k.seen (f.show setup.first).state (f.show old).state turns fit.last)
-        (subst (λ h. Grows (f.show old).state.history h) (sym s.moves.history) (after_grows (f.show old).state k.number reply))
+        (subst (λ h. Grows (f.show old).state.history h) (sym s.moves.history) (after_grows (f.show old).limits.callers (f.show old).state k.number call reply))
 
     pub legal_now : Since f.tells (f.show setup.first) (f.show old) → IsTrue f.tells → IsLegalIn f.show (shown f call reply turns new k)
     legal_now since told given is =
@@ -94,45 +97,9 @@ module _ {C : Type 0} (f : Face C) where
         subst (λ (g : Setup C). IsLegal (f.show g.first).state.base (f.show new).state.history) same
         (subst (λ b. IsLegal b (f.show new).state.history) comes.base (comes.continues told).sound.legal)
 
-    -- the caller's transactions are those that its pass has seen
-    mine_is : mine_of k ≡ commits_of k.number (f.show old).state.history
-    mine_is = turn_commits f.tells (f.show setup.first).limits k.number k.past k.seen (f.show setup.first).state (f.show old).state turns fit.last
-
-    alive_if : (b : Bool) → (f.show old).state.is_dead ≡ b → is_committed reply ≡ true → (f.show old).state.is_dead ≡ false
-    alive_if true is committed = absurd (true≢false (sym committed ∙ ap is_committed (dead is).0))
-    alive_if false is committed = is
-
-    module _ (fresh : (f.show setup.first).state.live k.number ≡ None) where
-      -- a commit is answered only while the medium has not failed, so the caller's turns say what its live calls are
-      live_is : is_committed reply ≡ true → (f.show old).state.live k.number ≡ live_by k.number (told_of k)
-      live_is committed =
-          turns_live f.tells (f.show setup.first).limits k.number (f.show setup.first).state (f.show old).state turns _
-          (turn_run f.tells (f.show setup.first).limits k.number k.past k.seen (f.show setup.first).state (f.show old).state turns fit.last) (inr (alive_if (f.show old).state.is_dead refl committed)) fresh
-          ∙ ap (live_by k.number) (sym (told_all f.tells f.show setup turns (f.show old).state k fit))
-
-      done_is : is_committed reply ≡ true → done_by (f.show old).state k.number (calls_of (f.show old).state k.number) ≡ done_of k (length (f.show old).state.history + 1)
-      done_is committed = ap (λ (live : Option Granted). record { caller = k.number; calls = unwrap_or live []; at = length (f.show old).state.history + 1; last = length (f.show old).state.history + 1 }) (live_is committed)
-
-      commits_at : (b : Bool) → is_committed reply ≡ b → MatchBool b (HasCommitted f.tells k reply (shown f call reply turns new k)) (mine_of (shown f call reply turns new k) ≡ mine_of k)
-      commits_at true is =
-          let log = (f.show old).state.history in
-          let done = done_by (f.show old).state k.number (calls_of (f.show old).state k.number) in
-          let seen : (f.show new).state.history ≡ log ++ done ∷ [] = s.moves.history ∙ cond-true (is_committed reply) (log ++ done ∷ []) log is in
-          let long : length log + 1 ≡ length (f.show new).state.history = omega (arith, ap length seen, length-append log (done ∷ [])) in
-          let same : done ≡ done_of k (length (f.show new).state.history) = done_is is ∙ ap (done_of k) long in
-          let mine : commits_of k.number (f.show new).state.history ≡ commits_of k.number log ++ done ∷ [] =
-          ap (commits_of k.number) s.moves.history ∙ own_commits (f.show old).state k.number reply ∙ cond-true (is_committed reply) (commits_of k.number log ++ done ∷ []) (commits_of k.number log) is in record {
-            before = log;
-            seen = seen ∙ ap (λ d. log ++ d ∷ []) same;
-            mine = mine ∙ (λ i. sym mine_is i ++ same i ∷ []);
-            told = λ told. number_of_commit (f.show old).limits (f.show old).state k.number (f.show new).state call reply (s.step told) is ∙ ap Committed long;
-          }
-      commits_at false is =
-          ap (commits_of k.number) s.moves.history ∙ own_commits (f.show old).state k.number reply
-          ∙ cond-false (is_committed reply) (commits_of k.number (f.show old).state.history ++ done_by (f.show old).state k.number (calls_of (f.show old).state k.number) ∷ []) (commits_of k.number (f.show old).state.history) is ∙ sym mine_is
-
-      pub commits : Commits f.tells k reply (shown f call reply turns new k)
-      commits = commits_at (is_committed reply) refl
+    module _ (inside : k.number < (f.show old).limits.callers) (can : CanShare f.tells setup.callers (f.show setup.first)) where
+      pub commits : Commits f.tells k call reply (shown f call reply turns new k)
+      commits = commits_on f setup turns old new k call reply fit s dead can inside
 
   -- the core that the seat takes out of its slot
   pub core_is : (m0 m1 : SeatOf C) (core : C) (home : Option C) (took : Took f m0 m1) → m1.1 ≡ (0, home) ∷ rest m1.1 → home ≡ Some core → took.core ≡ core
@@ -149,21 +116,27 @@ module _ {C : Type 0} (f : Face C) where
         back ∙ ap F out_is ∙ ap (λ (m : SeatOf C). F (G m)) took.now ∙ (λ i. F (G (H (core_is m0 m1 core home took taken is i) (idle i))))
 
     module _ (n : ℕ) (call : Call) (reply : Reply) (number : k.number ≡ n) (steps : Steps f.tells n call (f.show core) (f.show new) reply) (dead : IsTrue (f.show core).state.is_dead → (reply ≡ Dead) × (new ≡ core))
-        (begun : IsFalse (is_refusal reply) → IsTrue (is_some ((f.show core).state.live n)) ⊎ (call ≡ Begin)) (tabled : IsFalse (is_refusal reply) → IsTrue (has_table (f.show core).state.names call)) (sure : IsFalse (is_busy reply)) where
+        (begun : IsFalse (is_refusal reply) → IsTrue (takes_calls (f.show core).state n) ⊎ ((call ≡ Begin) ⊎ (call ≡ Settle))) (tabled : IsFalse (is_refusal reply) → IsTrue (has_table (f.show core).state.names call)) (sure : IsFalse (is_busy reply)) where
       steps_as : Steps f.tells k.number call (f.show core) (f.show new) reply
       steps_as = subst (λ n. Steps f.tells n call (f.show core) (f.show new) reply) (sym number) steps
 
       pub moves : (setup : Setup C) → Moved f setup k.number call reply core new
-      moves setup = moved setup k.number call reply core new steps_as dead (subst (λ (i : ℕ). IsFalse (is_refusal reply) → IsTrue (is_some ((f.show core).state.live i)) ⊎ (call ≡ Begin)) (sym number) begun) tabled
+      moves setup = moved setup k.number call reply core new steps_as dead (subst (λ (i : ℕ). IsFalse (is_refusal reply) → IsTrue (takes_calls (f.show core).state i) ⊎ ((call ≡ Begin) ⊎ (call ≡ Settle))) (sym number) begun) tabled
 
       tabled_at : IsFalse (is_refusal reply) → IsTrue (has_table (names_of k) call)
       tabled_at granted = subst (λ (names : List (List ℕ)). has_table names call ≡ true)
           (sym ((λ i. names_of (first_of (sym idle i).0.passes)) ∙ took.named ∙ ap (λ (c : C). (f.show c).state.names) (core_is m0 m1 core home took taken is))) (tabled granted)
 
-      begun_at : (setup : Setup C) (turns : List Turn) → Fits f.tells f.show setup turns (f.show core).state k → (f.show setup.first).state.live k.number ≡ None → (b : Bool) → (f.show core).state.is_dead ≡ b → IsFalse (is_refusal reply) → IsTrue (is_some (live_of k)) ⊎ (call ≡ Begin)
-      begun_at setup turns fit fresh true is granted = absurd (true≢false (sym (ap is_refusal (dead is).0) ∙ granted))
-      begun_at setup turns fit fresh false is granted = ⊎_elim
-          (λ (live : IsTrue (is_some ((f.show core).state.live n))). inl (subst (λ (o : Option Granted). is_some o ≡ true) (ap (λ (i : ℕ). (f.show core).state.live i) (sym number) ∙ live_at f setup turns core k fresh fit is) live))
+      -- its caller is one of those of the core
+      inside_at : k.number < (f.show core).limits.callers
+      inside_at =
+          let there : (m : SeatOf C) → m ≡ (shared_view (k ∷ []) None, []) → 0 < times k.number m.0.passes = (λ m e. subst (λ (m : SeatOf C). 0 < times k.number m.0.passes) (sym e) (times_first k [])) in
+          subst (λ (c : C). k.number < (f.show c).limits.callers) (core_is m0 m1 core home took taken is) (took.few k.number (there m0 idle))
+
+      begun_at : (setup : Setup C) (turns : List Turn) → Fits f.tells f.show setup turns (f.show core).state k → CanShare f.tells setup.callers (f.show setup.first) → (b : Bool) → (f.show core).state.is_dead ≡ b → IsFalse (is_refusal reply) → IsTrue (takes_of k) ⊎ ((call ≡ Begin) ⊎ (call ≡ Settle))
+      begun_at setup turns fit can true is granted = absurd (true≢false (sym (ap is_refusal (dead is).0) ∙ granted))
+      begun_at setup turns fit can false is granted = ⊎_elim
+          (λ (takes : IsTrue (takes_calls (f.show core).state n)). inl (takes_own k.number (own_by k) (f.show core).state (live_at f setup turns core k can fit is) (subst (λ (i : ℕ). takes_calls (f.show core).state i ≡ true) (sym number) takes)))
           inr (begun granted)
 
       -- the step is recorded, and the turn is given back
@@ -191,12 +164,12 @@ module _ {C : Type 0} (f : Face C) where
                 holds = refl;
                 met = refl;
                 sure = sure;
-                begun = begun_at t.setup t.turns fit (t.ready.live k.number) (f.show core).state.is_dead refl;
+                begun = begun_at t.setup t.turns fit t.ready (f.show core).state.is_dead refl;
                 called = called t.setup t.turns core new k call reply fit steps_as dead t.since t.whose t.ready;
                 told = told_on f.tells f.show k call reply (shown f call reply t.turns new k) (called t.setup t.turns core new k call reply fit steps_as dead t.since t.whose t.ready);
                 seen = seen_grows t.setup t.turns core new k call reply fit steps_as dead;
                 legal = legal_now t.setup t.turns core new k call reply fit steps_as dead t.since;
-                commits = commits t.setup t.turns core new k call reply fit steps_as dead (t.ready.live k.number);
+                commits = commits t.setup t.turns core new k call reply fit steps_as dead inside_at t.ready;
               };
             }
 
@@ -220,12 +193,17 @@ module _ {C : Type 0} (tells : Bool) (show : C → CoreView) (was last now : Kno
         after = c.after;
       }
 
-  commits_if : (b : Bool) → MatchBool b (HasCommitted tells (finds n (with_locks was.holds (was.met ++ a.more) was)) reply now) (mine_of now ≡ mine_of was) → MatchBool b (HasCommitted tells was reply now) (mine_of now ≡ mine_of was)
-  commits_if true h = record { before = h.before; seen = h.seen; mine = h.mine; told = h.told }
-  commits_if false h = h
+  abbrev found : Known C
+  found = finds n (with_locks was.holds (was.met ++ a.more) was)
 
-  pub commits_since : Commits tells last reply now → Commits tells was reply now
-  commits_since made = commits_if (is_committed reply) (subst (λ (j : Known C). Commits tells j reply now) a.is made)
+  commits_if : (b waits : Bool) → MatchBool b (MatchBool waits (HasSettled tells found reply now) (call ≢ Settle → HasCommitted tells found reply now)) (SeesOwn found now)
+      → MatchBool b (MatchBool waits (HasSettled tells was reply now) (call ≢ Settle → HasCommitted tells was reply now)) (SeesOwn was now)
+  commits_if true true h = record { at = h.at; last = h.last; before = h.before; mine = h.mine; seen = h.seen; told = h.told }
+  commits_if true false h = λ ne. (let c = h ne in record { before = c.before; seen = c.seen; mine = c.mine; told = c.told })
+  commits_if false waits h = h
+
+  pub commits_since : Commits tells last call reply now → Commits tells was call reply now
+  commits_since made = commits_if (is_committed reply) (waits_of was) (subst (λ (j : Known C). Commits tells j call reply now) a.is made)
 
   pub after_since : HasAfter call reply last now → HasAfter call reply was now
   after_since h = subst (λ (j : Known C). HasAfter call reply j now) a.is h

@@ -1,6 +1,6 @@
 -- Opening the table, dealing out the passes, taking them in, and the end.
 use Rattle.std.proofs.Common.{◌≡◌, ◌≢◌, ◌⊎◌, ℕ, zero, suc, ◌+◌, ◌-◌, ◌<◌, ◌≤◌, eqb, List, [], ◌∷◌, ◌++◌, length, set, get_or, replicate, unwrap_or, false, Option, Some, None, refl, sym, ap, ◌∙◌, subst, inl, inr, ⊎_elim, arith, length-set, map, eq-eqb, ne_eqb, append_assoc}
-use Rattle.std.specs.Prelude.{if◌then◌else◌, IfSome, is_some}
+use Rattle.std.specs.Prelude.{if◌then◌else◌, IfSome}
 use Rattle.std.specs.Option.{option_to_list}
 use mathlib.Core.Logic.{dite}
 use mathlib.Core.List.{append-nil}
@@ -24,7 +24,7 @@ use Rattle.mars_manager.specs.declared.view.View.{View}
 use Rattle.mars_manager.specs.declared.setup.Setup.{Setup}
 use Rattle.caller_steps.specs.Run.{Turn, GoesAlong, AreOf, LastTurn}
 use Rattle.caller_steps.proofs.Running.{turn_none}
-use Rattle.mars_manager.specs.Pass.{AllFit, names_of, live_of, AreSo, times, newcomer, PassView, PassesView, AllOf, dealt, known_of}
+use Rattle.mars_manager.specs.Pass.{AllFit, names_of, takes_of, AreSo, times, newcomer, PassView, PassesView, AllOf, dealt, known_of}
 use Rattle.mars_manager.specs.Sharing.{CanShare, Since}
 use Rattle.mars_manager.specs.Seat.{TableOf, SeatOf, IsIdle, first_of, seat_of, view, shared_view, opener, newcomers, behind, front, joined, spent}
 use Rattle.history.specs.Table.{Granted}
@@ -348,7 +348,7 @@ module _ {C : Type 0} where
     named = ap (λ (m : SeatOf C). names_of (first_of m.0.passes)) e;
     same = ap (λ (m : SeatOf C). (first_of m.0.passes).holds) e;
     settled = λ t z. no_try (sym (ap (λ (m : SeatOf C). hold_of t (first_of m.0.passes)) e ∙ repeated 64 t Free) ∙ z);
-    live_is = ap (λ (m : SeatOf C). is_some (live_of (first_of m.0.passes))) e;
+    takes_is = ap (λ (m : SeatOf C). takes_of (first_of m.0.passes)) e;
   }
 
   pub dealt_more : (table : TableId) (setup : Setup C) (n : ℕ) → dealt table setup (n + 1) ≡ dealt table setup n ++ record { table = table; known = newcomer setup n } ∷ []

@@ -1,6 +1,6 @@
 -- What passes have of the stripes covers what their live transactions touched.
-use Rattle.std.proofs.Common.{◌≡◌, ◌≢◌, ◌⊎◌, ℕ, ◌+◌, ◌*◌, ◌%◌, ◌<◌, mod-lt, Bool, true, false, List, [], ◌∷◌, ◌++◌, get_or, Option, unwrap_or, refl, sym, ap, ◌∙◌, subst, ⊎_elim, arith}
-use Rattle.std.specs.Prelude.{nat_eq, length, IsTrue, IsFalse, is_some}
+use Rattle.std.proofs.Common.{◌≡◌, ◌≢◌, ◌⊎◌, ℕ, ◌+◌, ◌*◌, ◌%◌, ◌<◌, mod-lt, Bool, true, false, List, [], ◌∷◌, ◌++◌, get_or, Option, None, unwrap_or, refl, sym, ap, ◌∙◌, subst, inl, inr, ⊎_elim, arith}
+use Rattle.std.specs.Prelude.{nat_eq, length, IsTrue, IsFalse}
 use Rattle.record_slots.specs.Names.{number_of}
 use Rattle.std.proofs.lemmas.Bool.{and_from, eqb-true, ltb-true, false≢true, or_cases, or_parts}
 use mathlib.Core.Logic.{dite}
@@ -12,23 +12,26 @@ use Rattle.history.specs.Table.{Granted}
 use Rattle.history.specs.Locks.{Touch, touches, touched, key_stripe, has_table, clash, is_touch}
 use Rattle.history.proofs.Modes.{clash_parts}
 use Rattle.history.specs.declared.call.Call.{Call}
-use Rattle.history.specs.declared.call.Call.TheVariants.{Begin, Get, Put, Del, Scan, Save, Back, Commit, Abort}
+use Rattle.history.specs.declared.call.Call.TheVariants.{Begin, Get, Put, Del, Scan, Save, Back, Commit, Abort, Offer, Settle}
 use Rattle.history.specs.declared.call.Reply.{Reply}
 use Rattle.history.specs.declared.locks.Mode.{Mode}
 use Rattle.history.specs.declared.locks.Mode.TheVariants as mode
 use Rattle.history.proofs.OneMore.{touched-push}
 use Rattle.caller_steps.specs.State.{State, calls_of}
 use Rattle.caller_steps.specs.Locked.{IsLocked}
-use Rattle.caller_steps.specs.Fate.{is_refusal, is_media, live_with, Moves}
+use Rattle.caller_steps.specs.Own.{Own, KnowsLive}
+use Rattle.caller_steps.specs.Offers.{takes_calls}
+use Rattle.caller_steps.specs.Fate.{is_refusal, is_media, live_with, Stays, EndsWith, Moves}
 use Rattle.stripe_words.specs.declared.hold.Hold.{Hold}
 use Rattle.stripe_words.specs.declared.hold.Hold.TheVariants.{Free, Trying, Shared, Exclusive}
 use Rattle.stripe_words.specs.Words.{granted, locked, Stands}
 use Rattle.mars_manager.specs.declared.view.Known.{Known}
 use Rattle.mars_manager.specs.declared.view.Met.{Met}
 use Rattle.mars_manager.specs.declared.view.View.{View}
-use Rattle.mars_manager.specs.Pass.{live_of, names_of}
+use Rattle.mars_manager.specs.Pass.{own_by, takes_of, names_of}
 use Rattle.mars_manager.specs.Locks.{locks, IsCovered, hold_of}
 use Rattle.mars_manager.specs.Rule.{Face, HasAlone, AllHave, AreLocked}
+use Rattle.mars_manager.proofs.Waiting.{live_either, takes_own}
 
 pub locked_granted : (x : Hold) → locked x ≡ 1 → granted x ≡ 1
 locked_granted Free e = absurd (omega arith)
@@ -60,9 +63,12 @@ covered_with names calls Save reply holds a b = covered_more names calls Save re
 covered_with names calls (Back save) reply holds a b = covered_more names calls (Back save) reply holds a b
 covered_with names calls Commit reply holds a b = covered_none names holds
 covered_with names calls Abort reply holds a b = covered_none names holds
+covered_with names calls Offer reply holds a b = a
+covered_with names calls Settle reply holds a b = covered_none names holds
 
-untouching : (names : List (List ℕ)) (call : Call) (holds : List Hold) → call ≡ Begin → IsCovered (touches names call) holds
-untouching names call holds e = subst (λ (c : Call). IsCovered (touches names c) holds) (sym e) (record { reads = λ t z. absurd (false≢true z); writes = λ t z. absurd (false≢true z) })
+untouching : (names : List (List ℕ)) (call : Call) (holds : List Hold) → (call ≡ Begin) ⊎ (call ≡ Settle) → IsCovered (touches names call) holds
+untouching names call holds (inl e) = subst (λ (c : Call). IsCovered (touches names c) holds) (sym e) (record { reads = λ t z. absurd (false≢true z); writes = λ t z. absurd (false≢true z) })
+untouching names call holds (inr e) = subst (λ (c : Call). IsCovered (touches names c) holds) (sym e) (record { reads = λ t z. absurd (false≢true z); writes = λ t z. absurd (false≢true z) })
 
 -- what covers what a call locks covers what it touches, if its table is there
 pub covered_locks : (names : List (List ℕ)) (call : Call) (holds : List Hold) → has_table names call ≡ true → IsCovered (locks names call) holds → IsCovered (touches names call) holds
@@ -71,9 +77,9 @@ covered_locks names call holds there c = record {
   writes = λ t e. c.writes t (and_from (has_table names call) (touches names call t mode.Exclusive) there e);
 }
 
--- the call is covered if it was done: its table is there, and its caller is live, or it is a begin
-pub covered_call : (names : List (List ℕ)) (call : Call) (live : Option Granted) (holds : List Hold) → has_table names call ≡ true → (IsTrue (is_some live) → IsCovered (locks names call) holds) → IsTrue (is_some live) ⊎ (call ≡ Begin) → IsCovered (touches names call) holds
-covered_call names call live holds there a b = ⊎_elim (λ lives. covered_locks names call holds there (a lives)) (untouching names call holds) b
+-- the call is covered if it was done: its table is there, and its caller's transaction takes calls, or it is a begin or a settle
+pub covered_call : (names : List (List ℕ)) (call : Call) (takes : Bool) (holds : List Hold) → has_table names call ≡ true → (IsTrue takes → IsCovered (locks names call) holds) → IsTrue takes ⊎ ((call ≡ Begin) ⊎ (call ≡ Settle)) → IsCovered (touches names call) holds
+covered_call names call takes holds there a b = ⊎_elim (λ taking. covered_locks names call holds there (a taking)) (untouching names call holds) b
 
 small_stripe : (names : List (List ℕ)) (name : List ℕ) (key t : ℕ) → nat_eq (key_stripe names (of_table name key)) t ≡ true → t < 64
 small_stripe names name key t e = (let same = eqb-true (key_stripe names (of_table name key)) t e in let small : key_stripe names (of_table name key) < 64 = mod-lt (key % 64 + 8 * unwrap_or (number_of names name) (length names)) (omega arith) in omega arith)
@@ -93,6 +99,8 @@ small_touch names Save t m e = absurd (false≢true e)
 small_touch names (Back save) t m e = absurd (false≢true e)
 small_touch names Commit t m e = absurd (false≢true e)
 small_touch names Abort t m e = absurd (false≢true e)
+small_touch names Offer t m e = absurd (false≢true e)
+small_touch names Settle t m e = absurd (false≢true e)
 
 -- what a pass has that covers its call locks out all other live transactions
 module _ {C : Type 0} (f : Face C) (core : C) (k : Known C) (call : Call) (alone : HasAlone f core k) (c : IsCovered (touches (f.show core).state.names call) k.holds) where
@@ -110,20 +118,34 @@ module _ {C : Type 0} (f : Face C) (core : C) (k : Known C) (call : Call) (alone
       (clash_parts (touches (f.show core).state.names call t) theirs e)
 
 module _ {C : Type 0} (f : Face C) (core : C) (k : Known C) (call : Call) where
-  pub locked_by : names_of k ≡ (f.show core).state.names → (IsFalse (f.show core).state.is_dead → HasAlone f core k) → (IsTrue (is_some (live_of k)) → IsCovered (locks (names_of k) call) k.holds) → IsLocked (f.show core).state k.number call
-  locked_by named alone has alive live there h b =
+  pub locked_by : names_of k ≡ (f.show core).state.names → (IsFalse (f.show core).state.is_dead → HasAlone f core k) → (IsTrue (takes_of k) → IsCovered (locks (names_of k) call) k.holds) → IsLocked (f.show core).state k.number call
+  locked_by named alone has alive takes there h b =
       let a = alone alive in
-      let mine = subst (λ (names : List (List ℕ)). IsCovered (locks names call) k.holds) named (has (subst (λ (o : Option Granted). is_some o ≡ true) a.mine live)) in
+      let mine = subst (λ (names : List (List ℕ)). IsCovered (locks names call) k.holds) named (has (takes_own k.number (own_by k) (f.show core).state a.mine takes)) in
       no_clash f core k call a (covered_locks (f.show core).state.names call k.holds there mine) h b.1.0 b.0
       (touches (f.show core).state.names call b.1.0 mode.Exclusive) (touches (f.show core).state.names call b.1.0 mode.Shared) refl refl b.1.1
 
-own_covered : (names : List (List ℕ)) (old new : State) (n : ℕ) (call : Call) (reply : Reply) (holds : List Hold) → Moves old n call reply new → (IsTrue (is_some (old.live n)) → IsCovered (locks names call) holds)
-    → (IsFalse (is_refusal reply) → IsTrue (is_some (old.live n)) ⊎ (call ≡ Begin)) → (IsFalse (is_refusal reply) → has_table names call ≡ true) → is_media reply ≡ false → (b : Bool) → is_refusal reply ≡ b
+own_covered : (names : List (List ℕ)) (total : ℕ) (old new : State) (n : ℕ) (call : Call) (reply : Reply) (holds : List Hold) → Moves total old n call reply new → (IsTrue (takes_calls old n) → IsCovered (locks names call) holds)
+    → (IsFalse (is_refusal reply) → IsTrue (takes_calls old n) ⊎ ((call ≡ Begin) ⊎ (call ≡ Settle))) → (IsFalse (is_refusal reply) → has_table names call ≡ true) → is_media reply ≡ false → (b : Bool) → is_refusal reply ≡ b
     → IsCovered (touched names (calls_of old n)) holds → IsCovered (touched names (calls_of new n)) holds
-own_covered names old new n call reply holds m call_covered begun tabled sure true is c =
-    subst (λ (live : Option Granted). IsCovered (touched names (unwrap_or live [])) holds) (sym (ap (λ (f : ℕ → Option Granted). f n) (m.refused is sure))) c
-own_covered names old new n call reply holds m call_covered begun tabled sure false is c = subst (λ (live : Option Granted). IsCovered (touched names (unwrap_or live [])) holds) (sym (m.own is))
-    (covered_with names (calls_of old n) call reply holds c (covered_call names call (old.live n) holds (tabled is) call_covered (begun is)))
+own_covered names total old new n call reply holds m call_covered begun tabled sure true is c =
+    subst (λ (live : Option Granted). IsCovered (touched names (unwrap_or live [])) holds) (sym (ap (λ (f : ℕ → Option Granted). f n) (m.refused is sure).0)) c
+own_covered names total old new n call reply holds m call_covered begun tabled sure false is c = subst (λ (live : Option Granted). IsCovered (touched names (unwrap_or live [])) holds) (sym (m.own is).0)
+    (covered_with names (calls_of old n) call reply holds c (covered_call names call (takes_calls old n) holds (tabled is) call_covered (begun is)))
+
+-- what covers a caller's transaction, as its turns say it, covers that which is live
+pub covered_own : (names : List (List ℕ)) (caller : ℕ) (own : Own) (state : State) (holds : List Hold) → KnowsLive caller own state → IsCovered (touched names (unwrap_or own.live [])) holds → IsCovered (touched names (calls_of state caller)) holds
+covered_own names caller own state holds knows c = go (live_either caller own state knows)
+  where
+    go : (state.live caller ≡ own.live) ⊎ (state.live caller ≡ None) → IsCovered (touched names (calls_of state caller)) holds
+    go (inl same) = subst (λ (live : Option Granted). IsCovered (touched names (unwrap_or live [])) holds) (sym same) c
+    go (inr none) = subst (λ (live : Option Granted). IsCovered (touched names (unwrap_or live [])) holds) (sym none) (covered_none names holds)
+
+-- what covers another's transaction before a call still does: it stays, or has ended
+other_covered : (names : List (List ℕ)) (total : ℕ) (old new : State) (n : ℕ) (call : Call) (reply : Reply) (other : ℕ) (holds : List Hold) → Stays old new other ⊎ EndsWith total old n call reply new other
+    → IsCovered (touched names (calls_of old other)) holds → IsCovered (touched names (calls_of new other)) holds
+other_covered names total old new n call reply other holds (inl stays) c = subst (λ (live : Option Granted). IsCovered (touched names (unwrap_or live [])) holds) (sym stays.live) c
+other_covered names total old new n call reply other holds (inr ends) c = subst (λ (live : Option Granted). IsCovered (touched names (unwrap_or live [])) holds) (sym ends.live) (covered_none names holds)
 
 module _ {C : Type 0} (callers : ℕ) (names : List (List ℕ)) where
   -- the words of the stripes stay, and the passes have what they had
@@ -140,9 +162,9 @@ module _ {C : Type 0} (callers : ℕ) (names : List (List ℕ)) where
   }
 
   -- a call of the pass n, which has what the call touches
-  pub locked_step : (old new : State) (holds : ℕ → List Hold) (met : ℕ → List Met) (words : List ℕ) (views : List (View C)) (n : ℕ) (call : Call) (reply : Reply) → AreLocked callers names old holds met words views → Moves old n call reply new
-      → (IsFalse old.is_dead → IsTrue (is_some (old.live n)) → IsCovered (locks names call) (holds n)) → (IsFalse (is_refusal reply) → IsTrue (is_some (old.live n)) ⊎ (call ≡ Begin)) → (IsFalse (is_refusal reply) → has_table names call ≡ true) → AreLocked callers names new holds met words views
-  locked_step old new holds met words views n call reply h m call_covered begun tabled = record {
+  pub locked_step : (old new : State) (holds : ℕ → List Hold) (met : ℕ → List Met) (words : List ℕ) (views : List (View C)) (total n : ℕ) (call : Call) (reply : Reply) → AreLocked callers names old holds met words views → Moves total old n call reply new
+      → (IsFalse old.is_dead → IsTrue (takes_calls old n) → IsCovered (locks names call) (holds n)) → (IsFalse (is_refusal reply) → IsTrue (takes_calls old n) ⊎ ((call ≡ Begin) ⊎ (call ≡ Settle))) → (IsFalse (is_refusal reply) → has_table names call ≡ true) → AreLocked callers names new holds met words views
+  locked_step old new holds met words views total n call reply h m call_covered begun tabled = record {
     have = h.have;
     strangers = h.strangers;
     asked = h.asked;
@@ -151,6 +173,6 @@ module _ {C : Type 0} (callers : ℕ) (names : List (List ℕ)) where
     stripes = h.stripes;
     covered = λ alive k. (let both = or_parts old.is_dead (is_media reply) (sym m.dead ∙ alive) in
         dite (ℕ_discrete k n)
-        (λ (e : k ≡ n). subst (λ i. IsCovered (touched names (calls_of new i)) (holds i)) (sym e) (own_covered names old new n call reply (holds n) m (call_covered both.0) begun tabled both.1 (is_refusal reply) refl (h.covered both.0 n)))
-        (λ (ne : k ≢ n). subst (λ (live : Option Granted). IsCovered (touched names (unwrap_or live [])) (holds k)) (sym (m.others k ne)) (h.covered both.0 k)));
+        (λ (e : k ≡ n). subst (λ i. IsCovered (touched names (calls_of new i)) (holds i)) (sym e) (own_covered names total old new n call reply (holds n) m (call_covered both.0) begun tabled both.1 (is_refusal reply) refl (h.covered both.0 n)))
+        (λ (ne : k ≢ n). other_covered names total old new n call reply k (holds k) (m.others k ne) (h.covered both.0 k)));
   }

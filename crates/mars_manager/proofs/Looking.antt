@@ -1,8 +1,9 @@
 -- What a pass that reads the history guarantees, given what its steps guarantee.
-use Rattle.std.proofs.Common.{◌≡◌, ℕ, ◌+◌, Bool, List, [], ◌∷◌, length, get_or, drop, arith, Option, Some, None, Result, Ok, Err, unwrap_or, refl, sym, ap, ◌∙◌, subst, map}
+use Rattle.std.proofs.Common.{◌≡◌, inl, ℕ, ◌+◌, ◌&&◌, not, Bool, List, [], ◌∷◌, length, get_or, drop, arith, Option, Some, None, Result, Ok, Err, unwrap_or, refl, sym, ap, ◌∙◌, subst, map}
 use Rattle.std.specs.Prelude.{IsTrue, IfOk, IfErr, is_some}
 use Rattle.history.specs.Locks.{touched}
-use Rattle.caller_steps.specs.Own.{live_by}
+use Rattle.caller_steps.specs.State.{commits_of}
+use Rattle.caller_steps.specs.Own.{own_of, live_by}
 use Rattle.caller_steps.proofs.Continuing.{grows_none}
 use Rattle.stripe_words.specs.declared.hold.Hold.{Hold}
 use Rattle.stripe_words.specs.declared.hold.Hold.TheVariants.{Free}
@@ -14,15 +15,16 @@ use Rattle.history.specs.declared.transaction.Done.{Done}
 use Rattle.history.specs.Table.{Granted}
 use Rattle.caller_steps.specs.Core.{CoreView}
 use Rattle.caller_steps.specs.Prefix.{Grows}
-use Rattle.caller_steps.proofs.Running.{turn_run, turn_told, turn_grows, turn_commits}
+use Rattle.caller_steps.proofs.Running.{turn_run, turn_told, turn_grows}
 use Rattle.caller_steps.proofs.Numbering.{turns_number, behind_numbered}
 use Rattle.atomic_table.specs.Table.{rest}
 use Rattle.mars_manager.specs.declared.view.Known.{Known}
 use Rattle.mars_manager.specs.declared.setup.Setup.{Setup}
 use Rattle.mars_manager.specs.Pass.{Fits, AllFit, known_at, names_in, finds, told_of, live_of, IsOther}
-use Rattle.mars_manager.specs.Sharing.{IsLegalIn, mine_of, Reads}
+use Rattle.mars_manager.specs.Sharing.{IsLegalIn, SeesOwn, Reads}
 use Rattle.mars_manager.specs.Seat.{SeatOf, shared_view, seat_of, first_of, IsIdle}
 use Rattle.mars_manager.specs.Rule.{Face, Took, HasRead}
+use Rattle.mars_manager.proofs.Committing.{sees}
 use Rattle.mars_manager.proofs.Calls.{homed}
 use Rattle.mars_manager.proofs.Turns.{some_same, found_fit}
 
@@ -79,7 +81,7 @@ pub record Kept {C : Type 0} (was now : Known C) : Type 0 where
   pub setup : now.setup ≡ was.setup
   pub holds : now.holds ≡ was.holds
   pub told : told_of now ≡ told_of was
-  pub mine : mine_of now ≡ mine_of was
+  pub mine : SeesOwn was now
   pub seen : Grows was.seen now.seen
 
 module _ {C : Type 0} (tells : Bool) (show : C → CoreView) (was : Known C) where
@@ -89,12 +91,12 @@ module _ {C : Type 0} (tells : Bool) (show : C → CoreView) (was : Known C) whe
     setup = ap (λ (j : Known C). j.setup) r.after;
     holds = ap (λ (j : Known C). j.holds) r.after;
     told = ap told_of r.after ∙ sym (turn_told tells (show r.setup.first).limits was.number was.past was.seen (show r.setup.first).state (show r.core).state r.turns r.last);
-    mine = ap mine_of r.after ∙ sym (turn_commits tells (show r.setup.first).limits was.number was.past was.seen (show r.setup.first).state (show r.core).state r.turns r.last);
+    mine = sees tells show r.setup r.turns (show r.core).state was r.last r.ready now (ap (λ (j : Known C). j.number) r.after) (ap (λ (j : Known C). commits_of was.number j.seen) r.after);
     seen = subst (λ (j : Known C). Grows was.seen j.seen) (sym r.after) (turn_grows tells (show r.setup.first).limits was.number was.past was.seen (show r.setup.first).state (show r.core).state r.turns r.last);
   }
 
   kept_found : (n : ℕ) → Kept was (finds n was)
-  kept_found n = record { number = refl; setup = refl; holds = refl; told = refl; mine = refl; seen = grows_none was.seen }
+  kept_found n = record { number = refl; setup = refl; holds = refl; told = refl; mine = inl refl; seen = grows_none was.seen }
 
   pub read_kept : {A : Type 0} (r : Result A Again) (m : SeatOf C) → IfOk r (λ _. m ≡ seat_of (first_of m.0.passes)) → IfOk r (λ _. Reads tells show was (first_of m.0.passes))
       → IfErr r (λ a. IsOther was a.holder × (m ≡ seat_of (finds (a.holder + 1) was))) → (m ≡ seat_of (first_of m.0.passes)) × Kept was (first_of m.0.passes)
@@ -111,11 +113,11 @@ module _ {C : Type 0} (tells : Bool) (show : C → CoreView) (was : Known C) whe
       (subst (λ b. IsLegal b (show r.core).state.history) r.since.base (r.since.continues told).sound.legal))
 
 -- the pass keeps what is so of it between two calls
-pub idle_kept : {C : Type 0} (n : ℕ) (names : List (List ℕ)) (hs : List Hold) (live : Bool) (m new : SeatOf C) → IsIdle n names hs live m → new ≡ seat_of (first_of new.0.passes) → Kept (first_of m.0.passes) (first_of new.0.passes) → IsIdle n names hs live new
-idle_kept {C} n names hs live m new i one k =
+pub idle_kept : {C : Type 0} (n : ℕ) (names : List (List ℕ)) (hs : List Hold) (takes : Bool) (m new : SeatOf C) → IsIdle n names hs takes m → new ≡ seat_of (first_of new.0.passes) → Kept (first_of m.0.passes) (first_of new.0.passes) → IsIdle n names hs takes new
+idle_kept {C} n names hs takes m new i one k =
     let was = first_of m.0.passes in
     let now = first_of new.0.passes in
-    let old = pass_is n names hs live m i in
+    let old = pass_is n names hs takes m i in
     let same : live_of now ≡ live_of was = (λ j. live_by (k.number j) (k.told j)) in record {
       seat = record {
         known = now;
@@ -128,7 +130,7 @@ idle_kept {C} n names hs live m new i one k =
       named = ap names_in k.setup ∙ i.named;
       same = k.holds ∙ i.same;
       settled = λ t e. i.settled t (ap (λ (xs : List Hold). get_or xs t Free) (sym k.holds) ∙ e);
-      live_is = ap (λ (o : Option Granted). is_some o) same ∙ i.live_is;
+      takes_is = (λ j. not (own_of (k.number j) (k.told j)).waits && is_some (live_by (k.number j) (k.told j))) ∙ i.takes_is;
     }
 
 -- what is copied goes on from there

@@ -2,31 +2,28 @@
 use Rattle.std.proofs.Common.{◌≡◌, ◌≢◌, ◌&&◌, ℕ, not, Bool, true, false, List, [], ◌∷◌, ◌++◌, get_or, replicate, Option, None, unwrap_or, Result, Ok, Err, ⊎_elim, refl, sym, ap, ◌∙◌, subst}
 use Rattle.std.specs.Prelude.{IsTrue, IsFalse, IfOk, is_some, MatchBool, if◌then◌else◌}
 use Rattle.std.proofs.lemmas.Bool.{true≢false, false≢true}
-use Rattle.std.specs.List.{fold}
 use mathlib.Core.List.{append-nil}
 use Rattle.history.specs.Table.{Granted}
 use Rattle.history.specs.Locks.{Touch, touches, touched}
 use Rattle.history.specs.declared.call.Call.{Call}
-use Rattle.history.specs.declared.call.Call.TheVariants.{Begin, Get, Put, Del, Scan, Save, Back, Commit, Abort}
+use Rattle.history.specs.declared.call.Call.TheVariants.{Begin, Get, Put, Del, Scan, Save, Back, Commit, Abort, Offer, Settle}
 use Rattle.history.specs.declared.call.Reply.{Reply}
 use Rattle.history.specs.declared.locks.Mode.TheVariants as mode
 use Rattle.caller_steps.specs.Core.{CoreView}
-use Rattle.caller_steps.specs.Fate.{is_refusal, is_media, live_with}
-use Rattle.caller_steps.specs.Own.{Own, own_after, nothing_own, is_commit, live_after, live_by}
+use Rattle.caller_steps.specs.Offers.{is_offered}
+use Rattle.caller_steps.specs.Fate.{is_refusal, is_media, live_with, offer_with}
+use Rattle.caller_steps.specs.Own.{Own, own_of, own_after, nothing_own, is_commit, live_after, waits_after}
 use Rattle.stripe_words.specs.declared.hold.Hold.{Hold}
 use Rattle.stripe_words.specs.declared.hold.Hold.TheVariants.{Free, Trying, Shared, Exclusive}
 use Rattle.stripe_words.specs.Words.{granted, locked, raised}
 use Rattle.mars_manager.specs.declared.view.Known.{Known}
-use Rattle.mars_manager.specs.Pass.{told_of, live_of, names_in, names_of, known_after}
-use Rattle.mars_manager.specs.Locks.{locks, IsCovered, IsBelow, raised_for, is_end, is_live_after, touched_by, hold_of, with_holds, with_locks, HasLockedFor, HasReadied, HasAfter}
+use Rattle.mars_manager.specs.Pass.{told_of, own_by, live_of, waits_of, takes_of, names_in, names_of, known_after}
+use Rattle.mars_manager.specs.Locks.{locks, IsCovered, IsBelow, raised_for, is_end, is_last, takes_after, touched_by, hold_of, with_holds, with_locks, HasLockedFor, HasReadied, HasAfter}
 use Rattle.mars_manager.specs.Sharing.{Called}
 use Rattle.mars_manager.specs.Seat.{HasMade}
 use Rattle.mars_manager.proofs.Knowns.{below_raised, below_same}
+use Rattle.mars_manager.proofs.Waiting.{fold-push}
 use Rattle.mars_manager.proofs.Locked.{covered_with, covered_none}
-
-fold-push : {A X : Type 0} (f : A → X → A) → (a : A) (xs : List X) (x : X) → fold f a (xs ++ x ∷ []) ≡ f (fold f a xs) x
-fold-push f a [] x = refl
-fold-push f a (y ∷ xs) x = fold-push f (f a y) xs x
 
 -- what a pass locks for a call covers the call
 raised_reads : (touch : Touch) (x : Hold) → touch mode.Shared ≡ true → granted (raised_for touch x) ≡ 1
@@ -47,31 +44,37 @@ raised_writes touch x e = go (touch mode.Exclusive) (touch mode.Shared) x e
     go true reads x e = refl
     go false reads x e = absurd (false≢true e)
 
--- whether a caller is live after a call
-live_some : (calls : Granted) (call : Call) (reply : Reply) → is_some (live_with calls call reply) ≡ not (is_end call)
-live_some calls Begin reply = refl
-live_some calls (Get name key) reply = refl
-live_some calls (Put name key value) reply = refl
-live_some calls (Del name key) reply = refl
-live_some calls (Scan name low high) reply = refl
-live_some calls Save reply = refl
-live_some calls (Back save) reply = refl
-live_some calls Commit reply = refl
-live_some calls Abort reply = refl
+-- whether its transaction takes calls after a call that was done
+takes_with : (calls : Granted) (call : Call) (reply : Reply) → (not (is_offered (offer_with call)) && is_some (live_with calls call reply)) ≡ not (is_last call)
+takes_with calls Begin reply = refl
+takes_with calls (Get name key) reply = refl
+takes_with calls (Put name key value) reply = refl
+takes_with calls (Del name key) reply = refl
+takes_with calls (Scan name low high) reply = refl
+takes_with calls Save reply = refl
+takes_with calls (Back save) reply = refl
+takes_with calls Commit reply = refl
+takes_with calls Abort reply = refl
+takes_with calls Offer reply = refl
+takes_with calls Settle reply = refl
 
-lives : (o : Option Granted) (call : Call) (reply : Reply) → is_some (live_after o call reply) ≡ is_live_after (is_some o) call reply
-lives o call reply = go (is_media reply) (is_commit call) (is_refusal reply) (is_some o) refl
+takes : (w : Bool) (o : Option Granted) (call : Call) (reply : Reply) → (not (waits_after w call reply) && is_some (live_after o call reply)) ≡ takes_after (not w && is_some o) call reply
+takes w o call reply = go (is_media reply) (is_commit call) (is_refusal reply)
   where
-    media : (commit live : Bool) → is_some o ≡ live → is_some (if commit then None else o) ≡ (live && not commit)
-    media true true e = refl
-    media true false e = refl
-    media false true e = e
-    media false false e = e
+    media : (commit waits live : Bool) → is_some o ≡ live → (not (if commit then false else waits) && is_some (if commit then None else o)) ≡ ((not waits && live) && not commit)
+    media true true true e = refl
+    media true true false e = refl
+    media true false true e = refl
+    media true false false e = refl
+    media false true live e = refl
+    media false false true e = e
+    media false false false e = e
 
-    go : (media_ commit refused live : Bool) → is_some o ≡ live → is_some (if media_ then (if commit then None else o) else (if refused then o else live_with (unwrap_or o []) call reply)) ≡ (if media_ then is_some o && not commit else (if refused then is_some o else not (is_end call)))
-    go true commit refused live e = media commit live e ∙ ap (λ b. b && not commit) (sym e)
-    go false commit true live e = refl
-    go false commit false live e = live_some (unwrap_or o []) call reply
+    go : (media_ commit refused : Bool) → (not (if media_ then (if commit then false else w) else (if refused then w else is_offered (offer_with call))) && is_some (if media_ then (if commit then None else o) else (if refused then o else live_with (unwrap_or o []) call reply)))
+        ≡ (if media_ then (not w && is_some o) && not commit else (if refused then not w && is_some o else not (is_last call)))
+    go true commit refused = media commit w (is_some o) refl
+    go false commit true = refl
+    go false commit false = takes_with (unwrap_or o []) call reply
 
 -- what covers a transaction before a call that is refused, or what it touches too, covers it after the call
 covered_live : (names : List (List ℕ)) (o : Option Granted) (call : Call) (reply : Reply) (hs : List Hold) → IsCovered (touched names (unwrap_or o [])) hs → (is_refusal reply ≡ false → IsCovered (touches names call) hs) → (media_ commit refused : Bool) → is_refusal reply ≡ refused
@@ -86,20 +89,23 @@ if_ok P Q (Ok a) h p = h a p
 if_ok P Q (Err b) h p = tt
 
 module _ {C : Type 0} where
-  -- the live transaction after one more turn
-  pub live_on : (was now : Known C) (call : Call) (reply : Reply) → now.number ≡ was.number → told_of now ≡ told_of was ++ (call, reply) ∷ [] → live_of now ≡ live_after (live_of was) call reply
-  live_on was now call reply number told =
-      (λ i. live_by (number i) (told i)) ∙ ap (λ (o : Own). o.live) (fold-push (own_after was.number) nothing_own (told_of was) (call, reply))
+  -- what one more turn says of its caller's transactions
+  own_on : (was now : Known C) (call : Call) (reply : Reply) → now.number ≡ was.number → told_of now ≡ told_of was ++ (call, reply) ∷ [] → own_by now ≡ own_after was.number (own_by was) (call, reply)
+  own_on was now call reply number told = (λ i. own_of (number i) (told i)) ∙ fold-push (own_after was.number) nothing_own (told_of was) (call, reply)
 
-  pub lives_on : (was now : Known C) (call : Call) (reply : Reply) → now.number ≡ was.number → told_of now ≡ told_of was ++ (call, reply) ∷ [] → is_some (live_of now) ≡ is_live_after (is_some (live_of was)) call reply
-  lives_on was now call reply number told = ap (λ (o : Option Granted). is_some o) (live_on was now call reply number told) ∙ lives (live_of was) call reply
+  -- the live transaction after it
+  pub live_on : (was now : Known C) (call : Call) (reply : Reply) → now.number ≡ was.number → told_of now ≡ told_of was ++ (call, reply) ∷ [] → live_of now ≡ live_after (live_of was) call reply
+  live_on was now call reply number told = ap (λ (o : Own). o.live) (own_on was now call reply number told)
+
+  pub takes_on : (was now : Known C) (call : Call) (reply : Reply) → now.number ≡ was.number → told_of now ≡ told_of was ++ (call, reply) ∷ [] → takes_of now ≡ takes_after (takes_of was) call reply
+  takes_on was now call reply number told = ap (λ (o : Own). not o.waits && is_some o.live) (own_on was now call reply number told) ∙ takes (waits_of was) (live_of was) call reply
 
   pub covered_on : (was now : Known C) (call : Call) (reply : Reply) (hs : List Hold) → now.number ≡ was.number → now.setup ≡ was.setup → told_of now ≡ told_of was ++ (call, reply) ∷ [] → IsCovered (touched_by was) hs → (is_refusal reply ≡ false → IsCovered (touches (names_of was) call) hs) → IsCovered (touched_by now) hs
   covered_on was now call reply hs number setup told a b = subst (λ (p : List (List ℕ) × Option Granted). IsCovered (touched p.0 (unwrap_or p.1 [])) hs) (λ j. (names_in (sym setup j), sym (live_on was now call reply number told) j))
       (covered_live (names_of was) (live_of was) call reply hs a b (is_media reply) (is_commit call) (is_refusal reply) refl)
 
   -- what a call locks
-  pub readied : (call : Call) (was now : Known C) → ((t : ℕ) → hold_of t was ≢ Trying) → HasLockedFor call was now → IsTrue (is_some (live_of was)) → HasReadied call was now
+  pub readied : (call : Call) (was now : Known C) → ((t : ℕ) → hold_of t was ≢ Trying) → HasLockedFor call was now → IsTrue (takes_of was) → HasReadied call was now
   readied call was now settled h live = record {
     more = h.more;
     same = h.same;
@@ -112,13 +118,13 @@ module _ {C : Type 0} where
     idle = λ dead. absurd (true≢false (sym live ∙ dead));
   }
 
-  pub unreadied : (call : Call) (was : Known C) → ((t : ℕ) → hold_of t was ≢ Trying) → IsFalse (is_some (live_of was)) → HasReadied call was was
+  pub unreadied : (call : Call) (was : Known C) → ((t : ℕ) → hold_of t was ≢ Trying) → IsFalse (takes_of was) → HasReadied call was was
   unreadied call was settled dead = record {
     more = [];
     same = λ i. with_locks was.holds (sym (append-nil was.met) i) was;
     below = λ t. below_same (hold_of t was) (settled t);
-    covered = λ live. absurd (true≢false (sym live ∙ dead));
-    each = λ live. absurd (true≢false (sym live ∙ dead));
+    covered = λ takes. absurd (true≢false (sym takes ∙ dead));
+    each = λ takes. absurd (true≢false (sym takes ∙ dead));
     idle = λ _. refl;
   }
 
@@ -151,17 +157,19 @@ module _ {C : Type 0} where
     after_end k3 e d h = subst (λ b. MatchBool b (k3.holds ≡ k.holds) (MatchBool (is_end call) (k3.holds ≡ replicate 64 Free) ((t : ℕ) → hold_of t k3 ≡ raised_for (locks (names_of k) call t) (hold_of t k)))) (sym e)
         (subst (λ b. MatchBool b (k3.holds ≡ replicate 64 Free) ((t : ℕ) → hold_of t k3 ≡ raised_for (locks (names_of k) call t) (hold_of t k))) (sym d) h)
 
-    same_live : live_of k1 ≡ live_of k
-    same_live = ap (λ (j : Known C). live_of j) r.same
+    same_takes : takes_of k1 ≡ takes_of k
+    same_takes = ap (λ (j : Known C). takes_of j) r.same
 
-    each_if : (b : Bool) → is_some (live_of k) ≡ b → is_refusal reply ≡ false → (t : ℕ) → hold_of t k2 ≡ raised_for (locks (names_of k) call t) (hold_of t k)
-    each_if true live e t = ap (λ hs. get_or hs t Free) m.holds ∙ r.each live t
-    each_if false dead e t = ap (λ hs. get_or hs t Free) m.holds ∙ ap (λ hs. get_or hs t Free) (r.idle dead)
+    each_if : (b : Bool) → takes_of k ≡ b → is_refusal reply ≡ false → is_end call ≡ false → (t : ℕ) → hold_of t k2 ≡ raised_for (locks (names_of k) call t) (hold_of t k)
+    each_if true takes e d t = ap (λ hs. get_or hs t Free) m.holds ∙ r.each takes t
+    each_if false idle e d t = ap (λ hs. get_or hs t Free) m.holds ∙ ap (λ hs. get_or hs t Free) (r.idle idle)
         ∙ sym (⊎_elim
-        (λ (live : IsTrue (is_some (live_of k1))). absurd (true≢false (sym live ∙ ap (λ (o : Option Granted). is_some o) same_live ∙ dead)))
+        (λ (takes : IsTrue (takes_of k1)). absurd (true≢false (sym takes ∙ same_takes ∙ idle)))
+        (⊎_elim
         (λ (begin : call ≡ Begin). ap (λ (c : Call). raised_for (locks (names_of k) c t) (hold_of t k)) begin)
+        (λ (settle : call ≡ Settle). absurd (true≢false (sym (ap is_end settle) ∙ d))))
         (m.begun e))
 
     pub after_done : is_refusal reply ≡ false → is_end call ≡ false → HasAfter call reply k k2
     after_done e d = subst (λ b. MatchBool b (k2.holds ≡ k.holds) (MatchBool (is_end call) (k2.holds ≡ replicate 64 Free) ((t : ℕ) → hold_of t k2 ≡ raised_for (locks (names_of k) call t) (hold_of t k)))) (sym e)
-        (subst (λ b. MatchBool b (k2.holds ≡ replicate 64 Free) ((t : ℕ) → hold_of t k2 ≡ raised_for (locks (names_of k) call t) (hold_of t k))) (sym d) (each_if (is_some (live_of k)) refl e))
+        (subst (λ b. MatchBool b (k2.holds ≡ replicate 64 Free) ((t : ℕ) → hold_of t k2 ≡ raised_for (locks (names_of k) call t) (hold_of t k))) (sym d) (each_if (takes_of k) refl e d))

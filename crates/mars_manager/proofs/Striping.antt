@@ -10,8 +10,8 @@ use mathlib.Core.Option.{some, none}
 use native.Mathlib.Decide.{ℕ_discrete}
 use lib.ListN.{get_elem?}
 use prog.Atomic.{either}
-use Rattle.history.specs.Table.{Granted}
 use Rattle.history.specs.Locks.{touched}
+use Rattle.caller_steps.specs.State.{calls_of}
 use Rattle.history.specs.declared.locks.Mode.{Mode}
 use Rattle.history.specs.declared.locks.Mode.TheVariants as mode
 use Rattle.atomic_table.specs.Table.{step, Act, keeps, stepped, Valid, carried_after, Allows}
@@ -26,13 +26,14 @@ use Rattle.mars_manager.specs.Asked.{bit_for, set_for, HasAsked, AreCaused}
 use Rattle.mars_manager.specs.declared.view.Stage.TheVariants as stage
 use Rattle.mars_manager.specs.declared.view.View.{View}
 use Rattle.mars_manager.specs.declared.setup.Setup.{Setup}
-use Rattle.mars_manager.specs.Pass.{Fits, AllFit, names_in, live_of, times}
+use Rattle.mars_manager.specs.Pass.{Fits, AllFit, names_in, own_by, live_of, times}
 use Rattle.mars_manager.specs.Locks.{IsCovered, IsPass, touched_by, hold_of, with_hold, noted, marked_by, excluded_by, IsUnwritten, IsUntouched}
 use Rattle.mars_manager.specs.Seat.{TableOf, SeatOf, IsSeat, IsIdle, first_of, seat_of, shared_view}
 use Rattle.mars_manager.specs.Rule.{Face, AllHave, IsFree, IsHeld, IsKept, Rule, marks, excludes, releases, backs}
 use Rattle.mars_manager.proofs.Seats.{times_first, each_set}
 use Rattle.mars_manager.proofs.Knowns.{Covered, Moves, number_moves, moves_mark, moves_exclude, moves_note, moves_release, moves_undo, moves_back}
 use Rattle.mars_manager.proofs.Asking.{bit_is, asked_left, asked_right, Notes, notes_one, notes_none, mark_asks, exclude_asks, free_asks, back_asks}
+use Rattle.mars_manager.proofs.Locked.{covered_own}
 use Rattle.mars_manager.proofs.Turns.{some≢none, is_open, same_at, same_count, number_below, one_seat, live_at}
 
 -- what is so of all passes where that of one has changed
@@ -72,8 +73,8 @@ module _ {C : Type 0} where
   pub long_is : (n : ℕ) (m : SeatOf C) (i : IsSeat n m) → length (first_of m.0.passes).holds ≡ 64
   long_is n m i = ap (λ (k : Known C). length k.holds) (first_is n m i) ∙ i.long
 
-  pub pass_is : (n : ℕ) (names : List (List ℕ)) (hs : List Hold) (live : Bool) (m : SeatOf C) → IsIdle n names hs live m → IsPass (first_of m.0.passes)
-  pass_is n names hs live m i = record { long = long_is n m i.seat; covered = subst (λ (k : Known C). IsCovered (touched_by k) k.holds) (sym (first_is n m i.seat)) i.seat.covered; settled = i.settled }
+  pub pass_is : (n : ℕ) (names : List (List ℕ)) (hs : List Hold) (takes : Bool) (m : SeatOf C) → IsIdle n names hs takes m → IsPass (first_of m.0.passes)
+  pass_is n names hs takes m i = record { long = long_is n m i.seat; covered = subst (λ (k : Known C). IsCovered (touched_by k) k.holds) (sym (first_is n m i.seat)) i.seat.covered; settled = i.settled }
 
   -- a seat after its pass has moved
   pub seated : (n t : ℕ) (x : Hold) (m m' : SeatOf C) (i : IsSeat n m) (F : Known C → Known C) → m' ≡ seat_of (F (first_of m.0.passes)) → Moves t x i.known (F i.known) → IsSeat n m'
@@ -207,9 +208,9 @@ module _ {C : Type 0} (f : Face C) (setup : Setup C) where
               (each_now (λ n hs. get_or hs r Free ≡ get_or (h.holds n) r Free) h.holds k.number k'.holds (m.there r ne ∙ ap (λ hs. get_or hs r Free) own) (λ n. refl))
               (h.locks.stripes r lr)));
           covered = λ alive. each_now (λ n hs. IsCovered (touched setup.names (unwrap_or ((f.show h.core).state.live n) [])) hs) h.holds k.number k'.holds
-              (subst (λ (live : Option Granted). IsCovered (touched setup.names (unwrap_or live [])) k'.holds)
-              (sym (ap (λ (i : ℕ). (f.show h.core).state.live i) (sym number) ∙ live_at f setup h.turns h.core k' (h.ready.live k'.number) fit alive))
-              (subst (λ (given : Option (Setup C)). IsCovered (touched (names_in given) (unwrap_or (live_of k') [])) k'.holds) fit.setup_is m.covered))
+              (subst (λ (i : ℕ). IsCovered (touched setup.names (calls_of (f.show h.core).state i)) k'.holds) number
+              (covered_own setup.names k'.number (own_by k') (f.show h.core).state k'.holds (live_at f setup h.turns h.core k' h.ready fit alive)
+              (subst (λ (given : Option (Setup C)). IsCovered (touched (names_in given) (unwrap_or (live_of k') [])) k'.holds) fit.setup_is m.covered)))
               (h.locks.covered alive);
         };
       }

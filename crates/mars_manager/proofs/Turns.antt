@@ -5,6 +5,7 @@ use mathlib.Core.Option.{Option as Home, some, none, some-injective}
 use native.Mathlib.Decide.{dec_le, ℕ_discrete}
 use lib.ListN.{get_elem?}
 use prog.Atomic.{either}
+use Rattle.history.specs.Table.{Granted}
 use Rattle.history.specs.declared.call.Call.{Call}
 use Rattle.history.specs.declared.call.Reply.{Reply}
 use Rattle.caller_steps.specs.Room.{Limits}
@@ -18,8 +19,8 @@ use Rattle.mars_manager.specs.declared.view.Known.{Known}
 use Rattle.mars_manager.specs.declared.view.Stage.TheVariants.{Vacant, Opening, Shared}
 use Rattle.mars_manager.specs.declared.view.View.{View}
 use Rattle.mars_manager.specs.declared.setup.Setup.{Setup}
-use Rattle.mars_manager.specs.Pass.{Fits, AllFit, known_at, names_in, names_of, live_of, times, finds, hears}
-use Rattle.mars_manager.specs.Sharing.{Since}
+use Rattle.mars_manager.specs.Pass.{Fits, AllFit, known_at, names_in, names_of, own_by, times, finds, hears}
+use Rattle.mars_manager.specs.Sharing.{CanShare, Since}
 use Rattle.mars_manager.specs.Seat.{TableOf, SeatOf, shared_view, opener}
 use Rattle.mars_manager.specs.Rule.{Face, AllHave, HasAlone, count, IsFree, IsHeld, IsKept, IsFresh, IsOpening, Rule, takes_turn, shown, tells_length, gives_turn, gives_read, looks}
 use Rattle.mars_manager.specs.Locks.{locks, IsCovered, hold_of}
@@ -28,13 +29,14 @@ use Rattle.stripe_words.specs.declared.hold.Hold.{Hold}
 use Rattle.stripe_words.specs.declared.hold.Hold.TheVariants.{Free}
 use Rattle.stripe_words.specs.Words.{granted, locked}
 use Rattle.history.specs.Locks.{touched, has_table}
-use Rattle.history.specs.declared.call.Call.TheVariants.{Begin}
+use Rattle.history.specs.declared.call.Call.TheVariants.{Begin, Settle}
 use Rattle.history.specs.declared.locks.Mode.TheVariants as mode
 use Rattle.caller_steps.specs.State.{calls_of}
+use Rattle.caller_steps.specs.Offers.{takes_calls}
 use Rattle.caller_steps.specs.Fate.{is_refusal}
-use Rattle.caller_steps.specs.Own.{nothing_own, live_by}
-use Rattle.caller_steps.proofs.Owning.{turns_live}
-use Rattle.std.specs.Prelude.{IsTrue, IsFalse, is_some}
+use Rattle.caller_steps.specs.Own.{nothing_own, own_of, KnowsLive}
+use Rattle.caller_steps.proofs.Owning.{turns_live, fresh_live}
+use Rattle.std.specs.Prelude.{IsTrue, IsFalse}
 use Rattle.std.proofs.lemmas.Bool.{false_from_ne_true, or_from}
 use Rattle.mars_manager.proofs.Seats.{times_first, inside, at_only, each_set, total_set, total_has, total_two}
 
@@ -69,7 +71,7 @@ pub record Moved {C : Type 0} (f : Face C) (setup : Setup C) (n : ℕ) (call : C
   pub grows : Grows (f.show core).state.history (f.show new).state.history
   pub since : Since f.tells (f.show setup.first) (f.show core) → Since f.tells (f.show setup.first) (f.show new)
   pub goes : Since f.tells (f.show setup.first) (f.show core) → Goes f.tells (f.show setup.first).limits (f.show core).state n call reply (f.show new).state
-  pub begun : IsFalse (is_refusal reply) → IsTrue (is_some ((f.show core).state.live n)) ⊎ (call ≡ Begin)
+  pub begun : IsFalse (is_refusal reply) → IsTrue (takes_calls (f.show core).state n) ⊎ ((call ≡ Begin) ⊎ (call ≡ Settle))
   pub tabled : IsFalse (is_refusal reply) → IsTrue (has_table (f.show core).state.names call)
 
 module _ {C : Type 0} (f : Face C) (setup : Setup C) where
@@ -180,12 +182,13 @@ module _ {C : Type 0} (f : Face C) (setup : Setup C) where
         others = λ i u ne e. x.nobody i u (sym (set_else s.views id i w ne) ∙ e);
       }))
 
-  -- what a pass was told of its live transaction is so while the medium has not failed
-  pub live_at : (turns : List Turn) (core : C) (k : Known C) → (f.show setup.first).state.live k.number ≡ None → Fits f.tells f.show setup turns (f.show core).state k → IsFalse (f.show core).state.is_dead → (f.show core).state.live k.number ≡ live_of k
-  live_at turns core k fresh fit alive =
-      turns_live f.tells (f.show setup.first).limits k.number (f.show setup.first).state (f.show core).state turns nothing_own
-      (turn_run f.tells (f.show setup.first).limits k.number k.past k.seen (f.show setup.first).state (f.show core).state turns fit.last) (inr alive) fresh
-      ∙ ap (live_by k.number) (sym (turn_told f.tells (f.show setup.first).limits k.number k.past k.seen (f.show setup.first).state (f.show core).state turns fit.last))
+  -- what a pass was told of its transaction is so while the medium has not failed
+  pub live_at : (turns : List Turn) (core : C) (k : Known C) → CanShare f.tells setup.callers (f.show setup.first) → Fits f.tells f.show setup turns (f.show core).state k → IsFalse (f.show core).state.is_dead → KnowsLive k.number (own_by k) (f.show core).state
+  live_at turns core k ready fit alive =
+      subst (λ (told : Granted). KnowsLive k.number (own_of k.number told) (f.show core).state) (sym (turn_told f.tells (f.show setup.first).limits k.number k.past k.seen (f.show setup.first).state (f.show core).state turns fit.last))
+      (turns_live f.tells (f.show setup.first).limits k.number (f.show setup.first).state (f.show core).state turns nothing_own
+      (turn_run f.tells (f.show setup.first).limits k.number k.past k.seen (f.show setup.first).state (f.show core).state turns fit.last) (inr alive)
+      (fresh_live k.number (f.show setup.first).state (ready.live k.number) (ready.offers k.number)))
 
   -- the names are those of the core
   pub named_at : (s : TableOf C) (h : IsKept f setup s) → setup.names ≡ (f.show h.core).state.names
@@ -203,7 +206,7 @@ module _ {C : Type 0} (f : Face C) (setup : Setup C) where
       let names : List (List ℕ) = (f.show h.core).state.names in
       let covered : (i : ℕ) → IsCovered (touched (f.show h.core).state.names (calls_of (f.show h.core).state i)) (h.holds i) = λ i. subst (λ ns. IsCovered (touched ns (calls_of (f.show h.core).state i)) (h.holds i)) (named_at s h) (h.locks.covered alive i) in
       let has : (t : ℕ) → hold_of t k ≡ get_or (h.holds k.number) t Free = λ t. ap (λ (hs : List Hold). get_or hs t Free) mine in record {
-        mine = live_at h.turns h.core k (h.ready.live k.number) (h.fit id (shared_view (k ∷ []) None) at).0 alive;
+        mine = live_at h.turns h.core k h.ready (h.fit id (shared_view (k ∷ []) None) at).0 alive;
         reads = λ t i l ne g. unread (touched names (calls_of (f.show h.core).state i) t mode.Exclusive) (get_or (h.holds k.number) t Free) (get_or (h.holds i) t Free)
             ((covered i).writes t) ((h.locks.stripes t l).apart i k.number (λ e. ne (sym e))) (sym (ap granted (has t)) ∙ g);
         writes = λ t i l ne g. untouched (touched names (calls_of (f.show h.core).state i) t mode.Shared) (touched names (calls_of (f.show h.core).state i) t mode.Exclusive) (get_or (h.holds k.number) t Free) (get_or (h.holds i) t Free)
@@ -310,7 +313,7 @@ module _ {C : Type 0} (f : Face C) (setup : Setup C) where
       (λ (ne : id ≢ x.seat). some≢none core (sym held ∙ x.others id v ne at)))
       h.place
 
-  told_by : (s : TableOf C) (id told : ℕ) (k : Known C) (call : Call) (reply : Reply) (old new : C) (h : IsKept f setup s) → Moved f setup k.number call reply h.core new → (IsFalse (f.show h.core).state.is_dead → IsTrue (is_some ((f.show h.core).state.live k.number)) → IsCovered (locks (names_of k) call) k.holds) → told ≡ length ((f.show new).state.history) → get_elem? s.views id ≡ some (shared_view (k ∷ []) (Some old))
+  told_by : (s : TableOf C) (id told : ℕ) (k : Known C) (call : Call) (reply : Reply) (old new : C) (h : IsKept f setup s) → Moved f setup k.number call reply h.core new → (IsFalse (f.show h.core).state.is_dead → IsTrue (takes_calls (f.show h.core).state k.number) → IsCovered (locks (names_of k) call) k.holds) → told ≡ length ((f.show new).state.history) → get_elem? s.views id ≡ some (shared_view (k ∷ []) (Some old))
       → (x : IsHeld h.core s) → x.seat ≡ id → x.holder ≡ shared_view (k ∷ []) (Some old)
       → IsKept f setup (stepped s 65 told id ((0, Some new) ∷ []) (shared_view (shown f call reply h.turns new k ∷ []) (Some new)) keeps)
   told_by s id told k call reply old new h m has is at x seat holder =
@@ -327,7 +330,7 @@ module _ {C : Type 0} (f : Face C) (setup : Setup C) where
         holds = h.holds;
         met = h.met;
         locks = locked_same setup.callers setup.names (f.show new).state h.holds h.met s.words (set s.words 65 told) s.views (set s.views id w)
-            (locked_step setup.callers setup.names (f.show h.core).state (f.show new).state h.holds h.met s.words s.views k.number call reply h.locks goes.moves
+            (locked_step setup.callers setup.names (f.show h.core).state (f.show new).state h.holds h.met s.words s.views (f.show setup.first).limits.callers k.number call reply h.locks goes.moves
             (λ alive live. subst (λ (hs : List Hold). IsCovered (locks setup.names call) hs) (h.locks.have id v at).0.0 (subst (λ (given : Option (Setup C)). IsCovered (locks (names_in given) call) k.holds) mine.setup_is (has alive live))) m.begun
             (λ done. subst (λ (ns : List (List ℕ)). has_table ns call ≡ true) (sym (named_at s h)) (m.tabled done)))
             (λ t l. beside s.words 65 told t (omega arith) l) (each_set (λ i u. AllHave h.holds h.met u.passes) s.views id w ((h.locks.have id v at).0, tt) (λ j u _ e. h.locks.have j u e));
@@ -366,7 +369,7 @@ module _ {C : Type 0} (f : Face C) (setup : Setup C) where
         whose = all_of_append setup.callers h.turns ((k.number, call, reply) ∷ []) h.whose (few, tt);
       }
 
-  pub tells_keeps : (slots id told : ℕ) (k : Known C) (call : Call) (reply : Reply) (old new : C) → Moved f setup k.number call reply old new → (IsFalse (f.show old).state.is_dead → IsTrue (is_some ((f.show old).state.live k.number)) → IsCovered (locks (names_of k) call) k.holds) → told ≡ length ((f.show new).state.history)
+  pub tells_keeps : (slots id told : ℕ) (k : Known C) (call : Call) (reply : Reply) (old new : C) → Moved f setup k.number call reply old new → (IsFalse (f.show old).state.is_dead → IsTrue (takes_calls (f.show old).state k.number) → IsCovered (locks (names_of k) call) k.holds) → told ≡ length ((f.show new).state.history)
       → Allows (Rule f setup) slots id (shared_view (k ∷ []) (Some old), (0, Some new) ∷ []) 65 (λ _. told) (λ _. tells_length f call reply (step slots 65 told 0 none) (shared_view (k ∷ []) (Some old), (0, Some new) ∷ []) told)
   tells_keeps slots id told k call reply old new m has is s rule wide at _ =
       let v : View C = shared_view (k ∷ []) (Some old) in
@@ -375,7 +378,7 @@ module _ {C : Type 0} (f : Face C) (setup : Setup C) where
         shared_view (shown f call reply h.turns new k ∷ []) (Some new),
         keeps,
         tt,
-        inr (inr (told_by s id told k call reply old new h (subst (λ c. Moved f setup k.number call reply c new) (sym x.3) m) (subst (λ c. IsFalse (f.show c).state.is_dead → IsTrue (is_some ((f.show c).state.live k.number)) → IsCovered (locks (names_of k) call) k.holds) (sym x.3) has) is at x.0 x.1 x.2)),
+        inr (inr (told_by s id told k call reply old new h (subst (λ c. Moved f setup k.number call reply c new) (sym x.3) m) (subst (λ c. IsFalse (f.show c).state.is_dead → IsTrue (takes_calls (f.show c).state k.number) → IsCovered (locks (names_of k) call) k.holds) (sym x.3) has) is at x.0 x.1 x.2)),
         λ was core held e. let now : C → SeatOf C = λ c. (shared_view (shown f call reply h.turns c k ∷ []) (Some c), (0, Some new) ∷ []) in
             let old_is : h.core ≡ was = x.3 ∙ some_same old was held in record {
               setup = setup;
@@ -498,7 +501,7 @@ module _ {C : Type 0} (f : Face C) (setup : Setup C) where
       → Allows (Rule f setup) slots id m 64 (λ n. either (eqb n 0) turn n) (takes_turn f (step slots 64 0 turn none) m)
   takes_turn_as slots id turn k m e is = subst (λ (m : SeatOf C). Allows (Rule f setup) slots id m 64 (λ n. either (eqb n 0) turn n) (takes_turn f (step slots 64 0 turn none) m)) (sym e) (takes_turn_keeps slots id turn k is)
 
-  pub tells_as : (slots id told : ℕ) (k : Known C) (call : Call) (reply : Reply) (old new : C) (m : SeatOf C) → m ≡ (shared_view (k ∷ []) (Some old), (0, Some new) ∷ []) → Moved f setup k.number call reply old new → (IsFalse (f.show old).state.is_dead → IsTrue (is_some ((f.show old).state.live k.number)) → IsCovered (locks (names_of k) call) k.holds) → told ≡ length ((f.show new).state.history)
+  pub tells_as : (slots id told : ℕ) (k : Known C) (call : Call) (reply : Reply) (old new : C) (m : SeatOf C) → m ≡ (shared_view (k ∷ []) (Some old), (0, Some new) ∷ []) → Moved f setup k.number call reply old new → (IsFalse (f.show old).state.is_dead → IsTrue (takes_calls (f.show old).state k.number) → IsCovered (locks (names_of k) call) k.holds) → told ≡ length ((f.show new).state.history)
       → Allows (Rule f setup) slots id m 65 (λ _. told) (λ _. tells_length f call reply (step slots 65 told 0 none) m told)
   tells_as slots id told k call reply old new m e moved has is = subst (λ (m : SeatOf C). Allows (Rule f setup) slots id m 65 (λ _. told) (λ _. tells_length f call reply (step slots 65 told 0 none) m told)) (sym e) (tells_keeps slots id told k call reply old new moved has is)
 

@@ -1,11 +1,11 @@
 -- What a pass has of the stripes of keys, and how its steps change that.
-use Rattle.std.specs.Prelude.{ℕ, ◌≡◌, ◌≢◌, ◌<◌, ◌≤◌, ◌+◌, ◌/◌, ◌^◌, ◌==◌, Bool, true, false, not, ◌&&◌, IsTrue, IsFalse, MatchBool, is_some, filter, Option, None, if◌then◌else◌, List, [], ◌∷◌, ◌++◌, length, replicate, slice_index_or, slice_set, unwrap_or}
+use Rattle.std.specs.Prelude.{ℕ, ◌≡◌, ◌≢◌, ◌<◌, ◌≤◌, ◌+◌, ◌/◌, ◌^◌, ◌==◌, Bool, true, false, not, ◌&&◌, IsTrue, IsFalse, MatchBool, filter, Option, None, if◌then◌else◌, List, [], ◌∷◌, ◌++◌, length, replicate, slice_index_or, slice_set, unwrap_or}
 use Rattle.std.specs.Int.{bit_at}
 use Rattle.record_slots.specs.Names.{number_of}
 use Rattle.history.specs.Table.{Granted}
 use Rattle.history.specs.Locks.{Touch, touches, touched, has_table}
 use Rattle.history.specs.declared.call.Call.{Call}
-use Rattle.history.specs.declared.call.Call.TheVariants.{Get, Put, Del, Scan, Commit, Abort}
+use Rattle.history.specs.declared.call.Call.TheVariants.{Get, Put, Del, Scan, Commit, Abort, Offer, Settle}
 use Rattle.history.specs.declared.call.Reply.{Reply}
 use Rattle.history.specs.declared.call.Reply.TheVariants as says
 use Rattle.history.specs.declared.locks.Mode.{Mode}
@@ -19,7 +19,7 @@ use Rattle.mars_manager.specs.declared.locking.Lock.{Lock}
 use Rattle.mars_manager.specs.declared.locking.Lock.TheVariants.{Held, Busy, NoTransaction}
 use Rattle.mars_manager.specs.declared.view.Met.{Met}
 use Rattle.mars_manager.specs.declared.view.Known.{Known}
-use Rattle.mars_manager.specs.Pass.{live_of, names_of, finds}
+use Rattle.mars_manager.specs.Pass.{live_of, takes_of, names_of, finds}
 
 -- what is touched for reading is shared or exclusive, and what is touched for writing is exclusive
 pub record IsCovered (touch : ℕ → Touch) (holds : List Hold) : Type 0 where
@@ -56,11 +56,17 @@ raised_for touch has = if touch mode.Exclusive then raised mode.Exclusive has el
 abbrev pub is_end : Call → Bool
 is_end Commit = true
 is_end Abort = true
+is_end Settle = true
 is_end call = false
 
--- whether a caller has a live transaction after a call
-abbrev pub is_live_after : Bool → Call → Reply → Bool
-is_live_after live call reply = if is_media reply then live && not (is_commit call) else (if is_refusal reply then live else not (is_end call))
+-- the transaction takes no calls after it
+abbrev pub is_last : Call → Bool
+is_last Offer = true
+is_last call = is_end call
+
+-- whether a caller has a live transaction that takes calls, after a call
+abbrev pub takes_after : Bool → Call → Reply → Bool
+takes_after takes call reply = if is_media reply then takes && not (is_commit call) else (if is_refusal reply then takes else not (is_last call))
 
 -- the replies that came of a turn; a `Busy` comes of the word of a stripe
 abbrev pub steps_of : Granted → Granted
@@ -151,14 +157,14 @@ module _ {C : Type 0} where
     pub same : now ≡ with_locks now.holds (was.met ++ more) was
     pub each : (t : ℕ) → hold_of t now ≡ raised_for (locks (names_of was) call t) (hold_of t was)
 
-  -- A pass with a live transaction has what a call locks. One without has what it had.
+  -- A pass whose transaction takes calls has what a call locks. Another has what it had.
   pub record HasReadied (call : Call) (was now : Known C) : Type 0 where
     pub more : List Met
     pub same : now ≡ with_locks now.holds (was.met ++ more) was
     pub below : (t : ℕ) → IsBelow (hold_of t was) (hold_of t now)
-    pub covered : IsTrue (is_some (live_of was)) → IsCovered (locks (names_of was) call) now.holds
-    pub each : IsTrue (is_some (live_of was)) → (t : ℕ) → hold_of t now ≡ raised_for (locks (names_of was) call t) (hold_of t was)
-    pub idle : IsFalse (is_some (live_of was)) → now.holds ≡ was.holds
+    pub covered : IsTrue (takes_of was) → IsCovered (locks (names_of was) call) now.holds
+    pub each : IsTrue (takes_of was) → (t : ℕ) → hold_of t now ≡ raised_for (locks (names_of was) call t) (hold_of t was)
+    pub idle : IsFalse (takes_of was) → now.holds ≡ was.holds
 
   -- one of the stripes that a call locks was refused
   pub record IsRefusedFor (call : Call) (h : ℕ) (was now : Known C) : Type 0 where
@@ -167,9 +173,9 @@ module _ {C : Type 0} where
     pub touches_it : IsTrue (locks (names_of was) call stripe asked)
     pub refused : IsRefused asked stripe h was now
 
-  -- a `Busy` comes where the pass has a live transaction, of a word that was in the call's way at its own step
+  -- a `Busy` comes where the pass has a transaction that takes calls, of a word that was in the call's way at its own step
   abbrev pub IsBusyBy : Call → Reply → Known C → Known C → Type 0
-  IsBusyBy call (says.Busy h) was now = IsTrue (is_some (live_of was)) × IsRefusedFor call h was now
+  IsBusyBy call (says.Busy h) was now = IsTrue (takes_of was) × IsRefusedFor call h was now
   IsBusyBy call reply was now = Unit {0}
 
   -- another pass had the turn: but for what the pass found it knows and has what it did before
@@ -181,8 +187,8 @@ module _ {C : Type 0} where
   abbrev pub HasAfter : Call → Reply → Known C → Known C → Type 0
   HasAfter call reply was now = MatchBool (is_refusal reply) (now.holds ≡ was.holds) (MatchBool (is_end call) (now.holds ≡ replicate 64 Free) ((t : ℕ) → hold_of t now ≡ raised_for (locks (names_of was) call t) (hold_of t was)))
 
-  -- what a try to lock a stripe comes to, by the live transaction of the pass and the word that it found
+  -- what a try to lock a stripe comes to, by the transaction of the pass and the word that it found
   abbrev pub Locks : Mode → ℕ → Known C → Lock → Known C → Type 0
-  Locks asked t was Held now = IsTrue (is_some (live_of was)) × HasLocked asked t was now
-  Locks asked t was (Busy h) now = IsTrue (is_some (live_of was)) × IsRefused asked t h was now
-  Locks asked t was NoTransaction now = (live_of was ≡ None) × (now ≡ was)
+  Locks asked t was Held now = IsTrue (takes_of was) × HasLocked asked t was now
+  Locks asked t was (Busy h) now = IsTrue (takes_of was) × IsRefused asked t h was now
+  Locks asked t was NoTransaction now = IsFalse (takes_of was) × (now ≡ was)

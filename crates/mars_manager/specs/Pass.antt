@@ -1,5 +1,5 @@
 -- What a pass knows.
-use Rattle.std.specs.Prelude.{ℕ, zero, suc, ◌≡◌, ◌≢◌, ◌+◌, ◌<◌, ◌≤◌, ◌==◌, if◌then◌else◌, Bool, List, [], ◌∷◌, ◌++◌, map, length, replicate, Option, Some, None}
+use Rattle.std.specs.Prelude.{ℕ, zero, suc, ◌≡◌, ◌≢◌, ◌+◌, ◌<◌, ◌≤◌, ◌==◌, if◌then◌else◌, Bool, ◌&&◌, not, is_some, List, [], ◌∷◌, ◌++◌, map, length, replicate, Option, Some, None}
 use Rattle.atomic_table.specs.Seated.{TableId}
 use Rattle.history.specs.Table.{Granted}
 use Rattle.history.specs.declared.call.Call.{Call}
@@ -7,7 +7,7 @@ use Rattle.history.specs.declared.call.Reply.{Reply}
 use Rattle.caller_steps.specs.State.{State}
 use Rattle.caller_steps.specs.Core.{CoreView}
 use Rattle.caller_steps.specs.Run.{Turn, turns_of, LastTurn}
-use Rattle.caller_steps.specs.Own.{live_by}
+use Rattle.caller_steps.specs.Own.{Own, own_of, live_by}
 use Rattle.stripe_words.specs.declared.hold.Hold.TheVariants.{Free}
 use Rattle.mars_manager.specs.declared.setup.Setup.{Setup}
 use Rattle.mars_manager.specs.declared.view.Known.{Known}
@@ -33,9 +33,21 @@ module _ {C : Type 0} where
   abbrev pub told_of : Known C → Granted
   told_of known = turns_of known.number known.past
 
+  -- what these say of its caller's transactions
+  abbrev pub own_by : Known C → Own
+  own_by known = own_of known.number (told_of known)
+
   -- the live transaction of its caller, as its turns say
   abbrev pub live_of : Known C → Option Granted
   live_of known = live_by known.number (told_of known)
+
+  -- whether its caller has offered one that waits for its settle
+  abbrev pub waits_of : Known C → Bool
+  waits_of known = (own_by known).waits
+
+  -- whether its caller has a live one that takes calls
+  abbrev pub takes_of : Known C → Bool
+  takes_of known = not (waits_of known) && is_some (live_of known)
 
   -- what each of these passes knows is true
   abbrev pub AllFit : Bool → (C → CoreView) → Setup C → List Turn → State → List (Known C) → Type 0

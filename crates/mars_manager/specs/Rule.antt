@@ -13,7 +13,7 @@ use Rattle.mars_manager.specs.declared.view.Stage.TheVariants.{Vacant, Opening, 
 use Rattle.mars_manager.specs.declared.view.View.{View}
 use Rattle.mars_manager.specs.declared.setup.Setup.{Setup}
 use Rattle.caller_steps.specs.Run.{Turn, GoesAlong, AreOf}
-use Rattle.mars_manager.specs.Pass.{names_of, AllFit, known_after, known_at, live_of, finds, hears, times}
+use Rattle.mars_manager.specs.Pass.{names_of, AllFit, known_after, known_at, own_by, finds, hears, times}
 use Rattle.mars_manager.specs.Sharing.{CanShare, Since}
 use Rattle.mars_manager.specs.Seat.{TableOf, SeatOf, view, shared_view, seat_of, first_of, opener}
 use Rattle.mars_manager.specs.Locks.{IsCovered, Finds, FindsOther, hold_of, with_hold, marked_by, excluded_by, noted}
@@ -21,6 +21,7 @@ use Rattle.mars_manager.specs.Asked.{set_for, HasAsked, AreCaused}
 use Rattle.stripe_words.specs.declared.hold.Hold.{Hold}
 use Rattle.stripe_words.specs.declared.hold.Hold.TheVariants as hold
 use Rattle.stripe_words.specs.Words.{Stands, granted, locked}
+use Rattle.caller_steps.specs.Own.{KnowsLive}
 use Rattle.caller_steps.specs.State.{State, calls_of}
 use Rattle.history.specs.Locks.{touched, is_touch}
 use Rattle.history.specs.declared.locks.Mode.{Mode}
@@ -135,10 +136,11 @@ module _ {C : Type 0} where
     abbrev pub shown : Call → Reply → List Turn → C → Known C → Known C
     shown call reply turns core known = known_after known turns (f.show core).state call reply
 
-    -- While the medium has not failed, the core's live transaction of a pass is that which it was told of. Another caller's touches for writing
-    -- no stripe that the pass may read, and touches none that it may write.
+    -- While the medium has not failed, what the core has of a pass's transaction is what it was told of: the live one, or, where it waits for its
+    -- settle, the one that it has offered or that a group has committed since. Another caller's touches for writing no stripe that the pass may read,
+    -- and touches none that it may write.
     pub record HasAlone (core : C) (known : Known C) : Type 0 where
-      pub mine : (f.show core).state.live known.number ≡ live_of known
+      pub mine : KnowsLive known.number (own_by known) (f.show core).state
       pub reads : (t h : ℕ) → t < 64 → h ≢ known.number → granted (hold_of t known) ≡ 1 → IsFalse (touched (f.show core).state.names (calls_of (f.show core).state h) t mode.Exclusive)
       pub writes : (t h : ℕ) → t < 64 → h ≢ known.number → locked (hold_of t known) ≡ 1 → IsFalse (is_touch (touched (f.show core).state.names (calls_of (f.show core).state h) t))
 

@@ -1,21 +1,23 @@
 -- What holds for a core while it is shared, and what a call does.
-use Rattle.std.specs.Prelude.{ℕ, ◌≡◌, ◌≤◌, Bool, false, IsTrue, MatchBool, List, [], ◌∷◌, ◌++◌, length, Some, None, unwrap_or}
+use Rattle.std.specs.Prelude.{ℕ, ◌≡◌, ◌≢◌, ◌≤◌, ◌⊎◌, Bool, false, IsTrue, MatchBool, List, [], ◌∷◌, ◌++◌, length, Some, None, unwrap_or}
 use Rattle.mars_base.specs.Causes.{Rose}
 use Rattle.atomic_table.specs.Seated.{TableId}
 use Rattle.history.specs.Writes.{Table}
 use Rattle.history.specs.Legal.{IsLegal}
 use Rattle.history.specs.declared.transaction.Done.{Done}
 use Rattle.history.specs.declared.call.Call.{Call}
+use Rattle.history.specs.declared.call.Call.TheVariants.{Settle}
 use Rattle.history.specs.declared.call.Reply.{Reply}
 use Rattle.history.specs.declared.call.Reply.TheVariants.{Committed, Dead}
 use Rattle.caller_steps.specs.Fate.{is_committed}
 use Rattle.caller_steps.specs.Sound.{IsSound}
 use Rattle.caller_steps.specs.Core.{CoreView, IsSafe, Steps, Continues}
-use Rattle.caller_steps.specs.Run.{Turn, GoesAlong, AreOf, commits_of, LastTurn}
+use Rattle.caller_steps.specs.State.{unoffered, commits_of}
+use Rattle.caller_steps.specs.Run.{Turn, GoesAlong, AreOf, LastTurn}
 use Rattle.mars_manager.specs.declared.setup.Setup.{Setup}
 use Rattle.mars_manager.specs.declared.view.Known.{Known}
 use Rattle.mars_manager.specs.Locks.{with_locks}
-use Rattle.mars_manager.specs.Pass.{PassView, AreSo, known_after, known_at, live_of}
+use Rattle.mars_manager.specs.Pass.{PassView, AreSo, known_after, known_at, live_of, waits_of}
 
 -- what contracts see of a shared core: its table and how it was shared
 pub record MarsView (C : Type 0) : Type 0 where
@@ -28,6 +30,7 @@ pub record CanShare (tells : Bool) (callers : ℕ) (core : CoreView) : Type 0 wh
   pub alive : core.state.is_dead ≡ false
   pub history : core.state.history ≡ []
   pub live : (caller : ℕ) → core.state.live caller ≡ None
+  pub offers : (caller : ℕ) → core.state.offers caller ≡ unoffered
   pub enough : callers ≤ core.limits.callers
   pub sound : IsTrue tells → IsSound core.state
   pub now : IsTrue tells → IsSafe core core.moment 0
@@ -87,9 +90,13 @@ module _ {C : Type 0} where
   abbrev pub IsLegalIn : (C → CoreView) → Known C → Type 0
   IsLegalIn show known = (setup : Setup C) → known.setup ≡ Some setup → IsLegal (show setup.first).state.base known.seen
 
-  -- the transaction that a pass commits
+  -- the live transaction of a pass as one of the history, with this number, and with that of the last of its group
+  abbrev pub settled_of : Known C → ℕ → ℕ → Done
+  settled_of was at last = record { caller = was.number; calls = unwrap_or (live_of was) []; at = at; last = last }
+
+  -- the same committed alone
   abbrev pub done_of : Known C → ℕ → Done
-  done_of was at = record { caller = was.number; calls = unwrap_or (live_of was) []; at = at; last = at }
+  done_of was at = settled_of was at at
 
   -- the transactions of its caller that a pass has seen
   abbrev pub mine_of : Known C → List Done
@@ -103,6 +110,21 @@ module _ {C : Type 0} where
     pub mine : mine_of now ≡ mine_of was ++ done_of was (length now.seen) ∷ []
     pub told : IsTrue tells → reply ≡ Committed (length now.seen)
 
-  -- that at a commit; at any other reply the caller's own transactions stay the same
-  abbrev pub Commits : Bool → Known C → Reply → Known C → Type 0
-  Commits tells was reply now = MatchBool (is_committed reply) (HasCommitted tells was reply now) (mine_of now ≡ mine_of was)
+  -- A settle: the last among the caller's own is that which it has offered, with exactly its live calls; there may be others behind it in the
+  -- history. Before, the pass had seen all of its own but this one, or also this one. If the core tells its records, the reply has its number.
+  pub record HasSettled (tells : Bool) (was : Known C) (reply : Reply) (now : Known C) : Type 0 where
+    pub at : ℕ
+    pub last : ℕ
+    pub before : List Done
+    pub mine : mine_of now ≡ before ++ settled_of was at last ∷ []
+    pub seen : (mine_of was ≡ before) ⊎ (mine_of was ≡ mine_of now)
+    pub told : IsTrue tells → reply ≡ Committed at
+
+  -- The caller's own transactions stay the same. Only while it waits for its settle may another's have committed the one that it has offered,
+  -- which the pass then sees.
+  abbrev pub SeesOwn : Known C → Known C → Type 0
+  SeesOwn was now = (mine_of now ≡ mine_of was) ⊎ (IsTrue (waits_of was) × (at : ℕ) × (last : ℕ) × (mine_of now ≡ mine_of was ++ settled_of was at last ∷ []))
+
+  -- What a reply says of the caller's own transactions. A pass that waits is told of a commit by its settle, and another by its commit.
+  abbrev pub Commits : Bool → Known C → Call → Reply → Known C → Type 0
+  Commits tells was call reply now = MatchBool (is_committed reply) (MatchBool (waits_of was) (HasSettled tells was reply now) (call ≢ Settle → HasCommitted tells was reply now)) (SeesOwn was now)

@@ -234,8 +234,8 @@ impl<C: Core + Drop> Mars<C> {
         }
     }
 
-    /// Tries to lock a stripe of keys for the pass's live transaction, in one step on its word and without the turn. A lock stands until the
-    /// transaction ends. At a refusal the pass has what it had: a shared lock stays if it cannot be made exclusive.
+    /// Tries to lock a stripe of keys for the pass's transaction, if it takes calls, in one step on its word and without the turn. A lock stands until
+    /// the transaction ends. At a refusal the pass has what it had: a shared lock stays if it cannot be made exclusive.
     pub fn lock(&self, pass: &mut Pass<C>, stripe: u8, asked: Mode) -> Lock
         requires own { pass.old.table ≡ self.now.table }
         requires stripe { stripe < 64 }
@@ -243,7 +243,7 @@ impl<C: Core + Drop> Mars<C> {
         ensures lock { Locks asked stripe pass.old.known result pass.new.known }
         ensures steps { Meets (IsStepFor asked stripe) pass.old.known pass.new.known }
     {
-        if !pass.live {
+        if !pass.takes {
             return Lock::NoTransaction;
         }
         match self.try_lock(pass, stripe, asked) {

@@ -3,7 +3,7 @@ ghost use Rattle.std.specs.Prelude.{◌≡◌, ◌≤◌, ◌+◌, IsTrue, drop,
 ghost use Rattle.history.specs.Legal.{AreNumberedFrom};
 ghost use Rattle.caller_steps.specs.Prefix.{Grows};
 ghost use Rattle.mars_manager.specs.Pass.{told_of, finds, IsOther};
-ghost use Rattle.mars_manager.specs.Sharing.{IsLegalIn, mine_of, Reads};
+ghost use Rattle.mars_manager.specs.Sharing.{IsLegalIn, SeesOwn, Reads};
 ghost use Rattle.mars_manager.specs.Seat.{first_of, seat_of, IsSeat};
 
 use crate::mars::{Again, CORE, Mars, TURN};
@@ -67,7 +67,7 @@ impl<C: Core + Drop> Mars<C> {
         ensures seen { Grows pass.old.known.seen pass.new.known.seen }
         ensures legal { IfOk result (λ _. IsTrue C.tells → IsLegalIn C.view pass.new.known) }
         ensures told { told_of pass.new.known ≡ told_of pass.old.known }
-        ensures mine { mine_of pass.new.known ≡ mine_of pass.old.known }
+        ensures mine { SeesOwn pass.old.known pass.new.known }
         ensures holds { pass.new.known.holds ≡ pass.old.known.holds }
         ensures again { IfErr result (λ a. IsOther pass.old.known a.holder × (pass.new.known ≡ finds (a.holder + 1) pass.old.known)) }
     {

@@ -1,7 +1,7 @@
 // What calls and replies say of a caller's transaction.
 ghost use Rattle.std.specs.Prelude.{◌≡◌};
 ghost use Rattle.caller_steps.specs.Fate.{is_refusal};
-ghost use Rattle.mars_manager.specs.Locks.{is_end, is_live_after};
+ghost use Rattle.mars_manager.specs.Locks.{is_end, is_last, takes_after};
 
 use history::{Call, Reply};
 
@@ -24,18 +24,28 @@ pub fn is_refusal(reply: &Reply) -> bool
 pub fn is_end(call: &Call) -> bool
     ensures { result ≡ is_end call.now }
 {
-    matches!(call, Call::Commit | Call::Abort)
+    matches!(call, Call::Commit | Call::Abort | Call::Settle)
 }
 
-// Whether a caller has a live transaction after a call.
-pub fn is_live_after(live: bool, call: &Call, reply: &Reply) -> bool
-    ensures { result ≡ is_live_after live call.now reply.now }
+// Whether its caller's transaction takes no calls after a call, if it is done.
+fn is_last(call: &Call) -> bool
+    ensures { result ≡ is_last call.now }
+{
+    matches!(
+        call,
+        Call::Commit | Call::Abort | Call::Offer | Call::Settle
+    )
+}
+
+// Whether a caller has a live transaction that takes calls, after a call.
+pub fn takes_after(takes: bool, call: &Call, reply: &Reply) -> bool
+    ensures { result ≡ takes_after takes call.now reply.now }
 {
     if matches!(reply, Reply::Media) {
-        return live && !matches!(call, Call::Commit);
+        return takes && !matches!(call, Call::Commit | Call::Settle);
     }
     if is_refusal(reply) {
-        return live;
+        return takes;
     }
-    !is_end(call)
+    !is_last(call)
 }

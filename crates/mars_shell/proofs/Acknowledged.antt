@@ -1,26 +1,31 @@
 -- What was acknowledged as committed stands in the history.
-use Rattle.std.proofs.Common.{Bool, true, ◌≡◌, ℕ, ◌+◌, ◌<◌, ◌≤◌, ◌^◌, List, [], ◌∷◌, ◌++◌, length, get_or, Option, Some, None, inl, inr, refl, sym, ap, subst, ◌∙◌, arith}
+use Rattle.std.proofs.Common.{Bool, true, ◌≡◌, ℕ, ◌+◌, ◌-◌, ◌<◌, ◌≤◌, ◌^◌, List, [], ◌∷◌, ◌++◌, length, get_or, Option, Some, None, inl, inr, refl, sym, ap, subst, ◌∙◌, arith}
 use Rattle.std.specs.Prelude.{Contains, codes}
 use Rattle.std.specs.Fmt.{decimal}
 use Rattle.std.specs.Str.Parse.{AllDigits}
 use Rattle.std.proofs.lemmas.Bool.{cases_lt}
+use Rattle.std.proofs.lemmas.Option.{slice_get_within}
 use Rattle.std.proofs.lemmas.Fmt.{decimal_injective, decimal_nonempty, digits_decimal}
 use Rattle.std.proofs.lemmas.List.{append_cancel_left, append_cancel_right, append_assoc, length-append, append-nil}
 use Rattle.std.proofs.lemmas.List.Elements.{Contains-append_cases, Contains-push_cases}
 use Rattle.std.proofs.lemmas.Str.Parse.{numerals_by_value, tells_digits, digit_at}
 use Rattle.history.specs.declared.call.Call.{Call}
-use Rattle.history.specs.declared.call.Call.TheVariants.{Begin, Get, Put, Del, Scan, Save, Back, Commit, Abort}
+use Rattle.history.specs.declared.call.Call.TheVariants.{Begin, Get, Put, Del, Scan, Save, Back, Commit, Abort, Offer, Settle}
 use Rattle.history.specs.declared.call.Reply.{Reply}
 use Rattle.history.specs.declared.call.Reply.TheVariants.{Fine, Found, Absent, Listed, Saved, Committed, NoTransaction, NoTable, Already, NoSave, SavesFull, Busy, LogFull, SlotsFull, PagesFull, Media, Dead, NoMemory, Damaged}
 use Rattle.history.specs.Table.{Work, found, removed, Answers}
+use Rattle.history.specs.declared.transaction.Done.{Done}
 use Rattle.caller_steps.specs.State.{State, done_by}
 use Rattle.caller_steps.specs.Room.{Limits}
 use Rattle.caller_steps.specs.Run.{Turn}
-use Rattle.caller_steps.specs.Step.{Runs}
+use Rattle.caller_steps.specs.Step.{Step, Runs}
 use Rattle.caller_steps.proofs.Continuing.{grows_longer}
-use Rattle.caller_steps.proofs.Fates.{Fate, refused, failed, began, granted, committed, doubted, aborted, step_fate}
+use Rattle.caller_steps.specs.Sound.{IsCommittedAs, IsSound}
+use Rattle.caller_steps.proofs.Fates.{Fate, refused, failed, began, granted, committed, doubted, aborted, given, settled, unsure, told as numbered, step_fate}
+use Rattle.caller_steps.proofs.Settling.{settle_told}
+use Rattle.caller_steps.proofs.Sound.{runs_sound}
 use Rattle.caller_steps.proofs.Refusing.{line_is as turn_is}
-use Rattle.caller_steps.proofs.Running.{turns_grow}
+use Rattle.caller_steps.proofs.Running.{turns_grow, turns_tell}
 use Rattle.script_text.specs.Replies.{reply_text, row_lines, reply_line, bad_line}
 use Rattle.script_text.proofs.Words.{first_space}
 use Rattle.script_text.proofs.Numbers.{decimal_is_word}
@@ -147,18 +152,34 @@ table_commits_nothing work (Back n) k is = let e = is.1 in cc
 table_commits_nothing work Begin k is = is
 table_commits_nothing work Commit k is = is
 table_commits_nothing work Abort k is = is
+table_commits_nothing work Offer k is = is
+table_commits_nothing work Settle k is = is
 
--- a commit is answered with the length of the history after it
-committed_long : (old : State) (caller : ℕ) (call : Call) (k : ℕ) (new : State) → Fate old caller call (Committed k) new → k ≡ length new.history
-committed_long old caller call k new (refused is sure index e) = absurd (cc)
-committed_long old caller call k new (failed is index e) = absurd (cc)
-committed_long old caller call k new (began is re e) = absurd (cc)
-committed_long old caller call k new (granted calls live free answers index e) = absurd (table_commits_nothing _ call k answers)
-committed_long old caller call k new (committed calls is re live index e) =
-    let count : k ≡ length old.history + 1 = cc in
-    omega (arith, count, ap (λ (s : State). length s.history) e, length-append old.history (done_by old caller calls ∷ []))
-committed_long old caller call k new (doubted calls is re live index e) = absurd (cc)
-committed_long old caller call k new (aborted is re e) = absurd (cc)
+-- the number of a transaction of the history is none beyond it
+number_within : (history : List Done) (caller n : ℕ) → IsCommittedAs history caller n → n ≤ length history
+number_within history caller n is = let within = slice_get_within history (n - 1) is.1 is.2 in omega (arith, is.0, within)
+
+-- a commit or a settle is answered with the number of a transaction that the history then has
+committed_long : (limits : Limits) (old : State) (caller : ℕ) (call : Call) (k : ℕ) (new : State) → IsSound old → Step limits old caller call (Committed k) new → k ≤ length new.history
+committed_long limits old caller call k new sound step = go (step_fate limits old caller new call (Committed k) step)
+  where
+    settles : call ≡ Settle → k ≤ length new.history
+    settles is = number_within new.history caller k (settle_told limits old new caller k sound (subst (λ (c : Call). Step limits old caller c (Committed k) new) is step))
+
+    go : Fate limits.callers old caller call (Committed k) new → k ≤ length new.history
+    go (refused is sure index e) = absurd (cc)
+    go (failed apart is index e) = absurd (cc)
+    go (began un is re e) = absurd (cc)
+    go (granted calls un live free answers index e) = absurd (table_commits_nothing _ call k answers)
+    go (committed calls un is re live index e) =
+        let count : k ≡ length old.history + 1 = cc in
+        omega (arith, count, ap (λ (s : State). length s.history) e, length-append old.history (done_by old caller calls ∷ []))
+    go (doubted calls un is re live index e) = absurd (cc)
+    go (aborted un is re e) = absurd (cc)
+    go (given calls un is re live e) = absurd (cc)
+    go (settled inside has is re index e) = settles is
+    go (unsure inside has is re index e) = absurd (cc)
+    go (numbered n has is re e) = settles is
 
 -- The lines of a script only add turns.
 record Adds (old new : List Turn) : Type 0 where
@@ -240,10 +261,11 @@ module _ (callers : ℕ) (most : callers ≤ 2 ^ 64) (caller m : ℕ) (few : cal
 
   -- The history has all that was acknowledged.
   pub committed_kept : (limits : Limits) (first final : State) (lines : List (List ℕ)) (ended : Ended) (cut : Bool) (answers : List (List ℕ)) (rest : List ℕ) (turns : List Turn)
-      → Runs limits first turns final → Answered (call_script callers) [] 1 lines ended cut answers rest turns → Contains answers (reply_line caller (Committed m)) → m ≤ length final.history
-  committed_kept limits first final lines ended cut answers rest turns runs answered has =
+      → IsSound first → Runs limits first turns final → Answered (call_script callers) [] 1 lines ended cut answers rest turns → Contains answers (reply_line caller (Committed m)) → m ≤ length final.history
+  committed_kept limits first final lines ended cut answers rest turns sound runs answered has =
       let told = answered_told [] 1 lines ended cut answers rest turns answered has in
       let turn : Turn = (told.caller, told.call, Committed told.number) in
       let at = turn_is limits first final told.before told.after turn (subst (λ (all : List Turn). Runs limits first all final) told.is runs) in
-      let long = committed_long at.old told.caller told.call told.number at.new (step_fate limits at.old told.caller at.new told.call (Committed told.number) at.step) in
+      let there = runs_sound limits first told.before at.old sound (turns_tell true limits first at.old told.before refl at.until) in
+      let long = committed_long limits at.old told.caller told.call told.number at.new there at.step in
       omega (arith, told.enough, long, grows_longer at.new.history final.history (turns_grow true limits at.new final told.after at.since))

@@ -94,7 +94,7 @@ module _ (tells : Bool) (callers : ℕ) (core : CoreView) (ready : CanShare tell
           rest = ran.rest;
           text_is = ran.text_is;
           answered = answered;
-          acknowledged = λ caller n few fits has. committed_kept core.limits.callers most caller n few fits core.limits core.state later.state (lines_of input) ended cut ran.answers ran.rest ran.final.turns runs answered has;
+          acknowledged = λ caller n few fits has. committed_kept core.limits.callers most caller n few fits core.limits core.state later.state (lines_of input) ended cut ran.answers ran.rest ran.final.turns (ready.sound told) runs answered has;
         };
         continues = ran.comes.continues;
         alive = λ unfailed. living core.limits core.state later.state ran.final.turns runs ready.alive

@@ -55,6 +55,7 @@ module _ (tells : Bool) (Opens : Shape → List ℕ → List ℕ → Type 0) (in
     alive = begins.over.dead ∙ begins.alive;
     history = begins.fresh.0;
     live = begins.fresh.1;
+    offers = begins.fresh.3;
     enough = subst (λ (l : Limits). callers ≤ l.callers) (sym limits_are) few;
     sound = λ told. subst IsSound (sym (begun_is told)) (opened_sound (names_of old.state.bytes) (table_of index old.state.bytes) (index_of index (upgraded old.state.bytes)));
     now = λ told image left. record { count = 0; at_least = omega arith; at_most = omega arith; whole = All-nil (λ (done : Done). done.last ≤ 0); opens = opens_base told image left };

@@ -1,9 +1,9 @@
 // Laws of whole runs, which follow from the definitions alone.
 ghost use Rattle.std.specs.Prelude.{ℕ, ◌≡◌, ◌⊎◌, ◌<◌, List, Bool, None, IsTrue};
 ghost use Rattle.history.specs.Writes.{Table};
-ghost use Rattle.caller_steps.specs.State.{State, Index, opened};
+ghost use Rattle.caller_steps.specs.State.{State, Index, opened, commits_of};
 ghost use Rattle.caller_steps.specs.Room.{Limits};
-ghost use Rattle.caller_steps.specs.Run.{Turn, commits_of, HasNoOthers};
+ghost use Rattle.caller_steps.specs.Run.{Turn, HasNoOthers};
 ghost use Rattle.caller_steps.specs.Step.{Runs};
 ghost use Rattle.caller_plans.specs.Plans.{planned, calls_by};
 ghost use Rattle.caller_work.specs.Fated.{AreFated};
@@ -28,7 +28,8 @@ use pcm_media::Media;
 use record_table::version_two_keeps;
 
 /// What the fates of callers on threads say of the history of a run: the transactions of each caller are those of its plans that committed,
-/// in their order and each once, with just the calls of the plan and under the number that was told. No other caller has any.
+/// in their order and each once, with just the calls of the plan and under the number that was told. A caller whose worker was stopped before it
+/// could settle may have one more, the plan that it had offered. No other caller has any.
 pub fn what_callers_are_told()
     ensures fated { (names : List (List ℕ)) (base : Table) (index : Index) (limits : Limits) (turns : List Turn) (final : State) → Runs limits (opened names base index) turns final
         → (callers readers tries : ℕ) (input text : List ℕ) (ended : Ended) (cut : Bool) (work : JointWork callers readers tries input ended cut text limits turns final)

@@ -81,7 +81,9 @@ impl Tally {
             | Call::Scan { .. }
             | Call::Save
             | Call::Back { .. }
-            | Call::Commit => {}
+            | Call::Commit
+            | Call::Offer
+            | Call::Settle => {}
         }
     }
 }

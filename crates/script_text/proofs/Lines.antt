@@ -5,7 +5,7 @@ use Rattle.std.proofs.lemmas.Bool.{eqb-false}
 use Rattle.std.specs.Fmt.{decimal}
 use Rattle.record_slots.specs.Text.{IsValue}
 use Rattle.history.specs.declared.call.Call.{Call}
-use Rattle.history.specs.declared.call.Call.TheVariants.{Begin, Get, Put, Del, Scan, Save, Back, Commit, Abort}
+use Rattle.history.specs.declared.call.Call.TheVariants.{Begin, Get, Put, Del, Scan, Save, Back, Commit, Abort, Offer, Settle}
 use Rattle.script_text.specs.Line.{IsCallText, IsPassedOver}
 use Rattle.script_text.specs.Named.{IsAsking}
 
@@ -24,6 +24,8 @@ pub record IsUnread (bytes : List ℕ) : Type 0 where
   pub save : bytes ≡ codes "save" → ⊥
   pub commit : bytes ≡ codes "commit" → ⊥
   pub abort : bytes ≡ codes "abort" → ⊥
+  pub offer : bytes ≡ codes "offer" → ⊥
+  pub settle : bytes ≡ codes "settle" → ⊥
   pub back : (save : ℕ) → save < 2 ^ 32 → bytes ≡ codes "back " ++ decimal save → ⊥
 
 -- and of a verb with one
@@ -50,6 +52,8 @@ no_plain bytes none Save is = none.save is.1
 no_plain bytes none (Back save) is = none.back save is.1.0 is.1.1
 no_plain bytes none Commit is = none.commit is.1
 no_plain bytes none Abort is = none.abort is.1
+no_plain bytes none Offer is = none.offer is.1
+no_plain bytes none Settle is = none.settle is.1
 
 pub no_call_of : (bytes : List ℕ) → IsUnreadOf bytes → (table : List ℕ) (call : Call) → IsAsking (Some table) call bytes → ⊥
 no_call_of bytes none table (Get name key) is = none.get key is.1.0 is.1.1
@@ -61,6 +65,8 @@ no_call_of bytes none table Save is = none_some table is.0
 no_call_of bytes none table (Back save) is = none_some table is.0
 no_call_of bytes none table Commit is = none_some table is.0
 no_call_of bytes none table Abort is = none_some table is.0
+no_call_of bytes none table Offer is = none_some table is.0
+no_call_of bytes none table Settle is = none_some table is.0
 
 -- a text that equals another
 pub text_behind : (call : Call) (rest text : List ℕ) → rest ≡ text → IsCallText call text → IsCallText call rest

@@ -6,7 +6,7 @@ use Rattle.std.proofs.lemmas.Bool.{and_parts, leb-true}
 use Rattle.record_slots.specs.Text.{IsName, is_letter}
 use Rattle.history.specs.Key.{main_name}
 use Rattle.history.specs.declared.call.Call.{Call}
-use Rattle.history.specs.declared.call.Call.TheVariants.{Begin, Get, Put, Del, Scan, Save, Back, Commit, Abort}
+use Rattle.history.specs.declared.call.Call.TheVariants.{Begin, Get, Put, Del, Scan, Save, Back, Commit, Abort, Offer, Settle}
 use Rattle.script_text.specs.Line.{asked_table, AreWordsOf, IsTextFor, IsCallText}
 use Rattle.script_text.specs.Named.{IsAsking, IsBehindName}
 use Rattle.script_text.specs.Reads.{ReadsText, IsWord}
@@ -23,6 +23,8 @@ first_letter Save words is = omega (arith, ap (λ (l : List ℕ). get_or l 0 0) 
 first_letter (Back save) words is = omega (arith, ap (λ (l : List ℕ). get_or l 0 0) is.1)
 first_letter Commit words is = omega (arith, ap (λ (l : List ℕ). get_or l 0 0) is)
 first_letter Abort words is = omega (arith, ap (λ (l : List ℕ). get_or l 0 0) is)
+first_letter Offer words is = omega (arith, ap (λ (l : List ℕ). get_or l 0 0) is)
+first_letter Settle words is = omega (arith, ap (λ (l : List ℕ). get_or l 0 0) is)
 
 pub no_sign : {X : Type 0} (call : Call) (words rest : List ℕ) → words ≡ 64 ∷ rest → AreWordsOf call words → X
 no_sign call words rest at is = absurd (omega (arith, first_letter call words is, ap (λ (l : List ℕ). get_or l 0 0) at))

@@ -5,7 +5,7 @@ use Rattle.std.specs.Fmt.{decimal}
 use Rattle.std.proofs.lemmas.Fmt.{decimal_injective, decimal_digit, decimal_nonempty, first_decimal}
 use Rattle.std.proofs.lemmas.List.{append_cancel_left, get_or_append_left, length-append}
 use Rattle.history.specs.declared.call.Call.{Call}
-use Rattle.history.specs.declared.call.Call.TheVariants.{Begin, Get, Put, Del, Scan, Save, Back, Commit, Abort}
+use Rattle.history.specs.declared.call.Call.TheVariants.{Begin, Get, Put, Del, Scan, Save, Back, Commit, Abort, Offer, Settle}
 use Rattle.script_text.specs.Line.{asked_table, AreWordsOf, IsTextFor, IsCallText, IsLineOf, IsPassedOver, LineSays}
 use Rattle.script_text.specs.declared.line.Line.{Line}
 use Rattle.script_text.specs.declared.line.Line.TheVariants.{Nothing, Told, Bad}
@@ -30,6 +30,8 @@ letters Save = 327
 letters (Back save) = 293
 letters Commit = 309
 letters Abort = 292
+letters Offer = 324
+letters Settle = 331
 
 mark_of : (call : Call) (text : List ℕ) → AreWordsOf call text → mark text ≡ letters call
 unfolding mark letters
@@ -42,6 +44,8 @@ mark_of Save text is = ap mark is
 mark_of (Back save) text is = ap mark is.1
 mark_of Commit text is = ap mark is
 mark_of Abort text is = ap mark is
+mark_of Offer text is = ap mark is
+mark_of Settle text is = ap mark is
 
 same_letters : (call other : Call) (text : List ℕ) → AreWordsOf call text → AreWordsOf other text → letters call ≡ letters other
 same_letters call other text is js = sym (mark_of call text is) ∙ mark_of other text js
@@ -74,6 +78,8 @@ same_words Save Save text asks is js = refl
 same_words (Back m) (Back n) text asks is js = ap Back (same_key (codes "back ") text m n (omega (arith, is.0)) (omega (arith, js.0)) is.1 js.1)
 same_words Commit Commit text asks is js = refl
 same_words Abort Abort text asks is js = refl
+same_words Offer Offer text asks is js = refl
+same_words Settle Settle text asks is js = refl
 same_words call other text asks is js = absurd (let h : letters call ≡ letters other = same_letters call other text is js in omega (arith, h))
 
 -- and tells whether they ask for a table
@@ -88,6 +94,8 @@ same_kind Save Save text is js = refl
 same_kind (Back m) (Back n) text is js = refl
 same_kind Commit Commit text is js = refl
 same_kind Abort Abort text is js = refl
+same_kind Offer Offer text is js = refl
+same_kind Settle Settle text is js = refl
 same_kind call other text is js = absurd (let h : letters call ≡ letters other = same_letters call other text is js in omega (arith, h))
 
 unlike : {X : Type 0} (call other : Call) (name text : List ℕ) → asked_table call ≡ None → asked_table other ≡ Some name → AreWordsOf call text → AreWordsOf other text → X

@@ -4,7 +4,7 @@ use Rattle.std.specs.Fmt.{decimal}
 use Rattle.record_slots.specs.Text.{IsName, IsValue}
 use Rattle.history.specs.Key.{main_name}
 use Rattle.history.specs.declared.call.Call.{Call}
-use Rattle.history.specs.declared.call.Call.TheVariants.{Begin, Get, Put, Del, Scan, Save, Back, Commit, Abort}
+use Rattle.history.specs.declared.call.Call.TheVariants.{Begin, Get, Put, Del, Scan, Save, Back, Commit, Abort, Offer, Settle}
 use Rattle.script_text.specs.declared.line.Line.{Line}
 use Rattle.script_text.specs.declared.line.Line.TheVariants.{Nothing, Told, Bad}
 
@@ -27,6 +27,8 @@ AreWordsOf Save words = words ≡ codes "save"
 AreWordsOf (Back save) words = (save < 2 ^ 32) × (words ≡ codes "back " ++ decimal save)
 AreWordsOf Commit words = words ≡ codes "commit"
 AreWordsOf Abort words = words ≡ codes "abort"
+AreWordsOf Offer words = words ≡ codes "offer"
+AreWordsOf Settle words = words ≡ codes "settle"
 
 -- A text of words with the name of their table before them: `@`, the name and a space. The table `main` need not be named.
 abbrev pub IsNamed : List ℕ → (List ℕ → Type 0) → List ℕ → Type 0

@@ -50,6 +50,12 @@ fn read_plain(bytes: &[u8]) -> Option<Call>
     if is_text(bytes, b"abort") {
         return Some(Call::Abort);
     }
+    if is_text(bytes, b"offer") {
+        return Some(Call::Offer);
+    }
+    if is_text(bytes, b"settle") {
+        return Some(Call::Settle);
+    }
     let save = read_u32_after(bytes, b"back ")?;
     Some(Call::Back { save })
 }

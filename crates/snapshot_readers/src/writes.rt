@@ -67,7 +67,13 @@ impl Writing {
             }
             Call::Save => self.saves.push(self.writes.len())?,
             Call::Back { save } => self.back(*save),
-            Call::Begin | Call::Get { .. } | Call::Scan { .. } | Call::Commit | Call::Abort => (),
+            Call::Begin
+            | Call::Get { .. }
+            | Call::Scan { .. }
+            | Call::Commit
+            | Call::Abort
+            | Call::Offer
+            | Call::Settle => (),
         }
         Ok(())
     }

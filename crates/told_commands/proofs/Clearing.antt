@@ -1,6 +1,6 @@
 -- A purge of the records of an array that was opened.
 use Rattle.std.proofs.Common.{◌≡◌, ◌⊎◌, ◌≤◌, ◌||◌, inl, inr, ⊎_elim, ℕ, zero, suc, Bool, true, false, List, [], ◌++◌, None, Result, Ok, Err, IfOk, IfErr, refl, sym, ap, subst, ◌∙◌, arith}
-use Rattle.std.specs.Prelude.{IsTrue, IsFalse, IsSome, take, if◌then◌else◌}
+use Rattle.std.specs.Prelude.{IsTrue, IsFalse, is_some, not, take, if◌then◌else◌}
 use Rattle.std.proofs.lemmas.Bool.{false≢true}
 use Rattle.mars_base.specs.Causes.{Rose}
 use Rattle.mars_base.proofs.Going as going
@@ -21,9 +21,10 @@ use Rattle.history.specs.Legal.{records}
 use Rattle.history.specs.Writes.{Table}
 use Rattle.history.specs.declared.transaction.Done.{Done}
 use Rattle.caller_steps.specs.Core.{CoreView}
+use Rattle.caller_steps.specs.Offers.{is_unoffered, is_engaged}
 use Rattle.caller_steps.specs.Prefix.{HasPrefixOf}
 use Rattle.caller_steps.specs.Purging.{Purged, PurgeStep, PurgeCause, Purges, is_media_refusal}
-use Rattle.caller_steps.specs.State.{State}
+use Rattle.caller_steps.specs.State.{State, unoffered}
 use Rattle.caller_steps.specs.declared.purge_fault.PurgeFault.{PurgeFault}
 use Rattle.caller_steps.specs.declared.purge_fault.PurgeFault.TheVariants as stop
 use Rattle.mars_core.specs.Over.{IsOver, Begins}
@@ -46,31 +47,35 @@ use Rattle.array_runs.proofs.Opened.{holds, at_entry}
 use Rattle.array_runs.proofs.Shapes.{same_limits}
 use Rattle.array_runs.proofs.Statuses.{outcome_as}
 
+-- a caller without a transaction, which has offered nothing
+pub idle_as : (state : State) → state.live 0 ≡ None → state.offers 0 ≡ unoffered → is_engaged state 0 ≡ false
+idle_as state none free = λ i. is_some (none i) || not (is_unoffered (free i))
+
 -- of a core that nobody else calls nothing but its medium or a damaged page stops a purge
-pub stops : (old : State) (r : Result ℕ PurgeFault) → old.is_dead ≡ false → old.live 0 ≡ None → PurgeCause old 0 r → IfErr r IsStop
-stops old (Ok n) alive none cause = tt
-stops old (Err stop.Media) alive none cause = tt
-stops old (Err (stop.Damaged page)) alive none cause = tt
-stops old (Err stop.Dead) alive none cause = absurd (false≢true (sym alive ∙ cause))
-stops old (Err stop.Already) alive none cause = absurd (false≢true (subst IsSome none cause.1))
+pub stops : (old : State) (r : Result ℕ PurgeFault) → old.is_dead ≡ false → is_engaged old 0 ≡ false → PurgeCause old 0 r → IfErr r IsStop
+stops old (Ok n) alive idle cause = tt
+stops old (Err stop.Media) alive idle cause = tt
+stops old (Err (stop.Damaged page)) alive idle cause = tt
+stops old (Err stop.Dead) alive idle cause = absurd (false≢true (sym alive ∙ cause))
+stops old (Err stop.Already) alive idle cause = absurd (false≢true (sym idle ∙ cause.1))
 
 -- a store that tells its data has no damaged page
-stop_cause : (tells : Bool) (Keeps : List ℕ → Key → Type 0) (old new : State) (r : Result ℕ PurgeFault) → old.is_dead ≡ false → old.live 0 ≡ None → PurgeCause old 0 r → (IsTrue tells → PurgeStep Keeps old 0 r new)
+stop_cause : (tells : Bool) (Keeps : List ℕ → Key → Type 0) (old new : State) (r : Result ℕ PurgeFault) → old.is_dead ≡ false → is_engaged old 0 ≡ false → PurgeCause old 0 r → (IsTrue tells → PurgeStep Keeps old 0 r new)
     → IfErr (cleared r) (StopCause tells)
-stop_cause tells Keeps old new (Ok n) alive none cause step = tt
-stop_cause tells Keeps old new (Err stop.Media) alive none cause step = tt
-stop_cause tells Keeps old new (Err (stop.Damaged page)) alive none cause step = step
-stop_cause tells Keeps old new (Err stop.Dead) alive none cause step = absurd (false≢true (sym alive ∙ cause))
-stop_cause tells Keeps old new (Err stop.Already) alive none cause step = absurd (false≢true (subst IsSome none cause.1))
+stop_cause tells Keeps old new (Ok n) alive idle cause step = tt
+stop_cause tells Keeps old new (Err stop.Media) alive idle cause step = tt
+stop_cause tells Keeps old new (Err (stop.Damaged page)) alive idle cause step = step
+stop_cause tells Keeps old new (Err stop.Dead) alive idle cause step = absurd (false≢true (sym alive ∙ cause))
+stop_cause tells Keeps old new (Err stop.Already) alive idle cause step = absurd (false≢true (sym idle ∙ cause.1))
 
 -- the count of the medium's faults
-counted : (old : State) (r : Result ℕ PurgeFault) (m m' : ℕ) → old.is_dead ≡ false → old.live 0 ≡ None → (IsTrue (is_media_refusal r) → Rose m m') → (IsFalse (is_media_refusal r) → m' ≡ m) → PurgeCause old 0 r
+counted : (old : State) (r : Result ℕ PurgeFault) (m m' : ℕ) → old.is_dead ≡ false → is_engaged old 0 ≡ false → (IsTrue (is_media_refusal r) → Rose m m') → (IsFalse (is_media_refusal r) → m' ≡ m) → PurgeCause old 0 r
     → ClearedCounts (cleared r) m m'
-counted old (Ok n) m m' alive none failed kept cause = kept refl
-counted old (Err stop.Media) m m' alive none failed kept cause = failed refl
-counted old (Err (stop.Damaged page)) m m' alive none failed kept cause = kept refl
-counted old (Err stop.Dead) m m' alive none failed kept cause = absurd (false≢true (sym alive ∙ cause))
-counted old (Err stop.Already) m m' alive none failed kept cause = absurd (false≢true (subst IsSome none cause.1))
+counted old (Ok n) m m' alive idle failed kept cause = kept refl
+counted old (Err stop.Media) m m' alive idle failed kept cause = failed refl
+counted old (Err (stop.Damaged page)) m m' alive idle failed kept cause = kept refl
+counted old (Err stop.Dead) m m' alive idle failed kept cause = absurd (false≢true (sym alive ∙ cause))
+counted old (Err stop.Already) m m' alive idle failed kept cause = absurd (false≢true (sym idle ∙ cause.1))
 
 none_taken : (n : ℕ) → (let none : List Done = [] in take n none ≡ none)
 none_taken zero = refl
@@ -84,6 +89,10 @@ module _ (tells : Bool) (Opens : Shape → List ℕ → List ℕ → Type 0) (in
 
   living : core.state.is_dead ≡ false
   living = begins.over.dead ∙ begins.alive
+
+  -- no caller has a transaction yet
+  idle : is_engaged core.state 0 ≡ false
+  idle = idle_as core.state (begins.fresh.1 0) (begins.fresh.3 0)
 
   empty : later.state.history ++ later.state.doubt ≡ []
   empty = let history = purges.history ∙ begins.fresh.0 in let doubt = purges.doubt ∙ begins.fresh.2 in λ i. history i ++ doubt i
@@ -118,7 +127,7 @@ module _ (tells : Bool) (Opens : Shape → List ℕ → List ℕ → Type 0) (in
   counts : ClearedCounts (cleared r) old.faults new.faults
   counts =
       let before = begins.over.faults ∙ begins.faults in
-      counted core.state r old.faults new.faults living (begins.fresh.1 0) (λ failed. subst (λ (x : ℕ × ℕ). Rose x.0 x.1) (λ i. (before i, over.faults i)) (purges.failed failed))
+      counted core.state r old.faults new.faults living idle (λ failed. subst (λ (x : ℕ × ℕ). Rose x.0 x.1) (λ i. (before i, over.faults i)) (purges.failed failed))
       (λ kept. sym over.faults ∙ purges.kept kept ∙ before) purges.cause
 
   module _ (told : IsTrue tells) (lives : new.is_dead ≡ false) where
@@ -140,7 +149,7 @@ module _ (tells : Bool) (Opens : Shape → List ℕ → List ℕ → Type 0) (in
   clears_store = record {
     shape = shape;
     sound = begins.sound;
-    cause = stop_cause tells (Keeps index) core.state later.state r living (begins.fresh.1 0) purges.cause purges.step;
+    cause = stop_cause tells (Keeps index) core.state later.state r living idle purges.cause purges.step;
     counts = counts;
     alive = alive_after r dead;
     cleared = λ told. to_data told r dead (subst (λ (s : State). PurgeStep (Keeps index) s 0 r later.state) (begins.state told) (purges.step told));

@@ -122,6 +122,7 @@ pub record Tried {T E : Type 0} (n : ℕ) (Does : T → Table → Granted → Ty
   pub went : Went caller old new
   pub ended : IsEnded caller old new
   pub others : (other : ℕ) → other ≢ caller → new.state.live other ≡ old.state.live other
+  pub offers : new.state.offers ≡ old.state.offers
   pub certain : OnOk outcome (new.state.doubt ≡ old.state.doubt)
   pub doubt : IfErr outcome (IsInDoubt Does caller old new)
   pub grows : MayAdd Does caller old new
@@ -135,6 +136,7 @@ busy_stays n Does GivesUp caller old new holder t = record {
   history = t.refused;
   doubt = ⊎_elim (λ same. same) (λ d. absurd (let e : Refused (Busy holder) ≡ Refused Media = d.0 in cc)) t.doubt;
   others = t.others;
+  offers = t.offers;
 }
 
 -- one more try after it
@@ -159,6 +161,7 @@ tried_on n Does GivesUp caller old mid new (Err (Refused (Busy holder))) second 
       went = went_on caller old mid new limits a.went b.went;
       ended = ended_after caller old mid new stays a.ended b.ended b.went;
       others = λ other apart. b.others other apart ∙ a.others other apart;
+      offers = b.offers ∙ a.offers;
       certain = b.certain ∙ stays.doubt;
       doubt = tt;
       grows = adds_after caller old mid new stays Does b.grows;
@@ -173,6 +176,7 @@ tried_on n Does GivesUp caller old mid new (Err (Refused (Busy holder))) second 
       went = went_on caller old mid new limits a.went b.went;
       ended = ended_after caller old mid new stays a.ended b.ended b.went;
       others = λ other apart. b.others other apart ∙ a.others other apart;
+      offers = b.offers ∙ a.offers;
       certain = tt;
       doubt = doubt_after caller old mid new stays Does stop b.doubt;
       grows = adds_after caller old mid new stays Does b.grows;

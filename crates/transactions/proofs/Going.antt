@@ -71,4 +71,5 @@ stays_on caller old mid new goes_on a b = record {
   history = b.history ∙ a.history;
   doubt = b.doubt ∙ a.doubt;
   others = λ other apart. b.others other apart ∙ a.others other apart;
+  offers = b.offers ∙ a.offers;
 }

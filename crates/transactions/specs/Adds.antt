@@ -8,13 +8,15 @@ use Rattle.transactions.specs.Went.{Went}
 use Rattle.transactions.specs.declared.refusal.Refusal.{Refusal}
 use Rattle.transactions.specs.declared.refusal.Refusal.TheVariants.{Media}
 
--- nothing but calls of the caller: nothing was committed, nothing came to be in doubt, and no other caller's transaction changed
+-- nothing but calls of the caller: nothing was committed, nothing came to be in doubt, no other caller's transaction changed, and none was offered or
+-- settled
 pub record Stays (caller : ℕ) (old new : CoreView) : Type 0 where
   pub goes_on : Continues old new
   pub went : Went caller old new
   pub history : new.state.history ≡ old.state.history
   pub doubt : new.state.doubt ≡ old.state.doubt
   pub others : (other : ℕ) → other ≢ caller → new.state.live other ≡ old.state.live other
+  pub offers : new.state.offers ≡ old.state.offers
 
 -- the caller's transaction has one more granted call
 abbrev pub Adds : ℕ → Call → Reply → CoreView → CoreView → Type 0

@@ -4,6 +4,7 @@ ghost use Rattle.history.specs.declared.call.Call.TheVariants.{Begin, Get, Put, 
 ghost use Rattle.history.specs.declared.call.Reply.TheVariants.{Fine, Found, Absent, Listed, Saved};
 ghost use Rattle.caller_steps.specs.Core.{Steps, Continues};
 ghost use Rattle.caller_steps.specs.Sound.{IsSound};
+ghost use Rattle.caller_steps.specs.State.{unoffered};
 ghost use Rattle.transactions.specs.Told.{reply_of, told_done, told_get, told_del, told_scan, told_save, told_commit};
 ghost use Rattle.transactions.specs.Went.{Refuses};
 ghost use Rattle.transactions.specs.Adds.{Stays, Adds, Keeps, Commits, MayDoubt, MayEnd, MayGrow};
@@ -14,13 +15,14 @@ use caller_steps::{Core, prefix_law};
 use history::{Call, Reply, Rows};
 use record_slots::{Name, Value};
 
-/// Begins a transaction of the caller, which must have none.
+/// Begins a transaction of the caller, which must have none, and none that it has offered and not settled.
 pub fn begin<C: Core>(core: &mut C, caller: u8) -> Result<(), Refusal>
     requires inside { caller < (C.view core.old).limits.callers }
     requires sound { IsTrue C.tells → IsSound (C.view core.old).state }
     ensures steps { Steps C.tells caller Begin (C.view core.old) (C.view core.new) (told_done result) }
     ensures stays { IsTrue C.tells → Stays caller (C.view core.old) (C.view core.new) }
     ensures begun { IsTrue C.tells → OnOk result ((C.view core.old).state.live caller ≡ None) }
+    ensures free { IsTrue C.tells → OnOk result ((C.view core.old).state.offers caller ≡ unoffered) }
     ensures ok { IsTrue C.tells → OnOk result ((C.view core.new).state.live caller ≡ Some []) }
     ensures err { IsTrue C.tells → OnErr result (Keeps caller (C.view core.old) (C.view core.new)) }
     ensures refused { IsTrue C.tells → IfErr result (Refuses caller (C.view core.old) (C.view core.new)) }
@@ -172,6 +174,7 @@ pub fn commit<C: Core>(core: &mut C, caller: u8) -> Result<u64, Refusal>
     ensures refused { IsTrue C.tells → IfErr result (Refuses caller (C.view core.old) (C.view core.new)) }
     ensures doubt { IsTrue C.tells → IfErr result (MayDoubt caller (C.view core.old) (C.view core.new)) }
     ensures live { IsTrue C.tells → IfErr result (MayEnd caller (C.view core.old) (C.view core.new)) }
+    ensures offers { IsTrue C.tells → (C.view core.new).state.offers ≡ (C.view core.old).state.offers }
     ensures grows { IsTrue C.tells → MayGrow caller (C.view core.old) (C.view core.new) }
 {
     prefix_law::<C>();

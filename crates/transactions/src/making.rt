@@ -28,10 +28,12 @@ pub fn transaction<C: Core, T: Drop, E: Drop, W: Work<T, E>>(
     ensures refused { IsTrue C.tells → OnErr result ((C.view core.new).state.history ≡ (C.view core.old).state.history) }
     ensures cause { IsTrue C.tells → IfErr result (IsGivenUp (W.gives_up work.now) (records_of (C.view core.old).state)) }
     ensures of_core { IsTrue C.tells → IfErr result (IsOfCore caller (C.view core.old) (C.view core.new)) }
-    // Afterwards the caller has no live transaction, unless it had one before, or the medium has failed. No other caller's changes.
+    // Afterwards the caller has no live transaction, unless it had one before, or the medium has failed. No other caller's changes, and what
+    // callers have offered stays so.
     ensures went { IsTrue C.tells → Went caller (C.view core.old) (C.view core.new) }
     ensures ended { IsTrue C.tells → IsEnded caller (C.view core.old) (C.view core.new) }
     ensures others { IsTrue C.tells → (other : ℕ) → other ≢ caller → (C.view core.new).state.live other ≡ (C.view core.old).state.live other }
+    ensures offers { IsTrue C.tells → (C.view core.new).state.offers ≡ (C.view core.old).state.offers }
     // Only one that is answered `Media` may be in doubt, and it does the work too.
     ensures certain { IsTrue C.tells → OnOk result ((C.view core.new).state.doubt ≡ (C.view core.old).state.doubt) }
     ensures doubt { IsTrue C.tells → IfErr result (IsInDoubt (λ answer. W.does work.now answer) caller (C.view core.old) (C.view core.new)) }
@@ -76,6 +78,7 @@ pub fn transaction_retried<C: Core, T: Drop, E: Drop, W: Work<T, E>>(
     ensures went { IsTrue C.tells → Went caller (C.view core.old) (C.view core.new) }
     ensures ended { IsTrue C.tells → IsEnded caller (C.view core.old) (C.view core.new) }
     ensures others { IsTrue C.tells → (other : ℕ) → other ≢ caller → (C.view core.new).state.live other ≡ (C.view core.old).state.live other }
+    ensures offers { IsTrue C.tells → (C.view core.new).state.offers ≡ (C.view core.old).state.offers }
     ensures certain { IsTrue C.tells → OnOk result ((C.view core.new).state.doubt ≡ (C.view core.old).state.doubt) }
     ensures doubt { IsTrue C.tells → IfErr result (IsInDoubt (λ answer. W.does work.now answer) caller (C.view core.old) (C.view core.new)) }
     ensures grows { IsTrue C.tells → MayAdd (λ answer. W.does work.now answer) caller (C.view core.old) (C.view core.new) }

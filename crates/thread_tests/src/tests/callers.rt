@@ -173,6 +173,60 @@ fn who_finds_a_key_held_tries_again(rt: HostRuntime) -> Result<(), Fail> {
     )
 }
 
+const BOTH_OFFER: &[u8] = b"0 begin\n0 put 1 a\n0 offer\n1 begin\n1 put 2 b\n1 offer\n";
+
+const IN_ONE_GROUP: &[u8] = b"txn 1 caller 0\n0 ok\ntxn 2 caller 1\n1 ok\nrec 1 a\nrec 2 b\n";
+
+const OFFER_OF_ZERO: Place = Place::Offered { caller: 0, nth: 1 };
+
+// Caller 1 begins when caller 0 has offered, and caller 0 goes on when caller 1 has ended.
+fn settled_by_the_other() -> [Hold; 3] {
+    [
+        Hold::new(OFFER_OF_ZERO, 1, Some(Flag::First), Some(Flag::Second)),
+        Hold::new(BEGIN_OF_ONE, 1, None, Some(Flag::First)),
+        Hold::new(END_OF_ONE, 1, Some(Flag::Second), None),
+    ]
+}
+
+#[test]
+fn who_offers_is_committed_by_another_who_settles(rt: HostRuntime) -> Result<(), Fail> {
+    let holds = settled_by_the_other();
+    writes(
+        &rt,
+        fresh(&rt)?,
+        "callers 2",
+        BOTH_OFFER,
+        &holds,
+        IN_ONE_GROUP,
+    )
+}
+
+const GROUP_AND_READER: &[u8] =
+    b"0 begin\n0 put 1 a\n0 offer\n1 begin\n1 put 2 b\n1 offer\nr0 get 1\nr0 get 2\n";
+
+const READ_BEHIND_THE_GROUP: &[u8] =
+    b"txn 1 caller 0\n0 ok\ntxn 2 caller 1\n1 ok\nrec 1 a\nrec 2 b\nread 0 1 at 2 val a\nread 0 2 at 2 val b\n";
+
+// The reader comes when the settle of caller 1 is told: the whole group is published by then, also what caller 0 has not settled.
+#[test]
+fn who_reads_behind_a_settle_reads_the_whole_group(rt: HostRuntime) -> Result<(), Fail> {
+    let [offered, begun, ended] = settled_by_the_other();
+    let holds = [
+        offered,
+        begun,
+        Hold::new(FIRST_READ, 1, None, Some(Flag::Second)),
+        ended,
+    ];
+    writes(
+        &rt,
+        fresh(&rt)?,
+        "callers 2 --readers 1",
+        GROUP_AND_READER,
+        &holds,
+        READ_BEHIND_THE_GROUP,
+    )
+}
+
 const ONE_READER: &[u8] = b"0 begin\n0 put 1 a\n0 commit\nr0 get 1\n";
 
 const READ_AFTER: &[u8] = b"txn 1 caller 0\n0 ok\nrec 1 a\nread 0 1 at 1 val a\n";

@@ -70,6 +70,7 @@ fn caller_at(place: Place) -> Option<u8> {
     match place {
         Place::Began { caller, .. }
         | Place::Answered { caller, .. }
+        | Place::Offered { caller, .. }
         | Place::Ended { caller, .. } => Some(caller),
         Place::ReadBegan { .. } => None,
     }

@@ -1,5 +1,6 @@
 use Rattle.caller_steps.specs.Offers.{group_end}
-use Rattle.caller_steps.proofs.Grouped.{group_history, group_sound, doubted_sound}
+use Rattle.caller_steps.proofs.Offering.{group_history}
+use Rattle.caller_steps.proofs.Grouped.{group_sound, doubted_sound}
 use Rattle.caller_steps.proofs.laws.groups_keep_all_sound.Goals as goal
 
 pub returns : goal.returns

@@ -12,7 +12,7 @@ pub returns : goal.returns
 returns g = record {
   fated = λ names base index limits turns final runs callers readers tries input text ended cut work caller less.
       let its = work.works caller less in
-      fated limits caller (opened names base index) final turns runs refl refl (Times tries) (planned None (calls_by caller work.said)) (of_caller work.fates caller) its.0 (outside (calls_by caller work.said)) its.1;
+      fated limits caller (opened names base index) final turns runs refl refl refl (Times tries) (planned None (calls_by caller work.said)) (of_caller work.fates caller) its.0 (outside (calls_by caller work.said)) its.1;
   others = λ names base index limits turns final runs callers readers tries input text ended cut work.
-      turns_no_others true limits callers (opened names base index) final turns (turns_of_runs limits (opened names base index) final turns runs) work.whose (λ caller most. (refl, refl));
+      turns_no_others true limits callers (opened names base index) final turns (turns_of_runs limits (opened names base index) final turns runs) work.whose (λ caller most. (refl, refl, refl));
 }

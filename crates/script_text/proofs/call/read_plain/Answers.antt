@@ -7,5 +7,7 @@ returns-in_err-save c = rw c.from_residual.ensures (no_plain c.args.bytes.now (r
   save = c.if-is_text-2.ensures;
   commit = c.if-is_text-3.ensures;
   abort = c.if-is_text-4.ensures;
+  offer = c.if-is_text-5.ensures;
+  settle = c.if-is_text-6.ensures;
   back = c.in_err-save.ensures;
 }))

@@ -36,5 +36,5 @@ loop-other-preserved c = elim c.else-other-caller.branch [
 
 pub returns-clause-free : goal.returns-clause-free
 returns-clause-free c =
-    let all = ap (λ (seats : Seats). length seats.live) (sym c.self.view_is) in
+    let all = ap (λ (seats : Seats). length seats.places) (sym c.self.view_is) in
     free_all c.args.self.now c.args.caller c.args.call.now c.loop-other.other (omega (arith, all, c.len-other-end.ensures, c.loop-other-test.false)) c.loop-other.invariant

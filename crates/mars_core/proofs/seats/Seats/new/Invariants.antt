@@ -1,7 +1,8 @@
-use Rattle.std.proofs.Common.{ℕ, ◌≡◌, length, None}
+use Rattle.std.proofs.Common.{ℕ, ◌≡◌, length}
+use Rattle.mars_core.specs.declared.seat.Seat.TheVariants as place
 use Rattle.mars_core.specs.Seats.{seat_in}
 use Rattle.mars_core.proofs.seats.Seats.new.Given as goal
 
--- so many callers without a live transaction
+-- so many callers with free seats
 abbrev pub invariant-loop-caller : goal.invariant-loop-caller
-invariant-loop-caller l = (length l.live.items ≡ l._caller) × ((caller : ℕ) → seat_in l.live.items caller ≡ None)
+invariant-loop-caller l = (length l.places.items ≡ l._caller) × ((caller : ℕ) → seat_in l.places.items caller ≡ place.Free)

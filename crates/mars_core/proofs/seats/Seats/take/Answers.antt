@@ -1,21 +1,38 @@
-use Rattle.std.proofs.Common.{◌<◌, ◌∙◌, sym, ap, subst, length, Option, None}
-use Rattle.std.specs.Prelude.{IfSome}
+use Rattle.std.proofs.Common.{◌<◌, ◌∙◌, sym, ap, subst, refl, length, None}
 use Rattle.std.proofs.Math.ListN.{set}
-use Rattle.mars_core.specs.declared.live.Live.{Live}
-use Rattle.mars_core.specs.Seats.{Seats, Seated, IsMasked, calls_in}
-use Rattle.mars_core.proofs.Seating.{seated, live-at, found_seat, masked_at}
+use Rattle.mars_core.specs.declared.seat.Seat.{Seat}
+use Rattle.mars_core.specs.declared.seat.Seat.TheVariants as place
+use Rattle.mars_core.specs.Seats.{Seats, Seated, AreMasked, IsMasked, live_of, calls_in}
+use Rattle.mars_core.proofs.Seating.{seated, found_seat, masked, untaken, live-at, offer-at}
 use Rattle.mars_core.proofs.seats.Seats.take.Goals as goal
 
-pub returns-clause-live : goal.returns-clause-live
-returns-clause-live c = ap calls_in c.take.ensures.value ∙ sym (live-at c.args.self.now c.self.inside.names c.self.inside.live.items c.args.caller c.from.result c.self.view_is c.from.ensures c.requires c.index_mut.result.now c.index_mut.ensures.value)
+pub returns-in-Live-clause-masked : goal.returns-in-Live-clause-masked
+returns-in-Live-clause-masked c =
+    let inside : c.args.caller < length c.self.inside.places.items = subst (λ (s : Seats). c.args.caller < length s.places) (sym c.self.view_is) c.requires.inside in
+    let seat = found_seat c.self.inside.names c.self.inside.places.items c.args.caller c.from.result c.from.ensures inside c.index_mut.result.now c.index_mut.ensures.value in
+    subst (λ (s : Seats). IsMasked s.names c.in-Live.live) c.self.view_is (c.self.invariant.0 c.args.caller c.in-Live.live (ap live_of (seat ∙ sym c.replace.ensures.value ∙ c.in-Live.is)))
 
-pub returns-clause-out : goal.returns-clause-out
-returns-clause-out c = subst (λ (o : Option Live). Seated c.args.self.now c.args.caller None (record { names = c.self.inside.names; live = set c.self.inside.live.items c.from.result o })) (sym c.take.ensures.after)
-    (seated c.args.self.now c.self.inside.names c.self.inside.live.items c.args.caller c.from.result c.self.view_is c.from.ensures c.requires None)
+pub returns-in-Live-clause-out : goal.returns-in-Live-clause-out
+returns-in-Live-clause-out c = subst (λ (seat : Seat). Seated c.args.self.now c.args.caller None (record { names = c.self.inside.names; places = set c.self.inside.places.items c.from.result seat })) (sym c.replace.ensures.after)
+    (seated c.args.self.now c.self.inside.names c.self.inside.places.items c.args.caller c.from.result c.self.view_is c.from.ensures c.requires.inside place.Free refl c.requires.unoffered)
 
-pub returns-clause-masked : goal.returns-clause-masked
-returns-clause-masked c =
+pub invariant_of-self-2 : goal.invariant_of-self-2
+invariant_of-self-2 c =
+    let inside : c.args.caller < length c.self.inside.places.items = subst (λ (s : Seats). c.args.caller < length s.places) (sym c.self.view_is) c.requires.inside in (
+      subst (λ (seat : Seat). AreMasked c.self.inside.names (set c.self.inside.places.items c.from.result seat)) (sym c.replace.ensures.after)
+          (masked c.self.inside.names c.self.inside.places.items c.args.caller c.from.result c.from.ensures inside place.Free c.self.invariant.0 tt),
+      c.self.invariant.1,
+    )
+
+pub returns : goal.returns
+returns c =
+    let old = c.args.self.now in
     let found = c.index_mut.result.now in
-    let inside : c.args.caller < length c.self.inside.live.items = subst (λ (s : Seats). c.args.caller < length s.live) (sym c.self.view_is) c.requires in
-    let seat = found_seat c.self.inside.names c.self.inside.live.items c.args.caller c.from.result c.from.ensures inside found c.index_mut.ensures.value in
-    subst (λ (x : Option Live × Seats). IfSome x.0 (IsMasked x.1.names)) (λ i. (sym c.take.ensures.value i, c.self.view_is i)) (masked_at c.self.inside.names c.self.inside.live.items c.args.caller found seat c.self.invariant.0)
+    let un = sym (offer-at old c.self.inside.names c.self.inside.places.items c.args.caller c.from.result c.self.view_is c.from.ensures c.requires.inside found c.index_mut.ensures.value) ∙ c.requires.unoffered in
+    let none = untaken found un (λ live is. c.in_default.not-Live live (c.replace.ensures.value ∙ is)) in
+    record {
+      live = sym (live-at old c.self.inside.names c.self.inside.places.items c.args.caller c.from.result c.self.view_is c.from.ensures c.requires.inside found c.index_mut.ensures.value ∙ ap calls_in none);
+      masked = tt;
+      out = subst (λ (seat : Seat). Seated c.args.self.now c.args.caller None (record { names = c.self.inside.names; places = set c.self.inside.places.items c.from.result seat })) (sym c.replace.ensures.after)
+          (seated c.args.self.now c.self.inside.names c.self.inside.places.items c.args.caller c.from.result c.self.view_is c.from.ensures c.requires.inside place.Free refl c.requires.unoffered);
+    }

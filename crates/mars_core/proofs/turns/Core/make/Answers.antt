@@ -1,76 +1,38 @@
-use Rattle.std.proofs.Common.{◌≡◌, ◌∙◌, true, false, refl, inl, inr, sym, ap, subst}
-use Rattle.std.proofs.lemmas.Bool.{false≢true}
+use Rattle.std.proofs.Common.{◌≡◌, ◌∙◌, ℕ, ◌<◌, false, length, sym, ap, subst}
 use Rattle.page_store.specs.Shown.{pages_of}
-use Rattle.history.specs.Locks.{has_table}
-use Rattle.history.specs.declared.call.Call.{Call}
-use Rattle.caller_steps.specs.Core.{Steps}
+use Rattle.caller_steps.specs.State.{unoffered, offered, unsettled}
 use Rattle.mars_core.specs.Held.{Held, core_of}
-use Rattle.mars_core.specs.TableCall.{asking}
+use Rattle.caller_steps.specs.Core.{IsSafe}
+use Rattle.mars_core.specs.Seats.{offers_in, offer_in}
 use Rattle.mars_core.specs.Works.{IsShown}
 use Rattle.mars_core.proofs.turns.Core.make.Goals as goal
 
-pub begin-requires : goal.begin-requires
-begin-requires g c = record { inside = c.requires.inside; alive = subst (λ (h : Held g.row.S.Denot). (g.S.EawStore.view h.records.store).is_dead ≡ false) c.self.view_is (sym c.is_dead.ensures.dead ∙ c.if-is_dead.false) }
+pub offer-requires : goal.offer-requires
+offer-requires g c = subst (λ (n : ℕ). c.args.caller < n) (sym c.self.invariant.seats) (subst (λ (h : Held g.row.S.Denot). c.args.caller < (g.S.EawStore.view h.records.store).shape.numbers) (sym c.self.view_is) c.requires.inside)
 
-pub returns-in-Begin : goal.returns-in-Begin
-returns-in-Begin g c =
-    let V = g.S.EawStore.view in
-    let core = core_of g.S.EawStore.opens g.K.KeyIndex.index in
-    let alive : (V c.args.self.now.records.store).is_dead ≡ false = subst (λ (h : Held g.row.S.Denot). (g.S.EawStore.view h.records.store).is_dead ≡ false) c.self.view_is (sym c.is_dead.ensures.dead ∙ c.if-is_dead.false) in
-    record {
-      steps = subst (λ (call : Call). Steps g.S.EawStore.tells c.args.caller call (core (V c.args.self.now.records.store) c.args.self.now) (core (V c.begin.new.self.records.store) c.begin.new.self) c.begin.result) (sym (ap asking c.in-Begin.is) ∙ c.of.ensures) c.begin.ensures.steps;
-      sends = c.begin.ensures.sends;
-      dead = λ dead. absurd (false≢true (sym alive ∙ dead));
-      not_busy = λ held. c.begin.ensures.not_busy;
-      begun = λ _. inr (sym (sym (ap asking c.in-Begin.is) ∙ c.of.ensures));
-      tabled = λ _. subst (λ (call : Call). has_table c.args.self.now.seats.names call ≡ true) (sym (ap asking c.in-Begin.is) ∙ c.of.ensures) refl;
-    }
-
-pub commit-requires : goal.commit-requires
-commit-requires g c = record { inside = c.requires.inside; alive = subst (λ (h : Held g.row.S.Denot). (g.S.EawStore.view h.records.store).is_dead ≡ false) c.self.view_is (sym c.is_dead.ensures.dead ∙ c.if-is_dead.false) }
-
-pub returns-in-Commit : goal.returns-in-Commit
-returns-in-Commit g c =
-    let V = g.S.EawStore.view in
-    let core = core_of g.S.EawStore.opens g.K.KeyIndex.index in
-    let alive : (V c.args.self.now.records.store).is_dead ≡ false = subst (λ (h : Held g.row.S.Denot). (g.S.EawStore.view h.records.store).is_dead ≡ false) c.self.view_is (sym c.is_dead.ensures.dead ∙ c.if-is_dead.false) in
-    record {
-      steps = subst (λ (call : Call). Steps g.S.EawStore.tells c.args.caller call (core (V c.args.self.now.records.store) c.args.self.now) (core (V c.commit.new.self.records.store) c.commit.new.self) c.commit.result) (sym (ap asking c.in-Commit.is) ∙ c.of.ensures) c.commit.ensures.steps;
-      sends = c.commit.ensures.sends;
-      dead = λ dead. absurd (false≢true (sym alive ∙ dead));
-      not_busy = λ held. c.commit.ensures.not_busy;
-      begun = λ granted. inl (c.commit.ensures.begun granted);
-      tabled = λ _. subst (λ (call : Call). has_table c.args.self.now.seats.names call ≡ true) (sym (ap asking c.in-Commit.is) ∙ c.of.ensures) refl;
-    }
-
-pub abort-requires : goal.abort-requires
-abort-requires g c = record { inside = c.requires.inside; alive = subst (λ (h : Held g.row.S.Denot). (g.S.EawStore.view h.records.store).is_dead ≡ false) c.self.view_is (sym c.is_dead.ensures.dead ∙ c.if-is_dead.false) }
-
-pub returns-in-Abort : goal.returns-in-Abort
-returns-in-Abort g c =
-    let V = g.S.EawStore.view in
-    let core = core_of g.S.EawStore.opens g.K.KeyIndex.index in
-    let alive : (V c.args.self.now.records.store).is_dead ≡ false = subst (λ (h : Held g.row.S.Denot). (g.S.EawStore.view h.records.store).is_dead ≡ false) c.self.view_is (sym c.is_dead.ensures.dead ∙ c.if-is_dead.false) in
-    record {
-      steps = subst (λ (call : Call). Steps g.S.EawStore.tells c.args.caller call (core (V c.args.self.now.records.store) c.args.self.now) (core (V c.abort.new.self.records.store) c.abort.new.self) c.abort.result) (sym (ap asking c.in-Abort.is) ∙ c.of.ensures) c.abort.ensures.steps;
-      sends = c.abort.ensures.sends;
-      dead = λ dead. absurd (false≢true (sym alive ∙ dead));
-      not_busy = λ held. c.abort.ensures.not_busy;
-      begun = λ granted. inl (c.abort.ensures.begun granted);
-      tabled = λ _. subst (λ (call : Call). has_table c.args.self.now.seats.names call ≡ true) (sym (ap asking c.in-Abort.is) ∙ c.of.ensures) refl;
-    }
-
-pub ask-requires : goal.ask-requires
-ask-requires g c = record {
-  said = sym (ap asking c.in-Table.is) ∙ c.of.ensures;
+pub make_open-requires : goal.make_open-requires
+make_open-requires g c = record {
   inside = c.requires.inside;
   alive = subst (λ (h : Held g.row.S.Denot). (g.S.EawStore.view h.records.store).is_dead ≡ false) c.self.view_is (sym c.is_dead.ensures.dead ∙ c.if-is_dead.false);
   shown = subst (λ (h : Held g.row.S.Denot). IsShown g.S.EawStore.tells g.K.KeyIndex.index (pages_of (g.S.EawStore.view h.records.store) h.records)) c.self.view_is
       (record { held = c.is_dead.ensures.held; named = c.is_dead.ensures.named });
+  unoffered = subst (λ (h : Held g.row.S.Denot). offers_in h.seats c.args.caller ≡ unoffered) c.self.view_is (sym c.offer.ensures ∙ ap offer_in c.in-Nothing.is);
+  safe = λ told. subst (λ (h : Held g.row.S.Denot). IsSafe (core_of g.S.EawStore.opens g.K.KeyIndex.index (g.S.EawStore.view h.records.store) h) (g.S.EawStore.view h.records.store).moment (length h.history)) c.self.view_is (c.self.invariant.safe told);
   locked = c.requires.locked;
 }
 
-pub returns-in-Table : goal.returns-in-Table
-returns-in-Table g c =
-    let alive : (g.S.EawStore.view c.args.self.now.records.store).is_dead ≡ false = subst (λ (h : Held g.row.S.Denot). (g.S.EawStore.view h.records.store).is_dead ≡ false) c.self.view_is (sym c.is_dead.ensures.dead ∙ c.if-is_dead.false) in
-    record { steps = c.ask.ensures.steps; sends = c.ask.ensures.sends; dead = λ dead. absurd (false≢true (sym alive ∙ dead)); not_busy = c.ask.ensures.not_busy; begun = λ granted. inl (c.ask.ensures.begun granted); tabled = c.ask.ensures.tabled }
+pub make_offered-requires : goal.make_offered-requires
+make_offered-requires g c = record {
+  inside = c.requires.inside;
+  alive = subst (λ (h : Held g.row.S.Denot). (g.S.EawStore.view h.records.store).is_dead ≡ false) c.self.view_is (sym c.is_dead.ensures.dead ∙ c.if-is_dead.false);
+  offered = subst (λ (h : Held g.row.S.Denot). offers_in h.seats c.args.caller ≡ offered) c.self.view_is (sym c.offer.ensures ∙ ap offer_in c.in-Offered.is);
+  safe = λ told. subst (λ (h : Held g.row.S.Denot). IsSafe (core_of g.S.EawStore.opens g.K.KeyIndex.index (g.S.EawStore.view h.records.store) h) (g.S.EawStore.view h.records.store).moment (length h.history)) c.self.view_is (c.self.invariant.safe told);
+}
+
+pub make_committed-requires : goal.make_committed-requires
+make_committed-requires g c = record {
+  inside = c.requires.inside;
+  alive = subst (λ (h : Held g.row.S.Denot). (g.S.EawStore.view h.records.store).is_dead ≡ false) c.self.view_is (sym c.is_dead.ensures.dead ∙ c.if-is_dead.false);
+  committed = subst (λ (h : Held g.row.S.Denot). (n : ℕ) × (offers_in h.seats c.args.caller ≡ unsettled n)) c.self.view_is (c.in-Committed.at, sym c.offer.ensures ∙ ap offer_in c.in-Committed.is);
+  safe = λ told. subst (λ (h : Held g.row.S.Denot). IsSafe (core_of g.S.EawStore.opens g.K.KeyIndex.index (g.S.EawStore.view h.records.store) h) (g.S.EawStore.view h.records.store).moment (length h.history)) c.self.view_is (c.self.invariant.safe told);
+}

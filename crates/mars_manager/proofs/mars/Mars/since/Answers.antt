@@ -1,7 +1,7 @@
-use Rattle.std.proofs.Common.{ap, ◌∙◌, subst}
+use Rattle.std.proofs.Common.{subst}
 use Rattle.caller_steps.specs.Prefix.{Grows}
 use Rattle.mars_manager.specs.Pass.{PassView}
-use Rattle.mars_manager.specs.Sharing.{mine_of}
+use Rattle.mars_manager.specs.Sharing.{SeesOwn}
 use Rattle.mars_manager.specs.Seat.{first_of}
 use Rattle.mars_manager.proofs.Looking.{read_kept, idle_kept}
 use Rattle.mars_manager.proofs.mars.Mars.since.Goals as goal
@@ -9,7 +9,7 @@ use Rattle.mars_manager.proofs.mars.Mars.since.Goals as goal
 pub invariant_of-pass : goal.invariant_of-pass
 invariant_of-pass g c =
     let k = read_kept g.C.Core.tells g.C.Core.view (first_of c.pass.inside.seat.me.0.passes) c.read.result c.read.new.seat.me c.read.ensures.one c.read.ensures.reads c.read.ensures.again in
-    idle_kept c.pass.inside.number c.pass.inside.names c.pass.inside.holds c.pass.inside.live c.pass.inside.seat.me c.read.new.seat.me c.pass.invariant k.0 k.1
+    idle_kept c.pass.inside.number c.pass.inside.names c.pass.inside.holds c.pass.inside.takes c.pass.inside.seat.me c.read.new.seat.me c.pass.invariant k.0 k.1
 
 pub returns-clause-seen : goal.returns-clause-seen
 returns-clause-seen g c =
@@ -19,4 +19,4 @@ returns-clause-seen g c =
 pub returns-clause-mine : goal.returns-clause-mine
 returns-clause-mine g c =
     let k = read_kept g.C.Core.tells g.C.Core.view (first_of c.pass.inside.seat.me.0.passes) c.read.result c.read.new.seat.me c.read.ensures.one c.read.ensures.reads c.read.ensures.again in
-    k.1.mine ∙ ap (λ (p : PassView g.row.C.Denot). mine_of p.known) c.pass.view_is
+    subst (λ (p : PassView g.row.C.Denot). SeesOwn p.known (first_of c.read.new.seat.me.0.passes)) c.pass.view_is k.1.mine

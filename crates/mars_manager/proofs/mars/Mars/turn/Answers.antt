@@ -1,16 +1,17 @@
 use Rattle.std.proofs.Common.{◌≡◌, ℕ, ◌+◌, ◌-◌, ◌<◌, List, [], ◌∷◌, Option, Some, None, refl, sym, ap, ◌∙◌, subst, arith, map}
-use Rattle.std.specs.Prelude.{IsTrue, IsFalse, is_some}
+use Rattle.std.specs.Prelude.{IsTrue, IsFalse}
 use mathlib.Core.Option.{none}
-use Rattle.history.specs.Table.{Granted}
+use Rattle.caller_steps.specs.Offers.{takes_calls}
 use Rattle.caller_steps.specs.Locked.{IsLocked}
 use Rattle.atomic_table.specs.Table.{rest, Allows, step}
 use Rattle.mars_manager.specs.declared.view.Known.{Known}
-use Rattle.mars_manager.specs.Pass.{live_of, names_of, times, finds}
+use Rattle.mars_manager.specs.Pass.{own_by, takes_of, names_of, times, finds}
 use Rattle.mars_manager.specs.Locks.{locks, IsCovered}
 use Rattle.mars_manager.specs.Sharing.{MarsView}
 use Rattle.mars_manager.specs.Seat.{SeatOf, first_of, seat_of, shared_view, Makes}
 use Rattle.mars_manager.specs.Rule.{face, Rule, HasAlone, tells_length, AreAbove}
 use Rattle.mars_manager.proofs.Seats.{times_first}
+use Rattle.mars_manager.proofs.Waiting.{takes_own}
 use Rattle.mars_manager.proofs.Locked.{locked_by}
 use Rattle.mars_manager.proofs.Turns.{takes_turn_as, tells_as, gives_as}
 use Rattle.mars_manager.proofs.Calls.{core_is, homed, moves, told_seat, made}
@@ -70,7 +71,7 @@ step_locked-reply-requires g c =
     let known : i.known ≡ first_of c.args.seat.now.me.0.passes = sym (ap (λ (m : SeatOf g.row.C.Denot). first_of m.0.passes) i.is) in
     let lock : IsLocked (g.C.Core.view took.core).state i.known.number c.args.call.now =
     locked_by f took.core i.known c.args.call.now (subst (λ (k : Known g.row.C.Denot). names_of k ≡ (g.C.Core.view took.core).state.names) (sym known) took.named) (subst (λ (k : Known g.row.C.Denot). IsFalse (g.C.Core.view took.core).state.is_dead → HasAlone f took.core k) (sym known) took.alone)
-    (subst (λ (k : Known g.row.C.Denot). IsTrue (is_some (live_of k)) → IsCovered (locks (names_of k) c.args.call.now) k.holds) (sym known) c.requires.covered) in record {
+    (subst (λ (k : Known g.row.C.Denot). IsTrue (takes_of k) → IsCovered (locks (names_of k) c.args.call.now) k.holds) (sym known) c.requires.covered) in record {
       inside = subst (λ (n : ℕ). n < (g.C.Core.view c.unwrap-core.result).limits.callers) i.number (subst (λ (x : g.row.C.Denot). i.known.number < (g.C.Core.view x).limits.callers) core few);
       locked = subst (λ (n : ℕ). IsLocked (g.C.Core.view c.unwrap-core.result).state n c.args.call.now) i.number (subst (λ (x : g.row.C.Denot). IsLocked (g.C.Core.view x).state i.known.number c.args.call.now) core lock);
     }
@@ -90,11 +91,12 @@ tell-requires g c =
     let does = moves f _ _ _ _ i.known c.unwrap-core.result new _ i.is took c.exchange.ensures.2 c.unwrap-core.ensures c.exchange.ensures.3 c.exchange-2.ensures.3 _ call reply i.number s.steps s.dead s.begun s.tabled s.not_busy in
     let core = core_is f _ _ c.unwrap-core.result _ took c.exchange.ensures.2 c.unwrap-core.ensures in
     let known : i.known ≡ first_of c.args.seat.now.me.0.passes = sym (ap (λ (m : SeatOf g.row.C.Denot). first_of m.0.passes) i.is) in
-    let has : IsFalse (g.C.Core.view c.unwrap-core.result).state.is_dead → IsTrue (is_some ((g.C.Core.view c.unwrap-core.result).state.live i.known.number)) → IsCovered (locks (names_of i.known) call) i.known.holds =
-    (λ alive live.
+    let has : IsFalse (g.C.Core.view c.unwrap-core.result).state.is_dead → IsTrue (takes_calls (g.C.Core.view c.unwrap-core.result).state i.known.number) → IsCovered (locks (names_of i.known) call) i.known.holds =
+    (λ alive takes.
     let alone = took.alone (subst (λ (x : g.row.C.Denot). IsFalse (g.C.Core.view x).state.is_dead) (sym core) alive) in
     subst (λ (k : Known g.row.C.Denot). IsCovered (locks (names_of k) call) k.holds) (sym known)
-    (c.requires.covered (sym (ap (λ (o : Option Granted). is_some o) alone.mine) ∙ (λ j. is_some ((g.C.Core.view (core j)).state.live (sym (ap (λ (k : Known g.row.C.Denot). k.number) known) j))) ∙ live))) in
+    (c.requires.covered (takes_own (first_of c.args.seat.now.me.0.passes).number (own_by (first_of c.args.seat.now.me.0.passes)) (g.C.Core.view took.core).state alone.mine
+    ((λ j. takes_calls (g.C.Core.view (core j)).state (sym (ap (λ (k : Known g.row.C.Denot). k.number) known) j)) ∙ takes)))) in
     let key = c.self.inside.table.shared.key in
     let rule = tells_as f key c.self.inside.table.shared.table_id.slots seat.id c.told-told.result (finds 0 i.known) call reply c.unwrap-core.result new seat.me home (does key) has c.told-told.ensures in record {
       table = c.exchange-2.ensures.0 ∙ c.exchange.ensures.0 ∙ e.0 ∙ c.requires.table;

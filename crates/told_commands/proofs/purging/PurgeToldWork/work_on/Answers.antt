@@ -3,7 +3,7 @@ use Rattle.mars_core.specs.Held.{core_of}
 use Rattle.mars_core.specs.Over.{IsOver}
 use Rattle.mars_core.specs.declared.fault.CoreFault.{CoreFault}
 use Rattle.told_commands.specs.Purge.{ClearsStore}
-use Rattle.told_commands.proofs.Clearing.{stops, clears_store}
+use Rattle.told_commands.proofs.Clearing.{idle_as, stops, clears_store}
 use Rattle.told_commands.proofs.purging.PurgeToldWork.work_on.Goals as goal
 
 pub returns-in-Ok-purged-clause-leaves : goal.returns-in-Ok-purged-clause-leaves
@@ -45,4 +45,5 @@ cleared-purged-requires g c =
     let s = g.S.EawStore in
     let first = c.in-Ok.core in
     let begins = c.in-Ok.ensures.begins in
-    stops (core_of s.opens g.I.KeyIndex.index (s.view first.records.store) first).state c.purge.result (begins.over.dead ∙ begins.alive) (begins.fresh.1 0) c.purge.ensures.purges.cause
+    let state = (core_of s.opens g.I.KeyIndex.index (s.view first.records.store) first).state in
+    stops state c.purge.result (begins.over.dead ∙ begins.alive) (idle_as state (begins.fresh.1 0) (begins.fresh.3 0)) c.purge.ensures.purges.cause

@@ -1,0 +1,31 @@
+use Rattle.std.proofs.Common.{refl, sym, subst}
+use Rattle.std.proofs.lemmas.Bool.{true≢false}
+use Rattle.page_store.specs.Shown.{pages_of}
+use Rattle.history.specs.declared.call.Call.{Call}
+use Rattle.history.specs.declared.call.Reply.TheVariants.{Already}
+use Rattle.caller_steps.specs.Core.{Steps}
+use Rattle.mars_core.specs.Held.{core_of, state_over}
+use Rattle.mars_core.proofs.GivingUp.{sends_none}
+use Rattle.mars_core.proofs.Settling.{offered_begins, offered_asks}
+use Rattle.mars_core.proofs.turns.Core.make_offered.Goals as goal
+
+pub returns-in-Begin-clause-steps : goal.returns-in-Begin-clause-steps
+returns-in-Begin-clause-steps g c =
+    let V = g.S.EawStore.view in
+    let h = c.args.self.now in
+    let core = core_of g.S.EawStore.opens g.K.KeyIndex.index (V h.records.store) h in
+    subst (λ (call : Call). Steps g.S.EawStore.tells c.args.caller call core core Already) (sym c.in-Begin.is)
+    (offered_begins g.S.EawStore.tells g.S.EawStore.opens g.K.KeyIndex.index (pages_of (V h.records.store) h.records) (state_over g.K.KeyIndex.index (V h.records.store) h) (record { indexed = refl; dead = refl })
+    c.requires.safe c.requires.alive c.args.caller c.requires.offered)
+
+pub returns-in_default : goal.returns-in_default
+returns-in_default g c =
+    let V = g.S.EawStore.view in
+    let h = c.args.self.now in
+    record {
+      steps = offered_asks g.S.EawStore.tells g.S.EawStore.opens g.K.KeyIndex.index (pages_of (V h.records.store) h.records) (state_over g.K.KeyIndex.index (V h.records.store) h) (record { indexed = refl; dead = refl })
+          c.requires.safe c.requires.alive c.args.caller c.requires.offered c.args.call.now c.in_default.not-Begin c.in_default.not-Settle;
+      sends = sends_none g.S.EawStore.tells (V h.records.store);
+      not_busy = refl;
+      settles = λ granted. absurd (true≢false granted);
+    }

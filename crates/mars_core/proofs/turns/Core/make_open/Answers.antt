@@ -1,0 +1,93 @@
+use Rattle.std.proofs.Common.{◌≡◌, ◌∙◌, true, refl, inl, inr, sym, ap, subst}
+use Rattle.page_store.specs.Shown.{pages_of}
+use Rattle.history.specs.Locks.{has_table}
+use Rattle.history.specs.declared.call.Call.{Call}
+use Rattle.history.specs.declared.call.Reply.TheVariants.{NoTransaction}
+use Rattle.caller_steps.specs.Core.{Steps}
+use Rattle.mars_core.specs.Held.{core_of, state_over}
+use Rattle.mars_core.specs.TableCall.{asking}
+use Rattle.mars_core.proofs.Settling.{open_settles}
+use Rattle.mars_core.proofs.turns.Core.make_open.Goals as goal
+
+pub begin-requires : goal.begin-requires
+begin-requires g c = record { inside = c.requires.inside; alive = c.requires.alive; unoffered = c.requires.unoffered }
+
+pub returns-in-Begin : goal.returns-in-Begin
+returns-in-Begin g c =
+    let V = g.S.EawStore.view in
+    let core = core_of g.S.EawStore.opens g.K.KeyIndex.index in
+    record {
+      steps = subst (λ (call : Call). Steps g.S.EawStore.tells c.args.caller call (core (V c.args.self.now.records.store) c.args.self.now) (core (V c.begin.new.self.records.store) c.begin.new.self) c.begin.result) (sym (ap asking c.in-Begin.is) ∙ c.of.ensures) c.begin.ensures.steps;
+      sends = c.begin.ensures.sends;
+      not_busy = λ held. c.begin.ensures.not_busy;
+      begun = λ _. inr (sym (sym (ap asking c.in-Begin.is) ∙ c.of.ensures));
+      tabled = λ _. subst (λ (call : Call). has_table c.args.self.now.seats.names call ≡ true) (sym (ap asking c.in-Begin.is) ∙ c.of.ensures) refl;
+    }
+
+pub commit-requires : goal.commit-requires
+commit-requires g c = record { inside = c.requires.inside; alive = c.requires.alive; unoffered = c.requires.unoffered }
+
+pub returns-in-Commit : goal.returns-in-Commit
+returns-in-Commit g c =
+    let V = g.S.EawStore.view in
+    let core = core_of g.S.EawStore.opens g.K.KeyIndex.index in
+    record {
+      steps = subst (λ (call : Call). Steps g.S.EawStore.tells c.args.caller call (core (V c.args.self.now.records.store) c.args.self.now) (core (V c.commit.new.self.records.store) c.commit.new.self) c.commit.result) (sym (ap asking c.in-Commit.is) ∙ c.of.ensures) c.commit.ensures.steps;
+      sends = c.commit.ensures.sends;
+      not_busy = λ held. c.commit.ensures.not_busy;
+      begun = λ granted. inl (c.commit.ensures.begun granted);
+      tabled = λ _. subst (λ (call : Call). has_table c.args.self.now.seats.names call ≡ true) (sym (ap asking c.in-Commit.is) ∙ c.of.ensures) refl;
+    }
+
+pub abort-requires : goal.abort-requires
+abort-requires g c = record { inside = c.requires.inside; alive = c.requires.alive; unoffered = c.requires.unoffered }
+
+pub returns-in-Abort : goal.returns-in-Abort
+returns-in-Abort g c =
+    let V = g.S.EawStore.view in
+    let core = core_of g.S.EawStore.opens g.K.KeyIndex.index in
+    record {
+      steps = subst (λ (call : Call). Steps g.S.EawStore.tells c.args.caller call (core (V c.args.self.now.records.store) c.args.self.now) (core (V c.abort.new.self.records.store) c.abort.new.self) c.abort.result) (sym (ap asking c.in-Abort.is) ∙ c.of.ensures) c.abort.ensures.steps;
+      sends = c.abort.ensures.sends;
+      not_busy = λ held. c.abort.ensures.not_busy;
+      begun = λ granted. inl (c.abort.ensures.begun granted);
+      tabled = λ _. subst (λ (call : Call). has_table c.args.self.now.seats.names call ≡ true) (sym (ap asking c.in-Abort.is) ∙ c.of.ensures) refl;
+    }
+
+pub offer-requires : goal.offer-requires
+offer-requires g c = record { inside = c.requires.inside; alive = c.requires.alive; unoffered = c.requires.unoffered }
+
+pub returns-in-Offer : goal.returns-in-Offer
+returns-in-Offer g c =
+    let V = g.S.EawStore.view in
+    let core = core_of g.S.EawStore.opens g.K.KeyIndex.index in
+    record {
+      steps = subst (λ (call : Call). Steps g.S.EawStore.tells c.args.caller call (core (V c.args.self.now.records.store) c.args.self.now) (core (V c.offer.new.self.records.store) c.offer.new.self) c.offer.result) (sym (ap asking c.in-Offer.is) ∙ c.of.ensures) c.offer.ensures.steps;
+      sends = c.offer.ensures.sends;
+      not_busy = λ held. c.offer.ensures.not_busy;
+      begun = λ granted. inl (c.offer.ensures.begun granted);
+      tabled = λ _. subst (λ (call : Call). has_table c.args.self.now.seats.names call ≡ true) (sym (ap asking c.in-Offer.is) ∙ c.of.ensures) refl;
+    }
+
+pub ask-requires : goal.ask-requires
+ask-requires g c = record {
+  said = sym (ap asking c.in-Table.is) ∙ c.of.ensures;
+  inside = c.requires.inside;
+  alive = c.requires.alive;
+  unoffered = c.requires.unoffered;
+  shown = c.requires.shown;
+  locked = c.requires.locked;
+}
+
+pub returns-in-Table : goal.returns-in-Table
+returns-in-Table g c =
+    record { steps = c.ask.ensures.steps; sends = c.ask.ensures.sends; not_busy = c.ask.ensures.not_busy; begun = λ granted. inl (c.ask.ensures.begun granted); tabled = c.ask.ensures.tabled }
+
+pub returns-in-Settle-clause-steps : goal.returns-in-Settle-clause-steps
+returns-in-Settle-clause-steps g c =
+    let V = g.S.EawStore.view in
+    let h = c.args.self.now in
+    let core = core_of g.S.EawStore.opens g.K.KeyIndex.index (V h.records.store) h in
+    subst (λ (call : Call). Steps g.S.EawStore.tells c.args.caller call core core NoTransaction) (sym (ap asking c.in-Settle.is) ∙ c.of.ensures)
+    (open_settles g.S.EawStore.tells g.S.EawStore.opens g.K.KeyIndex.index (pages_of (V h.records.store) h.records) (state_over g.K.KeyIndex.index (V h.records.store) h) (record { indexed = refl; dead = refl })
+    c.requires.safe c.requires.alive c.args.caller c.requires.unoffered)
