@@ -219,7 +219,7 @@ fn who_reads_behind_a_settle_reads_the_whole_group(rt: HostRuntime) -> Result<()
     ];
     writes(
         &rt,
-        fresh(&rt)?,
+        formatted(&rt, "format --loggers 2 --numbers 3 --entries 8 --pages 4")?,
         "callers 2 --readers 1",
         GROUP_AND_READER,
         &holds,
