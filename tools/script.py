@@ -7,6 +7,7 @@ from pathlib import Path
 
 NUMBER = re.compile(rb"0|[1-9][0-9]*")
 DIGITS = re.compile(rb"[0-9]+")
+NAME = re.compile(rb"[a-z]{1,16}")
 HEX = re.compile(rb"(?:[0-9a-f]{2})+")
 MOST_INPUT = 16_777_216
 CALLERS_OF_FRESH = 8
@@ -57,8 +58,11 @@ CALLS = {
     b"save": ("", []),
     b"back": ("the number of a save", [number_below(2**32, "save")]),
     b"commit": ("", []),
+    b"offer": ("", []),
+    b"settle": ("", []),
     b"abort": ("", []),
 }
+OF_TABLE = (b"get", b"put", b"del", b"scan")
 COMMANDS = {
     b"logwrite": ("an address and bytes", [PLACE, why_no_bytes]),
     b"commit": ("", []),
@@ -78,8 +82,8 @@ def is_passed_over(line):
     return not line or line.startswith(b"#")
 
 
-def why_bad(line, callers=CALLERS_OF_FRESH, verbs=CALLS):
-    """Why a line without its newline is bad; none if it is a call, or is passed over."""
+def why_bad(line, callers=CALLERS_OF_FRESH, verbs=CALLS, readers=0):
+    """Why a line without its newline is bad; none if it is a call, or is passed over. With readers it may be what one of them asks for."""
     if is_passed_over(line):
         return None
     if line.endswith(b"\r"):
@@ -91,12 +95,16 @@ def why_bad(line, callers=CALLERS_OF_FRESH, verbs=CALLS):
     if b"  " in line:
         return "it has two spaces in a row"
     caller, *call = line.split(b" ")
+    if readers and caller.startswith(b"r"):
+        return number_below(readers, "reader")(caller[1:]) or why_no_call(call, {b"get": CALLS[b"get"]})
     return number_below(callers, "caller")(caller) or why_no_call(call, verbs)
 
 
 def why_no_call(call, verbs):
     if not call:
         return "it has no word after the caller"
+    if call[0].startswith(b"@") and verbs is not COMMANDS:
+        return why_no_table(call[0][1:], call[1:2]) or why_no_call(call[1:], verbs)
     if call[0] not in verbs:
         known = ", ".join(verb.decode() for verb in verbs)
         return f"'{shown(call[0])}' is none of {known}"
@@ -104,6 +112,12 @@ def why_no_call(call, verbs):
     if len(call) - 1 != len(kinds):
         return f"{call[0].decode()} takes {takes or 'no more words'}, and there are {len(call) - 1} words"
     return next(filter(None, (why(word) for why, word in zip(kinds, call[1:]))), None)
+
+
+def why_no_table(name, verb):
+    if not NAME.fullmatch(name):
+        return f"the table '{shown(name)}' is not named by 1 to 16 letters a to z"
+    return None if verb and verb[0] in OF_TABLE else "a table's name stands before get, put, del or scan alone"
 
 
 def lines_of(text):
