@@ -61,6 +61,7 @@ CALLS = {
     b"offer": ("", []),
     b"settle": ("", []),
     b"abort": ("", []),
+    b"purge": ("", []),
 }
 OF_TABLE = (b"get", b"put", b"del", b"scan")
 COMMANDS = {
