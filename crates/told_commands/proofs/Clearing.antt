@@ -178,7 +178,7 @@ module _ (tells : Bool) (Opens : Shape → List ℕ → List ℕ → Type 0) (in
     purged = subst (λ (k : ℕ). Purges (limits_of index old.shape) (begun_on false index old.state.bytes) k later.state) (sym (same_count n m re)) purges;
     left = all told dead;
   }
-  to_data told (says.Purged n) dead is (inr (re, rest)) = absurd (cc)
+  to_data told (says.Purged n) dead is (inr (re, other, e)) = absurd (cc)
   to_data told says.Media dead is clears = tt
   to_data told (says.Damaged page) dead is clears = tt
   to_data told _ dead is clears = absurd is

@@ -40,8 +40,7 @@ impl ToldWork for Purge {
             Ok(core) => core,
             Err((fault, store)) => return (Err(served_status(Err(fault))), store),
         };
-        let reply = core.step(CALLER, &Call::Purge);
-        let purged = cleared(&reply);
+        let purged = cleared(&core.step(CALLER, &Call::Purge));
         let store = core.into_store();
         match purged {
             Ok(count) => (Ok(Told::Line(purged_line(count))), store),
