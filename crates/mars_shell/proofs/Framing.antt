@@ -112,9 +112,9 @@ module _ (tells : Bool) (Opens : Shape → List ℕ → List ℕ → Type 0) (in
       kept : (last : Framed Progress) → Comes (core_of Opens index mid held) first.inner later last.inner → (answers : List (List ℕ)) (rest : List ℕ) → Answered framed_lines first 1 (lines_of input) ended cut answers rest last
           → (frames : List Frame) (caller n : ℕ) → caller < 2 ^ 64 → n < 2 ^ 64 → Contains answers (lines_of_frames frames ++ reply_line caller (Committed n)) → n ≤ length later.state.history
       kept last comes answers rest answered frames caller n few fits has =
-          let most : old.shape.numbers ≤ 2 ^ 64 = let r = old.shape.in_range in omega (arith, r.most_numbers) in
+          let most : mid.shape.numbers ≤ 2 ^ 64 = let r = mid.shape.in_range in omega (arith, r.most_numbers) in
           let plain = plain_of first 1 (lines_of input) ended cut answers rest last most answered in
-          committed_kept old.shape.numbers most caller n few fits core.limits core.state later.state (lines_of input) plain.ended plain.cut plain.answers plain.rest last.inner.turns (ready.sound told) (turned last comes)
+          committed_kept mid.shape.numbers most caller n few fits core.limits core.state later.state (lines_of input) plain.ended plain.cut plain.answers plain.rest last.inner.turns (ready.sound told) (turned last comes)
           (answered_turns first.inner 1 (lines_of input) plain.ended plain.cut plain.answers plain.rest last.inner plain.answered) (plain.told frames caller n few has)
 
       module _ (new : StoreView) (data_is : later.state.index.bytes ≡ new.state.bytes) where
