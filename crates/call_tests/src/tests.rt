@@ -11,3 +11,4 @@ mod queues;
 mod reply_texts;
 mod retries;
 mod samples;
+mod two_media;

@@ -1,14 +1,13 @@
 -- A script that is run after frames were sent.
-use Rattle.std.proofs.Common.{◌≡◌, ℕ, inl, inr, Bool, true, false, List, [], ◌++◌, map, Err, Result, refl, sym, ◌∙◌, ap, subst}
+use Rattle.std.proofs.Common.{◌≡◌, ℕ, inl, inr, Bool, true, false, List, Err, Result, refl, sym, ◌∙◌, ap, subst}
 use Rattle.std.specs.Prelude.{flat_map}
-use Rattle.eaw_face.specs.Frame.{Frame, frame_bytes}
 use Rattle.eaw_face.specs.Sending.{Sending}
 use Rattle.eaw_face.specs.StoreView.{StoreView}
 use Rattle.texts.specs.Written.{IsWritten}
 use Rattle.script_run.specs.Script.{Script}
 use Rattle.script_run.specs.declared.ended.Ended.{Ended}
 use Rattle.script_run.specs.declared.ended.Ended.TheVariants.{All, WriteFault, MediaFault, NoMemory}
-use Rattle.frame_lines.specs.Framed.{bytes_line, lines_of_frames, Framed, IsSending, HasSent, IsBut}
+use Rattle.frame_lines.specs.Framed.{bytes_line, lines_of_frames, Framed, HasSent, IsBut}
 use Rattle.frame_lines.specs.Begun.{HasBegun, FrontWritten, RanFramed}
 use Rattle.frame_lines.proofs.Framing.{lines_are}
 

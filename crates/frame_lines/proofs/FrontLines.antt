@@ -56,10 +56,10 @@ cut : (front rest answer : List ℕ) → ((front ++ 10 ∷ []) ++ rest) ++ answe
 cut front rest answer = append_assoc (front ++ 10 ∷ []) rest answer ∙ append_assoc front (10 ∷ []) (rest ++ answer)
 
 pub determined : (sent frames : List Frame) (one other : List ℕ) → (head one ≡ 102 → ⊥) → (head other ≡ 102 → ⊥) → lines_of_frames sent ++ one ≡ lines_of_frames frames ++ other → one ≡ other
-determined [] [] one other no nor is = is
-determined [] (f ∷ frames) one other no nor is = absurd (no (ap head is))
-determined (s ∷ sent) [] one other no nor is = absurd (nor (sym (ap head is)))
-determined (s ∷ sent) (f ∷ frames) one other no nor is =
-    determined sent frames one other no nor
+determined [] [] one other this that is = is
+determined [] (f ∷ frames) one other this that is = absurd (this (ap head is))
+determined (s ∷ sent) [] one other this that is = absurd (that (sym (ap head is)))
+determined (s ∷ sent) (f ∷ frames) one other this that is =
+    determined sent frames one other this that
     (first_end (frame_word ++ hex_of (frame_bytes s)) (frame_word ++ hex_of (frame_bytes f)) (lines_of_frames sent ++ one) (lines_of_frames frames ++ other) (front_one_line (frame_bytes s)) (front_one_line (frame_bytes f))
     (sym (cut (frame_word ++ hex_of (frame_bytes s)) (lines_of_frames sent) one) ∙ is ∙ cut (frame_word ++ hex_of (frame_bytes f)) (lines_of_frames frames) other))

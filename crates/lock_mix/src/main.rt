@@ -3,7 +3,7 @@
 //! many of a hundred calls are puts.
 #![tactic(auto)]
 
-ghost use Rattle.std.specs.Prelude.{◌≡◌};
+ghost use Rattle.std.specs.Prelude.{◌≡◌, ◌<◌, ◌^◌};
 ghost use Rattle.mars_manager.specs.Pass.{dealt};
 ghost use Rattle.mars_manager.specs.Sharing.{CanShare};
 
@@ -73,9 +73,11 @@ fn dealt_out<C: Core + Drop + Send, R: Threads + Wait + Sync>(
         rt,
         move || -> u64
             requires { (first.table ≡ mars.now.table) × (second.table ≡ mars.now.table) }
+            ensures { result < 2 ^ 33 }
         { both(rt, mars, first, second, mix.of_caller(0), value) },
         move || -> u64
             requires { (third.table ≡ mars.now.table) × (fourth.table ≡ mars.now.table) }
+            ensures { result < 2 ^ 33 }
         { both(rt, mars, third, fourth, mix.of_caller(2), value) },
     );
     Some(front + back)
@@ -91,6 +93,7 @@ fn both<C: Core + Drop + Send, R: Threads + Wait + Sync>(
     value: Value,
 ) -> u64
     requires { (one.table ≡ mars.now.table) × (other.table ≡ mars.now.table) }
+    ensures { result < 2 ^ 33 }
 {
     let ((_one, first), (_other, second)) = join(
         rt,

@@ -67,11 +67,11 @@ pub fn make_all<R: Wait, C: Core + Drop>(
 ) -> (Pass<C>, u32)
     requires { pass.table ≡ mars.now.table }
 {
-    let mut again = 0;
+    let mut again = 0u32;
     let mut next = mix;
     for _nth in 0..mix.transactions {
         if !make_once(rt, mars, &mut pass, next, value) {
-            again += 1;
+            again = again.saturating_add(1);
             make_again(rt, mars, &mut pass, next, value);
         }
         next = next.next();
@@ -112,7 +112,7 @@ fn make_once<R: Wait, C: Core + Drop>(
 {
     let _ = mars.call_wait(rt, pass, &Call::Begin);
     for n in 0..CALLS_IN_TRANSACTION {
-        if let Reply::Busy(_) = mars.call_wait(rt, pass, &mix.call(n, value)) {
+        if let Reply::Busy { .. } = mars.call_wait(rt, pass, &mix.call(n, value)) {
             let _ = mars.call_wait(rt, pass, &Call::Abort);
             return false;
         }

@@ -49,11 +49,11 @@ fn fresh_store(alloc: Global) -> Option<Store>
     Some(store)
 }
 
-fn opened(alloc: Global, store: Store) -> Option<Callers>
-    requires alive { IsAlive (⟦<Store as EawStore>⟧.view store) }
-    requires free { (t : ℕ) → (⟦<Store as EawStore>⟧.view store).ranges t ≡ None }
-    requires enough { 4 ≤ (⟦<Store as EawStore>⟧.view store).shape.numbers }
-    ensures { IfSome result (λ core. CanShare ⟦<Callers as Steps>⟧.tells 4 (⟦<Callers as Steps>⟧.view core)) }
+fn opened<S: EawStore + Drop>(alloc: Global, store: S) -> Option<Core<S, BTreePages>>
+    requires alive { IsAlive (S.view store) }
+    requires free { (t : ℕ) → (S.view store).ranges t ≡ None }
+    requires enough { 4 ≤ (S.view store).shape.numbers }
+    ensures shared { IfSome result (λ core. CanShare ⟦<Core<S, BTreePages> as Steps>⟧.tells 4 (⟦<Core<S, BTreePages> as Steps>⟧.view core)) }
 {
     let room = SaveRoom::new(alloc).ok()?;
     match Core::attach(alloc, room, store) {

@@ -1,7 +1,6 @@
 -- The lines of a script are answered by the turns of a core, with the frames that its store sends.
 use Rattle.std.proofs.Common.{◌≡◌, ◌≢◌, ◌⊎◌, ℕ, ◌+◌, ◌<◌, ◌≤◌, ◌^◌, List, [], ◌∷◌, ◌++◌, length, map, Bool, true, false, inl, inr, refl, sym, ap, subst, ◌∙◌, arith}
 use Rattle.std.specs.Prelude.{IsTrue, All, Contains}
-use Rattle.std.specs.List.{concat}
 use Rattle.array_shape.specs.declared.shape.Shape.{Shape}
 use Rattle.eaw_face.specs.Frame.{Frame, frame_bytes}
 use Rattle.eaw_face.specs.Mirroring.{AreInSequence, followed}
@@ -26,7 +25,7 @@ use Rattle.frame_lines.proofs.Framing.{are_some}
 use Rattle.array_runs.specs.Records.{begun_on}
 use Rattle.mars_shell.specs.OnCore.{TurnsOn}
 use Rattle.mars_shell.specs.Standing.{Progress, callers_of, HasData, line_script, Stands, Comes}
-use Rattle.mars_shell.specs.FramedRun.{framed_lines, framed_start, AnswersFramed, SendsFirst, says_framed}
+use Rattle.mars_shell.specs.FramedRun.{framed_lines, framed_start, says_framed}
 use Rattle.mars_shell.proofs.Acknowledged.{committed_kept}
 use Rattle.mars_shell.proofs.Lining.{gives_clean, stops_clean, answered_turns, safe_now}
 use Rattle.mars_shell.proofs.Unframed.{plain_of}

@@ -1,9 +1,8 @@
-use Rattle.std.proofs.Common.{◌≡◌, ℕ, ◌++◌, inl, false, List, sym, ap, subst, ◌∙◌}
+use Rattle.std.proofs.Common.{◌≡◌, ℕ, ◌++◌, inl, List, ap, subst, ◌∙◌}
 use Rattle.std.specs.Prelude.{MatchBool}
 use Rattle.std.proofs.lemmas.List.{append_assoc}
 use Rattle.mars_base.specs.Causes.{Rose}
 use Rattle.script_run.specs.Lines.{lines_of}
-use Rattle.script_run.specs.declared.ended.Ended.{Ended}
 use Rattle.frame_lines.proofs.Beginning.{front_is, front_ends, has_sent_first}
 use Rattle.frame_lines.proofs.answering.answer_framed.Goals as goal
 
