@@ -34,6 +34,6 @@ mod whole;
 pub use array_runs::{Refusal, Status, fault_text};
 pub use caller_plans::Fate;
 pub use caller_work::{Gate, OpenGate, Place, Stop, Worker, caller_work};
-pub use laws::{runs_compose, what_callers_are_told};
+pub use laws::{runs_compose, what_callers_are_told, what_images_hold};
 pub use media_room::room;
 pub use whole::run;
