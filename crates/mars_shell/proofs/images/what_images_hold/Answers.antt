@@ -6,7 +6,7 @@ use Rattle.record_table.specs.Shown.{table_of}
 use Rattle.record_table.specs.Upgrading.{upgraded}
 use Rattle.array_runs.specs.Forms.{index_of_form}
 use Rattle.mars_shell.proofs.Imaging.{one, made, reads, prefix, last, unchanged, some}
-use Rattle.mars_shell.proofs.laws.what_images_hold.Goals as goal
+use Rattle.mars_shell.proofs.images.what_images_hold.Goals as goal
 
 -- data in version 2 is sound, and has the same records, under this index
 KeepsInTwo : Index → Type 0
