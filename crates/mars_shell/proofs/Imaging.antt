@@ -113,7 +113,7 @@ module _ (old : View) (shape : Shape) (form : ℕ) (table : Table) (all : AllAre
     last image left = own_prefix final (length final.history) image (law.now image left)
 
   module _ (version_two : (form : ℕ) (bytes : List ℕ) → (index_of_form form).sound bytes → length bytes < 2 ^ 32
-        → (index_of_form form).sound (upgraded bytes) × (table_of (index_of_form form) (upgraded bytes) ≡ table_of (index_of_form form) bytes)) (new : View) (image : List ℕ) (left : new.left_since old.moment image) where
+      → (index_of_form form).sound (upgraded bytes) × (table_of (index_of_form form) (upgraded bytes) ≡ table_of (index_of_form form) bytes)) (new : View) (image : List ℕ) (left : new.left_since old.moment image) where
     in_two : OpensInTwo shape old.content image → IsOf shape form table image
     in_two opens =
         let first = like_of opens.0 opens.0 opens.2 opens.1 opens.3 opens.3 in
@@ -142,7 +142,7 @@ module _ (old : View) (shape : Shape) (form : ℕ) (table : Table) (all : AllAre
     tried : (name : List ℕ) (at : Shape) → Tries name at old new → IsOf shape form table image
     tried name at tries =
         let seen : OpensLike shape old.content image ⊎ (HasNames shape old image ⊎ HasNewName name shape old image)
-              = in_shape (λ (s : Shape). OpensLike s old.content image ⊎ (HasNames s old image ⊎ HasNewName name s old image)) at tries.holds.array.header (λ all. tries.since all image left) in
+        = in_shape (λ (s : Shape). OpensLike s old.content image ⊎ (HasNames s old image ⊎ HasNewName name s old image)) at tries.holds.array.header (λ all. tries.since all image left) in
         ⊎_elim (like image) (λ more. ⊎_elim (named _) (named _) more) seen
 
     made_by : (name : List ℕ) (cut : Bool) (text : List ℕ) (ended : Ended) → MadeBy name old new cut text ended → IsOf shape form table image
@@ -154,7 +154,7 @@ module _ (old : View) (shape : Shape) (form : ℕ) (table : Table) (all : AllAre
     cleared : (at : Shape) → Clears at old new → IsOf shape form table image
     cleared at clears =
         let seen : OpensLike shape old.content image ⊎ HasRecords shape old image
-              = in_shape (λ (s : Shape). OpensLike s old.content image ⊎ HasRecords s old image) at clears.holds.array.header (λ all. clears.since all image left) in
+        = in_shape (λ (s : Shape). OpensLike s old.content image ⊎ HasRecords s old image) at clears.holds.array.header (λ all. clears.since all image left) in
         ⊎_elim (like image) with_own seen
 
     purged_by : (cut : Bool) (text : List ℕ) (ended : Ended) → PurgedBy old new cut text ended → IsOf shape form table image
@@ -188,7 +188,7 @@ module _ (old : View) (shape : Shape) (form : ℕ) (table : Table) (all : AllAre
     turned : (spares late : Bool) (Says : Limits → List Turn → State → Type 0) (ended : Ended) → TakesTurns spares late Says old ended new → Some
     turned spares late Says ended taken =
         let seen : OpensLike shape old.content image ⊎ Recovers shape (index_in shape old) taken.final 0 image
-              = in_shape (λ (s : Shape). OpensLike s old.content image ⊎ Recovers s (index_in s old) taken.final 0 image) taken.shape taken.holds.array.header (λ all. taken.prefix_law.since all image left) in
+        = in_shape (λ (s : Shape). OpensLike s old.content image ⊎ Recovers s (index_in s old) taken.final 0 image) taken.shape taken.holds.array.header (λ all. taken.prefix_law.since all image left) in
         ⊎_elim (λ opens. (table, like image opens)) (λ recovers. (_, own _ image recovers.opens)) seen
 
     run_by : (frames late : Bool) (input : List ℕ) (cut : Bool) (text : List ℕ) (ended : Ended) → RunsAs frames late input cut text old ended new → Some
@@ -196,12 +196,12 @@ module _ (old : View) (shape : Shape) (form : ℕ) (table : Table) (all : AllAre
     run_by false late input cut text ended taken = turned false late (Answers input ended cut text) ended taken
 
     pub some : (asked : Words) (status : Status) (input : List ℕ) (cut : Bool) (text : List ℕ) → IsOfRecords asked → OutcomeFor asked old status new input cut text → Some
-    some (Run given) status input cut text of outcome = over Some (λ as. (table, as)) false 0 (λ ended. RunsAs given.frames (is_late given.writing) input cut text old ended new) status cut text
+    some (Run given) status input cut text of outcome = over Some (λ before. (table, before)) false 0 (λ ended. RunsAs given.frames (is_late given.writing) input cut text old ended new) status cut text
         (λ ended taken. run_by given.frames (is_late given.writing) input cut text ended taken) outcome
-    some (Callers numbers) status input cut text of outcome = over Some (λ as. (table, as)) false (passes_for numbers.callers numbers.readers)
+    some (Callers numbers) status input cut text of outcome = over Some (λ before. (table, before)) false (passes_for numbers.callers numbers.readers)
         (λ ended. TakesTurns false (is_late numbers.writing) (JointWork numbers.callers numbers.readers numbers.tries input ended cut text) old ended new) status cut text
         (λ ended taken. turned false (is_late numbers.writing) (JointWork numbers.callers numbers.readers numbers.tries input ended cut text) ended taken) outcome
-    some (Drill numbers) status input cut text of outcome = over Some (λ as. (table, as)) false 0 (λ ended. TakesTurns false (is_late numbers.writing) (Drills numbers ended cut text) old ended new) status cut text
+    some (Drill numbers) status input cut text of outcome = over Some (λ before. (table, before)) false 0 (λ ended. TakesTurns false (is_late numbers.writing) (Drills numbers ended cut text) old ended new) status cut text
         (λ ended taken. turned false (is_late numbers.writing) (Drills numbers ended cut text) ended taken) outcome
     some Dump status input cut text of outcome = (table, unchanged Dump status input cut text tt outcome)
     some (Make name) status input cut text of outcome = (table, unchanged (Make name) status input cut text tt outcome)
