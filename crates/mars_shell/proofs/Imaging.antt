@@ -28,9 +28,10 @@ use Rattle.array_runs.specs.Records.{IsDamaged, Exceeds, OverRecords}
 use Rattle.array_runs.specs.declared.status.Status.{Status}
 use Rattle.array_runs.specs.declared.status.Status.TheVariants.{Good, WriteFault}
 use Rattle.array_runs.proofs.Forming.{sound_is_own}
-use Rattle.told_commands.specs.Dump.{DumpsRecords, records_on}
+use Rattle.told_commands.specs.Dump.{DumpsRecords}
 use Rattle.told_commands.specs.Tables.{Tries, HasNames, HasNewName, MadeBy}
-use Rattle.told_commands.specs.Purge.{Clears, HasRecords, PurgedBy}
+use Rattle.told_commands.specs.Purge.{HasRecords, PurgedBy}
+use Rattle.told_commands.specs.Told.{WorksOn}
 use Rattle.reader_work.specs.Readership.{passes_for}
 use Rattle.mars_shell.specs.Asked.{OutcomeFor}
 use Rattle.mars_shell.specs.Drill.{Drills}
@@ -38,7 +39,7 @@ use Rattle.mars_shell.specs.Formats.{HasAsked, IsFormatted, FormatOutcome}
 use Rattle.mars_shell.specs.FramedRun.{RunsAs}
 use Rattle.mars_shell.specs.Joint.{JointWork}
 use Rattle.mars_shell.specs.Late.{is_late}
-use Rattle.mars_shell.specs.Next.{AllSound, IsOf, AllAreOf, IsOfPrefix, IsOfRecords, ChangesNone}
+use Rattle.mars_shell.specs.Next.{AllSound, IsOf, AllAreOf, IsOfPrefix, IsOfRecords, ChangesNone, records_on}
 use Rattle.mars_shell.specs.PrefixLaw.{PrefixLaw, Recovers}
 use Rattle.mars_shell.specs.Run.{TakesTurns, Answers}
 use Rattle.mars_shell.proofs.Composing.{data_short, outcome_gives, own_index, all_open}
@@ -58,7 +59,7 @@ one shape other form its table records image of also =
 
 formatted : (numbers : FormatNumbers) (old new : View) (cut : Bool) (text : List ℕ) → IsFormatted numbers old new cut text → (shape : Shape) × HasAsked numbers shape × AllAreOf shape 1 empty new.content
 formatted numbers old new cut text made =
-    (made.begun.shape, made.begun.numbers, λ image left. record { bytes = _; opened = made.opens image left; sound = made.records.sound; shows = made.records.none })
+    (made.begun.shape, made.begun.numbers, λ image left. record { bytes = _; opened = made.opens image left; sound = made.sound; shows = made.none })
 
 pub made : (numbers : FormatNumbers) (old new : View) (status : Status) (cut : Bool) (text : List ℕ) → (status ≡ Good) ⊎ (status ≡ WriteFault) → FormatOutcome numbers old status new cut text
     → (shape : Shape) × HasAsked numbers shape × AllAreOf shape 1 empty new.content
@@ -136,14 +137,20 @@ module _ (old : View) (shape : Shape) (form : ℕ) (table : Table) (all : AllAre
     named : (names : List (List ℕ)) → OpensNamed (Opens shape) (index_in shape old) image names (records_on shape old) → IsOf shape form table image
     named names o = with_own (record { bytes = o.bytes; opened = o.opened; sound = o.sound; shows = o.shows })
 
-    dumped : (cut : Bool) (text : List ℕ) (ended : Ended) → DumpsRecords ended old new cut text → IsOf shape form table image
-    dumped cut text ended dumps = like image (in_shape (λ (s : Shape). OpensLike s old.content image) dumps.shape dumps.holds.array.header (λ all. dumps.spares.since all image left))
+    -- work that leaves images of one kind, or such as were there
+    worked : (Is : Shape → Type 0) → (Is shape → IsOf shape form table image) → (at : Shape) (Of : List ℕ → Type 0) → (Of image → Is at) → WorksOn at Of old new → IsOf shape form table image
+    worked Is gives at Of of works =
+        let seen : OpensLike shape old.content image ⊎ Is shape
+        = in_shape (λ (s : Shape). OpensLike s old.content image ⊎ Is s) at works.holds.array.header
+        (λ all. ⊎_elim (λ opens. inl opens) (λ is. inr (of is)) (works.since all image left)) in
+        ⊎_elim (like image) gives seen
+
+    dumped : (cut : Bool) (text : List ℕ) (ended : Ended) → DumpsRecords old new cut text ended → IsOf shape form table image
+    dumped cut text ended dumps = worked (λ s. ⊥) (λ none. absurd none) dumps.shape (λ i. ⊥) (λ none. none) dumps.works
 
     tried : (name : List ℕ) (at : Shape) → Tries name at old new → IsOf shape form table image
-    tried name at tries =
-        let seen : OpensLike shape old.content image ⊎ (HasNames shape old image ⊎ HasNewName name shape old image)
-        = in_shape (λ (s : Shape). OpensLike s old.content image ⊎ (HasNames s old image ⊎ HasNewName name s old image)) at tries.holds.array.header (λ all. tries.since all image left) in
-        ⊎_elim (like image) (λ more. ⊎_elim (named _) (named _) more) seen
+    tried name at tries = worked (λ (s : Shape). HasNames s old image ⊎ HasNewName name s old image) (λ either. ⊎_elim (named _) (named _) either) at
+        (λ (i : List ℕ). HasNames at old i ⊎ HasNewName name at old i) (λ either. either) tries
 
     made_by : (name : List ℕ) (cut : Bool) (text : List ℕ) (ended : Ended) → MadeBy name old new cut text ended → IsOf shape form table image
     made_by name cut text script.All makes = tried name makes.shape makes.tries
@@ -151,15 +158,12 @@ module _ (old : View) (shape : Shape) (form : ℕ) (table : Table) (all : AllAre
     made_by name cut text script.MediaFault makes = tried name makes.1.0 makes.1.1
     made_by name cut text script.NoMemory makes = absurd makes
 
-    cleared : (at : Shape) → Clears at old new → IsOf shape form table image
-    cleared at clears =
-        let seen : OpensLike shape old.content image ⊎ HasRecords shape old image
-        = in_shape (λ (s : Shape). OpensLike s old.content image ⊎ HasRecords s old image) at clears.holds.array.header (λ all. clears.since all image left) in
-        ⊎_elim (like image) with_own seen
+    cleared : (at : Shape) → WorksOn at (HasRecords at old) old new → IsOf shape form table image
+    cleared at clears = worked (λ (s : Shape). HasRecords s old image) with_own at (HasRecords at old) (λ has. has) clears
 
     purged_by : (cut : Bool) (text : List ℕ) (ended : Ended) → PurgedBy old new cut text ended → IsOf shape form table image
-    purged_by cut text script.All purged = cleared purged.shape purged.clears
-    purged_by cut text script.WriteFault purged = cleared purged.shape purged.clears
+    purged_by cut text script.All purged = cleared purged.shape purged.works
+    purged_by cut text script.WriteFault purged = cleared purged.shape purged.works
     purged_by cut text script.MediaFault purged = cleared purged.1.0 purged.1.1
     purged_by cut text script.NoMemory purged = absurd purged
 
@@ -171,7 +175,7 @@ module _ (old : View) (shape : Shape) (form : ℕ) (table : Table) (all : AllAre
         (λ kept MayWrite Cause none. as_before (idle cut text kept MayWrite Cause none)) works outcome
 
     pub unchanged : (asked : Words) (status : Status) (input : List ℕ) (cut : Bool) (text : List ℕ) → ChangesNone asked → OutcomeFor asked old status new input cut text → IsOf shape form table image
-    unchanged Dump status input cut text none outcome = over (IsOf shape form table image) (λ of. of) true 0 (λ ended. DumpsRecords ended old new cut text) status cut text (dumped cut text) outcome
+    unchanged Dump status input cut text none outcome = over (IsOf shape form table image) (λ of. of) true 0 (DumpsRecords old new cut text) status cut text (dumped cut text) outcome
     unchanged (Make name) status input cut text none outcome =
         ⊎_elim (λ over-it. over (IsOf shape form table image) (λ of. of) true 0 (MadeBy name old new cut text) status cut text (made_by name cut text) over-it) (λ refused. tried name refused.2.shape refused.2.tries) outcome
     unchanged Purge status input cut text none outcome = over (IsOf shape form table image) (λ of. of) false 0 (PurgedBy old new cut text) status cut text (purged_by cut text) outcome
@@ -185,24 +189,24 @@ module _ (old : View) (shape : Shape) (form : ℕ) (table : Table) (all : AllAre
     Some : Type 0
     Some = (records : Table) × IsOf shape form records image
 
-    turned : (spares late : Bool) (Says : Limits → List Turn → State → Type 0) (ended : Ended) → TakesTurns spares late Says old ended new → Some
-    turned spares late Says ended taken =
+    turned : (late : Bool) (Says : Limits → List Turn → State → Type 0) (ended : Ended) → TakesTurns late Says old ended new → Some
+    turned late Says ended taken =
         let seen : OpensLike shape old.content image ⊎ Recovers shape (index_in shape old) taken.final 0 image
         = in_shape (λ (s : Shape). OpensLike s old.content image ⊎ Recovers s (index_in s old) taken.final 0 image) taken.shape taken.holds.array.header (λ all. taken.prefix_law.since all image left) in
         ⊎_elim (λ opens. (table, like image opens)) (λ recovers. (_, own _ image recovers.opens)) seen
 
     run_by : (frames late : Bool) (input : List ℕ) (cut : Bool) (text : List ℕ) (ended : Ended) → RunsAs frames late input cut text old ended new → Some
-    run_by true late input cut text ended framed = turned false late _ ended framed.taken
-    run_by false late input cut text ended taken = turned false late (Answers input ended cut text) ended taken
+    run_by true late input cut text ended framed = turned late _ ended framed.taken
+    run_by false late input cut text ended taken = turned late (Answers input ended cut text) ended taken
 
     pub some : (asked : Words) (status : Status) (input : List ℕ) (cut : Bool) (text : List ℕ) → IsOfRecords asked → OutcomeFor asked old status new input cut text → Some
     some (Run given) status input cut text of outcome = over Some (λ before. (table, before)) false 0 (λ ended. RunsAs given.frames (is_late given.writing) input cut text old ended new) status cut text
         (λ ended taken. run_by given.frames (is_late given.writing) input cut text ended taken) outcome
     some (Callers numbers) status input cut text of outcome = over Some (λ before. (table, before)) false (passes_for numbers.callers numbers.readers)
-        (λ ended. TakesTurns false (is_late numbers.writing) (JointWork numbers.callers numbers.readers numbers.tries input ended cut text) old ended new) status cut text
-        (λ ended taken. turned false (is_late numbers.writing) (JointWork numbers.callers numbers.readers numbers.tries input ended cut text) ended taken) outcome
-    some (Drill numbers) status input cut text of outcome = over Some (λ before. (table, before)) false 0 (λ ended. TakesTurns false (is_late numbers.writing) (Drills numbers ended cut text) old ended new) status cut text
-        (λ ended taken. turned false (is_late numbers.writing) (Drills numbers ended cut text) ended taken) outcome
+        (λ ended. TakesTurns (is_late numbers.writing) (JointWork numbers.callers numbers.readers numbers.tries input ended cut text) old ended new) status cut text
+        (λ ended taken. turned (is_late numbers.writing) (JointWork numbers.callers numbers.readers numbers.tries input ended cut text) ended taken) outcome
+    some (Drill numbers) status input cut text of outcome = over Some (λ before. (table, before)) false 0 (λ ended. TakesTurns (is_late numbers.writing) (Drills numbers ended cut text) old ended new) status cut text
+        (λ ended taken. turned (is_late numbers.writing) (Drills numbers ended cut text) ended taken) outcome
     some Dump status input cut text of outcome = (table, unchanged Dump status input cut text tt outcome)
     some (Make name) status input cut text of outcome = (table, unchanged (Make name) status input cut text tt outcome)
     some Purge status input cut text of outcome = (table, unchanged Purge status input cut text tt outcome)

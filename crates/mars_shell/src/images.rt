@@ -9,10 +9,9 @@ ghost use Rattle.caller_steps.specs.State.{State};
 ghost use Rattle.command_words.specs.declared.words.FormatNumbers.{FormatNumbers};
 ghost use Rattle.command_words.specs.declared.words.Words.{Words};
 ghost use Rattle.array_runs.specs.declared.status.Status.{Status};
-ghost use Rattle.told_commands.specs.Dump.{records_on};
 ghost use Rattle.mars_shell.specs.Asked.{OutcomeFor};
 ghost use Rattle.mars_shell.specs.Formats.{FormatOutcome, HasAsked};
-ghost use Rattle.mars_shell.specs.Next.{IsOf, AllAreOf, IsOfPrefix, IsOfRecords, ChangesNone};
+ghost use Rattle.mars_shell.specs.Next.{IsOf, AllAreOf, IsOfPrefix, IsOfRecords, ChangesNone, records_on};
 ghost use Rattle.mars_shell.specs.PrefixLaw.{PrefixLaw};
 
 use btree_pages::BTreePages;
