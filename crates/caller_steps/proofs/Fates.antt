@@ -4,7 +4,7 @@ use Rattle.std.proofs.Common.{◌≡◌, ◌⊎◌, ◌<◌, ◌||◌, Bool, ◌
 use Rattle.std.specs.Map.{update}
 use Rattle.std.specs.FinMap.{get}
 use Rattle.std.proofs.lemmas.Map.{update_here, update_apart}
-use Rattle.std.specs.Prelude.{if◌then◌else◌}
+use Rattle.std.specs.Prelude.{not, if◌then◌else◌}
 use Rattle.std.proofs.lemmas.Bool.{true≢false, cond-true, cond-false, cases_Bool}
 use Rattle.std.proofs.lemmas.List.{append-nil}
 use Rattle.history.specs.Key.{of_table}
@@ -16,10 +16,11 @@ use Rattle.history.specs.declared.call.Reply.{Reply}
 use Rattle.history.specs.declared.call.Reply.TheVariants.{Fine, Committed, Purged, NoTransaction, NoTable, Already, NoSave, SavesFull, Busy, LogFull, SlotsFull, PagesFull, Media, Dead, NoMemory}
 use Rattle.caller_steps.specs.State as state
 use Rattle.caller_steps.specs.State.{State, Index, unoffered, offered, unsettled, offers_with, calls_of, commits_of, view_of, with_live, with_offer, done_by}
-use Rattle.caller_steps.specs.Offers.{is_offered, is_unoffered, offerers, group_in, group_end, group_done, number_among, committed_group, doubted_group}
+use Rattle.caller_steps.specs.Offers.{is_offered, is_unoffered, may_do, offerers, group_in, group_end, group_done, number_among, committed_group, doubted_group}
 use Rattle.caller_steps.specs.Locked.{IsFree}
 use Rattle.caller_steps.specs.Room.{Limits, Lacks, LacksAt}
 use Rattle.caller_steps.proofs.Offering.{offers_here, offers_apart, is_in, more_theirs, group_without, group_with, group_mine, offerers_once, offerer_has, offerer_is, group_history, group_names, group_base, group_dead, group_apart, group_ends, without_history, without_names, without_base, without_apart, without_ends}
+use Rattle.caller_steps.proofs.Able.{takes_within, free_outside, able_answered}
 use Rattle.caller_steps.specs.Step.{Says, Asks, AsksTable, StepAt, StepBy, StepIf, Step, Runs}
 use Rattle.caller_steps.specs.Own.{is_commit}
 use Rattle.caller_steps.specs.Fate.{is_refusal, is_media, is_committed, is_of_array, committed_by, history_after, live_with, offer_with, Stays, EndsWith, Moves}
@@ -28,7 +29,7 @@ pub data Fate (callers : ℕ) (old : State) (caller : ℕ) (call : Call) (reply 
   -- nothing changes for the callers
   refused : is_refusal reply ≡ true → is_media reply ≡ false → (index : Index) → new ≡ record old { index = index } → Fate callers old caller call reply new
   failed : is_commit call ≡ false → reply ≡ Media → (index : Index) → new ≡ record old { index = index; is_dead = true } → Fate callers old caller call reply new
-  began : old.offers caller ≡ unoffered → call ≡ Begin → reply ≡ Fine → new ≡ with_live old caller (Some []) → Fate callers old caller call reply new
+  began : old.offers caller ≡ unoffered → old.live caller ≡ None → call ≡ Begin → reply ≡ Fine → new ≡ with_live old caller (Some []) → Fate callers old caller call reply new
   -- the reply is that of the one-thread table
   granted : (calls : Granted) → old.offers caller ≡ unoffered → old.live caller ≡ Some calls → IsFree old caller call → Answers (view_of old caller) call reply
       → (index : Index) → new ≡ record (with_live old caller (Some (calls ++ (call, reply) ∷ []))) { index = index } → Fate callers old caller call reply new
@@ -36,7 +37,7 @@ pub data Fate (callers : ℕ) (old : State) (caller : ℕ) (call : Call) (reply 
       → (index : Index) → new ≡ record (with_live old caller None) { history = old.history ++ done_by old caller calls ∷ []; index = index } → Fate callers old caller call reply new
   doubted : (calls : Granted) → old.offers caller ≡ unoffered → call ≡ Commit → reply ≡ Media → old.live caller ≡ Some calls → (index : Index)
       → new ≡ record (with_live old caller None) { doubt = done_by old caller calls ∷ []; index = index; is_dead = true } → Fate callers old caller call reply new
-  aborted : old.offers caller ≡ unoffered → call ≡ Abort → reply ≡ Fine → new ≡ with_live old caller None → Fate callers old caller call reply new
+  aborted : (calls : Granted) → old.offers caller ≡ unoffered → call ≡ Abort → reply ≡ Fine → old.live caller ≡ Some calls → new ≡ with_live old caller None → Fate callers old caller call reply new
   -- the transaction takes no more calls
   given : (calls : Granted) → old.offers caller ≡ unoffered → call ≡ Offer → reply ≡ Fine → old.live caller ≡ Some calls → new ≡ with_offer old caller offered → Fate callers old caller call reply new
   -- all that were offered are committed, or in doubt
@@ -89,7 +90,7 @@ module _ (limits : Limits) (old : State) (caller : ℕ) (new : State) where
   tabled calls call reply apart un is (inr (some, a)) = asks calls call reply apart un is a
 
   fate_at : (live : Option Granted) (call : Call) (reply : Reply) → old.offers caller ≡ unoffered → old.live caller ≡ live → StepAt limits live old caller call reply new → Fate limits.callers old caller call reply new
-  fate_at None Begin reply un is (re, e) = began un refl re e
+  fate_at None Begin reply un is (re, e) = began un is refl re e
   fate_at None (Get name key) reply un is s = says (Get name key) reply NoTransaction refl refl s
   fate_at None (Put name key value) reply un is s = says (Put name key value) reply NoTransaction refl refl s
   fate_at None (Del name key) reply un is s = says (Del name key) reply NoTransaction refl refl s
@@ -114,7 +115,7 @@ module _ (limits : Limits) (old : State) (caller : ℕ) (new : State) where
   fate_at (Some calls) Commit reply un is (inl short) = says Commit reply NoMemory refl refl short
   fate_at (Some calls) Commit reply un is (inr (inl (re, index, settles, e))) = committed calls un refl re is index e
   fate_at (Some calls) Commit reply un is (inr (inr (wrote, re, index, e))) = doubted calls un refl re is index e
-  fate_at (Some calls) Abort reply un is (re, e) = aborted un refl re e
+  fate_at (Some calls) Abort reply un is (re, e) = aborted calls un refl re is e
   fate_at (Some calls) Offer reply un is (re, e) = given calls un refl re is e
   fate_at (Some calls) Settle reply un is s = says Settle reply NoTransaction refl refl s
   fate_at (Some calls) Purge reply un is s = says Purge reply Already refl refl s
@@ -252,9 +253,9 @@ module _ (callers : ℕ) (old : State) (caller : ℕ) (call : Call) (reply : Rep
     base = ap (λ (s : State). s.base) e;
     history = same_history (refusal_none reply refusal) (ap (λ (s : State). s.history) e);
     dead = alive_same sure (ap (λ (s : State). s.is_dead) e);
+    able = λ done. absurd (true≢false (sym refusal ∙ done));
     own = λ done. absurd (true≢false (sym refusal ∙ done));
     others = others_same (ap (λ (s : State). s.live) e) (ap (λ (s : State). s.offers) e) (ap (λ (s : State). s.history) e);
-    closed = λ gate done. absurd (true≢false (sym refusal ∙ done));
     refused = λ re ok. (ap (λ (s : State). s.live) e, ap (λ (s : State). s.offers) e);
   }
   fate_moves (failed apart r index e) = record {
@@ -262,22 +263,22 @@ module _ (callers : ℕ) (old : State) (caller : ℕ) (call : Call) (reply : Rep
     base = ap (λ (s : State). s.base) e;
     history = same_history (ap is_committed r) (ap (λ (s : State). s.history) e);
     dead = dead_now (ap is_media r) (ap (λ (s : State). s.is_dead) e);
+    able = λ done. absurd (true≢false (sym (ap is_refusal r) ∙ done));
     own = λ done. absurd (true≢false (sym (ap is_refusal r) ∙ done));
     others = others_same (ap (λ (s : State). s.live) e) (ap (λ (s : State). s.offers) e) (ap (λ (s : State). s.history) e);
-    closed = λ gate done. absurd (true≢false (sym (ap is_refusal r) ∙ done));
     refused = λ re ok. (ap (λ (s : State). s.live) e, ap (λ (s : State). s.offers) e);
   }
-  fate_moves (began un c r e) = record {
+  fate_moves (began un l c r e) = record {
     names = ap (λ (s : State). s.names) e;
     base = ap (λ (s : State). s.base) e;
     history = same_history (ap is_committed r) (ap (λ (s : State). s.history) e);
     dead = alive_same (ap is_media r) (ap (λ (s : State). s.is_dead) e);
+    able = λ done. ap (may_do old caller) c ∙ free_outside old caller un l;
     own = λ done. (
       live_set (Some []) (ap (λ (s : State). s.live) e) ∙ ap (λ (x : Call). live_with (calls_of old caller) x reply) (sym c),
       offer_none un (ap (λ (s : State). s.offers) e) (ap offer_with (sym c)),
     );
     others = others_live (Some []) (ap (λ (s : State). s.live) e) (ap (λ (s : State). s.offers) e) (none_more (ap (λ (s : State). s.history) e));
-    closed = λ gate done. absurd (true≢false (sym (ap is_unoffered un) ∙ gate));
     refused = λ re ok. absurd (true≢false (sym re ∙ ap is_refusal r));
   }
   fate_moves (granted calls un l free answers index e) =
@@ -287,13 +288,13 @@ module _ (callers : ℕ) (old : State) (caller : ℕ) (call : Call) (reply : Rep
         base = ap (λ (s : State). s.base) e;
         history = same_history plain.uncommitted (ap (λ (s : State). s.history) e);
         dead = alive_same plain.sure (ap (λ (s : State). s.is_dead) e);
+        able = λ done. able_answered old caller (view_of old caller) call reply answers ∙ takes_within old caller calls un l;
         own = λ done. (
           live_set (Some (calls ++ (call, reply) ∷ [])) (ap (λ (s : State). s.live) e)
               ∙ ap (λ (cs : Granted). Some (cs ++ (call, reply) ∷ [])) (sym (ap (λ (o : Option Granted). unwrap_or o []) l)) ∙ answered_live (calls_of old caller) (view_of old caller) call reply answers,
           offer_none un (ap (λ (s : State). s.offers) e) (answered_offer (view_of old caller) call reply answers),
         );
         others = others_live (Some (calls ++ (call, reply) ∷ [])) (ap (λ (s : State). s.live) e) (ap (λ (s : State). s.offers) e) (none_more (ap (λ (s : State). s.history) e));
-        closed = λ gate done. absurd (true≢false (sym (ap is_unoffered un) ∙ gate));
         refused = λ re ok. absurd (true≢false (sym re ∙ plain.done));
       }
   fate_moves (committed calls un c r l index e) = record {
@@ -303,12 +304,12 @@ module _ (callers : ℕ) (old : State) (caller : ℕ) (call : Call) (reply : Rep
         ∙ ap (λ (cs : Granted). old.history ++ done_by old caller cs ∷ []) (sym (ap (λ (o : Option Granted). unwrap_or o []) l))
         ∙ ap (λ (x : Call). old.history ++ committed_by callers old caller x) (sym c));
     dead = alive_same (ap is_media r) (ap (λ (s : State). s.is_dead) e);
+    able = λ done. ap (may_do old caller) c ∙ takes_within old caller calls un l;
     own = λ done. (
       live_set None (ap (λ (s : State). s.live) e) ∙ ap (λ (x : Call). live_with (calls_of old caller) x reply) (sym c),
       offer_none un (ap (λ (s : State). s.offers) e) (ap offer_with (sym c)),
     );
     others = others_live None (ap (λ (s : State). s.live) e) (ap (λ (s : State). s.offers) e) (λ other ne. ap (λ (s : State). commits_of other s.history) e ∙ more_theirs other old.history (done_by old caller calls) (λ same. ne (sym same)));
-    closed = λ gate done. absurd (true≢false (sym (ap is_unoffered un) ∙ gate));
     refused = λ re ok. absurd (true≢false (sym re ∙ ap is_refusal r));
   }
   fate_moves (doubted calls un c r l index e) = record {
@@ -316,22 +317,22 @@ module _ (callers : ℕ) (old : State) (caller : ℕ) (call : Call) (reply : Rep
     base = ap (λ (s : State). s.base) e;
     history = same_history (ap is_committed r) (ap (λ (s : State). s.history) e);
     dead = dead_now (ap is_media r) (ap (λ (s : State). s.is_dead) e);
+    able = λ done. absurd (true≢false (sym (ap is_refusal r) ∙ done));
     own = λ done. absurd (true≢false (sym (ap is_refusal r) ∙ done));
     others = others_live None (ap (λ (s : State). s.live) e) (ap (λ (s : State). s.offers) e) (none_more (ap (λ (s : State). s.history) e));
-    closed = λ gate done. absurd (true≢false (sym (ap is_refusal r) ∙ done));
     refused = λ re ok. absurd (true≢false (sym (ap is_media r) ∙ ok));
   }
-  fate_moves (aborted un c r e) = record {
+  fate_moves (aborted calls un c r l e) = record {
     names = ap (λ (s : State). s.names) e;
     base = ap (λ (s : State). s.base) e;
     history = same_history (ap is_committed r) (ap (λ (s : State). s.history) e);
     dead = alive_same (ap is_media r) (ap (λ (s : State). s.is_dead) e);
+    able = λ done. ap (may_do old caller) c ∙ takes_within old caller calls un l;
     own = λ done. (
       live_set None (ap (λ (s : State). s.live) e) ∙ ap (λ (x : Call). live_with (calls_of old caller) x reply) (sym c),
       offer_none un (ap (λ (s : State). s.offers) e) (ap offer_with (sym c)),
     );
     others = others_live None (ap (λ (s : State). s.live) e) (ap (λ (s : State). s.offers) e) (none_more (ap (λ (s : State). s.history) e));
-    closed = λ gate done. absurd (true≢false (sym (ap is_unoffered un) ∙ gate));
     refused = λ re ok. absurd (true≢false (sym re ∙ ap is_refusal r));
   }
   fate_moves (given calls un c r l e) = record {
@@ -339,6 +340,7 @@ module _ (callers : ℕ) (old : State) (caller : ℕ) (call : Call) (reply : Rep
     base = ap (λ (s : State). s.base) e;
     history = same_history (ap is_committed r) (ap (λ (s : State). s.history) e);
     dead = alive_same (ap is_media r) (ap (λ (s : State). s.is_dead) e);
+    able = λ done. ap (may_do old caller) c ∙ takes_within old caller calls un l;
     own = λ done. (
       ap (λ (s : State). s.live caller) e ∙ l ∙ ap (λ (cs : Granted). Some cs) (sym (ap (λ (o : Option Granted). unwrap_or o []) l)) ∙ ap (λ (x : Call). live_with (calls_of old caller) x reply) (sym c),
       ap (λ (s : State). s.offers caller) e ∙ offers_here old.offers caller offered ∙ ap offer_with (sym c),
@@ -348,7 +350,6 @@ module _ (callers : ℕ) (old : State) (caller : ℕ) (call : Call) (reply : Rep
       offer = ap (λ (s : State). s.offers other) e ∙ offers_apart old.offers caller offered other ne;
       mine = ap (λ (s : State). commits_of other s.history) e;
     });
-    closed = λ gate done. absurd (true≢false (sym (ap is_unoffered un) ∙ gate));
     refused = λ re ok. absurd (true≢false (sym re ∙ ap is_refusal r));
   }
   fate_moves (settled inside has c r index e) =
@@ -360,6 +361,7 @@ module _ (callers : ℕ) (old : State) (caller : ℕ) (call : Call) (reply : Rep
         history = more_history (ap is_committed r) (ap (λ (s : State). s.history) e ∙ group_history old (group_end old os) os
             ∙ ap (λ (l : List Done). old.history ++ l) (sym (settles_as offered c has)));
         dead = alive_same (ap is_media r) (ap (λ (s : State). s.is_dead) e ∙ group_dead old (group_end old os) os);
+        able = λ done. ap (may_do old caller) c ∙ ap (λ (o : state.Offer). not (is_unoffered o)) has;
         own = λ done. (
           ap (λ (s : State). s.live caller) e ∙ (group_ends old (group_end old os) os caller (offerers_once callers old) (offerer_is callers old caller inside has)).live
               ∙ ap (λ (x : Call). live_with (calls_of old caller) x reply) (sym c),
@@ -384,7 +386,6 @@ module _ (callers : ℕ) (old : State) (caller : ℕ) (call : Call) (reply : Rep
                 ∙ ap (λ (l : List Done). commits_of other old.history ++ l) (group_without old (group_end old os) os other out) ∙ append-nil (commits_of other old.history);
           }))
         ];
-        closed = λ gate done. c;
         refused = λ re ok. absurd (true≢false (sym re ∙ ap is_refusal r));
       }
   fate_moves (unsure inside has c r index e) =
@@ -394,6 +395,7 @@ module _ (callers : ℕ) (old : State) (caller : ℕ) (call : Call) (reply : Rep
         base = ap (λ (s : State). s.base) e ∙ without_base old os;
         history = same_history (ap is_committed r) (ap (λ (s : State). s.history) e ∙ without_history old os);
         dead = dead_now (ap is_media r) (ap (λ (s : State). s.is_dead) e);
+        able = λ done. absurd (true≢false (sym (ap is_refusal r) ∙ done));
         own = λ done. absurd (true≢false (sym (ap is_refusal r) ∙ done));
         others = λ other ne. elim (cases_Bool (is_in other os)) [
           | inl is ↦ (let at = without_ends old os other (offerers_once callers old) is in inr (record {
@@ -407,7 +409,6 @@ module _ (callers : ℕ) (old : State) (caller : ℕ) (call : Call) (reply : Rep
           }))
           | inr out ↦ (let at = without_apart old os other out in inl (record { live = ap (λ (s : State). s.live other) e ∙ at.live; offer = ap (λ (s : State). s.offers other) e ∙ at.offer; mine = ap (λ (s : State). commits_of other s.history) e ∙ ap (commits_of other) (without_history old os) }))
         ];
-        closed = λ gate done. c;
         refused = λ re ok. absurd (true≢false (sym (ap is_media r) ∙ ok));
       }
   fate_moves (told n has c r e) = record {
@@ -415,12 +416,12 @@ module _ (callers : ℕ) (old : State) (caller : ℕ) (call : Call) (reply : Rep
     base = ap (λ (s : State). s.base) e;
     history = more_history (ap is_committed r) (ap (λ (s : State). s.history) e ∙ sym (append-nil old.history) ∙ ap (λ (l : List Done). old.history ++ l) (sym (settles_as (unsettled n) c has)));
     dead = alive_same (ap is_media r) (ap (λ (s : State). s.is_dead) e);
+    able = λ done. ap (may_do old caller) c ∙ ap (λ (o : state.Offer). not (is_unoffered o)) has;
     own = λ done. (
       live_set None (ap (λ (s : State). s.live) e) ∙ ap (λ (x : Call). live_with (calls_of old caller) x reply) (sym c),
       ap (λ (s : State). s.offers caller) e ∙ offers_here old.offers caller unoffered ∙ ap offer_with (sym c),
     );
     others = λ other ne. inl (record { live = live_moved other None ne (ap (λ (s : State). s.live) e); offer = ap (λ (s : State). s.offers other) e ∙ offers_apart old.offers caller unoffered other ne; mine = ap (λ (s : State). commits_of other s.history) e });
-    closed = λ gate done. c;
     refused = λ re ok. absurd (true≢false (sym re ∙ ap is_refusal r));
   }
   fate_moves (purged n un l c r index e) = record {
@@ -428,12 +429,12 @@ module _ (callers : ℕ) (old : State) (caller : ℕ) (call : Call) (reply : Rep
     base = ap (λ (s : State). s.base) e;
     history = same_history (ap is_committed r) (ap (λ (s : State). s.history) e);
     dead = alive_same (ap is_media r) (ap (λ (s : State). s.is_dead) e);
+    able = λ done. ap (may_do old caller) c ∙ free_outside old caller un l;
     own = λ done. (
       ap (λ (s : State). s.live caller) e ∙ l ∙ ap (λ (x : Call). live_with (calls_of old caller) x reply) (sym c),
       offer_none un (ap (λ (s : State). s.offers) e) (ap offer_with (sym c)),
     );
     others = others_same (ap (λ (s : State). s.live) e) (ap (λ (s : State). s.offers) e) (ap (λ (s : State). s.history) e);
-    closed = λ gate done. absurd (true≢false (sym (ap is_unoffered un) ∙ gate));
     refused = λ re ok. absurd (true≢false (sym re ∙ ap is_refusal r));
   }
 

@@ -23,6 +23,7 @@ use Rattle.caller_steps.specs.Fate.{is_refusal, is_media, is_committed, live_wit
 use Rattle.caller_steps.specs.Run.{Turn, Goes, GoesAlong, AreOf, turns_of}
 use Rattle.caller_steps.specs.Own.{is_commit, number_of, Own, nothing_own, own_after, as_told, told_of, calls_among, live_in, mine_in, doubt_in, KnowsLive}
 use Rattle.caller_steps.proofs.Offering.{offers_here, is_in, offerers_once, offerer_has, offerer_is, more_mine, more_theirs, group_history, group_mine, group_with, group_without, group_doubt, without_history, without_apart, without_ends}
+use Rattle.caller_steps.proofs.Able.{able_closed}
 use Rattle.caller_steps.proofs.Fates.{Fate, refused, failed, began, granted, committed, doubted, aborted, given, settled, unsure, told, purged, step_fate, refusal_none, answer_plain}
 use Rattle.caller_steps.proofs.Running.{line_here, line_apart, none_beyond, turns_dead}
 
@@ -149,7 +150,7 @@ module _ (limits : Limits) (old : State) (caller : ℕ) (new : State) (own : Own
         | inl un ↦ (
             let none = is_none (old.offers caller) un in
             ap (λ (o : Option Granted). live_with (unwrap_or o []) call reply) (was.live ∙ live_open own (old.offers caller) (not_waiting limits old caller new own alive was none) none))
-        | inr gate ↦ (let settles = moves.closed gate done in
+        | inr gate ↦ (let settles = able_closed old caller call gate (moves.able done) in
             ap (λ (c : Call). live_with (calls_of old caller) c reply) settles ∙ sym (ap (λ (c : Call). live_with (unwrap_or own.live []) c reply) settles))
       ]
 
@@ -179,13 +180,13 @@ module _ (limits : Limits) (old : State) (caller : ℕ) (new : State) (own : Own
   live_faulted media (refused refusal sure index e) was = absurd (true≢false (sym media ∙ sure))
   live_faulted media (failed apart r index e) was = subst (λ (o : Own). KnowsLive caller o new) (sym (own_failed caller own call reply media (ap is_committed r) apart))
       (live_stays limits old caller new own (ap (λ (s : State). s.live caller) e) (ap (λ (s : State). s.offers caller) e) (λ _ living. absurd (true≢false (sym (ap (λ (s : State). s.is_dead) e) ∙ living))) was)
-  live_faulted media (began un c r e) was = absurd (true≢false (sym media ∙ ap is_media r))
+  live_faulted media (began un l c r e) was = absurd (true≢false (sym media ∙ ap is_media r))
   live_faulted media (granted calls un l free answers index e) was = absurd (true≢false (sym media ∙ (answer_plain _ call reply answers).sure))
   live_faulted media (committed calls un c r l index e) was = absurd (true≢false (sym media ∙ ap is_media r))
   live_faulted media (doubted calls un c r l index e) was = live_ended limits old caller new upon
       (ap (λ (s : State). s.live caller) e ∙ update_here old.live caller None) (ap (λ (s : State). s.offers caller) e ∙ un)
       (lost_live caller own call reply media (ap is_commit c)) (lost_waits caller own call reply media (ap is_commit c))
-  live_faulted media (aborted un c r e) was = absurd (true≢false (sym media ∙ ap is_media r))
+  live_faulted media (aborted calls un c r l e) was = absurd (true≢false (sym media ∙ ap is_media r))
   live_faulted media (given calls un c r l e) was = absurd (true≢false (sym media ∙ ap is_media r))
   live_faulted media (settled inside has c r index e) was = absurd (true≢false (sym media ∙ ap is_media r))
   live_faulted media (unsure inside has c r index e) was =
@@ -272,7 +273,7 @@ module _ (limits : Limits) (old : State) (caller : ℕ) (new : State) (own : Own
   mine_own : (fate : Fate limits.callers old caller call reply new) → told_of caller old.history ≡ mine_in caller own (old.offers caller) → told_of caller new.history ≡ mine_in caller after (new.offers caller)
   mine_own (refused refusal sure index e) mine = ap (λ (s : State). told_of caller s.history) e ∙ mine ∙ (λ i. mine_in caller (sym (own_refused caller own call reply refusal sure) i) (sym (ap (λ (s : State). s.offers caller) e) i))
   mine_own (failed apart r index e) mine = ap (λ (s : State). told_of caller s.history) e ∙ mine ∙ (λ i. mine_in caller (sym (own_failed caller own call reply (ap is_media r) (ap is_committed r) apart) i) (sym (ap (λ (s : State). s.offers caller) e) i))
-  mine_own (began un c r e) mine = mine_same (ap (λ (s : State). s.history) e) (ap is_committed r) (mine ∙ ap (mine_in caller own) un) (ap (mine_in caller after) (ap (λ (s : State). s.offers caller) e ∙ un))
+  mine_own (began un l c r e) mine = mine_same (ap (λ (s : State). s.history) e) (ap is_committed r) (mine ∙ ap (mine_in caller own) un) (ap (mine_in caller after) (ap (λ (s : State). s.offers caller) e ∙ un))
   mine_own (granted calls un l free answers index e) mine =
       mine_same (ap (λ (s : State). s.history) e) (answer_plain _ call reply answers).uncommitted (mine ∙ ap (mine_in caller own) un) (ap (mine_in caller after) (ap (λ (s : State). s.offers caller) e ∙ un))
   mine_own (committed calls un c r l index e) mine =
@@ -280,7 +281,7 @@ module _ (limits : Limits) (old : State) (caller : ℕ) (new : State) (own : Own
       ∙ (λ i. (mine ∙ ap (mine_in caller own) un) i ++ record { caller = caller; calls = (ap (λ (o : Option Granted). unwrap_or o []) (sym l) ∙ own_calls un) i; at = sym (ap number_of r) i; last = sym (ap number_of r) i } ∷ [])
       ∙ sym (more_own caller own call reply (ap is_committed r)) ∙ sym (ap (mine_in caller after) (ap (λ (s : State). s.offers caller) e ∙ un))
   mine_own (doubted calls un c r l index e) mine = mine_same (ap (λ (s : State). s.history) e) (ap is_committed r) (mine ∙ ap (mine_in caller own) un) (ap (mine_in caller after) (ap (λ (s : State). s.offers caller) e ∙ un))
-  mine_own (aborted un c r e) mine = mine_same (ap (λ (s : State). s.history) e) (ap is_committed r) (mine ∙ ap (mine_in caller own) un) (ap (mine_in caller after) (ap (λ (s : State). s.offers caller) e ∙ un))
+  mine_own (aborted calls un c r l e) mine = mine_same (ap (λ (s : State). s.history) e) (ap is_committed r) (mine ∙ ap (mine_in caller own) un) (ap (mine_in caller after) (ap (λ (s : State). s.offers caller) e ∙ un))
   mine_own (given calls un c r l e) mine =
       mine_same (ap (λ (s : State). s.history) e) (ap is_committed r) (mine ∙ ap (mine_in caller own) un) (ap (mine_in caller after) (ap (λ (s : State). s.offers caller) e ∙ offers_here old.offers caller offered))
   mine_own (settled inside has c r index e) mine =
@@ -343,11 +344,11 @@ none_calls caller done ne = ap (map (λ (done : Done). done.calls)) (more_theirs
 sure_same : (limits : Limits) (old : State) (caller : ℕ) (new : State) (call : Call) (reply : Reply) → is_media reply ≡ false → Fate limits.callers old caller call reply new → new.doubt ≡ old.doubt
 sure_same limits old caller new call reply sure (refused refusal none index e) = ap (λ (s : State). s.doubt) e
 sure_same limits old caller new call reply sure (failed apart r index e) = ap (λ (s : State). s.doubt) e
-sure_same limits old caller new call reply sure (began un c r e) = ap (λ (s : State). s.doubt) e
+sure_same limits old caller new call reply sure (began un l c r e) = ap (λ (s : State). s.doubt) e
 sure_same limits old caller new call reply sure (granted calls un l free answers index e) = ap (λ (s : State). s.doubt) e
 sure_same limits old caller new call reply sure (committed calls un c r l index e) = ap (λ (s : State). s.doubt) e
 sure_same limits old caller new call reply sure (doubted calls un c r l index e) = absurd (true≢false (sym (ap is_media r) ∙ sure))
-sure_same limits old caller new call reply sure (aborted un c r e) = ap (λ (s : State). s.doubt) e
+sure_same limits old caller new call reply sure (aborted calls un c r l e) = ap (λ (s : State). s.doubt) e
 sure_same limits old caller new call reply sure (given calls un c r l e) = ap (λ (s : State). s.doubt) e
 sure_same limits old caller new call reply sure (settled inside has c r index e) = ap (λ (s : State). s.doubt) e ∙ group_doubt old (group_end old (offerers limits.callers old)) (offerers limits.callers old)
 sure_same limits old caller new call reply sure (unsure inside has c r index e) = absurd (true≢false (sym (ap is_media r) ∙ sure))
@@ -363,7 +364,7 @@ module _ (limits : Limits) (old : State) (caller : ℕ) (new : State) (own : Own
   doubt_own call reply media (refused refusal sure index e) = absurd (true≢false (sym media ∙ sure))
   doubt_own call reply media (failed apart r index e) =
       ap (λ (s : State). calls_among caller s.doubt) e ∙ doubt ∙ (λ i. doubt_in (sym (own_failed caller own call reply media (ap is_committed r) apart) i) (sym (ap (λ (s : State). s.offers caller) e) i))
-  doubt_own call reply media (began un c r e) = absurd (true≢false (sym media ∙ ap is_media r))
+  doubt_own call reply media (began un l c r e) = absurd (true≢false (sym media ∙ ap is_media r))
   doubt_own call reply media (granted calls un l free answers index e) = absurd (true≢false (sym media ∙ (answer_plain _ call reply answers).sure))
   doubt_own call reply media (committed calls un c r l index e) = absurd (true≢false (sym media ∙ ap is_media r))
   doubt_own call reply media (doubted calls un c r l index e) =
@@ -371,7 +372,7 @@ module _ (limits : Limits) (old : State) (caller : ℕ) (new : State) (own : Own
       ∙ (λ i. (ap (λ (o : Option Granted). unwrap_or o []) (sym l) ∙ own_calls limits old caller new own call reply alive was un) i ∷ [])
       ∙ ap option_to_list (sym (lost_doubt caller own call reply media (ap is_commit c)))
       ∙ sym (doubt_idle (own_after caller own (call, reply)) (new.offers caller) (lost_waits caller own call reply media (ap is_commit c)) (ap (λ (s : State). s.offers caller) e ∙ un))
-  doubt_own call reply media (aborted un c r e) = absurd (true≢false (sym media ∙ ap is_media r))
+  doubt_own call reply media (aborted calls un c r l e) = absurd (true≢false (sym media ∙ ap is_media r))
   doubt_own call reply media (given calls un c r l e) = absurd (true≢false (sym media ∙ ap is_media r))
   doubt_own call reply media (settled inside has c r index e) = absurd (true≢false (sym media ∙ ap is_media r))
   doubt_own call reply media (unsure inside has c r index e) =
@@ -393,12 +394,12 @@ module _ (limits : Limits) (old : State) (caller : ℕ) (new : State) (own : Own
   doubt_other : (turn : Turn) → caller ≢ turn.0 → is_media turn.2 ≡ true → Fate limits.callers old turn.0 turn.1 turn.2 new → calls_among caller new.doubt ≡ doubt_in own (new.offers caller)
   doubt_other turn ne media (refused refusal sure index e) = absurd (true≢false (sym media ∙ sure))
   doubt_other turn ne media (failed apart r index e) = ap (λ (s : State). calls_among caller s.doubt) e ∙ doubt ∙ ap (doubt_in own) (sym (ap (λ (s : State). s.offers caller) e))
-  doubt_other turn ne media (began un c r e) = absurd (true≢false (sym media ∙ ap is_media r))
+  doubt_other turn ne media (began un l c r e) = absurd (true≢false (sym media ∙ ap is_media r))
   doubt_other turn ne media (granted calls un l free answers index e) = absurd (true≢false (sym media ∙ (answer_plain _ turn.1 turn.2 answers).sure))
   doubt_other turn ne media (committed calls un c r l index e) = absurd (true≢false (sym media ∙ ap is_media r))
   doubt_other turn ne media (doubted calls un c r l index e) =
       theirs (ap (λ (s : State). calls_among caller s.doubt) e ∙ none_calls caller (done_by old turn.0 calls) (λ same. ne (sym same))) (ap (λ (s : State). s.offers caller) e)
-  doubt_other turn ne media (aborted un c r e) = absurd (true≢false (sym media ∙ ap is_media r))
+  doubt_other turn ne media (aborted calls un c r l e) = absurd (true≢false (sym media ∙ ap is_media r))
   doubt_other turn ne media (given calls un c r l e) = absurd (true≢false (sym media ∙ ap is_media r))
   doubt_other turn ne media (settled inside has c r index e) = absurd (true≢false (sym media ∙ ap is_media r))
   doubt_other turn ne media (unsure inside has c r index e) = elim (cases_Bool (is_in caller (offerers limits.callers old))) [
@@ -605,11 +606,11 @@ number_of_commit limits old caller what new reply plain step is = go (step_fate 
     go : Fate limits.callers old caller what reply new → reply ≡ Committed (length old.history + 1)
     go (refused refusal sure index e) = absurd (true≢false (sym is ∙ refusal_none reply refusal))
     go (failed apart r index e) = absurd (true≢false (sym is ∙ ap is_committed r))
-    go (began un c r e) = absurd (true≢false (sym is ∙ ap is_committed r))
+    go (began un l c r e) = absurd (true≢false (sym is ∙ ap is_committed r))
     go (granted calls un l free answers index e) = absurd (true≢false (sym is ∙ (answer_plain (view_of old caller) what reply answers).uncommitted))
     go (committed calls un c r l index e) = r
     go (doubted calls un c r l index e) = absurd (true≢false (sym is ∙ ap is_committed r))
-    go (aborted un c r e) = absurd (true≢false (sym is ∙ ap is_committed r))
+    go (aborted calls un c r l e) = absurd (true≢false (sym is ∙ ap is_committed r))
     go (given calls un c r l e) = absurd (true≢false (sym is ∙ ap is_committed r))
     go (settled inside has c r index e) = absurd (plain c)
     go (unsure inside has c r index e) = absurd (plain c)

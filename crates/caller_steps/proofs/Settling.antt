@@ -42,11 +42,11 @@ module _ (limits : Limits) (old new : State) (caller n : ℕ) where
   settle_tells : old.is_dead ≡ false → IsSound old → Fate limits.callers old caller Settle (Committed n) new → IsCommittedAs new.history caller n
   settle_tells alive sound (refused refusal sure index e) = absurd (true≢false (sym refusal))
   settle_tells alive sound (failed apart r index e) = absurd (true≢false (ap is_committed r))
-  settle_tells alive sound (began un c r e) = absurd (true≢false (ap is_settle c))
+  settle_tells alive sound (began un l c r e) = absurd (true≢false (ap is_settle c))
   settle_tells alive sound (granted calls un l free answers index e) = absurd answers
   settle_tells alive sound (committed calls un c r l index e) = absurd (true≢false (ap is_settle c))
   settle_tells alive sound (doubted calls un c r l index e) = absurd (true≢false (ap is_settle c))
-  settle_tells alive sound (aborted un c r e) = absurd (true≢false (ap is_settle c))
+  settle_tells alive sound (aborted calls un c r l e) = absurd (true≢false (ap is_settle c))
   settle_tells alive sound (given calls un c r l e) = absurd (true≢false (ap is_settle c))
   settle_tells alive sound (settled inside has c r index e) =
       let os = offerers limits.callers old in
@@ -73,11 +73,11 @@ module _ (limits : Limits) (old new : State) (caller n : ℕ) where
       × ((other : ℕ) → other < limits.callers → other ≢ caller → old.offers other ≡ offered → new.offers other ≡ unsettled (group_done old (offerers limits.callers old) other).at)
   settles_all gave (refused refusal sure index e) = absurd (true≢false (sym refusal))
   settles_all gave (failed apart r index e) = absurd (true≢false (ap is_committed r))
-  settles_all gave (began un c r e) = absurd (true≢false (ap is_settle c))
+  settles_all gave (began un l c r e) = absurd (true≢false (ap is_settle c))
   settles_all gave (granted calls un l free answers index e) = absurd answers
   settles_all gave (committed calls un c r l index e) = absurd (true≢false (ap is_settle c))
   settles_all gave (doubted calls un c r l index e) = absurd (true≢false (ap is_settle c))
-  settles_all gave (aborted un c r e) = absurd (true≢false (ap is_settle c))
+  settles_all gave (aborted calls un c r l e) = absurd (true≢false (ap is_settle c))
   settles_all gave (given calls un c r l e) = absurd (true≢false (ap is_settle c))
   settles_all gave (settled inside has c r index e) =
       let os = offerers limits.callers old in (

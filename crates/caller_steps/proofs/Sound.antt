@@ -145,11 +145,11 @@ module _ (old : State) (caller : ℕ) (sound : IsSound old) where
   fate_sound : (callers : ℕ) (call : Call) (reply : Reply) (new : State) → old.is_dead ≡ false → Fate callers old caller call reply new → IsSound new
   fate_sound callers call reply new alive (refused refusal sure index e) = subst IsSound (sym e) (same index old.is_dead (λ is. is))
   fate_sound callers call reply new alive (failed apart r index e) = subst IsSound (sym e) (same index true (λ is. alive))
-  fate_sound callers call reply new alive (began un c r e) = subst IsSound (sym e) (begins un)
+  fate_sound callers call reply new alive (began un l c r e) = subst IsSound (sym e) (begins un)
   fate_sound callers call reply new alive (granted calls un l free answers index e) = subst IsSound (sym e) (grows calls (ap (λ o. unwrap_or o []) l) un call reply index free answers)
   fate_sound callers call reply new alive (committed calls un c r l index e) = subst IsSound (sym e) (commits calls (ap (λ o. unwrap_or o []) l) un alive index)
   fate_sound callers call reply new alive (doubted calls un c r l index e) = subst IsSound (sym e) (doubts calls (ap (λ o. unwrap_or o []) l) un index)
-  fate_sound callers call reply new alive (aborted un c r e) = subst IsSound (sym e) (ends un)
+  fate_sound callers call reply new alive (aborted calls un c r l e) = subst IsSound (sym e) (ends un)
   fate_sound callers call reply new alive (given calls un c r l e) = subst IsSound (sym e) (offers_as offered (ap is_some l))
   fate_sound callers call reply new alive (settled inside has c r index e) =
       let group = group_sound old sound alive (offerers callers old) in

@@ -8,7 +8,7 @@ use Rattle.history.specs.declared.call.Reply.TheVariants.{Fine, Found, Absent, L
 use Rattle.history.specs.declared.transaction.Done.{Done}
 use Rattle.caller_steps.specs.State as state
 use Rattle.caller_steps.specs.State.{State, unoffered, offered, unsettled, calls_of, commits_of, done_by}
-use Rattle.caller_steps.specs.Offers.{is_offered, is_unoffered, offerers, group_in, group_end, group_done}
+use Rattle.caller_steps.specs.Offers.{is_offered, may_do, offerers, group_in, group_end, group_done}
 
 -- a reply to a call that was not done
 abbrev pub is_refusal : Reply → Bool
@@ -90,14 +90,14 @@ pub record EndsWith (callers : ℕ) (old : State) (caller : ℕ) (call : Call) (
   pub offer : new.offers other ≡ (if is_media reply then unoffered else unsettled (group_done old (offerers callers old) other).at)
   pub mine : commits_of other new.history ≡ (if is_media reply then commits_of other old.history else commits_of other old.history ++ group_done old (offerers callers old) other ∷ [])
 
--- What each step does to transactions, over any store, where there are so many callers. A fault of the medium in a commit or a settle may end
--- the caller's transaction, and in a settle all that were offered. What is offered takes no call but its settle.
+-- What each step does to transactions, over any store, where there are so many callers. A call is done only where its caller's transaction lets
+-- it be. A fault of the medium in a commit or a settle may end the caller's transaction, and in a settle all that were offered.
 pub record Moves (callers : ℕ) (old : State) (caller : ℕ) (call : Call) (reply : Reply) (new : State) : Type 0 where
   pub names : new.names ≡ old.names
   pub base : new.base ≡ old.base
   pub history : new.history ≡ history_after callers old caller call reply
   pub dead : new.is_dead ≡ (old.is_dead || is_media reply)
+  pub able : IsFalse (is_refusal reply) → IsTrue (may_do old caller call)
   pub own : IsFalse (is_refusal reply) → (new.live caller ≡ live_with (calls_of old caller) call reply) × (new.offers caller ≡ offer_with call)
   pub others : (other : ℕ) → other ≢ caller → Stays old new other ⊎ EndsWith callers old caller call reply new other
-  pub closed : IsFalse (is_unoffered (old.offers caller)) → IsFalse (is_refusal reply) → call ≡ Settle
   pub refused : IsTrue (is_refusal reply) → IsFalse (is_media reply) → (new.live ≡ old.live) × (new.offers ≡ old.offers)

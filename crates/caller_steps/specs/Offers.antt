@@ -3,6 +3,8 @@ use Rattle.std.specs.Prelude.{ℕ, ◌+◌, Bool, true, false, ◌&&◌, ◌||�
 use Rattle.std.specs.List.{range_with_len}
 use Rattle.history.specs.Log.{log_of}
 use Rattle.history.specs.Writes.{Write}
+use Rattle.history.specs.declared.call.Call.{Call}
+use Rattle.history.specs.declared.call.Call.TheVariants.{Begin, Settle, Purge}
 use Rattle.history.specs.declared.transaction.Done.{Done}
 use Rattle.caller_steps.specs.State.{State, Offer, unoffered, offered, unsettled, calls_of, with_live, with_offer}
 
@@ -25,6 +27,14 @@ takes_calls state caller = is_unoffered (state.offers caller) && is_some (state.
 -- the caller has a transaction that is live, or one that it has not settled
 abbrev pub is_engaged : State → ℕ → Bool
 is_engaged state caller = is_some (state.live caller) || not (is_unoffered (state.offers caller))
+
+-- Where a caller's call can be done: a begin or a purge outside of any transaction of its own, a settle once it has offered one, and any other
+-- call within one that it has not offered.
+abbrev pub may_do : State → ℕ → Call → Bool
+may_do state caller Begin = not (is_engaged state caller)
+may_do state caller Purge = not (is_engaged state caller)
+may_do state caller Settle = not (is_unoffered (state.offers caller))
+may_do state caller call = takes_calls state caller
 
 -- a caller's transaction as the next one of the history, in a group that ends at this number
 abbrev pub done_in : State → ℕ → ℕ → Done

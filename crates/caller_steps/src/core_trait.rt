@@ -1,12 +1,11 @@
 // The trait of callers by turns.
-ghost use Rattle.std.specs.Prelude.{◌≡◌, ◌<◌, ◌⊎◌, ℕ, Bool, IsTrue, IsFalse, length};
+ghost use Rattle.std.specs.Prelude.{◌≡◌, ◌<◌, ℕ, Bool, IsTrue, IsFalse, length};
 ghost use Rattle.history.specs.Locks.{has_table};
-ghost use Rattle.history.specs.declared.call.Call.TheVariants.{Begin, Settle, Purge};
+ghost use Rattle.history.specs.declared.call.Call.TheVariants.{Purge};
 ghost use Rattle.history.specs.declared.call.Reply.TheVariants.{Dead};
 ghost use Rattle.caller_steps.specs.Core.{CoreView, Steps};
 ghost use Rattle.caller_steps.specs.Fate.{is_busy, is_refusal};
 ghost use Rattle.caller_steps.specs.Locked.{IsLocked};
-ghost use Rattle.caller_steps.specs.Offers.{takes_calls};
 ghost use Rattle.caller_steps.specs.Purging.{PurgeCause};
 
 use history::{Call, History, Reply};
@@ -32,15 +31,13 @@ pub trait Core {
         ensures sends { sends self.old self.new };
 
     /// Answers a caller's call that clashes with no other caller's live transaction, as locks outside of the core have made sure. It makes
-    /// the step that `step` would make, without a search for a holder. A caller without a live transaction that takes calls is granted nothing but a
-    /// begin, a settle or a purge, and nobody a call on a table that is not there.
+    /// the step that `step` would make, without a search for a holder. It grants no call on a table that is not there.
     fn step_locked(&mut self, caller: u8, call: &Call) -> Reply
         requires inside { caller < (view self.old).limits.callers }
         requires locked { IsLocked (view self.old).state caller call.now }
         ensures steps { Steps tells caller call.now (view self.old) (view self.new) result }
         ensures dead { IsTrue (view self.old).state.is_dead → (result ≡ Dead) × (self.new ≡ self.old) }
         ensures not_busy { IsFalse (is_busy result) }
-        ensures begun { IsFalse (is_refusal result) → IsTrue (takes_calls (view self.old).state caller) ⊎ ((call.now ≡ Begin) ⊎ ((call.now ≡ Settle) ⊎ (call.now ≡ Purge))) }
         ensures tabled { IsFalse (is_refusal result) → IsTrue (has_table (view self.old).state.names call.now) }
         ensures sends { sends self.old self.new };
 
@@ -81,7 +78,6 @@ impl<C: Core> Core for Box<C> {
         ensures steps { Steps C.tells caller call.now (C.view self.old.value) (C.view self.new.value) result }
         ensures dead { IsTrue (C.view self.old.value).state.is_dead → (result ≡ Dead) × (self.new ≡ self.old) }
         ensures not_busy { IsFalse (is_busy result) }
-        ensures begun { IsFalse (is_refusal result) → IsTrue (takes_calls (C.view self.old.value).state caller) ⊎ ((call.now ≡ Begin) ⊎ ((call.now ≡ Settle) ⊎ (call.now ≡ Purge))) }
         ensures tabled { IsFalse (is_refusal result) → IsTrue (has_table (C.view self.old.value).state.names call.now) }
         ensures sends { C.sends self.old.value self.new.value }
     {

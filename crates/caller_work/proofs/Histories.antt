@@ -22,6 +22,7 @@ use Rattle.caller_steps.specs.Step.{Step, Runs}
 use Rattle.caller_steps.specs.Fate.{is_refusal, is_media, is_busy, is_committed, live_with, offer_with}
 use Rattle.caller_steps.specs.Run.{Turn, Goes, turns_of}
 use Rattle.caller_steps.specs.Own.{is_commit, Own, nothing_own, own_after, number_of, as_told, told_of, mine_in, KnowsLive}
+use Rattle.caller_steps.proofs.Able.{able_closed}
 use Rattle.caller_steps.proofs.Fates.{Fate as Moved, step_fate, refusal_none, answer_plain}
 use Rattle.caller_steps.proofs.Fates.Fate.{refused, failed, began, granted, committed, doubted, aborted, given, settled, unsure, told as numbered, purged}
 use Rattle.caller_steps.proofs.Running.{line_here, line_apart, goes_of_step, turns_of_runs}
@@ -77,11 +78,11 @@ step_commits limits old new caller call reply step sure = go (step_fate limits o
     go : Moved limits.callers old caller call reply new → (call ≡ Commit) ⊎ (call ≡ Settle)
     go (refused not media index e) = absurd (true≢false (sym sure ∙ refusal_none reply not))
     go (failed apart is index e) = absurd (true≢false (sym sure ∙ ap is_committed is))
-    go (began un c is e) = absurd (true≢false (sym sure ∙ ap is_committed is))
+    go (began un none c is e) = absurd (true≢false (sym sure ∙ ap is_committed is))
     go (granted calls un live unheld answers index e) = absurd (true≢false (sym sure ∙ (answer_plain _ call reply answers).uncommitted))
     go (committed calls un c is live index e) = inl c
     go (doubted calls un c is live index e) = inl c
-    go (aborted un c is e) = absurd (true≢false (sym sure ∙ ap is_committed is))
+    go (aborted calls un c is live e) = absurd (true≢false (sym sure ∙ ap is_committed is))
     go (given calls un c is live e) = absurd (true≢false (sym sure ∙ ap is_committed is))
     go (settled inside has c is index e) = inr c
     go (unsure inside has c is index e) = inr c
@@ -159,7 +160,7 @@ module _ (caller : ℕ) where
 
       go : (dead : Bool) → old.is_dead ≡ dead → own.waits ≡ true → is_refusal reply ≡ false → call ≡ Settle
       go true dead waits done = absurd (true≢false (sym (ap is_refusal (goes.dead dead).0) ∙ done))
-      go false alive waits done = goes.moves.closed (closed_by (old.offers caller) (knows.some waits alive)) done
+      go false alive waits done = able_closed old caller call (closed_by (old.offers caller) (knows.some waits alive)) (goes.moves.able done)
 
   lawful_run : (limits : Limits) (turns : List Turn) (first now : State) (own : Own) → Runs limits first turns now → KnowsLive caller own first → AreLawful own (turns_of caller turns)
   lawful_run limits [] first now own run knows = tt

@@ -294,3 +294,27 @@ front_of bytes packed some = go (entries_in bytes) refl
           packed = record { whole = ap (flat_map entry_bytes) (sym theirs); able = subst (λ (xs : List (Call × Reply)). All CanEnter xs) (sym theirs) others };
           all = is ∙ ap (λ (xs : List (Call × Reply)). first ∷ xs) (sym theirs);
         }
+
+-- What is behind the call begins with the reply, wherever the call went.
+pub reply_behind : (bytes more : List ℕ) (front : Front bytes) → more ≡ (call_at bytes).1 → reply_at more ≡ (front.entry.1, front.rest)
+reply_behind bytes more front is =
+    let begins : more ≡ reply_bytes front.entry.1 ++ front.rest = is ∙ ap (λ (p : Call × List ℕ). p.1) front.call in
+    ap reply_at begins ∙ front.reply
+
+pub can_behind : (bytes more : List ℕ) (front : Front bytes) → more ≡ (call_at bytes).1 → CanReply (reply_at more).0
+can_behind bytes more front is =
+    subst (λ (reply : Reply). CanReply reply) (sym (ap (λ (p : Reply × List ℕ). p.0) (reply_behind bytes more front is))) front.can.1
+
+-- what is left behind the reply
+pub rest_behind : (bytes more behind : List ℕ) (front : Front bytes) → more ≡ (call_at bytes).1 → behind ≡ (reply_at more).1 → front.rest ≡ behind
+rest_behind bytes more behind front is read = sym (read ∙ ap (λ (p : Reply × List ℕ). p.1) (reply_behind bytes more front is))
+
+pub packed_behind : (bytes more behind : List ℕ) (front : Front bytes) → more ≡ (call_at bytes).1 → behind ≡ (reply_at more).1 → ArePacked behind
+packed_behind bytes more behind front is read = subst (λ (b : List ℕ). ArePacked b) (rest_behind bytes more behind front is read) front.packed
+
+-- so the entries are the first one and those in what is left
+pub entries_behind : (bytes more behind : List ℕ) (front : Front bytes) (reply : Reply) → more ≡ (call_at bytes).1 → reply ≡ (reply_at more).0 → behind ≡ (reply_at more).1
+    → entries_in bytes ≡ (front.entry.0, reply) ∷ entries_in behind
+entries_behind bytes more behind front reply is told read =
+    let replied : front.entry.1 ≡ reply = sym (told ∙ ap (λ (p : Reply × List ℕ). p.0) (reply_behind bytes more front is)) in
+    front.all ∙ (λ i. (front.entry.0, replied i) ∷ entries_in (rest_behind bytes more behind front is read i))

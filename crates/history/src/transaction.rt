@@ -3,7 +3,7 @@ ghost use Rattle.history.specs.Writes.{Row};
 ghost use Rattle.history.specs.Told.{told_reply};
 
 use crate::packing::{MOST, append_entry};
-use crate::unpacking::{Told, read_call, read_told};
+use crate::unpacking::{Told, behind_call, read_call, read_told};
 use crate::{Call, Reply};
 use mars_base::{Listed, NoMemory};
 use std::alloc::Global;
@@ -121,6 +121,18 @@ impl<'a> Entries<'a> {
         let (call, rest) = read_call(self.bytes);
         let (told, behind) = read_told(rest);
         Some((call, told, Entries { bytes: behind }))
+    }
+
+    /// The reply to the first call, and the calls behind that one. The call itself is passed over.
+    pub fn next_told(&self) -> Option<(Told<'a>, Entries<'a>)>
+        ensures { MatchOption result (self.now ≡ []) (λ p. (call : Call) × (self.now ≡ (call, told_reply p.0) ∷ p.1)) }
+    {
+        if self.bytes.is_empty() {
+            return None;
+        }
+        let rest = behind_call(self.bytes);
+        let (told, behind) = read_told(rest);
+        Some((told, Entries { bytes: behind }))
     }
 }
 

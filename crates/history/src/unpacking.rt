@@ -215,6 +215,47 @@ pub(crate) fn read_call(bytes: &[u8]) -> (Call, &[u8])
     }
 }
 
+// What is behind a number.
+fn behind_word(bytes: &[u8]) -> &[u8]
+    ensures { result.now ≡ (word_at bytes.now).1 }
+{
+    if bytes.len() < 8 {
+        return bytes;
+    }
+    &bytes[8..]
+}
+
+// What is behind a text.
+fn behind_text(bytes: &[u8]) -> &[u8]
+    ensures { result.now ≡ (text_at bytes.now).1 }
+{
+    let (_text, rest) = read_text(bytes);
+    rest
+}
+
+// What is behind the name of a table and a number.
+fn behind_placed(bytes: &[u8]) -> &[u8]
+    ensures { result.now ≡ (get_at bytes.now).1 }
+{
+    behind_word(behind_text(bytes))
+}
+
+/// What is behind the call at the front. Nothing that the call names is read but the lengths of its texts.
+pub(crate) fn behind_call(bytes: &[u8]) -> &[u8]
+    ensures { result.now ≡ (call_at bytes.now).1 }
+{
+    let Some((kind, rest)) = bytes.split_first() else {
+        return bytes;
+    };
+    match *kind {
+        1 | 3 => behind_placed(rest),
+        2 => behind_text(behind_placed(rest)),
+        4 => behind_word(behind_placed(rest)),
+        6 => behind_word(rest),
+        _ => rest,
+    }
+}
+
 // The key and the value of the row at the front, and what is behind it.
 fn read_row(bytes: &[u8]) -> (u64, Value, &[u8])
     requires { IsValue (row_at bytes.now).0.1 }
@@ -231,9 +272,7 @@ fn read_row(bytes: &[u8]) -> (u64, Value, &[u8])
 fn behind_row(bytes: &[u8]) -> &[u8]
     ensures { result.now ≡ (row_at bytes.now).1 }
 {
-    let (_key, rest) = read_word(bytes);
-    let (_text, behind) = read_text(rest);
-    behind
+    behind_text(behind_word(bytes))
 }
 
 // What is behind so many rows.

@@ -46,7 +46,7 @@ fn put_replies<E, T: TextOut<E>>(out: &mut T, caller: u8, calls: &Calls) -> Resu
     ensures { Appends T.tells (T.view out.old) (T.view out.new) result (flat_map (λ entry. reply_line caller entry.1) calls.now) }
 {
     let mut left = calls.entries();
-    while let Some((_call, told, rest)) = left.next() {
+    while let Some((told, rest)) = left.next_told() {
         put_kept(out, caller, &told)?;
         left = rest;
     }

@@ -33,7 +33,7 @@ use Rattle.record_table.specs.Shown.{state_of}
 use Rattle.record_table.specs.declared.fault.TableFault.{TableFault}
 use Rattle.record_table.specs.declared.fault.TableFault.TheVariants as fault
 use Rattle.caller_steps.specs.State.{State, Index, Offer, unoffered, calls_of, commits_of, records_of, done_by}
-use Rattle.caller_steps.specs.Offers.{is_unoffered}
+use Rattle.caller_steps.proofs.Able.{takes_within}
 use Rattle.caller_steps.proofs.Offering.{more_theirs}
 use Rattle.caller_steps.specs.Room.{Settles}
 use Rattle.caller_steps.specs.Step.{Step}
@@ -212,13 +212,13 @@ module _ (tells : Bool) (Opens : Shape → List ℕ → List ℕ → Type 0) (in
           base = base;
           history = longer ∙ ap (λ (cs : Granted). s.history ++ done_by s t cs ∷ []) (sym at);
           dead = dead_same ∙ sym (or_false s.is_dead);
+          able = λ _. takes_within s t calls un is;
           own = λ _. (ap (λ (f : ℕ → Option Granted). f t) live ∙ update_here s.live t None, ap (λ (f : ℕ → Offer). f t) offers ∙ un);
           others = λ other ne. inl (record {
             live = ap (λ (f : ℕ → Option Granted). f other) live ∙ update_apart s.live t None other ne;
             offer = ap (λ (f : ℕ → Offer). f other) offers;
             mine = ap (commits_of other) longer ∙ more_theirs other s.history (done_by s t calls) (λ e. ne (sym e));
           });
-          closed = λ gate _. absurd (false≢true (sym gate ∙ ap is_unoffered un));
           refused = λ refusal _. absurd (false≢true refusal);
         }) (λ failed. absurd (false≢true failed)) (λ _. (does.faults refl).1) step
         (λ told. time_commit done done_is (Ok (Committed k)) does live told (no_doubt told)) safe_new)
@@ -265,13 +265,13 @@ module _ (tells : Bool) (Opens : Shape → List ℕ → List ℕ → Type 0) (in
       base = base;
       history = history;
       dead = died ∙ sym (or_true s.is_dead);
+      able = λ granted. absurd (false≢true (sym granted));
       own = λ granted. absurd (false≢true (sym granted));
       others = λ other ne. inl (record {
         live = ap (λ (f : ℕ → Option Granted). f other) live ∙ update_apart s.live t None other ne;
         offer = ap (λ (f : ℕ → Offer). f other) offers;
         mine = ap (commits_of other) history;
       });
-      closed = λ gate granted. absurd (false≢true (sym granted));
       refused = λ _ well. absurd (false≢true (sym well));
     }) (λ _. (does.dies refl).1) (λ well. absurd (false≢true (sym well))) step_doubt time_doubt safe_doubt
 
@@ -328,13 +328,13 @@ module _ (tells : Bool) (Opens : Shape → List ℕ → List ℕ → Type 0) (in
         base = base;
         history = history;
         dead = dead_alike ∙ sym (or_false s.is_dead);
+        able = λ _. takes_within s t calls un is;
         own = λ _. (ap (λ (f : ℕ → Option Granted). f t) live ∙ update_here s.live t None, ap (λ (f : ℕ → Offer). f t) offers ∙ un);
         others = λ other ne. inl (record {
           live = ap (λ (f : ℕ → Option Granted). f other) live ∙ update_apart s.live t None other ne;
           offer = ap (λ (f : ℕ → Offer). f other) offers;
           mine = ap (commits_of other) history;
         });
-        closed = λ gate _. absurd (false≢true (sym gate ∙ ap is_unoffered un));
         refused = λ refusal _. absurd (false≢true refusal);
       }) (λ failed. absurd (false≢true failed)) (λ _. (does.faults refl).1) step_abort time_abort safe_abort
 

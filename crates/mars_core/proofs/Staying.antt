@@ -19,7 +19,7 @@ use Rattle.history.specs.declared.call.Reply.{Reply}
 use Rattle.history.specs.declared.call.Reply.TheVariants.{Fine, Busy, NoMemory, SavesFull, NoSave, NoTransaction, NoTable}
 use Rattle.record_table.specs.Shown.{state_of}
 use Rattle.caller_steps.specs.State.{State, unoffered, calls_of, commits_of, records_of, view_of, with_live}
-use Rattle.caller_steps.specs.Offers.{is_unoffered}
+use Rattle.caller_steps.proofs.Able.{free_outside}
 use Rattle.caller_steps.specs.Locked.{Blocks, IsFree, IsBusyWith}
 use Rattle.caller_steps.specs.Room.{Limits}
 use Rattle.caller_steps.specs.Step.{Step, StepAt}
@@ -230,13 +230,13 @@ module _ (tells : Bool) (Opens : Shape → List ℕ → List ℕ → Type 0) (in
     base = ap (λ (x : State). x.base) begins;
     history = ap (λ (x : State). x.history) begins;
     dead = ap (λ (x : State). x.is_dead) begins ∙ sym (or_false s.is_dead);
+    able = λ _. free_outside s t un none;
     own = λ _. (ap (λ (f : ℕ → Option Granted). f t) live_is ∙ update_here s.live t (Some []), ap (λ (x : State). x.offers t) begins ∙ un);
     others = λ other ne. inl (record {
       live = ap (λ (f : ℕ → Option Granted). f other) live_is ∙ update_apart s.live t (Some []) other ne;
       offer = ap (λ (x : State). x.offers other) begins;
       mine = ap (λ (x : State). commits_of other x.history) begins;
     });
-    closed = λ gate _. absurd (false≢true (sym gate ∙ ap is_unoffered un));
     refused = λ refusal _. absurd (false≢true refusal);
   }) (λ failed. absurd (false≢true failed)) (λ _. refl) step (λ told. stays p.store.moment p.store.left_since _) safe_new
 

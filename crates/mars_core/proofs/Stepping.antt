@@ -31,7 +31,8 @@ use Rattle.record_table.specs.Shown.{state_of, pairs_of, keys_of, held_on, is_wr
 use Rattle.record_table.specs.Shown as shown
 use Rattle.caller_steps.specs.State as state
 use Rattle.caller_steps.specs.State.{State, Index, unoffered, calls_of, commits_of, records_of, view_of}
-use Rattle.caller_steps.specs.Offers.{is_unoffered}
+use Rattle.caller_steps.specs.Offers.{takes_calls, may_do}
+use Rattle.caller_steps.proofs.Able.{takes_within}
 use Rattle.caller_steps.specs.Room.{Limits, HasEntry, IndexesAt, Indexes}
 use Rattle.caller_steps.specs.Step.{Asks, StepAt, StepBy, StepIf, Step, most_saves}
 use Rattle.caller_steps.specs.Fate.{Moves, is_refusal, is_media, is_committed, committed_by, live_with, offer_with}
@@ -70,9 +71,9 @@ moves_refused callers s new t call answer names base history live offers dead re
   base = base;
   history = history ∙ sym (cond-false (is_committed answer) (s.history ++ committed_by callers s t call) s.history plain);
   dead = dead;
+  able = λ granted. absurd (false≢true (sym granted ∙ refusal));
   own = λ granted. absurd (false≢true (sym granted ∙ refusal));
   others = λ other ne. inl (record { live = ap (λ (f : ℕ → Option Granted). f other) live; offer = ap (λ (f : ℕ → state.Offer). f other) offers; mine = ap (commits_of other) history });
-  closed = λ gate granted. absurd (false≢true (sym granted ∙ refusal));
   refused = λ _ _. (live, offers);
 }
 
@@ -99,6 +100,13 @@ offer_with_is : (call : Call) → IsOfTable call → offer_with call ≡ unoffer
 offer_with_is Offer of = absurd of
 offer_with_is _ of = refl
 
+-- it is done within a transaction that takes calls
+may_table : (s : State) (t : ℕ) (call : Call) → IsOfTable call → may_do s t call ≡ takes_calls s t
+may_table s t Begin of = absurd of
+may_table s t Settle of = absurd of
+may_table s t Purge of = absurd of
+may_table s t _ of = refl
+
 -- what a granted call moves
 pub moves_granted : (callers : ℕ) (s new : State) (t : ℕ) (calls : Granted) (call : Call) (answer : Reply) → new.names ≡ s.names → new.base ≡ s.base → new.history ≡ s.history → new.is_dead ≡ s.is_dead
     → new.offers ≡ s.offers → s.offers t ≡ unoffered
@@ -108,6 +116,7 @@ moves_granted callers s new t calls call answer names base history dead offers u
   base = base;
   history = history ∙ sym (cond-false (is_committed answer) (s.history ++ committed_by callers s t call) s.history plain);
   dead = dead ∙ sym (ap (λ (b : Bool). s.is_dead || b) (media_none answer granted) ∙ or_false s.is_dead);
+  able = λ _. may_table s t call of ∙ takes_within s t calls un is;
   own = λ _. (
     ap (λ (f : ℕ → Option Granted). f t) live ∙ update_here s.live t (Some (calls ++ (call, answer) ∷ []))
         ∙ sym (ap (λ (o : Option Granted). live_with (unwrap_or o []) call answer) is ∙ live_with_is calls call answer of),
@@ -118,7 +127,6 @@ moves_granted callers s new t calls call answer names base history dead offers u
     offer = ap (λ (f : ℕ → state.Offer). f other) offers;
     mine = ap (commits_of other) history;
   });
-  closed = λ gate _. absurd (false≢true (sym gate ∙ ap is_unoffered un));
   refused = λ refusal _. absurd (false≢true (sym granted ∙ refusal));
 }
 

@@ -1,5 +1,5 @@
 // Callers by turns over records.
-ghost use Rattle.std.specs.Prelude.{◌≡◌, ◌+◌, ◌<◌, ◌≤◌, ◌⊎◌, [], ℕ, None, Ok, IfOk, IfErr, OnErr, IsTrue, IsFalse, is_some, length, slice_index_or, vec_capacity};
+ghost use Rattle.std.specs.Prelude.{◌≡◌, ◌+◌, ◌<◌, ◌≤◌, [], ℕ, None, Ok, IfOk, IfErr, OnErr, IsTrue, IsFalse, is_some, length, slice_index_or, vec_capacity};
 ghost use Rattle.std.specs.FinMap.{entries};
 ghost use Rattle.history.specs.Rows.{records_in};
 ghost use Rattle.eaw_face.specs.Causes.{IsAlive};
@@ -13,7 +13,6 @@ ghost use Rattle.history.specs.declared.call.Reply.TheVariants.{Dead};
 ghost use Rattle.caller_steps.specs.Core.{IsSafe, Steps};
 ghost use Rattle.caller_steps.specs.Fate.{is_busy, is_refusal};
 ghost use Rattle.caller_steps.specs.Locked.{IsLocked};
-ghost use Rattle.caller_steps.specs.Offers.{takes_calls};
 ghost use Rattle.caller_steps.specs.Purging.{PurgeCause};
 ghost use Rattle.caller_steps.specs.State.{unoffered, offered, unsettled, calls_of};
 ghost use Rattle.record_table.specs.Names.{KeepsNames};
@@ -201,7 +200,6 @@ impl<S: EawStore, K: KeyIndex> Core<S, K> {
             (core_of S.opens K.index (S.view self.new.records.store) self.new) result }
         ensures sends { Mirrors S.tells (S.view self.old.records.store) (S.view self.new.records.store) }
         ensures not_busy { locks ≡ Held → IsFalse (is_busy result) }
-        ensures begun { IsFalse (is_refusal result) → IsTrue (takes_calls (core_of S.opens K.index (S.view self.old.records.store) self.old).state caller) }
         ensures tabled { IsFalse (is_refusal result) → IsTrue (has_table self.old.seats.names call.now) }
     {
         let Some(live) = self.seats.take(caller) else {
@@ -230,7 +228,6 @@ impl<S: EawStore, K: KeyIndex> Core<S, K> {
             (core_of S.opens K.index (S.view self.new.records.store) self.new) result }
         ensures sends { Mirrors S.tells (S.view self.old.records.store) (S.view self.new.records.store) }
         ensures not_busy { IsFalse (is_busy result) }
-        ensures begun { IsFalse (is_refusal result) → IsTrue (takes_calls (core_of S.opens K.index (S.view self.old.records.store) self.old).state caller) }
     {
         let at = self.history.as_slice().len() as u64 + 1;
         let Some(live) = self.seats.take(caller) else {
@@ -270,7 +267,6 @@ impl<S: EawStore, K: KeyIndex> Core<S, K> {
             (core_of S.opens K.index (S.view self.new.records.store) self.new) result }
         ensures sends { Mirrors S.tells (S.view self.old.records.store) (S.view self.new.records.store) }
         ensures not_busy { IsFalse (is_busy result) }
-        ensures begun { IsFalse (is_refusal result) → IsTrue (takes_calls (core_of S.opens K.index (S.view self.old.records.store) self.old).state caller) }
     {
         if !self.seats.is_live(caller) {
             return Reply::NoTransaction;
@@ -294,7 +290,6 @@ impl<S: EawStore, K: KeyIndex> Core<S, K> {
             (core_of S.opens K.index (S.view self.new.records.store) self.new) result }
         ensures sends { Mirrors S.tells (S.view self.old.records.store) (S.view self.new.records.store) }
         ensures not_busy { IsFalse (is_busy result) }
-        ensures begun { IsFalse (is_refusal result) → IsTrue (takes_calls (core_of S.opens K.index (S.view self.old.records.store) self.old).state caller) }
     {
         let Some(live) = self.seats.take(caller) else {
             return Reply::NoTransaction;
@@ -339,7 +334,6 @@ impl<S: EawStore, K: KeyIndex> Core<S, K> {
         ensures purge { call.now ≡ Purge → PurgeCause (core_of S.opens K.index (S.view self.old.records.store) self.old).state caller result }
         ensures sends { Mirrors S.tells (S.view self.old.records.store) (S.view self.new.records.store) }
         ensures not_busy { locks ≡ Held → IsFalse (is_busy result) }
-        ensures begun { IsFalse (is_refusal result) → IsTrue (takes_calls (core_of S.opens K.index (S.view self.old.records.store) self.old).state caller) ⊎ ((call.now ≡ Begin) ⊎ (call.now ≡ Purge)) }
         ensures tabled { IsFalse (is_refusal result) → IsTrue (has_table self.old.seats.names call.now) }
     {
         match Asked::of(call) {
@@ -400,7 +394,6 @@ impl<S: EawStore, K: KeyIndex> Core<S, K> {
         ensures sends { Mirrors S.tells (S.view self.old.records.store) (S.view self.new.records.store) }
         ensures not_busy { IsFalse (is_busy result) }
         ensures purge { call.now ≡ Purge → PurgeCause (core_of S.opens K.index (S.view self.old.records.store) self.old).state caller result }
-        ensures settles { IsFalse (is_refusal result) → call.now ≡ Settle }
     {
         match call {
             Call::Begin => Reply::Already,
@@ -422,7 +415,6 @@ impl<S: EawStore, K: KeyIndex> Core<S, K> {
         ensures sends { Mirrors S.tells (S.view self.old.records.store) (S.view self.new.records.store) }
         ensures not_busy { IsFalse (is_busy result) }
         ensures purge { call.now ≡ Purge → PurgeCause (core_of S.opens K.index (S.view self.old.records.store) self.old).state caller result }
-        ensures settles { IsFalse (is_refusal result) → call.now ≡ Settle }
     {
         match call {
             Call::Begin => Reply::Already,
@@ -442,7 +434,6 @@ impl<S: EawStore, K: KeyIndex> Core<S, K> {
         ensures dead { IsTrue (S.view self.old.records.store).is_dead → (result ≡ Dead) × (self.new ≡ self.old) }
         ensures purge { call.now ≡ Purge → PurgeCause (core_of S.opens K.index (S.view self.old.records.store) self.old).state caller result }
         ensures not_busy { locks ≡ Held → IsFalse (is_busy result) }
-        ensures begun { IsFalse (is_refusal result) → IsTrue (takes_calls (core_of S.opens K.index (S.view self.old.records.store) self.old).state caller) ⊎ ((call.now ≡ Begin) ⊎ ((call.now ≡ Settle) ⊎ (call.now ≡ Purge))) }
         ensures tabled { IsFalse (is_refusal result) → IsTrue (has_table self.old.seats.names call.now) }
     {
         if self.records.is_dead() {

@@ -16,6 +16,7 @@ use Rattle.caller_steps.specs.Prefix.{Grows}
 use Rattle.caller_steps.specs.Step.{Step}
 use Rattle.caller_steps.specs.Core.{CoreView, Steps}
 use Rattle.caller_steps.specs.Run.{Turn, Goes, AreOf, turns_of}
+use Rattle.caller_steps.proofs.Able.{able_takes}
 use Rattle.caller_steps.proofs.Continuing.{grows_on, after_grows}
 use Rattle.caller_steps.proofs.Running.{last_here, turn_told, turn_grows}
 use Rattle.atomic_table.specs.Table.{rest}
@@ -57,10 +58,9 @@ module _ {C : Type 0} (f : Face C) where
     step = λ told. subst (λ limits. Step limits (f.show old).state n call reply (f.show new).state) since.limits (s.step told);
   }
 
-  pub moved : (setup : Setup C) (n : ℕ) (call : Call) (reply : Reply) (old new : C) → Steps f.tells n call (f.show old) (f.show new) reply → (IsTrue (f.show old).state.is_dead → (reply ≡ Dead) × (new ≡ old)) → (IsFalse (is_refusal reply) → IsTrue (takes_calls (f.show old).state n) ⊎ ((call ≡ Begin) ⊎ ((call ≡ Settle) ⊎ (call ≡ Purge))))
+  pub moved : (setup : Setup C) (n : ℕ) (call : Call) (reply : Reply) (old new : C) → Steps f.tells n call (f.show old) (f.show new) reply → (IsTrue (f.show old).state.is_dead → (reply ≡ Dead) × (new ≡ old))
       → (IsFalse (is_refusal reply) → IsTrue (has_table (f.show old).state.names call)) → Moved f setup n call reply old new
-  moved setup n call reply old new s dead begun tabled = record {
-    begun = begun;
+  moved setup n call reply old new s dead tabled = record {
     tabled = tabled;
     grows = subst (λ h. Grows (f.show old).state.history h) (sym s.moves.history) (after_grows (f.show old).limits.callers (f.show old).state n call reply);
     since = since_step f.tells n call reply (f.show setup.first) (f.show old) (f.show new) s;
@@ -116,12 +116,12 @@ module _ {C : Type 0} (f : Face C) where
         back ∙ ap F out_is ∙ ap (λ (m : SeatOf C). F (G m)) took.now ∙ (λ i. F (G (H (core_is m0 m1 core home took taken is i) (idle i))))
 
     module _ (n : ℕ) (call : Call) (reply : Reply) (number : k.number ≡ n) (steps : Steps f.tells n call (f.show core) (f.show new) reply) (dead : IsTrue (f.show core).state.is_dead → (reply ≡ Dead) × (new ≡ core))
-        (begun : IsFalse (is_refusal reply) → IsTrue (takes_calls (f.show core).state n) ⊎ ((call ≡ Begin) ⊎ ((call ≡ Settle) ⊎ (call ≡ Purge)))) (tabled : IsFalse (is_refusal reply) → IsTrue (has_table (f.show core).state.names call)) (sure : IsFalse (is_busy reply)) where
+        (tabled : IsFalse (is_refusal reply) → IsTrue (has_table (f.show core).state.names call)) (sure : IsFalse (is_busy reply)) where
       steps_as : Steps f.tells k.number call (f.show core) (f.show new) reply
       steps_as = subst (λ n. Steps f.tells n call (f.show core) (f.show new) reply) (sym number) steps
 
       pub moves : (setup : Setup C) → Moved f setup k.number call reply core new
-      moves setup = moved setup k.number call reply core new steps_as dead (subst (λ (i : ℕ). IsFalse (is_refusal reply) → IsTrue (takes_calls (f.show core).state i) ⊎ ((call ≡ Begin) ⊎ ((call ≡ Settle) ⊎ (call ≡ Purge)))) (sym number) begun) tabled
+      moves setup = moved setup k.number call reply core new steps_as dead tabled
 
       tabled_at : IsFalse (is_refusal reply) → IsTrue (has_table (names_of k) call)
       tabled_at granted = subst (λ (names : List (List ℕ)). has_table names call ≡ true)
@@ -137,7 +137,7 @@ module _ {C : Type 0} (f : Face C) where
       begun_at setup turns fit can true is granted = absurd (true≢false (sym (ap is_refusal (dead is).0) ∙ granted))
       begun_at setup turns fit can false is granted = ⊎_elim
           (λ (takes : IsTrue (takes_calls (f.show core).state n)). inl (takes_own k.number (own_by k) (f.show core).state (live_at f setup turns core k can fit is) (subst (λ (i : ℕ). takes_calls (f.show core).state i ≡ true) (sym number) takes)))
-          inr (begun granted)
+          inr (able_takes (f.show core).state n call (steps.moves.able granted))
 
       -- the step is recorded, and the turn is given back
       module _ (m4 : SeatOf C) (tells : (was now : C) → m3.0.held ≡ Some was → m3.1 ≡ out now → Told f call reply was now m3 m4) where

@@ -14,6 +14,7 @@ use Rattle.caller_steps.specs.Fate.{is_refusal, is_committed, committed_by}
 use Rattle.caller_steps.specs.Core.{CoreView, Steps}
 use Rattle.caller_steps.specs.Run.{Turn, LastTurn}
 use Rattle.caller_steps.specs.Own.{nothing_own, own_of, KnowsLive}
+use Rattle.caller_steps.proofs.Able.{able_closed}
 use Rattle.caller_steps.proofs.Fates.{step_fate, refusal_none}
 use Rattle.caller_steps.proofs.Offering.{offerers_once, offerer_is, more_mine, group_with, group_mine}
 use Rattle.caller_steps.proofs.Owning.{turns_live, fresh_live}
@@ -121,7 +122,7 @@ module _ {C : Type 0} (f : Face C) (setup : Setup C) (turns : List Turn) (old ne
 
     -- a pass that waits has been answered to its settle
     settles : (offer : Offer) → was.offers n ≡ offer → waits_of k ≡ true → is_unoffered offer ≡ false → call ≡ Settle
-    settles offer has waits closed = s.moves.closed (ap is_unoffered has ∙ closed) (done_if (is_refusal reply) refl)
+    settles offer has waits closed = able_closed was n call (ap is_unoffered has ∙ closed) (s.moves.able (done_if (is_refusal reply) refl))
       where
         done_if : (b : Bool) → is_refusal reply ≡ b → is_refusal reply ≡ false
         done_if true refusal = absurd (true≢false (sym is ∙ refusal_none reply refusal))

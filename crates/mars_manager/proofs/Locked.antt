@@ -22,6 +22,7 @@ use Rattle.caller_steps.specs.Locked.{IsLocked}
 use Rattle.caller_steps.specs.Own.{Own, KnowsLive}
 use Rattle.caller_steps.specs.Offers.{takes_calls}
 use Rattle.caller_steps.specs.Fate.{is_refusal, is_media, live_with, Stays, EndsWith, Moves}
+use Rattle.caller_steps.proofs.Able.{able_takes}
 use Rattle.stripe_words.specs.declared.hold.Hold.{Hold}
 use Rattle.stripe_words.specs.declared.hold.Hold.TheVariants.{Free, Trying, Shared, Exclusive}
 use Rattle.stripe_words.specs.Words.{granted, locked, Stands}
@@ -129,12 +130,12 @@ module _ {C : Type 0} (f : Face C) (core : C) (k : Known C) (call : Call) where
       (touches (f.show core).state.names call b.1.0 mode.Exclusive) (touches (f.show core).state.names call b.1.0 mode.Shared) refl refl b.1.1
 
 own_covered : (names : List (List ℕ)) (total : ℕ) (old new : State) (n : ℕ) (call : Call) (reply : Reply) (holds : List Hold) → Moves total old n call reply new → (IsTrue (takes_calls old n) → IsCovered (locks names call) holds)
-    → (IsFalse (is_refusal reply) → IsTrue (takes_calls old n) ⊎ ((call ≡ Begin) ⊎ ((call ≡ Settle) ⊎ (call ≡ Purge)))) → (IsFalse (is_refusal reply) → has_table names call ≡ true) → is_media reply ≡ false → (b : Bool) → is_refusal reply ≡ b
+    → (IsFalse (is_refusal reply) → has_table names call ≡ true) → is_media reply ≡ false → (b : Bool) → is_refusal reply ≡ b
     → IsCovered (touched names (calls_of old n)) holds → IsCovered (touched names (calls_of new n)) holds
-own_covered names total old new n call reply holds m call_covered begun tabled sure true is c =
+own_covered names total old new n call reply holds m call_covered tabled sure true is c =
     subst (λ (live : Option Granted). IsCovered (touched names (unwrap_or live [])) holds) (sym (ap (λ (f : ℕ → Option Granted). f n) (m.refused is sure).0)) c
-own_covered names total old new n call reply holds m call_covered begun tabled sure false is c = subst (λ (live : Option Granted). IsCovered (touched names (unwrap_or live [])) holds) (sym (m.own is).0)
-    (covered_with names (calls_of old n) call reply holds c (covered_call names call (takes_calls old n) holds (tabled is) call_covered (begun is)))
+own_covered names total old new n call reply holds m call_covered tabled sure false is c = subst (λ (live : Option Granted). IsCovered (touched names (unwrap_or live [])) holds) (sym (m.own is).0)
+    (covered_with names (calls_of old n) call reply holds c (covered_call names call (takes_calls old n) holds (tabled is) call_covered (able_takes old n call (m.able is))))
 
 -- what covers a caller's transaction, as its turns say it, covers that which is live
 pub covered_own : (names : List (List ℕ)) (caller : ℕ) (own : Own) (state : State) (holds : List Hold) → KnowsLive caller own state → IsCovered (touched names (unwrap_or own.live [])) holds → IsCovered (touched names (calls_of state caller)) holds
@@ -166,8 +167,8 @@ module _ {C : Type 0} (callers : ℕ) (names : List (List ℕ)) where
 
   -- a call of the pass n, which has what the call touches
   pub locked_step : (old new : State) (holds : ℕ → List Hold) (met : ℕ → List Met) (words : List ℕ) (views : List (View C)) (total n : ℕ) (call : Call) (reply : Reply) → AreLocked callers names old holds met words views → Moves total old n call reply new
-      → (IsFalse old.is_dead → IsTrue (takes_calls old n) → IsCovered (locks names call) (holds n)) → (IsFalse (is_refusal reply) → IsTrue (takes_calls old n) ⊎ ((call ≡ Begin) ⊎ ((call ≡ Settle) ⊎ (call ≡ Purge)))) → (IsFalse (is_refusal reply) → has_table names call ≡ true) → AreLocked callers names new holds met words views
-  locked_step old new holds met words views total n call reply h m call_covered begun tabled = record {
+      → (IsFalse old.is_dead → IsTrue (takes_calls old n) → IsCovered (locks names call) (holds n)) → (IsFalse (is_refusal reply) → has_table names call ≡ true) → AreLocked callers names new holds met words views
+  locked_step old new holds met words views total n call reply h m call_covered tabled = record {
     have = h.have;
     strangers = h.strangers;
     asked = h.asked;
@@ -176,6 +177,6 @@ module _ {C : Type 0} (callers : ℕ) (names : List (List ℕ)) where
     stripes = h.stripes;
     covered = λ alive k. (let both = or_parts old.is_dead (is_media reply) (sym m.dead ∙ alive) in
         dite (ℕ_discrete k n)
-        (λ (e : k ≡ n). subst (λ i. IsCovered (touched names (calls_of new i)) (holds i)) (sym e) (own_covered names total old new n call reply (holds n) m (call_covered both.0) begun tabled both.1 (is_refusal reply) refl (h.covered both.0 n)))
+        (λ (e : k ≡ n). subst (λ i. IsCovered (touched names (calls_of new i)) (holds i)) (sym e) (own_covered names total old new n call reply (holds n) m (call_covered both.0) tabled both.1 (is_refusal reply) refl (h.covered both.0 n)))
         (λ (ne : k ≢ n). other_covered names total old new n call reply k (holds k) (m.others k ne) (h.covered both.0 k)));
   }

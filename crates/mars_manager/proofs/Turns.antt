@@ -29,7 +29,6 @@ use Rattle.stripe_words.specs.declared.hold.Hold.{Hold}
 use Rattle.stripe_words.specs.declared.hold.Hold.TheVariants.{Free}
 use Rattle.stripe_words.specs.Words.{granted, locked}
 use Rattle.history.specs.Locks.{touched, has_table}
-use Rattle.history.specs.declared.call.Call.TheVariants.{Begin, Settle, Purge}
 use Rattle.history.specs.declared.locks.Mode.TheVariants as mode
 use Rattle.caller_steps.specs.State.{calls_of}
 use Rattle.caller_steps.specs.Offers.{takes_calls}
@@ -71,7 +70,6 @@ pub record Moved {C : Type 0} (f : Face C) (setup : Setup C) (n : ℕ) (call : C
   pub grows : Grows (f.show core).state.history (f.show new).state.history
   pub since : Since f.tells (f.show setup.first) (f.show core) → Since f.tells (f.show setup.first) (f.show new)
   pub goes : Since f.tells (f.show setup.first) (f.show core) → Goes f.tells (f.show setup.first).limits (f.show core).state n call reply (f.show new).state
-  pub begun : IsFalse (is_refusal reply) → IsTrue (takes_calls (f.show core).state n) ⊎ ((call ≡ Begin) ⊎ ((call ≡ Settle) ⊎ (call ≡ Purge)))
   pub tabled : IsFalse (is_refusal reply) → IsTrue (has_table (f.show core).state.names call)
 
 module _ {C : Type 0} (f : Face C) (setup : Setup C) where
@@ -331,7 +329,7 @@ module _ {C : Type 0} (f : Face C) (setup : Setup C) where
         met = h.met;
         locks = locked_same setup.callers setup.names (f.show new).state h.holds h.met s.words (set s.words 65 told) s.views (set s.views id w)
             (locked_step setup.callers setup.names (f.show h.core).state (f.show new).state h.holds h.met s.words s.views (f.show setup.first).limits.callers k.number call reply h.locks goes.moves
-            (λ alive live. subst (λ (hs : List Hold). IsCovered (locks setup.names call) hs) (h.locks.have id v at).0.0 (subst (λ (given : Option (Setup C)). IsCovered (locks (names_in given) call) k.holds) mine.setup_is (has alive live))) m.begun
+            (λ alive live. subst (λ (hs : List Hold). IsCovered (locks setup.names call) hs) (h.locks.have id v at).0.0 (subst (λ (given : Option (Setup C)). IsCovered (locks (names_in given) call) k.holds) mine.setup_is (has alive live)))
             (λ done. subst (λ (ns : List (List ℕ)). has_table ns call ≡ true) (sym (named_at s h)) (m.tabled done)))
             (λ t l. beside s.words 65 told t (omega arith) l) (each_set (λ i u. AllHave h.holds h.met u.passes) s.views id w ((h.locks.have id v at).0, tt) (λ j u _ e. h.locks.have j u e));
         wide = length-set s.words 65 told ∙ h.wide;

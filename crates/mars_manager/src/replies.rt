@@ -1,25 +1,9 @@
 // What calls and replies say of a caller's transaction.
 ghost use Rattle.std.specs.Prelude.{◌≡◌};
-ghost use Rattle.caller_steps.specs.Fate.{is_refusal};
 ghost use Rattle.mars_manager.specs.Locks.{is_end, is_last, takes_after};
 
+use caller_steps::is_refusal;
 use history::{Call, Reply};
-
-/// Whether a call was not done.
-pub fn is_refusal(reply: &Reply) -> bool
-    ensures { result ≡ is_refusal reply.now }
-{
-    match reply {
-        Reply::Fine
-        | Reply::Found(_)
-        | Reply::Absent
-        | Reply::Listed(_)
-        | Reply::Saved(_)
-        | Reply::Committed(_)
-        | Reply::Purged(_) => false,
-        _ => true,
-    }
-}
 
 // Whether its caller has no transaction after a call, if it is done.
 pub fn is_end(call: &Call) -> bool

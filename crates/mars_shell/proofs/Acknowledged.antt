@@ -171,13 +171,13 @@ committed_long limits old caller call k new sound step = go (step_fate limits ol
     go : Fate limits.callers old caller call (Committed k) new → k ≤ length new.history
     go (refused is sure index e) = absurd (cc)
     go (failed apart is index e) = absurd (cc)
-    go (began un is re e) = absurd (cc)
+    go (began un none is re e) = absurd (cc)
     go (granted calls un live free answers index e) = absurd (table_commits_nothing _ call k answers)
     go (committed calls un is re live index e) =
         let count : k ≡ length old.history + 1 = cc in
         omega (arith, count, ap (λ (s : State). length s.history) e, length-append old.history (done_by old caller calls ∷ []))
     go (doubted calls un is re live index e) = absurd (cc)
-    go (aborted un is re e) = absurd (cc)
+    go (aborted calls un is re live e) = absurd (cc)
     go (given calls un is re live e) = absurd (cc)
     go (settled inside has is re index e) = settles is
     go (unsure inside has is re index e) = absurd (cc)

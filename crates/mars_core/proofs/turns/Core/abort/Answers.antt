@@ -1,5 +1,5 @@
 use Rattle.eaw_face.specs.Mirroring.{Mirrors}
-use Rattle.std.proofs.Common.{◌≡◌, ◌&&◌, ℕ, true, Option, Some, [], length, Result, Err, unwrap_or, ap, subst, sym, ◌∙◌, refl, ◌<◌}
+use Rattle.std.proofs.Common.{◌≡◌, ℕ, true, Option, Some, [], length, Result, Err, unwrap_or, ap, subst, sym, ◌∙◌, refl, ◌<◌}
 use Rattle.std.specs.Prelude.{is_some}
 use Rattle.eaw_face.specs.Causes.{IsAlive}
 use Rattle.page_store.specs.Shown.{pages_of}
@@ -9,7 +9,6 @@ use Rattle.history.specs.declared.call.Call.TheVariants.{Abort}
 use Rattle.history.specs.declared.call.Reply.TheVariants.{Fine}
 use Rattle.record_table.specs.declared.fault.TableFault.{TableFault}
 use Rattle.caller_steps.specs.Core.{Steps}
-use Rattle.caller_steps.specs.Offers.{is_unoffered, takes_calls}
 use Rattle.caller_steps.specs.State.{unoffered}
 use Rattle.mars_core.specs.Held.{Held, core_of, state_at}
 use Rattle.mars_core.specs.Seats.{Seats, live_in, offers_in, calls_at}
@@ -51,7 +50,6 @@ returns-in-Ok g c = record {
       (subst (λ (h : Held g.row.S.Denot). IsAlive (g.S.EawStore.view h.records.store)) (sym c.self.view_is) c.requires.alive) c.args.caller (calls_at c.self.inside.seats c.args.caller) (live_is c.self.inside.seats c.args.caller (sym c.if-not-is_live.ensures)) (subst (λ (h : Held g.row.S.Denot). offers_in h.seats c.args.caller ≡ unoffered) (sym c.self.view_is) c.requires.unoffered) refl refl c.in-Ok.ensures.does c.end.ensures.live);
   sends = subst (λ (h : Held g.row.S.Denot). Mirrors g.S.EawStore.tells (g.S.EawStore.view h.records.store) (g.S.EawStore.view c.abort.new.self.store)) c.self.view_is (c.in-Ok.ensures.does.mirrors);
   not_busy = refl;
-  begun = λ _. subst (λ (h : Held g.row.S.Denot). takes_calls (core_of g.S.EawStore.opens g.K.KeyIndex.index (g.S.EawStore.view h.records.store) h).state c.args.caller ≡ true) c.self.view_is (λ j. is_unoffered ((subst (λ (h : Held g.row.S.Denot). offers_in h.seats c.args.caller ≡ unoffered) (sym c.self.view_is) c.requires.unoffered) j) && sym c.if-not-is_live.ensures j);
 }
 
 pub returns-in-Err : goal.returns-in-Err

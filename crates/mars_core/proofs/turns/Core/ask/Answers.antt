@@ -12,7 +12,7 @@ use Rattle.std.specs.Prelude.{is_some}
 use Rattle.history.specs.Locks.{has_table}
 use Rattle.history.specs.declared.call.Call.{Call}
 use Rattle.caller_steps.specs.State.{State, Offer, unoffered}
-use Rattle.caller_steps.specs.Offers.{is_unoffered, takes_calls}
+use Rattle.caller_steps.specs.Offers.{is_unoffered}
 use Rattle.caller_steps.specs.Locked.{IsFree, IsLocked}
 use Rattle.caller_steps.specs.Core.{Steps}
 use Rattle.mars_core.specs.Held.{Held, core_of, state_at}
@@ -71,7 +71,6 @@ returns-in_default g c =
           (λ j. state_at g.K.KeyIndex.index (g.S.EawStore.view c.self.inside.records.store) (c.take.ensures.out.names j) (table_of c.self.inside.base) c.self.inside.history (same j) (c.take.ensures.out.offers j) c.self.inside.doubt));
       sends = subst (λ (h : Held g.row.S.Denot). Mirrors g.S.EawStore.tells (g.S.EawStore.view h.records.store) (g.S.EawStore.view c.self.inside.records.store)) c.self.view_is (sends_none g.S.EawStore.tells (g.S.EawStore.view c.self.inside.records.store));
       not_busy = λ held. refl;
-      begun = λ granted. absurd (true≢false granted);
       tabled = λ granted. absurd (true≢false granted);
     }
 
@@ -148,7 +147,6 @@ returns g c =
                 new (record { indexed = refl; dead = refl }) (c.put.ensures.names ∙ c.take.ensures.out.names) (c.put.ensures.offers ∙ c.take.ensures.out.offers) refl refl refl (length c.put.new.self.places) count c.answer-live.result.0.calls
                 (changed_twice (live_in i.seats) t None (Some c.answer-live.result.0.calls) (live_in c.take.new.self) (live_in c.put.new.self) c.take.ensures.out.live c.put.ensures.live) c.answer-live.result.1 made
           ]);
-      begun = λ _. subst (λ (h : Held g.row.S.Denot). takes_calls (core_of g.S.EawStore.opens g.K.KeyIndex.index (g.S.EawStore.view h.records.store) h).state c.args.caller ≡ true) c.self.view_is (λ j. is_unoffered (un j) && is_some (is j));
       sends = subst (λ (h : Held g.row.S.Denot). Mirrors g.S.EawStore.tells (g.S.EawStore.view h.records.store) (g.S.EawStore.view c.answer-live.new.records.store)) c.self.view_is (elim c.answer-live.ensures.answered [
         | inl unmade ↦ subst (λ (r : Shown g.row.S.Denot). Mirrors g.S.EawStore.tells (g.S.EawStore.view c.self.inside.records.store) (g.S.EawStore.view r.store)) (sym unmade.0) (sends_none g.S.EawStore.tells (g.S.EawStore.view c.self.inside.records.store))
         | inr made ↦ made.works.does.mirrors

@@ -2,9 +2,8 @@ use Rattle.mars_core.proofs.GivingUp.{sends_none}
 use Rattle.eaw_face.specs.Mirroring.{Mirrors}
 use Rattle.caller_steps.specs.Fate.{is_busy}
 use Rattle.mars_core.proofs.Answered.{fault_plain}
-use Rattle.std.proofs.lemmas.Bool.{true≢false}
-use Rattle.std.proofs.Common.{true, ◌&&◌, ◌≡◌, ◌<◌, ℕ, ◌+◌, List, Option, Some, None, nat_eq, length, Result, Err, ap, subst, sym, ◌∙◌, refl}
-use Rattle.std.specs.Prelude.{IsNone, is_some}
+use Rattle.std.proofs.Common.{◌≡◌, ◌<◌, ℕ, ◌+◌, List, Option, Some, None, nat_eq, length, Result, Err, ap, subst, sym, ◌∙◌, refl}
+use Rattle.std.specs.Prelude.{IsNone}
 use Rattle.std.specs.Map.{update}
 use Rattle.std.specs.Option.{option_to_list}
 use Rattle.eaw_face.specs.Causes.{IsAlive}
@@ -20,7 +19,6 @@ use Rattle.record_table.specs.Faults.{reply_to}
 use Rattle.record_table.specs.Does.{Does}
 use Rattle.record_table.specs.declared.fault.TableFault.{TableFault}
 use Rattle.caller_steps.specs.Core.{Steps}
-use Rattle.caller_steps.specs.Offers.{is_unoffered, takes_calls}
 use Rattle.caller_steps.specs.State.{Offer, unoffered}
 use Rattle.history.specs.Locks.{touched}
 use Rattle.mars_core.specs.Masks.{AreMasksOf}
@@ -56,7 +54,6 @@ returns-in-Err g c = record {
       λ j. state_at g.K.KeyIndex.index (g.S.EawStore.view c.self.inside.records.store) ((c.put.ensures.names ∙ c.take.ensures.out.names) j) (table_of c.self.inside.base) (c.in-Err.ensures.err j) (back j) ((c.put.ensures.offers ∙ c.take.ensures.out.offers) j) c.self.inside.doubt));
   sends = subst (λ (h : Held g.row.S.Denot). Mirrors g.S.EawStore.tells (g.S.EawStore.view h.records.store) (g.S.EawStore.view c.self.inside.records.store)) c.self.view_is (sends_none g.S.EawStore.tells (g.S.EawStore.view c.self.inside.records.store));
   not_busy = refl;
-  begun = λ _. subst (λ (h : Held g.row.S.Denot). takes_calls (core_of g.S.EawStore.opens g.K.KeyIndex.index (g.S.EawStore.view h.records.store) h).state c.args.caller ≡ true) c.self.view_is (λ j. is_unoffered ((subst (λ (h : Held g.row.S.Denot). offers_in h.seats c.args.caller ≡ unoffered) (sym c.self.view_is) c.requires.unoffered) j) && is_some ((sym c.take.ensures.live ∙ ap calls_in c.in-Some.is ∙ ap (λ (cs : Granted). (let o : Option Granted = Some cs in o)) (sym c.fitted-calls.ensures)) j));
 }
 
 pub invariant_of-self-in-Ok-commit : goal.invariant_of-self-in-Ok-commit
@@ -76,7 +73,6 @@ returns-in-Ok-commit g c = record {
       (subst (λ (h : Held g.row.S.Denot). IsAlive (g.S.EawStore.view h.records.store)) (sym c.self.view_is) c.requires.alive) c.args.caller c.fitted-calls.result (sym c.take.ensures.live ∙ ap calls_in c.in-Some.is ∙ ap (λ (cs : Granted). (let o : Option Granted = Some cs in o)) (sym c.fitted-calls.ensures)) (subst (λ (h : Held g.row.S.Denot). offers_in h.seats c.args.caller ≡ unoffered) (sym c.self.view_is) c.requires.unoffered) (record { caller = c.args.caller; calls = c.fitted-calls.result; at = length c.as_slice.result.now + 1; last = length c.as_slice.result.now + 1 }) (λ j. record { caller = c.args.caller; calls = c.fitted-calls.result; at = length (c.as_slice.ensures j) + 1; last = length (c.as_slice.ensures j) + 1 }) 0 (c.in-Ok-commit.ensures.does 0) c.take.ensures.out.live c.in-Ok.ensures.ok refl (length c.as_slice.result.now + 1) (ap (λ (hs : List Done). length hs + 1) c.as_slice.ensures));
   sends = subst (λ (h : Held g.row.S.Denot). Mirrors g.S.EawStore.tells (g.S.EawStore.view h.records.store) (g.S.EawStore.view c.commit.new.self.store)) c.self.view_is ((c.in-Ok-commit.ensures.does 0).mirrors);
   not_busy = refl;
-  begun = λ _. subst (λ (h : Held g.row.S.Denot). takes_calls (core_of g.S.EawStore.opens g.K.KeyIndex.index (g.S.EawStore.view h.records.store) h).state c.args.caller ≡ true) c.self.view_is (λ j. is_unoffered ((subst (λ (h : Held g.row.S.Denot). offers_in h.seats c.args.caller ≡ unoffered) (sym c.self.view_is) c.requires.unoffered) j) && is_some ((sym c.take.ensures.live ∙ ap calls_in c.in-Some.is ∙ ap (λ (cs : Granted). (let o : Option Granted = Some cs in o)) (sym c.fitted-calls.ensures)) j));
 }
 
 pub invariant_of-self-in-Err-commit : goal.invariant_of-self-in-Err-commit
@@ -101,7 +97,6 @@ returns-in-Err-commit g c = record {
       (pages_of (g.S.EawStore.view c.self.inside.records.store) c.self.inside.records) (pages_of (g.S.EawStore.view c.commit.new.self.store) c.commit.new.self) (Err f)) (commit_fails g.S.EawStore.tells g.K.KeyIndex.index (pages_of (g.S.EawStore.view c.self.inside.records.store) c.self.inside.records) c.args.caller (subst (λ (h : Held g.row.S.Denot). IsAlive (g.S.EawStore.view h.records.store)) (sym c.self.view_is) c.requires.alive) c.in-Err-commit.fault (c.in-Err-commit.ensures.does 0).cause) (c.in-Err-commit.ensures.does 0)) c.take.ensures.out.live (sym (last_is c.self.inside.history c.pop.new.self (record { caller = c.args.caller; calls = c.fitted-calls.result; at = length c.as_slice.result.now + 1; last = length c.as_slice.result.now + 1 }) c.pop.result (sym c.in-Ok.ensures.ok ∙ c.pop.ensures.last) (λ none. sym c.in-Ok.ensures.ok ∙ c.pop.ensures.empty.0 (subst (λ (o : Option Done). IsNone o) (sym none) refl))).0) (c.holding.ensures ∙ ap option_to_list (last_is c.self.inside.history c.pop.new.self (record { caller = c.args.caller; calls = c.fitted-calls.result; at = length c.as_slice.result.now + 1; last = length c.as_slice.result.now + 1 }) c.pop.result (sym c.in-Ok.ensures.ok ∙ c.pop.ensures.last) (λ none. sym c.in-Ok.ensures.ok ∙ c.pop.ensures.empty.0 (subst (λ (o : Option Done). IsNone o) (sym none) refl))).1) (λ told. c.commit.ensures.due told (subst (λ (h : Held g.row.S.Denot). IsAlive (g.S.EawStore.view h.records.store)) (sym c.self.view_is) c.requires.alive) (c.in-Err-commit.is ∙ ap (λ (f : TableFault). (let r : Result (Unit {0}) TableFault = Err f in r)) (commit_fails g.S.EawStore.tells g.K.KeyIndex.index (pages_of (g.S.EawStore.view c.self.inside.records.store) c.self.inside.records) c.args.caller (subst (λ (h : Held g.row.S.Denot). IsAlive (g.S.EawStore.view h.records.store)) (sym c.self.view_is) c.requires.alive) c.in-Err-commit.fault (c.in-Err-commit.ensures.does 0).cause)))));
   sends = subst (λ (h : Held g.row.S.Denot). Mirrors g.S.EawStore.tells (g.S.EawStore.view h.records.store) (g.S.EawStore.view c.commit.new.self.store)) c.self.view_is ((c.in-Err-commit.ensures.does 0).mirrors);
   not_busy = ap is_busy c.from.ensures ∙ fault_plain c.in-Err-commit.fault;
-  begun = λ _. subst (λ (h : Held g.row.S.Denot). takes_calls (core_of g.S.EawStore.opens g.K.KeyIndex.index (g.S.EawStore.view h.records.store) h).state c.args.caller ≡ true) c.self.view_is (λ j. is_unoffered ((subst (λ (h : Held g.row.S.Denot). offers_in h.seats c.args.caller ≡ unoffered) (sym c.self.view_is) c.requires.unoffered) j) && is_some ((sym c.take.ensures.live ∙ ap calls_in c.in-Some.is ∙ ap (λ (cs : Granted). (let o : Option Granted = Some cs in o)) (sym c.fitted-calls.ensures)) j));
 }
 
 pub take-requires-clause-inside : goal.take-requires-clause-inside
@@ -149,5 +144,4 @@ returns-in_default g c =
           (λ j. state_at g.K.KeyIndex.index (g.S.EawStore.view c.self.inside.records.store) (c.take.ensures.out.names j) (table_of c.self.inside.base) c.self.inside.history (same j) (c.take.ensures.out.offers j) c.self.inside.doubt));
       sends = subst (λ (h : Held g.row.S.Denot). Mirrors g.S.EawStore.tells (g.S.EawStore.view h.records.store) (g.S.EawStore.view c.self.inside.records.store)) c.self.view_is (sends_none g.S.EawStore.tells (g.S.EawStore.view c.self.inside.records.store));
       not_busy = refl;
-      begun = λ granted. absurd (true≢false granted);
     }

@@ -13,7 +13,6 @@ use Rattle.mars_core.proofs.Seating.{gone}
 use Rattle.mars_core.proofs.Purged.{no_purge}
 use Rattle.mars_core.proofs.Settling.{told_keeps, told_steps, unsettled_begins, unsettled_purges, unsettled_cause, unsettled_asks}
 use Rattle.mars_core.proofs.GivingUp.{sends_none}
-use Rattle.std.proofs.lemmas.Bool.{true≢false}
 use Rattle.mars_core.proofs.Staying.{update_same}
 use Rattle.mars_core.proofs.turns.Core.make_committed.Given.{Over}
 use Rattle.mars_core.proofs.turns.Core.make_committed.Goals as goal
@@ -94,5 +93,4 @@ returns-in_default g c =
       purge = λ is. absurd (c.in_default.not-Purge is);
       sends = sends_none g.S.EawStore.tells (V h.records.store);
       not_busy = refl;
-      settles = λ granted. absurd (true≢false granted);
     }

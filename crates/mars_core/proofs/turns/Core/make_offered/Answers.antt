@@ -1,5 +1,4 @@
 use Rattle.std.proofs.Common.{refl, sym, subst, ◌∙◌}
-use Rattle.std.proofs.lemmas.Bool.{true≢false}
 use Rattle.page_store.specs.Shown.{pages_of}
 use Rattle.history.specs.declared.call.Call.{Call}
 use Rattle.history.specs.declared.call.Call.TheVariants as call
@@ -52,5 +51,4 @@ returns-in_default g c =
       purge = λ is. absurd (c.in_default.not-Purge is);
       sends = sends_none g.S.EawStore.tells (V h.records.store);
       not_busy = refl;
-      settles = λ granted. absurd (true≢false granted);
     }

@@ -1,4 +1,4 @@
-use Rattle.std.proofs.Common.{◌≡◌, ◌∙◌, true, refl, inl, inr, sym, ap, subst}
+use Rattle.std.proofs.Common.{◌≡◌, ◌∙◌, true, refl, sym, ap, subst}
 use Rattle.page_store.specs.Shown.{pages_of}
 use Rattle.history.specs.Locks.{has_table}
 use Rattle.history.specs.declared.call.Call.{Call}
@@ -23,7 +23,6 @@ returns-in-Begin g c =
       purge = λ is. absurd (no_purge call.Begin refl (sym (ap asking c.in-Begin.is) ∙ c.of.ensures ∙ is));
       sends = c.begin.ensures.sends;
       not_busy = λ held. c.begin.ensures.not_busy;
-      begun = λ _. inr (inl (sym (sym (ap asking c.in-Begin.is) ∙ c.of.ensures)));
       tabled = λ _. subst (λ (call : Call). has_table c.args.self.now.seats.names call ≡ true) (sym (ap asking c.in-Begin.is) ∙ c.of.ensures) refl;
     }
 
@@ -39,7 +38,6 @@ returns-in-Purge g c =
       purge = λ _. c.purge.ensures.cause;
       sends = c.purge.ensures.sends;
       not_busy = λ held. c.purge.ensures.not_busy;
-      begun = λ _. inr (inr (sym (sym (ap asking c.in-Purge.is) ∙ c.of.ensures)));
       tabled = λ _. subst (λ (call : Call). has_table c.args.self.now.seats.names call ≡ true) (sym (ap asking c.in-Purge.is) ∙ c.of.ensures) refl;
     }
 
@@ -55,7 +53,6 @@ returns-in-Commit g c =
       purge = λ is. absurd (no_purge call.Commit refl (sym (ap asking c.in-Commit.is) ∙ c.of.ensures ∙ is));
       sends = c.commit.ensures.sends;
       not_busy = λ held. c.commit.ensures.not_busy;
-      begun = λ granted. inl (c.commit.ensures.begun granted);
       tabled = λ _. subst (λ (call : Call). has_table c.args.self.now.seats.names call ≡ true) (sym (ap asking c.in-Commit.is) ∙ c.of.ensures) refl;
     }
 
@@ -71,7 +68,6 @@ returns-in-Abort g c =
       purge = λ is. absurd (no_purge call.Abort refl (sym (ap asking c.in-Abort.is) ∙ c.of.ensures ∙ is));
       sends = c.abort.ensures.sends;
       not_busy = λ held. c.abort.ensures.not_busy;
-      begun = λ granted. inl (c.abort.ensures.begun granted);
       tabled = λ _. subst (λ (call : Call). has_table c.args.self.now.seats.names call ≡ true) (sym (ap asking c.in-Abort.is) ∙ c.of.ensures) refl;
     }
 
@@ -87,7 +83,6 @@ returns-in-Offer g c =
       purge = λ is. absurd (no_purge call.Offer refl (sym (ap asking c.in-Offer.is) ∙ c.of.ensures ∙ is));
       sends = c.offer.ensures.sends;
       not_busy = λ held. c.offer.ensures.not_busy;
-      begun = λ granted. inl (c.offer.ensures.begun granted);
       tabled = λ _. subst (λ (call : Call). has_table c.args.self.now.seats.names call ≡ true) (sym (ap asking c.in-Offer.is) ∙ c.of.ensures) refl;
     }
 
@@ -103,7 +98,7 @@ ask-requires g c = record {
 
 pub returns-in-Table : goal.returns-in-Table
 returns-in-Table g c =
-    record { steps = c.ask.ensures.steps; purge = λ is. absurd (table_no_purge c.in-Table.asked (sym (ap asking c.in-Table.is) ∙ c.of.ensures ∙ is)); sends = c.ask.ensures.sends; not_busy = c.ask.ensures.not_busy; begun = λ granted. inl (c.ask.ensures.begun granted); tabled = c.ask.ensures.tabled }
+    record { steps = c.ask.ensures.steps; purge = λ is. absurd (table_no_purge c.in-Table.asked (sym (ap asking c.in-Table.is) ∙ c.of.ensures ∙ is)); sends = c.ask.ensures.sends; not_busy = c.ask.ensures.not_busy; tabled = c.ask.ensures.tabled }
 
 pub returns-in-Settle-clause-steps : goal.returns-in-Settle-clause-steps
 returns-in-Settle-clause-steps g c =

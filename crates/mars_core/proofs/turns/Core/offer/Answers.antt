@@ -1,15 +1,12 @@
 use Rattle.mars_core.proofs.GivingUp.{sends_none}
 use Rattle.eaw_face.specs.Mirroring.{Mirrors}
-use Rattle.std.proofs.lemmas.Bool.{true≢false}
-use Rattle.std.proofs.Common.{true, ◌&&◌, ◌≡◌, ◌<◌, ℕ, Some, None, length, ap, subst, sym, ◌∙◌, refl}
-use Rattle.std.specs.Prelude.{is_some}
+use Rattle.std.proofs.Common.{◌≡◌, ◌<◌, ℕ, Some, None, length, ap, subst, sym, ◌∙◌, refl}
 use Rattle.eaw_face.specs.Causes.{IsAlive}
 use Rattle.page_store.specs.Shown.{pages_of}
 use Rattle.history.specs.Rows.{table_of}
 use Rattle.history.specs.declared.call.Call.TheVariants as call
 use Rattle.history.specs.declared.call.Reply.TheVariants.{Fine, NoTransaction}
 use Rattle.caller_steps.specs.State.{Offer, unoffered, offered, offers_with}
-use Rattle.caller_steps.specs.Offers.{is_unoffered, takes_calls}
 use Rattle.caller_steps.specs.Core.{Steps}
 use Rattle.mars_core.specs.Held.{Held, core_of, state_at}
 use Rattle.mars_core.specs.Seats.{live_in, offers_in, calls_in}
@@ -62,7 +59,6 @@ returns-in_default g c =
           (λ j. state_at g.K.KeyIndex.index (V i.records.store) (c.take.ensures.out.names j) (table_of i.base) i.history (same j) (c.take.ensures.out.offers j) i.doubt));
       sends = subst (λ (h : Held g.row.S.Denot). Mirrors g.S.EawStore.tells (V h.records.store) (V i.records.store)) c.self.view_is (sends_none g.S.EawStore.tells (V i.records.store));
       not_busy = refl;
-      begun = λ granted. absurd (true≢false granted);
     }
 
 pub invariant_of-self-2 : goal.invariant_of-self-2
@@ -97,5 +93,4 @@ returns g c =
           (λ j. state_at g.K.KeyIndex.index (V i.records.store) ((c.put_offered.ensures.names ∙ c.take.ensures.out.names) j) (table_of i.base) i.history (back j) (offers j) i.doubt));
       sends = subst (λ (h : Held g.row.S.Denot). Mirrors g.S.EawStore.tells (V h.records.store) (V i.records.store)) c.self.view_is (sends_none g.S.EawStore.tells (V i.records.store));
       not_busy = refl;
-      begun = λ _. subst (λ (h : Held g.row.S.Denot). takes_calls (core_of g.S.EawStore.opens g.K.KeyIndex.index (V h.records.store) h).state c.args.caller ≡ true) c.self.view_is (λ j. is_unoffered (un j) && is_some (is j));
     }

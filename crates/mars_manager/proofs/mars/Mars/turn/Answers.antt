@@ -88,7 +88,7 @@ tell-requires g c =
     let seat = c.exchange-2.new.seat in
     let home = homed f _ _ _ _ i.known c.unwrap-core.result new _ i.is took c.exchange.ensures.2 c.unwrap-core.ensures c.exchange.ensures.3 c.exchange-2.ensures.3 in
     let s = c.step_locked-reply.ensures in
-    let does = moves f _ _ _ _ i.known c.unwrap-core.result new _ i.is took c.exchange.ensures.2 c.unwrap-core.ensures c.exchange.ensures.3 c.exchange-2.ensures.3 _ call reply i.number s.steps s.dead s.begun s.tabled s.not_busy in
+    let does = moves f _ _ _ _ i.known c.unwrap-core.result new _ i.is took c.exchange.ensures.2 c.unwrap-core.ensures c.exchange.ensures.3 c.exchange-2.ensures.3 _ call reply i.number s.steps s.dead s.tabled s.not_busy in
     let core = core_is f _ _ c.unwrap-core.result _ took c.exchange.ensures.2 c.unwrap-core.ensures in
     let known : i.known ≡ first_of c.args.seat.now.me.0.passes = sym (ap (λ (m : SeatOf g.row.C.Denot). first_of m.0.passes) i.is) in
     let has : IsFalse (g.C.Core.view c.unwrap-core.result).state.is_dead → IsTrue (takes_calls (g.C.Core.view c.unwrap-core.result).state i.known.number) → IsCovered (locks (names_of i.known) call) i.known.holds =
@@ -112,7 +112,7 @@ store-requires g c =
     let took = e.2.0 c.if-found-ne0.false in
     let s = c.step_locked-reply.ensures in
     let told = told_seat f _ _ _ _ i.known c.unwrap-core.result c.step_locked-reply.new.self _ i.is took c.exchange.ensures.2 c.unwrap-core.ensures c.exchange.ensures.3 c.exchange-2.ensures.3
-    _ c.args.call.now c.step_locked-reply.result i.number s.steps s.dead s.begun s.tabled s.not_busy _ c.tell.ensures.told in (
+    _ c.args.call.now c.step_locked-reply.result i.number s.steps s.dead s.tabled s.not_busy _ c.tell.ensures.told in (
       c.tell.ensures.same.0 ∙ c.exchange-2.ensures.0 ∙ c.exchange.ensures.0 ∙ e.0 ∙ c.requires.table ∙ sym (ap (λ (m : MarsView g.row.C.Denot). m.table) c.self.view_is),
       (let w = c.self.invariant.0 in omega arith),
       gives_as f c.self.inside.table.shared.key _ _ _ c.step_locked-reply.new.self _ told,
@@ -125,6 +125,6 @@ returns-clause-made g c =
     let took = c.compare_exchange-found.ensures.2.0 c.if-found-ne0.false in
     let s = c.step_locked-reply.ensures in
     let m = made f _ _ _ _ i.known c.unwrap-core.result c.step_locked-reply.new.self _ i.is took c.exchange.ensures.2 c.unwrap-core.ensures c.exchange.ensures.3 c.exchange-2.ensures.3
-    _ c.args.call.now c.step_locked-reply.result i.number s.steps s.dead s.begun s.tabled s.not_busy _ c.tell.ensures.told _ c.store.ensures.2 in
+    _ c.args.call.now c.step_locked-reply.result i.number s.steps s.dead s.tabled s.not_busy _ c.tell.ensures.told _ c.store.ensures.2 in
     let known : i.known ≡ first_of c.args.seat.now.me.0.passes = sym (ap (λ (m : SeatOf g.row.C.Denot). first_of m.0.passes) i.is) in
     subst (λ (k : Known g.row.C.Denot). Makes g.C.Core.tells g.C.Core.view k c.args.call.now c.step_locked-reply.result c.store.new.seat.me) known m
