@@ -86,7 +86,7 @@ premises media long shape form sound = (all_open media shape form sound, holds_r
 -- ---- what is left
 
 -- data of an array has fewer than 2 ^ 32 bytes
-data_short : (shape : Shape) (image bytes : List ℕ) → Opens shape image bytes → length bytes < 2 ^ 32
+pub data_short : (shape : Shape) (image bytes : List ℕ) → Opens shape image bytes → length bytes < 2 ^ 32
 data_short shape image bytes opens =
     let lawful = opens.stands.lawful in
     let first : length (data_of shape image) ≡ data_len shape = length-data_of shape image in
@@ -97,7 +97,7 @@ data_short shape image bytes opens =
     omega (arith, long, most, r.most_pages)
 
 -- an outcome gives what each of its cases gives
-outcome_gives : (P : Type 0) (spares : Bool) (Works : Ended → Type 0) (Broken : ℕ → Type 0) (Looks Lacks : Type 0) (old : View) (status : Status) (new : View) (cut : Bool) (text : List ℕ)
+pub outcome_gives : (P : Type 0) (spares : Bool) (Works : Ended → Type 0) (Broken : ℕ → Type 0) (Looks Lacks : Type 0) (old : View) (status : Status) (new : View) (cut : Bool) (text : List ℕ)
     → ((kept : Bool) (MayWrite Cause : Type 0) → Idle kept MayWrite Cause old new cut text → P) → ((ended : Ended) → Works ended → P) → OutcomeOf spares Works Broken Looks Lacks old status new cut text → P
 outcome_gives P spares Works Broken Looks Lacks old Good new cut text idle works outcome = works script.All outcome
 outcome_gives P spares Works Broken Looks Lacks old WriteFault new cut text idle works outcome = works script.WriteFault outcome
