@@ -649,4 +649,4 @@ module _ (table : Text) (plain : IsPlain table) where
 pub make_asks : (table : List ℕ) → IsName table → AsksFor (codes "make" ∷ table ∷ []) (Make table)
 make_asks table is =
     let plain = plain_name table is in
-    (make_taken table plain, codes "make", _, make_met table plain, (refl, make_value table plain, is))
+    (make_taken table plain, codes "make", _, make_met table plain, (refl, (make_value table plain, is)))

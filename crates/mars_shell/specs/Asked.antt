@@ -77,7 +77,7 @@ IsFit asked source_tells input media_tells media = IsTrue media_tells × ((shape
 -- what can be done is done, unless memory runs out, an array has no room for a table or has one of its name, or a line is not followed
 abbrev pub IsComplete : Words → Status → Type 0
 IsComplete (Make name) status = (status ≡ Good) ⊎ ((status ≡ NoMemory) ⊎ ((refusal : Refusal) × (status ≡ Refused refusal)))
-IsComplete Follow status = (status ≡ Good) ⊎ ((status ≡ NoMemory) ⊎ (((n : ℕ) × (status ≡ BadFrame n)) ⊎ ((expected got : ℕ) × (status ≡ Gap expected got))))
+IsComplete Follow status = (status ≡ Good) ⊎ ((status ≡ NoMemory) ⊎ (((n : ℕ) × (status ≡ BadFrame n)) ⊎ ((expected : ℕ) × (got : ℕ) × (status ≡ Gap expected got))))
 IsComplete asked status = (status ≡ Good) ⊎ (status ≡ NoMemory)
 
 -- a command that tells something only at its end

@@ -92,19 +92,19 @@ behind_name bytes name words table (Some call) word text proper same (asks, said
 
 -- ---- the text of a call is its parts
 
-named : {name words other : List ℕ} → words ≡ other → ◌≡◌ {A = List ℕ} (64 ∷ (name ++ 32 ∷ words)) (64 ∷ (name ++ 32 ∷ other))
-named {name} same = ap (λ (w : List ℕ). 64 ∷ (name ++ 32 ∷ w)) same
+named : (name words other : List ℕ) → words ≡ other → ◌≡◌ {A = List ℕ} (64 ∷ (name ++ 32 ∷ words)) (64 ∷ (name ++ 32 ∷ other))
+named name words other same = ap (λ (w : List ℕ). 64 ∷ (name ++ 32 ∷ w)) same
 
 pub joined : (call : Call) (text : List ℕ) → HasParts call text → IsCallText call text
 joined Begin text is = is
-joined (Get name key) text (proper, inl (words, at, (few, are))) = (few, proper, inl (at ∙ named are))
-joined (Get name key) text (proper, inr (main, (few, are))) = (few, proper, inr (main, are))
-joined (Put name key value) text (proper, inl (words, at, (few, more, are))) = (few, more, proper, inl (at ∙ named are))
-joined (Put name key value) text (proper, inr (main, (few, more, are))) = (few, more, proper, inr (main, are))
-joined (Del name key) text (proper, inl (words, at, (few, are))) = (few, proper, inl (at ∙ named are))
-joined (Del name key) text (proper, inr (main, (few, are))) = (few, proper, inr (main, are))
-joined (Scan name low high) text (proper, inl (words, at, (few, more, are))) = (few, more, proper, inl (at ∙ named are))
-joined (Scan name low high) text (proper, inr (main, (few, more, are))) = (few, more, proper, inr (main, are))
+joined (Get name key) text (proper, inl (words, at, (few, are))) = (few, (proper, inl (at ∙ named name words _ are)))
+joined (Get name key) text (proper, inr (main, (few, are))) = (few, (proper, inr (main, are)))
+joined (Put name key value) text (proper, inl (words, at, (few, more, are))) = (few, more, (proper, inl (at ∙ named name words _ are)))
+joined (Put name key value) text (proper, inr (main, (few, more, are))) = (few, more, (proper, inr (main, are)))
+joined (Del name key) text (proper, inl (words, at, (few, are))) = (few, (proper, inl (at ∙ named name words _ are)))
+joined (Del name key) text (proper, inr (main, (few, are))) = (few, (proper, inr (main, are)))
+joined (Scan name low high) text (proper, inl (words, at, (few, more, are))) = (few, more, (proper, inl (at ∙ named name words _ are)))
+joined (Scan name low high) text (proper, inr (main, (few, more, are))) = (few, more, (proper, inr (main, are)))
 joined Save text is = is
 joined (Back save) text is = is
 joined Commit text is = is
@@ -115,14 +115,14 @@ joined Purge text is = is
 
 pub parted : (call : Call) (text : List ℕ) → IsCallText call text → HasParts call text
 parted Begin text is = is
-parted (Get name key) text (few, proper, inl at) = (proper, inl (_, at, (few, refl)))
-parted (Get name key) text (few, proper, inr (main, are)) = (proper, inr (main, (few, are)))
-parted (Put name key value) text (few, more, proper, inl at) = (proper, inl (_, at, (few, more, refl)))
-parted (Put name key value) text (few, more, proper, inr (main, are)) = (proper, inr (main, (few, more, are)))
-parted (Del name key) text (few, proper, inl at) = (proper, inl (_, at, (few, refl)))
-parted (Del name key) text (few, proper, inr (main, are)) = (proper, inr (main, (few, are)))
-parted (Scan name low high) text (few, more, proper, inl at) = (proper, inl (_, at, (few, more, refl)))
-parted (Scan name low high) text (few, more, proper, inr (main, are)) = (proper, inr (main, (few, more, are)))
+parted (Get name key) text (few, (proper, inl at)) = (proper, inl (_, at, (few, refl)))
+parted (Get name key) text (few, (proper, inr (main, are))) = (proper, inr (main, (few, are)))
+parted (Put name key value) text (few, more, (proper, inl at)) = (proper, inl (_, at, (few, more, refl)))
+parted (Put name key value) text (few, more, (proper, inr (main, are))) = (proper, inr (main, (few, more, are)))
+parted (Del name key) text (few, (proper, inl at)) = (proper, inl (_, at, (few, refl)))
+parted (Del name key) text (few, (proper, inr (main, are))) = (proper, inr (main, (few, are)))
+parted (Scan name low high) text (few, more, (proper, inl at)) = (proper, inl (_, at, (few, more, refl)))
+parted (Scan name low high) text (few, more, (proper, inr (main, are))) = (proper, inr (main, (few, more, are)))
 parted Save text is = is
 parted (Back save) text is = is
 parted Commit text is = is

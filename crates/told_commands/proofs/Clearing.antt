@@ -227,7 +227,7 @@ clears_over tells Opens form old mid new says r clears = record {
 -- ---- in terms of the medium
 
 -- what comes of a purge
-abbrev PurgeOutcome : View → Status → View → Bool → List ℕ → Type 0
+abbrev pub PurgeOutcome : View → Status → View → Bool → List ℕ → Type 0
 PurgeOutcome old status new cut text = OverRecords false 0 (PurgedBy old new cut text) old status new cut text
 
 -- nothing was done

@@ -30,7 +30,7 @@ use Rattle.told_commands.specs.Dump.{records_text, DumpsRecords, LeavesRead}
 use Rattle.told_commands.specs.Told.{WorksOn, Tells, Ran}
 
 -- what comes of a dump
-abbrev DumpOutcome : View → Status → View → Bool → List ℕ → Type 0
+abbrev pub DumpOutcome : View → Status → View → Bool → List ℕ → Type 0
 DumpOutcome old status new cut text = OverRecords true 0 (DumpsRecords old new cut text) old status new cut text
 
 -- nothing was done

@@ -40,7 +40,7 @@ use Rattle.array_runs.proofs.Opened.{holds, at_entry}
 use Rattle.array_runs.proofs.Statuses.{outcome_as}
 
 -- what comes of the making of a table
-abbrev MakeOutcome : List ℕ → View → Status → View → Bool → List ℕ → Type 0
+abbrev pub MakeOutcome : List ℕ → View → Status → View → Bool → List ℕ → Type 0
 MakeOutcome name old status new cut text =
     OverRecords true 0 (MadeBy name old new cut text) old status new cut text ⊎ ((refusal : Refusal) × (status ≡ Refused refusal) × Refuses name refusal old new cut text)
 
