@@ -9,9 +9,26 @@ use Rattle.script_run.specs.declared.ended.Ended.TheVariants as script
 use Rattle.script_run.specs.Input.{input_limit}
 use Rattle.array_runs.specs.Input.{InputSays}
 use Rattle.array_runs.specs.Opening.{IsUnread, IsUnopened}
-use Rattle.array_runs.specs.Statuses.{Counts, IsEarly, IsRefusal, script_status, served_status}
+use Rattle.array_runs.specs.Statuses.{Counts, IsEarly, IsRefusal, IsSilent, script_status, served_status}
 use Rattle.array_runs.specs.declared.status.Status.{Status}
 use Rattle.array_runs.specs.declared.status.Status.TheVariants.{Good, Usage, TooLong, ReadFault, WriteFault, MediaFault, NoMemory, Damaged, BadRow, NotMars, BadShape, Refused, BadFrame, Gap}
+
+-- a status with which nothing is written ends a run early, or is a refusal
+pub silent_kind : (status : Status) → IsSilent status → IsEarly status ⊎ IsRefusal status
+silent_kind Good silent = absurd silent
+silent_kind Usage silent = inr tt
+silent_kind TooLong silent = inl tt
+silent_kind ReadFault silent = inl tt
+silent_kind WriteFault silent = absurd silent
+silent_kind MediaFault silent = absurd silent
+silent_kind NoMemory silent = absurd silent
+silent_kind (Damaged page) silent = inr tt
+silent_kind (BadRow logger tid) silent = inr tt
+silent_kind NotMars silent = inr tt
+silent_kind (BadShape which given) silent = inr tt
+silent_kind (Refused refusal) silent = inr tt
+silent_kind (BadFrame n) silent = absurd silent
+silent_kind (Gap expected got) silent = absurd silent
 
 pub read_fault_early : (status : Status) → status ≡ ReadFault → IsEarly status
 read_fault_early status is = subst IsEarly (sym is) tt

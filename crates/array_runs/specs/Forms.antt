@@ -1,5 +1,5 @@
 -- Which index the data has.
-use Rattle.std.specs.Prelude.{ℕ, ◌≡◌, zero, suc, List, Bool, IsTrue}
+use Rattle.std.specs.Prelude.{ℕ, ◌≡◌, suc, List, Bool, IsTrue}
 use Rattle.array_shape.specs.declared.shape.Shape.{Shape}
 use Rattle.array_image.specs.Decided.{settled_data}
 use Rattle.pcm_media.specs.View.{View}
@@ -14,9 +14,8 @@ use Rattle.btree_pages.specs.Index.{tree}
 
 -- the index of each form: a tree for 1, else a chain
 abbrev pub index_of_form : ℕ → Index
-index_of_form zero = chain
 index_of_form (suc zero) = tree
-index_of_form (suc (suc form)) = chain
+index_of_form form = chain
 
 -- the index that the super page of the data names
 unfoldable pub index_at : List ℕ → Index

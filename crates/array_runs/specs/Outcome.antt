@@ -12,7 +12,7 @@ use Rattle.texts.specs.Written.{IsWritten}
 use Rattle.script_run.specs.declared.ended.Ended.{Ended}
 use Rattle.script_run.specs.declared.ended.Ended.TheVariants as script
 use Rattle.array_runs.specs.declared.status.Status.{Status}
-use Rattle.array_runs.specs.declared.status.Status.TheVariants.{Good, Usage, WriteFault, MediaFault, NoMemory, Damaged, BadRow, NotMars, BadShape, Refused, BadFrame, Gap}
+use Rattle.array_runs.specs.declared.status.Status.TheVariants.{Good, Usage, TooLong, ReadFault, WriteFault, MediaFault, NoMemory, Damaged, BadRow, NotMars, BadShape}
 
 -- an image opens with the data of one that could be left at first, once that data is in version 2
 abbrev pub OpensInTwo : Shape → Content → List ℕ → Type 0
@@ -50,8 +50,7 @@ OutcomeOf spares Works Broken Looks Lacks old (BadRow logger tid) new cut text =
 OutcomeOf spares Works Broken Looks Lacks old NotMars new cut text = Idle true ⊥ (512 ≤ old.size → HasMark (header_of old.content.bytes) → ⊥) old new cut text
 OutcomeOf spares Works Broken Looks Lacks old (BadShape which given) new cut text =
     Idle true ⊥ ((512 ≤ old.size) × HasMark (header_of old.content.bytes) × IsBadIn (header_of old.content.bytes) old.size which given) old new cut text
-OutcomeOf spares Works Broken Looks Lacks old (Refused refusal) new cut text = ⊥
-OutcomeOf spares Works Broken Looks Lacks old (BadFrame n) new cut text = ⊥
-OutcomeOf spares Works Broken Looks Lacks old (Gap expected got) new cut text = ⊥
 OutcomeOf spares Works Broken Looks Lacks old Usage new cut text = Idle true (HoldsArray old) Lacks old new cut text
-OutcomeOf spares Works Broken Looks Lacks old _ new cut text = Idle true (HoldsArray old) ⊤ old new cut text
+OutcomeOf spares Works Broken Looks Lacks old TooLong new cut text = Idle true (HoldsArray old) ⊤ old new cut text
+OutcomeOf spares Works Broken Looks Lacks old ReadFault new cut text = Idle true (HoldsArray old) ⊤ old new cut text
+OutcomeOf spares Works Broken Looks Lacks old _ new cut text = ⊥

@@ -1,5 +1,5 @@
 -- The records of the array on a medium, and what comes of work over them.
-use Rattle.std.specs.Prelude.{ℕ, ◌≡◌, ◌<◌, List, Bool, true, false}
+use Rattle.std.specs.Prelude.{ℕ, ◌≡◌, ◌<◌, List, Bool}
 use Rattle.pcm_media.specs.View.{View}
 use Rattle.array_shape.specs.declared.shape.Shape.{Shape}
 use Rattle.array_image.specs.Decided.{settled_data}
@@ -35,14 +35,9 @@ abbrev pub OverRecords : Bool → ℕ → (Ended → Type 0) → View → Status
 OverRecords spares callers Works old status new cut text =
     OutcomeOf spares Works (λ page. IsDamaged old page × (Exceeds callers old → ⊥)) (HoldsArray old × (Exceeds callers old → ⊥)) (Exceeds callers old) old status new cut text
 
--- the data that is worked on: what was opened, in version 2 unless it is spared
-abbrev pub worked_on : Bool → List ℕ → List ℕ
-worked_on true bytes = bytes
-worked_on false bytes = upgraded bytes
-
--- the callers before the first line, over this data under an index
-abbrev pub begun_on : Bool → Index → List ℕ → State
-begun_on spares index bytes = opened (names_of bytes) (table_of index bytes) (index_of index (worked_on spares bytes))
+-- the callers before the first line, over this data in version 2 under an index
+abbrev pub begun_on : Index → List ℕ → State
+begun_on index bytes = opened (names_of bytes) (table_of index bytes) (index_of index (upgraded bytes))
 
 -- the data has the names, the records and the keys of a state, under an index
 pub record HasAll (index : Index) (bytes : List ℕ) (state : State) : Type 0 where

@@ -26,6 +26,16 @@ IsRefusal (BadShape which given) = Unit {0}
 IsRefusal (Refused refusal) = Unit {0}
 IsRefusal _ = ⊥
 
+-- nothing is written with this status
+abbrev pub IsSilent : Status → Type 0
+IsSilent Good = ⊥
+IsSilent WriteFault = ⊥
+IsSilent MediaFault = ⊥
+IsSilent NoMemory = ⊥
+IsSilent (BadFrame n) = ⊥
+IsSilent (Gap expected got) = ⊥
+IsSilent _ = Unit {0}
+
 -- the status of a script that ended this way
 abbrev pub script_status : Ended → Status
 script_status script.All = Good
@@ -55,14 +65,3 @@ Counts ReadFault source source' sink sink' media media' = Rose source source' ×
 Counts WriteFault source source' sink sink' media media' = (source' ≡ source) × Rose sink sink' × (media' ≡ media)
 Counts MediaFault source source' sink sink' media media' = (source' ≡ source) × Rose media media'
 Counts _ source source' sink sink' media media' = (source' ≡ source) × (sink' ≡ sink) × (media' ≡ media)
-
--- something was asked of the array that it does not do
-abbrev pub IsRefused : Status → Type 0
-IsRefused (Refused refusal) = Unit {0}
-IsRefused _ = ⊥
-
--- a line that is meant as a frame was not followed
-abbrev pub IsUnfollowed : Status → Type 0
-IsUnfollowed (BadFrame n) = Unit {0}
-IsUnfollowed (Gap expected got) = Unit {0}
-IsUnfollowed _ = ⊥

@@ -1,5 +1,6 @@
 -- What each caller of a script plans.
 use Rattle.std.specs.Prelude.{ℕ, zero, suc, Bool, true, false, IsTrue, not, nat_eq, if◌then◌else◌, List, [], ◌∷◌, ◌++◌, All, Option, Some, None}
+use Rattle.std.specs.List.{AllZip}
 use Rattle.history.specs.declared.call.Call.{Call}
 use Rattle.history.specs.declared.call.Call.TheVariants.{Begin, Commit, Abort, Offer, Settle, Purge}
 use Rattle.script_text.specs.declared.joint_line.JointLine.{JointLine}
@@ -57,9 +58,7 @@ faults_from n within (Told caller call ∷ lines) =
 
 -- what each line says, with this many callers and readers
 abbrev pub AllSay : (callers readers : ℕ) → List (List ℕ) → List JointLine → Type 0
-AllSay callers readers [] [] = Unit {0}
-AllSay callers readers (bytes ∷ lines) (line ∷ said) = JointLineSays callers readers bytes line × AllSay callers readers lines said
-AllSay callers readers _ _ = ⊥
+AllSay callers readers lines said = AllZip (JointLineSays callers readers) lines said
 
 -- what each of n callers plans, from this one on
 abbrev pub plans_from : ℕ → ℕ → List JointLine → List (List Plan)

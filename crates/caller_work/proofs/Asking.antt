@@ -1,9 +1,9 @@
 -- What callers asked for, and why they were told `Busy`.
 use Rattle.std.proofs.Common.{◌≡◌, ◌≢◌, ◌||◌, ◌&&◌, ℕ, zero, suc, ◌<◌, ◌≤◌, Bool, true, false, List, [], ◌∷◌, ◌++◌, get_or, length, drop, Option, Some, Result, Ok, Err, append_assoc, refl, sym, ap, ◌∙◌, subst, inl, inr, ⊎_elim, arith}
-use Rattle.std.specs.Prelude.{Contains, MatchBool, if◌then◌else◌}
+use Rattle.std.specs.Prelude.{flat_map, Contains, MatchBool, if◌then◌else◌}
 use Rattle.std.proofs.lemmas.List.{append_cancel_left}
 use Rattle.std.proofs.lemmas.Bool.{false≢true, and_parts}
-use Rattle.std.proofs.lemmas.List.Elements.{Contains-append_left, Contains-append_right, Contains-append_cases}
+use Rattle.std.proofs.lemmas.List.Elements.{Contains-append_left, Contains-append_right, Contains-append_cases, Contains-push_cases}
 use mathlib.Core.Logic.{dite}
 use native.Mathlib.Decide.{dec_le}
 use Rattle.history.specs.Table.{Granted}
@@ -29,7 +29,7 @@ use Rattle.caller_plans.specs.declared.fate.Fate.{Fate}
 use Rattle.caller_work.specs.declared.tries.Tries.{Tries}
 use Rattle.caller_work.specs.declared.tries.Tries.TheVariants.{NoLimit}
 use Rattle.caller_work.specs.Tries.{is_last, end_outcome, refusal_outcome, IsOne, Ends, GivesUp, Takes, IsTry, AreHeldUp, IsMade, Works, IsWork}
-use Rattle.caller_work.specs.Asked.{IsHit, IsToldOf, IsPlanned, HaveCauses}
+use Rattle.caller_work.specs.Asked.{IsHit, IsToldOf, HaveCauses}
 
 -- no call, and the calls of one list after another
 pub told_none : (names : List (List ℕ)) (n : ℕ) → IsToldOf names n [] []
@@ -143,11 +143,22 @@ module _ (P : Call → Type 0) (begin : P Begin) (commit : P Commit) (abort : P 
       (worked tries plans front early (Some (says.Busy holder)) each first)
       (worked NoLimit (drop (length early) plans) back late stopped (λ plan there. each plan (in_drop (length early) plans plan there)) second)
 
+-- a call of one of the plans is among the calls of all
+abbrev pub calls_in : List Plan → List Call
+calls_in plans = flat_map (λ (plan : Plan). plan.calls) plans
+
+in_plans : (plans : List Plan) (plan : Plan) (call : Call) → Contains plans plan → Contains plan.calls call → Contains (calls_in plans) call
+in_plans [] plan call there its = absurd (omega (arith, there.1))
+in_plans (first ∷ plans) plan call there its = ⊎_elim
+    (λ here. ⊎_elim (λ none. absurd (omega (arith, none.1)))
+    (λ same. Contains-append_left first.calls (calls_in plans) call (subst (λ (p : Plan). Contains p.calls call) (sym same) its)) (Contains-push_cases [] first plan here))
+    (λ behind. Contains-append_right first.calls (calls_in plans) call (in_plans plans plan call behind its)) (Contains-append_cases (first ∷ []) plans plan there)
+
 -- a call that a caller was told of and that touches a stripe is one of its plans'
-pub planned_by : (names : List (List ℕ)) (tries : Tries) (plans : List Plan) (told : Granted) (fates : List Fate) (stopped : Option Reply) → IsWork tries plans told fates stopped → (entry : Call × Reply) → Contains told entry → (t : ℕ) (asked : Mode) → touches names entry.0 t asked ≡ true → IsPlanned plans entry.0
-planned_by names tries plans told fates stopped work entry there t asked touch = all_worked (λ (call : Call). (t : ℕ) (asked : Mode) → touches names call t asked ≡ true → IsPlanned plans call)
+pub planned_by : (names : List (List ℕ)) (tries : Tries) (plans : List Plan) (told : Granted) (fates : List Fate) (stopped : Option Reply) → IsWork tries plans told fates stopped → (entry : Call × Reply) → Contains told entry → (t : ℕ) (asked : Mode) → touches names entry.0 t asked ≡ true → Contains (calls_in plans) entry.0
+planned_by names tries plans told fates stopped work entry there t asked touch = all_worked (λ (call : Call). (t : ℕ) (asked : Mode) → touches names call t asked ≡ true → Contains (calls_in plans) call)
     (λ t asked e. absurd (false≢true e)) (λ t asked e. absurd (false≢true e)) (λ t asked e. absurd (false≢true e)) (λ t asked e. absurd (false≢true e)) (λ t asked e. absurd (false≢true e)) tries plans told fates stopped
-    (λ plan has call its t asked e. record { plan = plan; there = has; its = its }) work entry there t asked touch
+    (λ plan has call its t asked e. in_plans plans plan call has its) work entry there t asked touch
 
 or_right : (a b : Bool) → b ≡ true → (a || b) ≡ true
 or_right true b e = refl

@@ -1,5 +1,5 @@
 -- Why a caller was told `Busy`: what each caller asked for.
-use Rattle.std.specs.Prelude.{ℕ, ◌≢◌, ◌<◌, IsTrue, List, Contains}
+use Rattle.std.specs.Prelude.{ℕ, ◌≢◌, ◌<◌, IsTrue, List, flat_map, Contains}
 use Rattle.history.specs.Table.{Granted}
 use Rattle.history.specs.Locks.{touches, clash}
 use Rattle.history.specs.declared.call.Call.{Call}
@@ -25,18 +25,12 @@ pub record IsToldOf (names : List (List ℕ)) (n : ℕ) (told : Granted) (steps 
   pub named : (step : Met) → Contains steps step → (entry : Call × Reply) × Contains told entry × IsStepOf names entry.0 step
   pub hits : (call : Call) (holder : ℕ) → Contains told (call, says.Busy holder) → IsHit names n call holder steps
 
--- the call is one of these plans'
-pub record IsPlanned (plans : List Plan) (call : Call) : Type 0 where
-  pub plan : Plan
-  pub there : Contains plans plan
-  pub its : Contains plan.calls call
-
 -- the holder is another of so many callers and plans a call that touches a stripe of this one, one of the two for writing
 pub record HasCause (callers : ℕ) (names : List (List ℕ)) (plans : ℕ → List Plan) (caller : ℕ) (call : Call) (holder : ℕ) : Type 0 where
   pub among : holder < callers
   pub other : holder ≢ caller
   pub its : Call
-  pub planned : IsPlanned (plans holder) its
+  pub planned : Contains (flat_map (λ (plan : Plan). plan.calls) (plans holder)) its
   pub stripe : ℕ
   pub clashes : IsTrue (clash (touches names call stripe) (touches names its stripe))
 

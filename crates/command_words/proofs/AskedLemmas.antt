@@ -9,7 +9,7 @@ use Rattle.clap.specs.Matches.{subcommand_name_of}
 use Rattle.clap.specs.declared.parser.ArgMatches.{ArgMatches}
 use Rattle.texts.specs.Reads.{Reads}
 use Rattle.record_slots.specs.Text.{IsName}
-use Rattle.command_words.specs.Asked.{SubcommandAsks, GivesRun, GivesEaw, GivesNumbers, GivesDrill, GivesCallers, GivesWriting, GivesName, IsNumber}
+use Rattle.command_words.specs.Asked.{SubcommandAsks, GivesNumbers, GivesDrill, GivesCallers, GivesWriting, GivesName, IsNumber, is_given}
 use Rattle.command_words.specs.declared.words.CallersNumbers.{CallersNumbers}
 use Rattle.command_words.specs.declared.words.DrillNumbers.{DrillNumbers}
 use Rattle.command_words.specs.declared.words.FormatNumbers.{FormatNumbers}
@@ -89,7 +89,7 @@ named name options Purge says = says
 named name options Follow says = says
 
 -- if the numbers are wrong, nothing is asked for
-pub no_run : (options : List Row) → ((given : RunOptions) → GivesRun options given → ⊥) → (asked : Words) → SubcommandAsks (codes "run") options asked → ⊥
+pub no_run : (options : List Row) → ((given : RunOptions) → GivesWriting (first_of (codes "late") options) given.writing → ⊥) → (asked : Words) → SubcommandAsks (codes "run") options asked → ⊥
 no_run options none (Run given) says = none given says.1
 no_run options none asked says = apart (codes "run") (name_of asked) refl (named (codes "run") options asked says)
 
@@ -127,11 +127,11 @@ one_writing (Some value) (Late depth) AtOnce is also = absurd (some_is_none also
 one_writing (Some value) (Late depth) (Late more) is also = ap Late (one_number 1 64 None (Some value) depth more (omega arith) is also)
 
 -- numbers of the same options are the same
-one_run : (options : List Row) (given other : RunOptions) → GivesRun options given → GivesRun options other → given ≡ other
-one_run options given other is also = ap₂ (λ w b. record { writing = w; frames = b }) (one_writing (first_of (codes "late") options) given.writing other.writing is.writing also.writing) (is.frames ∙ sym also.frames)
+one_run : (name : Text) (options : List Row) (given other : RunOptions) → SubcommandAsks name options (Run given) → SubcommandAsks name options (Run other) → given ≡ other
+one_run name options given other is also = ap₂ (λ w b. record { writing = w; frames = b }) (one_writing (first_of (codes "late") options) given.writing other.writing is.1 also.1) (is.2 ∙ sym also.2)
 
-one_eaw : (options : List Row) (given other : EawOptions) → GivesEaw options given → GivesEaw options other → given ≡ other
-one_eaw options given other is also = ap (λ b. record { frames = b }) (is.frames ∙ sym also.frames)
+one_eaw : (options : List Row) (given other : EawOptions) → given.frames ≡ is_given (first_of (codes "frames") options) → other.frames ≡ is_given (first_of (codes "frames") options) → given ≡ other
+one_eaw options given other is also = ap (λ b. record { frames = b }) (is ∙ sym also)
 
 one_callers : (options : List Row) (numbers other : CallersNumbers) → GivesCallers options numbers → GivesCallers options other → numbers ≡ other
 one_callers options numbers other are also = search (rules, one_number, one_writing)
@@ -143,11 +143,11 @@ one_format : (options : List Row) (numbers other : FormatNumbers) → GivesNumbe
 one_format options numbers other are also = search (rules, one_number)
 
 one_make : (values : List Row) (table other : List ℕ) → GivesName values table → GivesName values other → table ≡ other
-one_make values table other is also = inner (sym is.given ∙ also.given)
+one_make values table other is also = inner (sym is.0 ∙ also.0)
 
 -- a name and options say at most one thing
 pub one_asked : (name : Text) (options : List Row) (asked other : Words) → SubcommandAsks name options asked → SubcommandAsks name options other → asked ≡ other
-one_asked name options (Run given) (Run other) says also = ap Run (one_run options given other says.1 also.1)
+one_asked name options (Run given) (Run other) says also = ap Run (one_run name options given other says also)
 one_asked name options (Callers numbers) (Callers other) says also = ap Callers (one_callers options numbers other says.1 also.1)
 one_asked name options (Eaw given) (Eaw other) says also = ap Eaw (one_eaw options given other says.1 also.1)
 one_asked name options Dump Dump says also = refl
@@ -188,8 +188,8 @@ no_writing first some none (Late depth) gives = none depth gives
 -- whether a word is the name of a table
 pub name_read : (values : List Row) (word : Text) (read : Option (List ℕ)) → first_of (codes "name") values ≡ Some word → SomeIff read (IsName word) word
     → MatchOption read ((table : List ℕ) → GivesName values table → ⊥) (GivesName values)
-name_read values word None is h = λ table gives. h (subst IsName (inner (sym gives.given ∙ is)) gives.is_name)
-name_read values word (Some table) is h = record { given = is ∙ ap Some (sym h.1); is_name = subst IsName (sym h.1) h.0 }
+name_read values word None is h = λ table gives. h (subst IsName (inner (sym gives.0 ∙ is)) gives.1)
+name_read values word (Some table) is h = (is ∙ ap Some (sym h.1), subst IsName (sym h.1) h.0)
 
 pub no_name : (values : List Row) → first_of (codes "name") values ≡ None → (table : List ℕ) → GivesName values table → ⊥
-no_name values none table gives = some_is_none (sym gives.given ∙ none)
+no_name values none table gives = some_is_none (sym gives.0 ∙ none)

@@ -1,3 +1,4 @@
+pub mod Shapes
 pub mod OneAsked
 mod AskedLemmas
 mod ReadLemmas

@@ -22,7 +22,8 @@ use Rattle.command_words.specs.declared.words.FormatNumbers.{FormatNumbers}
 use Rattle.command_words.specs.declared.words.Writing.{Writing}
 use Rattle.command_words.specs.declared.words.Writing.TheVariants.{AtOnce, Late}
 use Rattle.clap.proofs.OnLiterals.{clap_on_literals}
-use Rattle.command_words.specs.CommandLine.{command_line, run_shape, eaw_shape, format_shape, drill_shape, callers_shape, make_shape, option_of}
+use Rattle.command_words.specs.CommandLine.{command_line, option_of}
+use Rattle.command_words.proofs.Shapes.{run_shape, eaw_shape, format_shape, drill_shape, callers_shape, make_shape}
 use Rattle.command_words.specs.Asked.{AsksFor, AskForNothing, IsNumber, GivesWriting, is_given}
 use Rattle.command_words.specs.declared.words.Words.TheVariants.{Run, Callers, Eaw, Dump, Drill, Format, Make, Purge, Follow}
 
@@ -109,7 +110,7 @@ unfolding clap_on_literals
 run_plain = (refl, refl)
 
 pub run_asks : AsksFor (codes "run" ∷ []) (Run (record { writing = AtOnce; frames = false }))
-run_asks = (run_taken.0, codes "run", run_options [], run_taken.1, (refl, record { writing = run_plain.0; frames = run_plain.1 }))
+run_asks = (run_taken.0, codes "run", run_options [], run_taken.1, (refl, run_plain.0, run_plain.1))
 
 run_frames_taken : IsTaken (codes "run" ∷ codes "--frames" ∷ []) (codes "run") (run_options (codes "--frames" ∷ []))
 unfolding clap_on_literals
@@ -120,7 +121,7 @@ unfolding clap_on_literals
 run_framed = (refl, refl)
 
 pub run_frames_asks : AsksFor (codes "run" ∷ codes "--frames" ∷ []) (Run (record { writing = AtOnce; frames = true }))
-run_frames_asks = (run_frames_taken.0, codes "run", run_options (codes "--frames" ∷ []), run_frames_taken.1, (refl, record { writing = run_framed.0; frames = run_framed.1 }))
+run_frames_asks = (run_frames_taken.0, codes "run", run_options (codes "--frames" ∷ []), run_frames_taken.1, (refl, run_framed.0, run_framed.1))
 
 -- `eaw` as it is built, and the options of its words
 abbrev eaw_built : Shape
@@ -138,7 +139,7 @@ unfolding clap_on_literals
 eaw_plain = refl
 
 pub eaw_asks : AsksFor (codes "eaw" ∷ []) (Eaw (record { frames = false }))
-eaw_asks = (eaw_taken.0, codes "eaw", eaw_options [], eaw_taken.1, (refl, record { frames = eaw_plain }))
+eaw_asks = (eaw_taken.0, codes "eaw", eaw_options [], eaw_taken.1, (refl, eaw_plain))
 
 frames_taken : IsTaken (codes "eaw" ∷ codes "--frames" ∷ []) (codes "eaw") (eaw_options (codes "--frames" ∷ []))
 unfolding clap_on_literals
@@ -149,7 +150,7 @@ unfolding clap_on_literals
 eaw_framed = refl
 
 pub frames_asks : AsksFor (codes "eaw" ∷ codes "--frames" ∷ []) (Eaw (record { frames = true }))
-frames_asks = (frames_taken.0, codes "eaw", eaw_options (codes "--frames" ∷ []), frames_taken.1, (refl, record { frames = eaw_framed }))
+frames_asks = (frames_taken.0, codes "eaw", eaw_options (codes "--frames" ∷ []), frames_taken.1, (refl, eaw_framed))
 
 dump_taken : IsTaken (codes "dump" ∷ []) (codes "dump") []
 unfolding clap_on_literals
@@ -360,7 +361,7 @@ late_asks depth some few =
       codes "run",
       _,
       late_met (decimal depth) plain,
-      (refl, record { writing = given 1 64 depth None _ (late_value (decimal depth) plain).0 some few; frames = (late_value (decimal depth) plain).1 }),
+      (refl, given 1 64 depth None _ (late_value (decimal depth) plain).0 some few, (late_value (decimal depth) plain).1),
     )
 
 -- the option `late` is missing
@@ -648,4 +649,4 @@ module _ (table : Text) (plain : IsPlain table) where
 pub make_asks : (table : List ℕ) → IsName table → AsksFor (codes "make" ∷ table ∷ []) (Make table)
 make_asks table is =
     let plain = plain_name table is in
-    (make_taken table plain, codes "make", _, make_met table plain, (refl, record { given = make_value table plain; is_name = is }))
+    (make_taken table plain, codes "make", _, make_met table plain, (refl, (make_value table plain, is)))

@@ -6,8 +6,6 @@ use Rattle.clap.specs.Words.{Text, Row, fault_of, subcommand_of, first_of}
 use Rattle.record_slots.specs.Text.{IsName}
 use Rattle.command_words.specs.CommandLine.{command_line}
 use Rattle.command_words.specs.declared.words.FormatNumbers.{FormatNumbers}
-use Rattle.command_words.specs.declared.words.RunOptions.{RunOptions}
-use Rattle.command_words.specs.declared.words.EawOptions.{EawOptions}
 use Rattle.command_words.specs.declared.words.Writing.{Writing}
 use Rattle.command_words.specs.declared.words.Writing.TheVariants.{AtOnce, Late}
 use Rattle.command_words.specs.declared.words.DrillNumbers.{DrillNumbers}
@@ -29,15 +27,6 @@ GivesWriting first (Late depth) = IsNumber 1 64 None first depth
 abbrev pub is_given : Option Text → Bool
 is_given None = false
 is_given (Some value) = bytes_eq value (codes "true")
-
--- what the options of `run` give
-pub record GivesRun (options : List Row) (given : RunOptions) : Type 0 where
-  pub writing : GivesWriting (first_of (codes "late") options) given.writing
-  pub frames : given.frames ≡ is_given (first_of (codes "frames") options)
-
--- what the option of `eaw` gives
-pub record GivesEaw (options : List Row) (given : EawOptions) : Type 0 where
-  pub frames : given.frames ≡ is_given (first_of (codes "frames") options)
 
 -- the numbers that the options of `format` give, and those of the default array for the options that are missing
 pub record GivesNumbers (options : List Row) (given : FormatNumbers) : Type 0 where
@@ -61,15 +50,14 @@ pub record GivesCallers (options : List Row) (given : CallersNumbers) : Type 0 w
   pub room : 0 < given.readers → given.callers ≤ 31
 
 -- the name of a table that the word of `make` is
-pub record GivesName (values : List Row) (table : List ℕ) : Type 0 where
-  pub given : first_of (codes "name") values ≡ Some table
-  pub is_name : IsName table
+abbrev pub GivesName : List Row → List ℕ → Type 0
+GivesName values table = (first_of (codes "name") values ≡ Some table) × IsName table
 
 -- the subcommand with this name and these options asks for this
 abbrev pub SubcommandAsks : Text → List Row → Words → Type 0
-SubcommandAsks name options (Run given) = (name ≡ codes "run") × GivesRun options given
+SubcommandAsks name options (Run given) = (name ≡ codes "run") × GivesWriting (first_of (codes "late") options) given.writing × (given.frames ≡ is_given (first_of (codes "frames") options))
 SubcommandAsks name options (Callers numbers) = (name ≡ codes "callers") × GivesCallers options numbers
-SubcommandAsks name options (Eaw given) = (name ≡ codes "eaw") × GivesEaw options given
+SubcommandAsks name options (Eaw given) = (name ≡ codes "eaw") × (given.frames ≡ is_given (first_of (codes "frames") options))
 SubcommandAsks name options Dump = name ≡ codes "dump"
 SubcommandAsks name options (Drill numbers) = (name ≡ codes "drill") × GivesDrill options numbers
 SubcommandAsks name options (Format numbers) = (name ≡ codes "format") × GivesNumbers options numbers

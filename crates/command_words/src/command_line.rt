@@ -1,8 +1,8 @@
 // The command line as clap reads it.
-ghost use Rattle.std.specs.Prelude.{◌≡◌, IfOk, false};
-ghost use Rattle.clap.specs.Words.{app_of, shape_of, rule_of};
+ghost use Rattle.std.specs.Prelude.{◌≡◌, [], ◌∷◌, IfOk, false, map, codes};
+ghost use Rattle.clap.specs.Words.{app_of, shape_of, rule_of, new_rule};
 ghost use Rattle.clap.specs.declared.builder.Command.TheViews.{out-Command};
-ghost use Rattle.command_words.specs.CommandLine.{command_line, no_commands, run_shape, eaw_shape, format_shape, drill_shape, callers_shape, make_shape, option_of, flag_of};
+ghost use Rattle.command_words.specs.CommandLine.{command_line, no_commands, subcommand, option_of, flag_of};
 
 use clap::{Arg, ArgAction, Command};
 use std::alloc::{AllocError, Global};
@@ -34,7 +34,7 @@ fn no_commands<'a>(alloc: Global) -> Command<'a>
 }
 
 fn run_command<'a>(alloc: Global) -> Result<Command<'a>, AllocError>
-    ensures shape { IfOk result (λ command. shape_of command ≡ run_shape) }
+    ensures shape { IfOk result (λ command. shape_of command ≡ subcommand (codes "run") (option_of (codes "late") ∷ flag_of (codes "frames") ∷ [])) }
     ensures local { IfOk result (λ command. (out-Command command).has_globals ≡ false) }
 {
     Command::new(alloc, "run")
@@ -43,14 +43,14 @@ fn run_command<'a>(alloc: Global) -> Result<Command<'a>, AllocError>
 }
 
 fn eaw_command<'a>(alloc: Global) -> Result<Command<'a>, AllocError>
-    ensures shape { IfOk result (λ command. shape_of command ≡ eaw_shape) }
+    ensures shape { IfOk result (λ command. shape_of command ≡ subcommand (codes "eaw") (flag_of (codes "frames") ∷ [])) }
     ensures local { IfOk result (λ command. (out-Command command).has_globals ≡ false) }
 {
     Command::new(alloc, "eaw").arg(flag(alloc, "frames"))
 }
 
 fn format_command<'a>(alloc: Global) -> Result<Command<'a>, AllocError>
-    ensures shape { IfOk result (λ command. shape_of command ≡ format_shape) }
+    ensures shape { IfOk result (λ command. shape_of command ≡ subcommand (codes "format") (map option_of (codes "loggers" ∷ codes "numbers" ∷ codes "entries" ∷ codes "pages" ∷ []))) }
     ensures local { IfOk result (λ command. (out-Command command).has_globals ≡ false) }
 {
     Command::new(alloc, "format")
@@ -61,7 +61,7 @@ fn format_command<'a>(alloc: Global) -> Result<Command<'a>, AllocError>
 }
 
 fn drill_command<'a>(alloc: Global) -> Result<Command<'a>, AllocError>
-    ensures shape { IfOk result (λ command. shape_of command ≡ drill_shape) }
+    ensures shape { IfOk result (λ command. shape_of command ≡ subcommand (codes "drill") (new_rule (codes "seed") ∷ new_rule (codes "count") ∷ option_of (codes "late") ∷ [])) }
     ensures local { IfOk result (λ command. (out-Command command).has_globals ≡ false) }
 {
     Command::new(alloc, "drill")
@@ -71,7 +71,7 @@ fn drill_command<'a>(alloc: Global) -> Result<Command<'a>, AllocError>
 }
 
 fn callers_command<'a>(alloc: Global) -> Result<Command<'a>, AllocError>
-    ensures shape { IfOk result (λ command. shape_of command ≡ callers_shape) }
+    ensures shape { IfOk result (λ command. shape_of command ≡ subcommand (codes "callers") (new_rule (codes "callers") ∷ option_of (codes "tries") ∷ option_of (codes "late") ∷ option_of (codes "readers") ∷ [])) }
     ensures local { IfOk result (λ command. (out-Command command).has_globals ≡ false) }
 {
     Command::new(alloc, "callers")
@@ -82,7 +82,7 @@ fn callers_command<'a>(alloc: Global) -> Result<Command<'a>, AllocError>
 }
 
 fn make_command<'a>(alloc: Global) -> Result<Command<'a>, AllocError>
-    ensures shape { IfOk result (λ command. shape_of command ≡ make_shape) }
+    ensures shape { IfOk result (λ command. shape_of command ≡ subcommand (codes "make") (new_rule (codes "name") ∷ [])) }
     ensures local { IfOk result (λ command. (out-Command command).has_globals ≡ false) }
 {
     Command::new(alloc, "make").arg(Arg::new(alloc, "name"))

@@ -1,6 +1,6 @@
 ghost use Rattle.std.specs.Prelude.{◌≡◌, ◌<◌, ◌≤◌, ◌↔◌, IsTrue, ℕ, List, Some, map, codes, string_bytes, MatchOption, IfOk, IfErr};
 ghost use Rattle.clap.specs.Words.{Text, Row, found_of, rows_of, first_of, subcommand_rows_of};
-ghost use Rattle.command_words.specs.Asked.{AsksFor, AskForNothing, SubcommandAsks, GivesRun, GivesNumbers, GivesDrill, GivesCallers, GivesWriting, GivesName, IsNumber, is_given};
+ghost use Rattle.command_words.specs.Asked.{AsksFor, AskForNothing, SubcommandAsks, GivesNumbers, GivesDrill, GivesCallers, GivesWriting, GivesName, IsNumber, is_given};
 
 use crate::command_line::command_line;
 use crate::number::read_within;

@@ -47,14 +47,10 @@ asks shape log log_len = record untested { media = ⊥ }
 asks shape log (held logger) = record untested { there = logger < shape.loggers; media = ⊥ }
 asks shape log _ = untested
 
--- how many of these parts each logger holds
-abbrev pub shares : Shape → List (ℕ × ℕ) → ℕ → ℕ
-shares shape ranges g = count_on shape g ranges
-
 -- logger g is the first without room: it holds h parts of the number, and n more are needed
 abbrev pub IsFullAt : Shape → Tests → ℕ → ℕ → ℕ → Type 0
-IsFullAt shape asked = IsFirstFull shape.loggers shape.entries (shares shape asked.held) (shares shape asked.needed)
+IsFullAt shape asked = IsFirstFull shape.loggers shape.entries (λ k. count_on shape k asked.held) (λ k. count_on shape k asked.needed)
 
 -- each test is passed
 abbrev pub Passes : Shape → Tests → Type 0
-Passes shape asked = asked.known × asked.there × asked.free × HaveRoom shape.loggers shape.entries (shares shape asked.held) (shares shape asked.needed)
+Passes shape asked = asked.known × asked.there × asked.free × HaveRoom shape.loggers shape.entries (λ k. count_on shape k asked.held) (λ k. count_on shape k asked.needed)

@@ -1,7 +1,7 @@
 -- Lines that are answered, with a line for each frame that was sent before the answer.
 use Rattle.std.specs.Prelude.{ℕ, ◌≡◌, ◌⊎◌, Bool, true, false, IsTrue, List, [], ◌∷◌, ◌++◌, length, flat_map, All}
 use Rattle.array_shape.specs.declared.shape.Shape.{Shape}
-use Rattle.script_text.specs.HexText.{hex_of}
+use Rattle.hex.specs.Hex.{encode_lower as hex_of}
 use Rattle.eaw_face.specs.Frame.{Frame, frame_bytes, IsFrameIn}
 use Rattle.eaw_face.specs.Mirroring.{AreInSequence, followed}
 use Rattle.eaw_face.specs.StoreView.{StoreView}

@@ -3,7 +3,7 @@ use Rattle.std.specs.Prelude.{ℕ, ◌≡◌, ◌+◌, ◌⊎◌, List, [], ◌�
 use Rattle.std.specs.Fmt.{decimal}
 use Rattle.array_shape.specs.declared.shape.Shape.{Shape}
 use Rattle.eaw_face.specs.Frame.{Frame, frame_bytes, IsFrameIn}
-use Rattle.script_text.specs.HexText.{hex_of}
+use Rattle.hex.specs.Hex.{encode_lower as hex_of}
 
 -- how a line begins that says a frame
 abbrev pub frame_word : List ℕ

@@ -1,10 +1,11 @@
 -- The text of callers' work: the lines that were passed over, the history, what became of the other transactions, the records, and what
 -- readers were answered.
-use Rattle.std.specs.Prelude.{ℕ, suc, nat_eq, if◌then◌else◌, List, [], ◌∷◌, ◌++◌, Option, None, Some, codes}
+use Rattle.std.specs.Prelude.{ℕ, suc, nat_eq, if◌then◌else◌, List, [], ◌∷◌, ◌++◌, codes}
 use lib.Pointwise.{pointwise}
 use Rattle.std.specs.List.{flat_map}
 use Rattle.std.specs.Fmt.{decimal}
 use Rattle.history.specs.Key.{main_name}
+use Rattle.history.specs.Table.{found}
 use Rattle.history.specs.declared.key.Key.{Key}
 use Rattle.history.specs.declared.transaction.Done.{Done}
 use Rattle.script_text.specs.Replies.{reply_text, reply_line, told_line, bad_line}
@@ -46,14 +47,9 @@ record_line entry = codes "rec " ++ (key_text entry.0 ++ 32 ∷ (entry.1 ++ 10 �
 abbrev pub number_line : List ℕ → ℕ → List ℕ
 number_line word n = word ++ 32 ∷ (decimal n ++ 10 ∷ [])
 
--- the value of a key, or that it has none
-abbrev pub found_text : Option (List ℕ) → List ℕ
-found_text None = codes "none"
-found_text (Some value) = codes "val " ++ value
-
 -- what a reader was answered: the key, after how many transactions, and its value then; or that there is no such table
 abbrev pub answer_text : Answer → List ℕ
-answer_text (Value key at value) = key_text key ++ (codes " at " ++ (decimal at ++ 32 ∷ found_text value))
+answer_text (Value key at value) = key_text key ++ (codes " at " ++ (decimal at ++ 32 ∷ reply_text (found value)))
 answer_text NoTable = codes "no table"
 
 -- the line of it, with the reader's number

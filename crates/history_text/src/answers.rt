@@ -2,7 +2,9 @@
 ghost use Rattle.std.specs.Prelude.{◌≡◌, ◌++◌, ◌≤◌, length, OnOk};
 ghost use Rattle.std.specs.List.{flat_map};
 ghost use Rattle.reader_work.specs.declared.answer.Answer as Answer;
-ghost use Rattle.history_text.specs.Text.{answer_line, answer_lines, answer_text, found_text};
+ghost use Rattle.history.specs.Table.{found};
+ghost use Rattle.script_text.specs.Replies.{reply_text};
+ghost use Rattle.history_text.specs.Text.{answer_line, answer_lines, answer_text};
 
 use crate::keys::append_key;
 use history::{Key, Reply};
@@ -75,7 +77,7 @@ fn write_value(
 }
 
 fn write_found(text: &mut Vec<u8>, value: &Option<Value>) -> Result<(), NoMemory>
-    ensures { OnOk result (text.new.items ≡ text.old.items ++ found_text value.now) }
+    ensures { OnOk result (text.new.items ≡ text.old.items ++ reply_text (found value.now)) }
 {
     match value {
         Some(value) => append_pieces(

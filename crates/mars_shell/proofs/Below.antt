@@ -30,8 +30,8 @@ module _ (Opens : Shape → List ℕ → List ℕ → Type 0) (index : Index) (o
   untaken_below fault cut text off = record { whole = off.whole; silent = off.silent; cause = cause_below index old sent fault off.cause; time = off.time }
 
   -- callers took turns
-  pub served_below : (input : List ℕ) (cut : Bool) (text : List ℕ) (ended : Ended) → Served false (says_framed index (over old sent) input cut text ended) Opens index (over old sent) ended (over new sent')
-      → Served false (says_framed index old input cut text ended) Opens index old ended new
+  pub served_below : (input : List ℕ) (cut : Bool) (text : List ℕ) (ended : Ended) → Served (says_framed index (over old sent) input cut text ended) Opens index (over old sent) ended (over new sent')
+      → Served (says_framed index old input cut text ended) Opens index old ended new
   served_below input cut text ended served = record {
     sound = served.sound;
     shape = served.shape;
@@ -49,10 +49,10 @@ module _ (Opens : Shape → List ℕ → List ℕ → Type 0) (index : Index) (o
 
 -- the same under the index that the data names, which is found first
 module _ (tells : Bool) (told : IsTrue tells) (Opens : Shape → List ℕ → List ℕ → Type 0) (form : ℕ) (old mid : StoreView) (says : SaysForm tells (Opens old.shape) form old mid) (new : StoreView) (input : List ℕ) (cut : Bool) (text : List ℕ) where
-  pub says_on : (result : Result Ended CoreFault) → Serves false (says_framed (index_of_form form) mid input cut text) Opens (index_of_form form) mid result cut text new
-      → Serves false (says_framed (index_at old.state.bytes) old input cut text) Opens (index_at old.state.bytes) old result cut text new
+  pub says_on : (result : Result Ended CoreFault) → Serves (says_framed (index_of_form form) mid input cut text) Opens (index_of_form form) mid result cut text new
+      → Serves (says_framed (index_at old.state.bytes) old input cut text) Opens (index_at old.state.bytes) old result cut text new
   says_on result served =
       let bytes_are : mid.state.bytes ≡ old.state.bytes = ap (λ (s : State). s.bytes) (says.state told) in
-      let moved = subst (λ (x : Shape × List ℕ × Index). Serves false (λ ended. SaysFramed x.0 x.1 (begun_on false x.2 x.1) input ended cut text) Opens (index_of_form form) mid result cut text new)
+      let moved = subst (λ (x : Shape × List ℕ × Index). Serves (λ ended. SaysFramed x.0 x.1 (begun_on x.2 x.1) input ended cut text) Opens (index_of_form form) mid result cut text new)
       (λ i. (says.shape i, bytes_are i, sym (of_form form old.state.bytes (says.is told)) i)) served in
-      serves_on tells told Opens form old mid says new false (says_framed (index_at old.state.bytes) old input cut text) result cut text moved
+      serves_on tells told Opens form old mid says new (says_framed (index_at old.state.bytes) old input cut text) result cut text moved

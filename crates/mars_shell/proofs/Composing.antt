@@ -1,5 +1,5 @@
 -- What a run leaves is what the next one needs.
-use Rattle.std.proofs.Common.{◌≡◌, ℕ, ◌*◌, ◌^◌, ◌<◌, ◌≤◌, ◌⊎◌, inl, inr, ⊎_elim, List, length, Bool, true, false, sym, ap, subst, ◌∙◌, arith}
+use Rattle.std.proofs.Common.{◌≡◌, ℕ, ◌*◌, ◌^◌, ◌<◌, ◌≤◌, ◌⊎◌, inl, inr, ⊎_elim, List, [], length, Bool, true, false, sym, ap, subst, ◌∙◌, arith}
 use Rattle.std.specs.Prelude.{IsTrue, ⊤}
 use Rattle.pcm_media.specs.Images.{MayLeave}
 use Rattle.pcm_media.specs.View.{View}
@@ -51,8 +51,9 @@ use Rattle.array_runs.specs.Outcome.{Idle, OutcomeOf}
 use Rattle.array_runs.specs.Records.{HoldsRecords, IsDamaged, Exceeds, OverRecords}
 use Rattle.mars_shell.specs.Run.{TakesTurns, Answers}
 use Rattle.mars_shell.specs.FramedRun.{RunsAs}
-use Rattle.told_commands.specs.Tables.{Tries, MadeBy, MakeOutcome}
-use Rattle.told_commands.specs.Purge.{Clears, PurgedBy}
+use Rattle.told_commands.specs.Tables.{Tries, MadeBy}
+use Rattle.told_commands.specs.Purge.{HasRecords, PurgedBy}
+use Rattle.told_commands.specs.Told.{WorksOn}
 use Rattle.array_runs.specs.declared.status.Status.{Status}
 use Rattle.array_runs.specs.declared.status.Status.TheVariants.{Good, Usage, TooLong, ReadFault, WriteFault, MediaFault, NoMemory, Damaged, BadRow, NotMars, BadShape, Refused, BadFrame, Gap}
 use Rattle.array_runs.proofs.Forming.{sound_is_own}
@@ -85,7 +86,7 @@ premises media long shape form sound = (all_open media shape form sound, holds_r
 -- ---- what is left
 
 -- data of an array has fewer than 2 ^ 32 bytes
-data_short : (shape : Shape) (image bytes : List ℕ) → Opens shape image bytes → length bytes < 2 ^ 32
+pub data_short : (shape : Shape) (image bytes : List ℕ) → Opens shape image bytes → length bytes < 2 ^ 32
 data_short shape image bytes opens =
     let lawful = opens.stands.lawful in
     let first : length (data_of shape image) ≡ data_len shape = length-data_of shape image in
@@ -96,7 +97,7 @@ data_short shape image bytes opens =
     omega (arith, long, most, r.most_pages)
 
 -- an outcome gives what each of its cases gives
-outcome_gives : (P : Type 0) (spares : Bool) (Works : Ended → Type 0) (Broken : ℕ → Type 0) (Looks Lacks : Type 0) (old : View) (status : Status) (new : View) (cut : Bool) (text : List ℕ)
+pub outcome_gives : (P : Type 0) (spares : Bool) (Works : Ended → Type 0) (Broken : ℕ → Type 0) (Looks Lacks : Type 0) (old : View) (status : Status) (new : View) (cut : Bool) (text : List ℕ)
     → ((kept : Bool) (MayWrite Cause : Type 0) → Idle kept MayWrite Cause old new cut text → P) → ((ended : Ended) → Works ended → P) → OutcomeOf spares Works Broken Looks Lacks old status new cut text → P
 outcome_gives P spares Works Broken Looks Lacks old Good new cut text idle works outcome = works script.All outcome
 outcome_gives P spares Works Broken Looks Lacks old WriteFault new cut text idle works outcome = works script.WriteFault outcome
@@ -169,8 +170,8 @@ module _ (tells : Bool) (told : IsTrue tells) (old new : View) (counts_now : (t 
         (idle.keeps shape (all_open old shape form sound) image (counts_now old.moment image told (idle.later shape (all_open old shape form sound)) left))
 
     -- and so are those on which callers took turns
-    turns_sound : (spares late : Bool) (Says : Limits → List Turn → State → Type 0) (ended : Ended) → TakesTurns spares late Says old ended new → AllSound shape form new.content
-    turns_sound spares late Says ended taken image left =
+    turns_sound : (late : Bool) (Says : Limits → List Turn → State → Type 0) (ended : Ended) → TakesTurns late Says old ended new → AllSound shape form new.content
+    turns_sound late Says ended taken image left =
         let same : taken.shape ≡ shape = one_shape (header_of old.content.bytes) taken.shape shape taken.holds.array.header opened.header in
         let now = (taken.prefix_law.now image left).opens in (
           now.bytes,
@@ -203,12 +204,12 @@ module _ (tells : Bool) (told : IsTrue tells) (old new : View) (counts_now : (t 
     made_by_sound name cut text script.MediaFault made = tried_sound name made.1.0 made.1.1
     made_by_sound name cut text script.NoMemory made = absurd made
 
-    made_sound : (name : List ℕ) (status : Status) (cut : Bool) (text : List ℕ) → MakeOutcome name old status new cut text → AllSound shape form new.content
+    made_sound : (name : List ℕ) (status : Status) (cut : Bool) (text : List ℕ) → OutcomeFor (Make name) old status new [] cut text → AllSound shape form new.content
     made_sound name status cut text outcome =
         ⊎_elim (λ over. records_sound true 0 (MadeBy name old new cut text) status cut text (made_by_sound name cut text) over) (λ refused. tried_sound name refused.2.shape refused.2.tries) outcome
 
     -- and so are those that were to be purged
-    cleared_sound : (at : Shape) → Clears at old new → AllSound shape form new.content
+    cleared_sound : (at : Shape) → WorksOn at (HasRecords at old) old new → AllSound shape form new.content
     cleared_sound at clears image left =
         let same : at ≡ shape = one_shape (header_of old.content.bytes) at shape clears.holds.array.header opened.header in
         let all : AllOpen at old.content = subst (λ (s : Shape). AllOpen s old.content) (sym same) (all_open old shape form sound) in
@@ -217,27 +218,27 @@ module _ (tells : Bool) (told : IsTrue tells) (old new : View) (counts_now : (t 
         (clears.since all image (counts_now old.moment image told (clears.later all) left))
 
     purged_by_sound : (cut : Bool) (text : List ℕ) (ended : Ended) → PurgedBy old new cut text ended → AllSound shape form new.content
-    purged_by_sound cut text script.All purged = cleared_sound purged.shape purged.clears
-    purged_by_sound cut text script.WriteFault purged = cleared_sound purged.shape purged.clears
+    purged_by_sound cut text script.All purged = cleared_sound purged.shape purged.works
+    purged_by_sound cut text script.WriteFault purged = cleared_sound purged.shape purged.works
     purged_by_sound cut text script.MediaFault purged = cleared_sound purged.1.0 purged.1.1
     purged_by_sound cut text script.NoMemory purged = absurd purged
 
     -- a dump leaves the data that was opened
-    dumped_sound : (cut : Bool) (text : List ℕ) (ended : Ended) → DumpsRecords ended old new cut text → AllSound shape form new.content
+    dumped_sound : (cut : Bool) (text : List ℕ) (ended : Ended) → DumpsRecords old new cut text ended → AllSound shape form new.content
     dumped_sound cut text ended dumps image left =
-        let same : dumps.shape ≡ shape = one_shape (header_of old.content.bytes) dumps.shape shape dumps.holds.array.header opened.header in
+        let same : dumps.shape ≡ shape = one_shape (header_of old.content.bytes) dumps.shape shape dumps.works.holds.array.header opened.header in
         let bytes = settled_data dumps.shape old.content.bytes in
-        (bytes, subst (λ (s : Shape). Opens s image bytes) same (dumps.spares.now image left), subst (λ (i : Index). i.sound bytes) (ap (λ (s : Shape). index_in s old) same ∙ own_index old shape form sound) dumps.holds.sound)
+        (bytes, subst (λ (s : Shape). Opens s image bytes) same (dumps.finishes.now image left), subst (λ (i : Index). i.sound bytes) (ap (λ (s : Shape). index_in s old) same ∙ own_index old shape form sound) dumps.works.holds.sound)
 
     run_sound : (frames late : Bool) (input : List ℕ) (cut : Bool) (text : List ℕ) (ended : Ended) → RunsAs frames late input cut text old ended new → AllSound shape form new.content
-    run_sound true late input cut text ended framed = turns_sound false late _ ended framed.taken
-    run_sound false late input cut text ended taken = turns_sound false late (Answers input ended cut text) ended taken
+    run_sound true late input cut text ended framed = turns_sound late _ ended framed.taken
+    run_sound false late input cut text ended taken = turns_sound late (Answers input ended cut text) ended taken
 
     pub next_sound : (asked : Words) (status : Status) (input : List ℕ) (cut : Bool) (text : List ℕ) → IsOfRecords asked → OutcomeFor asked old status new input cut text → AllSound shape form new.content
     next_sound (Run given) status input cut text of outcome = records_sound false 0 (λ ended. RunsAs given.frames (is_late given.writing) input cut text old ended new) status cut text (λ ended taken. run_sound given.frames (is_late given.writing) input cut text ended taken) outcome
-    next_sound (Callers numbers) status input cut text of outcome = records_sound false (passes_for numbers.callers numbers.readers) (λ ended. TakesTurns false (is_late numbers.writing) (JointWork numbers.callers numbers.readers numbers.tries input ended cut text) old ended new) status cut text (λ ended taken. turns_sound false (is_late numbers.writing) (JointWork numbers.callers numbers.readers numbers.tries input ended cut text) ended taken) outcome
-    next_sound Dump status input cut text of outcome = records_sound true 0 (λ ended. DumpsRecords ended old new cut text) status cut text (dumped_sound cut text) outcome
-    next_sound (Drill numbers) status input cut text of outcome = records_sound false 0 (λ ended. TakesTurns false (is_late numbers.writing) (Drills numbers ended cut text) old ended new) status cut text (λ ended taken. turns_sound false (is_late numbers.writing) (Drills numbers ended cut text) ended taken) outcome
+    next_sound (Callers numbers) status input cut text of outcome = records_sound false (passes_for numbers.callers numbers.readers) (λ ended. TakesTurns (is_late numbers.writing) (JointWork numbers.callers numbers.readers numbers.tries input ended cut text) old ended new) status cut text (λ ended taken. turns_sound (is_late numbers.writing) (JointWork numbers.callers numbers.readers numbers.tries input ended cut text) ended taken) outcome
+    next_sound Dump status input cut text of outcome = records_sound true 0 (DumpsRecords old new cut text) status cut text (dumped_sound cut text) outcome
+    next_sound (Drill numbers) status input cut text of outcome = records_sound false 0 (λ ended. TakesTurns (is_late numbers.writing) (Drills numbers ended cut text) old ended new) status cut text (λ ended taken. turns_sound (is_late numbers.writing) (Drills numbers ended cut text) ended taken) outcome
     next_sound (Make name) status input cut text of outcome = made_sound name status cut text outcome
     next_sound Purge status input cut text of outcome = records_sound false 0 (PurgedBy old new cut text) status cut text (purged_by_sound cut text) outcome
     next_sound (Eaw given) status input cut text of outcome = absurd of
@@ -247,7 +248,7 @@ module _ (tells : Bool) (told : IsTrue tells) (old new : View) (counts_now : (t 
 -- ---- a fresh array
 
 formatted_sound : (numbers : FormatNumbers) (old new : View) (cut : Bool) (text : List ℕ) → IsFormatted numbers old new cut text → LeavesFresh numbers new.content
-formatted_sound numbers old new cut text made = (made.begun.shape, made.begun.numbers, λ image left. (_, made.opens image left, made.records.sound))
+formatted_sound numbers old new cut text made = (made.begun.shape, made.begun.numbers, λ image left. (_, made.opens image left, made.sound))
 
 pub fresh_sound : (numbers : FormatNumbers) (old new : View) (status : Status) (cut : Bool) (text : List ℕ) → (status ≡ Good) ⊎ (status ≡ WriteFault) → FormatOutcome numbers old status new cut text
     → LeavesFresh numbers new.content

@@ -1,5 +1,5 @@
 -- Which index the data has, and work under that index.
-use Rattle.std.proofs.Common.{◌≡◌, ℕ, ◌≤◌, Bool, List, sym, ap, subst, ◌∙◌, length, arith, Result, Ok, Err}
+use Rattle.std.proofs.Common.{◌≡◌, ℕ, ◌≤◌, Bool, false, List, sym, ap, subst, ◌∙◌, length, arith, Result, Ok, Err}
 use Rattle.std.proofs.lemmas.List.Elements.{All-nil}
 use Rattle.history.specs.declared.transaction.Done.{Done}
 use Rattle.std.specs.Prelude.{IsTrue}
@@ -9,6 +9,7 @@ use Rattle.eaw_face.specs.State.{State}
 use Rattle.eaw_face.specs.StoreView.{StoreView, LeavesOnly}
 use Rattle.page_store.specs.Index.{Index}
 use Rattle.record_table.specs.Shown.{table_of}
+use Rattle.record_table.specs.Upgrading.{upgraded}
 use Rattle.caller_steps.specs.State as face
 use Rattle.caller_steps.specs.Room.{Limits}
 use Rattle.caller_steps.specs.Run.{Turn}
@@ -17,7 +18,7 @@ use Rattle.mars_core.specs.Over.{limits_of}
 use Rattle.mars_core.specs.declared.fault.CoreFault.{CoreFault}
 use Rattle.script_run.specs.declared.ended.Ended.{Ended}
 use Rattle.array_runs.specs.Forms.{index_of_form, index_at, SaysForm}
-use Rattle.array_runs.specs.Records.{worked_on, begun_on}
+use Rattle.array_runs.specs.Records.{begun_on}
 use Rattle.mars_shell.specs.Served.{opens_of, Served, Serves}
 use Rattle.array_runs.proofs.Forming.{of_form}
 use Rattle.array_runs.proofs.Untaken.{untaken_over}
@@ -34,12 +35,12 @@ module _ (tells : Bool) (told : IsTrue tells) (Opens : Shape → List ℕ → Li
   bytes_are = ap (λ (s : State). s.bytes) (says.state told)
 
   -- what holds of the first state
-  of_first : (spares : Bool) (P : Limits → face.State → Type 0) → P (limits_of index mid.shape) (begun_on spares index mid.state.bytes) → P (limits_of index old.shape) (begun_on spares index old.state.bytes)
-  of_first spares P holds = subst (λ (b : List ℕ). P (limits_of index old.shape) (begun_on spares index b)) bytes_are (subst (λ (s : Shape). P (limits_of index s) (begun_on spares index mid.state.bytes)) says.shape holds)
+  of_first : (P : Limits → face.State → Type 0) → P (limits_of index mid.shape) (begun_on index mid.state.bytes) → P (limits_of index old.shape) (begun_on index old.state.bytes)
+  of_first P holds = subst (λ (b : List ℕ). P (limits_of index old.shape) (begun_on index b)) bytes_are (subst (λ (s : Shape). P (limits_of index s) (begun_on index mid.state.bytes)) says.shape holds)
 
   module _ (new : StoreView) where
-    served_on : (spares : Bool) (Says : Limits → List Turn → face.State → Type 0) (ended : Ended) → Served spares Says Opens index mid ended new → Served spares Says Opens index old ended new
-    served_on spares Says ended served =
+    served_on : (Says : Limits → List Turn → face.State → Type 0) (ended : Ended) → Served Says Opens index mid ended new → Served Says Opens index old ended new
+    served_on Says ended served =
         let sound = subst (λ (b : List ℕ). index.sound b) bytes_are served.sound in
         let base : served.final.base ≡ table_of index old.state.bytes = served.base ∙ ap (table_of index) bytes_are in
         record {
@@ -47,7 +48,7 @@ module _ (tells : Bool) (told : IsTrue tells) (Opens : Shape → List ℕ → Li
           shape = served.shape ∙ says.shape;
           turns = served.turns;
           final = served.final;
-          runs = of_first spares (λ l s. Runs l s served.turns served.final) served.runs;
+          runs = of_first (λ l s. Runs l s served.turns served.final) served.runs;
           says = subst (λ (s : Shape). Says (limits_of index s) served.turns served.final) says.shape served.says;
           base = base;
           legal = served.legal;
@@ -60,11 +61,11 @@ module _ (tells : Bool) (told : IsTrue tells) (Opens : Shape → List ℕ → Li
           }) (says.time told)) (subst (λ (s : Shape). LeavesOnly (opens_of Opens s index served.final 0) mid new) says.shape served.since);
           now = λ image left. subst (λ (s : Shape). opens_of Opens s index served.final (length served.final.history) image) says.shape (served.now image left);
           left = served.left;
-          unwritten = λ unfailed reads. served.unwritten unfailed reads ∙ ap (worked_on spares) bytes_are;
+          unwritten = λ unfailed reads. served.unwritten unfailed reads ∙ ap upgraded bytes_are;
         }
 
     -- the work was done under the store's own index
-    pub serves_on : (spares : Bool) (Says : Ended → Limits → List Turn → face.State → Type 0) (result : Result Ended CoreFault) (cut : Bool) (text : List ℕ) → Serves spares Says Opens (index_of_form form) mid result cut text new
-        → Serves spares Says Opens (index_at old.state.bytes) old result cut text new
-    serves_on spares Says (Ok ended) cut text served = subst (λ (i : Index). Served spares (Says ended) Opens i old ended new) (sym own) (served_on spares (Says ended) ended served)
-    serves_on spares Says (Err fault) cut text off = untaken_over tells told Opens form old mid new says spares fault cut text off
+    pub serves_on : (Says : Ended → Limits → List Turn → face.State → Type 0) (result : Result Ended CoreFault) (cut : Bool) (text : List ℕ) → Serves Says Opens (index_of_form form) mid result cut text new
+        → Serves Says Opens (index_at old.state.bytes) old result cut text new
+    serves_on Says (Ok ended) cut text served = subst (λ (i : Index). Served (Says ended) Opens i old ended new) (sym own) (served_on (Says ended) ended served)
+    serves_on Says (Err fault) cut text off = untaken_over tells told Opens form old mid new says false fault cut text off

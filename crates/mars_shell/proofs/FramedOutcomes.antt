@@ -23,17 +23,17 @@ pub framed_outcome : (tells : Bool) (told : IsTrue tells) (old : View) (only_now
     (store : StoreView) (attached : Attached tells old store) (keeps : KeepsData tells old store.moment store.left_since)
     (defers : Bool) (later : StoreView) (new : View) (behind : IsBehind tells defers later new) (counts_now : (t : ℕ) (image : List ℕ) → IsTrue tells → t ≤ new.moment → MayLeave new.content image → new.left_since t image)
     (input : List ℕ) (cut : Bool) (text : List ℕ) (result : Result Ended CoreFault)
-    → Serves false (says_framed (index_at store.state.bytes) store input cut text) Opens (index_at store.state.bytes) store result cut text later
+    → Serves (says_framed (index_at store.state.bytes) store input cut text) Opens (index_at store.state.bytes) store result cut text later
     → OverRecords false 0 (λ ended. TakesFramed defers input cut text old ended new) old (served_status result) new cut text
 framed_outcome tells told old only_now store attached keeps defers later new behind counts_now input cut text result served =
     let Does = says_framed (index_at store.state.bytes) store input cut text in
-    let outcome = records_outcome tells told old only_now store attached keeps defers later new behind counts_now 0 (omega arith) false Does result cut text served in
-    outcome_as false (λ ended. TakesTurns false defers (Does ended) old ended new) (λ ended. TakesFramed defers input cut text old ended new) (λ page. IsDamaged old page × (Exceeds 0 old → ⊥))
+    let outcome = records_outcome tells told old only_now store attached keeps defers later new behind counts_now 0 (omega arith) Does result cut text served in
+    outcome_as false (λ ended. TakesTurns defers (Does ended) old ended new) (λ ended. TakesFramed defers input cut text old ended new) (λ page. IsDamaged old page × (Exceeds 0 old → ⊥))
     (HoldsArray old × (Exceeds 0 old → ⊥)) (Exceeds 0 old) old (served_status result) new cut text
     (λ ended taken. record {
       shape = store.shape;
       array = array tells told old only_now store attached keeps;
-      taken = subst (λ (bytes : List ℕ). TakesTurns false defers (SaysFramed store.shape bytes (begun_on false (index_at bytes) bytes) input ended cut text) old ended new) (attached.bytes told) taken;
+      taken = subst (λ (bytes : List ℕ). TakesTurns defers (SaysFramed store.shape bytes (begun_on (index_at bytes) bytes) input ended cut text) old ended new) (attached.bytes told) taken;
     }) outcome
 
 -- the work was not begun

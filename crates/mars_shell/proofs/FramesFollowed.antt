@@ -17,9 +17,11 @@ use Rattle.frame_lines.specs.declared.ended.FollowEnd.{FollowEnd}
 use Rattle.frame_lines.specs.declared.ended.FollowEnd.TheVariants as follow
 use Rattle.script_run.specs.Input.{input_limit}
 use Rattle.script_run.specs.Lines.{lines_of}
-use Rattle.mars_shell.specs.Follow.{LeavesFollowed, Follows, FollowOutcome, follow_status}
+use Rattle.command_words.specs.declared.words.Words.TheVariants.{Follow}
+use Rattle.mars_shell.specs.Asked.{OutcomeFor, IsComplete}
+use Rattle.mars_shell.specs.Follow.{LeavesFollowed, Follows, follow_status}
 use Rattle.array_runs.specs.Input.{InputSays}
-use Rattle.array_runs.specs.Statuses.{Counts, IsEarly, IsRefusal, IsUnfollowed}
+use Rattle.array_runs.specs.Statuses.{Counts, IsEarly, IsRefusal}
 use Rattle.array_runs.specs.declared.status.Status.{Status}
 use Rattle.array_runs.specs.declared.status.Status.TheVariants.{Good, NoMemory}
 use Rattle.array_runs.proofs.Completing.{complete_of}
@@ -99,17 +101,17 @@ follow_counted ended status s s' k k' m m' n n' is read before after counts = rw
 -- What can be followed is followed, unless memory runs out or a line is not followed.
 module _ (old new : View) (input : List ℕ) (cut : Bool) (text : List ℕ) (given left : List ℕ) (s s' k k' m m' : ℕ)
     (short : length given ≤ input_limit) (shape : Shape) (is_array : IsArray shape old) (no_source : Rose s s' → ⊥) (no_sink : Rose k k' → ⊥) (no_media : Rose m m' → ⊥) where
-  followed_so : (ended : FollowEnd) → Counts (follow_status ended) s s' k k' m m' → (follow_status ended ≡ Good) ⊎ ((follow_status ended ≡ NoMemory) ⊎ IsUnfollowed (follow_status ended))
+  followed_so : (ended : FollowEnd) → Counts (follow_status ended) s s' k k' m m' → IsComplete Follow (follow_status ended)
   followed_so follow.All counts = inl refl
-  followed_so (follow.BadFrame n) counts = inr (inr tt)
-  followed_so (follow.Gap expected got) counts = inr (inr tt)
+  followed_so (follow.BadFrame n) counts = inr (inr (inl (n, refl)))
+  followed_so (follow.Gap expected got) counts = inr (inr (inr (expected, got, refl)))
   followed_so follow.WriteFault counts = absurd (no_sink counts.1)
   followed_so follow.MediaFault counts = absurd (no_media counts.1)
   followed_so follow.NoMemory counts = inr (inl refl)
 
-  pub complete_follow : (status : Status) → Counts status s s' k k' m m' → InputSays status given left → FollowOutcome old status new input cut text → (status ≡ Good) ⊎ ((status ≡ NoMemory) ⊎ IsUnfollowed status)
+  pub complete_follow : (status : Status) → Counts status s s' k k' m m' → InputSays status given left → OutcomeFor Follow old status new input cut text → IsComplete Follow status
   complete_follow status counts says outcome = ⊎_elim
       (λ unopened. ⊎_elim (λ good. inl good) (λ none. inr (inl none))
       (complete_of true (λ ended. ⊥) (λ page. ⊥) ⊥ ⊥ old new cut text given left s s' k k' m m' short shape is_array (λ page is. is) (λ is. is) no_source no_sink no_media status counts says unopened))
-      (λ ran. subst (λ (x : Status). (x ≡ Good) ⊎ ((x ≡ NoMemory) ⊎ IsUnfollowed x)) (sym ran.1) (followed_so ran.0 (subst (λ (x : Status). Counts x s s' k k' m m') ran.1 counts)))
+      (λ ran. subst (IsComplete Follow) (sym ran.1) (followed_so ran.0 (subst (λ (x : Status). Counts x s s' k k' m m') ran.1 counts)))
       outcome

@@ -24,10 +24,11 @@ use Rattle.frame_lines.specs.Begun.{HasBegun, RanFramed}
 use Rattle.frame_lines.proofs.Framing.{are_some}
 use Rattle.array_runs.specs.Records.{begun_on}
 use Rattle.mars_shell.specs.OnCore.{TurnsOn}
-use Rattle.mars_shell.specs.Standing.{Progress, callers_of, HasData, line_script, Stands, Comes}
-use Rattle.mars_shell.specs.FramedRun.{framed_lines, framed_start, says_framed}
+use Rattle.mars_shell.specs.Standing.{Progress, callers_of, HasData, line_script, framed_lines, framed_start, turns_in, Stands, Comes}
+use Rattle.mars_shell.specs.FramedRun.{says_framed}
 use Rattle.mars_shell.proofs.Acknowledged.{committed_kept}
 use Rattle.mars_shell.proofs.Lining.{gives_clean, stops_clean, answered_turns, safe_now}
+use Rattle.mars_shell.proofs.FramedTurns.{framed_turns}
 use Rattle.mars_shell.proofs.Unframed.{plain_of}
 use Rattle.mars_shell.proofs.Making.{living}
 use Rattle.mars_shell.proofs.Serving.{begun_is}
@@ -72,7 +73,7 @@ module _ (tells : Bool) (Opens : Shape → List ℕ → List ℕ → Type 0) (in
   module _ (told : IsTrue tells) (callers : ℕ) (ready : CanShare tells callers (core_of Opens index mid held)) (listed : IsTrue old.sending.told) (none : old.sending.frames ≡ [])
       (mirroring : old.sending.mirrors ≡ true) (from_one : old.sending.sent ≡ 0) where
     abbrev pub first : Framed Progress
-    first = framed_start (core_of Opens index mid held).limits old.shape old.state.bytes (begun_on false index old.state.bytes) sent
+    first = framed_start (core_of Opens index mid held).limits old.shape old.state.bytes (begun_on index old.state.bytes) sent
 
     pub stands_first : Stands (core_of Opens index mid held) first.inner
     stands_first = record {
@@ -119,7 +120,7 @@ module _ (tells : Bool) (Opens : Shape → List ℕ → List ℕ → Type 0) (in
 
       module _ (new : StoreView) (data_is : later.state.index.bytes ≡ new.state.bytes) where
         -- the frames of the opening bring the data to that of the first state
-        brought : mid.sending.is_down ≡ false → (begun_on false index old.state.bytes).index.bytes ≡ followed sent old.state.bytes
+        brought : mid.sending.is_down ≡ false → (begun_on index old.state.bytes).index.bytes ≡ followed sent old.state.bytes
         brought up = ap (λ (s : State). s.index.bytes) (sym (begun_is tells Opens index old mid (core_of Opens index mid held) begins told)) ∙ has_begun.data_is up
 
         pub by_frames : RanFramed line_script HasData (λ (s : Framed Progress). Stands later s.inner × HasSent new s) (λ (s : Framed Progress). Comes (core_of Opens index mid held) first.inner later s.inner)
@@ -133,8 +134,8 @@ module _ (tells : Bool) (Opens : Shape → List ℕ → List ℕ → Type 0) (in
             answers = ran.answers;
             rest = ran.rest;
             text_is = text_is ∙ ap (λ (t : List ℕ). lines_of_frames sent ++ t) ran.text_is;
-            last = ran.final;
-            answered = ran.answered;
+            last = turns_in ran.final;
+            answered = framed_turns first.inner.start first 1 (lines_of input) ended cut ran.answers ran.rest ran.final refl ran.answered;
             turns_are = refl;
             acknowledged = kept ran.final ran.comes ran.answers ran.rest ran.answered;
             whole = λ all. data_is ∙ (ran.stands all).1.data_is;

@@ -1,5 +1,6 @@
 -- A fresh array is a sound tree without records.
 use Rattle.std.proofs.Common.{◌≡◌, ℕ, ◌*◌, ◌<◌, ◌≤◌, List, [], ◌∷◌, ◌++◌, map, refl, sym, ap, subst, ◌∙◌, arith}
+use Rattle.std.specs.FinMap.{empty}
 use Rattle.std.proofs.Math.Nat.{le-mul_of_pos_right}
 use Rattle.array_shape.specs.declared.shape.Shape.{Shape}
 use Rattle.array_shape.specs.Places.{page_count}
@@ -17,7 +18,6 @@ use Rattle.index_pages.specs.Page.{kind_said, level_said, count_said, link_said}
 use Rattle.record_table.proofs.Upgraded.{main_used, has_main}
 use Rattle.btree_pages.specs.Index.{tree}
 use Rattle.btree_pages.proofs.Fresh.{HasNoneFree, fresh_trees}
-use Rattle.mars_shell.specs.Formats.{HasNone}
 
 -- what the first two pages say
 front_fresh : SaysSuper (fresh_page 0) fresh_super
@@ -63,9 +63,9 @@ module _ (shape : Shape) (bytes : List ℕ) (pages : HasPages shape (page_count 
       ap (λ (tables : List TableEntry). pairs_from tree (data_of shape bytes) tables) alone
       ∙ ap (λ (pairs : List Pair). map (in_table main_table.name) pairs ++ []) none
 
-  pub fresh_none : HasNone (data_of shape bytes)
+  pub fresh_none : tree.sound (data_of shape bytes) × (table_of tree (data_of shape bytes) ≡ empty)
   unfolding table_of
   fresh_none =
       let here = has_page 1 (omega arith) in
       let fresh = fresh_trees (data_of shape bytes) front alone free (ap kind_said here ∙ root_fresh.0) (ap level_said here ∙ root_fresh.1) (ap link_said here ∙ root_fresh.2) (ap count_said here ∙ root_fresh.3) in
-      record { sound = fresh.0; none = ap (λ (pairs : List KeyPair). table_in (data_of shape bytes) pairs) (no_pairs fresh.1) }
+      (fresh.0, ap (λ (pairs : List KeyPair). table_in (data_of shape bytes) pairs) (no_pairs fresh.1))

@@ -1,6 +1,6 @@
 -- The work of callers on threads over the records of a store, from what a core makes of it.
 use Rattle.std.proofs.Common.{◌≡◌, ◌≢◌, ◌↔◌, ℕ, zero, suc, ◌+◌, ◌<◌, ◌≤◌, List, None, get_or, length, [], ◌∷◌, ◌++◌, Bool, true, false, refl, sym, ap, subst, ◌∙◌, arith}
-use Rattle.std.specs.Prelude.{IsTrue, Result, Ok, Err, IfOk, IsOk}
+use Rattle.std.specs.Prelude.{IsTrue, Contains, Result, Ok, Err, IfOk, IsOk}
 use Rattle.std.specs.Global.{Vec}
 use Rattle.mars_base.specs.declared.NoMemory.{NoMemory}
 use Rattle.history.specs.Writes.{Table}
@@ -25,7 +25,7 @@ use Rattle.caller_work.specs.declared.end.WorkEnd.{WorkEnd}
 use Rattle.caller_work.specs.declared.end.WorkEnd.TheVariants as work
 use Rattle.caller_work.specs.declared.tries.Tries.TheVariants.{Times}
 use Rattle.caller_work.specs.Tries.{IsWork, IsWorkOf}
-use Rattle.caller_work.specs.Asked.{IsPlanned, HaveCauses}
+use Rattle.caller_work.specs.Asked.{HaveCauses}
 use Rattle.caller_work.specs.Worked.{Worked, is_fault, of_caller}
 use Rattle.history_text.specs.Text.{done_lines, work_text}
 use Rattle.script_run.specs.Lines.{lines_of}
@@ -130,7 +130,7 @@ module _ (tells : Bool) (core last : CoreView) (callers readers tries : ℕ) (in
         among = among;
         other = c.other;
         its = c.its;
-        planned = subst (λ (ps : List Plan). IsPlanned ps c.its) (planned_at holder among) c.planned;
+        planned = subst (λ (ps : List Plan). Contains (flat_map (λ (plan : Plan). plan.calls) ps) c.its) (planned_at holder among) c.planned;
         stripe = c.stripe;
         clashes = subst (λ (names : List (List ℕ)). IsTrue (clash (touches names call c.stripe) (touches names c.its c.stripe))) (sym named) c.clashes;
       }

@@ -4,6 +4,7 @@ pub mod FormatLemmas
 pub mod FreshRecords
 pub mod Answering
 pub mod GivingUp
+pub mod FramedTurns
 pub mod Framing
 pub mod Below
 pub mod FramedOutcomes

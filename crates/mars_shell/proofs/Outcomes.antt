@@ -1,5 +1,5 @@
 -- What comes of work over an array that was opened.
-use Rattle.std.proofs.Common.{ℕ, ◌≤◌, List, Bool, true, Result, Ok, Err}
+use Rattle.std.proofs.Common.{ℕ, ◌≤◌, List, Bool, true, false, Result, Ok, Err}
 use Rattle.std.specs.Prelude.{IsTrue}
 use Rattle.pcm_media.specs.Images.{MayLeave}
 use Rattle.pcm_media.specs.View.{View}
@@ -24,22 +24,22 @@ module _ (tells : Bool) (told : IsTrue tells) (old : View) (only_now : (image : 
     (store : StoreView) (attached : Attached tells old store) (keeps : KeepsData tells old store.moment store.left_since)
     (defers : Bool) (later : StoreView) (new : View) (behind : IsBehind tells defers later new) (counts_now : (t : ℕ) (image : List ℕ) → IsTrue tells → t ≤ new.moment → MayLeave new.content image → new.left_since t image) where
   -- callers took turns, or the records were not taken
-  pub records_outcome : (callers : ℕ) → callers ≤ store.shape.numbers → (spares : Bool) (Does : Ended → Limits → List Turn → State → Type 0) (result : Result Ended CoreFault) (cut : Bool) (text : List ℕ)
-      → Serves spares Does Opens (index_at store.state.bytes) store result cut text later
-      → OverRecords spares callers (λ ended. TakesTurns spares defers (Does ended) old ended new) old (served_status result) new cut text
-  records_outcome callers enough spares Does (Ok ended) cut text served =
-      outcome_of spares (λ ended. TakesTurns spares defers (Does ended) old ended new) (λ page. IsDamaged old page × (Exceeds callers old → ⊥)) (HoldsArray old × (Exceeds callers old → ⊥))
-      (Exceeds callers old) old new cut text ended (takes_turns tells told old only_now store attached keeps defers later new behind counts_now spares (Does ended) ended served)
-  records_outcome callers enough spares Does (Err fault) cut text off = untaken_outcome tells told old only_now store attached keeps defers later new behind
-      spares (λ ended. TakesTurns spares defers (Does ended) old ended new) callers enough fault cut text off
+  pub records_outcome : (callers : ℕ) → callers ≤ store.shape.numbers → (Does : Ended → Limits → List Turn → State → Type 0) (result : Result Ended CoreFault) (cut : Bool) (text : List ℕ)
+      → Serves Does Opens (index_at store.state.bytes) store result cut text later
+      → OverRecords false callers (λ ended. TakesTurns defers (Does ended) old ended new) old (served_status result) new cut text
+  records_outcome callers enough Does (Ok ended) cut text served =
+      outcome_of false (λ ended. TakesTurns defers (Does ended) old ended new) (λ page. IsDamaged old page × (Exceeds callers old → ⊥)) (HoldsArray old × (Exceeds callers old → ⊥))
+      (Exceeds callers old) old new cut text ended (takes_turns tells told old only_now store attached keeps defers later new behind counts_now (Does ended) ended served)
+  records_outcome callers enough Does (Err fault) cut text off = untaken_outcome tells told old only_now store attached keeps defers later new behind
+      false (λ ended. TakesTurns defers (Does ended) old ended new) callers enough fault cut text off
 
 module _ (callers : ℕ) (defers : Bool) (Does : Ended → Limits → List Turn → State → Type 0) (old : View) (status : Status) (new : View) (cut : Bool) (text : List ℕ) where
-  abbrev With : Bool → Ended → Type 0
-  With spares ended = TakesTurns spares defers (Does ended) old ended new
+  abbrev With : Ended → Type 0
+  With ended = TakesTurns defers (Does ended) old ended new
 
   -- the work was not begun
-  pub turns_none : (spares : Bool) → OverRecords true callers (λ none. ⊥) old status new cut text → OverRecords spares callers (With spares) old status new cut text
-  turns_none spares outcome =
-      outcome_as spares (λ none. ⊥) (With spares) (λ page. IsDamaged old page × (Exceeds callers old → ⊥)) (HoldsArray old × (Exceeds callers old → ⊥)) (Exceeds callers old)
+  pub turns_none : OverRecords true callers (λ none. ⊥) old status new cut text → OverRecords false callers With old status new cut text
+  turns_none outcome =
+      outcome_as false (λ none. ⊥) With (λ page. IsDamaged old page × (Exceeds callers old → ⊥)) (HoldsArray old × (Exceeds callers old → ⊥)) (Exceeds callers old)
       old status new cut text (λ ended none. absurd none)
-      (outcome_spared spares (λ none. ⊥) (λ page. IsDamaged old page × (Exceeds callers old → ⊥)) (HoldsArray old × (Exceeds callers old → ⊥)) (Exceeds callers old) old status new cut text outcome)
+      (outcome_spared false (λ none. ⊥) (λ page. IsDamaged old page × (Exceeds callers old → ⊥)) (HoldsArray old × (Exceeds callers old → ⊥)) (Exceeds callers old) old status new cut text outcome)

@@ -10,6 +10,7 @@ use Rattle.eaw_face.specs.StoreView.{StoreView}
 use Rattle.eaw_device.specs.Opens.{Opens, KeepsData, Attached, IsBehind}
 use Rattle.page_store.specs.Index.{Index}
 use Rattle.record_table.specs.Shown.{table_of}
+use Rattle.record_table.specs.Upgrading.{upgraded}
 use Rattle.caller_steps.specs.State.{State}
 use Rattle.caller_steps.specs.Room.{Limits}
 use Rattle.caller_steps.specs.Run.{Turn}
@@ -17,7 +18,7 @@ use Rattle.caller_steps.specs.Step.{Runs}
 use Rattle.mars_core.specs.Over.{limits_of}
 use Rattle.script_run.specs.declared.ended.Ended.{Ended}
 use Rattle.array_runs.specs.Forms.{index_at, index_in}
-use Rattle.array_runs.specs.Records.{worked_on, begun_on, HasAll}
+use Rattle.array_runs.specs.Records.{begun_on, HasAll}
 use Rattle.mars_shell.specs.Run.{TakesTurns}
 use Rattle.mars_shell.specs.PrefixLaw.{Recovers}
 use Rattle.mars_shell.specs.Served.{opens_of, Served}
@@ -31,7 +32,7 @@ module _ (tells : Bool) (told : IsTrue tells) (old : View) (only_now : (image : 
       left_now : (image : List ℕ) → MayLeave new.content image → later.left_since later.moment image
       left_now image left = subst (λ (t : ℕ). later.left_since t image) behind.moment (behind.left new.moment image (counts_now new.moment image told (omega arith) left))
 
-      module _ (spares : Bool) (Says : Limits → List Turn → State → Type 0) (ended : Ended) (served : Served spares Says Opens (index_at store.state.bytes) store ended later) where
+      module _ (Says : Limits → List Turn → State → Type 0) (ended : Ended) (served : Served Says Opens (index_at store.state.bytes) store ended later) where
         recovers : (least : ℕ) (image : List ℕ) → opens_of Opens store.shape (index_at store.state.bytes) served.final least image → Recovers store.shape (index_in store.shape old) served.final least image
         recovers least image has = subst (λ (b : List ℕ). Recovers store.shape (index_at b) served.final least image) (attached.bytes told) has
 
@@ -45,13 +46,13 @@ module _ (tells : Bool) (told : IsTrue tells) (old : View) (only_now : (image : 
             (subst (λ (i : Index). HasAll i later.state.bytes served.final) (sym (sound_says store.state.bytes later.state.bytes has.sound)) has)
 
         -- callers took turns
-        pub takes_turns : TakesTurns spares defers Says old ended new
+        pub takes_turns : TakesTurns defers Says old ended new
         takes_turns = record {
           shape = store.shape;
           holds = holds tells told old only_now store attached keeps served.sound;
           turns = served.turns;
           final = served.final;
-          runs = subst (λ (b : List ℕ). Runs (limits_of (index_at b) store.shape) (begun_on spares (index_at b) b) served.turns served.final) (attached.bytes told) served.runs;
+          runs = subst (λ (b : List ℕ). Runs (limits_of (index_at b) store.shape) (begun_on (index_at b) b) served.turns served.final) (attached.bytes told) served.runs;
           says = subst (λ (b : List ℕ). Says (limits_of (index_at b) store.shape) served.turns served.final) (attached.bytes told) served.says;
           base = served.base ∙ ap (λ (b : List ℕ). table_of (index_at b) b) (attached.bytes told);
           legal = served.legal;
@@ -62,5 +63,5 @@ module _ (tells : Bool) (told : IsTrue tells) (old : View) (only_now : (image : 
           };
           quiet = λ unfailed at_once. subst (λ (s : Shape). HasNoVote s new.content.bytes) served.shape (behind.quiet told (served.left unfailed).0 at_once);
           left = λ unfailed. let its = served.left unfailed in own_all its.0 its.1;
-          unwritten = λ unfailed reads. bytes_now (served.left unfailed).0 ∙ served.unwritten unfailed reads ∙ ap (worked_on spares) (attached.bytes told);
+          unwritten = λ unfailed reads. bytes_now (served.left unfailed).0 ∙ served.unwritten unfailed reads ∙ ap upgraded (attached.bytes told);
         }

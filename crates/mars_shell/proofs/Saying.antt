@@ -27,7 +27,7 @@ words_say words (Gap expected got) Unread Holds asked other asks holds = (asked,
 
 -- the same for callers, at each status
 pub callers_say : (words : List (List ℕ)) (status : Status) (Unread : Type 0) (Holds : Words → Type 0) (numbers : CallersNumbers) → AsksFor words (Callers numbers) → Holds (Callers numbers) → WordsSay words status Unread Holds
-callers_say words Usage Unread Holds numbers asks holds = inr (Callers numbers, asks, tt, holds)
+callers_say words Usage Unread Holds numbers asks holds = inr (numbers, asks, holds)
 callers_say words NoMemory Unread Holds numbers asks holds = inr (Callers numbers, asks, holds)
 callers_say words Good Unread Holds numbers asks holds = (Callers numbers, asks, holds)
 callers_say words TooLong Unread Holds numbers asks holds = (Callers numbers, asks, holds)

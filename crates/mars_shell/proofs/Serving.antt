@@ -36,7 +36,7 @@ module _ (tells : Bool) (Opens : Shape → List ℕ → List ℕ → Type 0) (in
   pub limits_are : core.limits ≡ limits_of index old.shape
   limits_are = begins.over.limits ∙ ap (limits_of index) begins.shape
 
-  pub begun_is : IsTrue tells → core.state ≡ begun_on false index old.state.bytes
+  pub begun_is : IsTrue tells → core.state ≡ begun_on index old.state.bytes
   begun_is told = begins.state told
 
   -- memory ran out before the work
@@ -114,10 +114,10 @@ module _ (tells : Bool) (Opens : Shape → List ℕ → List ℕ → Type 0) (in
     }
 
     -- what holds of the first state
-    of_first : (P : Limits → State → Type 0) → P core.limits core.state → P (limits_of index old.shape) (begun_on false index old.state.bytes)
-    of_first P holds = subst (λ (l : Limits). P l (begun_on false index old.state.bytes)) limits_are (subst (λ (s : State). P core.limits s) (begun_is told) holds)
+    of_first : (P : Limits → State → Type 0) → P core.limits core.state → P (limits_of index old.shape) (begun_on index old.state.bytes)
+    of_first P holds = subst (λ (l : Limits). P l (begun_on index old.state.bytes)) limits_are (subst (λ (s : State). P core.limits s) (begun_is told) holds)
 
-    pub served_on : (Says : Limits → List Turn → State → Type 0) (ended : Ended) (turns : TurnsOn Says core ended later) → Served false Says Opens index old ended new
+    pub served_on : (Says : Limits → List Turn → State → Type 0) (ended : Ended) (turns : TurnsOn Says core ended later) → Served Says Opens index old ended new
     served_on Says ended turns = record {
       sound = begins.sound told;
       shape = shape;
@@ -134,10 +134,10 @@ module _ (tells : Bool) (Opens : Shape → List ℕ → List ℕ → Type 0) (in
           let living = sym over.dead ∙ turns.alive unfailed in
           (living, record { sound = over.sound told living; names = over.names told living; table = over.table told living; keys = over.keys told });
       unwritten = λ unfailed reads. ap (λ (x : caller.Index). x.bytes) (sym (over.keys told)
-          ∙ reads_leave (limits_of index old.shape) (begun_on false index old.state.bytes) later.state turns.turns (of_first (λ l s. Runs l s turns.turns later.state) turns.runs) (λ caller. refl) reads (turns.alive unfailed));
+          ∙ reads_leave (limits_of index old.shape) (begun_on index old.state.bytes) later.state turns.turns (of_first (λ l s. Runs l s turns.turns later.state) turns.runs) (λ caller. refl) reads (turns.alive unfailed));
     }
 
   -- callers took turns
   pub served : (told : IsTrue tells) (new : StoreView) (later : CoreView) → IsOver tells (Opens new.shape) index new later → (Says : Limits → List Turn → State → Type 0) (ended : Ended)
-      → TurnsOn Says core ended later → Served false Says Opens index old ended new
+      → TurnsOn Says core ended later → Served Says Opens index old ended new
   served told new later over Says ended turns = served_on told new later over turns.continues Says ended turns

@@ -10,8 +10,7 @@ use Rattle.script_run.specs.declared.ended.Ended.{Ended}
 use Rattle.script_run.specs.declared.ended.Ended.TheVariants.{All as Done, WriteFault, MediaFault, NoMemory}
 use Rattle.frame_lines.specs.Framed.{Framed, lines_of_frames}
 use Rattle.frame_lines.proofs.FrontLines.{determined}
-use Rattle.mars_shell.specs.Standing.{Start, Progress, callers_of, line_script}
-use Rattle.mars_shell.specs.FramedRun.{framed_lines}
+use Rattle.mars_shell.specs.Standing.{Start, Progress, callers_of, line_script, framed_lines}
 use Rattle.mars_shell.proofs.Acknowledged.{told_no_frame, no_frame}
 
 -- The lines without frames. Of an answer with frames that ends in the line of a commit that line is the answer.

@@ -16,7 +16,7 @@ given_depth None (Late depth) gives = absurd (cc gives)
 given_depth (Some value) (Late depth) gives = (omega (arith, gives.0), gives.1)
 
 pub run_depth : (words : List (List ℕ)) (given : RunOptions) → AsksFor words (Run given) → HasDepth given.writing
-run_depth words given asks = given_depth _ given.writing asks.4.1.writing
+run_depth words given asks = given_depth _ given.writing asks.4.1
 
 pub callers_depth : (words : List (List ℕ)) (numbers : CallersNumbers) → AsksFor words (Callers numbers) → HasDepth numbers.writing
 callers_depth words numbers asks = given_depth _ numbers.writing asks.4.1.writing

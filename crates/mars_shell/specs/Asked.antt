@@ -3,37 +3,34 @@ use Rattle.std.specs.Prelude.{ℕ, ◌≡◌, ◌≤◌, ◌⊎◌, List, length
 use Rattle.pcm_media.specs.View.{View}
 use Rattle.array_shape.specs.declared.shape.Shape.{Shape}
 use Rattle.command_words.specs.Asked.{AsksFor, AskForNothing}
+use Rattle.command_words.specs.declared.words.CallersNumbers.{CallersNumbers}
 use Rattle.command_words.specs.declared.words.Words.{Words}
 use Rattle.command_words.specs.declared.words.Words.TheVariants.{Run, Callers, Eaw, Dump, Drill, Format, Make, Purge, Follow}
 use Rattle.eaw_device.specs.Opens.{HoldsArray}
+use Rattle.frame_lines.specs.declared.ended.FollowEnd.{FollowEnd}
 use Rattle.script_run.specs.Input.{input_limit}
 use Rattle.mars_shell.specs.Commands.{ObeysAs}
-use Rattle.mars_shell.specs.Follow.{FollowOutcome}
+use Rattle.mars_shell.specs.Follow.{Follows, follow_status}
 use Rattle.mars_shell.specs.Formats.{GiveLength, FormatOutcome}
 use Rattle.reader_work.specs.Readership.{passes_for}
 use Rattle.mars_shell.specs.Joint.{JointWork}
 use Rattle.mars_shell.specs.Late.{is_late}
 use Rattle.array_runs.specs.Outcome.{OutcomeOf}
 use Rattle.mars_shell.specs.Drill.{Drills}
-use Rattle.told_commands.specs.Dump.{DumpOutcome}
+use Rattle.told_commands.specs.Dump.{DumpsRecords}
 use Rattle.array_runs.specs.Records.{HoldsRecords, OverRecords}
 use Rattle.mars_shell.specs.Run.{TakesTurns}
 use Rattle.mars_shell.specs.FramedRun.{RunsAs}
-use Rattle.array_runs.specs.Statuses.{IsRefused, IsUnfollowed}
-use Rattle.told_commands.specs.Tables.{MakeOutcome}
-use Rattle.told_commands.specs.Purge.{PurgeOutcome}
+use Rattle.told_commands.specs.Tables.{MadeBy, Refuses}
+use Rattle.told_commands.specs.Purge.{PurgedBy}
+use Rattle.array_runs.specs.declared.status.Refusal.{Refusal}
 use Rattle.array_runs.specs.declared.status.Status.{Status}
-use Rattle.array_runs.specs.declared.status.Status.TheVariants.{Good, Usage, NoMemory}
+use Rattle.array_runs.specs.declared.status.Status.TheVariants.{Good, Usage, NoMemory, Refused, BadFrame, Gap}
 
--- the words ask for callers, for whom an array may have too few numbers
-abbrev pub IsOfCallers : Words → Type 0
-IsOfCallers (Callers numbers) = Unit {0}
-IsOfCallers asked = ⊥
-
--- `Usage` comes only if the words ask for nothing or for callers. Else they ask for something of which Holds is said, but if memory ran out
+-- `Usage` comes only if the words ask for nothing or for callers, for whom an array may have too few numbers. Else they ask for something of which Holds is said, but if memory ran out
 -- they may be unread.
 abbrev pub WordsSay : List (List ℕ) → Status → Type 0 → (Words → Type 0) → Type 0
-WordsSay words Usage Unread Holds = AskForNothing words ⊎ ((asked : Words) × AsksFor words asked × IsOfCallers asked × Holds asked)
+WordsSay words Usage Unread Holds = AskForNothing words ⊎ ((numbers : CallersNumbers) × AsksFor words (Callers numbers) × Holds (Callers numbers))
 WordsSay words NoMemory Unread Holds = Unread ⊎ ((asked : Words) × AsksFor words asked × Holds asked)
 WordsSay words _ Unread Holds = (asked : Words) × AsksFor words asked × Holds asked
 
@@ -50,14 +47,16 @@ IfReads _ Without Reads = Without
 abbrev pub OutcomeFor : Words → View → Status → View → List ℕ → Bool → List ℕ → Type 0
 OutcomeFor (Run given) old status new input cut text = OverRecords false 0 (λ ended. RunsAs given.frames (is_late given.writing) input cut text old ended new) old status new cut text
 OutcomeFor (Callers numbers) old status new input cut text =
-    OverRecords false (passes_for numbers.callers numbers.readers) (λ ended. TakesTurns false (is_late numbers.writing) (JointWork numbers.callers numbers.readers numbers.tries input ended cut text) old ended new) old status new cut text
+    OverRecords false (passes_for numbers.callers numbers.readers) (λ ended. TakesTurns (is_late numbers.writing) (JointWork numbers.callers numbers.readers numbers.tries input ended cut text) old ended new) old status new cut text
 OutcomeFor (Eaw given) old status new input cut text = OutcomeOf true (λ ended. ObeysAs given.frames old input ended new cut text) (λ page. ⊥) ⊥ ⊥ old status new cut text
-OutcomeFor Follow old status new input cut text = FollowOutcome old status new input cut text
-OutcomeFor Dump old status new input cut text = DumpOutcome old status new cut text
-OutcomeFor (Drill numbers) old status new input cut text = OverRecords false 0 (λ ended. TakesTurns false (is_late numbers.writing) (Drills numbers ended cut text) old ended new) old status new cut text
+OutcomeFor Follow old status new input cut text = OutcomeOf true (λ ended. ⊥) (λ page. ⊥) ⊥ ⊥ old status new cut text
+    ⊎ ((ended : FollowEnd) × (status ≡ follow_status ended) × Follows old input ended new cut text)
+OutcomeFor Dump old status new input cut text = OverRecords true 0 (DumpsRecords old new cut text) old status new cut text
+OutcomeFor (Drill numbers) old status new input cut text = OverRecords false 0 (λ ended. TakesTurns (is_late numbers.writing) (Drills numbers ended cut text) old ended new) old status new cut text
 OutcomeFor (Format numbers) old status new input cut text = FormatOutcome numbers old status new cut text
-OutcomeFor (Make name) old status new input cut text = MakeOutcome name old status new cut text
-OutcomeFor Purge old status new input cut text = PurgeOutcome old status new cut text
+OutcomeFor (Make name) old status new input cut text = OverRecords true 0 (MadeBy name old new cut text) old status new cut text
+    ⊎ ((refusal : Refusal) × (status ≡ Refused refusal) × Refuses name refusal old new cut text)
+OutcomeFor Purge old status new input cut text = OverRecords false 0 (PurgedBy old new cut text) old status new cut text
 
 -- an input whose bytes are known and within the limit
 abbrev pub IsShortInput : Bool → List ℕ → Type 0
@@ -73,15 +72,12 @@ IsFit (Callers numbers) source_tells input media_tells media =
     IsShortInput source_tells input × IsTrue media_tells × ((shape : Shape) × HoldsRecords shape media × (passes_for numbers.callers numbers.readers ≤ shape.numbers))
 IsFit (Eaw given) source_tells input media_tells media = IsShortInput source_tells input × IsTrue media_tells × HoldsArray media
 IsFit Follow source_tells input media_tells media = IsShortInput source_tells input × IsTrue media_tells × HoldsArray media
-IsFit Dump source_tells input media_tells media = IsTrue media_tells × ((shape : Shape) × HoldsRecords shape media)
-IsFit (Drill numbers) source_tells input media_tells media = IsTrue media_tells × ((shape : Shape) × HoldsRecords shape media)
-IsFit (Make name) source_tells input media_tells media = IsTrue media_tells × ((shape : Shape) × HoldsRecords shape media)
-IsFit Purge source_tells input media_tells media = IsTrue media_tells × ((shape : Shape) × HoldsRecords shape media)
+IsFit asked source_tells input media_tells media = IsTrue media_tells × ((shape : Shape) × HoldsRecords shape media)
 
 -- what can be done is done, unless memory runs out, an array has no room for a table or has one of its name, or a line is not followed
 abbrev pub IsComplete : Words → Status → Type 0
-IsComplete (Make name) status = (status ≡ Good) ⊎ ((status ≡ NoMemory) ⊎ IsRefused status)
-IsComplete Follow status = (status ≡ Good) ⊎ ((status ≡ NoMemory) ⊎ IsUnfollowed status)
+IsComplete (Make name) status = (status ≡ Good) ⊎ ((status ≡ NoMemory) ⊎ ((refusal : Refusal) × (status ≡ Refused refusal)))
+IsComplete Follow status = (status ≡ Good) ⊎ ((status ≡ NoMemory) ⊎ (((n : ℕ) × (status ≡ BadFrame n)) ⊎ ((expected : ℕ) × (got : ℕ) × (status ≡ Gap expected got))))
 IsComplete asked status = (status ≡ Good) ⊎ (status ≡ NoMemory)
 
 -- a command that tells something only at its end

@@ -1,6 +1,6 @@
 -- What a run of lines that say frames does on a medium that tells its bytes.
 use Rattle.array_image.specs.Decided.{settled_data}
-use Rattle.std.specs.Prelude.{ℕ, ◌≡◌, ◌≤◌, ◌⊎◌, List, Bool, true}
+use Rattle.std.specs.Prelude.{ℕ, ◌≡◌, ◌≤◌, ◌⊎◌, List, Bool}
 use Rattle.pcm_media.specs.View.{View}
 use Rattle.array_shape.specs.declared.shape.Shape.{Shape}
 use Rattle.device_recovery.specs.Recovered.{HasNoVote}
@@ -11,7 +11,6 @@ use Rattle.frame_lines.specs.Followed.{FollowedLines, OpensFirst}
 use Rattle.frame_lines.specs.declared.ended.FollowEnd.{FollowEnd}
 use Rattle.frame_lines.specs.declared.ended.FollowEnd.TheVariants as follow
 use Rattle.script_run.specs.Lines.{lines_of}
-use Rattle.array_runs.specs.Outcome.{OutcomeOf}
 use Rattle.array_runs.specs.declared.status.Status.{Status}
 use Rattle.array_runs.specs.declared.status.Status.TheVariants.{Good, WriteFault, MediaFault, NoMemory, BadFrame, Gap}
 
@@ -39,8 +38,3 @@ pub record Follows (old : View) (input : List ℕ) (ended : FollowEnd) (new : Vi
   pub later : AllOpen shape old.content → old.moment ≤ new.moment
   pub since : AllOpen shape old.content → (image : List ℕ) → new.left_since old.moment image
       → OpensLike shape old.content image ⊎ OpensFirst Opens shape (settled_data shape old.content.bytes) (lines_of input) image
-
--- what comes of it: the array was not opened, or its lines were followed
-abbrev pub FollowOutcome : View → Status → View → List ℕ → Bool → List ℕ → Type 0
-FollowOutcome old status new input cut text =
-    OutcomeOf true (λ ended. ⊥) (λ page. ⊥) ⊥ ⊥ old status new cut text ⊎ ((ended : FollowEnd) × (status ≡ follow_status ended) × Follows old input ended new cut text)

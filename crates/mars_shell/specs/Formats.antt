@@ -63,18 +63,14 @@ pub record IsBegun (asked : FormatNumbers) (old new : View) : Type 0 where
   pub cells : SameCells shape old.content.bytes new.content.bytes
   pub since : (image : List ℕ) → new.left_since old.moment image → IsHalfFresh shape old.content image
 
--- the data is a sound tree without records
-pub record HasNone (bytes : List ℕ) : Type 0 where
-  pub sound : tree.sound bytes
-  pub none : table_of tree bytes ≡ empty
-
--- The medium holds a fresh array without records, and what a loss of power leaves opens with its data. The line of the bytes of the medium
+-- The medium holds a fresh array, whose data is a sound tree without records, and what a loss of power leaves opens with its data. The line of the bytes of the medium
 -- and of the data is written, or a front of it if it was cut short.
 pub record IsFormatted (asked : FormatNumbers) (old new : View) (cut : Bool) (text : List ℕ) : Type 0 where
   pub begun : IsBegun asked old new
   pub fresh : IsFresh begun.shape new.content
   pub opens : (image : List ℕ) → MayLeave new.content image → Opens begun.shape image (data_of begun.shape new.content.bytes)
-  pub records : HasNone (data_of begun.shape new.content.bytes)
+  pub sound : tree.sound (data_of begun.shape new.content.bytes)
+  pub none : table_of tree (data_of begun.shape new.content.bytes) ≡ empty
   pub wrote : IsWritten cut text (codes "formatted " ++ (decimal (media_len begun.shape) ++ 32 ∷ (decimal (data_len begun.shape) ++ 10 ∷ [])))
 
 -- what was written and done, by the status

@@ -13,10 +13,10 @@ use Rattle.history.specs.declared.call.Reply.TheVariants.{Committed}
 use Rattle.caller_steps.specs.State.{State}
 use Rattle.caller_steps.specs.Room.{Limits}
 use Rattle.caller_steps.specs.Run.{Turn}
+use Rattle.caller_steps.specs.Step.{Runs}
 use Rattle.texts.specs.Written.{IsWritten}
 use Rattle.script_text.specs.Replies.{reply_line}
 use Rattle.script_run.specs.Lines.{lines_of}
-use Rattle.script_run.specs.Script.{Script}
 use Rattle.script_run.specs.Transcript.{Answered}
 use Rattle.script_run.specs.declared.ended.Ended.{Ended}
 use Rattle.script_run.specs.declared.ended.Ended.TheVariants.{All as Done, WriteFault, NoMemory}
@@ -24,32 +24,23 @@ use Rattle.frame_lines.specs.Framed.{Framed, framed, lines_of_frames}
 use Rattle.array_runs.specs.Forms.{index_in}
 use Rattle.array_runs.specs.Records.{begun_on}
 use Rattle.mars_shell.specs.Run.{TakesTurns, Answers}
-use Rattle.mars_shell.specs.Standing.{Progress, HasData, line_script}
+use Rattle.mars_shell.specs.Lines.{call_script}
 
--- How the lines act: the frames that a call sends are written before its reply. All frames up to a whole reply, applied in order to the data
--- that was opened, give the data of a state to which the turns so far lead.
-abbrev pub framed_lines : Script (Framed Progress)
-framed_lines = framed HasData line_script
-
--- no caller has had a turn, and the opening has sent these frames from the data that was opened on
-abbrev pub framed_start : Limits → Shape → List ℕ → State → List Frame → Framed Progress
-framed_start limits shape opened begun sent = record {
-  inner = record { start = record { limits = limits; state = begun }; turns = []; state = begun };
-  shape = shape;
-  opened = opened;
-  frames = sent;
-}
+-- the turns lead from a first state to one with this data
+abbrev pub LeadTo : Limits → State → List Turn → List ℕ → Type 0
+LeadTo limits begun turns bytes = (state : State) × Runs limits begun turns state × (state.index.bytes ≡ bytes)
 
 -- The lines of the frames that the opening has sent were written, and then the lines of the input were answered, each with its frames. What
 -- was acknowledged as committed is kept: the history has at least n transactions if an answer is the whole line `c committed n` behind lines
--- of frames. If all are answered, the frames give the data at the end.
-pub record AnswersFramed (first : Framed Progress) (input : List ℕ) (ended : Ended) (cut : Bool) (text : List ℕ) (turns : List Turn) (final : State) : Type 0 where
+-- of frames. All frames up to a whole reply, applied in order to the data that was opened, give the data of a state to which the turns so far
+-- lead. If all lines are answered, that is the data at the end.
+pub record AnswersFramed (limits : Limits) (begun : State) (first : Framed (List Turn)) (input : List ℕ) (ended : Ended) (cut : Bool) (text : List ℕ) (turns : List Turn) (final : State) : Type 0 where
   pub answers : List (List ℕ)
   pub rest : List ℕ
   pub text_is : text ≡ lines_of_frames first.frames ++ (concat answers ++ rest)
-  pub last : Framed Progress
-  pub answered : Answered framed_lines first 1 (lines_of input) ended cut answers rest last
-  pub turns_are : last.inner.turns ≡ turns
+  pub last : Framed (List Turn)
+  pub answered : Answered (framed (LeadTo limits begun) (call_script limits.callers)) first 1 (lines_of input) ended cut answers rest last
+  pub turns_are : last.inner ≡ turns
   pub acknowledged : (frames : List Frame) (caller n : ℕ) → caller < 2 ^ 64 → n < 2 ^ 64 → Contains answers (lines_of_frames frames ++ reply_line caller (Committed n)) → n ≤ length final.history
   pub whole : ended ≡ Done → final.index.bytes ≡ followed last.frames last.opened
 
@@ -60,7 +51,7 @@ pub record SendsFirst (limits : Limits) (shape : Shape) (opened : List ℕ) (beg
   pub good : All (IsFrameIn shape) sent
   pub sequence : AreInSequence 1 sent
   pub brought : begun.index.bytes ≡ followed sent opened
-  pub wrote : AnswersFramed (framed_start limits shape opened begun sent) input ended cut text turns final
+  pub wrote : AnswersFramed limits begun (record { inner = []; shape = shape; opened = opened; frames = sent }) input ended cut text turns final
       ⊎ ((turns ≡ []) × (ended ≡ WriteFault) × (cut ≡ true) × IsWritten true text (lines_of_frames sent))
 
 -- that, or there was no memory to send the frames of the opening, or to write them
@@ -70,16 +61,16 @@ SaysFramed shape opened begun input ended cut text limits turns final =
 
 -- the same over the data of a store, under an index
 abbrev pub says_framed : Index → StoreView → List ℕ → Bool → List ℕ → Ended → Limits → List Turn → State → Type 0
-says_framed index store input cut text ended = SaysFramed store.shape store.state.bytes (begun_on false index store.state.bytes) input ended cut text
+says_framed index store input cut text ended = SaysFramed store.shape store.state.bytes (begun_on index store.state.bytes) input ended cut text
 
 -- callers took turns over the array's records, and the text is their replies with the frames
 pub record TakesFramed (late : Bool) (input : List ℕ) (cut : Bool) (text : List ℕ) (old : View) (ended : Ended) (new : View) : Type 0 where
   pub shape : Shape
   pub array : IsArray shape old
-  pub taken : TakesTurns false late
-      (SaysFramed shape (settled_data shape old.content.bytes) (begun_on false (index_in shape old) (settled_data shape old.content.bytes)) input ended cut text) old ended new
+  pub taken : TakesTurns late
+      (SaysFramed shape (settled_data shape old.content.bytes) (begun_on (index_in shape old) (settled_data shape old.content.bytes)) input ended cut text) old ended new
 
 -- with frames or without
 abbrev pub RunsAs : (frames late : Bool) → List ℕ → Bool → List ℕ → View → Ended → View → Type 0
 RunsAs true late input cut text old ended new = TakesFramed late input cut text old ended new
-RunsAs false late input cut text old ended new = TakesTurns false late (Answers input ended cut text) old ended new
+RunsAs false late input cut text old ended new = TakesTurns late (Answers input ended cut text) old ended new

@@ -1,6 +1,6 @@
 -- What comes of a script whose callers work on threads.
 use Rattle.std.specs.Prelude.{ℕ, ◌≡◌, ◌≢◌, ◌≤◌, ◌<◌, ◌↔◌, List, ◌++◌, length, Bool, false, IsTrue, Option, None}
-use Rattle.std.specs.List.{flat_map}
+use Rattle.std.specs.List.{flat_map, AllZip}
 use Rattle.std.specs.FinMap.{entries}
 use Rattle.history.specs.Legal.{records}
 use Rattle.history.specs.declared.call.Reply.{Reply}
@@ -8,7 +8,7 @@ use Rattle.caller_steps.specs.State.{State}
 use Rattle.caller_steps.specs.Room.{Limits}
 use Rattle.caller_steps.specs.Run.{Turn, AreOf, turns_of}
 use Rattle.caller_plans.specs.declared.fate.Fate.{Fate}
-use Rattle.caller_plans.specs.Plans.{planned, calls_by, AllSay, faults_from}
+use Rattle.caller_plans.specs.Plans.{planned, calls_by, faults_from}
 use Rattle.caller_work.specs.declared.tries.Tries.TheVariants.{Times}
 use Rattle.caller_work.specs.Tries.{IsWorkOf}
 use Rattle.caller_work.specs.Asked.{HaveCauses}
@@ -16,9 +16,10 @@ use Rattle.caller_work.specs.Worked.{of_caller}
 use Rattle.history_text.specs.Text.{done_lines, work_text}
 use Rattle.script_run.specs.Lines.{lines_of}
 use Rattle.texts.specs.MediaFault.{media_line}
+use Rattle.script_text.specs.JointLine.{JointLineSays}
 use Rattle.script_text.specs.declared.joint_line.JointLine.{JointLine}
 use Rattle.caller_plans.specs.Asks.{keys_from}
-use Rattle.reader_work.specs.Answers.{AllAnswer}
+use Rattle.reader_work.specs.Answers.{AreAnswers}
 use Rattle.reader_work.specs.Readership.{passes_for}
 use Rattle.reader_work.specs.declared.answer.Answer.{Answer}
 use Rattle.script_run.specs.declared.ended.Ended.{Ended}
@@ -34,7 +35,7 @@ use Rattle.mars_shell.specs.Told.{TellsEnd}
 pub record JointWork (callers readers tries : ℕ) (input : List ℕ) (ended : Ended) (cut : Bool) (text : List ℕ) (limits : Limits) (turns : List Turn) (final : State) : Type 0 where
   pub enough : passes_for callers readers ≤ limits.callers
   pub said : List JointLine
-  pub says : AllSay callers readers (lines_of input) said
+  pub says : AllZip (JointLineSays callers readers) (lines_of input) said
   pub whose : AreOf callers turns
   pub fates : List (List Fate)
   pub each : length fates ≡ callers
@@ -43,6 +44,6 @@ pub record JointWork (callers readers tries : ℕ) (input : List ℕ) (ended : E
   pub causes : (caller : ℕ) (within : caller < callers) → HaveCauses callers final.names (λ other. planned None (calls_by other said)) caller (works caller within).1.0
   pub fault : (ended ≡ MediaFault) ↔ IsTrue final.is_dead
   pub told : List (List Answer)
-  pub answered : ended ≢ MediaFault → ended ≢ NoMemory → AllAnswer final.names final.base final.history (keys_from 0 readers said) told
+  pub answered : ended ≢ MediaFault → ended ≢ NoMemory → AllZip (AreAnswers final.names final.base final.history 0) (keys_from 0 readers said) told
   pub tells : TellsEnd ended cut text (work_text (faults_from 1 (λ caller. false) said) final.history fates (entries (records final.base final.history)) told)
       (flat_map done_lines final.history ++ media_line)

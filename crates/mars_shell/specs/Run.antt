@@ -6,6 +6,7 @@ use Rattle.array_shape.specs.declared.shape.Shape.{Shape}
 use Rattle.array_image.specs.Decided.{settled_data}
 use Rattle.device_recovery.specs.Recovered.{HasNoVote}
 use Rattle.record_table.specs.Shown.{table_of}
+use Rattle.record_table.specs.Upgrading.{upgraded}
 use Rattle.history.specs.Legal.{IsLegal}
 use Rattle.history.specs.declared.call.Reply.TheVariants.{Committed}
 use Rattle.caller_steps.specs.State.{State}
@@ -19,28 +20,28 @@ use Rattle.script_run.specs.declared.ended.Ended.{Ended}
 use Rattle.script_run.specs.declared.ended.Ended.TheVariants.{MediaFault}
 use Rattle.script_text.specs.Replies.{reply_line}
 use Rattle.array_runs.specs.Forms.{index_in}
-use Rattle.array_runs.specs.Records.{HasAll, HoldsRecords, begun_on, worked_on}
+use Rattle.array_runs.specs.Records.{HasAll, HoldsRecords, begun_on}
 use Rattle.mars_shell.specs.Lines.{call_script}
 use Rattle.mars_shell.specs.PrefixLaw.{PrefixLaw}
 
 -- Callers took turns over an array whose records are sound: there is a run of steps from the state that was opened to the last one. Says
 -- tells, of the limits of the array, the turns and the last state, what was written. The history, also with what is in doubt, is legal on
 -- the base and obeys the prefix law. Unless the medium failed, the data that the array settles to at the end has exactly the records of the
--- history, and if no turn asked to write or to remove a record, it is byte for byte what was opened, in version 2 unless it is spared. Then also no row is voted, except that
--- on a late device commits may wait for their write-back.
-pub record TakesTurns (spares late : Bool) (Says : Limits → List Turn → State → Type 0) (old : View) (ended : Ended) (new : View) : Type 0 where
+-- history, and if no turn asked to write or to remove a record, it is byte for byte what was opened, in version 2. Then also no row is voted,
+-- except that on a late device commits may wait for their write-back.
+pub record TakesTurns (late : Bool) (Says : Limits → List Turn → State → Type 0) (old : View) (ended : Ended) (new : View) : Type 0 where
   pub shape : Shape
   pub holds : HoldsRecords shape old
   pub turns : List Turn
   pub final : State
-  pub runs : Runs (limits_of (index_in shape old) shape) (begun_on spares (index_in shape old) (settled_data shape old.content.bytes)) turns final
+  pub runs : Runs (limits_of (index_in shape old) shape) (begun_on (index_in shape old) (settled_data shape old.content.bytes)) turns final
   pub says : Says (limits_of (index_in shape old) shape) turns final
   pub base : final.base ≡ table_of (index_in shape old) (settled_data shape old.content.bytes)
   pub legal : IsLegal final.base (final.history ++ final.doubt)
   pub prefix_law : PrefixLaw shape old final new
   pub quiet : ended ≢ MediaFault → IsFalse late → HasNoVote shape new.content.bytes
   pub left : ended ≢ MediaFault → HasAll (index_in shape new) (settled_data shape new.content.bytes) final
-  pub unwritten : ended ≢ MediaFault → IsFalse (has_write turns) → settled_data shape new.content.bytes ≡ worked_on spares (settled_data shape old.content.bytes)
+  pub unwritten : ended ≢ MediaFault → IsFalse (has_write turns) → settled_data shape new.content.bytes ≡ upgraded (settled_data shape old.content.bytes)
 
 -- The lines of the input were answered one by one, each call of a caller by the reply of its turn. What was acknowledged as committed is
 -- kept: the history has at least n transactions if an answer is the whole line `c committed n`.

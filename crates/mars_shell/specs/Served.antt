@@ -1,5 +1,5 @@
 -- What is done over a store whose records are read first.
-use Rattle.std.specs.Prelude.{ℕ, ◌≡◌, ◌≢◌, List, ◌++◌, length, Bool, IsFalse, Result, Ok, Err}
+use Rattle.std.specs.Prelude.{ℕ, ◌≡◌, ◌≢◌, List, ◌++◌, length, Bool, false, IsFalse, Result, Ok, Err}
 use Rattle.mars_base.specs.Causes.{Rose}
 use Rattle.array_shape.specs.declared.shape.Shape.{Shape}
 use Rattle.eaw_face.specs.Causes.{IsAlive}
@@ -7,6 +7,7 @@ use Rattle.eaw_face.specs.StoreView.{StoreView, LeavesOnly}
 use Rattle.page_store.specs.Index.{Index}
 use Rattle.record_table.specs.Does.{OpensWith}
 use Rattle.record_table.specs.Shown.{table_of}
+use Rattle.record_table.specs.Upgrading.{upgraded}
 use Rattle.history.specs.Legal.{IsLegal}
 use Rattle.caller_steps.specs.State.{State}
 use Rattle.caller_steps.specs.Room.{Limits}
@@ -20,7 +21,7 @@ use Rattle.script_run.specs.Counts.{Counts}
 use Rattle.script_run.specs.declared.ended.Ended.{Ended}
 use Rattle.script_run.specs.declared.ended.Ended.TheVariants.{MediaFault}
 use Rattle.array_runs.specs.Untaken.{Untaken}
-use Rattle.array_runs.specs.Records.{worked_on, begun_on, HasAll}
+use Rattle.array_runs.specs.Records.{begun_on, HasAll}
 
 -- how images of an array of this shape open with records, under an index
 abbrev pub opens_of : (Shape → List ℕ → List ℕ → Type 0) → Shape → Index → State → ℕ → List ℕ → Type 0
@@ -28,24 +29,24 @@ opens_of Opens shape index final least image = HasPrefixOf (OpensWith (Opens sha
 
 -- Callers took turns over the records of the store's data, which are sound under an index. This is what is said of a run, in terms of the
 -- store.
-pub record Served (spares : Bool) (Says : Limits → List Turn → State → Type 0) (Opens : Shape → List ℕ → List ℕ → Type 0) (index : Index) (old : StoreView) (ended : Ended) (new : StoreView) : Type 0 where
+pub record Served (Says : Limits → List Turn → State → Type 0) (Opens : Shape → List ℕ → List ℕ → Type 0) (index : Index) (old : StoreView) (ended : Ended) (new : StoreView) : Type 0 where
   pub sound : index.sound old.state.bytes
   pub shape : new.shape ≡ old.shape
   pub turns : List Turn
   pub final : State
-  pub runs : Runs (limits_of index old.shape) (begun_on spares index old.state.bytes) turns final
+  pub runs : Runs (limits_of index old.shape) (begun_on index old.state.bytes) turns final
   pub says : Says (limits_of index old.shape) turns final
   pub base : final.base ≡ table_of index old.state.bytes
   pub legal : IsLegal final.base (final.history ++ final.doubt)
   pub since : LeavesOnly (opens_of Opens old.shape index final 0) old new
   pub now : (image : List ℕ) → new.left_since new.moment image → opens_of Opens old.shape index final (length final.history) image
   pub left : ended ≢ MediaFault → IsAlive new × HasAll index new.state.bytes final
-  pub unwritten : ended ≢ MediaFault → IsFalse (has_write turns) → new.state.bytes ≡ worked_on spares old.state.bytes
+  pub unwritten : ended ≢ MediaFault → IsFalse (has_write turns) → new.state.bytes ≡ upgraded old.state.bytes
 
 -- that, or the records were not taken
-abbrev pub Serves : Bool → (Ended → Limits → List Turn → State → Type 0) → (Shape → List ℕ → List ℕ → Type 0) → Index → StoreView → Result Ended CoreFault → Bool → List ℕ → StoreView → Type 0
-Serves spares Says Opens index old (Ok ended) cut text new = Served spares (Says ended) Opens index old ended new
-Serves spares Says Opens index old (Err fault) cut text new = Untaken spares Opens index old fault cut text new
+abbrev pub Serves : (Ended → Limits → List Turn → State → Type 0) → (Shape → List ℕ → List ℕ → Type 0) → Index → StoreView → Result Ended CoreFault → Bool → List ℕ → StoreView → Type 0
+Serves Says Opens index old (Ok ended) cut text new = Served (Says ended) Opens index old ended new
+Serves Says Opens index old (Err fault) cut text new = Untaken false Opens index old fault cut text new
 
 -- the counts of faults of the sink and of the medium
 abbrev pub ServedCounts : Result Ended CoreFault → ℕ → ℕ → ℕ → ℕ → Type 0

@@ -1,5 +1,7 @@
 -- The state that callers' turns over a core stand in, and how it goes on.
-use Rattle.std.specs.Prelude.{ℕ, ◌≡◌, List, ◌++◌, false, length}
+use Rattle.std.specs.Prelude.{ℕ, ◌≡◌, List, [], ◌++◌, false, length}
+use Rattle.array_shape.specs.declared.shape.Shape.{Shape}
+use Rattle.eaw_face.specs.Frame.{Frame}
 use Rattle.caller_steps.specs.State.{State}
 use Rattle.caller_steps.specs.Room.{Limits}
 use Rattle.caller_steps.specs.Core.{CoreView, IsSafe, Continues}
@@ -8,6 +10,7 @@ use Rattle.caller_steps.specs.Sound.{IsSound}
 use Rattle.caller_steps.specs.Step.{Runs}
 use Rattle.history.specs.declared.call.Reply.TheVariants.{Media}
 use Rattle.script_run.specs.Script.{Script}
+use Rattle.frame_lines.specs.Framed.{Framed, framed}
 use Rattle.mars_shell.specs.Lines.{LineGives, LineMeets, LineStops}
 
 -- the limits of a core, and its state before the first line
@@ -37,6 +40,23 @@ line_script = record {
   breaks = λ old bytes caller new. (new.start ≡ old.start) × LineMeets (callers_of old) Media old.turns bytes caller new.turns;
   stops = λ old n bytes new. (new.start ≡ old.start) × LineStops (callers_of old) old.turns n bytes new.turns;
 }
+
+-- the same, with the frames that a call sends before its reply
+abbrev pub framed_lines : Script (Framed Progress)
+framed_lines = framed HasData line_script
+
+-- no caller has had a turn, and the opening has sent these frames from the data that was opened on
+abbrev pub framed_start : Limits → Shape → List ℕ → State → List Frame → Framed Progress
+framed_start limits shape opened begun sent = record {
+  inner = record { start = record { limits = limits; state = begun }; turns = []; state = begun };
+  shape = shape;
+  opened = opened;
+  frames = sent;
+}
+
+-- what was written with frames, and the turns alone of what they act on
+abbrev pub turns_in : Framed Progress → Framed (List Turn)
+turns_in framed = record { inner = framed.inner.turns; shape = framed.shape; opened = framed.opened; frames = framed.frames }
 
 -- the core can answer a further line
 pub record IsReady (callers : ℕ) (core : CoreView) : Type 0 where

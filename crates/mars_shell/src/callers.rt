@@ -107,7 +107,7 @@ fn run_callers_on<
     ensures input { IsTrue S.tells → InputSays result.0 (S.left source.old) (S.left source.new) }
     ensures ran { Wrote K.tells (K.written sink.old) (K.written sink.new) (K.faults sink.old) (K.faults sink.new)
         (λ cut text. (input : List ℕ) × (IsTrue S.tells → S.left source.old ≡ input) × (IsTrue M.tells → OverRecords false (passes_for crew.now.numbers.callers crew.now.numbers.readers)
-        (λ ended. TakesTurns false B.defers (JointWork crew.now.numbers.callers crew.now.numbers.readers crew.now.numbers.tries input ended cut text) (M.view media) ended (M.view result.1))
+        (λ ended. TakesTurns B.defers (JointWork crew.now.numbers.callers crew.now.numbers.readers crew.now.numbers.tries input ended cut text) (M.view media) ended (M.view result.1))
         (M.view media) result.0 (M.view result.1) cut text)) }
 {
     let passes = passes_for(crew.numbers.callers, crew.numbers.readers);
@@ -137,7 +137,7 @@ fn serve_jointly<R: Threads + Wait + Sync, K: Sink, S: EawStore + Drop + Send, G
     requires readers { crew.now.numbers.readers ≤ 8 }
     requires tries { 1 ≤ crew.now.numbers.tries }
     ensures served { Wrote K.tells (K.written sink.old) (K.written sink.new) (K.faults sink.old) (K.faults sink.new)
-        (λ cut text. IsTrue S.tells → Serves false (λ ended. JointWork crew.now.numbers.callers crew.now.numbers.readers crew.now.numbers.tries input.now ended cut text) S.opens (index_at (S.view store).state.bytes) (S.view store)
+        (λ cut text. IsTrue S.tells → Serves (λ ended. JointWork crew.now.numbers.callers crew.now.numbers.readers crew.now.numbers.tries input.now ended cut text) S.opens (index_at (S.view store).state.bytes) (S.view store)
         result.0 cut text (S.view result.1)) }
     ensures untold { IfErr result.0 (λ fault. sink.new ≡ sink.old) }
     ensures counts { ServedCounts result.0 (K.faults sink.old) (K.faults sink.new) (S.view store).faults (S.view result.1).faults }
@@ -177,7 +177,7 @@ fn work_under<
     requires readers { crew.now.numbers.readers ≤ 8 }
     requires tries { 1 ≤ crew.now.numbers.tries }
     ensures served { Wrote K.tells (K.written sink.old) (K.written sink.new) (K.faults sink.old) (K.faults sink.new)
-        (λ cut text. IsTrue S.tells → Serves false (λ ended. JointWork crew.now.numbers.callers crew.now.numbers.readers crew.now.numbers.tries input.now ended cut text) S.opens I.index (S.view store) result.0 cut text (S.view result.1)) }
+        (λ cut text. IsTrue S.tells → Serves (λ ended. JointWork crew.now.numbers.callers crew.now.numbers.readers crew.now.numbers.tries input.now ended cut text) S.opens I.index (S.view store) result.0 cut text (S.view result.1)) }
     ensures untold { IfErr result.0 (λ fault. sink.new ≡ sink.old) }
     ensures counts { ServedCounts result.0 (K.faults sink.old) (K.faults sink.new) (S.view store).faults (S.view result.1).faults }
 {

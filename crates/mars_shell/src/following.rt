@@ -1,7 +1,9 @@
 // A run of lines that say frames.
 ghost use Rattle.std.specs.Prelude.{◌≡◌, ◌⊎◌, ℕ, List, IsTrue};
 ghost use Rattle.texts.specs.Written.{Wrote};
-ghost use Rattle.mars_shell.specs.Follow.{FollowOutcome, follow_status};
+ghost use Rattle.command_words.specs.declared.words.Words.TheVariants.{Follow};
+ghost use Rattle.mars_shell.specs.Asked.{OutcomeFor};
+ghost use Rattle.mars_shell.specs.Follow.{follow_status};
 ghost use Rattle.array_runs.specs.Input.{InputSays};
 ghost use Rattle.array_runs.specs.Statuses.{Counts, IsEarly, IsRefusal};
 
@@ -26,7 +28,7 @@ pub(crate) fn run_follow<S: Source, K: Sink, M: Media>(
     ensures steady { IsTrue (S.steady source.old) → result.0 ≡ Status.ReadFault → ⊥ }
     ensures input { IsTrue S.tells → InputSays result.0 (S.left source.old) (S.left source.new) }
     ensures ran { Wrote K.tells (K.written sink.old) (K.written sink.new) (K.faults sink.old) (K.faults sink.new)
-        (λ cut text. (input : List ℕ) × (IsTrue S.tells → S.left source.old ≡ input) × (IsTrue M.tells → FollowOutcome (M.view media) result.0 (M.view result.1) input cut text)) }
+        (λ cut text. (input : List ℕ) × (IsTrue S.tells → S.left source.old ≡ input) × (IsTrue M.tells → OutcomeFor Follow (M.view media) result.0 (M.view result.1) input cut text)) }
 {
     let (input, store) = match open(alloc, true, source, media, AtOnce) {
         Ok(opened) => opened,

@@ -98,7 +98,7 @@ fn serve_framed<K: Sink, S: EawStore + Drop + Send>(
     requires alive { IsAlive (S.view store) }
     requires free { (t : ℕ) → (S.view store).ranges t ≡ None }
     ensures served { Wrote K.tells (K.written sink.old) (K.written sink.new) (K.faults sink.old) (K.faults sink.new)
-        (λ cut text. IsTrue S.tells → Serves false (says_framed (index_at (S.view store).state.bytes) (S.view store) input.now cut text) S.opens (index_at (S.view store).state.bytes) (S.view store)
+        (λ cut text. IsTrue S.tells → Serves (says_framed (index_at (S.view store).state.bytes) (S.view store) input.now cut text) S.opens (index_at (S.view store).state.bytes) (S.view store)
         result.0 cut text (S.view result.1)) }
     ensures untold { IfErr result.0 (λ fault. sink.new ≡ sink.old) }
     ensures counts { ServedCounts result.0 (K.faults sink.old) (K.faults sink.new) (S.view store).faults (S.view result.1).faults }
@@ -122,7 +122,7 @@ fn work_framed<K: Sink, S: EawStore + Drop + Send, I: KeyIndex + Send>(
     requires alive { IsAlive (S.view store) }
     requires free { (t : ℕ) → (S.view store).ranges t ≡ None }
     ensures served { Wrote K.tells (K.written sink.old) (K.written sink.new) (K.faults sink.old) (K.faults sink.new)
-        (λ cut text. IsTrue S.tells → Serves false (says_framed I.index (S.view store) input.now cut text) S.opens I.index (S.view store) result.0 cut text (S.view result.1)) }
+        (λ cut text. IsTrue S.tells → Serves (says_framed I.index (S.view store) input.now cut text) S.opens I.index (S.view store) result.0 cut text (S.view result.1)) }
     ensures untold { IfErr result.0 (λ fault. sink.new ≡ sink.old) }
     ensures counts { ServedCounts result.0 (K.faults sink.old) (K.faults sink.new) (S.view store).faults (S.view result.1).faults }
 {

@@ -7,7 +7,7 @@
 //! `core_work.rt`, and `records.rt` goes from the opening to the status.
 //!
 //! The laws in `laws.rt`: what a run leaves is what the next one needs (`runs_compose`), and what the fates of callers say of the history
-//! (`what_callers_are_told`).
+//! (`what_callers_are_told`). The one in `images.rt` says what images hold without their bytes (`what_images_hold`).
 #![tactic(auto)]
 
 mod callers;
@@ -18,6 +18,7 @@ mod final_rows;
 mod following;
 mod formatting;
 mod framed_run;
+mod images;
 mod joint;
 mod laws;
 mod lines;
@@ -34,6 +35,7 @@ mod whole;
 pub use array_runs::{Refusal, Status, fault_text};
 pub use caller_plans::Fate;
 pub use caller_work::{Gate, OpenGate, Place, Stop, Worker, caller_work};
+pub use images::what_images_hold;
 pub use laws::{runs_compose, what_callers_are_told};
 pub use media_room::room;
 pub use whole::run;

@@ -42,7 +42,7 @@ pub trait RecordWork {
         requires alive { IsAlive (S.view store) }
         requires free { (t : ℕ) → (S.view store).ranges t ≡ None }
         ensures served { Wrote K.tells (K.written sink.old) (K.written sink.new) (K.faults sink.old) (K.faults sink.new)
-            (λ cut text. IsTrue S.tells → Serves false (λ ended. does self.now input.now ended cut text) S.opens I.index (S.view store) result.0 cut text (S.view result.1)) }
+            (λ cut text. IsTrue S.tells → Serves (λ ended. does self.now input.now ended cut text) S.opens I.index (S.view store) result.0 cut text (S.view result.1)) }
         ensures untold { IfErr result.0 (λ fault. sink.new ≡ sink.old) }
         ensures counts { ServedCounts result.0 (K.faults sink.old) (K.faults sink.new) (S.view store).faults (S.view result.1).faults };
 }

@@ -46,7 +46,7 @@ pub fn over_records<S: Source, K: Sink, M: Media + Drop + Send, W: RecordWork>(
     ensures unread { IsFalse W.reads → source.new ≡ source.old }
     ensures ran { Wrote K.tells (K.written sink.old) (K.written sink.new) (K.faults sink.old) (K.faults sink.new)
         (λ cut text. (input : List ℕ) × (IsTrue W.reads → IsTrue S.tells → S.left source.old ≡ input) × (IsTrue M.tells → OverRecords false 0
-        (λ ended. TakesTurns false (is_late writing) (W.does work.now input ended cut text) (M.view media) ended (M.view result.1))
+        (λ ended. TakesTurns (is_late writing) (W.does work.now input ended cut text) (M.view media) ended (M.view result.1))
         (M.view media) result.0 (M.view result.1) cut text)) }
 {
     match writing {
@@ -76,7 +76,7 @@ fn over_records_on<S: Source, K: Sink, M: Media + Drop + Send, B: WriteBack + Se
     ensures unread { IsFalse W.reads → source.new ≡ source.old }
     ensures ran { Wrote K.tells (K.written sink.old) (K.written sink.new) (K.faults sink.old) (K.faults sink.new)
         (λ cut text. (input : List ℕ) × (IsTrue W.reads → IsTrue S.tells → S.left source.old ≡ input) × (IsTrue M.tells → OverRecords false 0
-        (λ ended. TakesTurns false B.defers (W.does work.now input ended cut text) (M.view media) ended (M.view result.1))
+        (λ ended. TakesTurns B.defers (W.does work.now input ended cut text) (M.view media) ended (M.view result.1))
         (M.view media) result.0 (M.view result.1) cut text)) }
 {
     let (room, input, store) = match open_for(alloc, work.reads(), 0, source, media, write_back) {
@@ -101,7 +101,7 @@ fn serve<K: Sink, S: EawStore + Drop + Send, W: RecordWork>(
     requires alive { IsAlive (S.view store) }
     requires free { (t : ℕ) → (S.view store).ranges t ≡ None }
     ensures served { Wrote K.tells (K.written sink.old) (K.written sink.new) (K.faults sink.old) (K.faults sink.new)
-        (λ cut text. IsTrue S.tells → Serves false (λ ended. W.does work.now input.now ended cut text) S.opens (index_at (S.view store).state.bytes) (S.view store) result.0 cut text (S.view result.1)) }
+        (λ cut text. IsTrue S.tells → Serves (λ ended. W.does work.now input.now ended cut text) S.opens (index_at (S.view store).state.bytes) (S.view store) result.0 cut text (S.view result.1)) }
     ensures untold { IfErr result.0 (λ fault. sink.new ≡ sink.old) }
     ensures counts { ServedCounts result.0 (K.faults sink.old) (K.faults sink.new) (S.view store).faults (S.view result.1).faults }
 {

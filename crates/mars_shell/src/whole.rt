@@ -8,7 +8,7 @@ ghost use Rattle.command_words.specs.declared.words.Words.TheVariants.{Format};
 ghost use Rattle.mars_shell.specs.Asked.{WordsSay, IfReads, OutcomeFor, IsComplete, IsFit, TellsLate};
 ghost use Rattle.mars_shell.specs.Formats.{FormatSays};
 ghost use Rattle.array_runs.specs.Input.{InputSays};
-ghost use Rattle.array_runs.specs.Statuses.{Counts, IsEarly, IsRefusal};
+ghost use Rattle.array_runs.specs.Statuses.{Counts, IsSilent};
 
 use crate::callers::{Crew, run_callers};
 use crate::commands::run_commands;
@@ -47,7 +47,7 @@ pub fn run<
     // is answered and no array is made, nothing is written.
     ensures usage { AskForNothing (map string_bytes words.now) → (source.new ≡ source.old) × (sink.new ≡ sink.old) × (result.1 ≡ media) }
     ensures early { (result.0 ≡ Status.TooLong) ⊎ (result.0 ≡ Status.ReadFault) → result.1 ≡ media }
-    ensures silent { IsEarly result.0 ⊎ IsRefusal result.0 → sink.new ≡ sink.old }
+    ensures silent { IsSilent result.0 → sink.new ≡ sink.old }
     // A fault is reported as what it is, and none is hidden.
     ensures counts { Counts result.0 (S.faults source.old) (S.faults source.new) (K.faults sink.old) (K.faults sink.new) (M.view media).faults (M.view result.1).faults }
     ensures steady { IsTrue (S.steady source.old) → result.0 ≡ Status.ReadFault → ⊥ }

@@ -7,8 +7,8 @@ use Rattle.record_slots.specs.Text.{IsName, is_letter}
 use Rattle.history.specs.Key.{main_name}
 use Rattle.history.specs.declared.call.Call.{Call}
 use Rattle.history.specs.declared.call.Call.TheVariants.{Begin, Get, Put, Del, Scan, Save, Back, Commit, Abort, Offer, Settle, Purge}
-use Rattle.script_text.specs.Line.{asked_table, AreWordsOf, IsTextFor, IsCallText}
-use Rattle.script_text.specs.Named.{IsAsking, IsBehindName}
+use Rattle.script_text.specs.Line.{IsNamed, IsCallText}
+use Rattle.script_text.specs.Named.{asked_table, AreWordsOf, IsTextFor, HasParts, IsAsking, IsBehindName}
 use Rattle.script_text.specs.Reads.{ReadsText, IsWord}
 use Rattle.script_text.proofs.Words.{no_space, first_space}
 
@@ -47,7 +47,7 @@ main_is_name : IsName main_name
 main_is_name = record { some = omega arith; short = omega arith; letters = refl }
 
 -- behind the sign a name is read
-pub named_text : (bytes rest : List ℕ) (result : Option Call) → bytes ≡ 64 ∷ rest → ReadsText IsBehindName rest result → ReadsText IsCallText bytes result
+pub named_text : (bytes rest : List ℕ) (result : Option Call) → bytes ≡ 64 ∷ rest → ReadsText IsBehindName rest result → ReadsText HasParts bytes result
 named_text bytes rest None at none = λ call is. go call (asked_table call) refl is
   where
     go : (call : Call) (asked : Option (List ℕ)) → asked_table call ≡ asked → IsTextFor asked (AreWordsOf call) bytes → ⊥
@@ -58,12 +58,12 @@ named_text bytes rest (Some call) at (name, words, proper, text, (asks, said)) =
     subst (λ (o : Option (List ℕ)). IsTextFor o (AreWordsOf call) bytes) (sym asks) (proper, inl (words, at ∙ ap (λ (l : List ℕ). 64 ∷ l) text, said))
 
 -- a call that asks for no table
-pub plain_text : (bytes : List ℕ) (call : Call) → IsAsking None call bytes → IsCallText call bytes
+pub plain_text : (bytes : List ℕ) (call : Call) → IsAsking None call bytes → HasParts call bytes
 plain_text bytes call (asks, said) = subst (λ (o : Option (List ℕ)). IsTextFor o (AreWordsOf call) bytes) (sym asks) said
 
 -- without the sign the table is `main`
 pub main_text : (bytes table : List ℕ) (result : Option Call) → table ≡ main_name → ((rest : List ℕ) → bytes ≡ 64 ∷ rest → ⊥) → ((call : Call) → IsAsking None call bytes → ⊥)
-    → ReadsText (IsAsking (Some table)) bytes result → ReadsText IsCallText bytes result
+    → ReadsText (IsAsking (Some table)) bytes result → ReadsText HasParts bytes result
 main_text bytes table None main unsigned plain none = λ call is. go call (asked_table call) refl is
   where
     go : (call : Call) (asked : Option (List ℕ)) → asked_table call ≡ asked → IsTextFor asked (AreWordsOf call) bytes → ⊥
@@ -89,3 +89,49 @@ behind_name bytes name words table None word text proper same none = λ call (ot
     let both = first_space name other words more word (name_is_word other proper') (sym text ∙ is) in
     none call (asks ∙ ap Some (sym both.0 ∙ sym same), subst (AreWordsOf call) (sym both.1) said)
 behind_name bytes name words table (Some call) word text proper same (asks, said) = (name, words, proper, text, (asks ∙ ap Some same, said))
+
+-- ---- the text of a call is its parts
+
+named : (name words other : List ℕ) → words ≡ other → ◌≡◌ {A = List ℕ} (64 ∷ (name ++ 32 ∷ words)) (64 ∷ (name ++ 32 ∷ other))
+named name words other same = ap (λ (w : List ℕ). 64 ∷ (name ++ 32 ∷ w)) same
+
+pub joined : (call : Call) (text : List ℕ) → HasParts call text → IsCallText call text
+joined Begin text is = is
+joined (Get name key) text (proper, inl (words, at, (few, are))) = (few, (proper, inl (at ∙ named name words _ are)))
+joined (Get name key) text (proper, inr (main, (few, are))) = (few, (proper, inr (main, are)))
+joined (Put name key value) text (proper, inl (words, at, (few, more, are))) = (few, more, (proper, inl (at ∙ named name words _ are)))
+joined (Put name key value) text (proper, inr (main, (few, more, are))) = (few, more, (proper, inr (main, are)))
+joined (Del name key) text (proper, inl (words, at, (few, are))) = (few, (proper, inl (at ∙ named name words _ are)))
+joined (Del name key) text (proper, inr (main, (few, are))) = (few, (proper, inr (main, are)))
+joined (Scan name low high) text (proper, inl (words, at, (few, more, are))) = (few, more, (proper, inl (at ∙ named name words _ are)))
+joined (Scan name low high) text (proper, inr (main, (few, more, are))) = (few, more, (proper, inr (main, are)))
+joined Save text is = is
+joined (Back save) text is = is
+joined Commit text is = is
+joined Abort text is = is
+joined Offer text is = is
+joined Settle text is = is
+joined Purge text is = is
+
+pub parted : (call : Call) (text : List ℕ) → IsCallText call text → HasParts call text
+parted Begin text is = is
+parted (Get name key) text (few, (proper, inl at)) = (proper, inl (_, at, (few, refl)))
+parted (Get name key) text (few, (proper, inr (main, are))) = (proper, inr (main, (few, are)))
+parted (Put name key value) text (few, more, (proper, inl at)) = (proper, inl (_, at, (few, more, refl)))
+parted (Put name key value) text (few, more, (proper, inr (main, are))) = (proper, inr (main, (few, more, are)))
+parted (Del name key) text (few, (proper, inl at)) = (proper, inl (_, at, (few, refl)))
+parted (Del name key) text (few, (proper, inr (main, are))) = (proper, inr (main, (few, are)))
+parted (Scan name low high) text (few, more, (proper, inl at)) = (proper, inl (_, at, (few, more, refl)))
+parted (Scan name low high) text (few, more, (proper, inr (main, are))) = (proper, inr (main, (few, more, are)))
+parted Save text is = is
+parted (Back save) text is = is
+parted Commit text is = is
+parted Abort text is = is
+parted Offer text is = is
+parted Settle text is = is
+parted Purge text is = is
+
+-- what is read by its parts is read by its text
+pub read_joined : (bytes : List ℕ) (result : Option Call) → ReadsText HasParts bytes result → ReadsText IsCallText bytes result
+read_joined bytes None none = λ call is. none call (parted call bytes is)
+read_joined bytes (Some call) is = joined call bytes is

@@ -6,13 +6,14 @@ use Rattle.std.proofs.lemmas.Fmt.{decimal_injective, decimal_digit, decimal_none
 use Rattle.std.proofs.lemmas.List.{append_cancel_left, get_or_append_left, length-append}
 use Rattle.history.specs.declared.call.Call.{Call}
 use Rattle.history.specs.declared.call.Call.TheVariants.{Begin, Get, Put, Del, Scan, Save, Back, Commit, Abort, Offer, Settle, Purge}
-use Rattle.script_text.specs.Line.{asked_table, AreWordsOf, IsTextFor, IsCallText, IsLineOf, IsPassedOver, LineSays}
+use Rattle.script_text.specs.Line.{IsCallText, IsLineOf, IsPassedOver, LineSays}
+use Rattle.script_text.specs.Named.{asked_table, AreWordsOf, IsTextFor}
 use Rattle.script_text.specs.declared.line.Line.{Line}
 use Rattle.script_text.specs.declared.line.Line.TheVariants.{Nothing, Told, Bad}
 use Rattle.script_text.proofs.Words.{first_space}
 use Rattle.script_text.proofs.Numbers.{decimal_is_word}
 use Rattle.script_text.proofs.Fields.{same_long_fields}
-use Rattle.script_text.proofs.Naming.{no_sign, name_is_word, tail_is}
+use Rattle.script_text.proofs.Naming.{no_sign, name_is_word, tail_is, parted}
 use Rattle.std.proofs.lemmas.Bool.{false≢true}
 
 -- the first three letters of a text, added up
@@ -106,7 +107,7 @@ unlike : {X : Type 0} (call other : Call) (name text : List ℕ) → asked_table
 unlike call other name text none some is js = absurd (false≢true (sym (ap is_some none) ∙ same_kind call other text is js ∙ ap is_some some))
 
 same_call : (call other : Call) (text : List ℕ) → IsCallText call text → IsCallText other text → call ≡ other
-same_call call other text is js = go (asked_table call) (asked_table other) refl refl is js
+same_call call other text is js = go (asked_table call) (asked_table other) refl refl (parted call text is) (parted other text js)
   where
     go : (a b : Option (List ℕ)) → asked_table call ≡ a → asked_table other ≡ b → IsTextFor a (AreWordsOf call) text → IsTextFor b (AreWordsOf other) text → call ≡ other
     go None None e f is js = same_words call other text (e ∙ sym f) is js

@@ -1,6 +1,6 @@
 -- A purge of the records of an array that was opened.
 use Rattle.std.proofs.Common.{◌≡◌, ◌⊎◌, ◌≤◌, ◌||◌, inl, inr, ⊎_elim, ℕ, zero, suc, Bool, true, false, List, [], ◌++◌, Option, None, Result, Ok, Err, IfOk, IfErr, refl, sym, ap, subst, ◌∙◌, arith}
-use Rattle.std.specs.Prelude.{IsTrue, IsFalse, is_some, not, take, if◌then◌else◌}
+use Rattle.std.specs.Prelude.{codes, IsTrue, IsFalse, is_some, not, take, if◌then◌else◌}
 use Rattle.std.proofs.lemmas.Bool.{false≢true}
 use Rattle.mars_base.specs.Causes.{Rose}
 use Rattle.mars_base.proofs.Going as going
@@ -35,13 +35,14 @@ use Rattle.caller_steps.specs.Step as steps_of_callers
 use Rattle.mars_core.specs.Over.{IsOver, Begins, limits_of}
 use Rattle.mars_core.specs.declared.fault.CoreFault.{CoreFault}
 use Rattle.mars_core.specs.declared.fault.CoreFault.TheVariants as core
+use Rattle.history_text.specs.Text.{number_line}
 use Rattle.texts.specs.Written.{IsWritten}
 use Rattle.script_run.specs.declared.ended.Ended.{Ended}
 use Rattle.script_run.specs.declared.ended.Ended.TheVariants as script
 use Rattle.array_runs.specs.Forms.{index_of_form, index_at, SaysForm}
 use Rattle.array_runs.specs.Records.{HoldsRecords, IsDamaged, Exceeds, OverRecords, HasAll, begun_on}
-use Rattle.told_commands.specs.Purge.{ClearsTo, ClearsStore, ClearedCounts, IsAnswer, StopCause, cleared, HasRecords, Clears, PurgesRecords, PurgedBy, PurgeOutcome, purged_line, purged_end, LeavesPurged}
-use Rattle.told_commands.specs.Told.{Tells, FaultCounts, Ran}
+use Rattle.told_commands.specs.Purge.{ClearsTo, ClearsStore, ClearedCounts, IsAnswer, StopCause, cleared, HasRecords, PurgesRecords, PurgedBy, purged_end, LeavesPurged}
+use Rattle.told_commands.specs.Told.{WorksOn, Tells, FaultCounts, Ran}
 use Rattle.array_runs.specs.Statuses.{Counts, IsEarly, served_status}
 use Rattle.array_runs.specs.declared.status.Status.{Status}
 use Rattle.array_runs.specs.declared.status.Status.TheVariants.{Good, WriteFault, NoMemory}
@@ -171,11 +172,11 @@ module _ (tells : Bool) (Opens : Shape → List ℕ → List ℕ → Type 0) (in
   alive_after (says.Damaged page) dead is = tt
   alive_after _ dead is = absurd is
 
-  to_data : (told : IsTrue tells) (said : Reply) → new.is_dead ≡ is_media said → IsAnswer said → steps_of_callers.Clears (limits_of index old.shape) (begun_on false index old.state.bytes) said later.state
+  to_data : (told : IsTrue tells) (said : Reply) → new.is_dead ≡ is_media said → IsAnswer said → steps_of_callers.Clears (limits_of index old.shape) (begun_on index old.state.bytes) said later.state
       → IfOk (cleared said) (λ n. ClearsTo index old.shape old.state.bytes n new.state.bytes)
   to_data told (says.Purged n) dead is (inl (m, re, purges)) = record {
     final = later.state;
-    purged = subst (λ (k : ℕ). Purges (limits_of index old.shape) (begun_on false index old.state.bytes) k later.state) (sym (same_count n m re)) purges;
+    purged = subst (λ (k : ℕ). Purges (limits_of index old.shape) (begun_on index old.state.bytes) k later.state) (sym (same_count n m re)) purges;
     left = all told dead;
   }
   to_data told (says.Purged n) dead is (inr (re, other, e)) = absurd (cc)
@@ -225,6 +226,10 @@ clears_over tells Opens form old mid new says r clears = record {
 
 -- ---- in terms of the medium
 
+-- what comes of a purge
+abbrev pub PurgeOutcome : View → Status → View → Bool → List ℕ → Type 0
+PurgeOutcome old status new cut text = OverRecords false 0 (PurgedBy old new cut text) old status new cut text
+
 -- nothing was done
 pub as_purged : (old : View) (status : Status) (new : View) → OverRecords false 0 (λ ended. ⊥) old status new false [] → PurgeOutcome old status new false []
 as_purged old status new outcome = outcome_as false (λ ended. ⊥) (PurgedBy old new false []) (λ page. IsDamaged old page × (Exceeds 0 old → ⊥)) (HoldsArray old × (Exceeds 0 old → ⊥)) (Exceeds 0 old) old status new false []
@@ -244,7 +249,7 @@ module _ (tells : Bool) (told : IsTrue tells) (old : View) (only_now : (image : 
     has : (image : List ℕ) → OpensWith (Opens store.shape) (index_at store.state.bytes) image (table_of (index_at store.state.bytes) store.state.bytes) → HasRecords store.shape old image
     has image opens = own (λ b. OpensWith (Opens store.shape) (index_at b) image (table_of (index_at b) b)) opens
 
-    clear : Clears store.shape old new
+    clear : WorksOn store.shape (HasRecords store.shape old) old new
     clear = record {
       holds = holds tells told old only_now store attached keeps (clears.sound told);
       later = λ all. omega (arith, (keeps told store.shape all).later, (clears.time told).later, behind.moment);
@@ -254,26 +259,28 @@ module _ (tells : Bool) (told : IsTrue tells) (old : View) (only_now : (image : 
 
   -- the records were purged, and told in whole or in part
   purges : (n : ℕ) (clears : ClearsStore tells (Opens store.shape) (index_at store.state.bytes) store later (Ok n)) (ended : Ended) (cut : Bool) (text : List ℕ) → ended ≡ (if cut then script.WriteFault else script.All)
-      → IsWritten cut text (purged_line n) → PurgesRecords ended old new cut text
+      → IsWritten cut text (number_line (codes "purged") n) → PurgesRecords old new cut text ended
   purges n clears ended cut text end wrote =
       let to = clears.cleared told in
       let bytes : settled_data store.shape new.content.bytes ≡ later.state.bytes = ap (λ (s : Shape). settled_data s new.content.bytes) (sym clears.shape) ∙ behind.bytes told clears.alive in
       record {
         shape = store.shape;
-        clears = clear (Ok n) clears;
+        works = clear (Ok n) clears;
         count = n;
         final = to.final;
-        purged = own (λ b. Purges (limits_of (index_at b) store.shape) (begun_on false (index_at b) b) n to.final) to.purged;
+        purged = own (λ b. Purges (limits_of (index_at b) store.shape) (begun_on (index_at b) b) n to.final) to.purged;
         left = subst (λ (b : List ℕ). HasAll (index_at b) b to.final) (sym bytes)
             (subst (λ (i : Index). HasAll i later.state.bytes to.final) (sym (sound_says store.state.bytes later.state.bytes to.left.sound)) to.left);
-        now = λ image left. has (Ok n) clears image (clears.now told image (left_now image left));
-        quiet = subst (λ (s : Shape). HasNoVote s new.content.bytes) clears.shape (behind.quiet told clears.alive refl);
-        end = end;
-        told = wrote;
+        finishes = record {
+          now = λ image left. has (Ok n) clears image (clears.now told image (left_now image left));
+          quiet = subst (λ (s : Shape). HasNoVote s new.content.bytes) clears.shape (behind.quiet told clears.alive refl);
+          end = end;
+          told = wrote;
+        };
       }
 
   purged_outcome : (n : ℕ) → ClearsStore tells (Opens store.shape) (index_at store.state.bytes) store later (Ok n) → (status : Status) (cut : Bool) (text : List ℕ) → status ≡ (if cut then WriteFault else Good)
-      → IsWritten cut text (purged_line n) → PurgeOutcome old status new cut text
+      → IsWritten cut text (number_line (codes "purged") n) → PurgeOutcome old status new cut text
   purged_outcome n clears status true text is wrote = subst (λ (s : Status). PurgeOutcome old s new true text) (sym is) (purges n clears script.WriteFault true text refl wrote)
   purged_outcome n clears status false text is wrote = subst (λ (s : Status). PurgeOutcome old s new false text) (sym is) (purges n clears script.All false text refl wrote)
 

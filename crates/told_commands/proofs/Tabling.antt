@@ -27,17 +27,22 @@ use Rattle.script_run.specs.declared.ended.Ended.{Ended}
 use Rattle.script_run.specs.declared.ended.Ended.TheVariants as script
 use Rattle.array_runs.specs.Forms.{index_of_form, index_at, SaysForm}
 use Rattle.array_runs.specs.Records.{HoldsRecords, IsDamaged, Exceeds, OverRecords}
-use Rattle.array_runs.specs.Statuses.{Counts, IsEarly, IsRefused}
-use Rattle.told_commands.specs.Tables.{made_status, table_line, HasNames, HasNewName, Tries, MakesTable, MadeBy, RefusalCause, Refuses, MakeOutcome, made_end, LeavesTable}
+use Rattle.array_runs.specs.Statuses.{Counts, IsEarly}
+use Rattle.told_commands.specs.Tables.{made_status, table_line, HasNames, HasNewName, Tries, MakesTable, MadeBy, RefusalCause, Refuses, made_end, LeavesTable}
 use Rattle.told_commands.specs.Told.{Tells, FaultCounts, IsStop, Ran}
 use Rattle.array_runs.specs.declared.status.Refusal.{Refusal}
 use Rattle.array_runs.specs.declared.status.Refusal.TheVariants.{Exists, TablesFull, PagesFull}
 use Rattle.array_runs.specs.declared.status.Status.{Status}
-use Rattle.array_runs.specs.declared.status.Status.TheVariants.{Good, WriteFault, NoMemory}
+use Rattle.array_runs.specs.declared.status.Status.TheVariants.{Good, WriteFault, NoMemory, Refused}
 use Rattle.array_runs.proofs.Completing.{complete_records, nothing_read}
 use Rattle.array_runs.proofs.Forming.{of_form}
 use Rattle.array_runs.proofs.Opened.{holds, at_entry}
 use Rattle.array_runs.proofs.Statuses.{outcome_as}
+
+-- what comes of the making of a table
+abbrev pub MakeOutcome : List ℕ → View → Status → View → Bool → List ℕ → Type 0
+MakeOutcome name old status new cut text =
+    OverRecords true 0 (MadeBy name old new cut text) old status new cut text ⊎ ((refusal : Refusal) × (status ≡ Refused refusal) × Refuses name refusal old new cut text)
 
 -- nothing was done, whatever the name is
 pub as_made : (name : List ℕ) (old : View) (status : Status) (new : View) → OverRecords true 0 (λ ended. ⊥) old status new false [] → MakeOutcome name old status new false []
@@ -74,7 +79,7 @@ module _ (tells : Bool) (told : IsTrue tells) (old : View) (only_now : (image : 
 
   -- it was made, and told in whole or in part
   makes : (j : ℕ) (made : making.MakesTable tells (Opens store.shape) (index_at store.state.bytes) name store later (Ok j)) (ended : Ended) (cut : Bool) (text : List ℕ) → ended ≡ (if cut then script.WriteFault else script.All)
-      → IsWritten cut text (table_line j name) → MakesTable name ended old new cut text
+      → IsWritten cut text (table_line j name) → MakesTable name old new cut text ended
   makes j made ended cut text end wrote =
       let cause = own (λ b. IsNew name (names_of b) × (j ≡ length (names_of b)) × (j < 8) × (next_page b < index_pages_of store.shape)) (made.cause.1 told) in
       record {
@@ -83,10 +88,12 @@ module _ (tells : Bool) (told : IsTrue tells) (old : View) (only_now : (image : 
         is_new = cause.0;
         few = subst (λ (n : ℕ). n < 8) cause.1 cause.2;
         page = cause.3;
-        now = λ image left. has (Ok j) made image (made.now told image (left_now image left));
-        quiet = quiet (Ok j) made ((made.kept refl).0 ∙ attached.alive);
-        end = end;
-        told = subst (λ (n : ℕ). IsWritten cut text (table_line n name)) cause.1 wrote;
+        finishes = record {
+          now = λ image left. has (Ok j) made image (made.now told image (left_now image left));
+          quiet = quiet (Ok j) made ((made.kept refl).0 ∙ attached.alive);
+          end = end;
+          told = subst (λ (n : ℕ). IsWritten cut text (table_line n name)) cause.1 wrote;
+        };
       }
 
   pub made_outcome : (j : ℕ) → making.MakesTable tells (Opens store.shape) (index_at store.state.bytes) name store later (Ok j) → (status : Status) (cut : Bool) (text : List ℕ) → status ≡ (if cut then WriteFault else Good)
@@ -175,8 +182,8 @@ comes_of tells told old store mid later new name ran form says end left status c
 
 -- What can be made is made, unless memory runs out or it is refused.
 module _ (name : List ℕ) (old new : View) (cut : Bool) (text : List ℕ) (s s' k k' m m' : ℕ) (shape : Shape) (holds : HoldsRecords shape old) (no_source : Rose s s' → ⊥) (no_sink : Rose k k' → ⊥) (no_media : Rose m m' → ⊥) where
-  pub complete_make : (status : Status) → (IsEarly status → ⊥) → Counts status s s' k k' m m' → MakeOutcome name old status new cut text → (status ≡ Good) ⊎ ((status ≡ NoMemory) ⊎ IsRefused status)
+  pub complete_make : (status : Status) → (IsEarly status → ⊥) → Counts status s s' k k' m m' → MakeOutcome name old status new cut text → (status ≡ Good) ⊎ ((status ≡ NoMemory) ⊎ ((refusal : Refusal) × (status ≡ Refused refusal)))
   complete_make status late counts outcome = ⊎_elim
       (λ over. ⊎_elim (λ good. inl good) (λ short. inr (inl short))
       (complete_records true 0 (MadeBy name old new cut text) old status new cut text [] [] s s' k k' m m' (omega arith) shape holds (omega arith) no_source no_sink no_media counts (nothing_read status late) over))
-      (λ refused. inr (inr (subst IsRefused (sym refused.1) tt))) outcome
+      (λ refused. inr (inr (refused.0, refused.1))) outcome

@@ -1,15 +1,12 @@
 -- What a purge of an array does and writes, on a medium that tells its bytes.
-use Rattle.std.specs.Prelude.{ℕ, ◌≡◌, ◌⊎◌, ◌≤◌, Bool, false, IsTrue, if◌then◌else◌, List, [], ◌∷◌, ◌++◌, codes, Result, Ok, Err, IfOk, IfErr}
-use Rattle.std.specs.Fmt.{decimal}
+use Rattle.std.specs.Prelude.{ℕ, ◌≡◌, Bool, IsTrue, List, [], codes, Result, Ok, Err, IfOk, IfErr}
 use Rattle.mars_base.specs.Causes.{Rose}
-use Rattle.pcm_media.specs.Images.{MayLeave}
 use Rattle.pcm_media.specs.View.{View}
 use Rattle.array_shape.specs.declared.shape.Shape.{Shape}
 use Rattle.array_image.specs.Decided.{settled_data}
-use Rattle.device_recovery.specs.Recovered.{HasNoVote}
 use Rattle.eaw_face.specs.Causes.{IsAlive}
 use Rattle.eaw_face.specs.StoreView.{StoreView, LeavesOnly}
-use Rattle.eaw_device.specs.Opens.{Opens, AllOpen, OpensLike}
+use Rattle.eaw_device.specs.Opens.{Opens}
 use Rattle.page_store.specs.Index.{Index}
 use Rattle.record_table.specs.Does.{OpensWith}
 use Rattle.record_table.specs.Shown.{table_of}
@@ -20,23 +17,21 @@ use Rattle.caller_steps.specs.State.{State}
 use Rattle.mars_core.specs.Over.{limits_of}
 use Rattle.mars_core.specs.declared.fault.CoreFault.{CoreFault}
 use Rattle.mars_core.specs.declared.fault.CoreFault.TheVariants as core
+use Rattle.history_text.specs.Text.{number_line}
 use Rattle.texts.specs.Written.{IsWritten}
 use Rattle.script_run.specs.declared.ended.Ended.{Ended}
-use Rattle.script_run.specs.declared.ended.Ended.TheVariants.{All, WriteFault, MediaFault, NoMemory}
+use Rattle.script_run.specs.declared.ended.Ended.TheVariants.{MediaFault, NoMemory}
 use Rattle.array_runs.specs.Forms.{index_in}
-use Rattle.array_runs.specs.Records.{HoldsRecords, OverRecords, HasAll, begun_on}
+use Rattle.array_runs.specs.Records.{HasAll, begun_on}
 use Rattle.array_runs.specs.Statuses.{served_status}
 use Rattle.array_runs.specs.declared.status.Status.{Status}
-
--- the line that tells how many keys were taken out
-abbrev pub purged_line : ℕ → List ℕ
-purged_line n = codes "purged " ++ (decimal n ++ 10 ∷ [])
+use Rattle.told_commands.specs.Told.{WorksOn, Finishes}
 
 -- Of n keys without a record the index, in version 2, has lost each, and each key without a record that it still has is the last of its page.
 -- This is said of the data of a store.
 pub record ClearsTo (index : Index) (shape : Shape) (old : List ℕ) (n : ℕ) (new : List ℕ) : Type 0 where
   pub final : State
-  pub purged : Purges (limits_of index shape) (begun_on false index old) n final
+  pub purged : Purges (limits_of index shape) (begun_on index old) n final
   pub left : HasAll index new final
 
 -- how a purge of a core that nobody else calls may be answered
@@ -79,41 +74,27 @@ pub record ClearsStore (tells : Bool) (Opens : List ℕ → List ℕ → Type 0)
 abbrev pub HasRecords : Shape → View → List ℕ → Type 0
 HasRecords shape old image = OpensWith (Opens shape) (index_in shape old) image (table_of (index_in shape old) (settled_data shape old.content.bytes))
 
--- The records are sound, and were to be purged. An image that might have been left at some moment opens with the records that were there, or
--- with the data of an image that could be left at first, if all of those open. Then no moment is repeated.
-pub record Clears (shape : Shape) (old new : View) : Type 0 where
-  pub holds : HoldsRecords shape old
-  pub later : AllOpen shape old.content → old.moment ≤ new.moment
-  pub since : AllOpen shape old.content → (image : List ℕ) → new.left_since old.moment image → OpensLike shape old.content image ⊎ HasRecords shape old image
-
 -- The records were purged. The index of the data in version 2 has lost so many keys, each without a record, and it has no other key without
--- a record but such as are the last of their page. The records are as they were, and so whatever a loss of power may leave at the end has
--- them. No row is voted, and how many keys they are is told.
-pub record PurgesRecords (ended : Ended) (old new : View) (cut : Bool) (text : List ℕ) : Type 0 where
+-- a record but such as are the last of their page. The records are as they were, and so whatever a loss of power may leave has them. How many
+-- keys they are is told.
+pub record PurgesRecords (old new : View) (cut : Bool) (text : List ℕ) (ended : Ended) : Type 0 where
   pub shape : Shape
-  pub clears : Clears shape old new
+  pub works : WorksOn shape (HasRecords shape old) old new
   pub count : ℕ
   pub final : State
-  pub purged : Purges (limits_of (index_in shape old) shape) (begun_on false (index_in shape old) (settled_data shape old.content.bytes)) count final
+  pub purged : Purges (limits_of (index_in shape old) shape) (begun_on (index_in shape old) (settled_data shape old.content.bytes)) count final
   pub left : HasAll (index_in shape new) (settled_data shape new.content.bytes) final
-  pub now : (image : List ℕ) → MayLeave new.content image → HasRecords shape old image
-  pub quiet : HasNoVote shape new.content.bytes
-  pub end : ended ≡ (if cut then WriteFault else All)
-  pub told : IsWritten cut text (purged_line count)
+  pub finishes : Finishes shape (HasRecords shape old) (number_line (codes "purged") count) new cut text ended
 
 -- By how it ended. If the medium failed, nothing is told.
 abbrev pub PurgedBy : View → View → Bool → List ℕ → Ended → Type 0
-PurgedBy old new cut text MediaFault = IsWritten cut text [] × ((shape : Shape) × Clears shape old new)
+PurgedBy old new cut text MediaFault = IsWritten cut text [] × ((shape : Shape) × WorksOn shape (HasRecords shape old) old new)
 PurgedBy old new cut text NoMemory = ⊥
-PurgedBy old new cut text ended = PurgesRecords ended old new cut text
-
--- what comes of it, by the status: the records were purged, or could not be worked on
-abbrev pub PurgeOutcome : View → Status → View → Bool → List ℕ → Type 0
-PurgeOutcome old status new cut text = OverRecords false 0 (PurgedBy old new cut text) old status new cut text
+PurgedBy old new cut text ended = PurgesRecords old new cut text ended
 
 -- what is told of a purge: the line of how many keys, or the status with which it ended
 abbrev pub purged_end : Result ℕ CoreFault → Result (List ℕ) Status
-purged_end (Ok n) = Ok (purged_line n)
+purged_end (Ok n) = Ok (number_line (codes "purged") n)
 purged_end (Err fault) = Err (served_status (Err fault))
 
 -- the records of a store's data were to be purged, of which this is told

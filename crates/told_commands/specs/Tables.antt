@@ -1,5 +1,5 @@
 -- What the making of a table does and writes, on a medium that tells its bytes.
-use Rattle.std.specs.Prelude.{ℕ, ◌≡◌, ◌⊎◌, ◌-◌, ◌<◌, ◌≤◌, Bool, true, if◌then◌else◌, List, [], ◌∷◌, ◌++◌, length, codes, Some, slice_get, Result, Ok, Err}
+use Rattle.std.specs.Prelude.{ℕ, ◌≡◌, ◌⊎◌, ◌-◌, ◌<◌, Bool, List, [], ◌∷◌, ◌++◌, length, codes, Some, slice_get, Result, Ok, Err}
 use Rattle.std.specs.Fmt.{decimal}
 use Rattle.pcm_media.specs.Images.{MayLeave}
 use Rattle.pcm_media.specs.View.{View}
@@ -7,7 +7,7 @@ use Rattle.array_shape.specs.declared.shape.Shape.{Shape}
 use Rattle.array_image.specs.Decided.{settled_data}
 use Rattle.device_recovery.specs.Recovered.{HasNoVote}
 use Rattle.eaw_face.specs.StoreView.{StoreView}
-use Rattle.eaw_device.specs.Opens.{Opens, AllOpen, OpensLike}
+use Rattle.eaw_device.specs.Opens.{Opens}
 use Rattle.record_slots.specs.Places.{next_page}
 use Rattle.page_store.specs.Index.{Index, index_pages_of}
 use Rattle.record_table.specs.Names.{names_of, IsNew}
@@ -17,14 +17,14 @@ use Rattle.mars_core.specs.Making as making
 use Rattle.mars_core.specs.Making.{OpensAsNamed, OpensWithName}
 use Rattle.texts.specs.Written.{IsWritten}
 use Rattle.script_run.specs.declared.ended.Ended.{Ended}
-use Rattle.script_run.specs.declared.ended.Ended.TheVariants.{All, WriteFault, MediaFault, NoMemory}
+use Rattle.script_run.specs.declared.ended.Ended.TheVariants.{MediaFault, NoMemory}
 use Rattle.array_runs.specs.Forms.{index_in}
-use Rattle.array_runs.specs.Records.{HoldsRecords, OverRecords}
 use Rattle.array_runs.specs.declared.status.Refusal.{Refusal}
 use Rattle.array_runs.specs.declared.status.Refusal.TheVariants.{Exists, TablesFull, PagesFull}
 use Rattle.array_runs.specs.declared.status.Status.{Status}
 use Rattle.array_runs.specs.declared.status.Status.TheVariants.{Refused, Damaged}
 use Rattle.array_runs.specs.declared.status.Status.TheVariants.{MediaFault as MediaStatus}
+use Rattle.told_commands.specs.Told.{WorksOn, Finishes}
 
 -- the line that tells a new table: its number and its name
 abbrev pub table_line : ℕ → List ℕ → List ℕ
@@ -42,32 +42,26 @@ HasNames shape old image = OpensAsNamed (Opens shape) (index_in shape old) (sett
 abbrev pub HasNewName : List ℕ → Shape → View → List ℕ → Type 0
 HasNewName name shape old image = OpensWithName (Opens shape) (index_in shape old) name (settled_data shape old.content.bytes) image
 
--- The records are sound, and a table of this name was to be made. An image that might have been left at some moment opens with the records
--- that were there, under the names that were there or under those and the new one, or with the data of an image that could be left at
--- first, if all of those open. Then no moment is repeated.
-pub record Tries (name : List ℕ) (shape : Shape) (old new : View) : Type 0 where
-  pub holds : HoldsRecords shape old
-  pub later : AllOpen shape old.content → old.moment ≤ new.moment
-  pub since : AllOpen shape old.content → (image : List ℕ) → new.left_since old.moment image → OpensLike shape old.content image ⊎ (HasNames shape old image ⊎ HasNewName name shape old image)
+-- A table of this name was to be made. An image that might have been left meanwhile opens with the records that were there, under the names that
+-- were there or under those and the new one.
+abbrev pub Tries : List ℕ → Shape → View → View → Type 0
+Tries name shape old new = WorksOn shape (λ image. HasNames shape old image ⊎ HasNewName name shape old image) old new
 
 -- The table was made: no table had the name, there were fewer than eight, and a page was left. It has the number behind those that there
--- were, which is told. Whatever a loss of power may leave at the end has the new name, and no row is voted.
-pub record MakesTable (name : List ℕ) (ended : Ended) (old new : View) (cut : Bool) (text : List ℕ) : Type 0 where
+-- were, which is told. Whatever a loss of power may leave at the end has the new name.
+pub record MakesTable (name : List ℕ) (old new : View) (cut : Bool) (text : List ℕ) (ended : Ended) : Type 0 where
   pub shape : Shape
   pub tries : Tries name shape old new
   pub is_new : IsNew name (names_on shape old)
   pub few : length (names_on shape old) < 8
   pub page : next_page (settled_data shape old.content.bytes) < index_pages_of shape
-  pub now : (image : List ℕ) → MayLeave new.content image → HasNewName name shape old image
-  pub quiet : HasNoVote shape new.content.bytes
-  pub end : ended ≡ (if cut then WriteFault else All)
-  pub told : IsWritten cut text (table_line (length (names_on shape old)) name)
+  pub finishes : Finishes shape (HasNewName name shape old) (table_line (length (names_on shape old)) name) new cut text ended
 
 -- By how it ended. If the medium failed, nothing is told.
 abbrev pub MadeBy : List ℕ → View → View → Bool → List ℕ → Ended → Type 0
 MadeBy name old new cut text MediaFault = IsWritten cut text [] × ((shape : Shape) × Tries name shape old new)
 MadeBy name old new cut text NoMemory = ⊥
-MadeBy name old new cut text ended = MakesTable name ended old new cut text
+MadeBy name old new cut text ended = MakesTable name old new cut text ended
 
 -- why there is no new table: the name is asked first, then a number, then a page
 abbrev pub RefusalCause : List ℕ → Shape → View → Refusal → Type 0
@@ -84,11 +78,6 @@ pub record Refuses (name : List ℕ) (refusal : Refusal) (old new : View) (cut :
   pub now : (image : List ℕ) → MayLeave new.content image → HasNames shape old image
   pub quiet : HasNoVote shape new.content.bytes
   pub silent : IsWritten cut text []
-
--- what comes of it, by the status: the table was made, or the records could not be worked on, or it was refused
-abbrev pub MakeOutcome : List ℕ → View → Status → View → Bool → List ℕ → Type 0
-MakeOutcome name old status new cut text =
-    OverRecords true 0 (MadeBy name old new cut text) old status new cut text ⊎ ((refusal : Refusal) × (status ≡ Refused refusal) × Refuses name refusal old new cut text)
 
 -- the status of a table of this name that was not made
 abbrev pub made_status : MakeFault → List ℕ → Status

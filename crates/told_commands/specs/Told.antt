@@ -4,12 +4,16 @@ use Rattle.mars_base.specs.Causes.{Rose}
 use Rattle.pcm_media.specs.Images.{MayLeave}
 use Rattle.pcm_media.specs.View.{View}
 use Rattle.array_shape.specs.declared.shape.Shape.{Shape}
+use Rattle.device_recovery.specs.Recovered.{HasNoVote}
 use Rattle.eaw_face.specs.StoreView.{StoreView}
-use Rattle.eaw_device.specs.Opens.{KeepsData, Attached, IsBehind}
+use Rattle.eaw_device.specs.Opens.{AllOpen, OpensLike, KeepsData, Attached, IsBehind}
 use Rattle.page_store.specs.Index.{Index}
 use Rattle.mars_core.specs.declared.fault.CoreFault.{CoreFault}
 use Rattle.texts.specs.Written.{IsWritten}
+use Rattle.script_run.specs.declared.ended.Ended.{Ended}
+use Rattle.script_run.specs.declared.ended.Ended.TheVariants as script
 use Rattle.array_runs.specs.Forms.{index_of_form, index_at, SaysForm}
+use Rattle.array_runs.specs.Records.{HoldsRecords}
 use Rattle.array_runs.specs.Statuses.{served_status}
 use Rattle.array_runs.specs.Untaken.{Untaken}
 use Rattle.array_runs.specs.declared.status.Status.{Status}
@@ -38,6 +42,21 @@ IsStop _ = ⊥
 abbrev pub FaultCounts : Result (List ℕ) Status → ℕ → ℕ → Type 0
 FaultCounts (Err MediaFault) media media' = Rose media media'
 FaultCounts _ media media' = media' ≡ media
+
+-- The records are sound, and work over them was begun. An image that might have been left at some moment is such, or opens with the data of an
+-- image that could be left at first, if all of those open. Then no moment is repeated.
+pub record WorksOn (shape : Shape) (Is : List ℕ → Type 0) (old new : View) : Type 0 where
+  pub holds : HoldsRecords shape old
+  pub later : AllOpen shape old.content → old.moment ≤ new.moment
+  pub since : AllOpen shape old.content → (image : List ℕ) → new.left_since old.moment image → OpensLike shape old.content image ⊎ Is image
+
+-- The work came to its end: whatever a loss of power may leave is such, no row is voted, and this is told, or a front of it if the sink cut it
+-- short.
+pub record Finishes (shape : Shape) (Is : List ℕ → Type 0) (whole : List ℕ) (new : View) (cut : Bool) (text : List ℕ) (ended : Ended) : Type 0 where
+  pub now : (image : List ℕ) → MayLeave new.content image → Is image
+  pub quiet : HasNoVote shape new.content.bytes
+  pub end : ended ≡ (if cut then script.WriteFault else script.All)
+  pub told : IsWritten cut text whole
 
 -- what is written at the end, and the status: the text, whole or cut, or nothing
 abbrev pub Tells : Result (List ℕ) Status → Status → Bool → List ℕ → Type 0

@@ -1,6 +1,7 @@
 // Takes keys without records out of the index of an array's records, and tells how many.
-ghost use Rattle.std.specs.Prelude.{◌≡◌};
-ghost use Rattle.told_commands.specs.Purge.{IsAnswer, cleared, purged_line};
+ghost use Rattle.std.specs.Prelude.{◌≡◌, codes};
+ghost use Rattle.history_text.specs.Text.{number_line};
+ghost use Rattle.told_commands.specs.Purge.{IsAnswer, cleared};
 
 use crate::told_work::{Told, ToldWork};
 use array_runs::{Status, served_status};
@@ -22,13 +23,14 @@ pub struct Purge;
 
 impl ToldWork for Purge {
     ghost use Rattle.std.specs.Prelude.{false};
-    ghost use Rattle.told_commands.specs.Purge.{LeavesPurged, PurgeOutcome};
+    ghost use Rattle.array_runs.specs.Records.{OverRecords};
+    ghost use Rattle.told_commands.specs.Purge.{LeavesPurged, PurgedBy};
 
     ghost spares = { false };
 
     ghost leaves = { λ work. LeavesPurged };
 
-    ghost comes = { λ work. PurgeOutcome };
+    ghost comes = { λ work old status new cut text. OverRecords false 0 (PurgedBy old new cut text) old status new cut text };
 
     fn work_on<S: EawStore, I: KeyIndex>(
         &self,
@@ -67,7 +69,7 @@ fn cleared(reply: &Reply) -> Result<u32, CoreFault>
 
 // The line of so many keys. It is formed without memory, so the status does not depend on memory.
 fn purged_line(count: u32) -> ShortText
-    ensures { result ≡ purged_line count }
+    ensures { result ≡ number_line (codes "purged") count }
 {
     ShortText::of(&[
         Piece::Words(b"purged "),

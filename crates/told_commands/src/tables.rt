@@ -20,14 +20,18 @@ pub struct NewTable {
 }
 
 impl ToldWork for NewTable {
-    ghost use Rattle.std.specs.Prelude.{true};
-    ghost use Rattle.told_commands.specs.Tables.{LeavesTable, MakeOutcome};
+    ghost use Rattle.std.specs.Prelude.{◌≡◌, ◌⊎◌, true};
+    ghost use Rattle.array_runs.specs.Records.{OverRecords};
+    ghost use Rattle.array_runs.specs.declared.status.Refusal.{Refusal};
+    ghost use Rattle.array_runs.specs.declared.status.Status.TheVariants.{Refused};
+    ghost use Rattle.told_commands.specs.Tables.{LeavesTable, MadeBy, Refuses};
 
     ghost spares = { true };
 
     ghost leaves = { λ work. LeavesTable work.name };
 
-    ghost comes = { λ work. MakeOutcome work.name };
+    ghost comes = { λ work old status new cut text. OverRecords true 0 (MadeBy work.name old new cut text) old status new cut text
+        ⊎ ((refusal : Refusal) × (status ≡ Refused refusal) × Refuses work.name refusal old new cut text) };
 
     fn work_on<S: EawStore, I: KeyIndex>(
         &self,

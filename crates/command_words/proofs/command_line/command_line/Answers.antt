@@ -1,7 +1,8 @@
 use Rattle.std.proofs.Common.{rules, ◌≡◌, ◌∙◌, ap, ap₂, codes}
 use Rattle.std.proofs.lemmas.Result.{IfOk-weaker}
 use Rattle.clap.specs.Words.{App, app_of, new_app, with_subcommand}
-use Rattle.command_words.specs.CommandLine.{no_commands, run_shape, eaw_shape, format_shape, drill_shape, callers_shape, make_shape}
+use Rattle.command_words.specs.CommandLine.{no_commands}
+use Rattle.command_words.proofs.Shapes.{run_shape, eaw_shape, format_shape, drill_shape, callers_shape, make_shape}
 use Rattle.command_words.proofs.command_line.command_line.Goals as goal
 
 pub returns : goal.returns

@@ -6,7 +6,7 @@ use Rattle.command_words.proofs.words.asked.Goals as goal
 pub returns-in_err-writing-in-run : goal.returns-in_err-writing-in-run
 returns-in_err-writing-in-run c =
     rw c.from_residual-in_err-writing-in-run.ensures (none_said c.args.matches.now (codes "run") c.in_ok-name.name.now (rows_of (found_of c.in_ok-name.options.now))
-    c.in-run.is c.in_ok-name.ensures.name c.in_ok-name.ensures.rows (no_run (rows_of (found_of c.in_ok-name.options.now)) (λ given gives. c.in_err-writing-in-run.ensures given.writing gives.writing)))
+    c.in-run.is c.in_ok-name.ensures.name c.in_ok-name.ensures.rows (no_run (rows_of (found_of c.in_ok-name.options.now)) (λ given gives. c.in_err-writing-in-run.ensures given.writing gives)))
 
 pub returns-in_err-numbers-in-callers : goal.returns-in_err-numbers-in-callers
 returns-in_err-numbers-in-callers c =
@@ -32,10 +32,10 @@ pub returns-in_ok-table-in-make : goal.returns-in_ok-table-in-make
 returns-in_ok-table-in-make c = (c.in_ok-name.name.now, rows_of (found_of c.in_ok-name.options.now), met_is c.args.matches.now c.in_ok-name.name.now (rows_of (found_of c.in_ok-name.options.now)) c.in_ok-name.ensures.name c.in_ok-name.ensures.rows, (c.in-make.is, c.in_ok-table-in-make.ensures))
 
 pub returns-in_ok-writing-in-run : goal.returns-in_ok-writing-in-run
-returns-in_ok-writing-in-run c = (c.in_ok-name.name.now, rows_of (found_of c.in_ok-name.options.now), met_is c.args.matches.now c.in_ok-name.name.now (rows_of (found_of c.in_ok-name.options.now)) c.in_ok-name.ensures.name c.in_ok-name.ensures.rows, (c.in-run.is, record { writing = c.in_ok-writing-in-run.ensures; frames = c.read_flag-frames.ensures }))
+returns-in_ok-writing-in-run c = (c.in_ok-name.name.now, rows_of (found_of c.in_ok-name.options.now), met_is c.args.matches.now c.in_ok-name.name.now (rows_of (found_of c.in_ok-name.options.now)) c.in_ok-name.ensures.name c.in_ok-name.ensures.rows, (c.in-run.is, c.in_ok-writing-in-run.ensures, c.read_flag-frames.ensures))
 
 pub returns-in-eaw : goal.returns-in-eaw
-returns-in-eaw c = (c.in_ok-name.name.now, rows_of (found_of c.in_ok-name.options.now), met_is c.args.matches.now c.in_ok-name.name.now (rows_of (found_of c.in_ok-name.options.now)) c.in_ok-name.ensures.name c.in_ok-name.ensures.rows, (c.in-eaw.is, record { frames = c.read_flag-frames-in-eaw.ensures }))
+returns-in-eaw c = (c.in_ok-name.name.now, rows_of (found_of c.in_ok-name.options.now), met_is c.args.matches.now c.in_ok-name.name.now (rows_of (found_of c.in_ok-name.options.now)) c.in_ok-name.ensures.name c.in_ok-name.ensures.rows, (c.in-eaw.is, c.read_flag-frames-in-eaw.ensures))
 
 pub returns-in-dump : goal.returns-in-dump
 returns-in-dump c = (c.in_ok-name.name.now, rows_of (found_of c.in_ok-name.options.now), met_is c.args.matches.now c.in_ok-name.name.now (rows_of (found_of c.in_ok-name.options.now)) c.in_ok-name.ensures.name c.in_ok-name.ensures.rows, c.in-dump.is)

@@ -74,7 +74,8 @@ returns-in-Ok-write_whole-clause-ran g c =
           };
           fresh = c.in-Ok-format.ensures.fresh told;
           opens = c.in-Ok-format.ensures.opens told;
-          records = fresh_none shape (media.view c.format.new.media).content.bytes (c.in-Ok-format.ensures.fresh told).parts.pages;
+          sound = (fresh_none shape (media.view c.format.new.media).content.bytes (c.in-Ok-format.ensures.fresh told).parts.pages).0;
+          none = (fresh_none shape (media.view c.format.new.media).content.bytes (c.in-Ok-format.ensures.fresh told).parts.pages).1;
           wrote = c.as_bytes.ensures ∙ c.formatted_line-line.ensures;
         },
       );
@@ -104,7 +105,8 @@ returns-in-Err-write_whole-clause-ran g c =
           };
           fresh = c.in-Ok-format.ensures.fresh told;
           opens = c.in-Ok-format.ensures.opens told;
-          records = fresh_none shape (media.view c.format.new.media).content.bytes (c.in-Ok-format.ensures.fresh told).parts.pages;
+          sound = (fresh_none shape (media.view c.format.new.media).content.bytes (c.in-Ok-format.ensures.fresh told).parts.pages).0;
+          none = (fresh_none shape (media.view c.format.new.media).content.bytes (c.in-Ok-format.ensures.fresh told).parts.pages).1;
           wrote = subst (IsWritten true part.0) (c.as_bytes.ensures ∙ c.formatted_line-line.ensures) part.1;
         },
       );

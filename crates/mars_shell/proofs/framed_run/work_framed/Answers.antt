@@ -101,6 +101,6 @@ returns-clause-served g c =
           let all = served s.tells s.opens index old mid (core_of s.opens index mid core) begins told new later over_last (says_framed index old input ran.cut ran.text ended) ended turns in
           let below = served_below s.opens index (s.view prim.store) (s.view last.records.store.store) sent sent' input ran.cut ran.text ended all in
           let at_end : c.into_parts-store-2.result.0 ≡ last.records.store.store = c.into_parts-store-2.ensures.store ∙ ap (λ p. p.store) c.into_store.ensures.store in
-          subst (λ b. Served false (says_framed index (s.view b) input ran.cut ran.text ended) s.opens index (s.view b) ended (s.view c.into_parts-store-2.result.0)) start
-          (subst (λ b. Served false (says_framed index (s.view prim.store) input ran.cut ran.text ended) s.opens index (s.view prim.store) ended (s.view b)) (sym at_end) below);
+          subst (λ b. Served (says_framed index (s.view b) input ran.cut ran.text ended) s.opens index (s.view b) ended (s.view c.into_parts-store-2.result.0)) start
+          (subst (λ b. Served (says_framed index (s.view prim.store) input ran.cut ran.text ended) s.opens index (s.view prim.store) ended (s.view b)) (sym at_end) below);
     }

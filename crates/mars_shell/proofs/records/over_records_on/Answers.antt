@@ -22,7 +22,7 @@ returns-in-Err-clause-ran g c =
       holds = (
         input,
         (λ asked _. refl),
-        λ told. turns_none 0 g.B.WriteBack.defers (λ ended. g.W.RecordWork.does c.args.work.now input ended false []) old c.in-Err.ended.0 new false [] false (c.in-Err.ensures.outcome told),
+        λ told. turns_none 0 g.B.WriteBack.defers (λ ended. g.W.RecordWork.does c.args.work.now input ended false []) old c.in-Err.ended.0 new false [] (c.in-Err.ensures.outcome told),
       );
     }
 
@@ -62,10 +62,10 @@ returns-clause-ran g c =
         input,
         (λ asked. c.in-Ok.ensures.read (c.reads.ensures ∙ asked)),
         λ told.
-            subst (λ (s : Status). OverRecords false 0 (λ ended. TakesTurns false g.B.WriteBack.defers (work.does c.args.work.now input ended said.cut said.text) old ended new)
+            subst (λ (s : Status). OverRecords false 0 (λ ended. TakesTurns g.B.WriteBack.defers (work.does c.args.work.now input ended said.cut said.text) old ended new)
             old s new said.cut said.text) (sym c.served_status.ensures)
             (records_outcome media.tells told old (met.only_now c.args.media) _ c.in-Ok.ensures.attached c.in-Ok.ensures.keeps g.B.WriteBack.defers _ new c.into_media.ensures (met.counts_now c.into_media.result)
-            0 (omega arith) false (λ ended. work.does c.args.work.now input ended said.cut said.text)
+            0 (omega arith) (λ ended. work.does c.args.work.now input ended said.cut said.text)
             c.serve-served.result.0 said.cut said.text (rw c.deref.ensures.value at (said.holds told))),
       );
     }

@@ -4,7 +4,7 @@ use Rattle.std.proofs.lemmas.Bool.{false≢true}
 use Rattle.command_words.specs.declared.words.Words.TheVariants.{Run, Callers, Eaw, Dump, Drill, Format, Make, Purge, Follow}
 use Rattle.mars_shell.specs.Commands.{ObeysAs}
 use Rattle.mars_shell.specs.Drill.{Drills}
-use Rattle.array_runs.proofs.Endings.{is_early, counts_unread, read_fault_early}
+use Rattle.array_runs.proofs.Endings.{is_early, silent_kind, counts_unread, read_fault_early}
 use Rattle.mars_shell.proofs.Endings.{format_late}
 use Rattle.mars_shell.proofs.FormatLemmas.{no_usage}
 use Rattle.reader_work.specs.Readership.{passes_for}
@@ -49,7 +49,7 @@ pub returns-in-Ok-Run-clause-early : goal.returns-in-Ok-Run-clause-early
 returns-in-Ok-Run-clause-early g c = λ either. c.run_lines.ensures.early (is_early c.run_lines.result.0 either)
 
 pub returns-in-Ok-Run-clause-silent : goal.returns-in-Ok-Run-clause-silent
-returns-in-Ok-Run-clause-silent g c = c.run_lines.ensures.silent
+returns-in-Ok-Run-clause-silent g c = λ silent. c.run_lines.ensures.silent (silent_kind c.run_lines.result.0 silent)
 
 pub returns-in-Ok-Run-clause-counts : goal.returns-in-Ok-Run-clause-counts
 returns-in-Ok-Run-clause-counts g c = c.run_lines.ensures.counts
@@ -91,7 +91,7 @@ pub returns-in-Ok-Callers-clause-early : goal.returns-in-Ok-Callers-clause-early
 returns-in-Ok-Callers-clause-early g c = λ either. c.run_callers.ensures.early (is_early c.run_callers.result.0 either)
 
 pub returns-in-Ok-Callers-clause-silent : goal.returns-in-Ok-Callers-clause-silent
-returns-in-Ok-Callers-clause-silent g c = c.run_callers.ensures.silent
+returns-in-Ok-Callers-clause-silent g c = λ silent. c.run_callers.ensures.silent (silent_kind c.run_callers.result.0 silent)
 
 pub returns-in-Ok-Callers-clause-counts : goal.returns-in-Ok-Callers-clause-counts
 returns-in-Ok-Callers-clause-counts g c = c.run_callers.ensures.counts
@@ -121,7 +121,7 @@ returns-in-Ok-Callers-clause-complete g c =
     let ran = said.ran in
     callers_say (map string_bytes c.args.words.now) c.run_callers.result.0 (Unit {0}) _ c.in-Ok-Callers.numbers (rw c.in-Ok-Callers.field-0-is at c.in-Ok-Callers.ensures-1.asked)
     (λ fit no_source no_sink no_media.
-    complete_records false (passes_for numbers.callers numbers.readers) (λ ended. TakesTurns false (is_late numbers.writing) (JointWork numbers.callers numbers.readers numbers.tries ran.holds.0 ended ran.cut ran.text) old ended new) old c.run_callers.result.0 new ran.cut ran.text given _ _ _ _ _ _ _ fit.0.1 fit.2.0 fit.2.1 fit.2.2 no_source no_sink no_media said.counts (said.input fit.0.0) (ran.holds.2 fit.1))
+    complete_records false (passes_for numbers.callers numbers.readers) (λ ended. TakesTurns (is_late numbers.writing) (JointWork numbers.callers numbers.readers numbers.tries ran.holds.0 ended ran.cut ran.text) old ended new) old c.run_callers.result.0 new ran.cut ran.text given _ _ _ _ _ _ _ fit.0.1 fit.2.0 fit.2.1 fit.2.2 no_source no_sink no_media said.counts (said.input fit.0.0) (ran.holds.2 fit.1))
 
 pub returns-in-Ok-Dump-clause-words : goal.returns-in-Ok-Dump-clause-words
 returns-in-Ok-Dump-clause-words g c = words_say (map string_bytes c.args.words.now) c.run_told.result.0 _ _ Dump c.run_told.ensures.no_usage (rw c.in-Ok-Dump.field-0-is at c.in-Ok-Dump.ensures-1.asked) tt
@@ -133,7 +133,7 @@ pub returns-in-Ok-Dump-clause-early : goal.returns-in-Ok-Dump-clause-early
 returns-in-Ok-Dump-clause-early g c = λ either. absurd (c.run_told.ensures.late (is_early c.run_told.result.0 either))
 
 pub returns-in-Ok-Dump-clause-silent : goal.returns-in-Ok-Dump-clause-silent
-returns-in-Ok-Dump-clause-silent g c = λ either. ⊎_elim (λ early. absurd (c.run_told.ensures.late early)) c.run_told.ensures.refused either
+returns-in-Ok-Dump-clause-silent g c = λ silent. ⊎_elim (λ early. absurd (c.run_told.ensures.late early)) c.run_told.ensures.refused (silent_kind c.run_told.result.0 silent)
 
 pub returns-in-Ok-Dump-clause-counts : goal.returns-in-Ok-Dump-clause-counts
 returns-in-Ok-Dump-clause-counts g c = c.run_told.ensures.counts
@@ -175,7 +175,7 @@ pub returns-in-Ok-Drill-clause-early : goal.returns-in-Ok-Drill-clause-early
 returns-in-Ok-Drill-clause-early g c = λ either. (c.over_records.ensures.early (is_early c.over_records.result.0 either)).1
 
 pub returns-in-Ok-Drill-clause-silent : goal.returns-in-Ok-Drill-clause-silent
-returns-in-Ok-Drill-clause-silent g c = c.over_records.ensures.silent
+returns-in-Ok-Drill-clause-silent g c = λ silent. c.over_records.ensures.silent (silent_kind c.over_records.result.0 silent)
 
 pub returns-in-Ok-Drill-clause-counts : goal.returns-in-Ok-Drill-clause-counts
 returns-in-Ok-Drill-clause-counts g c = c.over_records.ensures.counts
@@ -211,7 +211,7 @@ returns-in-Ok-Drill-clause-complete g c =
     let ran = said.ran in
     words_say (map string_bytes c.args.words.now) c.over_records.result.0 (Unit {0}) _ (Drill c.in-Ok-Drill.numbers) c.over_records.ensures.no_usage (rw c.in-Ok-Drill.field-0-is at c.in-Ok-Drill.ensures-1.asked)
     (λ fit no_source no_sink no_media.
-    complete_records false 0 (λ ended. TakesTurns false (is_late numbers.writing) (Drills numbers ended ran.cut ran.text) old ended new) old c.over_records.result.0 new ran.cut ran.text [] [] _ _ _ _ _ _ (omega arith) fit.1.0 fit.1.1 (omega arith) no_source no_sink no_media said.counts (nothing_read c.over_records.result.0 (λ early. absurd (false≢true (said.early early).0))) (ran.holds.2 fit.0))
+    complete_records false 0 (λ ended. TakesTurns (is_late numbers.writing) (Drills numbers ended ran.cut ran.text) old ended new) old c.over_records.result.0 new ran.cut ran.text [] [] _ _ _ _ _ _ (omega arith) fit.1.0 fit.1.1 (omega arith) no_source no_sink no_media said.counts (nothing_read c.over_records.result.0 (λ early. absurd (false≢true (said.early early).0))) (ran.holds.2 fit.0))
 
 pub returns-in-Ok-Eaw-clause-complete : goal.returns-in-Ok-Eaw-clause-complete
 returns-in-Ok-Eaw-clause-complete g c =
@@ -245,7 +245,7 @@ pub returns-in-Ok-Eaw-clause-early : goal.returns-in-Ok-Eaw-clause-early
 returns-in-Ok-Eaw-clause-early g c = λ either. c.run_commands.ensures.early (is_early c.run_commands.result.0 either)
 
 pub returns-in-Ok-Eaw-clause-silent : goal.returns-in-Ok-Eaw-clause-silent
-returns-in-Ok-Eaw-clause-silent g c = c.run_commands.ensures.silent
+returns-in-Ok-Eaw-clause-silent g c = λ silent. c.run_commands.ensures.silent (silent_kind c.run_commands.result.0 silent)
 
 pub returns-in-Ok-Eaw-clause-counts : goal.returns-in-Ok-Eaw-clause-counts
 returns-in-Ok-Eaw-clause-counts g c = c.run_commands.ensures.counts
@@ -272,7 +272,7 @@ pub returns-in-Ok-Format-clause-early : goal.returns-in-Ok-Format-clause-early
 returns-in-Ok-Format-clause-early g c = λ either. absurd ((format_late c.in-Ok-Format.numbers _ c.run_format.result.0 _ _ c.run_format.ensures.says) (is_early c.run_format.result.0 either))
 
 pub returns-in-Ok-Format-clause-silent : goal.returns-in-Ok-Format-clause-silent
-returns-in-Ok-Format-clause-silent g c = λ either. ⊎_elim (λ early. absurd ((format_late c.in-Ok-Format.numbers _ c.run_format.result.0 _ _ c.run_format.ensures.says) early)) c.run_format.ensures.refused either
+returns-in-Ok-Format-clause-silent g c = λ silent. ⊎_elim (λ early. absurd ((format_late c.in-Ok-Format.numbers _ c.run_format.result.0 _ _ c.run_format.ensures.says) early)) c.run_format.ensures.refused (silent_kind c.run_format.result.0 silent)
 
 pub returns-in-Ok-Format-clause-counts : goal.returns-in-Ok-Format-clause-counts
 returns-in-Ok-Format-clause-counts g c = counts_unread c.run_format.result.0 _ _ _ _ _ (format_late c.in-Ok-Format.numbers _ c.run_format.result.0 _ _ c.run_format.ensures.says) c.run_format.ensures.counts
@@ -308,7 +308,7 @@ pub returns-in-Ok-Make-clause-early : goal.returns-in-Ok-Make-clause-early
 returns-in-Ok-Make-clause-early g c = λ either. absurd (c.run_told-in-Ok-Make.ensures.late (is_early c.run_told-in-Ok-Make.result.0 either))
 
 pub returns-in-Ok-Make-clause-silent : goal.returns-in-Ok-Make-clause-silent
-returns-in-Ok-Make-clause-silent g c = λ either. ⊎_elim (λ early. absurd (c.run_told-in-Ok-Make.ensures.late early)) c.run_told-in-Ok-Make.ensures.refused either
+returns-in-Ok-Make-clause-silent g c = λ silent. ⊎_elim (λ early. absurd (c.run_told-in-Ok-Make.ensures.late early)) c.run_told-in-Ok-Make.ensures.refused (silent_kind c.run_told-in-Ok-Make.result.0 silent)
 
 pub returns-in-Ok-Make-clause-counts : goal.returns-in-Ok-Make-clause-counts
 returns-in-Ok-Make-clause-counts g c = c.run_told-in-Ok-Make.ensures.counts
@@ -350,7 +350,7 @@ pub returns-in-Ok-Purge-clause-early : goal.returns-in-Ok-Purge-clause-early
 returns-in-Ok-Purge-clause-early g c = λ either. absurd (c.run_told-in-Ok-Purge.ensures.late (is_early c.run_told-in-Ok-Purge.result.0 either))
 
 pub returns-in-Ok-Purge-clause-silent : goal.returns-in-Ok-Purge-clause-silent
-returns-in-Ok-Purge-clause-silent g c = λ either. ⊎_elim (λ early. absurd (c.run_told-in-Ok-Purge.ensures.late early)) c.run_told-in-Ok-Purge.ensures.refused either
+returns-in-Ok-Purge-clause-silent g c = λ silent. ⊎_elim (λ early. absurd (c.run_told-in-Ok-Purge.ensures.late early)) c.run_told-in-Ok-Purge.ensures.refused (silent_kind c.run_told-in-Ok-Purge.result.0 silent)
 
 pub returns-in-Ok-Purge-clause-counts : goal.returns-in-Ok-Purge-clause-counts
 returns-in-Ok-Purge-clause-counts g c = c.run_told-in-Ok-Purge.ensures.counts
@@ -392,7 +392,7 @@ pub returns-in-Ok-Follow-clause-early : goal.returns-in-Ok-Follow-clause-early
 returns-in-Ok-Follow-clause-early g c = λ either. c.run_follow.ensures.early (is_early c.run_follow.result.0 either)
 
 pub returns-in-Ok-Follow-clause-silent : goal.returns-in-Ok-Follow-clause-silent
-returns-in-Ok-Follow-clause-silent g c = c.run_follow.ensures.silent
+returns-in-Ok-Follow-clause-silent g c = λ silent. c.run_follow.ensures.silent (silent_kind c.run_follow.result.0 silent)
 
 pub returns-in-Ok-Follow-clause-counts : goal.returns-in-Ok-Follow-clause-counts
 returns-in-Ok-Follow-clause-counts g c = c.run_follow.ensures.counts

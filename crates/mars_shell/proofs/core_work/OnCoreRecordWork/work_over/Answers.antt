@@ -36,7 +36,7 @@ returns-in-Ok-worked-clause-served g c =
       counts = works.counts;
       holds = λ told.
           let turns = rw c.in-Ok-worked.is at (works.holds told) in
-          subst (λ st. Served false does s.opens g.I.KeyIndex.index (s.view c.args.store) ended (s.view st)) (sym c.into_store-store.ensures.store)
+          subst (λ st. Served does s.opens g.I.KeyIndex.index (s.view c.args.store) ended (s.view st)) (sym c.into_store-store.ensures.store)
           (served s.tells s.opens g.I.KeyIndex.index (s.view c.args.store) (s.view first) _ begins told (s.view core.records.store) _ over does ended turns);
     }
 

@@ -1,0 +1,35 @@
+use Rattle.std.proofs.Common.{◌≡◌, ℕ, zero, suc, ◌^◌, ◌<◌, List, length}
+use Rattle.key_list.specs.Index.{chain}
+use Rattle.btree_pages.specs.Index.{tree}
+use Rattle.page_store.specs.Index.{Index}
+use Rattle.record_table.specs.Shown.{table_of}
+use Rattle.record_table.specs.Upgrading.{upgraded}
+use Rattle.array_runs.specs.Forms.{index_of_form}
+use Rattle.mars_shell.proofs.Imaging.{one, made, opens, reads, prefix, last, kept, unchanged, some}
+use Rattle.mars_shell.proofs.images.what_images_hold.Goals as goal
+
+-- data in version 2 is sound, and has the same records, under this index
+KeepsInTwo : Index → Type 0
+KeepsInTwo index = (bytes : List ℕ) → index.sound bytes → length bytes < 2 ^ 32 → index.sound (upgraded bytes) × (table_of index (upgraded bytes) ≡ table_of index bytes)
+
+-- so it is under the index of each form
+in_two : KeepsInTwo chain → KeepsInTwo tree → (form : ℕ) → KeepsInTwo (index_of_form form)
+in_two chains trees zero = chains
+in_two chains trees (suc zero) = trees
+in_two chains trees (suc (suc form)) = chains
+
+pub returns : goal.returns
+returns g c =
+    let keeps = in_two (λ bytes sound short. (c.version_two_keeps.ensures.sound bytes sound short, c.version_two_keeps.ensures.records bytes sound short))
+    (λ bytes sound short. (c.version_two_keeps-2.ensures.sound bytes sound short, c.version_two_keeps-2.ensures.records bytes sound short)) in
+    record {
+      one = one;
+      made = λ numbers old new status cut text is outcome. made numbers old new status cut text is outcome;
+      opens = opens;
+      begins = reads;
+      first = λ old shape form table all new final base law. prefix old shape form table all new final base law;
+      all = λ old shape form table all new final base law. last old shape form table all new final base law;
+      kept = λ old shape form table all image either. kept old shape form table all keeps image either;
+      unchanged = λ old shape form table all new image left. unchanged old shape form table all keeps new image left;
+      some = λ old shape form table all new image left. some old shape form table all keeps new image left;
+    }
