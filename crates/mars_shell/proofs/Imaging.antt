@@ -113,103 +113,110 @@ module _ (old : View) (shape : Shape) (form : ℕ) (table : Table) (all : AllAre
     pub last : (image : List ℕ) → MayLeave new.content image → IsOfPrefix shape form final (length final.history) image
     last image left = own_prefix final (length final.history) image (law.now image left)
 
+  pub opens : AllOpen shape old.content
+  opens = all_open old shape form all_sound
+
   module _ (version_two : (form : ℕ) (bytes : List ℕ) → (index_of_form form).sound bytes → length bytes < 2 ^ 32
-      → (index_of_form form).sound (upgraded bytes) × (table_of (index_of_form form) (upgraded bytes) ≡ table_of (index_of_form form) bytes)) (new : View) (image : List ℕ) (left : new.left_since old.moment image) where
-    in_two : OpensInTwo shape old.content image → IsOf shape form table image
-    in_two opens =
+      → (index_of_form form).sound (upgraded bytes) × (table_of (index_of_form form) (upgraded bytes) ≡ table_of (index_of_form form) bytes)) where
+    in_two : (image : List ℕ) → OpensInTwo shape old.content image → IsOf shape form table image
+    in_two image opens =
         let first = like_of opens.0 opens.0 opens.2 opens.1 opens.3 opens.3 in
         let two = version_two form opens.2 first.sound (data_short shape opens.0 opens.2 opens.3) in
         record { bytes = upgraded opens.2; opened = opens.4; sound = two.0; shows = two.1 ∙ first.shows }
 
-    idle : (cut : Bool) (text : List ℕ) (kept : Bool) (MayWrite Cause : Type 0) → Idle kept MayWrite Cause old new cut text → IsOf shape form table image
-    idle cut text kept MayWrite Cause none = ⊎_elim (like image) (λ two. in_two two.1) (none.keeps shape (all_open old shape form all_sound) image left)
+    pub kept : (image : List ℕ) → OpensLike shape old.content image ⊎ OpensInTwo shape old.content image → IsOf shape form table image
+    kept image either = ⊎_elim (like image) (in_two image) either
 
-    -- what is said of images in the shape that the header says is said of them in this shape
-    in_shape : (Said : Shape → Type 0) (at : Shape) → SaysShape (header_of old.content.bytes) at → (AllOpen at old.content → Said at) → Said shape
-    in_shape Said at says since =
-        let same : at ≡ shape = one_shape (header_of old.content.bytes) at shape says here.opened.header in
-        subst Said same (since (subst (λ (s : Shape). AllOpen s old.content) (sym same) (all_open old shape form all_sound)))
+    module _ (new : View) (image : List ℕ) (left : new.left_since old.moment image) where
+      idle : (cut : Bool) (text : List ℕ) (kept : Bool) (MayWrite Cause : Type 0) → Idle kept MayWrite Cause old new cut text → IsOf shape form table image
+      idle cut text kept MayWrite Cause none = ⊎_elim (like image) (λ two. in_two image two.1) (none.keeps shape (all_open old shape form all_sound) image left)
 
-    -- an image with the records that there were
-    with_own : HasRecords shape old image → IsOf shape form table image
-    with_own has = subst (λ (t : Table). IsOf shape form t image) reads (own (records_on shape old) image has)
+      -- what is said of images in the shape that the header says is said of them in this shape
+      in_shape : (Said : Shape → Type 0) (at : Shape) → SaysShape (header_of old.content.bytes) at → (AllOpen at old.content → Said at) → Said shape
+      in_shape Said at says since =
+          let same : at ≡ shape = one_shape (header_of old.content.bytes) at shape says here.opened.header in
+          subst Said same (since (subst (λ (s : Shape). AllOpen s old.content) (sym same) (all_open old shape form all_sound)))
 
-    named : (names : List (List ℕ)) → OpensNamed (Opens shape) (index_in shape old) image names (records_on shape old) → IsOf shape form table image
-    named names o = with_own (record { bytes = o.bytes; opened = o.opened; sound = o.sound; shows = o.shows })
+      -- an image with the records that there were
+      with_own : HasRecords shape old image → IsOf shape form table image
+      with_own has = subst (λ (t : Table). IsOf shape form t image) reads (own (records_on shape old) image has)
 
-    -- work that leaves images of one kind, or such as were there
-    worked : (Is : Shape → Type 0) → (Is shape → IsOf shape form table image) → (at : Shape) (Of : List ℕ → Type 0) → (Of image → Is at) → WorksOn at Of old new → IsOf shape form table image
-    worked Is gives at Of of works =
-        let seen : OpensLike shape old.content image ⊎ Is shape
-        = in_shape (λ (s : Shape). OpensLike s old.content image ⊎ Is s) at works.holds.array.header
-        (λ all. ⊎_elim (λ opens. inl opens) (λ is. inr (of is)) (works.since all image left)) in
-        ⊎_elim (like image) gives seen
+      named : (names : List (List ℕ)) → OpensNamed (Opens shape) (index_in shape old) image names (records_on shape old) → IsOf shape form table image
+      named names o = with_own (record { bytes = o.bytes; opened = o.opened; sound = o.sound; shows = o.shows })
 
-    dumped : (cut : Bool) (text : List ℕ) (ended : Ended) → DumpsRecords old new cut text ended → IsOf shape form table image
-    dumped cut text ended dumps = worked (λ s. ⊥) (λ none. absurd none) dumps.shape (λ i. ⊥) (λ none. none) dumps.works
+      -- work that leaves images of one kind, or such as were there
+      worked : (Is : Shape → Type 0) → (Is shape → IsOf shape form table image) → (at : Shape) (Of : List ℕ → Type 0) → (Of image → Is at) → WorksOn at Of old new → IsOf shape form table image
+      worked Is gives at Of of works =
+          let seen : OpensLike shape old.content image ⊎ Is shape
+          = in_shape (λ (s : Shape). OpensLike s old.content image ⊎ Is s) at works.holds.array.header
+          (λ all. ⊎_elim (λ opens. inl opens) (λ is. inr (of is)) (works.since all image left)) in
+          ⊎_elim (like image) gives seen
 
-    tried : (name : List ℕ) (at : Shape) → Tries name at old new → IsOf shape form table image
-    tried name at tries = worked (λ (s : Shape). HasNames s old image ⊎ HasNewName name s old image) (λ either. ⊎_elim (named _) (named _) either) at
-        (λ (i : List ℕ). HasNames at old i ⊎ HasNewName name at old i) (λ either. either) tries
+      dumped : (cut : Bool) (text : List ℕ) (ended : Ended) → DumpsRecords old new cut text ended → IsOf shape form table image
+      dumped cut text ended dumps = worked (λ s. ⊥) (λ none. absurd none) dumps.shape (λ i. ⊥) (λ none. none) dumps.works
 
-    made_by : (name : List ℕ) (cut : Bool) (text : List ℕ) (ended : Ended) → MadeBy name old new cut text ended → IsOf shape form table image
-    made_by name cut text script.All makes = tried name makes.shape makes.tries
-    made_by name cut text script.WriteFault makes = tried name makes.shape makes.tries
-    made_by name cut text script.MediaFault makes = tried name makes.1.0 makes.1.1
-    made_by name cut text script.NoMemory makes = absurd makes
+      tried : (name : List ℕ) (at : Shape) → Tries name at old new → IsOf shape form table image
+      tried name at tries = worked (λ (s : Shape). HasNames s old image ⊎ HasNewName name s old image) (λ either. ⊎_elim (named _) (named _) either) at
+          (λ (i : List ℕ). HasNames at old i ⊎ HasNewName name at old i) (λ either. either) tries
 
-    cleared : (at : Shape) → WorksOn at (HasRecords at old) old new → IsOf shape form table image
-    cleared at clears = worked (λ (s : Shape). HasRecords s old image) with_own at (HasRecords at old) (λ has. has) clears
+      made_by : (name : List ℕ) (cut : Bool) (text : List ℕ) (ended : Ended) → MadeBy name old new cut text ended → IsOf shape form table image
+      made_by name cut text script.All makes = tried name makes.shape makes.tries
+      made_by name cut text script.WriteFault makes = tried name makes.shape makes.tries
+      made_by name cut text script.MediaFault makes = tried name makes.1.0 makes.1.1
+      made_by name cut text script.NoMemory makes = absurd makes
 
-    purged_by : (cut : Bool) (text : List ℕ) (ended : Ended) → PurgedBy old new cut text ended → IsOf shape form table image
-    purged_by cut text script.All purged = cleared purged.shape purged.works
-    purged_by cut text script.WriteFault purged = cleared purged.shape purged.works
-    purged_by cut text script.MediaFault purged = cleared purged.1.0 purged.1.1
-    purged_by cut text script.NoMemory purged = absurd purged
+      cleared : (at : Shape) → WorksOn at (HasRecords at old) old new → IsOf shape form table image
+      cleared at clears = worked (λ (s : Shape). HasRecords s old image) with_own at (HasRecords at old) (λ has. has) clears
 
-    -- an array over whose records work was done
-    over : (P : Type 0) → (IsOf shape form table image → P) → (spares : Bool) (callers : ℕ) (Works : Ended → Type 0) (status : Status) (cut : Bool) (text : List ℕ) → ((ended : Ended) → Works ended → P)
-        → OverRecords spares callers Works old status new cut text → P
-    over P as_before spares callers Works status cut text works outcome =
-        outcome_gives P spares Works (λ page. IsDamaged old page × (Exceeds callers old → ⊥)) (HoldsArray old × (Exceeds callers old → ⊥)) (Exceeds callers old) old status new cut text
-        (λ kept MayWrite Cause none. as_before (idle cut text kept MayWrite Cause none)) works outcome
+      purged_by : (cut : Bool) (text : List ℕ) (ended : Ended) → PurgedBy old new cut text ended → IsOf shape form table image
+      purged_by cut text script.All purged = cleared purged.shape purged.works
+      purged_by cut text script.WriteFault purged = cleared purged.shape purged.works
+      purged_by cut text script.MediaFault purged = cleared purged.1.0 purged.1.1
+      purged_by cut text script.NoMemory purged = absurd purged
 
-    pub unchanged : (asked : Words) (status : Status) (input : List ℕ) (cut : Bool) (text : List ℕ) → ChangesNone asked → OutcomeFor asked old status new input cut text → IsOf shape form table image
-    unchanged Dump status input cut text none outcome = over (IsOf shape form table image) (λ of. of) true 0 (DumpsRecords old new cut text) status cut text (dumped cut text) outcome
-    unchanged (Make name) status input cut text none outcome =
-        ⊎_elim (λ over-it. over (IsOf shape form table image) (λ of. of) true 0 (MadeBy name old new cut text) status cut text (made_by name cut text) over-it) (λ refused. tried name refused.2.shape refused.2.tries) outcome
-    unchanged Purge status input cut text none outcome = over (IsOf shape form table image) (λ of. of) false 0 (PurgedBy old new cut text) status cut text (purged_by cut text) outcome
-    unchanged (Run given) status input cut text none outcome = absurd none
-    unchanged (Callers numbers) status input cut text none outcome = absurd none
-    unchanged (Drill numbers) status input cut text none outcome = absurd none
-    unchanged (Eaw given) status input cut text none outcome = absurd none
-    unchanged Follow status input cut text none outcome = absurd none
-    unchanged (Format numbers) status input cut text none outcome = absurd none
+      -- an array over whose records work was done
+      over : (P : Type 0) → (IsOf shape form table image → P) → (spares : Bool) (callers : ℕ) (Works : Ended → Type 0) (status : Status) (cut : Bool) (text : List ℕ) → ((ended : Ended) → Works ended → P)
+          → OverRecords spares callers Works old status new cut text → P
+      over P as_before spares callers Works status cut text works outcome =
+          outcome_gives P spares Works (λ page. IsDamaged old page × (Exceeds callers old → ⊥)) (HoldsArray old × (Exceeds callers old → ⊥)) (Exceeds callers old) old status new cut text
+          (λ kept MayWrite Cause none. as_before (idle cut text kept MayWrite Cause none)) works outcome
 
-    Some : Type 0
-    Some = (records : Table) × IsOf shape form records image
+      pub unchanged : (asked : Words) (status : Status) (input : List ℕ) (cut : Bool) (text : List ℕ) → ChangesNone asked → OutcomeFor asked old status new input cut text → IsOf shape form table image
+      unchanged Dump status input cut text none outcome = over (IsOf shape form table image) (λ of. of) true 0 (DumpsRecords old new cut text) status cut text (dumped cut text) outcome
+      unchanged (Make name) status input cut text none outcome =
+          ⊎_elim (λ over-it. over (IsOf shape form table image) (λ of. of) true 0 (MadeBy name old new cut text) status cut text (made_by name cut text) over-it) (λ refused. tried name refused.2.shape refused.2.tries) outcome
+      unchanged Purge status input cut text none outcome = over (IsOf shape form table image) (λ of. of) false 0 (PurgedBy old new cut text) status cut text (purged_by cut text) outcome
+      unchanged (Run given) status input cut text none outcome = absurd none
+      unchanged (Callers numbers) status input cut text none outcome = absurd none
+      unchanged (Drill numbers) status input cut text none outcome = absurd none
+      unchanged (Eaw given) status input cut text none outcome = absurd none
+      unchanged Follow status input cut text none outcome = absurd none
+      unchanged (Format numbers) status input cut text none outcome = absurd none
 
-    turned : (late : Bool) (Says : Limits → List Turn → State → Type 0) (ended : Ended) → TakesTurns late Says old ended new → Some
-    turned late Says ended taken =
-        let seen : OpensLike shape old.content image ⊎ Recovers shape (index_in shape old) taken.final 0 image
-        = in_shape (λ (s : Shape). OpensLike s old.content image ⊎ Recovers s (index_in s old) taken.final 0 image) taken.shape taken.holds.array.header (λ all. taken.prefix_law.since all image left) in
-        ⊎_elim (λ opens. (table, like image opens)) (λ recovers. (_, own _ image recovers.opens)) seen
+      Some : Type 0
+      Some = (records : Table) × IsOf shape form records image
 
-    run_by : (frames late : Bool) (input : List ℕ) (cut : Bool) (text : List ℕ) (ended : Ended) → RunsAs frames late input cut text old ended new → Some
-    run_by true late input cut text ended framed = turned late _ ended framed.taken
-    run_by false late input cut text ended taken = turned late (Answers input ended cut text) ended taken
+      turned : (late : Bool) (Says : Limits → List Turn → State → Type 0) (ended : Ended) → TakesTurns late Says old ended new → Some
+      turned late Says ended taken =
+          let seen : OpensLike shape old.content image ⊎ Recovers shape (index_in shape old) taken.final 0 image
+          = in_shape (λ (s : Shape). OpensLike s old.content image ⊎ Recovers s (index_in s old) taken.final 0 image) taken.shape taken.holds.array.header (λ all. taken.prefix_law.since all image left) in
+          ⊎_elim (λ opens. (table, like image opens)) (λ recovers. (_, own _ image recovers.opens)) seen
 
-    pub some : (asked : Words) (status : Status) (input : List ℕ) (cut : Bool) (text : List ℕ) → IsOfRecords asked → OutcomeFor asked old status new input cut text → Some
-    some (Run given) status input cut text of outcome = over Some (λ before. (table, before)) false 0 (λ ended. RunsAs given.frames (is_late given.writing) input cut text old ended new) status cut text
-        (λ ended taken. run_by given.frames (is_late given.writing) input cut text ended taken) outcome
-    some (Callers numbers) status input cut text of outcome = over Some (λ before. (table, before)) false (passes_for numbers.callers numbers.readers)
-        (λ ended. TakesTurns (is_late numbers.writing) (JointWork numbers.callers numbers.readers numbers.tries input ended cut text) old ended new) status cut text
-        (λ ended taken. turned (is_late numbers.writing) (JointWork numbers.callers numbers.readers numbers.tries input ended cut text) ended taken) outcome
-    some (Drill numbers) status input cut text of outcome = over Some (λ before. (table, before)) false 0 (λ ended. TakesTurns (is_late numbers.writing) (Drills numbers ended cut text) old ended new) status cut text
-        (λ ended taken. turned (is_late numbers.writing) (Drills numbers ended cut text) ended taken) outcome
-    some Dump status input cut text of outcome = (table, unchanged Dump status input cut text tt outcome)
-    some (Make name) status input cut text of outcome = (table, unchanged (Make name) status input cut text tt outcome)
-    some Purge status input cut text of outcome = (table, unchanged Purge status input cut text tt outcome)
-    some (Eaw given) status input cut text of outcome = absurd of
-    some Follow status input cut text of outcome = absurd of
-    some (Format numbers) status input cut text of outcome = absurd of
+      run_by : (frames late : Bool) (input : List ℕ) (cut : Bool) (text : List ℕ) (ended : Ended) → RunsAs frames late input cut text old ended new → Some
+      run_by true late input cut text ended framed = turned late _ ended framed.taken
+      run_by false late input cut text ended taken = turned late (Answers input ended cut text) ended taken
+
+      pub some : (asked : Words) (status : Status) (input : List ℕ) (cut : Bool) (text : List ℕ) → IsOfRecords asked → OutcomeFor asked old status new input cut text → Some
+      some (Run given) status input cut text of outcome = over Some (λ before. (table, before)) false 0 (λ ended. RunsAs given.frames (is_late given.writing) input cut text old ended new) status cut text
+          (λ ended taken. run_by given.frames (is_late given.writing) input cut text ended taken) outcome
+      some (Callers numbers) status input cut text of outcome = over Some (λ before. (table, before)) false (passes_for numbers.callers numbers.readers)
+          (λ ended. TakesTurns (is_late numbers.writing) (JointWork numbers.callers numbers.readers numbers.tries input ended cut text) old ended new) status cut text
+          (λ ended taken. turned (is_late numbers.writing) (JointWork numbers.callers numbers.readers numbers.tries input ended cut text) ended taken) outcome
+      some (Drill numbers) status input cut text of outcome = over Some (λ before. (table, before)) false 0 (λ ended. TakesTurns (is_late numbers.writing) (Drills numbers ended cut text) old ended new) status cut text
+          (λ ended taken. turned (is_late numbers.writing) (Drills numbers ended cut text) ended taken) outcome
+      some Dump status input cut text of outcome = (table, unchanged Dump status input cut text tt outcome)
+      some (Make name) status input cut text of outcome = (table, unchanged (Make name) status input cut text tt outcome)
+      some Purge status input cut text of outcome = (table, unchanged Purge status input cut text tt outcome)
+      some (Eaw given) status input cut text of outcome = absurd of
+      some Follow status input cut text of outcome = absurd of
+      some (Format numbers) status input cut text of outcome = absurd of

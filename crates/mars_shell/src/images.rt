@@ -4,10 +4,12 @@ ghost use Rattle.std.specs.FinMap.{empty};
 ghost use Rattle.pcm_media.specs.Images.{MayLeave};
 ghost use Rattle.pcm_media.specs.View.{View};
 ghost use Rattle.array_shape.specs.declared.shape.Shape.{Shape};
+ghost use Rattle.eaw_device.specs.Opens.{AllOpen, OpensLike};
 ghost use Rattle.history.specs.Writes.{Table};
 ghost use Rattle.caller_steps.specs.State.{State};
 ghost use Rattle.command_words.specs.declared.words.FormatNumbers.{FormatNumbers};
 ghost use Rattle.command_words.specs.declared.words.Words.{Words};
+ghost use Rattle.array_runs.specs.Outcome.{OpensInTwo};
 ghost use Rattle.array_runs.specs.declared.status.Status.{Status};
 ghost use Rattle.mars_shell.specs.Asked.{OutcomeFor};
 ghost use Rattle.mars_shell.specs.Formats.{FormatOutcome, HasAsked};
@@ -21,17 +23,20 @@ use record_table::version_two_keeps;
 /// What images hold, without their bytes, over a medium that tells them. An image is of at most one array, with one set of records. What a
 /// format leaves has none. A run begins with the records that all images have which the medium may leave. Each image that a loss of power might
 /// have left since its entry, within the opening too, is of the same array: with the records of the first so many transactions of the run, whole
-/// groups of them, or with those that there were if the command changes none. So the records of an array that a format made, and that only these
-/// commands have written since, are known from what was told, whatever its bytes are.
+/// groups of them, or with those that there were if nothing was answered or the command changes none. So the records of an array that a format
+/// made, and that only these commands have written since, are known from what was told, whatever its bytes are.
 pub fn what_images_hold()
     ensures one { (shape other : Shape) (form its : ℕ) (table records : Table) (image : List ℕ) → IsOf shape form table image → IsOf other its records image → (shape ≡ other) × (table ≡ records) }
     ensures made { (numbers : FormatNumbers) (old new : View) (status : Status) (cut : Bool) (text : List ℕ) → (status ≡ Status.Good) ⊎ (status ≡ Status.WriteFault)
         → FormatOutcome numbers old status new cut text → (shape : Shape) × HasAsked numbers shape × AllAreOf shape 1 empty new.content }
+    ensures opens { (old : View) (shape : Shape) (form : ℕ) (table : Table) → AllAreOf shape form table old.content → AllOpen shape old.content }
     ensures begins { (old : View) (shape : Shape) (form : ℕ) (table : Table) → AllAreOf shape form table old.content → records_on shape old ≡ table }
     ensures first { (old : View) (shape : Shape) (form : ℕ) (table : Table) → AllAreOf shape form table old.content → (new : View) (final : State) → final.base ≡ records_on shape old
         → PrefixLaw shape old final new → (image : List ℕ) → new.left_since old.moment image → IsOfPrefix shape form final 0 image }
     ensures all { (old : View) (shape : Shape) (form : ℕ) (table : Table) → AllAreOf shape form table old.content → (new : View) (final : State) → final.base ≡ records_on shape old
         → PrefixLaw shape old final new → (image : List ℕ) → MayLeave new.content image → IsOfPrefix shape form final (length final.history) image }
+    ensures kept { (old : View) (shape : Shape) (form : ℕ) (table : Table) → AllAreOf shape form table old.content → (image : List ℕ)
+        → OpensLike shape old.content image ⊎ OpensInTwo shape old.content image → IsOf shape form table image }
     ensures unchanged { (old : View) (shape : Shape) (form : ℕ) (table : Table) → AllAreOf shape form table old.content → (new : View) (image : List ℕ) → new.left_since old.moment image
         → (asked : Words) (status : Status) (input : List ℕ) (cut : Bool) (text : List ℕ) → ChangesNone asked → OutcomeFor asked old status new input cut text → IsOf shape form table image }
     ensures some { (old : View) (shape : Shape) (form : ℕ) (table : Table) → AllAreOf shape form table old.content → (new : View) (image : List ℕ) → new.left_since old.moment image

@@ -5,7 +5,7 @@ use Rattle.page_store.specs.Index.{Index}
 use Rattle.record_table.specs.Shown.{table_of}
 use Rattle.record_table.specs.Upgrading.{upgraded}
 use Rattle.array_runs.specs.Forms.{index_of_form}
-use Rattle.mars_shell.proofs.Imaging.{one, made, reads, prefix, last, unchanged, some}
+use Rattle.mars_shell.proofs.Imaging.{one, made, opens, reads, prefix, last, kept, unchanged, some}
 use Rattle.mars_shell.proofs.images.what_images_hold.Goals as goal
 
 -- data in version 2 is sound, and has the same records, under this index
@@ -25,9 +25,11 @@ returns g c =
     record {
       one = one;
       made = λ numbers old new status cut text is outcome. made numbers old new status cut text is outcome;
+      opens = opens;
       begins = reads;
       first = λ old shape form table all new final base law. prefix old shape form table all new final base law;
       all = λ old shape form table all new final base law. last old shape form table all new final base law;
+      kept = λ old shape form table all image either. kept old shape form table all keeps image either;
       unchanged = λ old shape form table all new image left. unchanged old shape form table all keeps new image left;
       some = λ old shape form table all new image left. some old shape form table all keeps new image left;
     }
