@@ -19,7 +19,7 @@ use Rattle.texts.specs.MediaFault.{media_line}
 use Rattle.script_text.specs.JointLine.{JointLineSays}
 use Rattle.script_text.specs.declared.joint_line.JointLine.{JointLine}
 use Rattle.caller_plans.specs.Asks.{keys_from}
-use Rattle.reader_work.specs.Answers.{AllAnswer}
+use Rattle.reader_work.specs.Answers.{AreAnswers}
 use Rattle.reader_work.specs.Readership.{passes_for}
 use Rattle.reader_work.specs.declared.answer.Answer.{Answer}
 use Rattle.script_run.specs.declared.ended.Ended.{Ended}
@@ -44,6 +44,6 @@ pub record JointWork (callers readers tries : ℕ) (input : List ℕ) (ended : E
   pub causes : (caller : ℕ) (within : caller < callers) → HaveCauses callers final.names (λ other. planned None (calls_by other said)) caller (works caller within).1.0
   pub fault : (ended ≡ MediaFault) ↔ IsTrue final.is_dead
   pub told : List (List Answer)
-  pub answered : ended ≢ MediaFault → ended ≢ NoMemory → AllAnswer final.names final.base final.history (keys_from 0 readers said) told
+  pub answered : ended ≢ MediaFault → ended ≢ NoMemory → AllZip (AreAnswers final.names final.base final.history 0) (keys_from 0 readers said) told
   pub tells : TellsEnd ended cut text (work_text (faults_from 1 (λ caller. false) said) final.history fates (entries (records final.base final.history)) told)
       (flat_map done_lines final.history ++ media_line)
