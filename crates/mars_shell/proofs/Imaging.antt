@@ -1,6 +1,8 @@
 -- What images hold, without their bytes.
-use Rattle.std.proofs.Common.{◌≡◌, ℕ, ◌^◌, ◌<◌, ◌⊎◌, inl, inr, ⊎_elim, List, length, Bool, true, false, sym, ap, subst, ◌∙◌}
+use Rattle.std.proofs.Common.{◌≡◌, ℕ, ◌^◌, ◌<◌, ◌≤◌, ◌⊎◌, inl, inr, ⊎_elim, List, length, Bool, true, false, sym, ap, subst, ◌∙◌, arith}
 use Rattle.std.specs.FinMap.{empty}
+use Rattle.std.proofs.lemmas.List.Elements.{All-nil}
+use Rattle.history.specs.declared.transaction.Done.{Done}
 use Rattle.pcm_media.specs.Images.{MayLeave}
 use Rattle.pcm_media.specs.View.{View}
 use Rattle.pcm_media.proofs.Left.{left_as_read}
@@ -45,7 +47,7 @@ use Rattle.mars_shell.specs.Run.{TakesTurns, Answers}
 use Rattle.mars_shell.proofs.Composing.{data_short, outcome_gives, own_index, all_open}
 
 -- the records of the data that an image settles to, under the index that this data names
-own_records : List ℕ → Table
+abbrev own_records : List ℕ → Table
 own_records bytes = table_of (index_at bytes) bytes
 
 records_are : (shape : Shape) (form : ℕ) (table : Table) (image : List ℕ) → IsOf shape form table image → own_records (settled_data shape image) ≡ table
@@ -107,7 +109,7 @@ module _ (old : View) (shape : Shape) (form : ℕ) (table : Table) (all : AllAre
   module _ (new : View) (final : State) (base : final.base ≡ records_on shape old) (law : PrefixLaw shape old final new) where
     pub prefix : (image : List ℕ) → new.left_since old.moment image → IsOfPrefix shape form final 0 image
     prefix image left = ⊎_elim
-        (λ opens. record { count = 0; at_least = tt; at_most = tt; whole = tt; opens = subst (λ (t : Table). IsOf shape form t image) (sym (base ∙ reads)) (like image opens) })
+        (λ opens. record { count = 0; at_least = omega arith; at_most = omega arith; whole = All-nil (λ (done : Done). done.last ≤ 0); opens = subst (λ (t : Table). IsOf shape form t image) (sym (base ∙ reads)) (like image opens) })
         (own_prefix final 0 image) (law.since (all_open old shape form all_sound) image left)
 
     pub last : (image : List ℕ) → MayLeave new.content image → IsOfPrefix shape form final (length final.history) image
@@ -119,6 +121,7 @@ module _ (old : View) (shape : Shape) (form : ℕ) (table : Table) (all : AllAre
   module _ (version_two : (form : ℕ) (bytes : List ℕ) → (index_of_form form).sound bytes → length bytes < 2 ^ 32
       → (index_of_form form).sound (upgraded bytes) × (table_of (index_of_form form) (upgraded bytes) ≡ table_of (index_of_form form) bytes)) where
     in_two : (image : List ℕ) → OpensInTwo shape old.content image → IsOf shape form table image
+    unfolding like_of
     in_two image opens =
         let first = like_of opens.0 opens.0 opens.2 opens.1 opens.3 opens.3 in
         let two = version_two form opens.2 first.sound (data_short shape opens.0 opens.2 opens.3) in
@@ -193,7 +196,7 @@ module _ (old : View) (shape : Shape) (form : ℕ) (table : Table) (all : AllAre
       unchanged Follow status input cut text none outcome = absurd none
       unchanged (Format numbers) status input cut text none outcome = absurd none
 
-      Some : Type 0
+      abbrev pub Some : Type 0
       Some = (records : Table) × IsOf shape form records image
 
       turned : (late : Bool) (Says : Limits → List Turn → State → Type 0) (ended : Ended) → TakesTurns late Says old ended new → Some

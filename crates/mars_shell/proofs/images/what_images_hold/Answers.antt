@@ -9,7 +9,7 @@ use Rattle.mars_shell.proofs.Imaging.{one, made, opens, reads, prefix, last, kep
 use Rattle.mars_shell.proofs.images.what_images_hold.Goals as goal
 
 -- data in version 2 is sound, and has the same records, under this index
-KeepsInTwo : Index → Type 0
+abbrev KeepsInTwo : Index → Type 0
 KeepsInTwo index = (bytes : List ℕ) → index.sound bytes → length bytes < 2 ^ 32 → index.sound (upgraded bytes) × (table_of index (upgraded bytes) ≡ table_of index bytes)
 
 -- so it is under the index of each form
