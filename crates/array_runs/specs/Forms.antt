@@ -1,5 +1,5 @@
 -- Which index the data has.
-use Rattle.std.specs.Prelude.{ℕ, ◌≡◌, suc, List, Bool, IsTrue}
+use Rattle.std.specs.Prelude.{ℕ, ◌≡◌, zero, suc, List, Bool, IsTrue}
 use Rattle.array_shape.specs.declared.shape.Shape.{Shape}
 use Rattle.array_image.specs.Decided.{settled_data}
 use Rattle.pcm_media.specs.View.{View}

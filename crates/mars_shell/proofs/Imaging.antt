@@ -1,6 +1,8 @@
 -- What images hold, without their bytes.
-use Rattle.std.proofs.Common.{◌≡◌, ℕ, ◌^◌, ◌<◌, ◌⊎◌, inl, inr, ⊎_elim, List, length, Bool, true, false, sym, ap, subst, ◌∙◌}
+use Rattle.std.proofs.Common.{◌≡◌, ℕ, ◌^◌, ◌<◌, ◌≤◌, ◌⊎◌, inl, inr, ⊎_elim, List, length, Bool, true, false, sym, ap, subst, ◌∙◌, arith}
+use Rattle.std.proofs.lemmas.List.Elements.{All-nil}
 use Rattle.std.specs.FinMap.{empty}
+use Rattle.history.specs.declared.transaction.Done.{Done}
 use Rattle.pcm_media.specs.Images.{MayLeave}
 use Rattle.pcm_media.specs.View.{View}
 use Rattle.pcm_media.proofs.Left.{left_as_read}
@@ -45,10 +47,11 @@ use Rattle.mars_shell.specs.Run.{TakesTurns, Answers}
 use Rattle.mars_shell.proofs.Composing.{data_short, outcome_gives, own_index, all_open}
 
 -- the records of the data that an image settles to, under the index that this data names
-own_records : List ℕ → Table
+abbrev own_records : List ℕ → Table
 own_records bytes = table_of (index_at bytes) bytes
 
 records_are : (shape : Shape) (form : ℕ) (table : Table) (image : List ℕ) → IsOf shape form table image → own_records (settled_data shape image) ≡ table
+unfolding table_of
 records_are shape form table image of =
     ap own_records of.opened.stands.gives ∙ (ap (λ (i : Index). table_of i of.bytes) (sound_is_own form of.bytes of.sound) ∙ of.shows)
 
@@ -107,7 +110,7 @@ module _ (old : View) (shape : Shape) (form : ℕ) (table : Table) (all : AllAre
   module _ (new : View) (final : State) (base : final.base ≡ records_on shape old) (law : PrefixLaw shape old final new) where
     pub prefix : (image : List ℕ) → new.left_since old.moment image → IsOfPrefix shape form final 0 image
     prefix image left = ⊎_elim
-        (λ opens. record { count = 0; at_least = tt; at_most = tt; whole = tt; opens = subst (λ (t : Table). IsOf shape form t image) (sym (base ∙ reads)) (like image opens) })
+        (λ as_first. record { count = 0; at_least = omega arith; at_most = omega arith; whole = All-nil (λ (done : Done). done.last ≤ 0); opens = subst (λ (t : Table). IsOf shape form t image) (sym (base ∙ reads)) (like image as_first) })
         (own_prefix final 0 image) (law.since (all_open old shape form all_sound) image left)
 
     pub last : (image : List ℕ) → MayLeave new.content image → IsOfPrefix shape form final (length final.history) image
@@ -119,17 +122,18 @@ module _ (old : View) (shape : Shape) (form : ℕ) (table : Table) (all : AllAre
   module _ (version_two : (form : ℕ) (bytes : List ℕ) → (index_of_form form).sound bytes → length bytes < 2 ^ 32
       → (index_of_form form).sound (upgraded bytes) × (table_of (index_of_form form) (upgraded bytes) ≡ table_of (index_of_form form) bytes)) where
     in_two : (image : List ℕ) → OpensInTwo shape old.content image → IsOf shape form table image
-    in_two image opens =
-        let first = like_of opens.0 opens.0 opens.2 opens.1 opens.3 opens.3 in
-        let two = version_two form opens.2 first.sound (data_short shape opens.0 opens.2 opens.3) in
-        record { bytes = upgraded opens.2; opened = opens.4; sound = two.0; shows = two.1 ∙ first.shows }
+    unfolding like_of
+    in_two image told =
+        let first = like_of told.0 told.0 told.2 told.1 told.3 told.3 in
+        let two = version_two form told.2 first.sound (data_short shape told.0 told.2 told.3) in
+        record { bytes = upgraded told.2; opened = told.4; sound = two.0; shows = two.1 ∙ first.shows }
 
     pub kept : (image : List ℕ) → OpensLike shape old.content image ⊎ OpensInTwo shape old.content image → IsOf shape form table image
     kept image either = ⊎_elim (like image) (in_two image) either
 
     module _ (new : View) (image : List ℕ) (left : new.left_since old.moment image) where
-      idle : (cut : Bool) (text : List ℕ) (kept : Bool) (MayWrite Cause : Type 0) → Idle kept MayWrite Cause old new cut text → IsOf shape form table image
-      idle cut text kept MayWrite Cause none = ⊎_elim (like image) (λ two. in_two image two.1) (none.keeps shape (all_open old shape form all_sound) image left)
+      idle : (cut : Bool) (text : List ℕ) (spares : Bool) (MayWrite Cause : Type 0) → Idle spares MayWrite Cause old new cut text → IsOf shape form table image
+      idle cut text spares MayWrite Cause none = ⊎_elim (like image) (λ two. in_two image two.1) (none.keeps shape (all_open old shape form all_sound) image left)
 
       -- what is said of images in the shape that the header says is said of them in this shape
       in_shape : (Said : Shape → Type 0) (at : Shape) → SaysShape (header_of old.content.bytes) at → (AllOpen at old.content → Said at) → Said shape
@@ -179,7 +183,7 @@ module _ (old : View) (shape : Shape) (form : ℕ) (table : Table) (all : AllAre
           → OverRecords spares callers Works old status new cut text → P
       over P as_before spares callers Works status cut text works outcome =
           outcome_gives P spares Works (λ page. IsDamaged old page × (Exceeds callers old → ⊥)) (HoldsArray old × (Exceeds callers old → ⊥)) (Exceeds callers old) old status new cut text
-          (λ kept MayWrite Cause none. as_before (idle cut text kept MayWrite Cause none)) works outcome
+          (λ spared MayWrite Cause none. as_before (idle cut text spared MayWrite Cause none)) works outcome
 
       pub unchanged : (asked : Words) (status : Status) (input : List ℕ) (cut : Bool) (text : List ℕ) → ChangesNone asked → OutcomeFor asked old status new input cut text → IsOf shape form table image
       unchanged Dump status input cut text none outcome = over (IsOf shape form table image) (λ of. of) true 0 (DumpsRecords old new cut text) status cut text (dumped cut text) outcome
@@ -193,26 +197,26 @@ module _ (old : View) (shape : Shape) (form : ℕ) (table : Table) (all : AllAre
       unchanged Follow status input cut text none outcome = absurd none
       unchanged (Format numbers) status input cut text none outcome = absurd none
 
-      Some : Type 0
-      Some = (records : Table) × IsOf shape form records image
+      abbrev HasSome : Type 0
+      HasSome = (records : Table) × IsOf shape form records image
 
-      turned : (late : Bool) (Says : Limits → List Turn → State → Type 0) (ended : Ended) → TakesTurns late Says old ended new → Some
+      turned : (late : Bool) (Says : Limits → List Turn → State → Type 0) (ended : Ended) → TakesTurns late Says old ended new → HasSome
       turned late Says ended taken =
           let seen : OpensLike shape old.content image ⊎ Recovers shape (index_in shape old) taken.final 0 image
           = in_shape (λ (s : Shape). OpensLike s old.content image ⊎ Recovers s (index_in s old) taken.final 0 image) taken.shape taken.holds.array.header (λ all. taken.prefix_law.since all image left) in
           ⊎_elim (λ opens. (table, like image opens)) (λ recovers. (_, own _ image recovers.opens)) seen
 
-      run_by : (frames late : Bool) (input : List ℕ) (cut : Bool) (text : List ℕ) (ended : Ended) → RunsAs frames late input cut text old ended new → Some
+      run_by : (frames late : Bool) (input : List ℕ) (cut : Bool) (text : List ℕ) (ended : Ended) → RunsAs frames late input cut text old ended new → HasSome
       run_by true late input cut text ended framed = turned late _ ended framed.taken
       run_by false late input cut text ended taken = turned late (Answers input ended cut text) ended taken
 
-      pub some : (asked : Words) (status : Status) (input : List ℕ) (cut : Bool) (text : List ℕ) → IsOfRecords asked → OutcomeFor asked old status new input cut text → Some
-      some (Run given) status input cut text of outcome = over Some (λ before. (table, before)) false 0 (λ ended. RunsAs given.frames (is_late given.writing) input cut text old ended new) status cut text
+      pub some : (asked : Words) (status : Status) (input : List ℕ) (cut : Bool) (text : List ℕ) → IsOfRecords asked → OutcomeFor asked old status new input cut text → HasSome
+      some (Run given) status input cut text of outcome = over HasSome (λ before. (table, before)) false 0 (λ ended. RunsAs given.frames (is_late given.writing) input cut text old ended new) status cut text
           (λ ended taken. run_by given.frames (is_late given.writing) input cut text ended taken) outcome
-      some (Callers numbers) status input cut text of outcome = over Some (λ before. (table, before)) false (passes_for numbers.callers numbers.readers)
+      some (Callers numbers) status input cut text of outcome = over HasSome (λ before. (table, before)) false (passes_for numbers.callers numbers.readers)
           (λ ended. TakesTurns (is_late numbers.writing) (JointWork numbers.callers numbers.readers numbers.tries input ended cut text) old ended new) status cut text
           (λ ended taken. turned (is_late numbers.writing) (JointWork numbers.callers numbers.readers numbers.tries input ended cut text) ended taken) outcome
-      some (Drill numbers) status input cut text of outcome = over Some (λ before. (table, before)) false 0 (λ ended. TakesTurns (is_late numbers.writing) (Drills numbers ended cut text) old ended new) status cut text
+      some (Drill numbers) status input cut text of outcome = over HasSome (λ before. (table, before)) false 0 (λ ended. TakesTurns (is_late numbers.writing) (Drills numbers ended cut text) old ended new) status cut text
           (λ ended taken. turned (is_late numbers.writing) (Drills numbers ended cut text) ended taken) outcome
       some Dump status input cut text of outcome = (table, unchanged Dump status input cut text tt outcome)
       some (Make name) status input cut text of outcome = (table, unchanged (Make name) status input cut text tt outcome)

@@ -5,7 +5,7 @@ use Rattle.std.specs.Global.{Vec}
 use Rattle.mars_base.specs.declared.NoMemory.{NoMemory}
 use Rattle.history.specs.Writes.{Table}
 use Rattle.history.specs.declared.key.Key.{Key}
-use Rattle.std.specs.List.{flat_map}
+use Rattle.std.specs.List.{flat_map, AllZip}
 use Rattle.std.specs.FinMap.{entries}
 use Rattle.std.proofs.lemmas.Bool.{true≢false}
 use Rattle.history.specs.Rows as rows
@@ -32,7 +32,7 @@ use Rattle.script_run.specs.Lines.{lines_of}
 use Rattle.texts.specs.MediaFault.{media_line}
 use Rattle.script_text.specs.declared.joint_line.JointLine.{JointLine}
 use Rattle.caller_plans.specs.Asks.{keys_from}
-use Rattle.reader_work.specs.Answers.{AllAnswer}
+use Rattle.reader_work.specs.Answers.{AreAnswers, AllAnswer}
 use Rattle.reader_work.specs.Readership.{passes_for}
 use Rattle.reader_work.specs.declared.answer.Answer.{Answer}
 use Rattle.script_run.specs.declared.ended.Ended.{Ended}
@@ -68,6 +68,13 @@ pub answered_in : (answers : Result (Vec (List Answer)) NoMemory) (names names' 
     → IfOk answers (λ told. AllAnswer names base list asks told.items) → IsOk answers → AllAnswer names' base' list' asks' (answers_in answers)
 answered_in (Ok told) names names' base base' list list' asks asks' n b l a all ok = subst (λ (x : List (List ℕ) × Table × List Done × List (List Key)). AllAnswer x.0 x.1 x.2 x.3 told.items) (λ i. (n i, b i, l i, a i)) all
 answered_in (Err none) names names' base base' list list' asks asks' n b l a all ok = absurd (cc ok)
+
+-- what each reader was answered is for what it asked, one beside the other
+zipped : (names : List (List ℕ)) (base : Table) (list : List Done) (asks : List (List Key)) (told : List (List Answer)) → AllAnswer names base list asks told → AllZip (AreAnswers names base list 0) asks told
+zipped names base list [] [] all = tt
+zipped names base list [] (one ∷ told) all = absurd all
+zipped names base list (keys ∷ asks) [] all = absurd all
+zipped names base list (keys ∷ asks) (one ∷ told) all = (all.0, zipped names base list asks told all.1)
 
 -- the callers alone need no more passes
 pub callers_within : (callers readers most : ℕ) → passes_for callers readers ≤ most → callers ≤ most
@@ -154,7 +161,7 @@ module _ (tells : Bool) (core last : CoreView) (callers readers tries : ℕ) (in
     causes = λ caller less call holder there. caused named caller less call holder there;
     fault = (λ is. worked.dead ∙ ap is_fault (fault.0 is), λ has. fault.1 (fault_of end (sym worked.dead ∙ has)));
     told = told;
-    answered = answered;
+    answered = λ unfailed remembered. zipped last.state.names last.state.base last.state.history (keys_from 0 readers said) told (answered unfailed remembered);
     tells = tells_work;
   }
 

@@ -18,6 +18,7 @@ pub mod Making
 pub mod Summing
 pub mod Running
 pub mod Composing
+pub mod Imaging
 pub mod Waiting
 mod Saying
 mod Endings

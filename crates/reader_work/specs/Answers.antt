@@ -1,7 +1,6 @@
 -- What readers are answered.
 use Rattle.std.specs.Prelude.{ℕ, ◌≡◌, ◌≤◌, List, [], ◌∷◌, length, take, Option, IsTrue, IsFalse}
 use Rattle.std.specs.FinMap.{get}
-use Rattle.std.specs.List.{AllZip}
 use Rattle.history.specs.declared.key.Key.{Key}
 use Rattle.history.specs.Legal.{records}
 use Rattle.history.specs.Locks.{has_table}
@@ -36,4 +35,6 @@ AreAnswers names base list least _ _ = ⊥
 
 -- the answers of each reader, for what each asked
 abbrev pub AllAnswer : List (List ℕ) → Table → List Done → List (List Key) → List (List Answer) → Type 0
-AllAnswer names base list asks told = AllZip (AreAnswers names base list 0) asks told
+AllAnswer names base list [] [] = Unit {0}
+AllAnswer names base list (keys ∷ asks) (answers ∷ others) = AreAnswers names base list 0 keys answers × AllAnswer names base list asks others
+AllAnswer names base list _ _ = ⊥

@@ -9,7 +9,7 @@ use Rattle.mars_shell.proofs.Imaging.{one, made, opens, reads, prefix, last, kep
 use Rattle.mars_shell.proofs.images.what_images_hold.Goals as goal
 
 -- data in version 2 is sound, and has the same records, under this index
-KeepsInTwo : Index → Type 0
+abbrev KeepsInTwo : Index → Type 0
 KeepsInTwo index = (bytes : List ℕ) → index.sound bytes → length bytes < 2 ^ 32 → index.sound (upgraded bytes) × (table_of index (upgraded bytes) ≡ table_of index bytes)
 
 -- so it is under the index of each form
@@ -20,16 +20,17 @@ in_two chains trees (suc (suc form)) = chains
 
 pub returns : goal.returns
 returns g c =
+    let m = g.M.Media in
     let keeps = in_two (λ bytes sound short. (c.version_two_keeps.ensures.sound bytes sound short, c.version_two_keeps.ensures.records bytes sound short))
     (λ bytes sound short. (c.version_two_keeps-2.ensures.sound bytes sound short, c.version_two_keeps-2.ensures.records bytes sound short)) in
     record {
       one = one;
-      made = λ numbers old new status cut text is outcome. made numbers old new status cut text is outcome;
-      opens = opens;
-      begins = reads;
-      first = λ old shape form table all new final base law. prefix old shape form table all new final base law;
-      all = λ old shape form table all new final base law. last old shape form table all new final base law;
-      kept = λ old shape form table all image either. kept old shape form table all keeps image either;
-      unchanged = λ old shape form table all new image left. unchanged old shape form table all keeps new image left;
-      some = λ old shape form table all new image left. some old shape form table all keeps new image left;
+      made = λ numbers old new status cut text is outcome. made numbers (m.view old) (m.view new) status cut text is outcome;
+      opens = λ old. opens (m.view old);
+      begins = λ old. reads (m.view old);
+      first = λ old shape form table all new final base law. prefix (m.view old) shape form table all (m.view new) final base law;
+      all = λ old shape form table all new final base law. last (m.view old) shape form table all (m.view new) final base law;
+      kept = λ old shape form table all image either. kept (m.view old) shape form table all keeps image either;
+      unchanged = λ old shape form table all new image left. unchanged (m.view old) shape form table all keeps (m.view new) image left;
+      some = λ old shape form table all new image left. some (m.view old) shape form table all keeps (m.view new) image left;
     }

@@ -1,4 +1,4 @@
-use Rattle.told_commands.proofs.Clearing.{comes_of}
+use Rattle.told_commands.proofs.Clearing.{as_purged, comes_of}
 use Rattle.told_commands.proofs.purging.PurgeToldWork.laws.Goals as goal
 
 pub returns-clause-done : goal.returns-clause-done
@@ -6,3 +6,6 @@ returns-clause-done g c = λ old new store mid later form end status cut text to
     let m = g.M.Media in
     let s = g.S.EawStore in
     comes_of m.tells told (m.view old) (s.view store) (s.view mid) (s.view later) (m.view new) ran form says end left status cut text said
+
+pub returns-clause-none : goal.returns-clause-none
+returns-clause-none g c = λ old new status outcome. as_purged (g.M.Media.view old) status (g.M.Media.view new) outcome
