@@ -1,5 +1,5 @@
 -- Faults that an object counts.
-use Rattle.std.specs.Prelude.{ℕ, ◌≡◌, ◌+◌, ◌-◌, ◌^◌, ◌≤◌, min, Result, Ok, Err, OnOk, OnErr}
+use Rattle.std.specs.Prelude.{ℕ, ◌≡◌, ◌+◌, ◌-◌, ◌^◌, ◌≤◌, min, List, Contains, Result, Ok, Err, OnOk, OnErr}
 
 -- one more, up to the last value of a u64, at which counts stay
 abbrev pub next_count : ℕ → ℕ
@@ -19,3 +19,7 @@ pub record HasCause {T E : Type 0} (before now : ℕ) (result : Result T E) : Ty
   pub later : before ≤ now
   pub failed : OnErr result (Rose before now)
   pub kept : OnOk result (now ≡ before)
+
+-- Of the calls that were made, counted from 1, one is listed as one that fails.
+abbrev pub MetListed : List ℕ → ℕ → Type 0
+MetListed listed calls = (n : ℕ) × Contains listed n × (1 ≤ n) × (n ≤ calls)

@@ -1,8 +1,8 @@
 // A sink in memory, which fails at listed calls.
-ghost use Rattle.std.specs.Prelude.{◌≡◌, ◌+◌, ◌-◌, ◌≤◌, ◌↔◌, ℕ, true, [], ◌∷◌, ◌++◌, length, IfOk, OnOk, OnErr, IsErr, IsTrue, IsOkAnd, Contains};
+ghost use Rattle.std.specs.Prelude.{◌≡◌, ◌+◌, ◌-◌, ◌<◌, ◌≤◌, ◌↔◌, ℕ, true, false, [], ◌∷◌, ◌++◌, length, IfOk, OnOk, OnErr, IsErr, IsTrue, IsOkAnd, Contains};
 ghost use Rattle.mars_base.specs.Causes.{HasCause};
 ghost use Rattle.outside.specs.Told.{Puts, TakesPart};
-ghost use Rattle.outside.specs.Memory.{has_room};
+ghost use Rattle.outside.specs.Memory.{has_room, IsSpent};
 ghost use Rattle.mars_base.specs.Causes.{next_count, faults_after};
 
 use crate::Sink;
@@ -18,31 +18,35 @@ pub struct MemorySink {
     room: u64,
     listed: Vec<u64>,
     calls: u64,
+    // Whether memory ran out beyond the room.
+    ran_out: bool,
     faults: u64,
 }
 
 impl Model for MemorySink {
-    ghost use Rattle.std.specs.Prelude.{◌≤◌};
+    ghost use Rattle.std.specs.Prelude.{◌≡◌, ◌<◌, ◌≤◌, ◌⊎◌, true};
     ghost use Rattle.std.specs.Vec.{vec_capacity};
+    ghost use Rattle.mars_base.specs.Causes.{MetListed};
     ghost use Rattle.outside.specs.Memory.{Writing};
 
     ghost Value = { Writing };
 
-    ghost view = { λ s. record { text = s.text.items; room = s.room; listed = s.listed.items; calls = s.calls; faults = s.faults } };
+    ghost view = { λ s. record { text = s.text.items; room = s.room; listed = s.listed.items; calls = s.calls; ran_out = s.ran_out; faults = s.faults } };
 
-    ghost invariant = { λ s. s.room ≤ vec_capacity s.text };
+    ghost invariant = { λ s. (s.room ≤ vec_capacity s.text) × (0 < s.faults → MetListed s.listed.items s.calls ⊎ (s.ran_out ≡ true)) };
 }
 
 impl MemorySink {
     /// A sink with room for `room` bytes and no call listed.
     pub fn new(alloc: Global, room: u64) -> Result<MemorySink, NoMemory>
-        ensures { IfOk result (λ s. s ≡ record { text = []; room = room; listed = []; calls = 0; faults = 0 }) }
+        ensures { IfOk result (λ s. s ≡ record { text = []; room = room; listed = []; calls = 0; ran_out = false; faults = 0 }) }
     {
         Ok(MemorySink {
             text: Vec::with_capacity(alloc, room as usize)?,
             room,
             listed: Vec::new(alloc),
             calls: 0,
+            ran_out: false,
             faults: 0,
         })
     }
@@ -74,6 +78,8 @@ impl Sink for MemorySink {
     // No call is listed, and its room suffices.
     ghost steady = { has_room };
 
+    ghost spent = { IsSpent };
+
     fn write(&mut self, piece: &[u8]) -> Result<usize, Failed>
         ensures part { TakesPart result piece.now }
         ensures whole { IfOk result (λ n. n ≡ length piece.now) }
@@ -84,6 +90,7 @@ impl Sink for MemorySink {
         ensures past_room { Contains self.old.listed self.new.calls → IsErr result }
         ensures same_list { self.new.listed ≡ self.old.listed }
         ensures same_room { self.new.room ≡ self.old.room }
+        ensures ran_out { length self.old.text + length piece.now ≤ self.old.room → self.new.ran_out ≡ self.old.ran_out }
 
         ensures calls { self.new.calls ≡ next_count self.old.calls }
         ensures faults { self.new.faults ≡ faults_after self.old.faults result }
@@ -97,9 +104,16 @@ impl Sink for MemorySink {
             return Err(Failed);
         }
         if self.text.extend_from_slice(piece).is_err() {
+            self.ran_out = true;
             self.faults = self.faults.saturating_add(1);
             return Err(Failed);
         }
         Ok(piece.len())
+    }
+
+    fn fails_when_spent(&self)
+        ensures { 0 < self.now.faults → IsSpent self.now }
+    {
+        let _ = &self.faults;
     }
 }

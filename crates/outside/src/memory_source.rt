@@ -1,8 +1,8 @@
 // A source in memory, which fails at listed calls.
-ghost use Rattle.std.specs.Prelude.{◌≡◌, ◌≤◌, ◌==◌, ◌↔◌, min, true, [], ◌∷◌, ◌++◌, length, drop, IfOk, OnOk, OnErr, IsErr, IsOk, MatchResult, Contains, IsTrue};
+ghost use Rattle.std.specs.Prelude.{◌≡◌, ◌<◌, ◌≤◌, ◌==◌, ◌↔◌, min, true, [], ◌∷◌, ◌++◌, length, drop, IfOk, OnOk, OnErr, IsErr, IsOk, MatchResult, Contains, IsTrue};
 ghost use Rattle.mars_base.specs.Causes.{HasCause};
 ghost use Rattle.outside.specs.Told.{Takes};
-ghost use Rattle.mars_base.specs.Causes.{next_count, faults_after};
+ghost use Rattle.mars_base.specs.Causes.{next_count, faults_after, MetListed};
 
 use crate::Source;
 use mars_base::{Failed, NoMemory};
@@ -20,14 +20,15 @@ pub struct MemorySource {
 }
 
 impl Model for MemorySource {
-    ghost use Rattle.std.specs.Prelude.{◌≤◌, drop, length};
+    ghost use Rattle.std.specs.Prelude.{◌<◌, ◌≤◌, drop, length};
+    ghost use Rattle.mars_base.specs.Causes.{MetListed};
     ghost use Rattle.outside.specs.Memory.{Reading};
 
     ghost Value = { Reading };
 
     ghost view = { λ s. record { left = drop s.at s.bytes.items; listed = s.listed.items; calls = s.calls; faults = s.faults } };
 
-    ghost invariant = { λ s. s.at ≤ length s.bytes.items };
+    ghost invariant = { λ s. (s.at ≤ length s.bytes.items) × (0 < s.faults → MetListed s.listed.items s.calls) };
 }
 
 impl MemorySource {
@@ -63,6 +64,9 @@ impl Source for MemorySource {
 
     ghost steady = { λ s. length s.listed == 0 };
 
+    // A call that was made is listed.
+    ghost spent = { λ s. MetListed s.listed s.calls };
+
     fn read(&mut self, buf: &mut [u8]) -> Result<usize, Failed>
         ensures bound { IfOk result (λ n. n ≤ length buf.new) }
         ensures bytes { Takes self.old.left self.new.left result buf.new }
@@ -87,5 +91,11 @@ impl Source for MemorySource {
         buf[..count].copy_from_slice(&left[..count]);
         self.at += count;
         Ok(count)
+    }
+
+    fn fails_when_spent(&self)
+        ensures { 0 < self.now.faults → MetListed self.now.listed self.now.calls }
+    {
+        let _ = &self.faults;
     }
 }

@@ -1,5 +1,5 @@
 // Where bytes go.
-ghost use Rattle.std.specs.Prelude.{◌-◌, ◌≤◌, List, ℕ, Bool, length, IsTrue, IsOkAnd};
+ghost use Rattle.std.specs.Prelude.{◌-◌, ◌<◌, ◌≤◌, List, ℕ, Bool, length, IsTrue, IsOkAnd};
 ghost use Rattle.mars_base.specs.Causes.{HasCause};
 ghost use Rattle.outside.specs.Told.{Puts, TakesPart};
 
@@ -19,6 +19,9 @@ pub trait Sink {
     /// Whether it is sure not to fail while this many more bytes are written.
     ghost steady: { Self → ℕ → Bool };
 
+    /// What it promised is used up, or it never promised anything.
+    ghost spent: { Self → Type 0 };
+
     /// Appends a prefix of the piece to what was written, and returns its length in bytes: at least one if the piece is not empty.
     fn write(&mut self, piece: &[u8]) -> Result<usize, Failed>
         ensures part { TakesPart result piece.now }
@@ -26,4 +29,8 @@ pub trait Sink {
         ensures cause { HasCause (faults self.old) (faults self.new) result }
         ensures steady { (more : ℕ) → length piece.now ≤ more → IsTrue (steady self.old more)
             → IsOkAnd result (λ n. IsTrue (steady self.new (more - n))) };
+
+    /// It fails only where it is spent. This does nothing: only clauses need it.
+    fn fails_when_spent(&self)
+        ensures { 0 < faults self.now → spent self.now };
 }

@@ -43,6 +43,8 @@ impl<R: Read> Source for StdSource<R> {
 
     ghost steady = { λ _. false };
 
+    ghost spent = { λ _. Unit {0} };
+
     fn read(&mut self, buf: &mut [u8]) -> Result<usize, Failed>
         ensures bound { IfOk result (λ n. n ≤ length buf.new) }
         ensures passed_on { ReadConsumes self.old.coming self.new.coming result buf.new }
@@ -55,6 +57,8 @@ impl<R: Read> Source for StdSource<R> {
         }
         answer
     }
+
+    fn fails_when_spent(&self) {}
 }
 
 // A read that is made again if a signal came first.
@@ -105,6 +109,8 @@ impl<W: Write> Sink for StdSink<W> {
 
     ghost steady = { λ _ _. false };
 
+    ghost spent = { λ _. Unit {0} };
+
     /// A writer that takes nothing of a nonempty piece has failed.
     fn write(&mut self, piece: &[u8]) -> Result<usize, Failed>
         ensures part { TakesPart result piece.now }
@@ -118,6 +124,8 @@ impl<W: Write> Sink for StdSink<W> {
         }
         answer
     }
+
+    fn fails_when_spent(&self) {}
 }
 
 // A write that is made again if a signal came first.
