@@ -63,6 +63,8 @@ impl<M: Media> Media for TracedMedia<M> {
 
     ghost steady = { λ m calls more. M.steady m.inner calls more };
 
+    ghost spent = { λ m. M.spent m.inner };
+
     ghost long = { λ m told. M.long m.inner told };
 
     ghost counts_now = { λ m t image told le left. M.counts_now m.inner t image told le left };
@@ -95,5 +97,9 @@ impl<M: Media> Media for TracedMedia<M> {
         let result = self.inner.barrier();
         self.trace.keep(Call::Barrier, result.is_ok());
         result
+    }
+
+    fn fails_when_spent(&self) {
+        self.inner.fails_when_spent();
     }
 }

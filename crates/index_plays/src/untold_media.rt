@@ -43,6 +43,8 @@ impl<M: Media> Media for UntoldMedia<M> {
 
     ghost steady = { λ m calls more. false };
 
+    ghost spent = { λ m. M.spent m };
+
     ghost long = { λ m told. absurd (false≢true told) };
 
     ghost counts_now = { λ m t image told le left. absurd (false≢true told) };
@@ -67,5 +69,9 @@ impl<M: Media> Media for UntoldMedia<M> {
 
     fn barrier(&mut self) -> Result<(), Failed> {
         self.inner.barrier()
+    }
+
+    fn fails_when_spent(&self) {
+        self.inner.fails_when_spent();
     }
 }

@@ -144,6 +144,9 @@ impl<C: Calls> Media for FileMedia<C> {
 
     ghost steady = { λ m calls more. nat_le (m.moment + calls) (2 ^ 64 - 1) && C.steady m.calls calls more };
 
+    // A file promises nothing.
+    ghost spent = { λ m. Unit {0} };
+
     ghost long = { λ m told. m.whole told };
 
     ghost counts_now = { λ m t image told le left. inl left };
@@ -181,4 +184,6 @@ impl<C: Calls> Media for FileMedia<C> {
             Err(_) => Err(self.fault()),
         }
     }
+
+    fn fails_when_spent(&self) {}
 }

@@ -1,9 +1,9 @@
 -- What one more call makes of the marks and places by which calls are kept.
-use Rattle.std.proofs.Common.{◌≡◌, ℕ, ◌+◌, ◌-◌, ◌≤◌, ◌⊎◌, inl, inr, Bool, true, false, List, [], ◌∷◌, ◌++◌, length, take, drop, refl, sym, ◌∙◌, ap, arith, append_assoc}
+use Rattle.std.proofs.Common.{◌≡◌, ℕ, ◌+◌, ◌≤◌, ◌⊎◌, inl, inr, Bool, true, false, List, [], ◌∷◌, ◌++◌, length, take, drop, refl, sym, ◌∙◌, ap, arith, append_assoc}
 use Rattle.std.proofs.lemmas.List.{append-nil, take-append-drop, length-append, length-drop, length-take-le, take-append-le, drop-append-le, drop_all, take_all, nil_from_length}
 use Rattle.std.specs.Prelude.{replicate, zero, suc}
 use Rattle.pcm_media.specs.declared.call.Call.{Call}
-use Rattle.pcm_media.specs.declared.call.Call.TheVariants.{Read, Write, Barrier}
+use Rattle.pcm_media.specs.declared.call.Call.TheVariants.{Read, Write}
 use Rattle.pcm_media.specs.declared.call.Place.{Place}
 use Rattle.pcm_media.specs.declared.call.End.{End}
 use Rattle.pcm_media.specs.declared.call.End.TheVariants.{Open, Settled, FailedRead, FailedWrite, FailedBarrier}

@@ -1,7 +1,9 @@
 -- What a call does to a medium in memory.
 use Rattle.std.proofs.Common.{◌≡◌, ℕ, ◌+◌, ◌-◌, ◌^◌, ◌<◌, ◌≤◌, ◌⊎◌, Bool, true, false, inl, inr, ⊎_elim, List, [], ◌∷◌, ◌++◌, length, take, drop, Result, Ok, Err, refl, sym, ◌∙◌, ap, subst, arith}
 use Rattle.std.proofs.lemmas.List.{take_all, drop_all, append-nil, length-append}
-use Rattle.std.specs.Prelude.{OnOk, OnErr}
+use Rattle.std.specs.Prelude.{OnOk, OnErr, IsErr, ◌↔◌, Contains}
+use Rattle.std.proofs.lemmas.Bool.{cases_lt}
+use Rattle.std.proofs.lemmas.List.Elements.{Contains-append_left}
 use Rattle.mars_base.specs.Moments.{Elapses}
 use Rattle.mars_base.proofs.Going.{weaker}
 use Rattle.pcm_media.specs.declared.call.Call.{Call}
@@ -10,12 +12,12 @@ use Rattle.pcm_media.specs.Calls.{Record}
 use Rattle.mars_base.specs.Bytes.{put}
 use Rattle.pcm_media.specs.Images.{Content, MayLeave, Touched, written}
 use Rattle.pcm_media.specs.View.{Writes}
-use Rattle.pcm_media.specs.Kept.{Kept, IsKept, IsPassed, Makes}
-use Rattle.pcm_media.specs.Replay.{at_rest, range_of, byte_count_of, next_content_by, total_bytes, content_after, LeftBefore, IsStamped}
-use Rattle.pcm_media.specs.Memory.{Memory, content_of, LeftSince, view_of, Tells}
+use Rattle.pcm_media.specs.Kept.{Kept, IsKept, IsPassed, Makes, HasRoom, MustFail, records_with}
+use Rattle.pcm_media.specs.Replay.{at_rest, range_of, byte_count_of, next_content_by, total_bytes, asked_bytes, content_after, LeftBefore, IsStamped}
+use Rattle.pcm_media.specs.Memory.{Memory, content_of, LeftSince, view_of, Tells, IsSpent}
 use Rattle.pcm_media.proofs.Left.{touched_by_nothing, touched_by_write, touched_by_loss, touched_by_barrier, left_partly}
 use Rattle.mars_base.proofs.Puts.{length-put}
-use Rattle.pcm_media.proofs.Replay.{content_push, before_push, before_last, before_only, before_past, total_bytes-push, stamped_push, stamped_later}
+use Rattle.pcm_media.proofs.Replay.{content_push, before_push, before_last, before_only, before_past, total_bytes-push, asked_bytes-push, total_asked, stamped_push, stamped_later}
 
 -- A call and the bytes that it writes fit each other and the medium.
 abbrev pub Suits : Call → List ℕ → ℕ → Type 0
@@ -118,12 +120,36 @@ module _ (start : List ℕ) (old new : Kept) where
           left;
     }
 
-    pub tells_passed : (read : List ℕ) → Tells (shows old) read → Tells (shows new) read
-    tells_passed read tells = record {
+    pub tells_passed : (read : List ℕ) → Tells (shows old) read → (0 < new.faults → IsSpent new) → Tells (shows new) read
+    tells_passed read tells spent = record {
+      most = omega (arith, ap (λ (l : List Record). length l) passed.records, passed.later, tells.most);
+      spent = spent;
       stamped = subst (IsStamped new.moment) (sym passed.records) (stamped_later old.moment new.moment old.records passed.later tells.stamped);
       whole = ap total_bytes passed.records ∙ tells.whole ∙ sym (ap length passed.written);
       bytes = (λ i. (content_passed i).bytes) ∙ tells.bytes;
     }
+
+  -- what no call changes, and the moment does not fall
+  pub record Stays : Type 0 where
+    pub later : old.moment ≤ new.moment
+    pub listed : new.listed ≡ old.listed
+    pub calls_room : new.calls_room ≡ old.calls_room
+    pub bytes_room : new.bytes_room ≡ old.bytes_room
+
+  pub stays_of : {call : Call} {bytes : List ℕ} {T E : Type 0} (result : Result T E) → Makes call bytes old new result → Stays
+  stays_of {call} {bytes} result makes = record { later = later result makes.done makes.failed; listed = makes.listed; calls_room = makes.calls_room; bytes_room = makes.bytes_room }
+    where
+      later : {T E : Type 0} (r : Result T E) → OnOk r (IsKept call true bytes old new) → OnErr r (IsPassed old new ⊎ IsKept call false [] old new) → old.moment ≤ new.moment
+      later (Ok x) done failed = omega (arith, done.later)
+      later (Err e) done failed = ⊎_elim (λ passed. passed.later) (λ kept. omega (arith, kept.later)) failed
+
+  -- a medium that is spent stays so
+  still_spent : Stays → asked_bytes old.records ≤ asked_bytes new.records → IsSpent old → IsSpent new
+  still_spent stays asked spent = ⊎_elim
+      (λ met. inl (met.0, subst (λ (l : List ℕ). Contains l met.0) (sym stays.listed) met.1, met.2, omega (arith, met.3, stays.later)))
+      (λ rest. ⊎_elim (λ calls. inr (inl (omega (arith, calls, stays.calls_room, stays.later))))
+      (λ more. ⊎_elim (λ written. inr (inr (inl (omega (arith, written, stays.bytes_room, asked))))) (λ last. inr (inr (inr (omega (arith, last, stays.later))))) more) rest)
+      spent
 
   -- one call, whatever it answered
   module _ (call : Call) (bytes read : List ℕ) (tells : Tells (shows old) read) (suits : Suits call bytes (length read)) where
@@ -155,9 +181,35 @@ module _ (start : List ℕ) (old new : Kept) where
     pub content_done : IsKept call true bytes old new → content_of (shows new) ≡ next_content_by call true bytes (content_of (shows old))
     content_done kept = content_kept call true bytes kept tells.whole
 
+    kept_most : (is_done : Bool) (own : List ℕ) → IsKept call is_done own old new → length new.records ≤ new.moment
+    kept_most is_done own kept = omega (arith, ap (λ (l : List Record). length l) kept.records, length-append old.records (record { moment = new.moment; call = call; is_done = is_done } ∷ []), kept.later, tells.most)
+
+    asked_kept : (is_done : Bool) → new.records ≡ records_with old new.moment call is_done → asked_bytes new.records ≡ asked_bytes old.records + byte_count_of call true
+    asked_kept is_done records = ap asked_bytes records ∙ asked_bytes-push (record { moment = new.moment; call = call; is_done = is_done }) bytes old.records
+
+    more_asked : (is_done : Bool) (own : List ℕ) → IsKept call is_done own old new → asked_bytes old.records ≤ asked_bytes new.records
+    more_asked is_done own kept = omega (arith, asked_kept is_done kept.records)
+
+    -- a call that fails leaves a medium that is spent
+    pub failed_spent : {T E : Type 0} (e : E) → (let r : Result T E = Err e in Makes call bytes old new r) → (let r : Result T E = Err e in HasRoom old (length bytes) → (IsErr r ↔ MustFail old)) → IsSpent new
+    failed_spent e makes within = ⊎_elim (λ low. ⊎_elim (kept low) (λ full. inr (inl (omega (arith, makes.ticks.next, makes.calls_room, full, tells.most, low)))) (cases_lt (length old.records) old.calls_room)) last (cases_lt old.moment (2 ^ 64 - 1))
+      where
+        last : 2 ^ 64 - 1 ≤ old.moment → IsSpent new
+        last high = inr (inr (inr (omega (arith, makes.ticks.next, high))))
+
+        kept : old.moment < 2 ^ 64 - 1 → length old.records < old.calls_room → IsSpent new
+        kept low room = ⊎_elim
+            (λ over. inr (inr (inl (omega (arith, over, makes.bytes_room, asked_kept false (makes.kept low room), byte_count_is call true bytes (length read) suits, total_asked old.records, tells.whole)))))
+            (λ fits. ⊎_elim (λ high. last (omega (arith, high)))
+            (λ listed. inl (old.moment + 1, subst (λ (l : List ℕ). Contains l (old.moment + 1)) (sym makes.listed) listed, omega arith, omega (arith, makes.ticks.next, low)))
+            ((within (room, omega (arith, fits))).0 refl))
+            (cases_lt old.bytes_room (length old.written + length bytes))
+
     -- A call that was done leaves these bytes, and one that failed leaves the old ones.
-    pub tells_done : (after : List ℕ) → (next_content_by call true bytes (content_of (shows old))).bytes ≡ after → IsKept call true bytes old new → Tells (shows new) after
-    tells_done after is kept = record {
+    pub tells_done : (after : List ℕ) → (next_content_by call true bytes (content_of (shows old))).bytes ≡ after → IsKept call true bytes old new → Stays → new.faults ≡ old.faults → Tells (shows new) after
+    tells_done after is kept stays same = record {
+      most = kept_most true bytes kept;
+      spent = λ some. still_spent stays (more_asked true bytes kept) (tells.spent (omega (arith, some, same)));
       stamped = stamped_kept call true bytes kept tells.whole tells.stamped;
       whole = whole_kept call true bytes kept tells.whole (byte_count_is call true bytes (length read) suits);
       bytes = (λ i. (content_done kept i).bytes) ∙ is;
@@ -171,10 +223,12 @@ module _ (start : List ℕ) (old new : Kept) where
         stays (Write at len) = refl
         stays Barrier = refl
 
-    pub tells_failed : IsPassed old new ⊎ IsKept call false [] old new → Tells (shows new) read
-    tells_failed failed = ⊎_elim
-        (λ passed. tells_passed passed read tells)
+    pub tells_failed : IsPassed old new ⊎ IsKept call false [] old new → IsSpent new → Tells (shows new) read
+    tells_failed failed spent = ⊎_elim
+        (λ passed. tells_passed passed read tells (λ some. spent))
         (λ kept. record {
+          most = kept_most false [] kept;
+          spent = λ some. spent;
           stamped = stamped_kept call false [] kept tells.whole tells.stamped;
           whole = whole_kept call false [] kept tells.whole (byte_count_is call false bytes (length read) suits);
           bytes = (λ i. (content_kept call false [] kept tells.whole i).bytes) ∙ same_read;
@@ -182,9 +236,10 @@ module _ (start : List ℕ) (old new : Kept) where
         failed
 
     -- the same for a call that changes no byte
-    pub tells_either : {T E : Type 0} (result : Result T E) → (next_content_by call true bytes (content_of (shows old))).bytes ≡ (content_of (shows old)).bytes → Makes call bytes old new result → Tells (shows new) read
-    tells_either (Ok x) same makes = tells_done read (same ∙ tells.bytes) makes.done
-    tells_either (Err e) same makes = tells_failed makes.failed
+    pub tells_either : {T E : Type 0} (result : Result T E) → (next_content_by call true bytes (content_of (shows old))).bytes ≡ (content_of (shows old)).bytes → Makes call bytes old new result
+        → (HasRoom old (length bytes) → (IsErr result ↔ MustFail old)) → Tells (shows new) read
+    tells_either (Ok x) same makes within = tells_done read (same ∙ tells.bytes) makes.done (stays_of (Ok x) makes) makes.faults
+    tells_either (Err e) same makes within = tells_failed makes.failed (failed_spent e makes within)
 
     pub content_on_ok : {T E : Type 0} (result : Result T E) → Makes call bytes old new result → OnOk result (content_of (shows new) ≡ next_content_by call true bytes (content_of (shows old)))
     content_on_ok (Ok x) makes = content_done makes.done
@@ -222,3 +277,13 @@ written_back items slice over more at n count is done fits =
     let all : over ≡ put items at more = done ∙ ap (λ (l : List ℕ). put l at more) is in
     let long : length over ≡ length items = ap length all ∙ length-put items at more fits in
     ap (λ (l : List ℕ). take n (over ++ l)) (drop_all (length over) items (omega arith)) ∙ ap (take n) (append-nil over) ∙ take_all n over (omega arith) ∙ all
+
+-- one more call is listed
+pub tells_listed : (start read : List ℕ) (old : Kept) (nth : ℕ) → Tells (record { start = start; kept = old }) read → Tells (record { start = start; kept = record old { listed = old.listed ++ nth ∷ [] } }) read
+tells_listed start read old nth tells = record {
+  stamped = tells.stamped;
+  whole = tells.whole;
+  bytes = tells.bytes;
+  most = tells.most;
+  spent = λ some. ⊎_elim (λ met. inl (met.0, Contains-append_left old.listed (nth ∷ []) met.0 met.1, met.2, met.3)) (λ rest. inr rest) (tells.spent some);
+}

@@ -6,7 +6,7 @@ use Rattle.pcm_media.specs.declared.call.Call.TheVariants.{Read, Write, Barrier}
 use Rattle.pcm_media.specs.Calls.{Record}
 use Rattle.mars_base.specs.Bytes.{put}
 use Rattle.pcm_media.specs.Images.{Content, MayLeave}
-use Rattle.pcm_media.specs.Replay.{byte_count_of, next_content_by, byte_count, total_bytes, next_content, IsStamped, content_after, LeftBefore}
+use Rattle.pcm_media.specs.Replay.{byte_count_of, next_content_by, byte_count, total_bytes, asked_bytes, next_content, IsStamped, content_after, LeftBefore}
 
 -- bytes that follow those of a call do not change what it does
 next_content_by-append : (call : Call) (is_done : Bool) (written more : List ℕ) (content : Content) → byte_count_of call is_done ≤ length written → next_content_by call is_done (written ++ more) content ≡ next_content_by call is_done written content
@@ -63,6 +63,21 @@ module _ (made : Record) (more : List ℕ) where
   pub total_bytes-push : (records : List Record) → total_bytes (records ++ made ∷ []) ≡ total_bytes records + byte_count made
   total_bytes-push [] = omega arith
   total_bytes-push (x ∷ records) = omega (arith, total_bytes-push records)
+
+  pub asked_bytes-push : (records : List Record) → asked_bytes (records ++ made ∷ []) ≡ asked_bytes records + byte_count_of made.call true
+  asked_bytes-push [] = omega arith
+  asked_bytes-push (x ∷ records) = omega (arith, asked_bytes-push records)
+
+-- the bytes that belong to calls are among those that they were to write
+pub total_asked : (records : List Record) → total_bytes records ≤ asked_bytes records
+total_asked [] = omega arith
+total_asked (x ∷ records) = omega (arith, own x.call x.is_done, total_asked records)
+  where
+    own : (call : Call) (is_done : Bool) → byte_count_of call is_done ≤ byte_count_of call true
+    own Read is_done = omega arith
+    own (Write at len) true = omega arith
+    own (Write at len) false = omega arith
+    own Barrier is_done = omega arith
 
 pub stamped_push : (made : Record) (now : ℕ) (records : List Record) → made.moment ≤ now → IsStamped now records → IsStamped now (records ++ made ∷ [])
 stamped_push made now [] le stamped = (le, tt)

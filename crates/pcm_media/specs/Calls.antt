@@ -1,5 +1,5 @@
 -- The calls that a medium in memory keeps, and the marks and places by which it keeps them.
-use Rattle.std.specs.Prelude.{ℕ, ◌≡◌, ◌+◌, ◌-◌, ◌≤◌, Bool, true, false, List, [], ◌∷◌, ◌++◌, length, take, drop, replicate, min}
+use Rattle.std.specs.Prelude.{ℕ, ◌+◌, Bool, true, false, List, [], ◌∷◌, ◌++◌, length, take, drop, replicate}
 use Rattle.pcm_media.specs.declared.call.Call.{Call}
 use Rattle.pcm_media.specs.declared.call.Call.TheVariants.{Read, Write, Barrier}
 use Rattle.pcm_media.specs.declared.call.Place.{Place}

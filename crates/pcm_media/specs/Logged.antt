@@ -1,6 +1,5 @@
 -- What the record of a medium's calls shows, and what is counted beside it.
 use Rattle.std.specs.Prelude.{ℕ, ◌≡◌, ◌+◌, ◌-◌, List, [], ◌∷◌, ◌++◌, ◌≤◌, length, drop, min}
-use Rattle.pcm_media.specs.declared.call.Call.{Call}
 use Rattle.pcm_media.specs.declared.call.Place.{Place}
 use Rattle.pcm_media.specs.declared.call.End.TheVariants.{Open}
 use Rattle.pcm_media.specs.declared.call.Mark.{Mark}

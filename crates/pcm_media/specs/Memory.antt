@@ -1,10 +1,11 @@
 -- What a medium in memory shows.
-use Rattle.std.specs.Prelude.{ℕ, ◌<◌, ◌≡◌, ◌⊎◌, Bool, List, length}
+use Rattle.std.specs.Prelude.{ℕ, ◌-◌, ◌^◌, ◌<◌, ◌≤◌, ◌≡◌, ◌⊎◌, Bool, List, length}
 use Rattle.std.proofs.Common.{inl, ⊎_elim, arith}
+use Rattle.mars_base.specs.Causes.{MetListed}
 use Rattle.pcm_media.specs.Images.{Content, MayLeave}
 use Rattle.pcm_media.specs.View.{View}
 use Rattle.pcm_media.specs.Kept.{Kept, fresh_kept, has_room_for}
-use Rattle.pcm_media.specs.Replay.{at_rest, total_bytes, IsStamped, content_after, LeftBefore}
+use Rattle.pcm_media.specs.Replay.{at_rest, total_bytes, asked_bytes, IsStamped, content_after, LeftBefore}
 
 -- the bytes with which it was made, and what it keeps of its calls
 pub record Memory : Type 0 where
@@ -36,16 +37,23 @@ view_of memory = record {
 abbrev pub is_steady : Memory → ℕ → ℕ → Bool
 is_steady memory calls bytes = has_room_for memory.kept calls bytes
 
+-- A call that was made is listed, more calls were made or more bytes were to be written than there is room for, or the moment is at its last
+-- value.
+abbrev pub IsSpent : Kept → Type 0
+IsSpent kept = MetListed kept.listed kept.moment ⊎ ((kept.calls_room < kept.moment) ⊎ ((kept.bytes_room < asked_bytes kept.records) ⊎ (2 ^ 64 - 1 ≤ kept.moment)))
+
 -- a new one, with these bytes and room for this many calls and written bytes
 abbrev pub fresh_memory : List ℕ → ℕ → ℕ → Memory
 fresh_memory start calls bytes = record { start = start; kept = fresh_kept calls bytes }
 
 -- What it holds follows from the kept calls: no stamp is above the moment, each written byte belongs to one of them, and a read
--- gives what they made of the first bytes.
+-- gives what they made of the first bytes. Not more of them were kept than were made, and one failed only where it is spent.
 pub record Tells (memory : Memory) (read : List ℕ) : Type 0 where
   pub stamped : IsStamped memory.kept.moment memory.kept.records
   pub whole : total_bytes memory.kept.records ≡ length memory.kept.written
   pub bytes : (content_of memory).bytes ≡ read
+  pub most : length memory.kept.records ≤ memory.kept.moment
+  pub spent : 0 < memory.kept.faults → IsSpent memory.kept
 
 -- what may be left now counts as left since each moment
 pub counts_now : (memory : Memory) (t : ℕ) (image : List ℕ) → MayLeave (content_of memory) image → LeftSince memory t image

@@ -44,6 +44,11 @@ abbrev pub total_bytes : List Record → ℕ
 total_bytes [] = 0
 total_bytes (made ∷ later) = byte_count made + total_bytes later
 
+-- how many bytes these calls were to write, those that failed too
+abbrev pub asked_bytes : List Record → ℕ
+asked_bytes [] = 0
+asked_bytes (made ∷ later) = byte_count_of made.call true + asked_bytes later
+
 -- no stamp is above this moment
 abbrev pub IsStamped : ℕ → List Record → Type 0
 IsStamped now [] = Unit {0}

@@ -1,5 +1,5 @@
 // A medium that passes a number of calls on, and then fails each one.
-ghost use Rattle.std.specs.Prelude.{◌≡◌, ◌+◌, ◌-◌, ◌<◌, ◌≤◌, nat_le, ◌&&◌, [], ◌∷◌, length, ℕ, IsTrue, IsOk, OnOk};
+ghost use Rattle.std.specs.Prelude.{◌≡◌, ◌+◌, ◌-◌, ◌<◌, ◌≤◌, ◌⊎◌, nat_le, ◌&&◌, [], ◌∷◌, length, ℕ, IsTrue, IsOk, OnOk};
 ghost use Rattle.std.specs.Bool.{OnTrue, OnFalse};
 ghost use Rattle.mars_base.specs.Moments.{Ticks};
 ghost use Rattle.mars_base.specs.Bytes.{range};
@@ -73,7 +73,7 @@ impl<M> FusedMedia<M> {
 }
 
 impl<M: Media> Media for FusedMedia<M> {
-    ghost use Rattle.std.specs.Prelude.{nat_le, ◌&&◌};
+    ghost use Rattle.std.specs.Prelude.{◌<◌, ◌⊎◌, nat_le, ◌&&◌};
     ghost use Rattle.pcm_media.specs.Fused.{fused_view, only_fused};
     ghost use Rattle.std.proofs.Common.{inr};
 
@@ -82,6 +82,9 @@ impl<M: Media> Media for FusedMedia<M> {
     ghost view = { λ m. fused_view (M.view m.inner) m.blown };
 
     ghost steady = { λ m calls more. nat_le calls m.passes && M.steady m.inner calls more };
+
+    // A call came for which it had no pass, or the medium behind it is spent.
+    ghost spent = { λ m. (0 < m.blown) ⊎ M.spent m.inner };
 
     ghost long = { λ m told. M.long m.inner told };
 
@@ -149,5 +152,11 @@ impl<M: Media> Media for FusedMedia<M> {
             return Err(Failed);
         }
         self.inner.barrier()
+    }
+
+    fn fails_when_spent(&self)
+        ensures { 0 < (behind M.view self.now).faults → (0 < self.now.blown) ⊎ M.spent self.now.inner }
+    {
+        self.inner.fails_when_spent();
     }
 }

@@ -1,5 +1,5 @@
 // A medium as the layers above see it: what a read gives, and what a loss of power may leave.
-ghost use Rattle.std.specs.Prelude.{◌≡◌, ◌+◌, ◌≤◌, [], ◌∷◌, Bool, List, ℕ, length, IsTrue, IsOk, OnOk};
+ghost use Rattle.std.specs.Prelude.{◌≡◌, ◌+◌, ◌<◌, ◌≤◌, [], ◌∷◌, Bool, List, ℕ, length, IsTrue, IsOk, OnOk};
 ghost use Rattle.mars_base.specs.Moments.{Ticks};
 ghost use Rattle.mars_base.specs.Bytes.{range};
 ghost use Rattle.pcm_media.specs.Images.{MayLeave, written, settled};
@@ -18,6 +18,9 @@ pub trait Media {
 
     /// Whether this many further calls of `read`, `write` and `barrier`, which write this many bytes in all, are sure not to fail.
     ghost steady: { Self → ℕ → ℕ → Bool };
+
+    /// What it promised is used up, or it never promised anything.
+    ghost spent: { Self → Type 0 };
 
     /// Its length in bytes.
     fn len(&self) -> u64
@@ -49,6 +52,10 @@ pub trait Media {
         ensures does { Writes tells [] (view self.old) (view self.new) result }
         ensures ticks { Ticks (view self.old).moment (view self.new).moment result }
         ensures steady { (calls more : ℕ) → IsTrue (steady self.old (calls + 1) more) → IsOk result × IsTrue (steady self.new calls more) };
+
+    /// It fails only where it is spent. This does nothing: only clauses need it.
+    fn fails_when_spent(&self)
+        ensures { 0 < (view self.now).faults → spent self.now };
 
     /// Its content has as many bytes as it has.
     ghost long: { (m : Self) → IsTrue tells → length (view m).content.bytes ≡ (view m).size };

@@ -6,7 +6,7 @@ ghost use Rattle.pcm_media.specs.Images.{written, settled, partly};
 ghost use Rattle.pcm_media.specs.View.{Writes};
 ghost use Rattle.pcm_media.specs.declared.call.Call.TheVariants.{Read, Write, Barrier};
 ghost use Rattle.pcm_media.specs.Kept.{MustFail, HasRoom, Makes};
-ghost use Rattle.pcm_media.specs.Memory.{fresh_memory, content_of, view_of, is_steady};
+ghost use Rattle.pcm_media.specs.Memory.{fresh_memory, content_of, view_of, is_steady, IsSpent};
 ghost use Rattle.pcm_media.specs.Choice.{IsLeftBy};
 
 use crate::Media;
@@ -121,6 +121,8 @@ impl Media for MemoryMedia {
 
     ghost steady = { is_steady };
 
+    ghost spent = { λ m. IsSpent m.kept };
+
     ghost long = { λ m told. refl };
 
     ghost counts_now = { λ m t image told le left. counts_now m t image left };
@@ -193,5 +195,11 @@ impl Media for MemoryMedia {
         ensures start { self.new.start ≡ self.old.start }
     {
         self.journal.make(Call::Barrier, &[])
+    }
+
+    fn fails_when_spent(&self)
+        ensures { 0 < self.now.kept.faults → IsSpent self.now.kept }
+    {
+        let _ = &self.journal;
     }
 }

@@ -77,6 +77,8 @@ impl<M: Media> Media for HeldMedia<M> {
 
     ghost steady = { λ m calls more. M.steady m calls more };
 
+    ghost spent = { λ m. M.spent m };
+
     ghost long = { λ m told. M.long m told };
 
     ghost counts_now = { λ m t image told le left. M.counts_now m t image told le left };
@@ -102,5 +104,9 @@ impl<M: Media> Media for HeldMedia<M> {
 
     fn barrier(&mut self) -> Result<(), Failed> {
         self.inner.barrier()
+    }
+
+    fn fails_when_spent(&self) {
+        self.inner.fails_when_spent();
     }
 }

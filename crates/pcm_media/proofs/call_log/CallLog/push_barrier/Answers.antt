@@ -1,4 +1,4 @@
-use Rattle.std.proofs.Common.{◌≡◌, refl, sym, ap, arith, length, [], false, true}
+use Rattle.std.proofs.Common.{refl, sym, ap, arith, [], false, true}
 use Rattle.std.proofs.lemmas.List.{append-nil, drop_all}
 use Rattle.pcm_media.specs.declared.call.Call.TheVariants.{Barrier}
 use Rattle.pcm_media.specs.Calls.{ranges_in}

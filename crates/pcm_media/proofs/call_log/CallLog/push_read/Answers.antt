@@ -1,4 +1,4 @@
-use Rattle.std.proofs.Common.{refl, sym, [], false, true}
+use Rattle.std.proofs.Common.{refl, sym, [], false}
 use Rattle.std.proofs.lemmas.List.{append-nil}
 use Rattle.pcm_media.specs.declared.call.Call.TheVariants.{Read}
 use Rattle.pcm_media.proofs.CallLemmas.{read_kept, end_kept}

@@ -1,4 +1,4 @@
-use Rattle.std.proofs.Common.{◌≡◌, ◌∙◌, refl, ap, arith, length, [], ◌∷◌, ◌++◌, false, true}
+use Rattle.std.proofs.Common.{◌∙◌, refl, ap, arith, length, [], ◌∷◌, false}
 use Rattle.std.proofs.lemmas.List.{length-append}
 use Rattle.pcm_media.specs.declared.call.Call.TheVariants.{Write}
 use Rattle.pcm_media.proofs.CallLemmas.{write_kept, write_unsettled, end_kept}

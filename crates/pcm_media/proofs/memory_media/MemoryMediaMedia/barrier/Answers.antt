@@ -4,7 +4,7 @@ use Rattle.pcm_media.proofs.MemoryLemmas.{does, tells_either, content_on_ok, con
 use Rattle.pcm_media.proofs.memory_media.MemoryMediaMedia.barrier.Goals as goal
 
 pub invariant_of-self : goal.invariant_of-self
-invariant_of-self c = tells_either c.self.inside.start.items c.self.inside.journal c.make.new.self Barrier [] c.self.inside.bytes.items c.self.invariant refl c.make.result refl c.make.ensures.made
+invariant_of-self c = tells_either c.self.inside.start.items c.self.inside.journal c.make.new.self Barrier [] c.self.inside.bytes.items c.self.invariant refl c.make.result refl c.make.ensures.made c.make.ensures.listed
 
 pub returns-clause-settled : goal.returns-clause-settled
 returns-clause-settled c = rw (← c.self.view_is) (content_on_ok c.self.inside.start.items c.self.inside.journal c.make.new.self Barrier [] c.self.inside.bytes.items c.self.invariant refl c.make.result c.make.ensures.made)

@@ -1,11 +1,11 @@
-use Rattle.std.proofs.Common.{refl, [], length}
+use Rattle.std.proofs.Common.{refl, []}
 use Rattle.pcm_media.specs.declared.call.Call.TheVariants.{Read}
 use Rattle.pcm_media.proofs.MemoryLemmas.{does, tells_either, content_same}
 use Rattle.std.proofs.lemmas.Result.{err_from_is_err_and}
 use Rattle.pcm_media.proofs.memory_media.MemoryMediaMedia.read.Goals as goal
 
 pub invariant_of-self : goal.invariant_of-self
-invariant_of-self c = tells_either c.self.inside.start.items c.self.inside.journal c.make.new.self Read [] c.self.inside.bytes.items c.self.invariant refl c.make.result refl c.make.ensures.made
+invariant_of-self c = tells_either c.self.inside.start.items c.self.inside.journal c.make.new.self Read [] c.self.inside.bytes.items c.self.invariant refl c.make.result refl c.make.ensures.made c.make.ensures.listed
 
 pub returns-in_err-make-clause-does : goal.returns-in_err-make-clause-does
 returns-in_err-make-clause-does c =
@@ -13,7 +13,7 @@ returns-in_err-make-clause-does c =
     rw (p.1, ← c.self.view_is) (does c.self.inside.start.items c.self.inside.journal c.make.new.self Read [] c.self.inside.bytes.items c.self.invariant refl _ c.in_err-make.ensures.made)
 
 pub invariant_of-self-2 : goal.invariant_of-self-2
-invariant_of-self-2 c = tells_either c.self.inside.start.items c.self.inside.journal c.make.new.self Read [] c.self.inside.bytes.items c.self.invariant refl c.make.result refl c.make.ensures.made
+invariant_of-self-2 c = tells_either c.self.inside.start.items c.self.inside.journal c.make.new.self Read [] c.self.inside.bytes.items c.self.invariant refl c.make.result refl c.make.ensures.made c.make.ensures.listed
 
 pub returns-clause-does : goal.returns-clause-does
 returns-clause-does c = rw (← c.self.view_is) (does c.self.inside.start.items c.self.inside.journal c.make.new.self Read [] c.self.inside.bytes.items c.self.invariant refl _ c.in_ok-make.ensures.made)

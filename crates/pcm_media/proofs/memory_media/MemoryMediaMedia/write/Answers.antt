@@ -4,7 +4,7 @@ use Rattle.pcm_media.specs.declared.call.Call.TheVariants.{Write}
 use Rattle.mars_base.specs.Bytes.{put}
 use Rattle.pcm_media.specs.Images.{Content}
 use Rattle.pcm_media.specs.Memory.{content_of, Memory}
-use Rattle.pcm_media.proofs.MemoryLemmas.{Suits, does, tells_done, tells_failed, content_done, content_lost, bytes_failed, step_written, written_back}
+use Rattle.pcm_media.proofs.MemoryLemmas.{Suits, does, tells_done, tells_failed, failed_spent, stays_of, content_done, content_lost, bytes_failed, step_written, written_back}
 use Rattle.pcm_media.proofs.memory_media.MemoryMediaMedia.write.Goals as goal
 
 -- the range lies within the bytes that a read gives
@@ -12,8 +12,11 @@ fits : (memory whole : Memory) (at : ℕ) (bytes read : List ℕ) → whole ≡ 
 fits memory whole at bytes read is reads within = (refl, omega (arith, within, ap (λ m. length (content_of m).bytes) is, ap length reads))
 
 pub invariant_of-self : goal.invariant_of-self
-invariant_of-self c = tells_failed c.self.inside.start.items c.self.inside.journal c.make.new.self (Write c.args.at (length c.args.bytes.now)) c.args.bytes.now c.self.inside.bytes.items c.self.invariant
-    (fits c.args.self.now _ c.args.at c.args.bytes.now c.self.inside.bytes.items c.self.view_is c.self.invariant.bytes c.requires) c.in_err-make.ensures.made.failed
+invariant_of-self c =
+    let call = Write c.args.at (length c.args.bytes.now) in
+    let suits = fits c.args.self.now _ c.args.at c.args.bytes.now c.self.inside.bytes.items c.self.view_is c.self.invariant.bytes c.requires in
+    tells_failed c.self.inside.start.items c.self.inside.journal c.make.new.self call c.args.bytes.now c.self.inside.bytes.items c.self.invariant suits c.in_err-make.ensures.made.failed
+    (failed_spent c.self.inside.start.items c.self.inside.journal c.make.new.self call c.args.bytes.now c.self.inside.bytes.items c.self.invariant suits _ c.in_err-make.ensures.made c.in_err-make.ensures.listed)
 
 pub returns-in_err-make-clause-does : goal.returns-in_err-make-clause-does
 returns-in_err-make-clause-does c =
@@ -30,7 +33,7 @@ invariant_of-self-2 c =
     tells_done c.self.inside.start.items c.self.inside.journal c.make.new.self (Write c.args.at (length c.args.bytes.now)) c.args.bytes.now items c.self.invariant suits _
     ((λ i. (step_written c.args.at c.args.bytes.now content i).bytes) ∙ ap (λ (l : List ℕ). put l c.args.at c.args.bytes.now) c.self.invariant.bytes
     ∙ sym (written_back items c.deref_mut.result.now c.overwrite.new.bytes c.args.bytes.now c.args.at c.self.inside.bytes.len len c.deref_mut.ensures.value c.overwrite.ensures suits.1))
-    c.in_ok-make.ensures.made.done
+    c.in_ok-make.ensures.made.done (stays_of c.self.inside.start.items c.self.inside.journal c.make.new.self _ c.in_ok-make.ensures.made) c.in_ok-make.ensures.made.faults
 
 pub returns-clause-written : goal.returns-clause-written
 returns-clause-written c =
