@@ -37,6 +37,7 @@ pub trait Core {
         requires locked { IsLocked (view self.old).state caller call.now }
         ensures steps { Steps tells caller call.now (view self.old) (view self.new) result }
         ensures dead { IsTrue (view self.old).state.is_dead → (result ≡ Dead) × (self.new ≡ self.old) }
+        ensures purge { call.now ≡ Purge → PurgeCause (view self.old).state caller result }
         ensures not_busy { IsFalse (is_busy result) }
         ensures tabled { IsFalse (is_refusal result) → IsTrue (has_table (view self.old).state.names call.now) }
         ensures sends { sends self.old self.new };
@@ -77,6 +78,7 @@ impl<C: Core> Core for Box<C> {
         requires locked { IsLocked (C.view self.old.value).state caller call.now }
         ensures steps { Steps C.tells caller call.now (C.view self.old.value) (C.view self.new.value) result }
         ensures dead { IsTrue (C.view self.old.value).state.is_dead → (result ≡ Dead) × (self.new ≡ self.old) }
+        ensures purge { call.now ≡ Purge → PurgeCause (C.view self.old.value).state caller result }
         ensures not_busy { IsFalse (is_busy result) }
         ensures tabled { IsFalse (is_refusal result) → IsTrue (has_table (C.view self.old.value).state.names call.now) }
         ensures sends { C.sends self.old.value self.new.value }

@@ -13,6 +13,7 @@ use Rattle.caller_steps.specs.Room.{Limits}
 use Rattle.caller_steps.specs.Fate.{Moves, is_committed, is_refusal, is_busy}
 use Rattle.history.specs.declared.call.Call.TheVariants.{Begin, Settle, Purge}
 use Rattle.caller_steps.specs.Prefix.{Grows}
+use Rattle.caller_steps.specs.Purging.{PurgeCause}
 use Rattle.caller_steps.specs.Step.{Step}
 use Rattle.caller_steps.specs.Core.{CoreView, Steps}
 use Rattle.caller_steps.specs.Run.{Turn, Goes, AreOf, turns_of}
@@ -69,8 +70,9 @@ module _ {C : Type 0} (f : Face C) where
 
   module _ (setup : Setup C) (turns : List Turn) (old new : C) (k : Known C) (call : Call) (reply : Reply) (fit : Fits f.tells f.show setup turns (f.show old).state k)
       (s : Steps f.tells k.number call (f.show old) (f.show new) reply) (dead : IsTrue (f.show old).state.is_dead → (reply ≡ Dead) × (new ≡ old)) where
-    pub called : Since f.tells (f.show setup.first) (f.show old) → AreOf setup.callers turns → CanShare f.tells setup.callers (f.show setup.first) → Called f.tells f.show k call reply (shown f call reply turns new k)
-    called since whose ready = record {
+    pub called : (call ≡ Purge → PurgeCause (f.show old).state k.number reply) → Since f.tells (f.show setup.first) (f.show old) → AreOf setup.callers turns → CanShare f.tells setup.callers (f.show setup.first)
+        → Called f.tells f.show k call reply (shown f call reply turns new k)
+    called purge since whose ready = record {
       setup = setup;
       turns = turns;
       old = old;
@@ -83,6 +85,7 @@ module _ {C : Type 0} (f : Face C) where
       last = fit.last;
       steps = s;
       dead = dead;
+      purge = purge;
       after = refl;
     }
 
@@ -149,12 +152,14 @@ module _ {C : Type 0} (f : Face C) where
         told_seat = let F : SeatOf C → SeatOf C = λ m. (shared_view (map (shown f call reply record_of.turns new) m.0.passes) (Some new), m.1) in record_of.now ∙ ap F homed
 
         -- the seat once the turn is given back
-        pub made : (m5 : SeatOf C) → m5 ≡ (shared_view m4.0.passes None, []) → Makes f.tells f.show k call reply m5
-        made m5 give =
+        pub made : (call ≡ Purge → PurgeCause (f.show core).state n reply) → (m5 : SeatOf C) → m5 ≡ (shared_view m4.0.passes None, []) → Makes f.tells f.show k call reply m5
+        made purge m5 give =
             let t = record_of in
             let all = subst (λ (ks : List (Known C)). AllFit f.tells f.show t.setup t.turns (f.show core).state ks) (ap (λ (m : SeatOf C). m.0.passes) homed) t.fit in
             let fit : Fits f.tells f.show t.setup t.turns (f.show core).state k = found_fit f t.setup t.turns core k.found (finds 0 k) all.0 in
-            let F : SeatOf C → SeatOf C = λ m. (shared_view m.0.passes None, []) in record {
+            let F : SeatOf C → SeatOf C = λ m. (shared_view m.0.passes None, []) in
+            let cause = λ is. subst (λ i. PurgeCause (f.show core).state i reply) (sym number) (purge is) in
+            let step = called t.setup t.turns core new k call reply fit steps_as dead cause t.since t.whose t.ready in record {
               now = shown f call reply t.turns new k;
               is = give ∙ ap F told_seat;
               made = record {
@@ -165,8 +170,8 @@ module _ {C : Type 0} (f : Face C) where
                 met = refl;
                 sure = sure;
                 begun = begun_at t.setup t.turns fit t.ready (f.show core).state.is_dead refl;
-                called = called t.setup t.turns core new k call reply fit steps_as dead t.since t.whose t.ready;
-                told = told_on f.tells f.show k call reply (shown f call reply t.turns new k) (called t.setup t.turns core new k call reply fit steps_as dead t.since t.whose t.ready);
+                called = step;
+                told = told_on f.tells f.show k call reply (shown f call reply t.turns new k) step;
                 seen = seen_grows t.setup t.turns core new k call reply fit steps_as dead;
                 legal = legal_now t.setup t.turns core new k call reply fit steps_as dead t.since;
                 commits = commits t.setup t.turns core new k call reply fit steps_as dead inside_at t.ready;
@@ -190,6 +195,7 @@ module _ {C : Type 0} (tells : Bool) (show : C → CoreView) (was last now : Kno
         last = c.last;
         steps = c.steps;
         dead = c.dead;
+        purge = c.purge;
         after = c.after;
       }
 

@@ -148,6 +148,7 @@ module _ {C : Type 0} where
           last = c.last;
           steps = c.steps;
           dead = c.dead;
+          purge = c.purge;
           after = e ∙ ap (with_holds hs) c.after ∙ (λ i. with_locks (sym holds i) (sym met i) (known_after k c.turns (show c.new).state call reply));
         }
 

@@ -6,13 +6,14 @@ use Rattle.history.specs.Writes.{Table}
 use Rattle.history.specs.Legal.{IsLegal}
 use Rattle.history.specs.declared.transaction.Done.{Done}
 use Rattle.history.specs.declared.call.Call.{Call}
-use Rattle.history.specs.declared.call.Call.TheVariants.{Settle}
+use Rattle.history.specs.declared.call.Call.TheVariants.{Settle, Purge}
 use Rattle.history.specs.declared.call.Reply.{Reply}
 use Rattle.history.specs.declared.call.Reply.TheVariants.{Committed, Dead}
 use Rattle.caller_steps.specs.Fate.{is_committed}
 use Rattle.caller_steps.specs.Sound.{IsSound}
 use Rattle.caller_steps.specs.Core.{CoreView, IsSafe, Steps, Continues}
 use Rattle.caller_steps.specs.State.{unoffered, commits_of}
+use Rattle.caller_steps.specs.Purging.{PurgeCause}
 use Rattle.caller_steps.specs.Run.{Turn, GoesAlong, AreOf, LastTurn}
 use Rattle.mars_manager.specs.declared.setup.Setup.{Setup}
 use Rattle.mars_manager.specs.declared.view.Known.{Known}
@@ -62,6 +63,7 @@ module _ {C : Type 0} where
     pub last : LastTurn tells (show setup.first).limits was.number was.past was.seen (show setup.first).state turns (show old).state
     pub steps : Steps tells was.number call (show old) (show new) reply
     pub dead : IsTrue (show old).state.is_dead → (reply ≡ Dead) × (new ≡ old)
+    pub purge : call ≡ Purge → PurgeCause (show old).state was.number reply
     pub after : now ≡ with_locks now.holds now.met (known_after was turns (show new).state call reply)
 
   -- A pass has read the history of a core that the shared one has come to by a run. Before, its past was this run up to its last turn, and it

@@ -125,6 +125,6 @@ returns-clause-made g c =
     let took = c.compare_exchange-found.ensures.2.0 c.if-found-ne0.false in
     let s = c.step_locked-reply.ensures in
     let m = made f _ _ _ _ i.known c.unwrap-core.result c.step_locked-reply.new.self _ i.is took c.exchange.ensures.2 c.unwrap-core.ensures c.exchange.ensures.3 c.exchange-2.ensures.3
-    _ c.args.call.now c.step_locked-reply.result i.number s.steps s.dead s.tabled s.not_busy _ c.tell.ensures.told _ c.store.ensures.2 in
+    _ c.args.call.now c.step_locked-reply.result i.number s.steps s.dead s.tabled s.not_busy _ c.tell.ensures.told s.purge _ c.store.ensures.2 in
     let known : i.known ≡ first_of c.args.seat.now.me.0.passes = sym (ap (λ (m : SeatOf g.row.C.Denot). first_of m.0.passes) i.is) in
     subst (λ (k : Known g.row.C.Denot). Makes g.C.Core.tells g.C.Core.view k c.args.call.now c.step_locked-reply.result c.store.new.seat.me) known m
