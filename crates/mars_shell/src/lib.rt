@@ -24,6 +24,7 @@ mod laws;
 mod lines;
 mod media_room;
 mod mirrored;
+mod obeying;
 mod record_work;
 mod records;
 mod responder;

@@ -10,22 +10,14 @@ ghost use Rattle.mars_shell.specs.Formats.{FormatSays};
 ghost use Rattle.array_runs.specs.Input.{InputSays};
 ghost use Rattle.array_runs.specs.Statuses.{Counts, IsSilent};
 
-use crate::callers::{Crew, run_callers};
-use crate::commands::run_commands;
-use crate::core_work::OnCore;
-use crate::drilling::DrawnScript;
-use crate::following::run_follow;
-use crate::formatting::run_format;
-use crate::framed_run::run_lines;
-use crate::records::over_records;
+use crate::obeying::{fail_when_spent, obey};
 use array_runs::Status;
 use caller_work::Gate;
-use command_words::{Words, WordsFault, read_words};
+use command_words::{WordsFault, read_words};
 use outside::{Sink, Source};
 use pcm_media::Media;
 use std::sync::Wait;
 use std::thread::Threads;
-use told_commands::{Dump, NewTable, Purge, run_told};
 
 /// Does all that the program does with the words after the image's, and returns the medium.
 ///
@@ -33,7 +25,6 @@ use told_commands::{Dump, NewTable, Purge, run_told};
 /// caller's transactions are made by a worker of its own on a thread, which calls the gate between its calls. `eaw` does not read the
 /// records, nor does `follow`, which applies frames that lines say. `drill`, `dump`, `make`, `purge` and `format` read no input. Only `callers` may wait. In `run`, `callers` and `drill` commits may be answered before
 /// their data is written to its place, if the words say so.
-#[tactic(auto, using(crate::proofs::Waiting::run_depth, crate::proofs::Waiting::drill_depth))]
 pub fn run<
     R: AllocGlobal + Threads + Wait + Sync,
     S: Source,
@@ -51,6 +42,8 @@ pub fn run<
     // A fault is reported as what it is, and none is hidden.
     ensures counts { Counts result.0 (S.faults source.old) (S.faults source.new) (K.faults sink.old) (K.faults sink.new) (M.view media).faults (M.view result.1).faults }
     ensures steady { IsTrue (S.steady source.old) → result.0 ≡ Status.ReadFault → ⊥ }
+    // A count rises only where the object is spent: with no listed call and enough room none does, and no fault is reported.
+    ensures spent { (Rose (S.faults source.old) (S.faults source.new) → S.spent source.new) × (Rose (K.faults sink.old) (K.faults sink.new) → K.spent sink.new) × (Rose (M.view media).faults (M.view result.1).faults → M.spent result.1) }
     // `TooLong` comes exactly when the input exceeds the limit. A command that reads the input and ends well has read all of it. The other
     // commands read none.
     ensures input { WordsSay (map string_bytes words.now) result.0 (source.new ≡ source.old) (λ asked. IfReads asked
@@ -70,27 +63,14 @@ pub fn run<
         → (Rose (S.faults source.old) (S.faults source.new) → ⊥) → (Rose (K.faults sink.old) (K.faults sink.new) → ⊥) → (Rose (M.view media).faults (M.view result.1).faults → ⊥)
         → IsComplete asked result.0) }
 {
+    fail_when_spent(source, sink, &media);
     match read_words(rt.alloc(), words) {
         Err(WordsFault::NoCommand) => (Status::Usage, media),
         Err(WordsFault::NoMemory) => (Status::NoMemory, media),
-        Ok(Words::Run(options)) => run_lines(rt.alloc(), source, sink, media, options),
-        Ok(Words::Callers(numbers)) => {
-            let crew = Crew { rt, numbers, gate };
-            run_callers(rt.alloc(), source, sink, media, &crew)
+        Ok(asked) => {
+            let (status, media) = obey(rt, asked, source, sink, media, gate);
+            fail_when_spent(source, sink, &media);
+            (status, media)
         }
-        Ok(Words::Eaw(options)) => run_commands(rt.alloc(), source, sink, media, options),
-        Ok(Words::Follow) => run_follow(rt.alloc(), source, sink, media),
-        Ok(Words::Dump) => run_told(rt.alloc(), source, sink, media, &Dump),
-        Ok(Words::Drill(numbers)) => {
-            let work = OnCore {
-                work: DrawnScript { numbers },
-            };
-            over_records(rt.alloc(), source, sink, media, numbers.writing, &work)
-        }
-        Ok(Words::Format(numbers)) => run_format(sink, media, &numbers),
-        Ok(Words::Make(ref name)) => {
-            run_told(rt.alloc(), source, sink, media, &NewTable { name: *name })
-        }
-        Ok(Words::Purge) => run_told(rt.alloc(), source, sink, media, &Purge),
     }
 }
