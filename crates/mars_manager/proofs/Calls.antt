@@ -158,7 +158,7 @@ module _ {C : Type 0} (f : Face C) where
             let all = subst (λ (ks : List (Known C)). AllFit f.tells f.show t.setup t.turns (f.show core).state ks) (ap (λ (m : SeatOf C). m.0.passes) homed) t.fit in
             let fit : Fits f.tells f.show t.setup t.turns (f.show core).state k = found_fit f t.setup t.turns core k.found (finds 0 k) all.0 in
             let F : SeatOf C → SeatOf C = λ m. (shared_view m.0.passes None, []) in
-            let cause = λ is. subst (λ i. PurgeCause (f.show core).state i reply) (sym number) (purge is) in
+            let cause : call ≡ Purge → PurgeCause (f.show core).state k.number reply = λ is. subst (λ (i : ℕ). PurgeCause (f.show core).state i reply) (sym number) (purge is) in
             let step = called t.setup t.turns core new k call reply fit steps_as dead cause t.since t.whose t.ready in record {
               now = shown f call reply t.turns new k;
               is = give ∙ ap F told_seat;
