@@ -43,7 +43,9 @@ pub fn run<
     ensures counts { Counts result.0 (S.faults source.old) (S.faults source.new) (K.faults sink.old) (K.faults sink.new) (M.view media).faults (M.view result.1).faults }
     ensures steady { IsTrue (S.steady source.old) → result.0 ≡ Status.ReadFault → ⊥ }
     // A count rises only where the object is spent: with no listed call and enough room none does, and no fault is reported.
-    ensures spent { (Rose (S.faults source.old) (S.faults source.new) → S.spent source.new) × (Rose (K.faults sink.old) (K.faults sink.new) → K.spent sink.new) × (Rose (M.view media).faults (M.view result.1).faults → M.spent result.1) }
+    ensures spent { (Rose (S.faults source.old) (S.faults source.new) → S.spent source.new)
+        × (Rose (K.faults sink.old) (K.faults sink.new) → K.spent sink.new)
+        × (Rose (M.view media).faults (M.view result.1).faults → M.spent result.1) }
     // `TooLong` comes exactly when the input exceeds the limit. A command that reads the input and ends well has read all of it. The other
     // commands read none.
     ensures input { WordsSay (map string_bytes words.now) result.0 (source.new ≡ source.old) (λ asked. IfReads asked

@@ -227,13 +227,13 @@ pub returns-in-Format-clause-untold : goal.returns-in-Format-clause-untold
 returns-in-Format-clause-untold g c = rw c.in-Format.is (λ is. absurd is)
 
 pub run_callers-requires-clause-few : goal.run_callers-requires-clause-few
-run_callers-requires-clause-few g c = λ κs lives. callers_few c.requires.0 c.in-Callers.numbers (subst (AsksFor c.requires.0) c.in-Callers.is c.requires.1)
+run_callers-requires-clause-few g c = λ κs lives. callers_few c.requires.asked.0 c.in-Callers.numbers (subst (AsksFor c.requires.asked.0) c.in-Callers.is c.requires.asked.1)
 
 pub run_callers-requires-clause-readers : goal.run_callers-requires-clause-readers
-run_callers-requires-clause-readers g c = λ κs lives. readers_few c.requires.0 c.in-Callers.numbers (subst (AsksFor c.requires.0) c.in-Callers.is c.requires.1)
+run_callers-requires-clause-readers g c = λ κs lives. readers_few c.requires.asked.0 c.in-Callers.numbers (subst (AsksFor c.requires.asked.0) c.in-Callers.is c.requires.asked.1)
 
 pub run_callers-requires-clause-depth : goal.run_callers-requires-clause-depth
-run_callers-requires-clause-depth g c = λ κs lives. callers_depth c.requires.0 c.in-Callers.numbers (subst (AsksFor c.requires.0) c.in-Callers.is c.requires.1)
+run_callers-requires-clause-depth g c = λ κs lives. callers_depth c.requires.asked.0 c.in-Callers.numbers (subst (AsksFor c.requires.asked.0) c.in-Callers.is c.requires.asked.1)
 
 pub returns-in-Make-clause-early : goal.returns-in-Make-clause-early
 returns-in-Make-clause-early g c = λ either. absurd (c.run_told-in-Make.ensures.late (is_early c.run_told-in-Make.result.0 either))
