@@ -1,4 +1,4 @@
-use Rattle.std.proofs.Common.{inl, arith}
+use Rattle.std.proofs.Common.{inl}
 use Rattle.std.specs.Prelude.{map, string_bytes}
 use Rattle.mars_shell.proofs.Saying.{obeyed_say}
 use Rattle.mars_shell.proofs.whole.run.Goals as goal
@@ -22,7 +22,7 @@ pub returns-in-Err-NoCommand-clause-complete : goal.returns-in-Err-NoCommand-cla
 returns-in-Err-NoCommand-clause-complete g c = inl (c.in-Err-NoCommand.ensures.refused c.in-Err-NoCommand.field-0-is)
 
 pub obey-status-requires-clause-asked : goal.obey-status-requires-clause-asked
-obey-status-requires-clause-asked g c = (map string_bytes c.args.words.now, c.in-Ok.ensures.asked)
+obey-status-requires-clause-asked g c = λ κs lives. (map string_bytes c.args.words.now, c.in-Ok.ensures.asked)
 
 pub returns-in-Ok-clause-usage : goal.returns-in-Ok-clause-usage
 returns-in-Ok-clause-usage g c = λ nothing. absurd (nothing c.in-Ok.asked c.in-Ok.ensures.asked)
