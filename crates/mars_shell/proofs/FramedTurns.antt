@@ -1,5 +1,5 @@
 -- What the lines that are answered with frames do to the turns alone.
-use Rattle.std.proofs.Common.{◌≡◌, ◌⊎◌, ℕ, ◌+◌, List, [], ◌∷◌, Bool, inl, inr, refl, ap, subst, ◌∙◌}
+use Rattle.std.proofs.Common.{◌≡◌, ℕ, ◌+◌, List, [], ◌∷◌, Bool, inl, inr, ap, subst, ◌∙◌}
 use Rattle.eaw_face.specs.Mirroring.{followed}
 use Rattle.caller_steps.specs.Run.{Turn}
 use Rattle.caller_steps.specs.Step.{Runs}

@@ -27,8 +27,8 @@ use Rattle.array_runs.specs.declared.status.Refusal.{Refusal}
 use Rattle.array_runs.specs.declared.status.Status.{Status}
 use Rattle.array_runs.specs.declared.status.Status.TheVariants.{Good, Usage, NoMemory, Refused, BadFrame, Gap}
 
--- `Usage` comes only if the words ask for nothing or for callers, for whom an array may have too few numbers. Else they ask for something of which Holds is said, but if memory ran out
--- they may be unread.
+-- `Usage` comes only if the words ask for nothing or for callers, for whom an array may have too few numbers. Else they ask for something
+-- of which Holds is said, but if memory ran out they may be unread.
 abbrev pub WordsSay : List (List ℕ) → Status → Type 0 → (Words → Type 0) → Type 0
 WordsSay words Usage Unread Holds = AskForNothing words ⊎ ((numbers : CallersNumbers) × AsksFor words (Callers numbers) × Holds (Callers numbers))
 WordsSay words NoMemory Unread Holds = Unread ⊎ ((asked : Words) × AsksFor words asked × Holds asked)
@@ -42,8 +42,8 @@ IfReads (Eaw given) Without Reads = Reads
 IfReads Follow Without Reads = Reads
 IfReads _ Without Reads = Without
 
--- What was written and done, by what is asked for. `run`, `callers`, `drill`, `dump`, `make` and `purge` read the records of an array that was opened.
--- `eaw` and `follow` do not. Only `callers` need numbers.
+-- What was written and done, by what is asked for. `run`, `callers`, `drill`, `dump`, `make` and `purge` read the records of an array that
+-- was opened. `eaw` and `follow` do not. Only `callers` need numbers.
 abbrev pub OutcomeFor : Words → View → Status → View → List ℕ → Bool → List ℕ → Type 0
 OutcomeFor (Run given) old status new input cut text = OverRecords false 0 (λ ended. RunsAs given.frames (is_late given.writing) input cut text old ended new) old status new cut text
 OutcomeFor (Callers numbers) old status new input cut text =

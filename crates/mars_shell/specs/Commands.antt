@@ -35,9 +35,9 @@ pub record ObeysBy {S : Type 0} (script : Script S) (first : Shape → State →
   pub quiet : ended ≡ All → HasNoVote shape new.content.bytes
   pub left : ended ≡ All → settled_data shape new.content.bytes ≡ (progress final).state.bytes
 
--- The commands were answered by the model. If frames are asked for, those that each command sends stand before its reply: in sequence from 1, and
--- at each whole reply those so far, applied in order to the data that was opened, give the committed data. Or then memory ran out before the
--- first line.
+-- The commands were answered by the model. If frames are asked for, those that each command sends stand before its reply: in sequence from
+-- 1, and at each whole reply those so far, applied in order to the data that was opened, give the committed data. Or then memory ran out
+-- before the first line.
 abbrev pub ObeysAs : (frames : Bool) → View → List ℕ → Ended → View → Bool → List ℕ → Type 0
 ObeysAs false old input ended new cut text = ObeysBy raw_script begun (λ progress. progress) old input ended new cut text
 ObeysAs true old input ended new cut text =

@@ -30,7 +30,8 @@ LeavesFollowed shape old new follow.NoMemory frames = Unit {0}
 LeavesFollowed shape old new _ frames = HasNoVote shape new.content.bytes × (settled_data shape new.content.bytes ≡ followed frames (settled_data shape old.content.bytes))
 
 -- The frames that the lines of the input say were applied to the data of the array. Whatever a loss of power might have left since the start
--- opens with that data with some first of the frames applied, or with the data of an image that could be left at first, if all of those open.
+-- opens with that data with some first of the frames applied, or with the data of an image that could be left at first, if all of those
+-- open.
 pub record Follows (old : View) (input : List ℕ) (ended : FollowEnd) (new : View) (cut : Bool) (text : List ℕ) : Type 0 where
   pub shape : Shape
   pub array : IsArray shape old

@@ -63,8 +63,8 @@ pub record IsBegun (asked : FormatNumbers) (old new : View) : Type 0 where
   pub cells : SameCells shape old.content.bytes new.content.bytes
   pub since : (image : List ℕ) → new.left_since old.moment image → IsHalfFresh shape old.content image
 
--- The medium holds a fresh array, whose data is a sound tree without records, and what a loss of power leaves opens with its data. The line of the bytes of the medium
--- and of the data is written, or a front of it if it was cut short.
+-- The medium holds a fresh array, whose data is a sound tree without records, and what a loss of power leaves opens with its data. The line
+-- of the bytes of the medium and of the data is written, or a front of it if it was cut short.
 pub record IsFormatted (asked : FormatNumbers) (old new : View) (cut : Bool) (text : List ℕ) : Type 0 where
   pub begun : IsBegun asked old new
   pub fresh : IsFresh begun.shape new.content

@@ -32,8 +32,8 @@ LeadTo limits begun turns bytes = (state : State) × Runs limits begun turns sta
 
 -- The lines of the frames that the opening has sent were written, and then the lines of the input were answered, each with its frames. What
 -- was acknowledged as committed is kept: the history has at least n transactions if an answer is the whole line `c committed n` behind lines
--- of frames. All frames up to a whole reply, applied in order to the data that was opened, give the data of a state to which the turns so far
--- lead. If all lines are answered, that is the data at the end.
+-- of frames. All frames up to a whole reply, applied in order to the data that was opened, give the data of a state to which the turns so
+-- far lead. If all lines are answered, that is the data at the end.
 pub record AnswersFramed (limits : Limits) (begun : State) (first : Framed (List Turn)) (input : List ℕ) (ended : Ended) (cut : Bool) (text : List ℕ) (turns : List Turn) (final : State) : Type 0 where
   pub answers : List (List ℕ)
   pub rest : List ℕ
@@ -44,8 +44,8 @@ pub record AnswersFramed (limits : Limits) (begun : State) (first : Framed (List
   pub acknowledged : (frames : List Frame) (caller n : ℕ) → caller < 2 ^ 64 → n < 2 ^ 64 → Contains answers (lines_of_frames frames ++ reply_line caller (Committed n)) → n ≤ length final.history
   pub whole : ended ≡ Done → final.index.bytes ≡ followed last.frames last.opened
 
--- The frames that the opening has sent are in sequence from 1, and bring the data to that of the callers' first state. Their lines were written
--- before all else, whole or in part.
+-- The frames that the opening has sent are in sequence from 1, and bring the data to that of the callers' first state. Their lines were
+-- written before all else, whole or in part.
 pub record SendsFirst (limits : Limits) (shape : Shape) (opened : List ℕ) (begun : State) (input : List ℕ) (ended : Ended) (cut : Bool) (text : List ℕ) (turns : List Turn) (final : State) : Type 0 where
   pub sent : List Frame
   pub good : All (IsFrameIn shape) sent

@@ -27,11 +27,11 @@ use Rattle.script_run.specs.declared.ended.Ended.TheVariants.{MediaFault, NoMemo
 use Rattle.mars_shell.specs.Told.{TellsEnd}
 
 -- What comes of the callers' work on a core of these limits, which has at least as many callers, and one more if there are readers: what the
--- lines of the input say, and that each caller's turns are those that its plans ask for, of which its fates are told. Each `Busy` that a caller was told names another one that
--- plans a call on the same stripe, one of the two for writing. The work ended at a fault of the medium exactly if the
--- medium has failed. If neither that was so nor memory ran out, each caller came to the end of its plans, and each reader was answered for each key that it asks for:
--- the value after some first transactions of the history, no fewer from one of its answers to the next. The text has all of this, or, if the
--- medium failed, the history and a line that says so.
+-- lines of the input say, and that each caller's turns are those that its plans ask for, of which its fates are told. Each `Busy` that a
+-- caller was told names another one that plans a call on the same stripe, one of the two for writing. The work ended at a fault of the
+-- medium exactly if the medium has failed. If neither that was so nor memory ran out, each caller came to the end of its plans, and each
+-- reader was answered for each key that it asks for: the value after some first transactions of the history, no fewer from one of its
+-- answers to the next. The text has all of this, or, if the medium failed, the history and a line that says so.
 pub record JointWork (callers readers tries : ℕ) (input : List ℕ) (ended : Ended) (cut : Bool) (text : List ℕ) (limits : Limits) (turns : List Turn) (final : State) : Type 0 where
   pub enough : passes_for callers readers ≤ limits.callers
   pub said : List JointLine

@@ -27,8 +27,8 @@ use Rattle.mars_shell.specs.PrefixLaw.{PrefixLaw}
 -- Callers took turns over an array whose records are sound: there is a run of steps from the state that was opened to the last one. Says
 -- tells, of the limits of the array, the turns and the last state, what was written. The history, also with what is in doubt, is legal on
 -- the base and obeys the prefix law. Unless the medium failed, the data that the array settles to at the end has exactly the records of the
--- history, and if no turn asked to write or to remove a record, it is byte for byte what was opened, in version 2. Then also no row is voted,
--- except that on a late device commits may wait for their write-back.
+-- history, and if no turn asked to write or to remove a record, it is byte for byte what was opened, in version 2. Then also no row is
+-- voted, except that on a late device commits may wait for their write-back.
 pub record TakesTurns (late : Bool) (Says : Limits → List Turn → State → Type 0) (old : View) (ended : Ended) (new : View) : Type 0 where
   pub shape : Shape
   pub holds : HoldsRecords shape old

@@ -63,7 +63,8 @@ pub record IsReady (callers : ℕ) (core : CoreView) : Type 0 where
   pub callers_are : callers ≡ core.limits.callers
   pub alive : core.state.is_dead ≡ false
 
--- The core is in the state to which the turns have led. That is sound, and each image that a loss of power may leave now has all of its history.
+-- The core is in the state to which the turns have led. That is sound, and each image that a loss of power may leave now has all of its
+-- history.
 pub record Stands (core : CoreView) (progress : Progress) : Type 0 where
   pub limits_are : progress.start.limits ≡ core.limits
   pub state_is : progress.state ≡ core.state

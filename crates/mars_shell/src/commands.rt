@@ -14,8 +14,8 @@ use outside::{Sink, Source};
 use pcm_media::Media;
 use std::alloc::Global;
 
-/// Answers the raw commands of the source over the array that the medium holds, whatever its records are, and writes the frames that they send
-/// if that is asked for.
+/// Answers the raw commands of the source over the array that the medium holds, whatever its records are, and writes the frames that they
+/// send if that is asked for.
 pub(crate) fn run_commands<S: Source, K: Sink, M: Media>(
     alloc: Global,
     source: &mut S,

@@ -21,10 +21,10 @@ use pcm_media::Media;
 use record_table::version_two_keeps;
 
 /// What images hold, without their bytes, over a medium that tells them. An image is of at most one array, with one set of records. What a
-/// format leaves has none. A run begins with the records that all images have which the medium may leave. Each image that a loss of power might
-/// have left since its entry, within the opening too, is of the same array: with the records of the first so many transactions of the run, whole
-/// groups of them, or with those that there were if nothing was answered or the command changes none. So the records of an array that a format
-/// made, and that only these commands have written since, are known from what was told, whatever its bytes are.
+/// format leaves has none. A run begins with the records that all images have which the medium may leave. Each image that a loss of power
+/// might have left since its entry, within the opening too, is of the same array: with the records of the first so many transactions of the
+/// run, whole groups of them, or with those that there were if nothing was answered or the command changes none. So the records of an array
+/// that a format made, and that only these commands have written since, are known from what was told, whatever its bytes are.
 pub fn what_images_hold<M: Media>()
     ensures one { (shape other : Shape) (form its : ℕ) (table records : Table) (image : List ℕ) → IsOf shape form table image → IsOf other its records image → (shape ≡ other) × (table ≡ records) }
     ensures made { (numbers : FormatNumbers) (old new : M) (status : Status) (cut : Bool) (text : List ℕ) → (status ≡ Status.Good) ⊎ (status ≡ Status.WriteFault)

@@ -28,8 +28,8 @@ use pcm_media::Media;
 use record_table::version_two_keeps;
 
 /// What the fates of callers on threads say of the history of a run: the transactions of each caller are those of its plans that committed,
-/// in their order and each once, with just the calls of the plan and under the number that was told. A caller whose worker was stopped before it
-/// could settle may have one more, the plan that it had offered. No other caller has any.
+/// in their order and each once, with just the calls of the plan and under the number that was told. A caller whose worker was stopped
+/// before it could settle may have one more, the plan that it had offered. No other caller has any.
 pub fn what_callers_are_told()
     ensures fated { (names : List (List ℕ)) (base : Table) (index : Index) (limits : Limits) (turns : List Turn) (final : State) → Runs limits (opened names base index) turns final
         → (callers readers tries : ℕ) (input text : List ℕ) (ended : Ended) (cut : Bool) (work : JointWork callers readers tries input ended cut text limits turns final)
@@ -38,9 +38,9 @@ pub fn what_callers_are_told()
         → (callers readers tries : ℕ) (input text : List ℕ) (ended : Ended) (cut : Bool) → JointWork callers readers tries input ended cut text limits turns final → HasNoOthers callers final }
 {}
 
-/// Runs compose, over a medium that tells its bytes. If all that a loss of power may leave is sound, then that is so after a run too, whatever
-/// its status and also where it was refused; and it is what the clauses of the next run ask for. After raw commands and frames all still opens, and after
-/// a format that made an array all is sound, whatever was there before.
+/// Runs compose, over a medium that tells its bytes. If all that a loss of power may leave is sound, then that is so after a run too,
+/// whatever its status and also where it was refused; and it is what the clauses of the next run ask for. After raw commands and frames all
+/// still opens, and after a format that made an array all is sound, whatever was there before.
 pub fn runs_compose<M: Media>()
     ensures premises { (media : M) (shape : Shape) (form : ℕ) → IsTrue M.tells → AllSound shape form (M.view media).content → AllOpen shape (M.view media).content × HoldsRecords shape (M.view media) }
     ensures run { (old new : M) (shape : Shape) (form : ℕ) (asked : Words) (status : Status) (input text : List ℕ) (cut : Bool) → IsTrue M.tells → IsOfRecords asked

@@ -23,8 +23,9 @@ use std::thread::Threads;
 ///
 /// `run` reads the input, opens and recovers the array, reads its records, and then answers the lines. `callers` does the same, but each
 /// caller's transactions are made by a worker of its own on a thread, which calls the gate between its calls. `eaw` does not read the
-/// records, nor does `follow`, which applies frames that lines say. `drill`, `dump`, `make`, `purge` and `format` read no input. Only `callers` may wait. In `run`, `callers` and `drill` commits may be answered before
-/// their data is written to its place, if the words say so.
+/// records, nor does `follow`, which applies frames that lines say. `drill`, `dump`, `make`, `purge` and `format` read no input. Only
+/// `callers` may wait. In `run`, `callers` and `drill` commits may be answered before their data is written to its place, if the words say
+/// so.
 pub fn run<
     R: AllocGlobal + Threads + Wait + Sync,
     S: Source,
@@ -56,8 +57,8 @@ pub fn run<
     ensures untold { WordsSay (map string_bytes words.now) result.0 (sink.new ≡ sink.old) (λ asked. TellsLate asked → (result.0 ≡ Status.MediaFault) ⊎ (result.0 ≡ Status.NoMemory) → sink.new ≡ sink.old) }
     // What the words ask for was done, and each status has its cause. For `run` the text answers the lines of the input one by one, and for
     // `drill` it is the summary of the replies. For both the history is legal and obeys the prefix law. For `dump` the text is the records,
-    // for `make` the number of the new table, for `purge` how many keys were taken out, for `eaw` it answers the commands by the model, with the
-    // frames that they send if that is asked for, and for `follow` it counts the frames that are applied.
+    // for `make` the number of the new table, for `purge` how many keys were taken out, for `eaw` it answers the commands by the model,
+    // with the frames that they send if that is asked for, and for `follow` it counts the frames that are applied.
     ensures ran { WordsSay (map string_bytes words.now) result.0 ((source.new ≡ source.old) × (sink.new ≡ sink.old) × (result.1 ≡ media)) (λ asked. Wrote K.tells (K.written sink.old) (K.written sink.new) (K.faults sink.old) (K.faults sink.new)
         (λ cut text. (input : List ℕ) × (IsTrue S.tells → S.left source.old ≡ input) × (IsTrue M.tells → OutcomeFor asked (M.view media) result.0 (M.view result.1) input cut text))) }
     // What can be done is done, unless memory runs out.

@@ -2,7 +2,6 @@ use Rattle.std.proofs.Common.{◌≡◌, [], ⊎_elim, refl, subst, arith}
 use Rattle.std.specs.Prelude.{true, false}
 use Rattle.command_words.specs.Asked.{AsksFor}
 use Rattle.std.proofs.lemmas.Bool.{false≢true}
-use Rattle.command_words.specs.declared.words.Words.TheVariants.{Run, Callers, Eaw, Dump, Drill, Format, Make, Purge, Follow}
 use Rattle.mars_shell.specs.Commands.{ObeysAs}
 use Rattle.mars_shell.specs.Drill.{Drills}
 use Rattle.array_runs.proofs.Endings.{is_early, silent_kind, counts_unread, read_fault_early}
