@@ -8,6 +8,7 @@ mod file_bytes;
 mod once;
 mod over_file;
 mod playing;
+mod run_media;
 mod tally;
 mod way;
 

@@ -1,15 +1,19 @@
 // One run of a case.
+use crate::run_media::{Played, RunMedia};
 use case_files::{CaseFault, Ran, Record, Run, TracedMedia, TroubleKind, has_failed};
 use case_pages::media_of;
 use mars_shell::{OpenGate, Status, fault_text, run};
 use outside::{MemorySink, MemorySource};
-use pcm_media::{FusedMedia, Media, MemoryMedia};
+use pcm_media::{FusedMedia, MemoryMedia};
 use std::alloc::Global;
 use std::sync::Wait;
 use std::thread::Threads;
 
 // Room for most answers; past it the sink grows.
 const TEXT: u64 = 4096;
+
+/// A run that gives back another medium than it was given.
+pub const ANOTHER_MEDIUM: CaseFault = CaseFault::Differs { what: "medium" };
 
 /// What a run with this status came to.
 pub fn ran_with(
@@ -45,9 +49,12 @@ pub fn run_over_memory<R: AllocGlobal + Threads + Wait + Sync>(
         media.fail(call)?;
     }
     let mut sink = sink_of(rt.alloc(), asked, nth)?;
-    let media = TracedMedia::wrap(rt.alloc(), media);
+    let media = RunMedia::Memory(TracedMedia::wrap(rt.alloc(), media));
     let (status, media) = run_over(rt, asked, nth, &mut sink, media)?;
-    let left = media.into_parts()?;
+    let left = media
+        .into_memory()
+        .ok_or(ANOTHER_MEDIUM)?
+        .into_parts()?;
     let has_failed = has_failed(&left.0);
     ran_with(rt.alloc(), status, sink, left, has_failed)
 }
@@ -70,13 +77,13 @@ pub fn sink_of(alloc: Global, asked: &Run, nth: u64) -> Result<MemorySink, CaseF
 }
 
 /// Makes a run over a medium. Where power is lost, that is behind `nth` calls.
-pub fn run_over<R: AllocGlobal + Threads + Wait + Sync, M: Media + Drop + Send>(
+pub fn run_over<R: AllocGlobal + Threads + Wait + Sync>(
     rt: &R,
     asked: &Run,
     nth: u64,
     sink: &mut MemorySink,
-    media: M,
-) -> Result<(Status, M), CaseFault> {
+    media: Played,
+) -> Result<(Status, Played), CaseFault> {
     let mut source = MemorySource::new(rt.alloc(), &asked.input)?;
     if let TroubleKind::Read = asked.trouble.kind {
         source.fail(nth)?;

@@ -197,8 +197,8 @@ fn filled<K: KeyIndex>(alloc: Global, form: Form) -> Result<(MemoryMedia, Beside
 }
 
 fn opened(alloc: Global, media: MemoryMedia) -> Result<Array> {
-    match open(alloc, media, u64::MAX)? {
-        Some(array) => Ok(array),
-        None => bail!("the array is not opened"),
-    }
+    let Some(array) = open(alloc, media, u64::MAX)? else {
+        bail!("the array is not opened");
+    };
+    Ok(array)
 }

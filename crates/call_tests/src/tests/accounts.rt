@@ -1,8 +1,8 @@
 ghost use Rattle.std.specs.Prelude.{◌≡◌, ◌<◌, IsTrue};
 ghost use Rattle.caller_steps.specs.Sound.{IsSound};
 
-use super::arrays::{CHOICES, fresh, media_of};
-use super::opening::open_bank;
+use super::arrays::{CHOICES, fresh, media_of, whole};
+use super::opening::{close_bank, open_bank};
 use bank::{Refusal, balance, transfer};
 use caller_steps::{Core as Steps, prefix_law};
 use history::{Call, main_table};
@@ -32,9 +32,9 @@ fn open_account<C: Steps>(core: &mut C, account: u64, value: Value)
 
 /// An array with 100 in the account 1 and 50 in the account 2.
 pub fn with_accounts(alloc: Global) -> Option<MemoryMedia> {
-    let mut core = open_bank(alloc, fresh(alloc)?)?;
+    let mut core = open_bank(alloc, whole(fresh(alloc)?))?;
     open_both(&mut core)?;
-    Some(core.into_store().into_media())
+    Some(close_bank(core))
 }
 
 fn open_both<C: Steps>(core: &mut C) -> Option<()>
@@ -58,8 +58,19 @@ fn both<C: Steps>(core: &mut C) -> Option<(u64, u64)>
 
 // What both accounts have in an image that a loss of power may leave.
 fn balances(alloc: Global, media: &MemoryMedia, choice: &[u8]) -> Option<(u64, u64)> {
-    let mut core = open_bank(alloc, media.leave(choice).ok()?)?;
+    let mut core = open_bank(alloc, whole(media.leave(choice).ok()?))?;
     both(&mut core)
+}
+
+// What is answered to a transfer from the account 1, behind which the core takes another call.
+fn pay<C: Steps>(core: &mut C, to: u64, amount: u64) -> Result<(), Stop<Refusal>>
+    requires inside { 0 < (C.view core.old).limits.callers }
+    requires sound { IsTrue C.tells → IsSound (C.view core.old).state }
+    ensures limits { (C.view core.new).limits ≡ (C.view core.old).limits }
+    ensures still { IsTrue C.tells → IsSound (C.view core.new).state }
+{
+    prefix_law::<C>();
+    transfer(core, 0, 1, to, amount)
 }
 
 // The answers to a transfer of 30 from the account 1, of 71 more, and of one into no account.
@@ -67,11 +78,7 @@ fn pay_thrice<C: Steps>(core: &mut C) -> [Result<(), Stop<Refusal>>; 3]
     requires inside { 0 < (C.view core.old).limits.callers }
     requires sound { IsTrue C.tells → IsSound (C.view core.old).state }
 {
-    prefix_law::<C>();
-    let done = transfer(core, 0, 1, 2, 30);
-    let insufficient = transfer(core, 0, 1, 2, 71);
-    let unknown = transfer(core, 0, 1, 3, 1);
-    [done, insufficient, unknown]
+    [pay(core, 2, 30), pay(core, 2, 71), pay(core, 3, 1)]
 }
 
 // A transfer of 30 behind a fuse: its answer and the medium as it is then, or `None` if the array was not opened.
@@ -83,7 +90,7 @@ fn pay_behind(
     let media = media_of(alloc, image)?;
     let mut core = open_bank(alloc, FusedMedia::wrap(media, passes))?;
     let answer = transfer(&mut core, 0, 1, 2, 30);
-    Some((answer, core.into_store().into_media().into_inner()))
+    Some((answer, close_bank(core)))
 }
 
 // What becomes of a transfer that loses power.
@@ -121,7 +128,7 @@ fn may_be_left(balances: Option<(u64, u64)>, answer: &Result<(), Stop<Refusal>>)
 }
 
 fn three_answers(alloc: Global) -> Option<[Result<(), Stop<Refusal>>; 3]> {
-    let mut core = open_bank(alloc, with_accounts(alloc)?)?;
+    let mut core = open_bank(alloc, whole(with_accounts(alloc)?))?;
     Some(pay_thrice(&mut core))
 }
 

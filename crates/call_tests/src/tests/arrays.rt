@@ -1,7 +1,7 @@
 // Arrays in memory.
 use array_shape::Shape;
 use eaw_device::format;
-use pcm_media::MemoryMedia;
+use pcm_media::{FusedMedia, MemoryMedia};
 use std::alloc::Global;
 
 // Room for the record of what is asked of a medium; past it the record grows.
@@ -11,6 +11,14 @@ const WRITTEN: u64 = 65_536;
 
 /// Bytes for what is not sure behind a loss of power. Where none are said, a read's bytes stay.
 pub const CHOICES: [&[u8]; 4] = [b"", b"\x00", b"\xFF", b"\xC3\x01"];
+
+/// What all arrays of these tests lie on. One type keeps this program short: all that stands on a medium is built once for each.
+pub type Array = FusedMedia<MemoryMedia>;
+
+/// A medium whose power is never cut.
+pub fn whole(media: MemoryMedia) -> Array {
+    FusedMedia::wrap(media, u64::MAX)
+}
 
 /// A fresh array of the least numbers; `None` where memory is short.
 pub fn fresh(alloc: Global) -> Option<MemoryMedia> {

@@ -1,13 +1,13 @@
-use super::arrays::{CHOICES, fresh, media_of};
+use super::arrays::{Array, CHOICES, fresh, media_of, whole};
 use counter::{CountFault, Counter};
 use eaw_device::Eaw;
 use eaw_face::EawFault;
-use pcm_media::{FusedMedia, Media, MemoryMedia};
+use pcm_media::{FusedMedia, MemoryMedia};
 use std::alloc::Global;
 use std::process::Abort;
 use std::test::Fail;
 
-fn open<M: Media + Drop>(alloc: Global, media: M) -> Option<Counter<Eaw<M>>> {
+fn open(alloc: Global, media: Array) -> Option<Counter<Eaw<Array>>> {
     Counter::open(alloc, media).ok()
 }
 
@@ -25,7 +25,7 @@ fn raise_behind(
 
 // What an image that a loss of power may leave of a medium counts.
 fn count_left(alloc: Global, media: &MemoryMedia, choice: &[u8]) -> Option<Result<u64, EawFault>> {
-    let mut counter = open(alloc, media.leave(choice).ok()?)?;
+    let mut counter = open(alloc, whole(media.leave(choice).ok()?))?;
     Some(counter.value())
 }
 
@@ -52,13 +52,13 @@ fn is_raised_behind(alloc: Global, image: &[u8], passes: u64) -> Option<bool> {
 
 // A counter that was raised so many times, and counts that.
 fn raised(alloc: Global, times: u64) -> Option<MemoryMedia> {
-    let mut counter = open(alloc, fresh(alloc)?)?;
+    let mut counter = open(alloc, whole(fresh(alloc)?))?;
     for n in 0..times {
         if counter.value() != Ok(n) || counter.add_one() != Ok(n + 1) {
             return None;
         }
     }
-    Some(counter.into_media())
+    Some(counter.into_media().into_inner())
 }
 
 #[test]

@@ -44,7 +44,10 @@ fn fresh(alloc: Global, changes: u64) -> Option<Follower<MemoryEaw>> {
 
 // The first four bytes from an address on that a follower's array has.
 fn bytes_at(follower: Follower<MemoryEaw>, addr: u64) -> Option<[u8; 4]> {
-    let mut store = follower.into_store();
+    bytes_of(&mut follower.into_store(), addr)
+}
+
+fn bytes_of<S: EawStore>(store: &mut S, addr: u64) -> Option<[u8; 4]> {
     let mut bytes = [0; 4];
     if addr > 1_000_000 || store.shape().data_len() < addr + 4 {
         return None;
@@ -122,42 +125,39 @@ fn primary(alloc: Global) -> Option<NearArray> {
 }
 
 // Whether a write of so many bytes is one of the array's.
-fn is_inside(primary: &NearArray, addr: u64, len: usize) -> bool
+fn is_inside<S: EawStore>(store: &S, addr: u64, len: usize) -> bool
     ensures some { IsTrue result → 0 < len }
-    ensures inside { IsTrue result → addr + len ≤ data_len (shown primary.now.store).shape }
+    ensures inside { IsTrue result → addr + len ≤ data_len (S.view store.now).shape }
 {
-    let size = primary.shape().data_len();
+    let size = store.shape().data_len();
     len > 0 && addr <= size && len as u64 <= size - addr
 }
 
-fn log(primary: &mut NearArray, tid: u8, addr: u64, bytes: &[u8]) -> Option<u32> {
-    if !is_inside(primary, addr, bytes.len()) {
+fn log<S: EawStore>(store: &mut S, tid: u8, addr: u64, bytes: &[u8]) -> Option<u32> {
+    if !is_inside(store, addr, bytes.len()) {
         return None;
     }
-    primary.log_write(tid, addr, bytes).ok()
+    store.log_write(tid, addr, bytes).ok()
 }
 
-fn write(primary: &mut NearArray, tid: u8, addr: u64, bytes: &[u8]) -> Option<()> {
-    if !is_inside(primary, addr, bytes.len()) {
+fn write<S: EawStore>(store: &mut S, tid: u8, addr: u64, bytes: &[u8]) -> Option<()> {
+    if !is_inside(store, addr, bytes.len()) {
         return None;
     }
-    if tid >= primary.shape().numbers {
+    if tid >= store.shape().numbers || store.is_live(tid) {
         return None;
     }
-    if primary.is_live(tid) {
-        return None;
-    }
-    primary.atomic_write(tid, addr, bytes).ok()
+    store.atomic_write(tid, addr, bytes).ok()
 }
 
-fn nest(primary: &mut NearArray, tid: u8, offset: u32) -> Option<()> {
-    if tid >= primary.shape().numbers {
+fn nest<S: EawStore>(store: &mut S, tid: u8, offset: u32) -> Option<()> {
+    if tid >= store.shape().numbers {
         return None;
     }
-    if primary.log_len(tid) < offset {
+    if store.log_len(tid) < offset {
         return None;
     }
-    primary.nested_top(tid, offset).ok()
+    store.nested_top(tid, offset).ok()
 }
 
 #[test]

@@ -2,8 +2,8 @@
 ghost use Rattle.std.specs.Prelude.{◌≡◌, ◌<◌, IsTrue};
 ghost use Rattle.caller_steps.specs.Sound.{IsSound};
 
-use super::arrays::{CHOICES, fresh, media_of};
-use super::opening::open_bank;
+use super::arrays::{CHOICES, fresh, media_of, whole};
+use super::opening::{close_bank, open_bank};
 use caller_steps::{Core as Steps, prefix_law};
 use job_queue::{Unmet, push, take};
 use pcm_media::{FusedMedia, MemoryMedia};
@@ -14,6 +14,27 @@ use transactions::Stop;
 
 const PLACES: u64 = 2;
 
+// What is answered to a push, behind which the core takes another call.
+fn push_one<C: Steps>(core: &mut C, job: Value) -> Result<(), Stop<Unmet>>
+    requires inside { 0 < (C.view core.old).limits.callers }
+    requires sound { IsTrue C.tells → IsSound (C.view core.old).state }
+    ensures limits { (C.view core.new).limits ≡ (C.view core.old).limits }
+    ensures still { IsTrue C.tells → IsSound (C.view core.new).state }
+{
+    prefix_law::<C>();
+    push(core, 0, PLACES, job)
+}
+
+fn take_one<C: Steps>(core: &mut C) -> Result<Value, Stop<Unmet>>
+    requires inside { 0 < (C.view core.old).limits.callers }
+    requires sound { IsTrue C.tells → IsSound (C.view core.old).state }
+    ensures limits { (C.view core.new).limits ≡ (C.view core.old).limits }
+    ensures still { IsTrue C.tells → IsSound (C.view core.new).state }
+{
+    prefix_law::<C>();
+    take(core, 0, PLACES)
+}
+
 // The answers to three pushes.
 fn push_all<C: Steps>(core: &mut C, jobs: &[Value; 3]) -> [Result<(), Stop<Unmet>>; 3]
     requires inside { 0 < (C.view core.old).limits.callers }
@@ -21,11 +42,7 @@ fn push_all<C: Steps>(core: &mut C, jobs: &[Value; 3]) -> [Result<(), Stop<Unmet
     ensures limits { (C.view core.new).limits ≡ (C.view core.old).limits }
     ensures still { IsTrue C.tells → IsSound (C.view core.new).state }
 {
-    prefix_law::<C>();
-    let one = push(core, 0, PLACES, jobs[0]);
-    let two = push(core, 0, PLACES, jobs[1]);
-    let three = push(core, 0, PLACES, jobs[2]);
-    [one, two, three]
+    [push_one(core, jobs[0]), push_one(core, jobs[1]), push_one(core, jobs[2])]
 }
 
 // The answers to three takes.
@@ -33,21 +50,15 @@ fn take_all<C: Steps>(core: &mut C) -> [Result<Value, Stop<Unmet>>; 3]
     requires inside { 0 < (C.view core.old).limits.callers }
     requires sound { IsTrue C.tells → IsSound (C.view core.old).state }
 {
-    prefix_law::<C>();
-    let one = take(core, 0, PLACES);
-    let two = take(core, 0, PLACES);
-    let three = take(core, 0, PLACES);
-    [one, two, three]
+    [take_one(core), take_one(core), take_one(core)]
 }
 
 fn push_and_take<C: Steps>(core: &mut C, jobs: &[Value; 3]) -> bool
     requires inside { 0 < (C.view core.old).limits.callers }
     requires sound { IsTrue C.tells → IsSound (C.view core.old).state }
 {
-    let pushed = push_all(core, jobs);
-    let taken = take_all(core);
-    let are_pushed = pushed == [Ok(()), Ok(()), Err(Stop::GivenUp(Unmet::Full))];
-    let are_taken = taken == [Ok(jobs[0]), Ok(jobs[1]), Err(Stop::GivenUp(Unmet::Empty))];
+    let are_pushed = push_all(core, jobs) == [Ok(()), Ok(()), Err(Stop::GivenUp(Unmet::Full))];
+    let are_taken = take_all(core) == [Ok(jobs[0]), Ok(jobs[1]), Err(Stop::GivenUp(Unmet::Empty))];
     are_pushed && are_taken
 }
 
@@ -57,7 +68,7 @@ fn three_jobs() -> Option<[Value; 3]> {
 
 fn come_in_order(alloc: Global) -> Option<bool> {
     let jobs = three_jobs()?;
-    let mut core = open_bank(alloc, fresh(alloc)?)?;
+    let mut core = open_bank(alloc, whole(fresh(alloc)?))?;
     Some(push_and_take(&mut core, &jobs))
 }
 
@@ -69,19 +80,17 @@ fn jobs_come_in_their_order(rt: HostRuntime) -> Result<(), Fail> {
 
 // An array with a queue of the jobs a and b.
 fn with_jobs(alloc: Global) -> Option<MemoryMedia> {
-    let mut core = open_bank(alloc, fresh(alloc)?)?;
+    let mut core = open_bank(alloc, whole(fresh(alloc)?))?;
     push_both(&mut core)?;
-    Some(core.into_store().into_media())
+    Some(close_bank(core))
 }
 
 fn push_both<C: Steps>(core: &mut C) -> Option<()>
     requires inside { 0 < (C.view core.old).limits.callers }
     requires sound { IsTrue C.tells → IsSound (C.view core.old).state }
 {
-    prefix_law::<C>();
-    let (a, b) = (Value::of(b"a")?, Value::of(b"b")?);
-    push(core, 0, PLACES, a).ok()?;
-    push(core, 0, PLACES, b).ok()
+    push_one(core, Value::of(b"a")?).ok()?;
+    push_one(core, Value::of(b"b")?).ok()
 }
 
 // Takes a job and pushes another: whether each was done.
@@ -89,15 +98,14 @@ fn take_and_push<C: Steps>(core: &mut C, job: Value) -> (bool, bool)
     requires inside { 0 < (C.view core.old).limits.callers }
     requires sound { IsTrue C.tells → IsSound (C.view core.old).state }
 {
-    prefix_law::<C>();
-    let taken = take(core, 0, PLACES);
-    let pushed = push(core, 0, PLACES, job);
-    (taken.is_ok(), pushed.is_ok())
+    let is_taken = take_one(core).is_ok();
+    let is_pushed = push_one(core, job).is_ok();
+    (is_taken, is_pushed)
 }
 
 // The jobs of a queue, first to last, and what comes after them.
 fn jobs_left(alloc: Global, media: MemoryMedia) -> Option<[Result<Value, Stop<Unmet>>; 3]> {
-    let mut core = open_bank(alloc, media)?;
+    let mut core = open_bank(alloc, whole(media))?;
     Some(take_all(&mut core))
 }
 
@@ -148,7 +156,7 @@ fn keeps_behind(
 ) -> Option<(bool, bool)> {
     let mut core = open_bank(alloc, FusedMedia::wrap(media_of(alloc, image)?, passes))?;
     let done = take_and_push(&mut core, jobs[2]);
-    let media = core.into_store().into_media().into_inner();
+    let media = close_bank(core);
     Some((keeps_jobs(alloc, &media, jobs, done), done.0 && done.1))
 }
 

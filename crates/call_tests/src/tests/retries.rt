@@ -7,6 +7,7 @@ ghost use Rattle.transactions.specs.Went.{IsOfCore};
 ghost use Rattle.transactions.specs.Makes.{Holds, IsGivenUp};
 
 use super::accounts::with_accounts;
+use super::arrays::whole;
 use super::opening::open_bank;
 use caller_steps::{Core as Steps, prefix_law};
 use history::main_table;
@@ -48,19 +49,27 @@ impl Work<u64, Missing> for Looking {
     }
 }
 
-// What is answered of two keys, each of which may be looked for twice more.
+// What is answered of a key, which may be looked for twice more. Behind it the core takes another call.
+fn look_for<C: Steps>(core: &mut C, key: u64) -> Result<u64, Stop<Missing>>
+    requires inside { 0 < (C.view core.old).limits.callers }
+    requires sound { IsTrue C.tells → IsSound (C.view core.old).state }
+    ensures limits { (C.view core.new).limits ≡ (C.view core.old).limits }
+    ensures still { IsTrue C.tells → IsSound (C.view core.new).state }
+{
+    prefix_law::<C>();
+    transaction_retried(core, 0, &Looking { key }, 2)
+}
+
+// What is answered of a key that is there and of one that is not.
 fn looked_for<C: Steps>(core: &mut C) -> [Result<u64, Stop<Missing>>; 2]
     requires inside { 0 < (C.view core.old).limits.callers }
     requires sound { IsTrue C.tells → IsSound (C.view core.old).state }
 {
-    prefix_law::<C>();
-    let there = transaction_retried(core, 0, &Looking { key: 1 }, 2);
-    let missing = transaction_retried(core, 0, &Looking { key: 3 }, 2);
-    [there, missing]
+    [look_for(core, 1), look_for(core, 3)]
 }
 
 fn looked_for_on_array(alloc: Global) -> Option<[Result<u64, Stop<Missing>>; 2]> {
-    let mut core = open_bank(alloc, with_accounts(alloc)?)?;
+    let mut core = open_bank(alloc, whole(with_accounts(alloc)?))?;
     Some(looked_for(&mut core))
 }
 

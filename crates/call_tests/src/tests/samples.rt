@@ -1,8 +1,8 @@
 // The samples of the documents, over arrays in memory.
-ghost use Rattle.std.specs.Prelude.{◌<◌, IsTrue};
+ghost use Rattle.std.specs.Prelude.{◌≡◌, ◌<◌, IsTrue};
 ghost use Rattle.caller_steps.specs.Sound.{IsSound};
 
-use super::arrays::{CHOICES, fresh, media_of};
+use super::arrays::{CHOICES, fresh, media_of, whole};
 use super::opening::open_bank;
 use caller_steps::Core as Steps;
 use eaw_device::Eaw;
@@ -17,9 +17,13 @@ use transactions::Refusal;
 
 // Whether both ranges that the first sample writes are new in an image, and whether both are as they were.
 fn both_ranges(alloc: Global, media: MemoryMedia) -> Option<(bool, bool)> {
-    let Ok(mut store) = Eaw::attach(alloc, media) else {
+    let Ok(mut store) = Eaw::attach(alloc, whole(media)) else {
         return None;
     };
+    ranges_of(&mut store)
+}
+
+fn ranges_of<S: EawStore>(store: &mut S) -> Option<(bool, bool)> {
     let mut one = [0; 8];
     let mut other = [0; 8];
     store.read(1024, &mut one).ok()?;
@@ -69,20 +73,26 @@ fn two_ranges_change_at_once(rt: HostRuntime) -> Result<(), Fail> {
     Ok(())
 }
 
-// The answers to three raises of one number.
+// What is answered to a raise of a number.
+fn raised_once<C: Steps>(core: &mut C, key: u64) -> Result<u64, Refusal>
+    requires inside { 0 < (C.view core.old).limits.callers }
+    requires sound { IsTrue C.tells → IsSound (C.view core.old).state }
+    ensures limits { (C.view core.new).limits ≡ (C.view core.old).limits }
+    ensures still { IsTrue C.tells → IsSound (C.view core.new).state }
+{
+    raise(core, 0, main_table(), key)
+}
+
+// The answers to two raises of one number and one of another.
 fn raised<C: Steps>(core: &mut C) -> [Result<u64, Refusal>; 3]
     requires inside { 0 < (C.view core.old).limits.callers }
     requires sound { IsTrue C.tells → IsSound (C.view core.old).state }
 {
-    let table = main_table();
-    let one = raise(core, 0, table, 5);
-    let two = raise(core, 0, table, 5);
-    let other = raise(core, 0, table, 6);
-    [one, two, other]
+    [raised_once(core, 5), raised_once(core, 5), raised_once(core, 6)]
 }
 
 fn raised_on_array(alloc: Global) -> Option<[Result<u64, Refusal>; 3]> {
-    let mut core = open_bank(alloc, fresh(alloc)?)?;
+    let mut core = open_bank(alloc, whole(fresh(alloc)?))?;
     Some(raised(&mut core))
 }
 

@@ -1,5 +1,5 @@
 // A primary over one medium, and its follower over another.
-use super::arrays::fresh;
+use super::arrays::{Array, fresh, whole};
 use eaw_device::Eaw;
 use eaw_face::EawStore;
 use mirror::{Follower, MemoryLink, Primary};
@@ -8,25 +8,43 @@ use sample_array::write_both;
 use std::alloc::Global;
 use std::test::Fail;
 
-type NearArray = Primary<Eaw<MemoryMedia>, MemoryLink>;
+type NearArray = Primary<Eaw<Array>, MemoryLink>;
 
 // A primary over a medium, which keeps its frames in memory.
 fn primary_over(alloc: Global, media: MemoryMedia) -> Option<NearArray> {
-    let Ok(store) = Eaw::attach(alloc, media) else {
+    let Ok(store) = Eaw::attach(alloc, whole(media)) else {
         return None;
     };
     Primary::attach(alloc, store, MemoryLink::new(alloc)).ok()
 }
 
-fn follower_over(alloc: Global, media: MemoryMedia) -> Option<Follower<Eaw<MemoryMedia>>> {
-    let Ok(store) = Eaw::attach(alloc, media) else {
+fn follower_over(alloc: Global, media: MemoryMedia) -> Option<Follower<Eaw<Array>>> {
+    let Ok(store) = Eaw::attach(alloc, whole(media)) else {
         return None;
     };
     Follower::attach(alloc, store).ok()
 }
 
-// Three commits over one medium, and the same over another, which has the same data at first. The frames come in two pieces, cut at this
-// byte. Answers how many frames were applied, and the data that both sides have at the end.
+// Commits three times, and gives the frames that were sent for it, one behind the other.
+fn three_frames<S: EawStore>(alloc: Global, primary: &mut S) -> Option<Vec<u8>> {
+    let mut stream = Vec::new(alloc);
+    for n in 1..4 {
+        write_both(primary, &[n; 8], &[n + 8; 8]).ok()?;
+        stream.extend_from_slice(primary.first_frame()).ok()?;
+        primary.drop_frame();
+    }
+    Some(stream)
+}
+
+// Feeds these bytes in two pieces, cut at this byte, and answers how many frames were applied.
+fn feed_cut<S: EawStore>(follower: &mut Follower<S>, stream: &[u8], cut: usize) -> Option<u64> {
+    let (front, rest) = stream.split_at(cut.min(stream.len()));
+    follower.feed(front).ok()?;
+    follower.feed(rest).ok()
+}
+
+// Three commits over one medium, and the same over another, which has the same data at first. Answers how many frames were applied, and the
+// data that both sides have at the end.
 fn follow_cut_at(
     alloc: Global,
     near: MemoryMedia,
@@ -34,26 +52,19 @@ fn follow_cut_at(
     cut: usize,
 ) -> Option<(u64, Vec<u8>, Vec<u8>)> {
     let mut primary = primary_over(alloc, near)?;
-    let mut follower = follower_over(alloc, far)?;
-
-    let mut stream = Vec::new(alloc);
-    for n in 1..4 {
-        write_both(&mut primary, &[n; 8], &[n + 8; 8]).ok()?;
-        stream.extend_from_slice(primary.first_frame()).ok()?;
-        primary.drop_frame();
-    }
-
-    let (front, rest) = stream.split_at(cut.min(stream.len()));
-    follower.feed(front).ok()?;
-    let applied = follower.feed(rest).ok()?;
-
+    let stream = three_frames(alloc, &mut primary)?;
     let (mut near, _link) = primary.into_parts();
-    let mut far = follower.into_store();
-    Some((
-        applied,
-        data_of(alloc, &mut near)?,
-        data_of(alloc, &mut far)?,
-    ))
+    let near = data_of(alloc, &mut near)?;
+    let (applied, far) = followed(alloc, far, &stream, cut)?;
+    Some((applied, near, far))
+}
+
+// How many of these frames are applied over a medium, and its data behind that.
+fn followed(alloc: Global, far: MemoryMedia, stream: &[u8], cut: usize) -> Option<(u64, Vec<u8>)> {
+    let mut follower = follower_over(alloc, far)?;
+    let applied = feed_cut(&mut follower, stream, cut)?;
+    let far = data_of(alloc, &mut follower.into_store())?;
+    Some((applied, far))
 }
 
 // All that a store's data is.

@@ -1,7 +1,8 @@
+use super::held_media::{HeldMedia, Hold as Reads};
 use super::holds::{Flag, Hold, Holds};
 use super::places::{Watch, Way};
 use mars_base::NoMemory;
-use mars_shell::{Gate, OpenGate, Place, Status, room, run};
+use mars_shell::{Place, Status, room, run};
 use outside::{MemorySink, MemorySource};
 use pcm_media::MemoryMedia;
 use std::alloc::{AllocError, Global};
@@ -24,62 +25,62 @@ fn words_of(alloc: Global, text: &str) -> Result<Vec<String>, AllocError> {
     Ok(words)
 }
 
-// The medium behind a run, which has to be good.
-fn behind<R: AllocGlobal + Threads + Wait + Sync>(
+// What a run lies over, here and in the other tests. None of its reads is held here.
+type Array = HeldMedia<MemoryMedia>;
+
+// What a run writes that is watched, and the medium behind it. It has to come to a good end.
+fn worked<R: AllocGlobal + Threads + Wait + Sync>(
     rt: &R,
-    media: MemoryMedia,
+    media: Array,
     words: &[String],
     input: &[u8],
-) -> Result<MemoryMedia, Fail> {
+    watch: &Watch<'_>,
+) -> Result<(MemorySink, Array), Fail> {
     let mut source = MemorySource::new(rt.alloc(), input)?;
     let mut sink = MemorySink::new(rt.alloc(), TEXT)?;
-    let (status, media) = run(rt, words, &mut source, &mut sink, media, &OpenGate);
+    let (status, media) = run(rt, words, &mut source, &mut sink, media, watch);
     match status {
-        Status::Good => Ok(media),
-        _ => Err(Fail::from("no array")),
+        Status::Good => Ok((sink, media)),
+        _ => Err(Fail::from("another status")),
     }
 }
 
+// The medium behind a run whose callers nobody holds.
+fn behind<R: AllocGlobal + Threads + Wait + Sync>(
+    rt: &R,
+    media: Array,
+    words: &[String],
+    input: &[u8],
+) -> Result<Array, Fail> {
+    let holds = Holds::new(&[]);
+    let (_sink, media) = worked(rt, media, words, input, &Watch::new(&holds, &[]))?;
+    Ok(media)
+}
+
 // An array that `format` has just made, for two callers.
-fn fresh<R: AllocGlobal + Threads + Wait + Sync>(rt: &R) -> Result<MemoryMedia, Fail> {
+fn fresh<R: AllocGlobal + Threads + Wait + Sync>(rt: &R) -> Result<Array, Fail> {
     formatted(rt, "format --loggers 2 --numbers 2 --entries 8 --pages 4")
 }
 
 fn formatted<R: AllocGlobal + Threads + Wait + Sync>(
     rt: &R,
     words: &str,
-) -> Result<MemoryMedia, Fail> {
+) -> Result<Array, Fail> {
     let words = words_of(rt.alloc(), words)?;
     let media = zeros(rt.alloc(), room(rt.alloc(), &words)? as usize)?;
     behind(rt, media, &words, b"")
 }
 
-fn zeros(alloc: Global, len: usize) -> Result<MemoryMedia, NoMemory> {
+fn zeros(alloc: Global, len: usize) -> Result<Array, NoMemory> {
     let zeros = vec![in alloc; 0; len]?;
-    MemoryMedia::new(alloc, &zeros, CALLS, WRITTEN)
-}
-
-// What two callers write who work over an array with this gate. They have to come to an end.
-fn worked<R: AllocGlobal + Threads + Wait + Sync, G: Gate + Sync>(
-    rt: &R,
-    media: MemoryMedia,
-    words: &[String],
-    input: &[u8],
-    gate: &G,
-) -> Result<MemorySink, Fail> {
-    let mut source = MemorySource::new(rt.alloc(), input)?;
-    let mut sink = MemorySink::new(rt.alloc(), TEXT)?;
-    let (status, _) = run(rt, words, &mut source, &mut sink, media, gate);
-    match status {
-        Status::Good => Ok(sink),
-        _ => Err(Fail::from("another status")),
-    }
+    let media = MemoryMedia::new(alloc, &zeros, CALLS, WRITTEN)?;
+    Ok(HeldMedia::new(media, Reads::released(alloc)?))
 }
 
 // Two callers who work over an array write this text, with these holds, none of which gives up.
 fn writes<R: AllocGlobal + Threads + Wait + Sync>(
     rt: &R,
-    media: MemoryMedia,
+    media: Array,
     words: &str,
     input: &[u8],
     holds: &[Hold],
@@ -87,7 +88,7 @@ fn writes<R: AllocGlobal + Threads + Wait + Sync>(
 ) -> Result<(), Fail> {
     let gate = Holds::new(holds);
     let words = words_of(rt.alloc(), words)?;
-    let sink = worked(rt, media, &words, input, &gate)?;
+    let (sink, _media) = worked(rt, media, &words, input, &Watch::new(&gate, &[]))?;
     if gate.given_up() > 0 {
         return Err(Fail::from("a wait was given up"));
     }
@@ -251,7 +252,7 @@ fn who_reads_behind_a_commit_reads_it(rt: HostRuntime) -> Result<(), Fail> {
 }
 
 // An array with a table `log` beside `main`.
-fn with_log<R: AllocGlobal + Threads + Wait + Sync>(rt: &R) -> Result<MemoryMedia, Fail> {
+fn with_log<R: AllocGlobal + Threads + Wait + Sync>(rt: &R) -> Result<Array, Fail> {
     let words = words_of(rt.alloc(), "make log")?;
     behind(rt, fresh(rt)?, &words, b"")
 }
@@ -305,7 +306,7 @@ fn who_reads_twice_goes_on(rt: HostRuntime) -> Result<(), Fail> {
 }
 
 // An array whose slots are all given: 32 of them, to the keys 0 to 31.
-fn full<R: AllocGlobal + Threads + Wait + Sync>(rt: &R) -> Result<MemoryMedia, Fail> {
+fn full<R: AllocGlobal + Threads + Wait + Sync>(rt: &R) -> Result<Array, Fail> {
     let input = puts(rt.alloc())?;
     let words = words_of(rt.alloc(), "run")?;
     behind(rt, fresh(rt)?, &words, input.as_bytes())
@@ -358,7 +359,8 @@ fn watched<R: AllocGlobal + Threads + Wait + Sync>(
 ) -> Result<MemorySink, Fail> {
     let media = formatted(rt, "format --loggers 2 --numbers 4 --entries 8 --pages 4")?;
     let words = words_of(rt.alloc(), words)?;
-    worked(rt, media, &words, input, watch)
+    let (sink, _media) = worked(rt, media, &words, input, watch)?;
+    Ok(sink)
 }
 
 // Caller 1 puts a key and then asks for one whose stripe caller 0 holds, who stays within its transaction for so long, as caller 2 does.

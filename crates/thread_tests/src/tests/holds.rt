@@ -1,6 +1,6 @@
-// A gate that holds callers until others have come to their places.
+// Who holds callers until others have come to their places.
 use super::flags::wait_for;
-use mars_shell::{Gate, Place};
+use mars_shell::Place;
 use std::sync::atomic::{AtomicBool, AtomicU64, Ordering};
 
 /// What happens as a caller comes to a place for the `time`-th time, from 1 on: one flag is set, and then another is waited for.
@@ -96,10 +96,9 @@ impl<'a> Holds<'a> {
             self.wait(flag);
         }
     }
-}
 
-impl Gate for Holds<'_> {
-    fn at(&self, place: Place) {
+    /// Holds whoever has come to this place, where that is due.
+    pub fn at(&self, place: Place) {
         for hold in self.holds {
             if hold.is_due(place) {
                 self.keep(hold);

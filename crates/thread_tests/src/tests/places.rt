@@ -1,4 +1,5 @@
-// A gate that compares the places to which callers come with those that are wanted. It does not look at readers.
+// The gate of all runs here: it holds callers, and compares the places to which they come with those that are wanted. It does not look at
+// readers.
 use super::holds::Holds;
 use mars_shell::{Gate, Place};
 use std::sync::atomic::{AtomicU64, Ordering};
@@ -34,7 +35,8 @@ impl<'a> Way<'a> {
     }
 }
 
-/// Holds callers, and watches the ways of all of them, in the order of callers.
+/// Holds callers, and watches the ways of all of them, in the order of callers. One type of gate and one of a medium in all runs keep
+/// this program short: a run is built once for each.
 #[derive(Drop)]
 pub struct Watch<'a> {
     holds: &'a Holds<'a>,
