@@ -15,8 +15,8 @@ use pcm_media::Media;
 use script_run::{InputFault, read_input};
 use std::alloc::Global;
 
-/// Reads the input to its end if it is asked for, then opens the array that the medium holds, on a device that writes back so. An error returns
-/// the medium with the status that the run ends with.
+/// Reads the input to its end if it is asked for, then opens the array that the medium holds, on a device that writes back so. An error
+/// returns the medium with the status that the run ends with.
 pub fn open<S: Source, M: Media, B: WriteBack>(
     alloc: Global,
     reads: bool,

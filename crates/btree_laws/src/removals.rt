@@ -94,8 +94,8 @@ pub fn removals_lose_no_page()
         IsPageOfTree old root.page x → IsPageOfTree new root.page x ⊎ (x ≡ child_for (page_pairs old (page_for d old root.page key)) key) }
 {}
 
-/// A pair that stays as the last of an only child stays so still, if the root keeps its level, the inner pages above the parents of leaves and
-/// the parent of its own leaf are as they were, and that leaf has no more pairs.
+/// A pair that stays as the last of an only child stays so still, if the root keeps its level, the inner pages above the parents of leaves
+/// and the parent of its own leaf are as they were, and that leaf has no more pairs.
 pub fn last_pairs_stay()
     ensures { (root : Root) (old new : List ℕ) (key : ℕ) → IsSoundTree root old → key < key_end → level_of new root.page ≡ level_of old root.page →
         ((x : ℕ) → IsPageOfTree old root.page x → 1 < level_of old x → page_bytes new x ≡ page_bytes old x) →

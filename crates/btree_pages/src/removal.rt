@@ -166,8 +166,8 @@ fn fetch_parent<S: EawStore>(
     Ok(node)
 }
 
-// Gives back the slot of the key's pair in its leaf. Nothing is written yet. `None` exactly when the leaf has no such pair, or its slot cannot
-// be given back.
+// Gives back the slot of the key's pair in its leaf. Nothing is written yet. `None` exactly when the leaf has no such pair, or its slot
+// cannot be given back.
 fn release_slot(front: &Super, leaf: &Node, key: u64) -> Option<Release>
     ensures gives { IfSome result (λ slot. GivesSlot front.now slot.number slot.free slot.front) }
     ensures finds { IfSome result (λ slot. found leaf.now.pairs.items key ≡ Some slot.number) }

@@ -34,13 +34,14 @@ pub fn every_run_is_legal()
     ensures { (limits : Limits) (names : List (List ℕ)) (base : Table) (index : Index) (turns : List (ℕ × Call × Reply)) (new : State) → Runs limits (opened names base index) turns new → IsLegal base new.history }
 {}
 
-/// A step changes no live transaction but its caller's and, at a settle, those that were offered, and the history only at a commit or a settle. It is refused or done as its reply says.
+/// A step changes no live transaction but its caller's and, at a settle, those that were offered, and the history only at a commit or a
+/// settle. It is refused or done as its reply says.
 pub fn what_a_step_does()
     ensures { (limits : Limits) (old new : State) (caller : ℕ) (call : Call) (reply : Reply) → Step limits old caller call reply new → Moves limits.callers old caller call reply new }
 {}
 
-/// While a live caller's call on a table that is there clashes with another caller's live transaction, also one that was offered, the reply is `Busy`, `Dead` or `NoMemory`, and nothing
-/// changes.
+/// While a live caller's call on a table that is there clashes with another caller's live transaction, also one that was offered, the reply
+/// is `Busy`, `Dead` or `NoMemory`, and nothing changes.
 pub fn locks_come_first()
     ensures reply { (limits : Limits) (old new : State) (caller holder : ℕ) (calls : Granted) (call : Call) (reply : Reply) → old.offers caller ≡ unoffered → old.live caller ≡ Some calls → IsTrue (has_table old.names call) → Blocks old caller call holder
         → Step limits old caller call reply new → IsTrue (may_come_held reply) }
@@ -65,8 +66,8 @@ pub fn prefix_law<C: Core>()
         → IsSafe (C.view old) since least → IsSafe (C.view new) since least }
 {}
 
-/// Transactions of several callers that are committed together stand in the history one after another behind what was there, as one group. All
-/// stays sound, also where the medium fails in their commit, so that all of them are in doubt.
+/// Transactions of several callers that are committed together stand in the history one after another behind what was there, as one group.
+/// All stays sound, also where the medium fails in their commit, so that all of them are in doubt.
 pub fn groups_keep_all_sound()
     ensures history { (state : State) (callers : List ℕ) → (committed_group state callers).history ≡ state.history ++ group_in state (group_end state callers) callers }
     ensures sound { (state : State) (callers : List ℕ) → IsSound state → IsFalse state.is_dead → IsSound (committed_group state callers) }

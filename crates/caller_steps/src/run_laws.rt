@@ -78,8 +78,8 @@ pub fn what_a_refusal_shows()
         → ((other : ℕ) → (first.live other ≡ None) × (first.offers other ≡ unoffered)) → IsFalse first.is_dead → Shows limits before after now caller call reply }
 {}
 
-/// Unless the medium fails, the index gains only keys that a turn asks to put, and loses keys only at purges. As many more slots are in use as
-/// keys were gained, less those that were lost. If none was lost, those that were gained were all missing before and are distinct.
+/// Unless the medium fails, the index gains only keys that a turn asks to put, and loses keys only at purges. As many more slots are in use
+/// as keys were gained, less those that were lost. If none was lost, those that were gained were all missing before and are distinct.
 pub fn what_an_index_gains()
     ensures run { (limits : Limits) (first now : State) (turns : List Turn) → Runs limits first turns now → IsFalse now.is_dead
         → (changes : List Change) × Changed first.index changes now.index × AreAsked turns (gained_in changes) × (IsFalse (has_purge turns) → lost_in changes ≡ []) }
@@ -88,8 +88,8 @@ pub fn what_an_index_gains()
     ensures apart { (first now : Index) (changes : List Change) → Changed first changes now → lost_in changes ≡ [] → AllPairs (λ one other. one ≢ other) (gained_in changes) }
 {}
 
-/// A run from callers without transactions in which no turn asks to write or to remove a record, or to purge, leaves the index and all bytes of
-/// the data as they were, unless the medium fails.
+/// A run from callers without transactions in which no turn asks to write or to remove a record, or to purge, leaves the index and all
+/// bytes of the data as they were, unless the medium fails.
 pub fn what_reads_leave()
     ensures { (limits : Limits) (first now : State) (turns : List Turn) → Runs limits first turns now → ((caller : ℕ) → first.live caller ≡ None) → IsFalse (has_write turns) → IsFalse now.is_dead
         → now.index ≡ first.index }

@@ -50,13 +50,19 @@ fn push_escaped(alloc: Global, out: &mut Vec<u8>, text: &str) -> Result<(), Line
         out.extend_from_slice(front.as_bytes())?;
     }
     for piece in pieces {
-        let digits = piece.strip_prefix('x').ok_or(LineFault::Escape)?;
-        let (byte, behind) = digits.split_at_checked(2).ok_or(LineFault::Escape)?;
-        let Ok(byte) = hex::decode(alloc, byte) else {
-            return Err(LineFault::Escape);
-        };
-        out.extend_from_slice(&byte)?;
-        out.extend_from_slice(behind.as_bytes())?;
+        push_behind_escape(alloc, out, piece)?;
     }
+    Ok(())
+}
+
+// Puts a byte that is escaped, and the text behind it.
+fn push_behind_escape(alloc: Global, out: &mut Vec<u8>, piece: &str) -> Result<(), LineFault> {
+    let digits = piece.strip_prefix('x').ok_or(LineFault::Escape)?;
+    let (byte, behind) = digits.split_at_checked(2).ok_or(LineFault::Escape)?;
+    let Ok(byte) = hex::decode(alloc, byte) else {
+        return Err(LineFault::Escape);
+    };
+    out.extend_from_slice(&byte)?;
+    out.extend_from_slice(behind.as_bytes())?;
     Ok(())
 }

@@ -1,7 +1,7 @@
 // A case of calls of pages.
 use crate::image::{first_media, media_of};
 use crate::page_steps::{Step, play, steps_of};
-use crate::page_stores::{Device, device, pages_over, plain_pages};
+use crate::page_stores::{device, pages_over, plain_pages};
 use crate::plain::data_in;
 use crate::progress::Progress;
 use case_files::{CaseFault, Image, PageLine, Placed, compare_places};
@@ -136,6 +136,17 @@ fn play_device(
 ) -> Result<(Option<usize>, MemoryMedia), CaseFault> {
     progress.plays.of_pages = progress.plays.of_pages.saturating_add(1);
     let media = FusedMedia::wrap(media, passes);
+    let (failed, media) = play_attached(alloc, played, media, progress)?;
+    Ok((failed, media.into_inner()))
+}
+
+// The same on any medium.
+fn play_attached<M: Media + Drop>(
+    alloc: Global,
+    played: &Played,
+    media: M,
+    progress: &mut Progress,
+) -> Result<(Option<usize>, M), CaseFault> {
     match played.calls.depth {
         0 => play_opened(alloc, played, Eaw::attach(alloc, media), progress),
         depth if depth <= 64 => {
@@ -146,15 +157,15 @@ fn play_device(
     }
 }
 
-fn play_opened<W: WriteBack>(
+fn play_opened<M: Media + Drop, W: WriteBack + Drop>(
     alloc: Global,
     played: &Played,
-    opened: Result<Device<W>, (AttachFault, FusedMedia<MemoryMedia>)>,
+    opened: Result<Eaw<M, W>, (AttachFault, M)>,
     progress: &mut Progress,
-) -> Result<(Option<usize>, MemoryMedia), CaseFault> {
+) -> Result<(Option<usize>, M), CaseFault> {
     let store = match opened {
         Ok(store) => store,
-        Err((_, media)) => return Ok((Some(0), media.into_inner())),
+        Err((_, media)) => return Ok((Some(0), media)),
     };
     let mut pages = pages_over(alloc, store)?;
     let lines = played.calls.lines;
@@ -165,7 +176,7 @@ fn play_opened<W: WriteBack>(
         &mut pages,
         &mut progress.report,
     )?;
-    Ok((failed, pages.into_store().into_media().into_inner()))
+    Ok((failed, pages.into_store().into_media()))
 }
 
 // Compares what each choice of the bytes that are not sure leaves, and what recoveries leave that are stopped.

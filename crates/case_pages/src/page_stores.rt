@@ -1,15 +1,12 @@
 // The stores under the pages.
 use crate::plain::plain_store;
 use case_files::CaseFault;
-use eaw_device::{AtOnce, Eaw};
+use eaw_device::Eaw;
 use eaw_face::EawStore;
 use memory_eaw::MemoryEaw;
 use page_store::Pages;
-use pcm_media::{FusedMedia, MemoryMedia};
+use pcm_media::{FusedMedia, Media, MemoryMedia};
 use std::alloc::Global;
-
-/// An array over a medium in memory, behind a fuse.
-pub type Device<W> = Eaw<FusedMedia<MemoryMedia>, W>;
 
 /// Pages over plain memory with the data that an image opens with.
 pub fn plain_pages(alloc: Global, image: &[u8]) -> Result<Pages<MemoryEaw>, CaseFault> {
@@ -21,10 +18,18 @@ pub fn device(
     alloc: Global,
     media: MemoryMedia,
     passes: u64,
-) -> Result<Device<AtOnce>, MemoryMedia> {
-    match Eaw::attach(alloc, FusedMedia::wrap(media, passes)) {
+) -> Result<Eaw<FusedMedia<MemoryMedia>>, MemoryMedia> {
+    match attached(alloc, FusedMedia::wrap(media, passes)) {
         Ok(store) => Ok(store),
-        Err((_, media)) => Err(media.into_inner()),
+        Err(media) => Err(media.into_inner()),
+    }
+}
+
+// The array on any medium, or the medium.
+fn attached<M: Media + Drop>(alloc: Global, media: M) -> Result<Eaw<M>, M> {
+    match Eaw::attach(alloc, media) {
+        Ok(store) => Ok(store),
+        Err((_, media)) => Err(media),
     }
 }
 

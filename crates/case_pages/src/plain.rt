@@ -2,13 +2,14 @@
 ghost use Rattle.std.specs.Prelude.{◌≡◌, false, IfOk};
 
 use crate::image::media_of;
+use array_shape::Shape;
 use case_files::{CaseFault, Ran, Report, Run};
 use eaw_device::Eaw;
 use eaw_face::EawStore;
 use eaw_script::answer_commands;
 use memory_eaw::MemoryEaw;
 use outside::MemorySink;
-use pcm_media::MemoryMedia;
+use pcm_media::Media;
 use std::alloc::Global;
 
 // Room for as many changes of the data as most scripts make, and for their answers.
@@ -69,25 +70,24 @@ fn answered(
 }
 
 /// The data with which an image opens.
-pub fn data_in(alloc: Global, image: MemoryMedia) -> Result<Vec<u8>, CaseFault> {
-    let mut device = opened(alloc, image)?;
-    data_of(alloc, &mut device)
+pub fn data_in<M: Media + Drop>(alloc: Global, image: M) -> Result<Vec<u8>, CaseFault> {
+    let (_shape, bytes) = opened(alloc, image)?;
+    Ok(bytes)
 }
 
-fn opened(alloc: Global, image: MemoryMedia) -> Result<Eaw<MemoryMedia>, CaseFault> {
-    match Eaw::attach(alloc, image) {
-        Ok(store) => Ok(store),
-        Err(_) => Err(CaseFault::Opening),
-    }
+// The shape and the data with which an image opens.
+fn opened<M: Media + Drop>(alloc: Global, image: M) -> Result<(Shape, Vec<u8>), CaseFault> {
+    let Ok(mut device) = Eaw::attach(alloc, image) else {
+        return Err(CaseFault::Opening);
+    };
+    Ok((device.shape(), data_of(alloc, &mut device)?))
 }
 
 /// A plain store with the data that an image opens with.
 pub fn plain_store(alloc: Global, image: &[u8]) -> Result<MemoryEaw, CaseFault>
     ensures { IfOk result (λ store. (⟦<MemoryEaw as EawStore>⟧.view store).is_dead ≡ false) }
 {
-    let mut device = opened(alloc, media_of(alloc, image)?)?;
-    let shape = device.shape();
-    let bytes = data_of(alloc, &mut device)?;
+    let (shape, bytes) = opened(alloc, media_of(alloc, image)?)?;
     if bytes.len() as u64 != shape.data_len() {
         return Err(CaseFault::Opening);
     }

@@ -1,10 +1,10 @@
 // One run of a case.
-use crate::run_media::{Played, RunMedia};
+use crate::run_media::played_in_memory;
 use case_files::{CaseFault, Ran, Record, Run, TracedMedia, TroubleKind, has_failed};
 use case_pages::media_of;
 use mars_shell::{OpenGate, Status, fault_text, run};
 use outside::{MemorySink, MemorySource};
-use pcm_media::{FusedMedia, MemoryMedia};
+use pcm_media::{FusedMedia, Media, MemoryMedia};
 use std::alloc::Global;
 use std::sync::Wait;
 use std::thread::Threads;
@@ -49,7 +49,7 @@ pub fn run_over_memory<R: AllocGlobal + Threads + Wait + Sync>(
         media.fail(call)?;
     }
     let mut sink = sink_of(rt.alloc(), asked, nth)?;
-    let media = RunMedia::Memory(TracedMedia::wrap(rt.alloc(), media));
+    let media = played_in_memory(TracedMedia::wrap(rt.alloc(), media));
     let (status, media) = run_over(rt, asked, nth, &mut sink, media)?;
     let left = media
         .into_memory()
@@ -77,13 +77,13 @@ pub fn sink_of(alloc: Global, asked: &Run, nth: u64) -> Result<MemorySink, CaseF
 }
 
 /// Makes a run over a medium. Where power is lost, that is behind `nth` calls.
-pub fn run_over<R: AllocGlobal + Threads + Wait + Sync>(
+pub fn run_over<R: AllocGlobal + Threads + Wait + Sync, M: Media + Drop + Send>(
     rt: &R,
     asked: &Run,
     nth: u64,
     sink: &mut MemorySink,
-    media: Played,
-) -> Result<(Status, Played), CaseFault> {
+    media: M,
+) -> Result<(Status, M), CaseFault> {
     let mut source = MemorySource::new(rt.alloc(), &asked.input)?;
     if let TroubleKind::Read = asked.trouble.kind {
         source.fail(nth)?;

@@ -1,7 +1,7 @@
 // A run over a file.
 use crate::file_bytes::{lengthened, same_as};
 use crate::once::{ANOTHER_MEDIUM, failing_call, ran_with, run_over, run_over_memory, sink_of};
-use crate::run_media::RunMedia;
+use crate::run_media::played_over_file;
 use crate::way::{Way, answers};
 use case_files::{CaseFault, Ran, Report, Run, compare_ran};
 use case_pages::media_of;
@@ -36,7 +36,7 @@ pub fn run_over_file<R: AllocGlobal + Threads + Wait + Sync>(
         let ran = ran_with(alloc, Status::MediaFault, sink, left, fails.is_some())?;
         return Ok(OverFile { ran, calls: None });
     };
-    let (status, media) = run_over(rt, asked, nth, &mut sink, RunMedia::File(media))?;
+    let (status, media) = run_over(rt, asked, nth, &mut sink, played_over_file(media))?;
     let media = media.into_file().ok_or(ANOTHER_MEDIUM)?;
     let calls = Some(media.moment());
     let mut file = media.into_calls();

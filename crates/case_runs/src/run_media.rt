@@ -16,6 +16,14 @@ pub enum RunMedia<M, F> {
 /// What the runs of cases go over.
 pub type Played = RunMedia<TracedMedia<MemoryMedia>, FileMedia<HonestCalls>>;
 
+pub fn played_in_memory(media: TracedMedia<MemoryMedia>) -> Played {
+    RunMedia::Memory(media)
+}
+
+pub fn played_over_file(media: FileMedia<HonestCalls>) -> Played {
+    RunMedia::File(media)
+}
+
 impl<M: Drop, F: Drop> RunMedia<M, F> {
     /// The medium in memory, where that is what it is.
     pub fn into_memory(self) -> Option<M> {

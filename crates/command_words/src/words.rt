@@ -121,9 +121,9 @@ pub enum WordsFault {
     NoMemory,
 }
 
-/// Reads the words after the image's: `run`, `eaw`, `dump`, `purge`, `follow`, `make` with the name of a table, `callers` with a number and the options `tries` and `readers`, `drill` with a seed and a
-/// count, or `format` with its options in any order. `run`, `callers` and `drill` have the option `late` too, and `run` and `eaw` have
-/// `frames`. Each option is given at most once.
+/// Reads the words after the image's: `run`, `eaw`, `dump`, `purge`, `follow`, `make` with the name of a table, `callers` with a number and
+/// the options `tries` and `readers`, `drill` with a seed and a count, or `format` with its options in any order. `run`, `callers` and
+/// `drill` have the option `late` too, and `run` and `eaw` have `frames`. Each option is given at most once.
 pub fn read_words(alloc: Global, words: &[String]) -> Result<Words, WordsFault>
     ensures asked { IfOk result (AsksFor (map string_bytes words.now)) }
     ensures refused { IfErr result (λ fault. fault ≡ WordsFault.NoCommand → AskForNothing (map string_bytes words.now)) }

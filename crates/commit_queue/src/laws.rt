@@ -45,7 +45,8 @@ pub fn held_stands(shape: &Shape)
     ensures { (queue : List Commit) (bytes image : List ℕ) → Holds shape.now queue bytes image → StandsFor shape.now image (applied (queue_parts queue) bytes) }
 {}
 
-/// Writes into cells that no commit of the queue names, and into rows that are not voted but for their votes, keep the queue at every moment.
+/// Writes into cells that no commit of the queue names, and into rows that are not voted but for their votes, keep the queue at every
+/// moment.
 pub fn free_writes_keep_the_queue(shape: &Shape)
     ensures during { (queue : List Commit) (bytes : List ℕ) (test : ℕ → ℕ → Bool) (ranges : List (ℕ × ℕ)) (old : Content) (image : List ℕ) → AreFree shape.now queue test ranges → AllWithin (length old.bytes) ranges
         → IsHeld shape.now queue bytes old → AreUnvoted shape.now test old → MayLeave (partly ranges old) image → Holds shape.now queue bytes image }

@@ -1,9 +1,9 @@
 //! Commits that wait for their write-back, the oldest first, and what an image of the array is between the phases of a commit and of a
 //! write-back. It has no code that runs: definitions, lemmas and laws.
 //!
-//! Read first `specs/Queue` (a commit, and an image that has a queue of them) and `specs/Between` (what stands between two calls of the array,
-//! and between the phases of one). The laws in `laws.rt`: the newest commit counts whole or not at all while its votes are cast, and the oldest
-//! may be written into the data, torn or whole, without a change of what the image stands for.
+//! Read first `specs/Queue` (a commit, and an image that has a queue of them) and `specs/Between` (what stands between two calls of the
+//! array, and between the phases of one). The laws in `laws.rt`: the newest commit counts whole or not at all while its votes are cast, and
+//! the oldest may be written into the data, torn or whole, without a change of what the image stands for.
 #![tactic(auto)]
 
 mod laws;

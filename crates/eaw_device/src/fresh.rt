@@ -29,8 +29,8 @@ pub enum FormatFault {
     Media,
 }
 
-/// Writes a fresh array of this shape, whose data has no records: rows and pages, a barrier, the header, and a barrier. If it is broken off, the header is
-/// an old one, or the rows and pages are fresh. The cells are left as they are, whatever it answers.
+/// Writes a fresh array of this shape, whose data has no records: rows and pages, a barrier, the header, and a barrier. If it is broken
+/// off, the header is an old one, or the rows and pages are fresh. The cells are left as they are, whatever it answers.
 pub fn format<M: Media>(media: &mut M, shape: &Shape) -> Result<(), FormatFault>
     // Whatever a loss of power leaves after it is the fresh array, and opens.
     ensures fresh { IsTrue M.tells → OnOk result (IsFresh shape.now (M.view media.new).content) }

@@ -16,8 +16,8 @@ use outside::Sink;
 use script_run::{Ended, answer_lines};
 use std::alloc::Global;
 
-/// Answers the lines of a script of raw commands as `answer_commands` does, over a store that is not dead and has no number live. Before each
-/// answer stands a line for each frame that the command sends. Returns the store.
+/// Answers the lines of a script of raw commands as `answer_commands` does, over a store that is not dead and has no number live. Before
+/// each answer stands a line for each frame that the command sends. Returns the store.
 pub fn answer_mirrored<K: Sink, S: EawStore>(
     alloc: Global,
     input: &[u8],
@@ -26,7 +26,8 @@ pub fn answer_mirrored<K: Sink, S: EawStore>(
 ) -> (Ended, S)
     requires alive { IsAlive (S.view store) }
     requires free { IsFree (S.view store) }
-    // The frames are in sequence from 1, and at each whole answer those so far, applied in order to the data at first, give the committed data.
+    // The frames are in sequence from 1, and at each whole answer those so far, applied in order to the data at first, give the committed
+    // data.
     ensures ran { Wrote K.tells (K.written sink.old) (K.written sink.new) (K.faults sink.old) (K.faults sink.new)
         (λ cut text. IsTrue S.tells → RanMirrored S.opens (S.view store) (S.view result.1) (lines_of input.now) result.0 cut text) }
     ensures alive { result.0 ≡ Ended.All → (S.view result.1).is_dead ≡ false }

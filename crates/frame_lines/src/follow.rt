@@ -20,8 +20,8 @@ use std::alloc::Global;
 use texts::{Piece, ShortText, write_whole};
 
 /// Follows the lines of an input that say frames, over a store that is not dead and has no number live, and returns the store. A line that
-/// begins with `frame ` is to say one frame in hexadecimal, in lower case, and any other line is passed over. Of each frame that is applied is
-/// told how many are by then, before the next line is read.
+/// begins with `frame ` is to say one frame in hexadecimal, in lower case, and any other line is passed over. Of each frame that is applied
+/// is told how many are by then, before the next line is read.
 pub fn follow_lines<K: Sink, S: EawStore>(
     alloc: Global,
     input: &[u8],

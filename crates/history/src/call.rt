@@ -19,8 +19,8 @@ pub enum Call {
     Offer,
     /// Ends the offered transaction: if no group has committed it yet, all that were offered are committed as one.
     Settle,
-    /// Takes keys without records out of the index, so that their slots are given again. It comes outside of any transaction of its caller's,
-    /// and leaves each key whose stripe some live transaction has touched.
+    /// Takes keys without records out of the index, so that their slots are given again. It comes outside of any transaction of its
+    /// caller's, and leaves each key whose stripe some live transaction has touched.
     Purge,
 }
 

@@ -37,8 +37,8 @@ pub fn what_a_write_shows()
     ensures there { (table : Table) (key other : Key) (value : Option (List ℕ)) → other ≢ key → get (set_or_remove table key value) other ≡ get table other }
 {}
 
-/// Groups in a history: the last one of a group is no earlier one. A first part of the history in which groups are whole has all of a group or
-/// none of it, and is so in each longer history too. The whole history is one.
+/// Groups in a history: the last one of a group is no earlier one. A first part of the history in which groups are whole has all of a group
+/// or none of it, and is so in each longer history too. The whole history is one.
 pub fn groups_are_there_or_not()
     ensures numbered { (base : Table) (history : List Done) → IsLegal base history → AreNumberedFrom 1 history }
     ensures no_earlier { (history : List Done) → AreNumberedFrom 1 history → AreGrouped history → All (λ done. done.at ≤ done.last) history }

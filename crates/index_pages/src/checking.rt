@@ -25,8 +25,8 @@ use record_slots::{Slot, Super};
 /// Tests the slot of a pair of a table on a page of leaves, where so many slots are given out: it is one of them and carries the key for
 /// that table. The record that it holds, if any, comes behind the rows.
 ///
-/// If it is not given out, the pair's page is damaged. If it carries another key, or none, or is another table's, the slot's own page is. That
-/// page is read unless it is held, and is held then.
+/// If it is not given out, the pair's page is damaged. If it carries another key, or none, or is another table's, the slot's own page is.
+/// That page is read unless it is held, and is held then.
 pub fn check_slot<S: EawStore>(
     pages: &mut Pages<S>,
     held: &mut HeldPage,

@@ -25,8 +25,8 @@ pub struct Release {
     pub front: Super,
 }
 
-/// Gives back a slot, which is the first free one then. Nothing is written yet. `None` exactly when the super page has no lists, the slot was
-/// not given out, or as many are free as were given out.
+/// Gives back a slot, which is the first free one then. Nothing is written yet. `None` exactly when the super page has no lists, the slot
+/// was not given out, or as many are free as were given out.
 pub fn give_slot(front: &Super, slot: u32) -> Option<Release>
     ensures gives { IfSome result (λ given. (given.number ≡ slot) × GivesSlot front.now slot given.free given.front) }
     ensures none { IfNone result (¬ MayGive front.now.version slot front.now.next_slot front.now.free_slots) }
@@ -44,8 +44,8 @@ pub fn give_slot(front: &Super, slot: u32) -> Option<Release>
     })
 }
 
-/// Gives back a page, which is the first free one then. Nothing is written yet. `None` exactly when the super page has no lists, the page was
-/// not given out, or as many are free as were given out.
+/// Gives back a page, which is the first free one then. Nothing is written yet. `None` exactly when the super page has no lists, the page
+/// was not given out, or as many are free as were given out.
 pub fn give_page(front: &Super, page: u32) -> Option<Release>
     ensures gives { IfSome result (λ given. (given.number ≡ page) × GivesPage front.now page given.free given.front) }
     ensures none { IfNone result (¬ MayGive front.now.version page front.now.next_page front.now.free_pages) }
@@ -92,8 +92,8 @@ fn with_page(front: &Super, page: u32) -> Super
     after
 }
 
-/// Takes the pair of a key out of a page of level 0 and gives its slot back, as one nested top action of three parts: the slot, which says that
-/// it is free, the page without the pair, and the super page, whose list of free slots begins with the slot.
+/// Takes the pair of a key out of a page of level 0 and gives its slot back, as one nested top action of three parts: the slot, which says
+/// that it is free, the page without the pair, and the super page, whose list of free slots begins with the slot.
 pub fn remove_pair<S: EawStore>(
     pages: &mut Pages<S>,
     tid: u8,

@@ -29,8 +29,9 @@ pub fn pieces_answer()
         next (joined pieces) from ≡ or_else (next (piece_at pieces i) from) (head (joined (drop (suc i) pieces))) }
 {}
 
-/// A list of what is free is a stack: what is given back goes on top and ranks above all others, and the top is what is taken. No member comes
-/// twice. Where a number of its range is not free, there is room for one more. A free page is of a kind that no chain and no tree has.
+/// A list of what is free is a stack: what is given back goes on top and ranks above all others, and the top is what is taken. No member
+/// comes twice. Where a number of its range is not free, there is room for one more. A free page is of a kind that no chain and no tree
+/// has.
 pub fn free_lists_are_stacks()
     ensures pushes { (old new : ℕ → Option Free) (page_of : ℕ → ℕ) (low end n first m page : ℕ) → list_check old page_of low end n first page None → low ≤ m → m < end →
         new m ≡ Some (record { next = first; rank = suc n }) → ((x : ℕ) → low ≤ x → x < end → old x ≢ None → new x ≡ old x) → list_check new page_of low end (suc n) (suc m) page None }

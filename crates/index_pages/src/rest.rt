@@ -7,8 +7,8 @@ ghost use Rattle.index_pages.specs.Page.{count_said, pairs_from, pairs_said};
 use crate::page::{PAGE_LEN, read_pair};
 use page_store::NextPairs;
 
-/// The pairs of a page of level 0 from the first on whose key is not below `from`. `None` exactly if their keys do not rise, or one of them leads
-/// to no slot of so many.
+/// The pairs of a page of level 0 from the first on whose key is not below `from`. `None` exactly if their keys do not rise, or one of them
+/// leads to no slot of so many.
 pub fn rest_of(page: &[u8; PAGE_LEN], count: u16, from: u64, slots: u32) -> Option<NextPairs>
     requires count { count ≡ count_said page.now }
     requires most { count ≤ 30 }

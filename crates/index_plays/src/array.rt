@@ -1,10 +1,13 @@
 // An array with three tables, and what is asked of their indexes.
+ghost use Rattle.std.specs.Prelude.{IsFalse};
+
 use crate::untold_media::UntoldMedia;
 use anyhow::{Result, bail, ensure};
 use array_shape::Shape;
 use eaw_device::{Eaw, format};
+use eaw_face::EawStore;
 use page_store::{IndexFault, KeyIndex, NextPairs, PageFault, Pages, Sought, TableRows};
-use pcm_media::{FusedMedia, MemoryMedia};
+use pcm_media::{FusedMedia, Media, MemoryMedia};
 use record_slots::main_super;
 use std::alloc::Global;
 
@@ -33,7 +36,8 @@ impl Form {
     }
 }
 
-/// Pages of an array on a medium in memory that power can be cut from.
+/// Pages of an array on a medium in memory that power can be cut from. What is asked of them is proved for those of any store that tells
+/// nothing.
 pub type Array = Pages<Eaw<UntoldMedia<FusedMedia<MemoryMedia>>>>;
 
 /// An array with three tables without keys.
@@ -75,7 +79,10 @@ fn overwrite(image: &mut [u8], shape: &Shape, addr: u64, bytes: &[u8]) -> Result
 
 /// Opens the array on a medium that passes so many calls on; `None` where the medium fails.
 pub fn open(alloc: Global, media: MemoryMedia, passes: u64) -> Result<Option<Array>> {
-    let media = UntoldMedia::wrap(FusedMedia::wrap(media, passes));
+    opened(alloc, UntoldMedia::wrap(FusedMedia::wrap(media, passes)))
+}
+
+fn opened<M: Media + Drop>(alloc: Global, media: M) -> Result<Option<Pages<Eaw<M>>>> {
     let Ok(store) = Eaw::attach(alloc, media) else {
         return Ok(None);
     };
@@ -87,16 +94,22 @@ pub fn open(alloc: Global, media: MemoryMedia, passes: u64) -> Result<Option<Arr
 
 /// The medium of an array.
 pub fn close(array: Array) -> MemoryMedia {
-    array.into_store().into_media().into_inner().into_inner()
+    closed(array).into_inner().into_inner()
+}
+
+fn closed<M: Media>(array: Pages<Eaw<M>>) -> M {
+    array.into_store().into_media()
 }
 
 /// Inserts a key that is not there, at the place that a look-up finds for it.
-pub fn insert<K: KeyIndex>(
-    array: &mut Array,
+pub fn insert<K: KeyIndex, S: EawStore>(
+    array: &mut Pages<S>,
     tid: u8,
     table: u8,
     key: u64,
-) -> Result<Result<u32, IndexFault>> {
+) -> Result<Result<u32, IndexFault>>
+    requires { IsFalse S.tells }
+{
     ensure!(table < TABLES, "no such table");
     let root = u32::from(table) + 1;
     ensure!(u64::from(root) < array.shape().page_count(), "no root");
@@ -114,12 +127,14 @@ pub fn insert<K: KeyIndex>(
 }
 
 /// Removes a key that is there and has no record.
-pub fn remove<K: KeyIndex>(
-    array: &mut Array,
+pub fn remove<K: KeyIndex, S: EawStore>(
+    array: &mut Pages<S>,
     tid: u8,
     table: u8,
     key: u64,
-) -> Result<Result<bool, PageFault>> {
+) -> Result<Result<bool, PageFault>>
+    requires { IsFalse S.tells }
+{
     ensure!(table < TABLES, "no such table");
     let root = u32::from(table) + 1;
     ensure!(u64::from(root) < array.shape().page_count(), "no root");
@@ -129,13 +144,15 @@ pub fn remove<K: KeyIndex>(
 }
 
 /// Tests the super page, the lists of what is free, and the indexes of all tables.
-pub fn check<K: KeyIndex>(alloc: Global, array: &mut Array) -> Result<()> {
+pub fn check<K: KeyIndex, S: EawStore>(alloc: Global, array: &mut Pages<S>) -> Result<()> {
     let mut rows = TableRows::new(alloc);
     Ok(K::check(alloc, array, &mut rows)?)
 }
 
 /// The slot of a key, if it is there.
-pub fn find<K: KeyIndex>(array: &mut Array, table: u8, key: u64) -> Result<Option<u32>> {
+pub fn find<K: KeyIndex, S: EawStore>(array: &mut Pages<S>, table: u8, key: u64) -> Result<Option<u32>>
+    requires { IsFalse S.tells }
+{
     ensure!(table < TABLES, "no such table");
     let root = u32::from(table) + 1;
     ensure!(u64::from(root) < array.shape().page_count(), "no root");
@@ -143,11 +160,17 @@ pub fn find<K: KeyIndex>(array: &mut Array, table: u8, key: u64) -> Result<Optio
 }
 
 /// The keys and slots of a table, by rising keys.
-pub fn pairs<K: KeyIndex>(alloc: Global, array: &mut Array, table: u8) -> Result<Vec<(u64, u32)>> {
+pub fn pairs<K: KeyIndex, S: EawStore>(
+    alloc: Global,
+    array: &mut Pages<S>,
+    table: u8,
+) -> Result<Vec<(u64, u32)>>
+    requires { IsFalse S.tells }
+{
     let mut pairs = Vec::new(alloc);
     let mut from = 0u64;
     for _leaf in 0..array.shape().page_count() {
-        let next = next_pairs::<K>(array, table, from)?;
+        let next = next_pairs::<K, S>(array, table, from)?;
         let Some((last, _)) = next.as_slice().last().copied() else {
             return Ok(pairs);
         };
@@ -158,7 +181,13 @@ pub fn pairs<K: KeyIndex>(alloc: Global, array: &mut Array, table: u8) -> Result
 }
 
 // The pairs of a table that come next from a key on.
-fn next_pairs<K: KeyIndex>(array: &mut Array, table: u8, from: u64) -> Result<NextPairs> {
+fn next_pairs<K: KeyIndex, S: EawStore>(
+    array: &mut Pages<S>,
+    table: u8,
+    from: u64,
+) -> Result<NextPairs>
+    requires { IsFalse S.tells }
+{
     ensure!(table < TABLES, "no such table");
     let root = u32::from(table) + 1;
     ensure!(u64::from(root) < array.shape().page_count(), "no root");
@@ -166,14 +195,14 @@ fn next_pairs<K: KeyIndex>(array: &mut Array, table: u8, from: u64) -> Result<Ne
 }
 
 /// Logs so many parts of a number, at most eight, each in another place of the last page.
-pub fn log_parts(array: &mut Array, tid: u8, count: u64) -> Result<()> {
+pub fn log_parts<S: EawStore>(array: &mut Pages<S>, tid: u8, count: u64) -> Result<()> {
     for n in 0..count {
         log_part(array, tid, n)?;
     }
     Ok(())
 }
 
-fn log_part(array: &mut Array, tid: u8, n: u64) -> Result<()> {
+fn log_part<S: EawStore>(array: &mut Pages<S>, tid: u8, n: u64) -> Result<()> {
     let pages = array.shape().page_count();
     ensure!(tid < array.shape().numbers, "no such number");
     ensure!(pages > 0, "no page");
@@ -183,7 +212,7 @@ fn log_part(array: &mut Array, tid: u8, n: u64) -> Result<()> {
 }
 
 /// Drops what a number has logged.
-pub fn drop_parts(array: &mut Array, tid: u8) -> Result<()> {
+pub fn drop_parts<S: EawStore>(array: &mut Pages<S>, tid: u8) -> Result<()> {
     ensure!(tid < array.shape().numbers, "no such number");
     ensure!(array.open_top(tid).is_none(), "an open action");
     Ok(array.end(tid, false)?)

@@ -1,7 +1,10 @@
 // What the indexes of the tables have to have: a map of keys and slots for each.
-use crate::array::{Array, TABLES, check, find, pairs};
+ghost use Rattle.std.specs.Prelude.{IsFalse};
+
+use crate::array::{TABLES, check, find, pairs};
 use anyhow::{Result, bail, ensure};
-use page_store::KeyIndex;
+use eaw_face::EawStore;
+use page_store::{KeyIndex, Pages};
 use std::alloc::{AllocError, Global};
 use std::collections::BTreeMap;
 
@@ -59,8 +62,15 @@ impl Beside {
     }
 
     /// Whether the index of a table has just these keys and slots.
-    fn is_same<K: KeyIndex>(&self, alloc: Global, array: &mut Array, table: u8) -> Result<bool> {
-        let pairs = pairs::<K>(alloc, array, table)?;
+    fn is_same<K: KeyIndex, S: EawStore>(
+        &self,
+        alloc: Global,
+        array: &mut Pages<S>,
+        table: u8,
+    ) -> Result<bool>
+        requires { IsFalse S.tells }
+    {
+        let pairs = pairs::<K, S>(alloc, array, table)?;
         let Some(map) = self.maps.get(usize::from(table)) else {
             return Ok(false);
         };
@@ -76,9 +86,15 @@ impl Beside {
     }
 
     /// Whether the indexes of all tables have just these keys and slots.
-    pub fn is_all<K: KeyIndex>(&self, alloc: Global, array: &mut Array) -> Result<bool> {
+    pub fn is_all<K: KeyIndex, S: EawStore>(
+        &self,
+        alloc: Global,
+        array: &mut Pages<S>,
+    ) -> Result<bool>
+        requires { IsFalse S.tells }
+    {
         for table in 0..TABLES {
-            if !self.is_same::<K>(alloc, array, table)? {
+            if !self.is_same::<K, S>(alloc, array, table)? {
                 return Ok(false);
             }
         }
@@ -86,16 +102,29 @@ impl Beside {
     }
 
     /// Tests the array, and compares all that it has with this.
-    pub fn compare<K: KeyIndex>(&self, alloc: Global, array: &mut Array) -> Result<()> {
-        check::<K>(alloc, array)?;
-        ensure!(self.is_all::<K>(alloc, array)?, "other keys or slots");
+    pub fn compare<K: KeyIndex, S: EawStore>(
+        &self,
+        alloc: Global,
+        array: &mut Pages<S>,
+    ) -> Result<()>
+        requires { IsFalse S.tells }
+    {
+        check::<K, S>(alloc, array)?;
+        ensure!(self.is_all::<K, S>(alloc, array)?, "other keys or slots");
         Ok(())
     }
 
     /// Compares what a look-up of a key finds.
-    pub fn compare_key<K: KeyIndex>(&self, array: &mut Array, table: u8, key: u64) -> Result<()> {
+    pub fn compare_key<K: KeyIndex, S: EawStore>(
+        &self,
+        array: &mut Pages<S>,
+        table: u8,
+        key: u64,
+    ) -> Result<()>
+        requires { IsFalse S.tells }
+    {
         ensure!(
-            find::<K>(array, table, key)? == self.slot(table, key),
+            find::<K, S>(array, table, key)? == self.slot(table, key),
             "another slot of a key"
         );
         Ok(())

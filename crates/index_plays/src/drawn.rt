@@ -1,11 +1,14 @@
 // Insertions and removals that are drawn from a seed.
-use crate::array::{Array, Form, TABLES, drop_parts, fresh, insert, log_parts, open, remove};
+ghost use Rattle.std.specs.Prelude.{IsFalse};
+
+use crate::array::{Form, TABLES, drop_parts, fresh, insert, log_parts, open, remove};
 use crate::beside::Beside;
 use crate::front::pages_in_use;
 use anyhow::{Result, bail, ensure};
 use array_shape::Shape;
 use case_files::Draws;
-use page_store::{IndexFault, KeyIndex, PageFault};
+use eaw_face::EawStore;
+use page_store::{IndexFault, KeyIndex, PageFault, Pages};
 use std::alloc::Global;
 
 // How many insertions and removals are made, and how many steps at the most.
@@ -105,8 +108,8 @@ impl Counts {
 
 // The array with what stands beside it.
 #[derive(Drop)]
-struct Drawn {
-    array: Array,
+struct Drawn<S: EawStore> {
+    array: Pages<S>,
     beside: Beside,
     draws: Draws,
     counts: Counts,
@@ -115,53 +118,72 @@ struct Drawn {
 
 /// Makes the insertions and removals of a seed, and compares all after each hundred.
 pub fn play<K: KeyIndex>(alloc: Global, form: Form, seed: u64) -> Result<Counts> {
-    let mut play = begin(alloc, form, seed)?;
+    let shape = Shape::new(1, 2, 8, 40)?;
+    let Some(array) = open(alloc, fresh(alloc, form, &shape)?, u64::MAX)? else {
+        bail!("the array is not opened");
+    };
+    let slots = 8 * u64::from(shape.half_page_count());
+    play_all::<K, _>(alloc, begin(alloc, array, seed, slots)?)
+}
+
+fn begin<S: EawStore + Drop>(
+    alloc: Global,
+    array: Pages<S>,
+    seed: u64,
+    slots: u64,
+) -> Result<Drawn<S>> {
+    Ok(Drawn {
+        array,
+        beside: Beside::new(alloc)?,
+        draws: Draws::new(seed),
+        counts: Counts::none(),
+        slots,
+    })
+}
+
+fn play_all<K: KeyIndex, S: EawStore + Drop>(alloc: Global, mut play: Drawn<S>) -> Result<Counts>
+    requires { IsFalse S.tells }
+{
     for n in 0..STEPS {
-        if go_on::<K>(alloc, &mut play, stretch_of(n))? {
+        if go_on::<K, S>(alloc, &mut play, stretch_of(n))? {
             return Ok(play.counts);
         }
     }
     bail!("too few changes")
 }
 
-fn begin(alloc: Global, form: Form, seed: u64) -> Result<Drawn> {
-    let shape = Shape::new(1, 2, 8, 40)?;
-    let Some(array) = open(alloc, fresh(alloc, form, &shape)?, u64::MAX)? else {
-        bail!("the array is not opened");
-    };
-    Ok(Drawn {
-        array,
-        beside: Beside::new(alloc)?,
-        draws: Draws::new(seed),
-        counts: Counts::none(),
-        slots: 8 * u64::from(shape.half_page_count()),
-    })
-}
-
 // Makes a step. Whether these are enough.
-fn go_on<K: KeyIndex>(alloc: Global, play: &mut Drawn, stretch: Stretch) -> Result<bool> {
+fn go_on<K: KeyIndex, S: EawStore>(
+    alloc: Global,
+    play: &mut Drawn<S>,
+    stretch: Stretch,
+) -> Result<bool>
+    requires { IsFalse S.tells }
+{
     let before = play.counts.changes();
-    step::<K>(play, stretch)?;
+    step::<K, S>(play, stretch)?;
     let changes = play.counts.changes();
     if changes > before && changes % 100 == 0 {
-        play.beside.compare::<K>(alloc, &mut play.array)?;
+        play.beside.compare::<K, S>(alloc, &mut play.array)?;
     }
     Ok(changes == CHANGES)
 }
 
 // Draws a key of a table. It is inserted, removed or looked for.
-fn step<K: KeyIndex>(play: &mut Drawn, stretch: Stretch) -> Result<()> {
+fn step<K: KeyIndex, S: EawStore>(play: &mut Drawn<S>, stretch: Stretch) -> Result<()>
+    requires { IsFalse S.tells }
+{
     let table = draw_table(&mut play.draws);
     let key = play.draws.below(stretch.keys).saturating_add(stretch.first);
     let is_seldom = play.draws.below(20) == 0;
     let is_there = play.beside.slot(table, key).is_some();
     if is_there && (is_seldom || stretch.tide.takes(key)) {
-        return take_out::<K>(play, table, key);
+        return take_out::<K, S>(play, table, key);
     }
     if !is_there && (is_seldom || stretch.tide == Tide::Flood) {
-        return put_in::<K>(play, table, key);
+        return put_in::<K, S>(play, table, key);
     }
-    play.beside.compare_key::<K>(&mut play.array, table, key)
+    play.beside.compare_key::<K, S>(&mut play.array, table, key)
 }
 
 fn draw_table(draws: &mut Draws) -> u8 {
@@ -173,11 +195,13 @@ fn draw_table(draws: &mut Draws) -> u8 {
 }
 
 // Inserts a key, by a number that may have logged some parts.
-fn put_in<K: KeyIndex>(play: &mut Drawn, table: u8, key: u64) -> Result<()> {
+fn put_in<K: KeyIndex, S: EawStore>(play: &mut Drawn<S>, table: u8, key: u64) -> Result<()>
+    requires { IsFalse S.tells }
+{
     let logged = play.draws.below(12).saturating_sub(4);
     log_parts(&mut play.array, 1, logged)?;
     let before = pages_in_use(&mut play.array)?;
-    let answer = insert::<K>(&mut play.array, 1, table, key)?;
+    let answer = insert::<K, S>(&mut play.array, 1, table, key)?;
     if pages_in_use(&mut play.array)? > before {
         play.counts.split = play.counts.split.saturating_add(1);
     }
@@ -193,7 +217,7 @@ fn put_in<K: KeyIndex>(play: &mut Drawn, table: u8, key: u64) -> Result<()> {
 }
 
 // Counts why a key was not inserted, where that may be.
-fn count_refusal(play: &mut Drawn, fault: IndexFault, logged: u64) -> Result<()> {
+fn count_refusal<S: EawStore>(play: &mut Drawn<S>, fault: IndexFault, logged: u64) -> Result<()> {
     match fault {
         IndexFault::SlotsFull { .. } => {
             ensure!(play.beside.len() as u64 == play.slots, "a slot is left");
@@ -213,11 +237,13 @@ fn count_refusal(play: &mut Drawn, fault: IndexFault, logged: u64) -> Result<()>
 }
 
 // Removes a key, by a number that may have logged some parts.
-fn take_out<K: KeyIndex>(play: &mut Drawn, table: u8, key: u64) -> Result<()> {
+fn take_out<K: KeyIndex, S: EawStore>(play: &mut Drawn<S>, table: u8, key: u64) -> Result<()>
+    requires { IsFalse S.tells }
+{
     let logged = play.draws.below(12).saturating_sub(4);
     log_parts(&mut play.array, 1, logged)?;
     let before = pages_in_use(&mut play.array)?;
-    let answer = remove::<K>(&mut play.array, 1, table, key)?;
+    let answer = remove::<K, S>(&mut play.array, 1, table, key)?;
     if pages_in_use(&mut play.array)? < before {
         play.counts.joined = play.counts.joined.saturating_add(1);
     }

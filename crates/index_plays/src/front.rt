@@ -1,10 +1,11 @@
 // How many pages the indexes have.
-use crate::array::Array;
 use anyhow::{Result, bail, ensure};
+use eaw_face::EawStore;
+use page_store::Pages;
 use record_slots::read_super;
 
 /// The pages that were given and are not free.
-pub fn pages_in_use(array: &mut Array) -> Result<u32> {
+pub fn pages_in_use<S: EawStore>(array: &mut Pages<S>) -> Result<u32> {
     let mut bytes = [0; 512];
     ensure!(array.shape().page_count() > 0, "no page");
     array.read(0, 0, &mut bytes)?;

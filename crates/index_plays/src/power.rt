@@ -1,10 +1,13 @@
 // Power that is lost within removals.
+ghost use Rattle.std.specs.Prelude.{IsFalse};
+
 use crate::array::{Array, Form, TABLES, check, close, fresh, insert, media_of, open, remove};
 use crate::beside::Beside;
 use crate::front::pages_in_use;
 use anyhow::{Result, bail, ensure};
 use array_shape::Shape;
-use page_store::{KeyIndex, PageFault};
+use eaw_face::EawStore;
+use page_store::{KeyIndex, PageFault, Pages};
 use pcm_media::MemoryMedia;
 use std::alloc::Global;
 
@@ -89,20 +92,37 @@ fn take_out<K: KeyIndex>(
     beside: &mut Beside,
     stops: &mut Stops,
 ) -> Result<MemoryMedia> {
-    let mut array = opened(alloc, media_of(alloc, media.bytes())?)?;
-    let used = pages_in_use(&mut array)?;
-    if !remove::<K>(&mut array, 0, removal.table, removal.key)?? {
-        return Ok(close(array));
-    }
-    let is_freed = pages_in_use(&mut array)? < used;
     let before = beside.copy(alloc)?;
-    beside.remove(removal.table, removal.key);
-    beside.compare::<K>(alloc, &mut array)?;
-    if is_freed || removal.is_first {
-        stops.removals = stops.removals.saturating_add(1);
-        stop_removal::<K>(alloc, media.bytes(), removal, (&before, beside), stops)?;
+    let mut array = opened(alloc, media_of(alloc, media.bytes())?)?;
+    let taken = remove_and_compare::<K, _>(alloc, &mut array, removal, beside)?;
+    let left = close(array);
+    match taken {
+        Some(is_freed) if is_freed || removal.is_first => {
+            stops.removals = stops.removals.saturating_add(1);
+            stop_removal::<K>(alloc, media.bytes(), removal, (&before, beside), stops)?;
+        }
+        Some(_) | None => {}
     }
-    Ok(close(array))
+    Ok(left)
+}
+
+// Takes a key out, and compares what the array has then. Whether a page is freed by it; `None` if the key stays.
+fn remove_and_compare<K: KeyIndex, S: EawStore>(
+    alloc: Global,
+    array: &mut Pages<S>,
+    removal: Removal,
+    beside: &mut Beside,
+) -> Result<Option<bool>>
+    requires { IsFalse S.tells }
+{
+    let used = pages_in_use(array)?;
+    if !remove::<K, S>(array, 0, removal.table, removal.key)?? {
+        return Ok(None);
+    }
+    let is_freed = pages_in_use(array)? < used;
+    beside.remove(removal.table, removal.key);
+    beside.compare::<K, S>(alloc, array)?;
+    Ok(Some(is_freed))
 }
 
 // Makes a removal with power lost at each call of the medium, up to the one that goes through.
@@ -133,12 +153,18 @@ fn goes_through<K: KeyIndex>(
     let Some(mut array) = array else {
         return Ok(false);
     };
-    let is_done = is_done(remove::<K>(&mut array, 0, removal.table, removal.key)?)?;
+    let is_done = is_removed::<K, _>(&mut array, removal)?;
     if !is_done {
         stops.losses = stops.losses.saturating_add(1);
     }
     compare_left::<K>(alloc, &close(array), both, is_done, stops)?;
     Ok(is_done)
+}
+
+fn is_removed<K: KeyIndex, S: EawStore>(array: &mut Pages<S>, removal: Removal) -> Result<bool>
+    requires { IsFalse S.tells }
+{
+    is_done(remove::<K, S>(array, 0, removal.table, removal.key)?)
 }
 
 // Whether a key was taken out; if not, the medium failed.
@@ -151,7 +177,7 @@ fn is_done(answer: Result<bool, PageFault>) -> Result<bool> {
     }
 }
 
-// Opens what may be left: it has what was there before the removal or what is there behind it, and the latter if it was told as done.
+// Opens what may be left, and compares it.
 fn compare_left<K: KeyIndex>(
     alloc: Global,
     media: &MemoryMedia,
@@ -161,24 +187,35 @@ fn compare_left<K: KeyIndex>(
 ) -> Result<()> {
     for choice in CHOICES {
         let mut array = opened(alloc, media.leave(choice)?)?;
-        check::<K>(alloc, &mut array)?;
-        if both.1.is_all::<K>(alloc, &mut array)? {
+        if is_behind::<K, _>(alloc, &mut array, both, is_done)? {
             stops.behind = stops.behind.saturating_add(1);
         } else {
-            ensure!(!is_done, "a removal is lost that was done");
-            compare_before::<K>(alloc, both.0, &mut array)?;
             stops.before = stops.before.saturating_add(1);
         }
     }
     Ok(())
 }
 
-fn compare_before<K: KeyIndex>(alloc: Global, before: &Beside, array: &mut Array) -> Result<()> {
+// Whether an array has what is there behind a removal. If not, it has what was there before, and the removal was not told as done.
+fn is_behind<K: KeyIndex, S: EawStore>(
+    alloc: Global,
+    array: &mut Pages<S>,
+    both: (&Beside, &Beside),
+    is_done: bool,
+) -> Result<bool>
+    requires { IsFalse S.tells }
+{
+    let (before, behind) = both;
+    check::<K, S>(alloc, array)?;
+    if behind.is_all::<K, S>(alloc, array)? {
+        return Ok(true);
+    }
+    ensure!(!is_done, "a removal is lost that was done");
     ensure!(
-        before.is_all::<K>(alloc, array)?,
+        before.is_all::<K, S>(alloc, array)?,
         "neither the one nor the other"
     );
-    Ok(())
+    Ok(false)
 }
 
 // The tables with all their keys.
@@ -186,14 +223,24 @@ fn filled<K: KeyIndex>(alloc: Global, form: Form) -> Result<(MemoryMedia, Beside
     let shape = Shape::new(1, 2, 8, 64)?;
     let mut array = opened(alloc, fresh(alloc, form, &shape)?)?;
     let mut beside = Beside::new(alloc)?;
+    fill::<K, _>(alloc, &mut array, &mut beside)?;
+    Ok((close(array), beside))
+}
+
+fn fill<K: KeyIndex, S: EawStore>(
+    alloc: Global,
+    array: &mut Pages<S>,
+    beside: &mut Beside,
+) -> Result<()>
+    requires { IsFalse S.tells }
+{
     for key in 0..KEYS {
         for table in 0..TABLES {
-            let slot = insert::<K>(&mut array, 0, table, key)??;
+            let slot = insert::<K, S>(array, 0, table, key)??;
             beside.insert(table, key, slot)?;
         }
     }
-    beside.compare::<K>(alloc, &mut array)?;
-    Ok((close(array), beside))
+    beside.compare::<K, S>(alloc, array)
 }
 
 fn opened(alloc: Global, media: MemoryMedia) -> Result<Array> {

@@ -13,11 +13,11 @@ use page_store::{
 use std::alloc::Global;
 
 /// Indexes that are chains of pages in the order of their keys, one for each table: it begins in the table's root and follows the links. A
-/// look-up reads each page of the chain up to that of its key, and so does an insertion or a removal, unless it is told the page; besides, it
-/// reads the super page, and what it takes from a list. An insertion is one nested top action of three parts: the slot, the page and
-/// the super page. If the page has 30 pairs, it is cut first, by another action of three parts: the page, the page that is due, which
-/// takes the upper half and the link, and the super page. A removal is one action of three parts too: the slot, which is free then, the
-/// page and the super page. A page keeps its last pair, unless it is the root and no page follows it: so no page is ever freed.
+/// look-up reads each page of the chain up to that of its key, and so does an insertion or a removal, unless it is told the page; besides,
+/// it reads the super page, and what it takes from a list. An insertion is one nested top action of three parts: the slot, the page and the
+/// super page. If the page has 30 pairs, it is cut first, by another action of three parts: the page, the page that is due, which takes the
+/// upper half and the link, and the super page. A removal is one action of three parts too: the slot, which is free then, the page and the
+/// super page. A page keeps its last pair, unless it is the root and no page follows it: so no page is ever freed.
 #[derive(Clone, Copy, Debug)]
 pub struct KeyList {}
 

@@ -34,9 +34,9 @@ pub fn chain_changes_keep()
         chain_check new root table None × (pairs_of_chain new root ≡ pairs_of_chain old root) }
 {}
 
-/// What a removal makes of the chain of a table, whatever the slot of the pair says then: the page of the key loses the pair, and keeps others
-/// or is the root alone, and just that pair is taken out of all. A chain is as it was on data where its own pages are, and where the slots of
-/// its pairs are given and carry their keys.
+/// What a removal makes of the chain of a table, whatever the slot of the pair says then: the page of the key loses the pair, and keeps
+/// others or is the root alone, and just that pair is taken out of all. A chain is as it was on data where its own pages are, and where the
+/// slots of its pairs are given and carry their keys.
 pub fn chain_removals_keep()
     ensures loses { (old new : List ℕ) (root table key slot : ℕ) → IsOwn old root → chain_check old root table None → KeepsBut slot old new → HasCounts old →
         found (pairs_of_chain old root) key ≡ Some slot → next_page new ≡ next_page old → LosesPairInChain old new root (page_of_key old root key) key →

@@ -164,8 +164,8 @@ impl LateCommits {
         due
     }
 
-    /// Commits the parts in the cells that the ballot's rows name, behind those that wait: if none may wait, it is written back at once. The ballot's
-    /// order number is not asked. If no logger takes part, it makes no call of the medium.
+    /// Commits the parts in the cells that the ballot's rows name, behind those that wait: if none may wait, it is written back at once.
+    /// The ballot's order number is not asked. If no logger takes part, it makes no call of the medium.
     pub fn commit<M: Media>(
         &mut self,
         media: &mut M,

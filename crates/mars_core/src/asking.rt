@@ -98,8 +98,8 @@ pub fn work<S: EawStore, K: KeyIndex>(
     }
 }
 
-/// Answers a call of a live transaction, which comes back, with the call if it was granted. `asked` is what the call asks of the records, and
-/// `seats` has the transactions of the others, which are not asked for locks if none of them is known to stand in the way.
+/// Answers a call of a live transaction, which comes back, with the call if it was granted. `asked` is what the call asks of the records,
+/// and `seats` has the transactions of the others, which are not asked for locks if none of them is known to stand in the way.
 pub fn answer<S: EawStore, K: KeyIndex>(
     alloc: Global,
     records: &mut Records<S, K>,

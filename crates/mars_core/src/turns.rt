@@ -48,8 +48,8 @@ use std::alloc::Global;
 use std::marker::Model;
 use std::mem::replace;
 
-/// Callers that take turns on records over a store, under an index. Each call locks the stripe of its key in its table (of 64), and a scan all
-/// stripes, until the transaction ends: a get and a scan beside other readers, a put and a removal alone.
+/// Callers that take turns on records over a store, under an index. Each call locks the stripe of its key in its table (of 64), and a scan
+/// all stripes, until the transaction ends: a get and a scan beside other readers, a put and a removal alone.
 #[derive(Drop)]
 pub struct Core<S: EawStore, K: KeyIndex> {
     alloc: Global,
@@ -76,8 +76,8 @@ impl<S: EawStore, K: KeyIndex> Model for Core<S, K> {
 }
 
 impl<S: EawStore, K: KeyIndex> Core<S, K> {
-    /// A core over a store that is not dead and on which no number is live. It begins with the records of the store's data, which it brings to
-    /// version 2 last. An error returns the store: the data is not a sound index, the medium failed, or memory ran out.
+    /// A core over a store that is not dead and on which no number is live. It begins with the records of the store's data, which it brings
+    /// to version 2 last. An error returns the store: the data is not a sound index, the medium failed, or memory ran out.
     pub fn attach(alloc: Global, room: SaveRoom, store: S) -> Result<Core<S, K>, (CoreFault, S)>
         requires alive { IsAlive (S.view store) }
         requires idle { (t : ℕ) → (S.view store).ranges t ≡ None }
@@ -298,8 +298,8 @@ impl<S: EawStore, K: KeyIndex> Core<S, K> {
         Reply::Fine
     }
 
-    // Takes keys without records out of the index: each key whose stripe no live transaction touches is tried once, by rising table and key. A
-    // key stays whose pair its page keeps as the last one.
+    // Takes keys without records out of the index: each key whose stripe no live transaction touches is tried once, by rising table and
+    // key. A key stays whose pair its page keeps as the last one.
     #[tactic(auto, using(crate::proofs::GivingUp::sends_none))]
     fn purge(&mut self, caller: u8) -> Reply
         requires inside { caller < (S.view self.old.records.store).shape.numbers }

@@ -234,8 +234,8 @@ impl<C: Core + Drop> Mars<C> {
         }
     }
 
-    /// Tries to lock a stripe of keys for the pass's transaction, if it takes calls, in one step on its word and without the turn. A lock stands until
-    /// the transaction ends. At a refusal the pass has what it had: a shared lock stays if it cannot be made exclusive.
+    /// Tries to lock a stripe of keys for the pass's transaction, if it takes calls, in one step on its word and without the turn. A lock
+    /// stands until the transaction ends. At a refusal the pass has what it had: a shared lock stays if it cannot be made exclusive.
     pub fn lock(&self, pass: &mut Pass<C>, stripe: u8, asked: Mode) -> Lock
         requires own { pass.old.table ≡ self.now.table }
         requires stripe { stripe < 64 }

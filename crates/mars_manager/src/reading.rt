@@ -50,8 +50,9 @@ impl<C: Core + Drop> Mars<C> {
         Ok(copied)
     }
 
-    /// Tries once for the turn and, if it gets it, copies the transactions that the history has behind the first `from`, in the order of their
-    /// commits, as a feed of readers takes them. The pass has then seen the whole history, also where there was no memory for the copy. It makes no step of the core.
+    /// Tries once for the turn and, if it gets it, copies the transactions that the history has behind the first `from`, in the order of
+    /// their commits, as a feed of readers takes them. The pass has then seen the whole history, also where there was no memory for the
+    /// copy. It makes no step of the core.
     pub fn since(
         &self,
         alloc: Global,

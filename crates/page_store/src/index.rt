@@ -33,9 +33,10 @@ pub type NextPairs = ArrayVec<(u64, u32), NEXT_MAX>;
 /// They have no state of their own.
 ///
 /// Look-ups read the committed data, and insertions and removals change it by nested top actions, which stay whatever becomes of the
-/// transaction around them. What a look-up reads and answers is known of any store (`Follows`): it goes from page to page as each says, makes
-/// the calls of the medium that these reads cost and no other, and answers what the pages say. Over a store that does not tell its data, a
-/// page that breaks the layout is answered with `Damaged`, and so is one that leads on where a look-up has read as many pages as it may.
+/// transaction around them. What a look-up reads and answers is known of any store (`Follows`): it goes from page to page as each says,
+/// makes the calls of the medium that these reads cost and no other, and answers what the pages say. Over a store that does not tell its
+/// data, a page that breaks the layout is answered with `Damaged`, and so is one that leads on where a look-up has read as many pages as it
+/// may.
 pub trait KeyIndex {
     /// What it makes of data: whether it is sound, the pairs of key and slot under a root, and what an insertion takes.
     ghost index: { Index };
@@ -76,8 +77,8 @@ pub trait KeyIndex {
         ensures inside { IfOk result (λ slot. IfSome slot (λ slot. slot < slots_of (S.view pages.old.store).shape)) }
         ensures dead { IsErrOf result PageFault.Dead → pages.new ≡ pages.old };
 
-    /// The slot of a key of a table, if its index has the key, and else the place where it goes, for an insertion that comes right behind. It
-    /// reads just what `find` does.
+    /// The slot of a key of a table, if its index has the key, and else the place where it goes, for an insertion that comes right behind.
+    /// It reads just what `find` does.
     fn find_place<S: EawStore>(
         pages: &mut Pages<S>,
         root: u32,
@@ -98,8 +99,8 @@ pub trait KeyIndex {
         ensures inside { IfOk result (IsSoughtIn (S.view pages.old.store).shape) }
         ensures dead { IsErrOf result PageFault.Dead → pages.new ≡ pages.old };
 
-    /// The pairs of a table that come next from the key `from` on, one after another, as far as one page has them: none only if the table has
-    /// none from there on.
+    /// The pairs of a table that come next from the key `from` on, one after another, as far as one page has them: none only if the table
+    /// has none from there on.
     fn next_pairs<S: EawStore>(
         pages: &mut Pages<S>,
         root: u32,
@@ -123,9 +124,9 @@ pub trait KeyIndex {
     /// absent and carries the key. Splits of full pages come first, each a nested top action of its own, and take free pages first. They
     /// stay if the insertion is refused after them.
     ///
-    /// It reads the super page, the pages on the way of the key, each once, and the first of a list of what is free for each page and slot that it
-    /// takes from one. A place is a page that an index may have, with room for one more pair (`place`), and the data is still what it was when that
-    /// was found (`fits`): with one, no page of the way is read.
+    /// It reads the super page, the pages on the way of the key, each once, and the first of a list of what is free for each page and slot
+    /// that it takes from one. A place is a page that an index may have, with room for one more pair (`place`), and the data is still what
+    /// it was when that was found (`fits`): with one, no page of the way is read.
     fn insert<S: EawStore>(
         pages: &mut Pages<S>,
         tid: u8,
@@ -153,8 +154,8 @@ pub trait KeyIndex {
 
     /// Takes out the pair of a key, whose slot is absent, as number `tid`, and frees the slot. A page that would be left without pairs is
     /// freed too, or it keeps its last pair: `false` is returned exactly then, and nothing is changed. All of it is one nested top action of
-    /// at most five parts. What is free is kept from version 2 on. It reads the super page, the pages on the way of the key, each once, and at most
-    /// one page beside them.
+    /// at most five parts. What is free is kept from version 2 on. It reads the super page, the pages on the way of the key, each once, and
+    /// at most one page beside them.
     fn remove<S: EawStore>(
         pages: &mut Pages<S>,
         tid: u8,

@@ -1,7 +1,8 @@
 //! Records of an ordered table over pages, under any index: what a transaction sees, its writes, its savepoints and its commit.
 //!
 //! Read first `records.rt` and `specs/Does`: what a call does, also at the moments within it. `specs/Causes` says when each refusal comes.
-//! `form_of` says which index an array has. The key of a record has the name of its table, `specs/Shown`; records of each table can be asked for.
+//! `form_of` says which index an array has. The key of a record has the name of its table, `specs/Shown`; records of each table can be
+//! asked for.
 #![tactic(auto)]
 
 mod fault;

@@ -44,9 +44,9 @@ use std::marker::{Model, PhantomData};
 
 /// Records under u64 keys over pages, under any index: tables and, over them, what each transaction number has written and not committed.
 ///
-/// Each call is one that a caller asks for, made as a number. `Does` says what it is answered, what it makes of the table and of the number's
-/// log, when each refusal comes, and what a loss of power within it may leave. After a refusal other than `Media` table and logs are as they
-/// were. After `Media` each call that can be refused answers `Dead`.
+/// Each call is one that a caller asks for, made as a number. `Does` says what it is answered, what it makes of the table and of the
+/// number's log, when each refusal comes, and what a loss of power within it may leave. After a refusal other than `Media` table and logs
+/// are as they were. After `Media` each call that can be refused answers `Dead`.
 #[derive(Drop)]
 pub struct Records<S: EawStore, K: KeyIndex> {
     pages: Pages<S>,

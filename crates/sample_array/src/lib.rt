@@ -1,4 +1,7 @@
 //! Sixteen bytes of an array that change together: after a loss of power all are new, or none is.
+//!
+//! A sample to begin with, over any store of the array's commands. It has no law of its own: that both places change at once is what `does`
+//! says of `EawStore::commit`. Read the trait `eaw_face::EawStore` next.
 #![tactic(auto)]
 
 use eaw_face::{EawFault, EawStore};

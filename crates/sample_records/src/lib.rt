@@ -1,4 +1,7 @@
 //! A record that counts, in a transaction for each step.
+//!
+//! A sample to begin with, over any core of records. What each call of a transaction answers and leaves is said in `transactions`: read its
+//! `calls.rt` next. The law behind it is `caller_steps::prefix_law`: a loss of power leaves the records of the first so many commits.
 #![tactic(auto)]
 
 ghost use Rattle.std.specs.Prelude.{◌≡◌, ◌<◌, IsTrue};

@@ -1,8 +1,8 @@
 //! Commands that work on the records of an array and tell of it only at their end.
 //!
 //! Each is a `ToldWork`, which says what it makes of a store, and `run_told` does the rest for all of them: it opens the array, finds the
-//! index that its data names, and writes what is told, in whole or not at all. Read first `specs/Told`, then of each command the file that has its
-//! name: `specs/Tables` for `NewTable`, `specs/Purge` for `Purge`, `specs/Dump` for `Dump`.
+//! index that its data names, and writes what is told, in whole or not at all. Read first `specs/Told`, then of each command the file that
+//! has its name: `specs/Tables` for `NewTable`, `specs/Purge` for `Purge`, `specs/Dump` for `Dump`.
 #![tactic(auto)]
 
 mod dump;

@@ -53,8 +53,8 @@ impl ToldWork for Purge {
     fn laws<S: EawStore, M: Media>(&self) {}
 }
 
-// How many keys were taken out, or what stopped the purge of a core that nobody else calls: the medium, or a page that says something else when
-// it is read again.
+// How many keys were taken out, or what stopped the purge of a core that nobody else calls: the medium, or a page that says something else
+// when it is read again.
 fn cleared(reply: &Reply) -> Result<u32, CoreFault>
     requires { IsAnswer reply.now }
     ensures { result ≡ cleared reply.now }

@@ -43,8 +43,8 @@ pub trait ToldWork {
     /// Whether it leaves the data as it was where the records are not taken. Other work brings it to version 2 first.
     ghost spares: { Bool };
 
-    /// How it leaves a store, by the text that is told or the status with which it stopped: in terms of whether the store tells its data, how
-    /// images open, the index, and the store before.
+    /// How it leaves a store, by the text that is told or the status with which it stopped: in terms of whether the store tells its data,
+    /// how images open, the index, and the store before.
     ghost leaves: { Self → Bool → (Shape → List ℕ → List ℕ → Type 0) → Index → StoreView → Result (List ℕ) Status → StoreView → Type 0 };
 
     /// What comes of it on a medium that tells its bytes, by the status, and what was written.
@@ -63,8 +63,8 @@ pub trait ToldWork {
         ensures stops { IfErr (said result.0) IsStop }
         ensures counts { FaultCounts (said result.0) (S.view store).faults (S.view result.1).faults };
 
-    /// What the store is left as, under the index that its data names, gives what comes of it on the medium below. If nothing was done over the
-    /// records, that comes of it too.
+    /// What the store is left as, under the index that its data names, gives what comes of it on the medium below. If nothing was done over
+    /// the records, that comes of it too.
     fn laws<S: EawStore, M: Media>(&self)
         ensures none { (old new : M) (status : Status) → OverRecords spares 0 (λ ended. ⊥) (M.view old) status (M.view new) false [] → comes self.now (M.view old) status (M.view new) false [] }
         ensures done { (old new : M) (store mid later : S) (form : ℕ) (end : Result (List ℕ) Status) (status : Status) (cut : Bool) (text : List ℕ)

@@ -6,7 +6,7 @@ use super::opening::{close_bank, open_bank};
 use bank::{Refusal, balance, transfer};
 use caller_steps::{Core as Steps, prefix_law};
 use history::{Call, main_table};
-use pcm_media::{FusedMedia, MemoryMedia};
+use pcm_media::{FusedMedia, Media, MemoryMedia};
 use record_slots::Value;
 use std::alloc::Global;
 use std::process::Abort;
@@ -32,7 +32,12 @@ fn open_account<C: Steps>(core: &mut C, account: u64, value: Value)
 
 /// An array with 100 in the account 1 and 50 in the account 2.
 pub fn with_accounts(alloc: Global) -> Option<MemoryMedia> {
-    let mut core = open_bank(alloc, whole(fresh(alloc)?))?;
+    Some(opened(alloc, whole(fresh(alloc)?))?.into_inner())
+}
+
+// The medium of an array, with both accounts in it.
+fn opened<M: Media + Drop>(alloc: Global, media: M) -> Option<M> {
+    let mut core = open_bank(alloc, media)?;
     open_both(&mut core)?;
     Some(close_bank(core))
 }
@@ -56,9 +61,9 @@ fn both<C: Steps>(core: &mut C) -> Option<(u64, u64)>
     Some((one, other))
 }
 
-// What both accounts have in an image that a loss of power may leave.
-fn balances(alloc: Global, media: &MemoryMedia, choice: &[u8]) -> Option<(u64, u64)> {
-    let mut core = open_bank(alloc, whole(media.leave(choice).ok()?))?;
+// What both accounts have in an array.
+fn balances<M: Media + Drop>(alloc: Global, media: M) -> Option<(u64, u64)> {
+    let mut core = open_bank(alloc, media)?;
     both(&mut core)
 }
 
@@ -81,16 +86,21 @@ fn pay_thrice<C: Steps>(core: &mut C) -> [Result<(), Stop<Refusal>>; 3]
     [pay(core, 2, 30), pay(core, 2, 71), pay(core, 3, 1)]
 }
 
-// A transfer of 30 behind a fuse: its answer and the medium as it is then, or `None` if the array was not opened.
+// A transfer of 30: its answer and the medium as it is then, or `None` if the array was not opened.
+fn pay_once<M: Media + Drop>(alloc: Global, media: M) -> Option<(Result<(), Stop<Refusal>>, M)> {
+    let mut core = open_bank(alloc, media)?;
+    let answer = transfer(&mut core, 0, 1, 2, 30);
+    Some((answer, close_bank(core)))
+}
+
+// The same behind a fuse.
 fn pay_behind(
     alloc: Global,
     image: &[u8],
     passes: u64,
 ) -> Option<(Result<(), Stop<Refusal>>, MemoryMedia)> {
-    let media = media_of(alloc, image)?;
-    let mut core = open_bank(alloc, FusedMedia::wrap(media, passes))?;
-    let answer = transfer(&mut core, 0, 1, 2, 30);
-    Some((answer, close_bank(core)))
+    let (answer, media) = pay_once(alloc, FusedMedia::wrap(media_of(alloc, image)?, passes))?;
+    Some((answer, media.into_inner()))
 }
 
 // What becomes of a transfer that loses power.
@@ -107,7 +117,7 @@ fn fate_behind(alloc: Global, image: &[u8], passes: u64) -> Fate {
         return Fate::Unopened;
     };
     for choice in CHOICES {
-        if !may_be_left(balances(alloc, &media, choice), &answer) {
+        if !may_be_left(balances_left(alloc, &media, choice), &answer) {
             return Fate::Wrong;
         }
     }
@@ -116,6 +126,11 @@ fn fate_behind(alloc: Global, image: &[u8], passes: u64) -> Fate {
     } else {
         Fate::Refused
     }
+}
+
+// What both accounts have in an image that a loss of power may leave.
+fn balances_left(alloc: Global, media: &MemoryMedia, choice: &[u8]) -> Option<(u64, u64)> {
+    balances(alloc, whole(media.leave(choice).ok()?))
 }
 
 // Whether an image may have these balances behind this answer.
@@ -127,14 +142,18 @@ fn may_be_left(balances: Option<(u64, u64)>, answer: &Result<(), Stop<Refusal>>)
     }
 }
 
-fn three_answers(alloc: Global) -> Option<[Result<(), Stop<Refusal>>; 3]> {
-    let mut core = open_bank(alloc, whole(with_accounts(alloc)?))?;
+fn three_answers<M: Media + Drop>(
+    alloc: Global,
+    media: M,
+) -> Option<[Result<(), Stop<Refusal>>; 3]> {
+    let mut core = open_bank(alloc, media)?;
     Some(pay_thrice(&mut core))
 }
 
 #[test]
 fn moves_and_refuses(rt: HostRuntime) -> Result<(), Fail> {
-    let answers = three_answers(rt.alloc()).ok_or("accounts")?;
+    let media = with_accounts(rt.alloc()).ok_or("accounts")?;
+    let answers = three_answers(rt.alloc(), whole(media)).ok_or("answers")?;
     let wanted = [
         Ok(()),
         Err(Stop::GivenUp(Refusal::Insufficient { balance: 70 })),

@@ -12,11 +12,9 @@ const WRITTEN: u64 = 65_536;
 /// Bytes for what is not sure behind a loss of power. Where none are said, a read's bytes stay.
 pub const CHOICES: [&[u8]; 4] = [b"", b"\x00", b"\xFF", b"\xC3\x01"];
 
-/// What all arrays of these tests lie on. One type keeps this program short: all that stands on a medium is built once for each.
-pub type Array = FusedMedia<MemoryMedia>;
-
-/// A medium whose power is never cut.
-pub fn whole(media: MemoryMedia) -> Array {
+/// A medium whose power is never cut. All arrays of these tests lie on a medium of this one type, since all that stands on a medium is built
+/// once for each; and what is said of it is proved once for any.
+pub fn whole(media: MemoryMedia) -> FusedMedia<MemoryMedia> {
     FusedMedia::wrap(media, u64::MAX)
 }
 

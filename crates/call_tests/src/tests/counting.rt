@@ -1,32 +1,42 @@
-use super::arrays::{Array, CHOICES, fresh, media_of, whole};
+use super::arrays::{CHOICES, fresh, media_of, whole};
 use counter::{CountFault, Counter};
 use eaw_device::Eaw;
 use eaw_face::EawFault;
-use pcm_media::{FusedMedia, MemoryMedia};
+use pcm_media::{FusedMedia, Media, MemoryMedia};
 use std::alloc::Global;
 use std::process::Abort;
 use std::test::Fail;
 
-fn open(alloc: Global, media: Array) -> Option<Counter<Eaw<Array>>> {
+fn open<M: Media + Drop>(alloc: Global, media: M) -> Option<Counter<Eaw<M>>> {
     Counter::open(alloc, media).ok()
 }
 
-// Raises a counter behind a fuse, and returns the answer and the medium as it is then, or `None` if the array was not opened.
+// Raises a counter, and returns the answer and the medium as it is then, or `None` if the array was not opened.
+fn raise<M: Media + Drop>(alloc: Global, media: M) -> Option<(Result<u64, CountFault>, M)> {
+    let mut counter = open(alloc, media)?;
+    let answer = counter.add_one();
+    Some((answer, counter.into_media()))
+}
+
+// The same behind a fuse.
 fn raise_behind(
     alloc: Global,
     image: &[u8],
     passes: u64,
 ) -> Option<(Result<u64, CountFault>, MemoryMedia)> {
-    let media = media_of(alloc, image)?;
-    let mut counter = open(alloc, FusedMedia::wrap(media, passes))?;
-    let answer = counter.add_one();
-    Some((answer, counter.into_media().into_inner()))
+    let media = FusedMedia::wrap(media_of(alloc, image)?, passes);
+    let (answer, media) = raise(alloc, media)?;
+    Some((answer, media.into_inner()))
+}
+
+fn count<M: Media + Drop>(alloc: Global, media: M) -> Option<Result<u64, EawFault>> {
+    let mut counter = open(alloc, media)?;
+    Some(counter.value())
 }
 
 // What an image that a loss of power may leave of a medium counts.
 fn count_left(alloc: Global, media: &MemoryMedia, choice: &[u8]) -> Option<Result<u64, EawFault>> {
-    let mut counter = open(alloc, whole(media.leave(choice).ok()?))?;
-    Some(counter.value())
+    count(alloc, whole(media.leave(choice).ok()?))
 }
 
 // A counter at 1 that answered 2 counts 2, and one that the medium failed counts 1 or 2.
@@ -50,15 +60,19 @@ fn is_raised_behind(alloc: Global, image: &[u8], passes: u64) -> Option<bool> {
     Some(answer.is_ok())
 }
 
-// A counter that was raised so many times, and counts that.
-fn raised(alloc: Global, times: u64) -> Option<MemoryMedia> {
-    let mut counter = open(alloc, whole(fresh(alloc)?))?;
+// The medium of a counter at zero that was raised so many times, and counts that.
+fn raise_often<M: Media + Drop>(alloc: Global, media: M, times: u64) -> Option<M> {
+    let mut counter = open(alloc, media)?;
     for n in 0..times {
         if counter.value() != Ok(n) || counter.add_one() != Ok(n + 1) {
             return None;
         }
     }
-    Some(counter.into_media().into_inner())
+    Some(counter.into_media())
+}
+
+fn raised(alloc: Global, times: u64) -> Option<MemoryMedia> {
+    Some(raise_often(alloc, whole(fresh(alloc)?), times)?.into_inner())
 }
 
 #[test]

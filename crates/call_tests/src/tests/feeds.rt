@@ -1,5 +1,5 @@
 // What a reader reads behind a feed, where both learn from each other.
-ghost use Rattle.std.specs.Prelude.{◌≡◌, [], IfOk};
+ghost use Rattle.std.specs.Prelude.{◌≡◌, []};
 ghost use Rattle.snapshot_readers.specs.Feeds.{fed, fed_book, read_book};
 
 use history::{Call, Calls, Done, Key, Reply, Tables};
@@ -17,10 +17,8 @@ fn of(text: &[u8]) -> Result<Key, NoMemory> {
     Ok(Key { table, key: 1 })
 }
 
-// A transaction that puts a value at a key, saves, removes the key and goes back to the save.
-fn put(alloc: Global, at: u64, at_key: Key, text: &[u8]) -> Result<Done, NoMemory>
-    ensures { IfOk result (λ done. done.at ≡ at) }
-{
+// Puts a value at a key, saves, removes the key and goes back to the save.
+fn put_and_back(alloc: Global, at_key: Key, text: &[u8]) -> Result<Calls, NoMemory> {
     let value = Value::of(text).ok_or(NoMemory)?;
     let Key { table, key } = at_key;
     let mut calls = Calls::new(alloc);
@@ -28,26 +26,26 @@ fn put(alloc: Global, at: u64, at_key: Key, text: &[u8]) -> Result<Done, NoMemor
     calls.push(Call::Save, Reply::Saved(1))?;
     calls.push(Call::Del { table, key }, Reply::Fine)?;
     calls.push(Call::Back { save: 1 }, Reply::Fine)?;
-    Ok(Done {
-        caller: 0,
-        calls,
-        at,
-        last: at,
-    })
+    Ok(calls)
 }
 
-fn delete(alloc: Global, at: u64, at_key: Key) -> Result<Done, NoMemory>
-    ensures { IfOk result (λ done. done.at ≡ at) }
-{
+fn removal(alloc: Global, at_key: Key) -> Result<Calls, NoMemory> {
     let Key { table, key } = at_key;
     let mut calls = Calls::new(alloc);
     calls.push(Call::Del { table, key }, Reply::Fine)?;
-    Ok(Done {
+    Ok(calls)
+}
+
+// A transaction of these calls.
+fn done_at(at: u64, calls: Calls) -> Done
+    ensures { result.at ≡ at }
+{
+    Done {
         caller: 0,
         calls,
         at,
         last: at,
-    })
+    }
 }
 
 fn one_record(alloc: Global) -> Result<Tables, NoMemory> {
@@ -82,7 +80,9 @@ fn reads<R: Wait + Abort>(
     let (here, there) = (of(b"main")?, of(b"other")?);
     assert_eq!(rt; reader.get(rt, &here), (0, Value::of(b"a")));
     assert_eq!(rt; reader.get(rt, &there), (0, None));
-    let dones = [put(alloc, 1, there, b"b")?, delete(alloc, 2, here)?];
+    let first = put_and_back(alloc, there, b"b")?;
+    let second = removal(alloc, here)?;
+    let dones = [done_at(1, first), done_at(2, second)];
     let receipt = feed.feed(rt, dones.as_slice())?;
     reader.learn(&receipt);
     assert_eq!(rt; reader.get(rt, &here), (2, None));

@@ -1,12 +1,6 @@
 // Lines that say frames, followed by arrays in memory.
-ghost use Rattle.std.specs.Prelude.{IfSome};
-ghost use Rattle.eaw_face.specs.Causes.{IsAlive};
-ghost use Rattle.mirror.specs.Applying.{IsFree};
-ghost use Rattle.memory_eaw.specs.Shown.{shown};
-
-use array_shape::Shape;
+use super::mirrors::zeros;
 use frame_lines::{FollowEnd, follow_lines};
-use memory_eaw::MemoryEaw;
 use outside::MemorySink;
 use std::alloc::Global;
 use std::process::Abort;
@@ -25,27 +19,17 @@ const LONGER: &[u8] = b"frame 4d465231010000000000000001000001000090010000000000
 
 const EMPTY: &[u8] = b"frame \n";
 
-// An array of zeros of the default shape.
-fn zeros(alloc: Global) -> Option<MemoryEaw>
-    ensures alive { IfSome result (λ store. IsAlive (shown store)) }
-    ensures free { IfSome result (λ store. IsFree (shown store)) }
-{
-    let shape = Shape::default();
-    let bytes = vec![in alloc; 0; shape.data_len() as usize].ok()?;
-    MemoryEaw::new(alloc, shape, &bytes, 8).ok()
-}
-
 // How the lines end over such an array.
 fn end_of(alloc: Global, lines: &[u8]) -> Option<FollowEnd> {
     let mut sink = MemorySink::new(alloc, 64).ok()?;
-    let (ended, _store) = follow_lines(alloc, lines, &mut sink, zeros(alloc)?);
+    let (ended, _store) = follow_lines(alloc, lines, &mut sink, zeros(alloc, 8)?);
     Some(ended)
 }
 
 #[test]
 fn a_frame_is_applied_once(rt: HostRuntime) -> Result<(), Fail> {
     let mut sink = MemorySink::new(rt.alloc(), 64)?;
-    let store = zeros(rt.alloc()).ok_or("store")?;
+    let store = zeros(rt.alloc(), 8).ok_or("store")?;
     let (ended, _store) = follow_lines(rt.alloc(), TWICE, &mut sink, store);
     assert_eq!(rt;
         ended,

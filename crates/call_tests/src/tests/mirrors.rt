@@ -28,8 +28,8 @@ const SECOND: [u8; 53] = [
     b'b', 6, 2, 0, 0xff, 1, 0, 0, 0, 0, 0, 0, 1, 0, b'c', 0, 2, 0, 0, 0, 0, 0, 0, 1, 0, b'd',
 ];
 
-// An array of zeros of the default shape, whose data can be changed so often.
-fn zeros(alloc: Global, changes: u64) -> Option<MemoryEaw>
+/// An array of zeros of the default shape, whose data can be changed so often.
+pub fn zeros(alloc: Global, changes: u64) -> Option<MemoryEaw>
     ensures alive { IfSome result (λ store. IsAlive (shown store)) }
     ensures free { IfSome result (λ store. IsFree (shown store)) }
 {
@@ -38,15 +38,7 @@ fn zeros(alloc: Global, changes: u64) -> Option<MemoryEaw>
     MemoryEaw::new(alloc, shape, &bytes, changes).ok()
 }
 
-fn fresh(alloc: Global, changes: u64) -> Option<Follower<MemoryEaw>> {
-    Follower::attach(alloc, zeros(alloc, changes)?).ok()
-}
-
-// The first four bytes from an address on that a follower's array has.
-fn bytes_at(follower: Follower<MemoryEaw>, addr: u64) -> Option<[u8; 4]> {
-    bytes_of(&mut follower.into_store(), addr)
-}
-
+// The first four bytes from an address on.
 fn bytes_of<S: EawStore>(store: &mut S, addr: u64) -> Option<[u8; 4]> {
     let mut bytes = [0; 4];
     if addr > 1_000_000 || store.shape().data_len() < addr + 4 {
@@ -54,6 +46,32 @@ fn bytes_of<S: EawStore>(store: &mut S, addr: u64) -> Option<[u8; 4]> {
     }
     store.read(addr, &mut bytes).ok()?;
     Some(bytes)
+}
+
+type Fed = (Vec<Result<u64, FollowFault>>, Option<[u8; 4]>);
+
+// What a follower over a store answers to each of these pieces, and the four bytes from an address on behind them.
+fn fed<S: EawStore + Drop>(
+    alloc: Global,
+    store: S,
+    pieces: &[&[u8]],
+    addr: u64,
+) -> Option<Fed>
+    requires alive { IsAlive (S.view store) }
+    requires free { IsFree (S.view store) }
+{
+    let mut follower = Follower::attach(alloc, store).ok()?;
+    let mut answers = Vec::new(alloc);
+    for piece in pieces {
+        answers.push(follower.feed(piece)).ok()?;
+    }
+    let bytes = bytes_of(&mut follower.into_store(), addr);
+    Some((answers, bytes))
+}
+
+// The same over an array of zeros, whose data can be changed so often.
+fn fed_zeros(alloc: Global, changes: u64, pieces: &[&[u8]], addr: u64) -> Option<Fed> {
+    fed(alloc, zeros(alloc, changes)?, pieces, addr)
 }
 
 #[test]
@@ -72,56 +90,49 @@ fn a_frame_is_told_from_other_bytes(rt: HostRuntime) -> Result<(), Fail> {
 
 #[test]
 fn a_frame_is_followed_once(rt: HostRuntime) -> Result<(), Fail> {
-    let mut follower = fresh(rt.alloc(), 8).ok_or("follower")?;
-    assert_eq!(rt; follower.feed(&FIRST), Ok(1));
-    assert_eq!(rt;
-        follower.feed(&FIRST),
-        Err(FollowFault::Gap {
-            expected: 2,
-            got: 1
-        })
-    );
-    assert_eq!(rt; follower.feed(&SECOND), Err(FollowFault::Dead));
-    assert_eq!(rt; bytes_at(follower, 102_400), Some(*b"aa\0\0"));
+    let pieces = [&FIRST[..], &FIRST[..], &SECOND[..]];
+    let (answers, bytes) = fed_zeros(rt.alloc(), 8, &pieces, 102_400).ok_or("fed")?;
+    let gap = FollowFault::Gap {
+        expected: 2,
+        got: 1,
+    };
+    assert!(rt; answers.as_slice() == [Ok(1), Err(gap), Err(FollowFault::Dead)].as_slice());
+    assert_eq!(rt; bytes, Some(*b"aa\0\0"));
     Ok(())
 }
 
 #[test]
 fn a_stream_may_be_cut_at_every_byte(rt: HostRuntime) -> Result<(), Fail> {
-    let mut follower = fresh(rt.alloc(), 8).ok_or("follower")?;
-    let mut count = 0;
-    for byte in FIRST.iter().chain(SECOND.iter()) {
-        count = follower.feed(&[*byte])?;
+    let mut pieces = Vec::new(rt.alloc());
+    for piece in FIRST.chunks(1).chain(SECOND.chunks(1)) {
+        pieces.push(piece)?;
     }
-    assert_eq!(rt; count, 2);
-    assert_eq!(rt; bytes_at(follower, 509), Some(*b"\0\0cd"));
+    let (answers, bytes) = fed_zeros(rt.alloc(), 8, &pieces, 509).ok_or("fed")?;
+    assert!(rt; answers.last() == Some(&Ok(2)));
+    assert_eq!(rt; bytes, Some(*b"\0\0cd"));
     Ok(())
 }
 
 #[test]
 fn bytes_that_are_no_frame_are_refused(rt: HostRuntime) -> Result<(), Fail> {
-    let mut follower = fresh(rt.alloc(), 8).ok_or("follower")?;
-    assert_eq!(rt; follower.feed(&FIRST), Ok(1));
-    assert_eq!(rt; follower.feed(&SECOND[..40]), Ok(1));
-    assert_eq!(rt; follower.feed(&[9, b'x']), Err(FollowFault::BadFrame));
-    assert_eq!(rt; bytes_at(follower, 0), Some([0; 4]));
+    let pieces = [&FIRST[..], &SECOND[..40], &[9, b'x'][..]];
+    let (answers, bytes) = fed_zeros(rt.alloc(), 8, &pieces, 0).ok_or("fed")?;
+    assert!(rt; answers.as_slice() == [Ok(1), Ok(1), Err(FollowFault::BadFrame)].as_slice());
+    assert_eq!(rt; bytes, Some([0; 4]));
     Ok(())
 }
 
 #[test]
 fn a_fault_of_the_medium_is_told(rt: HostRuntime) -> Result<(), Fail> {
-    let mut follower = fresh(rt.alloc(), 1).ok_or("follower")?;
-    assert_eq!(rt; follower.feed(&FIRST), Ok(1));
-    assert_eq!(rt; follower.feed(&SECOND), Err(FollowFault::Media));
-    assert_eq!(rt; follower.feed(&[]), Err(FollowFault::Dead));
+    let pieces = [&FIRST[..], &SECOND[..], &[][..]];
+    let (answers, _bytes) = fed_zeros(rt.alloc(), 1, &pieces, 0).ok_or("fed")?;
+    let wanted = [
+        Ok(1),
+        Err(FollowFault::Media),
+        Err(FollowFault::Dead),
+    ];
+    assert!(rt; answers.as_slice() == wanted.as_slice());
     Ok(())
-}
-
-type NearArray = Primary<MemoryEaw, MemoryLink>;
-
-// A primary over an array of zeros that keeps its frames in memory.
-fn primary(alloc: Global) -> Option<NearArray> {
-    Primary::attach(alloc, zeros(alloc, 8)?, MemoryLink::new(alloc)).ok()
 }
 
 // Whether a write of so many bytes is one of the array's.
@@ -144,7 +155,10 @@ fn write<S: EawStore>(store: &mut S, tid: u8, addr: u64, bytes: &[u8]) -> Option
     if !is_inside(store, addr, bytes.len()) {
         return None;
     }
-    if tid >= store.shape().numbers || store.is_live(tid) {
+    if tid >= store.shape().numbers {
+        return None;
+    }
+    if store.is_live(tid) {
         return None;
     }
     store.atomic_write(tid, addr, bytes).ok()
@@ -160,9 +174,19 @@ fn nest<S: EawStore>(store: &mut S, tid: u8, offset: u32) -> Option<()> {
     store.nested_top(tid, offset).ok()
 }
 
-#[test]
-fn commits_are_sent(rt: HostRuntime) -> Result<(), Fail> {
-    let mut primary = primary(rt.alloc()).ok_or("primary")?;
+// A primary over a store, which keeps its frames in memory.
+fn primary_over<S: EawStore + Drop>(alloc: Global, store: S) -> Option<Primary<S, MemoryLink>>
+    requires alive { IsAlive (S.view store) }
+    requires free { IsFree (S.view store) }
+{
+    Primary::attach(alloc, store, MemoryLink::new(alloc)).ok()
+}
+
+fn sends_commits<R: Abort, S: EawStore + Drop>(rt: &R, alloc: Global, store: S) -> Result<(), Fail>
+    requires alive { IsAlive (S.view store) }
+    requires free { IsFree (S.view store) }
+{
+    let mut primary = primary_over(alloc, store).ok_or("primary")?;
     assert_eq!(rt; write(&mut primary, 0, 102_400, b"aa"), Some(()));
     assert!(rt; primary.first_frame() == &FIRST[..]);
     assert_eq!(rt; log(&mut primary, 6, 511, b"cd"), Some(2));
@@ -180,15 +204,32 @@ fn commits_are_sent(rt: HostRuntime) -> Result<(), Fail> {
 }
 
 #[test]
-fn a_follower_has_what_the_primary_has(rt: HostRuntime) -> Result<(), Fail> {
-    let mut primary = primary(rt.alloc()).ok_or("primary")?;
-    let mut follower = fresh(rt.alloc(), 8).ok_or("follower")?;
-    assert_eq!(rt; log(&mut primary, 2, 509, b"abcd"), Some(2));
-    assert_eq!(rt; nest(&mut primary, 2, 1), Some(()));
-    assert_eq!(rt; follower.feed(primary.first_frame()), Ok(1));
+fn commits_are_sent(rt: HostRuntime) -> Result<(), Fail> {
+    sends_commits(&rt, rt.alloc(), zeros(rt.alloc(), 8).ok_or("zeros")?)
+}
+
+// The frames of a nested commit and of the commit behind it.
+fn nested_frames<S: EawStore + Drop>(alloc: Global, store: S) -> Option<[Vec<u8>; 2]>
+    requires alive { IsAlive (S.view store) }
+    requires free { IsFree (S.view store) }
+{
+    let mut primary = primary_over(alloc, store)?;
+    log(&mut primary, 2, 509, b"abcd")?;
+    nest(&mut primary, 2, 1)?;
+    let first = Vec::from_slice(alloc, primary.first_frame()).ok()?;
     primary.drop_frame();
-    assert_eq!(rt; primary.commit(2), Ok(()));
-    assert_eq!(rt; follower.feed(primary.first_frame()), Ok(2));
-    assert_eq!(rt; bytes_at(follower, 509), Some(*b"abcd"));
+    primary.commit(2).ok()?;
+    let second = Vec::from_slice(alloc, primary.first_frame()).ok()?;
+    Some([first, second])
+}
+
+#[test]
+fn a_follower_has_what_the_primary_has(rt: HostRuntime) -> Result<(), Fail> {
+    let near = zeros(rt.alloc(), 8).ok_or("near")?;
+    let [first, second] = nested_frames(rt.alloc(), near).ok_or("frames")?;
+    let pieces = [first.as_slice(), second.as_slice()];
+    let (answers, bytes) = fed_zeros(rt.alloc(), 8, &pieces, 509).ok_or("fed")?;
+    assert!(rt; answers.as_slice() == [Ok(1), Ok(2)].as_slice());
+    assert_eq!(rt; bytes, Some(*b"abcd"));
     Ok(())
 }

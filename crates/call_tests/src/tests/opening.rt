@@ -1,29 +1,28 @@
-// Records over a medium in memory.
+// Records over a medium.
 ghost use Rattle.std.specs.Prelude.{◌<◌, IfSome, IsTrue};
 ghost use Rattle.caller_steps.specs.Sound.{IsSound};
 
-use super::arrays::Array;
 use btree_pages::BTreePages;
 use caller_steps::Core as Steps;
 use eaw_device::Eaw;
 use mars_core::Core;
 use open_records::open;
-use pcm_media::{Media, MemoryMedia};
+use pcm_media::Media;
 use std::alloc::Global;
 
 /// A core over the records of an array.
-pub type Bank = Core<Eaw<Array>, BTreePages>;
+pub type Bank<M> = Core<Eaw<M>, BTreePages>;
 
 /// Opens the records of the array that the medium holds, for a caller. There are none where it holds no sound array, the medium fails, or
 /// memory is short.
-pub fn open_bank(alloc: Global, media: Array) -> Option<Bank>
-    ensures inside { IfSome result (λ core. 0 < (⟦<Bank as Steps>⟧.view core).limits.callers) }
-    ensures sound { IfSome result (λ core. IsTrue ⟦<Array as Media>⟧.tells → IsSound (⟦<Bank as Steps>⟧.view core).state) }
+pub fn open_bank<M: Media + Drop>(alloc: Global, media: M) -> Option<Bank<M>>
+    ensures inside { IfSome result (λ core. 0 < (⟦<Bank<M> as Steps>⟧.view core).limits.callers) }
+    ensures sound { IfSome result (λ core. IsTrue M.tells → IsSound (⟦<Bank<M> as Steps>⟧.view core).state) }
 {
     open(alloc, media, 1).ok()
 }
 
 /// The medium of a core.
-pub fn close_bank(core: Bank) -> MemoryMedia {
-    core.into_store().into_media().into_inner()
+pub fn close_bank<M: Media>(core: Bank<M>) -> M {
+    core.into_store().into_media()
 }

@@ -6,7 +6,7 @@ use super::arrays::{CHOICES, fresh, media_of, whole};
 use super::opening::{close_bank, open_bank};
 use caller_steps::{Core as Steps, prefix_law};
 use job_queue::{Unmet, push, take};
-use pcm_media::{FusedMedia, MemoryMedia};
+use pcm_media::{FusedMedia, Media, MemoryMedia};
 use record_slots::Value;
 use std::alloc::Global;
 use std::test::Fail;
@@ -66,21 +66,27 @@ fn three_jobs() -> Option<[Value; 3]> {
     Some([Value::of(b"a")?, Value::of(b"b")?, Value::of(b"c")?])
 }
 
-fn come_in_order(alloc: Global) -> Option<bool> {
+fn come_in_order<M: Media + Drop>(alloc: Global, media: M) -> Option<bool> {
     let jobs = three_jobs()?;
-    let mut core = open_bank(alloc, whole(fresh(alloc)?))?;
+    let mut core = open_bank(alloc, media)?;
     Some(push_and_take(&mut core, &jobs))
 }
 
 #[test]
 fn jobs_come_in_their_order(rt: HostRuntime) -> Result<(), Fail> {
-    assert!(rt; come_in_order(rt.alloc()) == Some(true));
+    let media = fresh(rt.alloc()).ok_or("array")?;
+    assert!(rt; come_in_order(rt.alloc(), whole(media)) == Some(true));
     Ok(())
 }
 
 // An array with a queue of the jobs a and b.
 fn with_jobs(alloc: Global) -> Option<MemoryMedia> {
-    let mut core = open_bank(alloc, whole(fresh(alloc)?))?;
+    Some(filled(alloc, whole(fresh(alloc)?))?.into_inner())
+}
+
+// The medium of an array, with that queue in it.
+fn filled<M: Media + Drop>(alloc: Global, media: M) -> Option<M> {
+    let mut core = open_bank(alloc, media)?;
     push_both(&mut core)?;
     Some(close_bank(core))
 }
@@ -104,8 +110,8 @@ fn take_and_push<C: Steps>(core: &mut C, job: Value) -> (bool, bool)
 }
 
 // The jobs of a queue, first to last, and what comes after them.
-fn jobs_left(alloc: Global, media: MemoryMedia) -> Option<[Result<Value, Stop<Unmet>>; 3]> {
-    let mut core = open_bank(alloc, whole(media))?;
+fn jobs_left<M: Media + Drop>(alloc: Global, media: M) -> Option<[Result<Value, Stop<Unmet>>; 3]> {
+    let mut core = open_bank(alloc, media)?;
     Some(take_all(&mut core))
 }
 
@@ -137,7 +143,7 @@ fn keeps_jobs(alloc: Global, media: &MemoryMedia, jobs: &[Value; 3], done: (bool
         let Ok(left) = media.leave(choice) else {
             return false;
         };
-        let Some(left) = jobs_left(alloc, left) else {
+        let Some(left) = jobs_left(alloc, whole(left)) else {
             return false;
         };
         if !may_be_left(&left, jobs, done) {
@@ -147,16 +153,23 @@ fn keeps_jobs(alloc: Global, media: &MemoryMedia, jobs: &[Value; 3], done: (bool
     true
 }
 
-// Whether a take and a push behind a fuse keep the jobs, and whether both were done; none where the array was not opened.
+// Whether a take and a push were done, and the medium behind them; none where the array was not opened.
+fn go_on<M: Media + Drop>(alloc: Global, media: M, job: Value) -> Option<((bool, bool), M)> {
+    let mut core = open_bank(alloc, media)?;
+    let done = take_and_push(&mut core, job);
+    Some((done, close_bank(core)))
+}
+
+// Whether a take and a push behind a fuse keep the jobs, and whether both were done.
 fn keeps_behind(
     alloc: Global,
     image: &[u8],
     jobs: &[Value; 3],
     passes: u64,
 ) -> Option<(bool, bool)> {
-    let mut core = open_bank(alloc, FusedMedia::wrap(media_of(alloc, image)?, passes))?;
-    let done = take_and_push(&mut core, jobs[2]);
-    let media = close_bank(core);
+    let media = FusedMedia::wrap(media_of(alloc, image)?, passes);
+    let (done, media) = go_on(alloc, media, jobs[2])?;
+    let media = media.into_inner();
     Some((keeps_jobs(alloc, &media, jobs, done), done.0 && done.1))
 }
 

@@ -11,6 +11,7 @@ use super::arrays::whole;
 use super::opening::open_bank;
 use caller_steps::{Core as Steps, prefix_law};
 use history::main_table;
+use pcm_media::Media;
 use std::alloc::Global;
 use std::test::Fail;
 use transactions::{Stop, Work, calls_join, get, number_in, transaction_retried};
@@ -68,14 +69,18 @@ fn looked_for<C: Steps>(core: &mut C) -> [Result<u64, Stop<Missing>>; 2]
     [look_for(core, 1), look_for(core, 3)]
 }
 
-fn looked_for_on_array(alloc: Global) -> Option<[Result<u64, Stop<Missing>>; 2]> {
-    let mut core = open_bank(alloc, whole(with_accounts(alloc)?))?;
+fn looked_for_in<M: Media + Drop>(
+    alloc: Global,
+    media: M,
+) -> Option<[Result<u64, Stop<Missing>>; 2]> {
+    let mut core = open_bank(alloc, media)?;
     Some(looked_for(&mut core))
 }
 
 #[test]
 fn what_may_be_tried_again_is_made_or_given_up(rt: HostRuntime) -> Result<(), Fail> {
-    let answers = looked_for_on_array(rt.alloc()).ok_or("records")?;
+    let media = with_accounts(rt.alloc()).ok_or("accounts")?;
+    let answers = looked_for_in(rt.alloc(), whole(media)).ok_or("records")?;
     assert!(rt; answers == [Ok(100), Err(Stop::GivenUp(Missing))]);
     Ok(())
 }

@@ -8,16 +8,16 @@ use caller_steps::Core as Steps;
 use eaw_device::Eaw;
 use eaw_face::EawStore;
 use history::main_table;
-use pcm_media::{FusedMedia, MemoryMedia};
+use pcm_media::{FusedMedia, Media, MemoryMedia};
 use sample_array::write_both;
 use sample_records::raise;
 use std::alloc::Global;
 use std::test::Fail;
 use transactions::Refusal;
 
-// Whether both ranges that the first sample writes are new in an image, and whether both are as they were.
-fn both_ranges(alloc: Global, media: MemoryMedia) -> Option<(bool, bool)> {
-    let Ok(mut store) = Eaw::attach(alloc, whole(media)) else {
+// Whether both ranges that the first sample writes are new in an array, and whether both are as they were.
+fn both_ranges<M: Media + Drop>(alloc: Global, media: M) -> Option<(bool, bool)> {
+    let Ok(mut store) = Eaw::attach(alloc, media) else {
         return None;
     };
     ranges_of(&mut store)
@@ -33,14 +33,20 @@ fn ranges_of<S: EawStore>(store: &mut S) -> Option<(bool, bool)> {
     Some((are_new, are_old))
 }
 
-// The medium after a write of both ranges behind a fuse, and whether it was answered Ok.
-fn write_behind(alloc: Global, image: &[u8], passes: u64) -> Option<(bool, MemoryMedia)> {
-    let media = FusedMedia::wrap(media_of(alloc, image)?, passes);
+// Whether a write of both ranges was answered Ok, and the medium behind it.
+fn write_in<M: Media + Drop>(alloc: Global, media: M) -> Option<(bool, M)> {
     let Ok(mut store) = Eaw::attach(alloc, media) else {
         return None;
     };
     let is_done = write_both(&mut store, &[1; 8], &[2; 8]).is_ok();
-    Some((is_done, store.into_media().into_inner()))
+    Some((is_done, store.into_media()))
+}
+
+// The same behind a fuse.
+fn write_behind(alloc: Global, image: &[u8], passes: u64) -> Option<(bool, MemoryMedia)> {
+    let media = FusedMedia::wrap(media_of(alloc, image)?, passes);
+    let (is_done, media) = write_in(alloc, media)?;
+    Some((is_done, media.into_inner()))
 }
 
 // Whether both ranges are new, or neither and the write was not answered Ok.
@@ -49,7 +55,7 @@ fn changes_at_once(alloc: Global, is_done: bool, media: &MemoryMedia) -> bool {
         let Ok(left) = media.leave(choice) else {
             return false;
         };
-        let Some((are_new, are_old)) = both_ranges(alloc, left) else {
+        let Some((are_new, are_old)) = both_ranges(alloc, whole(left)) else {
             return false;
         };
         if !are_new && (is_done || !are_old) {
@@ -91,14 +97,15 @@ fn raised<C: Steps>(core: &mut C) -> [Result<u64, Refusal>; 3]
     [raised_once(core, 5), raised_once(core, 5), raised_once(core, 6)]
 }
 
-fn raised_on_array(alloc: Global) -> Option<[Result<u64, Refusal>; 3]> {
-    let mut core = open_bank(alloc, whole(fresh(alloc)?))?;
+fn raised_in<M: Media + Drop>(alloc: Global, media: M) -> Option<[Result<u64, Refusal>; 3]> {
+    let mut core = open_bank(alloc, media)?;
     Some(raised(&mut core))
 }
 
 #[test]
 fn a_number_is_raised(rt: HostRuntime) -> Result<(), Fail> {
-    let answers = raised_on_array(rt.alloc()).ok_or("records")?;
+    let media = fresh(rt.alloc()).ok_or("array")?;
+    let answers = raised_in(rt.alloc(), whole(media)).ok_or("records")?;
     assert!(rt; answers == [Ok(1), Ok(2), Ok(1)]);
     Ok(())
 }

@@ -2,9 +2,9 @@ use super::held_media::{HeldMedia, Hold as Reads};
 use super::holds::{Flag, Hold, Holds};
 use super::places::{Watch, Way};
 use mars_base::NoMemory;
-use mars_shell::{Place, Status, room, run};
+use mars_shell::{Gate, Place, Status, room, run};
 use outside::{MemorySink, MemorySource};
-use pcm_media::MemoryMedia;
+use pcm_media::{Media, MemoryMedia};
 use std::alloc::{AllocError, Global};
 use std::sync::Wait;
 use std::test::*;
@@ -28,17 +28,17 @@ fn words_of(alloc: Global, text: &str) -> Result<Vec<String>, AllocError> {
 // What a run lies over, here and in the other tests. None of its reads is held here.
 type Array = HeldMedia<MemoryMedia>;
 
-// What a run writes that is watched, and the medium behind it. It has to come to a good end.
-fn worked<R: AllocGlobal + Threads + Wait + Sync>(
+// What a run with a gate writes, and the medium behind it. It has to come to a good end.
+fn worked<R: AllocGlobal + Threads + Wait + Sync, M: Media + Drop + Send, G: Gate + Sync>(
     rt: &R,
-    media: Array,
+    media: M,
     words: &[String],
     input: &[u8],
-    watch: &Watch<'_>,
-) -> Result<(MemorySink, Array), Fail> {
+    gate: &G,
+) -> Result<(MemorySink, M), Fail> {
     let mut source = MemorySource::new(rt.alloc(), input)?;
     let mut sink = MemorySink::new(rt.alloc(), TEXT)?;
-    let (status, media) = run(rt, words, &mut source, &mut sink, media, watch);
+    let (status, media) = run(rt, words, &mut source, &mut sink, media, gate);
     match status {
         Status::Good => Ok((sink, media)),
         _ => Err(Fail::from("another status")),

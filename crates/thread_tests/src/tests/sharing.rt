@@ -11,7 +11,7 @@ use eaw_device::{Eaw, format};
 use eaw_face::EawStore;
 use mars_core::Core;
 use page_store::SaveRoom;
-use pcm_media::MemoryMedia;
+use pcm_media::{Media, MemoryMedia};
 use std::alloc::Global;
 use std::sync::Arc;
 
@@ -20,40 +20,41 @@ const CALLS: u64 = 512;
 
 const WRITTEN: u64 = 16_384;
 
-type Store = Eaw<HeldMedia<MemoryMedia>>;
-
 /// Callers that take turns on the records of an array.
-pub type Callers = Core<Store, BTreePages>;
+pub type Callers = Core<Eaw<HeldMedia<MemoryMedia>>, BTreePages>;
 
 /// A core of three callers over a fresh array; `None` where memory is short.
 pub fn fresh(alloc: Global, hold: Arc<Hold, Global>) -> Option<Callers>
     ensures { IfSome result (λ core. CanShare ⟦<Callers as Steps>⟧.tells 3 (⟦<Callers as Steps>⟧.view core)) }
 {
-    opened(alloc, fresh_store(alloc, hold)?)
+    opened(alloc, HeldMedia::new(fresh_media(alloc)?, hold))
 }
 
-fn fresh_store(alloc: Global, hold: Arc<Hold, Global>) -> Option<Store>
-    ensures alive { IfSome result (λ store. IsAlive (⟦<Store as EawStore>⟧.view store)) }
-    ensures free { IfSome result (λ store. (t : ℕ) → (⟦<Store as EawStore>⟧.view store).ranges t ≡ None) }
-    ensures enough { IfSome result (λ store. 3 ≤ (⟦<Store as EawStore>⟧.view store).shape.numbers) }
-{
+fn fresh_media(alloc: Global) -> Option<MemoryMedia> {
     let shape = Shape::new(1, 3, 8, 4).ok()?;
     let zeros = vec![in alloc; 0; shape.media_len() as usize].ok()?;
     let mut media = MemoryMedia::new(alloc, &zeros, CALLS, WRITTEN).ok()?;
-    if format(&mut media, &shape).is_err() {
-        return None;
+    match format(&mut media, &shape) {
+        Ok(()) => Some(media),
+        Err(_) => None,
     }
-    let Ok(store) = Eaw::attach(alloc, HeldMedia::new(media, hold)) else {
+}
+
+// A core of three callers over the array on any medium, if it has numbers for them.
+fn opened<M: Media + Drop>(alloc: Global, media: M) -> Option<Core<Eaw<M>, BTreePages>>
+    ensures shared { IfSome result (λ core. CanShare ⟦<Core<Eaw<M>, BTreePages> as Steps>⟧.tells 3 (⟦<Core<Eaw<M>, BTreePages> as Steps>⟧.view core)) }
+{
+    let Ok(store) = Eaw::attach(alloc, media) else {
         return None;
     };
     if store.shape().numbers < 3 {
         return None;
     }
-    Some(store)
+    core_over(alloc, store)
 }
 
 // A core of three callers at least over the records of a store.
-fn opened<S: EawStore + Drop>(alloc: Global, store: S) -> Option<Core<S, BTreePages>>
+fn core_over<S: EawStore + Drop>(alloc: Global, store: S) -> Option<Core<S, BTreePages>>
     requires alive { IsAlive (S.view store) }
     requires free { (t : ℕ) → (S.view store).ranges t ≡ None }
     requires enough { 3 ≤ (S.view store).shape.numbers }
