@@ -51,10 +51,7 @@ pub fn run_over_memory<R: AllocGlobal + Threads + Wait + Sync>(
     let mut sink = sink_of(rt.alloc(), asked, nth)?;
     let media = played_in_memory(TracedMedia::wrap(rt.alloc(), media));
     let (status, media) = run_over(rt, asked, nth, &mut sink, media)?;
-    let left = media
-        .into_memory()
-        .ok_or(ANOTHER_MEDIUM)?
-        .into_parts()?;
+    let left = media.into_memory().ok_or(ANOTHER_MEDIUM)?.into_parts()?;
     let has_failed = has_failed(&left.0);
     ran_with(rt.alloc(), status, sink, left, has_failed)
 }

@@ -150,7 +150,11 @@ pub fn check<K: KeyIndex, S: EawStore>(alloc: Global, array: &mut Pages<S>) -> R
 }
 
 /// The slot of a key, if it is there.
-pub fn find<K: KeyIndex, S: EawStore>(array: &mut Pages<S>, table: u8, key: u64) -> Result<Option<u32>>
+pub fn find<K: KeyIndex, S: EawStore>(
+    array: &mut Pages<S>,
+    table: u8,
+    key: u64,
+) -> Result<Option<u32>>
     requires { IsFalse S.tells }
 {
     ensure!(table < TABLES, "no such table");

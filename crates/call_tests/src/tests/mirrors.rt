@@ -51,12 +51,7 @@ fn bytes_of<S: EawStore>(store: &mut S, addr: u64) -> Option<[u8; 4]> {
 type Fed = (Vec<Result<u64, FollowFault>>, Option<[u8; 4]>);
 
 // What a follower over a store answers to each of these pieces, and the four bytes from an address on behind them.
-fn fed<S: EawStore + Drop>(
-    alloc: Global,
-    store: S,
-    pieces: &[&[u8]],
-    addr: u64,
-) -> Option<Fed>
+fn fed<S: EawStore + Drop>(alloc: Global, store: S, pieces: &[&[u8]], addr: u64) -> Option<Fed>
     requires alive { IsAlive (S.view store) }
     requires free { IsFree (S.view store) }
 {
@@ -126,11 +121,7 @@ fn bytes_that_are_no_frame_are_refused(rt: HostRuntime) -> Result<(), Fail> {
 fn a_fault_of_the_medium_is_told(rt: HostRuntime) -> Result<(), Fail> {
     let pieces = [&FIRST[..], &SECOND[..], &[][..]];
     let (answers, _bytes) = fed_zeros(rt.alloc(), 1, &pieces, 0).ok_or("fed")?;
-    let wanted = [
-        Ok(1),
-        Err(FollowFault::Media),
-        Err(FollowFault::Dead),
-    ];
+    let wanted = [Ok(1), Err(FollowFault::Media), Err(FollowFault::Dead)];
     assert!(rt; answers.as_slice() == wanted.as_slice());
     Ok(())
 }

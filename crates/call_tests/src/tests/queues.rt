@@ -42,7 +42,11 @@ fn push_all<C: Steps>(core: &mut C, jobs: &[Value; 3]) -> [Result<(), Stop<Unmet
     ensures limits { (C.view core.new).limits ≡ (C.view core.old).limits }
     ensures still { IsTrue C.tells → IsSound (C.view core.new).state }
 {
-    [push_one(core, jobs[0]), push_one(core, jobs[1]), push_one(core, jobs[2])]
+    [
+        push_one(core, jobs[0]),
+        push_one(core, jobs[1]),
+        push_one(core, jobs[2]),
+    ]
 }
 
 // The answers to three takes.

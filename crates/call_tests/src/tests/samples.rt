@@ -94,7 +94,11 @@ fn raised<C: Steps>(core: &mut C) -> [Result<u64, Refusal>; 3]
     requires inside { 0 < (C.view core.old).limits.callers }
     requires sound { IsTrue C.tells → IsSound (C.view core.old).state }
 {
-    [raised_once(core, 5), raised_once(core, 5), raised_once(core, 6)]
+    [
+        raised_once(core, 5),
+        raised_once(core, 5),
+        raised_once(core, 6),
+    ]
 }
 
 fn raised_in<M: Media + Drop>(alloc: Global, media: M) -> Option<[Result<u64, Refusal>; 3]> {

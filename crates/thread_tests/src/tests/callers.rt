@@ -62,10 +62,7 @@ fn fresh<R: AllocGlobal + Threads + Wait + Sync>(rt: &R) -> Result<Array, Fail> 
     formatted(rt, "format --loggers 2 --numbers 2 --entries 8 --pages 4")
 }
 
-fn formatted<R: AllocGlobal + Threads + Wait + Sync>(
-    rt: &R,
-    words: &str,
-) -> Result<Array, Fail> {
+fn formatted<R: AllocGlobal + Threads + Wait + Sync>(rt: &R, words: &str) -> Result<Array, Fail> {
     let words = words_of(rt.alloc(), words)?;
     let media = zeros(rt.alloc(), room(rt.alloc(), &words)? as usize)?;
     behind(rt, media, &words, b"")

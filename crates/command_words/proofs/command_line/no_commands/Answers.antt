@@ -5,7 +5,7 @@ use Rattle.command_words.proofs.command_line.no_commands.Goals as goal
 
 pub returns : goal.returns
 returns c = ap app_of_fields c.subcommand_required.ensures
-  ∙ ap (on_top (λ (s : Shape). record s { subcommand_required = true })) (ap app_of_fields c.disable_help_subcommand.ensures
-  ∙ ap (on_top (λ (s : Shape). record s { disable_help_subcommand = true })) (ap app_of_fields c.disable_help_flag.ensures
-  ∙ ap (on_top (λ (s : Shape). record s { disable_help_flag = true })) (ap app_of_fields c.no_binary_name.ensures
-  ∙ ap (on_top (λ (s : Shape). record s { no_binary_name = true })) c.new.ensures.app)))
+    ∙ ap (on_top (λ (s : Shape). record s { subcommand_required = true })) (ap app_of_fields c.disable_help_subcommand.ensures
+    ∙ ap (on_top (λ (s : Shape). record s { disable_help_subcommand = true })) (ap app_of_fields c.disable_help_flag.ensures
+    ∙ ap (on_top (λ (s : Shape). record s { disable_help_flag = true })) (ap app_of_fields c.no_binary_name.ensures
+    ∙ ap (on_top (λ (s : Shape). record s { no_binary_name = true })) c.new.ensures.app)))
