@@ -7,7 +7,7 @@ use Rattle.record_slots.specs.Text.{IsName, is_letter}
 use Rattle.history.specs.Key.{main_name}
 use Rattle.history.specs.declared.call.Call.{Call}
 use Rattle.history.specs.declared.call.Call.TheVariants.{Begin, Get, Put, Del, Scan, Save, Back, Commit, Abort, Offer, Settle, Purge}
-use Rattle.script_text.specs.Line.{IsNamed, IsCallText}
+use Rattle.script_text.specs.Line.{IsCallText}
 use Rattle.script_text.specs.Named.{asked_table, AreWordsOf, IsTextFor, HasParts, IsAsking, IsBehindName}
 use Rattle.script_text.specs.Reads.{ReadsText, IsWord}
 use Rattle.script_text.proofs.Words.{no_space, first_space}
