@@ -1,8 +1,8 @@
 // A case of calls of pages.
 use crate::image::{first_media, media_of};
-use crate::page_steps::{Step, play, steps_of};
-use crate::page_stores::{device, pages_over, plain_pages};
-use crate::plain::data_in;
+use crate::page_steps::{Step, play, steps_over};
+use crate::page_stores::{pages_over, recover};
+use crate::plain::{data_in, plain_store};
 use crate::progress::Progress;
 use case_files::{CaseFault, Image, PageLine, Placed, compare_places};
 use eaw_device::{AttachFault, Eaw, WriteBack};
@@ -80,8 +80,8 @@ fn play_plainly<'a>(
 ) -> Result<Played<'a>, CaseFault> {
     progress.plays.of_pages = progress.plays.of_pages.saturating_add(1);
     let first = data_in(alloc, media_of(alloc, image)?)?;
-    let mut pages = plain_pages(alloc, image)?;
-    let steps = steps_of(alloc, calls.lines, &mut pages, &mut progress.report)?;
+    let store = plain_store(alloc, image)?;
+    let steps = steps_over(alloc, calls.lines, store, &mut progress.report)?;
     Ok(Played {
         calls,
         first,
@@ -209,13 +209,13 @@ fn stop_recovery(
     choice: &[u8],
 ) -> Result<(), CaseFault> {
     for passes in 0..RECOVERY_CALLS {
-        let Err(media) = device(alloc, media_of(alloc, image)?, passes) else {
+        let Err(media) = recover(alloc, media_of(alloc, image)?, passes) else {
             return Ok(());
         };
         compare_data(alloc, played, failed, media.leave(choice)?)?;
         let mut failing = media_of(alloc, image)?;
         failing.fail(passes + 1)?;
-        if let Err(media) = device(alloc, failing, u64::MAX) {
+        if let Err(media) = recover(alloc, failing, u64::MAX) {
             compare_data(alloc, played, failed, media.leave(choice)?)?;
         }
     }

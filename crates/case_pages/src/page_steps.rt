@@ -1,8 +1,8 @@
-// Calls of pages over plain memory, and the same calls over an array.
+// Calls of pages over a plain store, and the same calls over an array.
 use crate::page_answers::{Answer, perform, read};
+use crate::page_stores::pages_over;
 use case_files::{CaseFault, PageLine, Report};
 use eaw_face::EawStore;
-use memory_eaw::MemoryEaw;
 use page_store::{PageFault, Pages};
 use std::alloc::Global;
 
@@ -13,11 +13,21 @@ pub struct Step {
     pub data: Vec<u8>,
 }
 
-/// Makes calls over plain memory. Each has to answer what the case says of it.
-pub fn steps_of(
+/// Makes calls over pages of a store. Each has to answer what the case says of it.
+pub fn steps_over<S: EawStore + Drop>(
     alloc: Global,
     lines: &[PageLine],
-    pages: &mut Pages<MemoryEaw>,
+    store: S,
+    report: &mut Report,
+) -> Result<Vec<Step>, CaseFault> {
+    let mut pages = pages_over(alloc, store)?;
+    steps_of(alloc, lines, &mut pages, report)
+}
+
+fn steps_of<S: EawStore>(
+    alloc: Global,
+    lines: &[PageLine],
+    pages: &mut Pages<S>,
     report: &mut Report,
 ) -> Result<Vec<Step>, CaseFault> {
     let mut steps = Vec::new(alloc);
@@ -29,10 +39,10 @@ pub fn steps_of(
     Ok(steps)
 }
 
-fn answer_of(
+fn answer_of<S: EawStore>(
     alloc: Global,
     line: &PageLine,
-    pages: &mut Pages<MemoryEaw>,
+    pages: &mut Pages<S>,
     report: &mut Report,
 ) -> Result<String, CaseFault> {
     let answer = perform(alloc, pages, line.tid, &line.call)?.text(alloc)?;

@@ -36,9 +36,22 @@ impl Form {
     }
 }
 
-/// Pages of an array on a medium in memory that power can be cut from. What is asked of them is proved for those of any store that tells
-/// nothing.
-pub type Array = Pages<Eaw<UntoldMedia<FusedMedia<MemoryMedia>>>>;
+/// A medium in memory that power can be cut from. What is asked of an array on it is proved for one on any medium that tells nothing.
+pub type Medium = UntoldMedia<FusedMedia<MemoryMedia>>;
+
+/// A medium that passes so many calls on.
+pub fn cut(media: MemoryMedia, passes: u64) -> Medium {
+    UntoldMedia::wrap(FusedMedia::wrap(media, passes))
+}
+
+/// A medium whose power is never cut.
+pub fn whole(media: MemoryMedia) -> Medium {
+    cut(media, u64::MAX)
+}
+
+pub fn bare(medium: Medium) -> MemoryMedia {
+    medium.into_inner().into_inner()
+}
 
 /// An array with three tables without keys.
 pub fn fresh(alloc: Global, form: Form, shape: &Shape) -> Result<MemoryMedia> {
@@ -77,12 +90,8 @@ fn overwrite(image: &mut [u8], shape: &Shape, addr: u64, bytes: &[u8]) -> Result
     Ok(())
 }
 
-/// Opens the array on a medium that passes so many calls on; `None` where the medium fails.
-pub fn open(alloc: Global, media: MemoryMedia, passes: u64) -> Result<Option<Array>> {
-    opened(alloc, UntoldMedia::wrap(FusedMedia::wrap(media, passes)))
-}
-
-fn opened<M: Media + Drop>(alloc: Global, media: M) -> Result<Option<Pages<Eaw<M>>>> {
+/// Opens the array on a medium; `None` where the medium fails.
+pub fn open<M: Media + Drop>(alloc: Global, media: M) -> Result<Option<Pages<Eaw<M>>>> {
     let Ok(store) = Eaw::attach(alloc, media) else {
         return Ok(None);
     };
@@ -93,11 +102,7 @@ fn opened<M: Media + Drop>(alloc: Global, media: M) -> Result<Option<Pages<Eaw<M
 }
 
 /// The medium of an array.
-pub fn close(array: Array) -> MemoryMedia {
-    closed(array).into_inner().into_inner()
-}
-
-fn closed<M: Media>(array: Pages<Eaw<M>>) -> M {
+pub fn close<M: Media>(array: Pages<Eaw<M>>) -> M {
     array.into_store().into_media()
 }
 

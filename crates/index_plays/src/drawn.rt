@@ -1,7 +1,7 @@
 // Insertions and removals that are drawn from a seed.
 ghost use Rattle.std.specs.Prelude.{IsFalse};
 
-use crate::array::{Form, TABLES, drop_parts, fresh, insert, log_parts, open, remove};
+use crate::array::{Form, TABLES, drop_parts, fresh, insert, log_parts, open, remove, whole};
 use crate::beside::Beside;
 use crate::front::pages_in_use;
 use anyhow::{Result, bail, ensure};
@@ -9,6 +9,7 @@ use array_shape::Shape;
 use case_files::Draws;
 use eaw_face::EawStore;
 use page_store::{IndexFault, KeyIndex, PageFault, Pages};
+use pcm_media::Media;
 use std::alloc::Global;
 
 // How many insertions and removals are made, and how many steps at the most.
@@ -119,10 +120,21 @@ struct Drawn<S: EawStore> {
 /// Makes the insertions and removals of a seed, and compares all after each hundred.
 pub fn play<K: KeyIndex>(alloc: Global, form: Form, seed: u64) -> Result<Counts> {
     let shape = Shape::new(1, 2, 8, 40)?;
-    let Some(array) = open(alloc, fresh(alloc, form, &shape)?, u64::MAX)? else {
+    let slots = 8 * u64::from(shape.half_page_count());
+    play_on::<K, _>(alloc, whole(fresh(alloc, form, &shape)?), seed, slots)
+}
+
+fn play_on<K: KeyIndex, M: Media + Drop>(
+    alloc: Global,
+    media: M,
+    seed: u64,
+    slots: u64,
+) -> Result<Counts>
+    requires { IsFalse M.tells }
+{
+    let Some(array) = open(alloc, media)? else {
         bail!("the array is not opened");
     };
-    let slots = 8 * u64::from(shape.half_page_count());
     play_all::<K, _>(alloc, begin(alloc, array, seed, slots)?)
 }
 

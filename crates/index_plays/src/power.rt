@@ -1,14 +1,17 @@
 // Power that is lost within removals.
 ghost use Rattle.std.specs.Prelude.{IsFalse};
 
-use crate::array::{Array, Form, TABLES, check, close, fresh, insert, media_of, open, remove};
+use crate::array::{
+    Form, Medium, TABLES, bare, check, close, cut, fresh, insert, media_of, open, remove, whole,
+};
 use crate::beside::Beside;
 use crate::front::pages_in_use;
 use anyhow::{Result, bail, ensure};
 use array_shape::Shape;
+use eaw_device::Eaw;
 use eaw_face::EawStore;
 use page_store::{KeyIndex, PageFault, Pages};
-use pcm_media::MemoryMedia;
+use pcm_media::{Media, MemoryMedia};
 use std::alloc::Global;
 
 // Each table has the keys below this, and its pages lie between those of the others.
@@ -93,9 +96,8 @@ fn take_out<K: KeyIndex>(
     stops: &mut Stops,
 ) -> Result<MemoryMedia> {
     let before = beside.copy(alloc)?;
-    let mut array = opened(alloc, media_of(alloc, media.bytes())?)?;
-    let taken = remove_and_compare::<K, _>(alloc, &mut array, removal, beside)?;
-    let left = close(array);
+    let medium = whole(media_of(alloc, media.bytes())?);
+    let (taken, left) = take_from::<K, _>(alloc, medium, removal, beside)?;
     match taken {
         Some(is_freed) if is_freed || removal.is_first => {
             stops.removals = stops.removals.saturating_add(1);
@@ -103,10 +105,24 @@ fn take_out<K: KeyIndex>(
         }
         Some(_) | None => {}
     }
-    Ok(left)
+    Ok(bare(left))
 }
 
-// Takes a key out, and compares what the array has then. Whether a page is freed by it; `None` if the key stays.
+// The same on any medium, without a loss of power. Whether a page is freed by it; `None` if the key stays.
+fn take_from<K: KeyIndex, M: Media + Drop>(
+    alloc: Global,
+    media: M,
+    removal: Removal,
+    beside: &mut Beside,
+) -> Result<(Option<bool>, M)>
+    requires { IsFalse M.tells }
+{
+    let mut array = opened(alloc, media)?;
+    let taken = remove_and_compare::<K, _>(alloc, &mut array, removal, beside)?;
+    Ok((taken, close(array)))
+}
+
+// Takes a key out, and compares what the array has then.
 fn remove_and_compare<K: KeyIndex, S: EawStore>(
     alloc: Global,
     array: &mut Pages<S>,
@@ -134,31 +150,45 @@ fn stop_removal<K: KeyIndex>(
     stops: &mut Stops,
 ) -> Result<()> {
     for passes in 0..CALLS {
-        let media = media_of(alloc, image)?;
-        if goes_through::<K>(alloc, open(alloc, media, passes)?, removal, both, stops)? {
+        let medium = cut(media_of(alloc, image)?, passes);
+        if goes_through::<K>(alloc, medium, removal, both, stops)? {
             return Ok(());
         }
     }
     bail!("a removal that does not end")
 }
 
-// Whether a removal goes through on an array, if that was opened. What may be left behind it is compared.
+// Whether a removal goes through on an array, if that is opened. What may be left behind it is compared.
 fn goes_through<K: KeyIndex>(
     alloc: Global,
-    array: Option<Array>,
+    medium: Medium,
     removal: Removal,
     both: (&Beside, &Beside),
     stops: &mut Stops,
 ) -> Result<bool> {
-    let Some(mut array) = array else {
+    let Some((is_done, left)) = try_removal::<K, _>(alloc, medium, removal)? else {
         return Ok(false);
     };
-    let is_done = is_removed::<K, _>(&mut array, removal)?;
     if !is_done {
         stops.losses = stops.losses.saturating_add(1);
     }
-    compare_left::<K>(alloc, &close(array), both, is_done, stops)?;
+    compare_left::<K>(alloc, &bare(left), both, is_done, stops)?;
     Ok(is_done)
+}
+
+// Whether a key is taken out of the array on a medium, and the medium behind that; `None` where the array is not opened.
+fn try_removal<K: KeyIndex, M: Media + Drop>(
+    alloc: Global,
+    media: M,
+    removal: Removal,
+) -> Result<Option<(bool, M)>>
+    requires { IsFalse M.tells }
+{
+    let Some(mut array) = open(alloc, media)? else {
+        return Ok(None);
+    };
+    let is_done = is_removed::<K, _>(&mut array, removal)?;
+    Ok(Some((is_done, close(array))))
 }
 
 fn is_removed<K: KeyIndex, S: EawStore>(array: &mut Pages<S>, removal: Removal) -> Result<bool>
@@ -186,8 +216,7 @@ fn compare_left<K: KeyIndex>(
     stops: &mut Stops,
 ) -> Result<()> {
     for choice in CHOICES {
-        let mut array = opened(alloc, media.leave(choice)?)?;
-        if is_behind::<K, _>(alloc, &mut array, both, is_done)? {
+        if is_behind::<K, _>(alloc, whole(media.leave(choice)?), both, is_done)? {
             stops.behind = stops.behind.saturating_add(1);
         } else {
             stops.before = stops.before.saturating_add(1);
@@ -196,8 +225,21 @@ fn compare_left<K: KeyIndex>(
     Ok(())
 }
 
-// Whether an array has what is there behind a removal. If not, it has what was there before, and the removal was not told as done.
-fn is_behind<K: KeyIndex, S: EawStore>(
+// Whether the array on a medium has what is there behind a removal. If not, it has what was there before, and the removal was not told as
+// done.
+fn is_behind<K: KeyIndex, M: Media + Drop>(
+    alloc: Global,
+    media: M,
+    both: (&Beside, &Beside),
+    is_done: bool,
+) -> Result<bool>
+    requires { IsFalse M.tells }
+{
+    let mut array = opened(alloc, media)?;
+    has_either::<K, _>(alloc, &mut array, both, is_done)
+}
+
+fn has_either<K: KeyIndex, S: EawStore>(
     alloc: Global,
     array: &mut Pages<S>,
     both: (&Beside, &Beside),
@@ -221,10 +263,17 @@ fn is_behind<K: KeyIndex, S: EawStore>(
 // The tables with all their keys.
 fn filled<K: KeyIndex>(alloc: Global, form: Form) -> Result<(MemoryMedia, Beside)> {
     let shape = Shape::new(1, 2, 8, 64)?;
-    let mut array = opened(alloc, fresh(alloc, form, &shape)?)?;
     let mut beside = Beside::new(alloc)?;
-    fill::<K, _>(alloc, &mut array, &mut beside)?;
-    Ok((close(array), beside))
+    let medium = fill_on::<K, _>(alloc, whole(fresh(alloc, form, &shape)?), &mut beside)?;
+    Ok((bare(medium), beside))
+}
+
+fn fill_on<K: KeyIndex, M: Media + Drop>(alloc: Global, media: M, beside: &mut Beside) -> Result<M>
+    requires { IsFalse M.tells }
+{
+    let mut array = opened(alloc, media)?;
+    fill::<K, _>(alloc, &mut array, beside)?;
+    Ok(close(array))
 }
 
 fn fill<K: KeyIndex, S: EawStore>(
@@ -243,8 +292,8 @@ fn fill<K: KeyIndex, S: EawStore>(
     beside.compare::<K, S>(alloc, array)
 }
 
-fn opened(alloc: Global, media: MemoryMedia) -> Result<Array> {
-    let Some(array) = open(alloc, media, u64::MAX)? else {
+fn opened<M: Media + Drop>(alloc: Global, media: M) -> Result<Pages<Eaw<M>>> {
+    let Some(array) = open(alloc, media)? else {
         bail!("the array is not opened");
     };
     Ok(array)

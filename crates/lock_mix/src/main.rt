@@ -11,10 +11,11 @@ mod mix;
 mod opening;
 
 use crate::mix::{Mix, make_all};
-use crate::opening::fresh;
+use crate::opening::{fresh, opened};
 use anyhow::{Result, bail};
 use caller_steps::Core;
 use mars_manager::{Mars, Pass, Passes};
+use pcm_media::Media;
 use record_slots::Value;
 use std::alloc::Global;
 use std::env;
@@ -31,15 +32,24 @@ fn main(rt: HostRuntime) -> Result<()> {
         puts: puts.parse::<u64>()?,
         seed: 0,
     };
-    let Some(again) = again_over_memory(&rt, rt.alloc(), mix) else {
+    let Some(media) = fresh(rt.alloc()) else {
+        bail!("no memory");
+    };
+    let Some(again) = again_over(&rt, rt.alloc(), media, mix) else {
         bail!("no memory");
     };
     println!(rt; "{again} of 4 times {transactions} transactions were made again")?;
     Ok(())
 }
 
-fn again_over_memory<R: Threads + Wait + Sync>(rt: &R, alloc: Global, mix: Mix) -> Option<u64> {
-    let core = fresh(alloc)?;
+// How many transactions of four callers over an array on a medium had to be made again.
+fn again_over<M: Media + Drop + Send, R: Threads + Wait + Sync>(
+    rt: &R,
+    alloc: Global,
+    media: M,
+    mix: Mix,
+) -> Option<u64> {
+    let core = opened(alloc, media)?;
     shared(rt, alloc, core, mix)
 }
 

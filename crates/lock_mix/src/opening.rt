@@ -18,16 +18,8 @@ const CALLS: u64 = 65_536;
 
 const WRITTEN: u64 = 1_048_576;
 
-pub type Callers = Core<Eaw<MemoryMedia>, BTreePages>;
-
-/// A core of four callers; `None` where memory is short.
-pub fn fresh(alloc: Global) -> Option<Callers>
-    ensures { IfSome result (λ core. CanShare ⟦<Callers as Steps>⟧.tells 4 (⟦<Callers as Steps>⟧.view core)) }
-{
-    opened(alloc, fresh_media(alloc)?)
-}
-
-fn fresh_media(alloc: Global) -> Option<MemoryMedia> {
+/// A medium with a fresh array for as many callers; `None` where memory is short.
+pub fn fresh(alloc: Global) -> Option<MemoryMedia> {
     let shape = Shape::new(4, 8, 16, 64).ok()?;
     let zeros = vec![in alloc; 0; shape.media_len() as usize].ok()?;
     let mut media = MemoryMedia::new(alloc, &zeros, CALLS, WRITTEN).ok()?;
@@ -37,8 +29,8 @@ fn fresh_media(alloc: Global) -> Option<MemoryMedia> {
     }
 }
 
-// A core of four callers over the array on any medium, if it has numbers for them.
-fn opened<M: Media + Drop>(alloc: Global, media: M) -> Option<Core<Eaw<M>, BTreePages>>
+/// A core of four callers over the array on any medium, if it has numbers for them.
+pub fn opened<M: Media + Drop>(alloc: Global, media: M) -> Option<Core<Eaw<M>, BTreePages>>
     ensures shared { IfSome result (λ core. CanShare ⟦<Core<Eaw<M>, BTreePages> as Steps>⟧.tells 4 (⟦<Core<Eaw<M>, BTreePages> as Steps>⟧.view core)) }
 {
     let Ok(store) = Eaw::attach(alloc, media) else {

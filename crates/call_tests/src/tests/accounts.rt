@@ -1,4 +1,4 @@
-ghost use Rattle.std.specs.Prelude.{◌≡◌, ◌<◌, IsTrue};
+ghost use Rattle.std.specs.Prelude.{◌≡◌, ◌≢◌, ◌<◌, IsTrue};
 ghost use Rattle.caller_steps.specs.Sound.{IsSound};
 
 use super::arrays::{CHOICES, fresh, media_of, whole};
@@ -69,6 +69,7 @@ fn balances<M: Media + Drop>(alloc: Global, media: M) -> Option<(u64, u64)> {
 
 // What is answered to a transfer from the account 1, behind which the core takes another call.
 fn pay<C: Steps>(core: &mut C, to: u64, amount: u64) -> Result<(), Stop<Refusal>>
+    requires apart { 1 ≢ to }
     requires inside { 0 < (C.view core.old).limits.callers }
     requires sound { IsTrue C.tells → IsSound (C.view core.old).state }
     ensures limits { (C.view core.new).limits ≡ (C.view core.old).limits }

@@ -4,12 +4,12 @@ ghost use Rattle.mars_manager.specs.Pass.{dealt};
 ghost use Rattle.mars_manager.specs.Sharing.{CanShare};
 
 use super::held_media::Hold;
-use super::sharing::fresh;
+use super::sharing::{held_array, opened};
 use caller_steps::Core;
 use history::{Call, Reply, main_table};
 use mars_manager::{Again, Mars, Pass, Passes};
+use pcm_media::Media;
 use std::alloc::Global;
-use std::sync::Arc;
 use std::test::*;
 use std::thread;
 use std::thread::Threads;
@@ -134,19 +134,21 @@ fn beside_a_read<C: Core + Drop + Send, R: Threads + Sync>(
     three_beside(rt, mars, passes, reader, hold)
 }
 
-fn beside_in_an_array<R: Threads + Sync>(rt: &R, alloc: Global, reader: Reader) -> Option<Beside> {
-    let hold = Hold::released(alloc).ok()?;
-    beside_held(rt, alloc, reader, &hold)
-}
-
-fn beside_held<R: Threads + Sync>(
+fn beside_over<M: Media + Drop + Send, R: Threads + Sync>(
     rt: &R,
     alloc: Global,
+    media: M,
     reader: Reader,
-    hold: &Arc<Hold, Global>,
+    hold: &Hold,
 ) -> Option<Beside> {
-    let core = fresh(alloc, Arc::try_clone(hold).ok()?)?;
+    let core = opened(alloc, media)?;
     beside_a_read(rt, alloc, core, reader, hold)
+}
+
+fn beside_in_an_array<R: Threads + Sync>(rt: &R, alloc: Global, reader: Reader) -> Option<Beside> {
+    let hold = Hold::released(alloc).ok()?;
+    let media = held_array(alloc, &hold)?;
+    beside_over(rt, alloc, media, reader, &hold)
 }
 
 #[test]

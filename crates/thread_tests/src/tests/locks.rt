@@ -3,11 +3,11 @@ ghost use Rattle.std.specs.Prelude.{◌≡◌};
 ghost use Rattle.mars_manager.specs.Pass.{dealt};
 ghost use Rattle.mars_manager.specs.Sharing.{CanShare};
 
-use super::held_media::Hold;
-use super::sharing::fresh;
+use super::sharing::{array, opened};
 use caller_steps::Core;
 use history::{Call, Mode, Reply, main_table};
 use mars_manager::{Lock, Mars, Pass, Passes};
+use pcm_media::Media;
 use record_slots::Value;
 use std::alloc::Global;
 use std::test::*;
@@ -202,9 +202,12 @@ fn shared_by<C: Core + Drop>(alloc: Global, core: C, lines: &[(By, Line)]) -> Op
     two_of_three(mars, passes, lines)
 }
 
+fn answered_over<M: Media + Drop>(alloc: Global, media: M, lines: &[(By, Line)]) -> Option<usize> {
+    shared_by(alloc, opened(alloc, media)?, lines)
+}
+
 fn answered(alloc: Global, lines: &[(By, Line)]) -> Option<usize> {
-    let hold = Hold::released(alloc).ok()?;
-    shared_by(alloc, fresh(alloc, hold)?, lines)
+    answered_over(alloc, array(alloc)?, lines)
 }
 
 #[test]

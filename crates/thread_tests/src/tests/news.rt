@@ -4,17 +4,17 @@ ghost use Rattle.caller_steps.specs.Prefix.{Grows};
 ghost use Rattle.mars_manager.specs.Pass.{dealt};
 ghost use Rattle.mars_manager.specs.Sharing.{CanShare};
 
-use super::held_media::Hold;
-use super::sharing::fresh;
+use super::sharing::{array, opened};
 use caller_steps::Core;
 use history::{Call, Done, History, Key, Reply, Tables, Told, main_table};
 use mars_manager::{Mars, Pass, Passes};
+use pcm_media::Media;
 use record_slots::Value;
 use sample_callers::put_one;
 use sample_readers::publish_news;
 use snapshot_readers::{Reader, open_readers};
 use std::alloc::Global;
-use std::sync::{Arc, Wait};
+use std::sync::Wait;
 use std::test::*;
 
 // Whether the transaction is that of caller 0 with this number, which puts the value at the key of the same number.
@@ -159,16 +159,21 @@ fn over_core<C: Core + Drop, R: Wait>(
     two_commits(rt, alloc, &mars, passes, value)
 }
 
-fn over_an_array<R: Wait>(rt: &R, alloc: Global, value: Value) -> Option<(bool, [Read; 4])> {
-    let hold = Hold::released(alloc).ok()?;
-    let core = fresh(alloc, Arc::try_clone(&hold).ok()?)?;
+fn over_array<M: Media + Drop, R: Wait>(
+    rt: &R,
+    alloc: Global,
+    media: M,
+    value: Value,
+) -> Option<(bool, [Read; 4])> {
+    let core = opened(alloc, media)?;
     over_core(rt, alloc, core, value)
 }
 
 #[test]
 fn what_was_committed_is_read_and_fed(rt: HostRuntime) -> Result<(), Fail> {
     let value = Value::of(b"kept").ok_or("value")?;
-    let (right, read) = over_an_array(&rt, rt.alloc(), value).ok_or("shared")?;
+    let media = array(rt.alloc()).ok_or("array")?;
+    let (right, read) = over_array(&rt, rt.alloc(), media, value).ok_or("shared")?;
     assert!(rt; right);
     assert_eq!(rt;
         read,

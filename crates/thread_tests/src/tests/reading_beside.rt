@@ -6,12 +6,12 @@ ghost use Rattle.mars_manager.specs.Sharing.{CanShare};
 
 use super::beside_a_read::get_one;
 use super::held_media::Hold;
-use super::sharing::fresh;
+use super::sharing::{held_array, opened};
 use caller_steps::Core;
 use history::{Call, Reply, main_table};
 use mars_manager::{Again, Mars, Pass, Passes};
+use pcm_media::Media;
 use std::alloc::Global;
-use std::sync::Arc;
 use std::test::*;
 use std::thread;
 use std::thread::Threads;
@@ -100,19 +100,21 @@ fn shared_read<C: Core + Drop + Send, R: Threads + Sync>(
     two_readers(rt, mars, passes, hold)
 }
 
-fn readers_of_an_array<R: Threads + Sync>(
+fn readers_over<M: Media + Drop + Send, R: Threads + Sync>(
     rt: &R,
     alloc: Global,
-    hold: &Arc<Hold, Global>,
+    media: M,
+    hold: &Hold,
 ) -> Option<Readers> {
-    let core = fresh(alloc, Arc::try_clone(hold).ok()?)?;
+    let core = opened(alloc, media)?;
     shared_read(rt, alloc, core, hold)
 }
 
 #[test]
 fn a_reader_is_not_busy_beside_a_reader(rt: HostRuntime) -> Result<(), Fail> {
     let hold = Hold::released(rt.alloc())?;
-    let readers = readers_of_an_array(&rt, rt.alloc(), &hold).ok_or("shared")?;
+    let media = held_array(rt.alloc(), &hold).ok_or("array")?;
+    let readers = readers_over(&rt, rt.alloc(), media, &hold).ok_or("shared")?;
     assert!(rt; readers.same == Err(Again { holder: 0 }));
     assert!(rt; readers.other == Err(Again { holder: 0 }));
     assert!(rt; readers.found == Some(Reply::Absent));

@@ -3,15 +3,15 @@ ghost use Rattle.std.specs.Prelude.{◌≡◌};
 ghost use Rattle.mars_manager.specs.Pass.{dealt};
 ghost use Rattle.mars_manager.specs.Sharing.{CanShare};
 
-use super::held_media::Hold;
-use super::sharing::fresh;
+use super::sharing::{array, opened};
 use caller_steps::Core;
 use history::Reply;
 use mars_manager::{Mars, Pass, Passes};
+use pcm_media::Media;
 use record_slots::Value;
 use sample_callers::put_one;
 use std::alloc::Global;
-use std::sync::{Arc, Wait};
+use std::sync::Wait;
 use std::test::*;
 use std::thread::{Threads, join};
 
@@ -75,15 +75,19 @@ fn put_over<C: Core + Drop + Send, R: Threads + Wait + Sync>(
     put_shared(rt, mars, passes)
 }
 
-fn put_in_an_array<R: Threads + Wait + Sync>(rt: &R, alloc: Global) -> Option<(Reply, Reply)> {
-    let hold = Hold::released(alloc).ok()?;
-    let core = fresh(alloc, Arc::try_clone(&hold).ok()?)?;
+fn put_in_array<M: Media + Drop + Send, R: Threads + Wait + Sync>(
+    rt: &R,
+    alloc: Global,
+    media: M,
+) -> Option<(Reply, Reply)> {
+    let core = opened(alloc, media)?;
     put_over(rt, alloc, core)
 }
 
 #[test]
 fn two_callers_put_at_the_same_time(rt: HostRuntime) -> Result<(), Fail> {
-    let replies = put_in_an_array(&rt, rt.alloc()).ok_or("shared")?;
+    let media = array(rt.alloc()).ok_or("array")?;
+    let replies = put_in_array(&rt, rt.alloc(), media).ok_or("shared")?;
     let are_numbered = replies == (Reply::Committed(1), Reply::Committed(2))
         || replies == (Reply::Committed(2), Reply::Committed(1));
     assert!(rt; are_numbered);

@@ -1,4 +1,4 @@
-// A core over the records of an array whose reads can be held.
+// An array whose reads can be held, and a core over the records of one.
 ghost use Rattle.std.specs.Prelude.{◌≡◌, ◌≤◌, ℕ, None, IfSome};
 ghost use Rattle.eaw_face.specs.Causes.{IsAlive};
 ghost use Rattle.mars_manager.specs.Sharing.{CanShare};
@@ -20,28 +20,24 @@ const CALLS: u64 = 512;
 
 const WRITTEN: u64 = 16_384;
 
-/// Callers that take turns on the records of an array.
-pub type Callers = Core<Eaw<HeldMedia<MemoryMedia>>, BTreePages>;
-
-/// A core of three callers over a fresh array; `None` where memory is short.
-pub fn fresh(alloc: Global, hold: Arc<Hold, Global>) -> Option<Callers>
-    ensures { IfSome result (λ core. CanShare ⟦<Callers as Steps>⟧.tells 3 (⟦<Callers as Steps>⟧.view core)) }
-{
-    opened(alloc, HeldMedia::new(fresh_media(alloc)?, hold))
-}
-
-fn fresh_media(alloc: Global) -> Option<MemoryMedia> {
+/// A medium with a fresh array for three callers, whose reads can be held; `None` where memory is short.
+pub fn held_array(alloc: Global, hold: &Arc<Hold, Global>) -> Option<HeldMedia<MemoryMedia>> {
     let shape = Shape::new(1, 3, 8, 4).ok()?;
     let zeros = vec![in alloc; 0; shape.media_len() as usize].ok()?;
     let mut media = MemoryMedia::new(alloc, &zeros, CALLS, WRITTEN).ok()?;
     match format(&mut media, &shape) {
-        Ok(()) => Some(media),
+        Ok(()) => Some(HeldMedia::new(media, Arc::try_clone(hold).ok()?)),
         Err(_) => None,
     }
 }
 
-// A core of three callers over the array on any medium, if it has numbers for them.
-fn opened<M: Media + Drop>(alloc: Global, media: M) -> Option<Core<Eaw<M>, BTreePages>>
+/// The same where nobody holds a read.
+pub fn array(alloc: Global) -> Option<HeldMedia<MemoryMedia>> {
+    held_array(alloc, &Hold::released(alloc).ok()?)
+}
+
+/// A core of three callers over the array on any medium, if it has numbers for them.
+pub fn opened<M: Media + Drop>(alloc: Global, media: M) -> Option<Core<Eaw<M>, BTreePages>>
     ensures shared { IfSome result (λ core. CanShare ⟦<Core<Eaw<M>, BTreePages> as Steps>⟧.tells 3 (⟦<Core<Eaw<M>, BTreePages> as Steps>⟧.view core)) }
 {
     let Ok(store) = Eaw::attach(alloc, media) else {

@@ -5,12 +5,13 @@ ghost use Rattle.mars_manager.specs.Sharing.{CanShare};
 
 use super::beside_a_read::get_one;
 use super::held_media::Hold;
-use super::sharing::fresh;
+use super::sharing::{held_array, opened};
 use caller_steps::Core;
 use history::{Call, Reply};
 use mars_manager::{Mars, Pass, Passes};
+use pcm_media::Media;
 use std::alloc::Global;
-use std::sync::{Arc, Wait};
+use std::sync::Wait;
 use std::test::*;
 use std::thread;
 use std::thread::{Threads, join};
@@ -108,12 +109,13 @@ fn answered<C: Core + Drop + Send, R: Threads + Wait + Sync>(
     both_answered(rt, mars, passes, hold)
 }
 
-fn answered_in_an_array<R: Threads + Wait + Sync>(
+fn answered_over<M: Media + Drop + Send, R: Threads + Wait + Sync>(
     rt: &R,
     alloc: Global,
-    hold: &Arc<Hold, Global>,
+    media: M,
+    hold: &Hold,
 ) -> Option<(Option<Reply>, Reply)> {
-    let core = fresh(alloc, Arc::try_clone(hold).ok()?)?;
+    let core = opened(alloc, media)?;
     answered(rt, alloc, core, hold)
 }
 
@@ -121,7 +123,8 @@ fn answered_in_an_array<R: Threads + Wait + Sync>(
 #[test]
 fn who_sleeps_gets_the_turn(rt: HostRuntime) -> Result<(), Fail> {
     let hold = Hold::released(rt.alloc())?;
-    let (found, reply) = answered_in_an_array(&rt, rt.alloc(), &hold).ok_or("shared")?;
+    let media = held_array(rt.alloc(), &hold).ok_or("array")?;
+    let (found, reply) = answered_over(&rt, rt.alloc(), media, &hold).ok_or("shared")?;
     assert!(rt; found == Some(Reply::Absent));
     assert!(rt; reply == Reply::Fine);
     Ok(())
