@@ -4,6 +4,7 @@ A field that the format gains is a line more here: in `read_row`, in `read_super
 """
 
 import re
+from fcntl import LOCK_NB, LOCK_SH, flock
 from mmap import ACCESS_READ, mmap
 from struct import Struct, iter_unpack, unpack_from
 from typing import NamedTuple
@@ -354,3 +355,15 @@ def read_image(path):
         return b""
     except OSError as error:
         raise Refused(f"{path}: {error.strerror}") from error
+
+
+def is_in_use(path):
+    """Whether a program holds the lock of this file, as `mars` does while it works on it."""
+    try:
+        with open(path, "rb") as file:
+            flock(file, LOCK_SH | LOCK_NB)
+    except BlockingIOError:
+        return True
+    except OSError:
+        return False
+    return False

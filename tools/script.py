@@ -2,6 +2,9 @@
 
 import re
 import subprocess
+import sys
+import tempfile
+import time
 from os import environ
 from pathlib import Path
 
@@ -127,8 +130,58 @@ def lines_of(text):
     return pieces if pieces[-1] else pieces[:-1]
 
 
+def program():
+    """The program to run: ./mars, or the one that the variable MARS names."""
+    return environ.get("MARS") or str(Path(__file__).resolve().parent.parent / "mars")
+
+
 def mars(image, *words, text=b""):
-    """Runs the program, ./mars or the one that the variable MARS names, and gives its status, its output and its error output."""
-    program = environ.get("MARS") or str(Path(__file__).resolve().parent.parent / "mars")
-    done = subprocess.run([program, image, *words], input=text, capture_output=True)
+    """Runs the program and gives its status, its output and its error output."""
+    done = subprocess.run([program(), image, *words], input=text, capture_output=True)
     return done.returncode, done.stdout, done.stderr.decode(errors="replace")
+
+
+def mars_by_lines(image, *words, text, each):
+    """As `mars`, with a call of `each` for each line of its output as soon as it is there."""
+    with tempfile.TemporaryFile() as script, tempfile.TemporaryFile() as errors:
+        script.write(text)
+        script.seek(0)
+        with subprocess.Popen([program(), image, *words], stdin=script, stdout=subprocess.PIPE, stderr=errors) as running:
+            output = []
+            for line in running.stdout:
+                output.append(line)
+                each(line)
+        errors.seek(0)
+        return running.returncode, b"".join(output), errors.read().decode(errors="replace")
+
+
+class Progress:
+    """Tells a terminal how far some work is, once it takes longer than a second and then once a second."""
+
+    def __init__(self, whole, what):
+        self.whole, self.what, self.done, self.began, self.told = whole, what, 0, time.monotonic(), 0.0
+
+    def step(self):
+        self.done += 1
+        passed = time.monotonic() - self.began
+        if passed >= self.told + 1 and sys.stderr.isatty():
+            rate = self.done / passed
+            left = (self.whole - self.done) / rate
+            sys.stderr.write(f"\r{self.done:,} of {self.whole:,} {self.what}, {rate:,.0f} a second, {left:,.0f} s left ")
+            sys.stderr.flush()
+            self.told = passed
+
+    def end(self):
+        if self.told:
+            sys.stderr.write("\n")
+
+
+def program_words(document, usage, least, most):
+    """The words after a tool's name, if there are so many; else its usage. `--help` and `-h` print what the tool does."""
+    words = sys.argv[1:]
+    if words in (["--help"], ["-h"]):
+        print(document.strip())
+        sys.exit(0)
+    if not least <= len(words) <= most:
+        sys.exit(f"usage: {usage}")
+    return words

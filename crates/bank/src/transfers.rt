@@ -7,10 +7,10 @@ ghost use Rattle.caller_steps.specs.Core.{Continues};
 ghost use Rattle.caller_steps.specs.Sound.{IsSound};
 ghost use Rattle.caller_steps.specs.State.{records_of};
 ghost use Rattle.transactions.specs.Adds.{Stays};
-ghost use Rattle.transactions.specs.Went.{IsOfCore};
+ghost use Rattle.transactions.specs.Went.{WentWithin, IsOfCore};
 ghost use Rattle.transactions.specs.Makes.{Holds, IsEnded, IsGivenUp, IsInDoubt, IsMade};
 ghost use Rattle.bank.specs.Accounts.{Transfers};
-ghost use Rattle.bank.specs.Moves.{IsBalanced, IsOfRead, IsRefused};
+ghost use Rattle.bank.specs.Moves.{IsBalanced, IsOfRead, IsRefused, IsUntold};
 
 use crate::accounts::{Refusal, read, write};
 use caller_steps::Core;
@@ -37,6 +37,7 @@ impl Work<(), Refusal> for Payment {
         requires begun { IsTrue C.tells → (C.view core.old).state.live caller ≡ Some [] }
         ensures limits { (C.view core.new).limits ≡ (C.view core.old).limits }
         ensures stays { IsTrue C.tells → Stays caller (C.view core.old) (C.view core.new) }
+        ensures within { IsTrue C.tells → WentWithin caller (C.view core.old) (C.view core.new) }
         ensures done { IsTrue C.tells → IfOk result (λ done. Holds (λ calls. Transfers self.now.from self.now.to self.now.amount (records_of (C.view core.old).state) (left_by (records_of (C.view core.old).state) calls)) caller (C.view core.new)) }
         ensures stopped { IsTrue C.tells → IfErr result (IsGivenUp (IsRefused self.now.from self.now.to self.now.amount) (records_of (C.view core.old).state)) }
         ensures of_core { IsTrue C.tells → IfErr result (IsOfCore caller (C.view core.old) (C.view core.new)) }
@@ -96,6 +97,7 @@ pub fn balance<C: Core>(core: &mut C, caller: u8, account: u64) -> Result<u64, S
     ensures ended { IsTrue C.tells → IsEnded caller (C.view core.old) (C.view core.new) }
     ensures says { IsTrue C.tells → IfOk result (λ n. map.get (records_of (C.view core.old).state) (of_main account) ≡ Some (decimal n)) }
     ensures cause { IfErr result (IsOfRead account) }
+    ensures untold { IsTrue C.tells → IfErr result (IsGivenUp (IsUntold account) (records_of (C.view core.old).state)) }
     ensures of_core { IsTrue C.tells → IfErr result (IsOfCore caller (C.view core.old) (C.view core.new)) }
     ensures limits { (C.view core.new).limits ≡ (C.view core.old).limits }
 {

@@ -1,4 +1,4 @@
--- Each call has one reply, unless the array is full or fails or memory runs out.
+-- Each call has one reply, unless the medium fails or memory runs out.
 use Rattle.std.proofs.Common.{◌≡◌, ℕ, inl, inr, Bool, true, false, Option, Some, None, sym, ap, ◌∙◌, arith}
 use Rattle.std.proofs.lemmas.Bool.{true≢false, both_ways, cases_order}
 use Rattle.history.specs.Table.{Granted, Work, has_save, Answers}
@@ -10,10 +10,10 @@ use Rattle.history.specs.Locks.{has_table}
 use Rattle.caller_steps.specs.State as state
 use Rattle.caller_steps.specs.State.{State, unoffered, offered, unsettled, view_of}
 use Rattle.caller_steps.specs.Locked.{IsFree, IsBusyWith}
-use Rattle.caller_steps.specs.Room.{Limits}
+use Rattle.caller_steps.specs.Room.{Limits, Fits, Lacks}
 use Rattle.caller_steps.specs.Step.{Asks, AsksTable, StepAt, StepBy, StepIf, Step}
-use Rattle.caller_steps.specs.Fate.{is_of_array}
-use Rattle.caller_steps.proofs.Fates.{lacks_of_array}
+use Rattle.caller_steps.specs.Fate.{is_by_chance}
+use Rattle.caller_steps.proofs.Full.{fits_none, lacks_one}
 
 -- the one-thread table has one reply to each call
 answers_one : (work : Work) (call : Call) (one other : Reply) → Answers work call one → Answers work call other → one ≡ other
@@ -35,51 +35,57 @@ busy_one old caller call one other a b = elim (cases_order one other) [
   ]
 ]
 
--- the locks or the table give the reply
+-- the locks, the table or the full array give the reply
 data Ours (limits : Limits) (old : State) (caller : ℕ) (call : Call) (reply : Reply) : Type 0 where
   held : (holder : ℕ) → IsBusyWith old caller call holder → reply ≡ Busy holder → Ours limits old caller call reply
-  free : IsFree old caller call → Answers (view_of old caller) call reply → Ours limits old caller call reply
+  free : IsFree old caller call → Answers (view_of old caller) call reply → Fits limits old caller call → Ours limits old caller call reply
+  refused : IsFree old caller call → Lacks limits old caller call reply → Ours limits old caller call reply
 
 module _ (limits : Limits) (old : State) (caller : ℕ) where
-  not_of_array : (reply answer : Reply) (P : Type 0) → is_of_array reply ≡ false → is_of_array answer ≡ true → reply ≡ answer → P
-  not_of_array reply answer P ours theirs e = absurd (true≢false (sym theirs ∙ sym (ap is_of_array e) ∙ ours))
+  not_of_array : (reply answer : Reply) (P : Type 0) → is_by_chance reply ≡ false → is_by_chance answer ≡ true → reply ≡ answer → P
+  not_of_array reply answer P ours theirs e = absurd (true≢false (sym theirs ∙ sym (ap is_by_chance e) ∙ ours))
 
-  ours : (calls : Granted) (call : Call) (reply : Reply) (new : State) → is_of_array reply ≡ false → Asks limits calls old caller call reply new → Ours limits old caller call reply
-  ours calls call reply new ok (inl short) = absurd (true≢false (sym (ap is_of_array short.0) ∙ ok))
+  ours : (calls : Granted) (call : Call) (reply : Reply) (new : State) → is_by_chance reply ≡ false → Asks limits calls old caller call reply new → Ours limits old caller call reply
+  ours calls call reply new ok (inl short) = absurd (true≢false (sym (ap is_by_chance short.0) ∙ ok))
   ours calls call reply new ok (inr (inl is)) = held is.0 is.1 is.2.0
-  ours calls call reply new ok (inr (inr (is, inl grants))) = free is grants.0
-  ours calls call reply new ok (inr (inr (is, inr (inl refuses)))) = absurd (true≢false (sym (lacks_of_array limits old caller call reply refuses.0) ∙ ok))
-  ours calls call reply new ok (inr (inr (is, inr (inr fails)))) = absurd (true≢false (sym (ap is_of_array fails.1.0) ∙ ok))
+  ours calls call reply new ok (inr (inr (is, inl grants))) = free is grants.0 grants.1
+  ours calls call reply new ok (inr (inr (is, inr (inl refuses)))) = refused is refuses.0
+  ours calls call reply new ok (inr (inr (is, inr (inr fails)))) = absurd (true≢false (sym (ap is_by_chance fails.1.0) ∙ ok))
 
   ours_one : (call : Call) (one other : Reply) → Ours limits old caller call one → Ours limits old caller call other → one ≡ other
   ours_one call one other (held h busy is) (held k busy' is') = is ∙ ap Busy (busy_one old caller call h k busy busy') ∙ sym is'
-  ours_one call one other (held h busy is) (free is' answers) = absurd (is' h busy.0)
-  ours_one call one other (free is answers) (held h busy is') = absurd (is h busy.0)
-  ours_one call one other (free is answers) (free is' answers') = answers_one (view_of old caller) call one other answers answers'
+  ours_one call one other (held h busy is) (free is' answers fits) = absurd (is' h busy.0)
+  ours_one call one other (held h busy is) (refused is' lacks) = absurd (is' h busy.0)
+  ours_one call one other (free is answers fits) (held h busy is') = absurd (is h busy.0)
+  ours_one call one other (refused is lacks) (held h busy is') = absurd (is h busy.0)
+  ours_one call one other (free is answers fits) (free is' answers' fits') = answers_one (view_of old caller) call one other answers answers'
+  ours_one call one other (free is answers fits) (refused is' lacks) = absurd (fits_none limits old caller call other fits lacks)
+  ours_one call one other (refused is lacks) (free is' answers fits) = absurd (fits_none limits old caller call one fits lacks)
+  ours_one call one other (refused is lacks) (refused is' lacks') = lacks_one limits old caller call one other lacks lacks'
 
-  asks_one : (calls : Granted) (call : Call) (one other : Reply) (new next : State) → is_of_array one ≡ false → is_of_array other ≡ false
+  asks_one : (calls : Granted) (call : Call) (one other : Reply) (new next : State) → is_by_chance one ≡ false → is_by_chance other ≡ false
       → Asks limits calls old caller call one new → Asks limits calls old caller call other next → one ≡ other
   asks_one calls call one other new next ok ok' a b = ours_one call one other (ours calls call one new ok a) (ours calls call other next ok' b)
 
-  tabled_one : (calls : Granted) (call : Call) (one other : Reply) (new next : State) → is_of_array one ≡ false → is_of_array other ≡ false
+  tabled_one : (calls : Granted) (call : Call) (one other : Reply) (new next : State) → is_by_chance one ≡ false → is_by_chance other ≡ false
       → AsksTable limits calls old caller call one new → AsksTable limits calls old caller call other next → one ≡ other
   tabled_one calls call one other new next ok ok' (inl (none, a)) (inl (none', b)) = a.0 ∙ sym b.0
   tabled_one calls call one other new next ok ok' (inl (none, a)) (inr (some, b)) = absurd (both_ways (has_table old.names call) none some)
   tabled_one calls call one other new next ok ok' (inr (some, a)) (inl (none, b)) = absurd (both_ways (has_table old.names call) none some)
   tabled_one calls call one other new next ok ok' (inr (some, a)) (inr (some', b)) = asks_one calls call one other new next ok ok' a b
 
-  one_at : (live : Option Granted) (call : Call) (one other : Reply) (new next : State) → is_of_array one ≡ false → is_of_array other ≡ false
+  one_at : (live : Option Granted) (call : Call) (one other : Reply) (new next : State) → is_by_chance one ≡ false → is_by_chance other ≡ false
       → StepAt limits live old caller call one new → StepAt limits live old caller call other next → one ≡ other
   one_at None Begin one other new next ok ok' a b = a.0 ∙ sym b.0
-  one_at None Purge one other new next ok ok' (inl a) b = absurd (true≢false (sym (ap is_of_array a.1) ∙ ok))
-  one_at None Purge one other new next ok ok' (inr a) b = absurd (true≢false (sym (ap is_of_array a.0) ∙ ok))
+  one_at None Purge one other new next ok ok' (inl a) b = absurd (true≢false (sym (ap is_by_chance a.1) ∙ ok))
+  one_at None Purge one other new next ok ok' (inr a) b = absurd (true≢false (sym (ap is_by_chance a.0) ∙ ok))
   one_at None _ one other new next ok ok' a b = a.0 ∙ sym b.0
   one_at (Some calls) Begin one other new next ok ok' a b = a.0 ∙ sym b.0
   one_at (Some calls) Commit one other new next ok ok' (inr (inl a)) (inr (inl b)) = a.0 ∙ sym b.0
-  one_at (Some calls) Commit one other new next ok ok' (inl a) b = absurd (true≢false (sym (ap is_of_array a.0) ∙ ok))
-  one_at (Some calls) Commit one other new next ok ok' (inr (inr a)) b = absurd (true≢false (sym (ap is_of_array a.1) ∙ ok))
-  one_at (Some calls) Commit one other new next ok ok' (inr (inl a)) (inl b) = absurd (true≢false (sym (ap is_of_array b.0) ∙ ok'))
-  one_at (Some calls) Commit one other new next ok ok' (inr (inl a)) (inr (inr b)) = absurd (true≢false (sym (ap is_of_array b.1) ∙ ok'))
+  one_at (Some calls) Commit one other new next ok ok' (inl a) b = absurd (true≢false (sym (ap is_by_chance a.0) ∙ ok))
+  one_at (Some calls) Commit one other new next ok ok' (inr (inr a)) b = absurd (true≢false (sym (ap is_by_chance a.1) ∙ ok))
+  one_at (Some calls) Commit one other new next ok ok' (inr (inl a)) (inl b) = absurd (true≢false (sym (ap is_by_chance b.0) ∙ ok'))
+  one_at (Some calls) Commit one other new next ok ok' (inr (inl a)) (inr (inr b)) = absurd (true≢false (sym (ap is_by_chance b.1) ∙ ok'))
   one_at (Some calls) Abort one other new next ok ok' a b = a.0 ∙ sym b.0
   one_at (Some calls) Offer one other new next ok ok' a b = a.0 ∙ sym b.0
   one_at (Some calls) Settle one other new next ok ok' a b = a.0 ∙ sym b.0
@@ -94,13 +100,13 @@ module _ (limits : Limits) (old : State) (caller : ℕ) where
   one_at (Some calls) (Back n) one other new next ok ok' (inr (some, a)) (inr (some', b)) = asks_one calls (Back n) one other new next ok ok' a b
   one_at (Some calls) call one other new next ok ok' a b = tabled_one calls call one other new next ok ok' a b
 
-  one_by : (offer : state.Offer) (call : Call) (one other : Reply) (new next : State) → is_of_array one ≡ false → is_of_array other ≡ false
+  one_by : (offer : state.Offer) (call : Call) (one other : Reply) (new next : State) → is_by_chance one ≡ false → is_by_chance other ≡ false
       → StepBy limits offer old caller call one new → StepBy limits offer old caller call other next → one ≡ other
   one_by unoffered call one other new next ok ok' a b = one_at (old.live caller) call one other new next ok ok' a b
-  one_by offered Settle one other new next ok ok' (inl a) b = absurd (true≢false (sym (ap is_of_array a.0) ∙ ok))
-  one_by offered Settle one other new next ok ok' (inr (inside, inr a)) b = absurd (true≢false (sym (ap is_of_array a.1) ∙ ok))
-  one_by offered Settle one other new next ok ok' (inr (inside, inl a)) (inl b) = absurd (true≢false (sym (ap is_of_array b.0) ∙ ok'))
-  one_by offered Settle one other new next ok ok' (inr (inside, inl a)) (inr (inside', inr b)) = absurd (true≢false (sym (ap is_of_array b.1) ∙ ok'))
+  one_by offered Settle one other new next ok ok' (inl a) b = absurd (true≢false (sym (ap is_by_chance a.0) ∙ ok))
+  one_by offered Settle one other new next ok ok' (inr (inside, inr a)) b = absurd (true≢false (sym (ap is_by_chance a.1) ∙ ok))
+  one_by offered Settle one other new next ok ok' (inr (inside, inl a)) (inl b) = absurd (true≢false (sym (ap is_by_chance b.0) ∙ ok'))
+  one_by offered Settle one other new next ok ok' (inr (inside, inl a)) (inr (inside', inr b)) = absurd (true≢false (sym (ap is_by_chance b.1) ∙ ok'))
   one_by offered Settle one other new next ok ok' (inr (inside, inl a)) (inr (inside', inl b)) = a.0 ∙ sym b.0
   one_by offered Begin one other new next ok ok' a b = a.0 ∙ sym b.0
   one_by offered (Get name key) one other new next ok ok' a b = a.0 ∙ sym b.0
@@ -126,12 +132,12 @@ module _ (limits : Limits) (old : State) (caller : ℕ) where
   one_by (unsettled n) Settle one other new next ok ok' a b = a.0 ∙ sym b.0
   one_by (unsettled n) Purge one other new next ok ok' a b = a.0 ∙ sym b.0
 
-  one_if : (dead : Bool) (call : Call) (one other : Reply) (new next : State) → is_of_array one ≡ false → is_of_array other ≡ false
+  one_if : (dead : Bool) (call : Call) (one other : Reply) (new next : State) → is_by_chance one ≡ false → is_by_chance other ≡ false
       → StepIf limits dead old caller call one new → StepIf limits dead old caller call other next → one ≡ other
   one_if true call one other new next ok ok' a b = a.0 ∙ sym b.0
   one_if false call one other new next ok ok' a b = one_by (old.offers caller) call one other new next ok ok' a b
 
-  -- Two replies to a call in one state are equal, except for those of an array that is full or fails, and for `NoMemory`.
-  pub one_reply : (call : Call) (one other : Reply) (new next : State) → is_of_array one ≡ false → is_of_array other ≡ false
+  -- Two replies to a call in one state are equal, except for `Media`, `NoMemory` and the count of a purge.
+  pub one_reply : (call : Call) (one other : Reply) (new next : State) → is_by_chance one ≡ false → is_by_chance other ≡ false
       → Step limits old caller call one new → Step limits old caller call other next → one ≡ other
   one_reply call one other new next ok ok' a b = one_if old.is_dead call one other new next ok ok' a b

@@ -30,6 +30,7 @@ use Rattle.caller_steps.specs.Shown.{is_put, AreAsked, Change, gain, loss, gaine
 use Rattle.caller_steps.proofs.Running.{turns_cut, turns_names, turns_dead, turns_keep, turns_of_runs}
 use Rattle.caller_steps.proofs.Owning.{turns_live, fresh_live}
 use Rattle.caller_steps.proofs.Fates.{step_moves}
+use Rattle.caller_steps.proofs.Trying.{purge_loses}
 
 -- an index after a call: it has no fewer pages in use and levels, and the same keys or one more, which the call puts
 pub record Rises (limits : Limits) (call : Call) (old new : Index) : Type 0 where
@@ -230,7 +231,7 @@ module _ (limits : Limits) (old : State) (caller : ℕ) (new : State) where
   left_at None Settle reply s = says Settle reply NoTransaction tt s
   left_at None Purge reply (inl (n, re, purges)) = record {
     told = subst (λ r. Told limits old caller new Purge r) (sym re) tt;
-    index = λ alive. subst (λ (i : Index). IndexMoves limits Purge old.index i) (sym (ap (λ (s : State). s.index) purges.same)) (lost_index limits purges.keys old.index purges.index purges.lost);
+    index = λ alive. let loses = purge_loses limits old n new purges in lost_index limits loses.0 old.index new.index loses.3;
   }
   left_at None Purge reply (inr (re, index, e)) = fails Purge reply re (ap (λ (s : State). s.is_dead) e)
   left_at (Some calls) Begin reply s = says Begin reply Already tt s

@@ -9,14 +9,16 @@ use Rattle.caller_steps.specs.State.{State}
 use Rattle.caller_steps.specs.Room.{Limits}
 use Rattle.caller_steps.specs.Step.{Step}
 use Rattle.caller_steps.specs.Fate.{Moves, is_media}
+use Rattle.caller_steps.specs.Cause.{ReplyCause}
 use Rattle.caller_steps.specs.Prefix.{HasPrefixOf, Grows}
 use Rattle.caller_steps.specs.Sound.{IsSound}
 
--- The limits of a core, its state, how often its medium has failed, and the moment; whether a loss of power at some moment from a given one
+-- The limits of a core, its state, whether the data of a state shows it, how often its medium has failed, and the moment; whether a loss of power at some moment from a given one
 -- on might have left an image; and whether an image opens with given records.
 pub record CoreView : Type 1 where
   pub limits : Limits
   pub state : State
+  pub shows : State → Type 0
   pub faults : ℕ
   pub moment : ℕ
   pub left_since : ℕ → List ℕ → Type 0
@@ -26,15 +28,18 @@ pub record CoreView : Type 1 where
 abbrev pub IsSafe : CoreView → ℕ → ℕ → Type 0
 IsSafe core since least = (image : List ℕ) → core.left_since since image → HasPrefixOf core.opens core.state least image
 
--- A caller's call of a core. A fault of the medium is reported as one, and no other reply hides it. If the core tells its records, then the
--- reply is that of the step, whatever a loss of power within the call leaves has all transactions that were committed before, and what may
--- be left now has the whole history.
+-- A caller's call of a core. Each reply has its cause. A fault of the medium is reported as one, and no other reply hides it. If the core tells its
+-- records, then the reply is that of the step, whatever a loss of power within the call leaves has all transactions that were committed before, and what may
+-- be left now has the whole history. If the data showed the old state, then it shows the new one, unless the medium failed.
 pub record Steps (tells : Bool) (caller : ℕ) (call : Call) (old new : CoreView) (reply : Reply) : Type 0 where
   pub limits : new.limits ≡ old.limits
   pub opens : (image : List ℕ) (table : Table) → old.opens image table → new.opens image table
   pub moves : Moves old.limits.callers old.state caller call reply new.state
+  pub cause : ReplyCause old.limits old.state caller call reply
   pub failed : IsTrue (is_media reply) → Rose old.faults new.faults
   pub kept : IsFalse (is_media reply) → new.faults ≡ old.faults
+  pub shows : (state : State) → (old.shows state → new.shows state) × (new.shows state → old.shows state)
+  pub shown : IsTrue tells → (IsFalse old.state.is_dead → old.shows old.state) → IsFalse new.state.is_dead → new.shows new.state
   pub step : IsTrue tells → Step old.limits old.state caller call reply new.state
   pub time : IsTrue tells → Elapses old.moment new.moment old.left_since new.left_since (HasPrefixOf new.opens new.state (length old.state.history))
   pub now : IsTrue tells → IsSafe new new.moment (length new.state.history)

@@ -35,6 +35,13 @@ is_of_array (Purged n) = true
 is_of_array NoMemory = true
 is_of_array _ = false
 
+-- a reply that the state does not tell: of a medium that fails, of how many keys its index gave up, or of a lack of memory
+abbrev pub is_by_chance : Reply → Bool
+is_by_chance Media = true
+is_by_chance (Purged n) = true
+is_by_chance NoMemory = true
+is_by_chance _ = false
+
 -- a reply that is possible while another caller holds a stripe of the call
 abbrev pub may_come_held : Reply → Bool
 may_come_held (Busy holder) = true

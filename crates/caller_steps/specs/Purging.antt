@@ -1,5 +1,5 @@
 -- A purge: keys without records, whose stripes no live transaction touches, are taken out of the index.
-use Rattle.std.specs.Prelude.{ℕ, suc, ◌≡◌, ◌≤◌, ◌<◌, ◌^◌, ◌⊎◌, true, false, IsTrue, IsFalse, List, [], ◌∷◌, length, Some, None, IsSome}
+use Rattle.std.specs.Prelude.{ℕ, suc, ◌≡◌, ◌≤◌, ◌<◌, ◌^◌, ◌⊎◌, Bool, true, false, if◌then◌else◌, IsTrue, IsFalse, List, [], ◌∷◌, length, slice_get, Some, None, IsSome}
 use Rattle.std.specs.FinMap.{get}
 use Rattle.std.specs.Map.{update}
 use Rattle.history.specs.Key.{is_same_key}
@@ -40,14 +40,55 @@ abbrev pub AreFree : State → List Key → Type 0
 AreFree state [] = Unit {0}
 AreFree state (key ∷ keys) = (IsAbsent state key × (IsTouched state key → ⊥)) × AreFree state keys
 
--- Of n keys the index has lost each, and nothing else has changed: no record, and no live transaction. Each key that has no record and is
--- still in the index is touched, or the index keeps it as the last of a page.
+-- a key that a purge tries, and whether it is lost then
+abbrev pub Try : Type 0
+Try = Key × Bool
+
+-- those that were lost
+abbrev pub lost_among : List Try → List Key
+lost_among [] = []
+lost_among (one ∷ tries) = if one.1 then one.0 ∷ lost_among tries else lost_among tries
+
+-- the key is one of those tried
+abbrev pub IsTried : Key → List Try → Type 0
+IsTried key [] = ⊥
+IsTried key (one ∷ tries) = (one.0 ≡ key) ⊎ IsTried key tries
+
+-- so it is with each key that was tried
+abbrev pub Each : (Key → Type 0) → List Try → Type 0
+Each P [] = Unit {0}
+Each P (one ∷ tries) = P one.0 × Each P tries
+
+-- One key is tried before another: its table has the lower number, or it is the lower key of the same table.
+abbrev pub ComesBefore : List (List ℕ) → Key → Key → Type 0
+ComesBefore names one other = ((i : ℕ) × (j : ℕ) × (i < j) × (slice_get names i ≡ Some one.table) × (slice_get names j ≡ Some other.table))
+    ⊎ ((one.table ≡ other.table) × (one.key < other.key))
+
+-- keys tried in this order, so each once; the last one first
+abbrev pub AreInOrder : List (List ℕ) → List Try → Type 0
+AreInOrder names [] = Unit {0}
+AreInOrder names (one ∷ tries) = Each (λ key. ComesBefore names key one.0) tries × AreInOrder names tries
+
+-- What comes of a key: it is lost, if no live transaction touches it and the index does not keep it, as it is then. Else it stays.
+abbrev pub Becomes : Limits → State → Key → Bool → Index → Index → Type 0
+Becomes limits old key true before now = (IsTouched old key → ⊥) × IsFalse (limits.keeps before.bytes key) × LosesKey key before now
+Becomes limits old key false before now = (IsTouched old key ⊎ IsTrue (limits.keeps before.bytes key)) × (now ≡ before)
+
+-- what comes of keys that are tried one after another, the last one first
+abbrev pub Tries : Limits → State → Index → List Try → Index → Type 0
+Tries limits old first [] now = now ≡ first
+Tries limits old first (one ∷ tries) now = (before : Index) × Tries limits old first tries before × Becomes limits old one.0 one.1 before now
+
+-- Each key of the index that has no record is tried once, by rising table and key. Of n keys the index has lost each, and nothing else has changed:
+-- no record, and no live transaction. Each key that has no record and is still in the index is touched, or the index keeps it as the last of a page.
 pub record Purges (limits : Limits) (old : State) (n : ℕ) (new : State) : Type 0 where
-  pub keys : List Key
-  pub count : n ≡ length keys
-  pub free : AreFree old keys
+  pub tried : List Try
+  pub order : AreInOrder old.names tried
+  pub absent : Each (IsAbsent old) tried
+  pub all : (key : Key) → key.key < 2 ^ 64 → IsAbsent old key → IsTried key tried
+  pub count : n ≡ length (lost_among tried)
   pub index : Index
-  pub lost : Lost old.index keys index
+  pub trail : Tries limits old old.index tried index
   pub same : new ≡ record old { index = index }
   pub left : (key : Key) → key.key < 2 ^ 64 → IsAbsent new key → IsTouched new key ⊎ IsTrue (limits.keeps new.index.bytes key)
 

@@ -1,8 +1,8 @@
 -- How much room an array has for writes, and what calls make of its index.
-use Rattle.std.specs.Prelude.{ℕ, suc, ◌≡◌, ◌+◌, ◌-◌, ◌<◌, ◌≤◌, ◌⊎◌, Bool, false, nat_eq, List, [], length, filter, Option, Some, None, IsSome, unwrap_or}
+use Rattle.std.specs.Prelude.{ℕ, suc, ◌≡◌, ◌+◌, ◌-◌, ◌<◌, ◌≤◌, ◌⊎◌, Bool, false, nat_eq, List, [], ◌∷◌, length, filter, Option, Some, None, IsSome, unwrap_or}
 use Rattle.std.specs.FinMap.{get}
 use Rattle.std.specs.Map.{update}
-use Rattle.mars_base.specs.Room.{IsFirstFull}
+use Rattle.mars_base.specs.Room.{HaveRoom, IsFirstFull}
 use Rattle.history.specs.Key.{is_same_key, of_table}
 use Rattle.history.specs.declared.key.Key.{Key}
 use Rattle.history.specs.Log.{log_of, is_rewritten}
@@ -13,9 +13,14 @@ use Rattle.history.specs.declared.call.Reply.{Reply}
 use Rattle.history.specs.declared.call.Reply.TheVariants.{Fine, LogFull, SlotsFull, PagesFull}
 use Rattle.caller_steps.specs.State.{State, Index, calls_of, view_of}
 
+-- an action of an insertion into the index: how many of its pages it takes, and how many entries of each logger
+pub record Action : Type 0 where
+  pub takes : ℕ
+  pub needs : ℕ → ℕ
+
 -- how many callers there may be, the slots of an array, its pages for the index, its loggers, the entries that each of them has for a
 -- caller, and the logger of each slot; and, of data and a key, whether the index keeps the key's pair as the last of a page, so that no purge
--- takes it out
+-- takes it out, and, if the index lacks the key, the actions of its insertion, one after another
 pub record Limits : Type 0 where
   pub callers : ℕ
   pub slots : ℕ
@@ -24,6 +29,7 @@ pub record Limits : Type 0 where
   pub entries : ℕ
   pub logger_of : ℕ → ℕ
   pub keeps : List ℕ → Key → Bool
+  pub actions : List ℕ → Key → List Action
 
 -- the key of a write has its slot on this logger
 abbrev pub is_slot_on : Limits → ℕ → Option ℕ → Bool
@@ -50,24 +56,56 @@ slot_for index key = unwrap_or (index.slot_of key) index.due
 abbrev pub IsSeen : State → ℕ → Key → Type 0
 IsSeen old caller key = IsSome (get (view_of old caller).table key)
 
--- if the call writes, there is an entry for it
+-- so many pages are left for the index
+abbrev pub pages_left : Limits → Index → ℕ
+pages_left limits index = limits.index_pages - index.used_pages
+
+-- `left` pages are enough for an action, and each logger has room for its entries beside what it holds
+abbrev pub ActionFits : Limits → (ℕ → ℕ) → ℕ → Action → Type 0
+ActionFits limits held left action = (action.takes ≤ left) × HaveRoom limits.loggers limits.entries held action.needs
+
+-- all actions fit, one after another
+abbrev pub AllFit : Limits → (ℕ → ℕ) → ℕ → List Action → Type 0
+AllFit limits held left [] = Unit {0}
+AllFit limits held left (action ∷ later) = ActionFits limits held left action × AllFit limits held (left - action.takes) later
+
+-- the first that does not fit finds too few pages
+abbrev pub LackPages : Limits → (ℕ → ℕ) → ℕ → List Action → Type 0
+LackPages limits held left [] = ⊥
+LackPages limits held left (action ∷ later) = (left < action.takes) ⊎ (ActionFits limits held left action × LackPages limits held (left - action.takes) later)
+
+-- the first that does not fit finds its pages, and at logger g, the first such one, too little room: it holds h entries, and n more are needed
+abbrev pub LackRoom : Limits → (ℕ → ℕ) → ℕ → ℕ → ℕ → ℕ → List Action → Type 0
+LackRoom limits held g h n left [] = ⊥
+LackRoom limits held g h n left (action ∷ later) =
+    ((action.takes ≤ left) × IsFirstFull limits.loggers limits.entries held action.needs g h n) ⊎ (ActionFits limits held left action × LackRoom limits held g h n (left - action.takes) later)
+
+-- A write of a key that has this slot, or none, fits: there is an entry for it. A new key first finds a slot, and all of its insertion fits.
+abbrev pub FitsAt : Limits → State → ℕ → Key → Option ℕ → Type 0
+FitsAt limits old caller key None = (old.index.used_slots < limits.slots)
+    × AllFit limits (held_on limits old caller) (pages_left limits old.index) (limits.actions old.index.bytes key) × HasEntry limits old caller key old.index.due
+FitsAt limits old caller key (Some slot) = HasEntry limits old caller key slot
+
+-- if the call writes, that fits
 abbrev pub Fits : Limits → State → ℕ → Call → Type 0
-Fits limits old caller (Put name key value) = HasEntry limits old caller (of_table name key) (slot_for old.index (of_table name key))
+Fits limits old caller (Put name key value) = FitsAt limits old caller (of_table name key) (old.index.slot_of (of_table name key))
 Fits limits old caller (Del name key) = IsSeen old caller (of_table name key) → HasEntry limits old caller (of_table name key) (slot_for old.index (of_table name key))
 Fits limits old caller _ = Unit {0}
 
--- Logger g is the first without room for what some write needs there, which is one entry to four: it holds h of the caller's, and n more are
--- needed.
-abbrev pub IsFull : Limits → State → ℕ → ℕ → ℕ → ℕ → Type 0
-IsFull limits old caller g h n = (1 ≤ n) × (n ≤ 4) × (needed : ℕ → ℕ) × IsFirstFull limits.loggers limits.entries (held_on limits old caller) needed g h n
+-- the slot's logger is full
+abbrev pub IsSlotFull : Limits → State → ℕ → Key → ℕ → ℕ → ℕ → ℕ → Type 0
+IsSlotFull limits old caller key slot g h n = (HasEntry limits old caller key slot → ⊥) × (g ≡ limits.logger_of slot) × (n ≡ 1) × (h ≡ held_on limits old caller g) × (g < limits.loggers)
 
 -- Why a write of a key that has this slot, or none, is refused with this reply: the first that it lacks. A new key needs a slot, pages for
--- the splits of the index that are due, and entries for each part of its insertion.
+-- the splits of the index that are due, entries for each part of its insertion, and then one in the slot that is due.
 abbrev pub LacksAt : Limits → State → ℕ → Key → Option ℕ → Reply → Type 0
-LacksAt limits old caller key (Some slot) (LogFull g h n) = (HasEntry limits old caller key slot → ⊥) × (g ≡ limits.logger_of slot) × (n ≡ 1) × IsFull limits old caller g h n
+LacksAt limits old caller key (Some slot) (LogFull g h n) = IsSlotFull limits old caller key slot g h n
 LacksAt limits old caller key None (SlotsFull n) = (old.index.used_slots ≡ limits.slots) × (n ≡ limits.slots)
 LacksAt limits old caller key None (PagesFull n) = (old.index.used_slots < limits.slots) × (n ≡ limits.index_pages - 1)
-LacksAt limits old caller key None (LogFull g h n) = (old.index.used_slots < limits.slots) × IsFull limits old caller g h n
+    × LackPages limits (held_on limits old caller) (pages_left limits old.index) (limits.actions old.index.bytes key)
+LacksAt limits old caller key None (LogFull g h n) = (old.index.used_slots < limits.slots)
+    × (LackRoom limits (held_on limits old caller) g h n (pages_left limits old.index) (limits.actions old.index.bytes key)
+    ⊎ (AllFit limits (held_on limits old caller) (pages_left limits old.index) (limits.actions old.index.bytes key) × IsSlotFull limits old caller key old.index.due g h n))
 LacksAt limits old caller key _ _ = ⊥
 
 -- Why a write is refused with this reply. A key that its caller sees has a slot, so a removal is refused only by that slot's logger.

@@ -124,3 +124,8 @@ Step limits old caller call reply new = StepIf limits old.is_dead old caller cal
 abbrev pub Runs : Limits → State → List (ℕ × Call × Reply) → State → Type 0
 Runs limits old [] new = new ≡ old
 Runs limits old (turn ∷ turns) new = (mid : State) × Step limits old turn.0 turn.1 turn.2 mid × Runs limits mid turns new
+
+-- the same, where the data of each state that is not dead shows it
+abbrev pub RunsShown : (State → Type 0) → Limits → State → List (ℕ × Call × Reply) → State → Type 0
+RunsShown shows limits old [] new = new ≡ old
+RunsShown shows limits old (turn ∷ turns) new = (mid : State) × Step limits old turn.0 turn.1 turn.2 mid × (IsFalse mid.is_dead → shows mid) × RunsShown shows limits mid turns new

@@ -1,5 +1,5 @@
 // Laws of callers by turns, each of which follows from the definitions alone.
-ghost use Rattle.std.specs.Prelude.{◌≡◌, ◌≢◌, ◌≤◌, ◌<◌, ◌++◌, List, ℕ, Some, All, IsTrue, IsFalse, length};
+ghost use Rattle.std.specs.Prelude.{◌≡◌, ◌≢◌, ◌≤◌, ◌<◌, ◌++◌, List, ℕ, Some, None, All, IsTrue, IsFalse, length};
 ghost use Rattle.history.specs.Writes.{Table, all_written};
 ghost use Rattle.history.specs.Table.{Granted};
 ghost use Rattle.history.specs.Legal.{IsLegal};
@@ -7,14 +7,17 @@ ghost use Rattle.history.specs.Locks.{has_table};
 ghost use Rattle.history.specs.declared.call.Call.{Call};
 ghost use Rattle.history.specs.declared.call.Call.TheVariants.{Settle};
 ghost use Rattle.history.specs.declared.call.Reply.{Reply};
-ghost use Rattle.history.specs.declared.call.Reply.TheVariants.{Committed};
+ghost use Rattle.history.specs.declared.key.Key.{Key};
+ghost use Rattle.history.specs.declared.call.Reply.TheVariants.{Committed, Busy};
 ghost use Rattle.history.specs.declared.transaction.Done.{Done};
 ghost use Rattle.caller_steps.specs.State.{State, Index, unoffered, offered, unsettled, opened, records_of};
-ghost use Rattle.caller_steps.specs.Locked.{Blocks};
+ghost use Rattle.caller_steps.specs.Locked.{Blocks, IsFree, IsBusyWith};
+ghost use Rattle.caller_steps.specs.Cause.{is_of_state, refusal_in, ReplyCause};
 ghost use Rattle.caller_steps.specs.Room.{Limits};
+ghost use Rattle.caller_steps.specs.Purging.{AreFree, Lost, Purges};
 ghost use Rattle.caller_steps.specs.Step.{Step, Runs};
 ghost use Rattle.caller_steps.specs.Sound.{IsCommittedAs, IsSound};
-ghost use Rattle.caller_steps.specs.Fate.{Moves, is_of_array, may_come_held};
+ghost use Rattle.caller_steps.specs.Fate.{Moves, is_refusal, is_by_chance, may_come_held};
 ghost use Rattle.caller_steps.specs.Core.{IsSafe, Steps, Continues};
 ghost use Rattle.caller_steps.specs.Offers.{offerers, group_in, group_end, group_done, group_writes, committed_group, doubted_group};
 
@@ -49,10 +52,10 @@ pub fn locks_come_first()
         → Step limits old caller call reply new → new ≡ old }
 {}
 
-/// Two replies to one call in one state are equal, except for those of an array that is full or fails, for the count of a purge, and for
-/// `NoMemory`.
+/// Two replies to one call in one state are equal, also those of an array that is full, except for a fault of the medium, the count of a
+/// purge, and `NoMemory`.
 pub fn each_call_has_one_reply()
-    ensures { (limits : Limits) (old : State) (caller : ℕ) (call : Call) (one other : Reply) (new next : State) → IsFalse (is_of_array one) → IsFalse (is_of_array other)
+    ensures { (limits : Limits) (old : State) (caller : ℕ) (call : Call) (one other : Reply) (new next : State) → IsFalse (is_by_chance one) → IsFalse (is_by_chance other)
         → Step limits old caller call one new → Step limits old caller call other next → one ≡ other }
 {}
 
@@ -85,4 +88,21 @@ pub fn what_a_settle_commits()
     ensures records { (state : State) (callers : ℕ) → IsSound state
         → records_of (committed_group state (offerers callers state)) ≡ all_written (records_of state) (group_writes state (offerers callers state)) }
     ensures last { (state : State) (last : ℕ) (callers : List ℕ) → All (λ (done : Done). done.last ≡ last) (group_in state last callers) }
+{}
+
+/// What the cause of a reply says, of any core. By `Dead`, `Already`, `NoTransaction`, `NoSave`, `SavesFull` and `NoTable` a call is refused
+/// exactly where the state alone refuses it. A holder is named only if it stands in the way, and it is the lowest: none, where nobody has a
+/// transaction. A call is granted only on a table that is there, and where nobody stands in its way.
+pub fn what_a_cause_says()
+    ensures so { (limits : Limits) (old : State) (caller : ℕ) (call : Call) (refusal reply : Reply) → refusal_in old caller call ≡ Some refusal → ReplyCause limits old caller call reply → reply ≡ refusal }
+    ensures only { (limits : Limits) (old : State) (caller : ℕ) (call : Call) (reply : Reply) → IsTrue (is_of_state reply) → ReplyCause limits old caller call reply → refusal_in old caller call ≡ Some reply }
+    ensures busy { (limits : Limits) (old : State) (caller holder : ℕ) (call : Call) → ReplyCause limits old caller call (Busy holder) → IsBusyWith old caller call holder }
+    ensures nobody { (limits : Limits) (old : State) (caller holder : ℕ) (call : Call) → ((other : ℕ) → old.live other ≡ None) → ReplyCause limits old caller call (Busy holder) → ⊥ }
+    ensures tabled { (limits : Limits) (old : State) (caller : ℕ) (call : Call) (reply : Reply) → IsFalse (is_refusal reply) → ReplyCause limits old caller call reply → IsTrue (has_table old.names call) }
+    ensures free { (limits : Limits) (old : State) (caller : ℕ) (call : Call) (reply : Reply) → IsFalse (is_refusal reply) → ReplyCause limits old caller call reply → IsFree old caller call }
+{}
+
+/// What a purge takes out: so many keys, each without a record and touched by no live transaction. Each that the index had is tried once.
+pub fn what_a_purge_takes_out()
+    ensures lost { (limits : Limits) (old new : State) (n : ℕ) → Purges limits old n new → (keys : List Key) × (n ≡ length keys) × AreFree old keys × Lost old.index keys new.index }
 {}

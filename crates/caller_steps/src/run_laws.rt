@@ -10,11 +10,14 @@ ghost use Rattle.caller_steps.specs.State.{State, Index, unoffered, commits_of};
 ghost use Rattle.caller_steps.specs.Offers.{is_offered};
 ghost use Rattle.caller_steps.specs.Fate.{Stays};
 ghost use Rattle.caller_steps.specs.Room.{Limits};
-ghost use Rattle.caller_steps.specs.Step.{Runs};
+ghost use Rattle.caller_steps.specs.Step.{Runs, RunsShown};
+ghost use Rattle.caller_steps.specs.Core.{Steps};
 ghost use Rattle.caller_steps.specs.Prefix.{Grows};
 ghost use Rattle.caller_steps.specs.Run.{Turn, GoesAlong, AreOf, turns_of, has_fault, has_write, has_purge, HasNoOthers, LastTurn, IsTurn, IsTold};
 ghost use Rattle.caller_steps.specs.Own.{own_of, told_of, calls_among, mine_in, doubt_in, KnowsLive};
 ghost use Rattle.caller_steps.specs.Shown.{AreAsked, Change, gained_in, lost_in, Changed, Shows};
+
+use crate::Core;
 
 /// One run after another is a run, and a run can be cut at any turn. A run of a core that tells its records is one of steps.
 pub fn runs_join_and_cut()
@@ -93,4 +96,17 @@ pub fn what_an_index_gains()
 pub fn what_reads_leave()
     ensures { (limits : Limits) (first now : State) (turns : List Turn) → Runs limits first turns now → ((caller : ℕ) → first.live caller ≡ None) → IsFalse (has_write turns) → IsFalse now.is_dead
         → now.index ≡ first.index }
+{}
+
+/// What runs say whose states are shown by their data: they are runs, one after another is one, the last state is shown unless it is dead, and
+/// where data tells the index, two that end with the same data end with the same index. A step of a core that tells its records is such a run.
+pub fn what_shown_runs_say<C: Core>()
+    ensures runs { (core : C) (limits : Limits) (first now : State) (turns : List Turn) → RunsShown (C.view core).shows limits first turns now → Runs limits first turns now }
+    ensures join { (core : C) (limits : Limits) (first mid now : State) (xs ys : List Turn) → RunsShown (C.view core).shows limits first xs mid → RunsShown (C.view core).shows limits mid ys now → RunsShown (C.view core).shows limits first (xs ++ ys) now }
+    ensures end { (core : C) (limits : Limits) (first now : State) (turns : List Turn) → (IsFalse first.is_dead → (C.view core).shows first) → RunsShown (C.view core).shows limits first turns now → IsFalse now.is_dead → (C.view core).shows now }
+    ensures index { (core : C) (limits : Limits) (of : List ℕ → Index) → ((state : State) → (C.view core).shows state → state.index ≡ of state.index.bytes) → (one other first last : State) (xs ys : List Turn)
+        → (IsFalse first.is_dead → (C.view core).shows first) → (IsFalse last.is_dead → (C.view core).shows last) → RunsShown (C.view core).shows limits first xs one → RunsShown (C.view core).shows limits last ys other
+        → IsFalse one.is_dead → IsFalse other.is_dead → one.index.bytes ≡ other.index.bytes → one.index ≡ other.index }
+    ensures step { (old new : C) (caller : ℕ) (call : Call) (reply : Reply) → IsTrue C.tells → (IsFalse (C.view old).state.is_dead → (C.view old).shows (C.view old).state) → Steps C.tells caller call (C.view old) (C.view new) reply
+        → RunsShown (C.view old).shows (C.view old).limits (C.view old).state ((caller, call, reply) ∷ []) (C.view new).state }
 {}

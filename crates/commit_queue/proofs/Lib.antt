@@ -8,3 +8,4 @@ pub mod Alike
 pub mod Groups
 pub mod Counting
 pub mod Whole
+pub mod RowBytes

@@ -1,3 +1,4 @@
 pub mod Queue
 pub mod Between
 pub mod Deferred
+pub mod Rows

@@ -12,7 +12,7 @@ use Rattle.array_shape.specs.Logged.{Part, applied, places_of}
 use Rattle.row_bytes.specs.declared.ballot.Ballot.{Ballot}
 use Rattle.row_bytes.specs.Ballots.{has_row}
 use Rattle.array_image.specs.Decided.{orders}
-use Rattle.array_image.specs.Image.{data_of, parts_from, row_of}
+use Rattle.array_image.specs.Image.{data_of, parts_from}
 use Rattle.array_image.specs.Joined.{joined}
 use Rattle.array_image.specs.Standing.{AllSettled, IsEither, SameCells, StandsFor}
 use Rattle.array_image.specs.Votes.{votes_of}
@@ -21,14 +21,17 @@ use Rattle.array_image.proofs.Joined.{joined_same}
 use Rattle.array_image.proofs.Frames.{data_cells, torn_cells}
 use Rattle.commit_queue.specs.Queue.{Commit, IsWritten, named_at, queue_parts}
 use Rattle.commit_queue.specs.Between.{bodies_of, IsAtRest, IsHeld, IsJoining, IsLeaving}
+use Rattle.commit_queue.specs.Rows.{bytes_of}
 use Rattle.commit_queue.proofs.Between.{bodies_cells, bodies_free, data_quiet, free_quiet}
 use Rattle.commit_queue.proofs.Moments.{written_placed}
 use Rattle.commit_queue.proofs.Resting.{rest_held, rest_unvoted, joined_at_rest, left_at_rest}
 use Rattle.commit_queue.proofs.Whole.{names_written, rows_time, joining, votes_time, parts_time, leaving, clearing_time}
 use Rattle.coordinator.specs.declared.cells.Cells.{Cells}
-use Rattle.coordinator.specs.Commits.{AreGood, AreThere, MayJoin, Names, Says, cells_in, commit_of, commit_with, number_parts, parts_named}
+use Rattle.coordinator.specs.Commits.{AreGood, AreThere, MayJoin, Names, cells_in, commit_of, commit_with, number_parts, parts_named}
 use Rattle.coordinator.specs.Places.{commit_places, row_places}
+use Rattle.coordinator.specs.Rows.{HasVote, Says}
 use Rattle.coordinator.proofs.Applying.{parts_placed}
+use Rattle.coordinator.proofs.RowBytes.{says_commit, vote_said}
 use Rattle.coordinator.proofs.Placing.{bodies_within, votes_within, rows_in_all_places, parts_in_all_places}
 
 pub same_cells_then : (shape : Shape) (a b c : List ℕ) → SameCells shape a b → SameCells shape b c → SameCells shape a c
@@ -52,11 +55,11 @@ order_fits n lt = lt
 -- the rows say what the commit is
 pub record Prepared (tells : Bool) (shape : Shape) (ballot : Ballot) (cells : List Cells) (base now : View) : Type 0 where
   pub does : SoFar tells (bodies_of shape (has_row ballot)) base now
-  pub names : IsTrue tells → (now.content.unsettled ≡ []) × ((g t : ℕ) → g < shape.loggers → t < shape.numbers → has_row ballot g t ≡ true → Says ballot cells g t (row_of shape now.content.bytes g t))
+  pub names : IsTrue tells → (now.content.unsettled ≡ []) × ((g t : ℕ) → g < shape.loggers → t < shape.numbers → has_row ballot g t ≡ true → Says ballot cells g t (bytes_of shape now.content.bytes g t))
 
 -- all votes are cast, or all cleared
 abbrev pub AreVotes : Shape → Ballot → Bool → List ℕ → Type 0
-AreVotes shape ballot voted image = (g t : ℕ) → g < shape.loggers → t < shape.numbers → has_row ballot g t ≡ true → (row_of shape image g t).voted ≡ voted
+AreVotes shape ballot voted image = (g t : ℕ) → g < shape.loggers → t < shape.numbers → has_row ballot g t ≡ true → HasVote voted (bytes_of shape image g t)
 
 -- the parts are in the data
 pub record Installed (tells : Bool) (shape : Shape) (ballot : Ballot) (cells : List Cells) (base now : View) : Type 0 where
@@ -86,13 +89,13 @@ module _ (tells : Bool) (shape : Shape) (ballot : Ballot) (cells : List Cells) (
     kept = λ told. bodies_cells shape (has_row ballot) base.content.bytes now.content.bytes (call.touched told).bytes;
   }
 
-  module _ (fits : ballot.order < 2 ^ 16) (good : IsTrue tells → AreGood shape base.content.bytes ballot cells) (one : View) (prepared : Prepared tells shape ballot cells base one) where
+  module _ (small : ballot.group < 2 ^ 64) (fits : ballot.order < 2 ^ 16) (good : IsTrue tells → AreGood shape base.content.bytes ballot cells) (one : View) (prepared : Prepared tells shape ballot cells base one) where
     prepared_does : (let done : Result (Unit {0}) (Unit {0}) = Ok tt in Decides one done)
     prepared_does = let done : Result (Unit {0}) (Unit {0}) = Ok tt in in_rows done one prepared.does
 
     its_rows_written : IsTrue tells → IsWritten shape one.content.bytes c
     its_rows_written told = names_written shape base.content.bytes one.content.bytes c (prepared.does.touched told).bytes there.small_mask there.small_group
-        (λ g t lt lt' has. let says = (prepared.names told).1 g t lt lt' has in (says.ballot_is, says.first_is, says.count_is)) there.fit (good told) refl
+        (λ g t lt lt' has. says_commit shape ballot cells there small fits g t (bytes_of shape one.content.bytes g t) lt lt' has ((prepared.names told).1 g t lt lt' has)) there.fit (good told) refl
 
     module _ (told : IsTrue tells) (queue : List Commit) (b : List ℕ) (rest : IsAtRest shape queue b base.content) (may : MayJoin shape queue ballot) where
       held : IsHeld shape queue b base.content
@@ -107,7 +110,7 @@ module _ (tells : Bool) (shape : Shape) (ballot : Ballot) (cells : List Cells) (
       pub at_end : (now : View) → Touched votes one.content now.content → (now.content.unsettled ≡ []) × AreVotes shape ballot true now.content.bytes → IsAtRest shape (queue ++ c ∷ []) b now.content
       at_end now touched voted =
           let quiet = free_quiet shape queue b (has_row ballot) rows (bodies_free shape queue (has_row ballot)) base.content.bytes one.content.bytes (prepared.does.touched told).bytes (rest base.content.bytes (left_as_read base.content)).quiet in
-          joined_at_rest shape queue c b one.content now.content join quiet touched (all_settled now.content voted.0) voted.1
+          joined_at_rest shape queue c b one.content now.content join quiet touched (all_settled now.content voted.0) (λ g t lt lt' has. vote_said true (bytes_of shape now.content.bytes g t) (voted.1 g t lt lt' has))
 
     pub in_votes : {T E : Type 0} (r : Result T E) (now : View) → Writes tells votes one now r → Decides now r
     in_votes r now call = record {
@@ -197,7 +200,7 @@ module _ (tells : Bool) (shape : Shape) (ballot : Ballot) (cells : List Cells) (
           let quiet = data_quiet shape (oldest ∷ queue) base.content.bytes one.content.bytes oldest.parts placed (rest base.content.bytes (left_as_read base.content)).quiet touched.bytes in
           left_at_rest shape queue oldest (applied oldest.parts b) one.content now.content leave quiet
           (subst (λ vs. Touched vs one.content now.content) (same_votes told queue oldest b names rest) voting) (all_settled now.content voted.0)
-          (λ g t lt lt' has. voted.1 g t lt lt' (sym (ap (λ (b' : Ballot). has_row b' g t) names.ballot_is) ∙ has))
+          (λ g t lt lt' has. vote_said false (bytes_of shape now.content.bytes g t) (voted.1 g t lt lt' (sym (ap (λ (b' : Ballot). has_row b' g t) names.ballot_is) ∙ has)))
 
     pub in_clearing : {T E : Type 0} (r : Result T E) (now : View) → Writes tells its_votes one now r → WritesBack now r
     in_clearing r now call = record {

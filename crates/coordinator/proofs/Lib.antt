@@ -3,6 +3,7 @@ pub mod Costing
 pub mod Absent
 pub mod Applying
 pub mod Placing
+pub mod RowBytes
 pub mod Committing
 pub mod Masks
 pub mod Members

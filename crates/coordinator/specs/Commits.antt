@@ -3,9 +3,8 @@ use Rattle.std.specs.Prelude.{ℕ, ◌≡◌, ◌+◌, ◌*◌, ◌^◌, ◌<◌
 use Rattle.array_shape.specs.declared.shape.Shape.{Shape}
 use Rattle.array_shape.specs.Logged.{Part}
 use Rattle.row_bytes.specs.declared.ballot.Ballot.{Ballot}
-use Rattle.row_bytes.specs.declared.row.Row.{Row}
 use Rattle.array_shape.specs.NumberSet.{has}
-use Rattle.row_bytes.specs.Ballots.{ballot_of, has_row}
+use Rattle.row_bytes.specs.Ballots.{has_row}
 use Rattle.array_image.specs.Joined.{joined}
 use Rattle.array_image.specs.Image.{cell_of, IsGoodCell}
 use Rattle.commit_queue.specs.Queue.{Commit, Each, named_at, named_parts, some_has}
@@ -47,12 +46,6 @@ takes_part shape cells group g = any_below shape.numbers (λ t. has group t && n
 pub record IsMaskOf (loggers : ℕ) (test : ℕ → Bool) (mask : ℕ) : Type 0 where
   pub small : mask < 2 ^ loggers
   pub is : (g : ℕ) → g < loggers → has mask g ≡ test g
-
--- a row says what the commit is at logger g for number t, but for the vote
-pub record Says (ballot : Ballot) (cells : List Cells) (g t : ℕ) (row : Row) : Type 0 where
-  pub ballot_is : ballot_of t row ≡ ballot
-  pub first_is : row.first ≡ (cells_in cells g t).first
-  pub count_is : row.count ≡ (cells_in cells g t).count
 
 -- the ballot has only loggers and numbers of the array, and its rows name cells that exist
 pub record AreThere (shape : Shape) (ballot : Ballot) (cells : List Cells) : Type 0 where

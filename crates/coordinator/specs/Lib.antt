@@ -1,3 +1,4 @@
 pub mod Commits
+pub mod Rows
 pub mod Costs
 pub mod Places

@@ -1,15 +1,18 @@
 // A commit: the rows, the votes, the parts into the data, the votes cleared, each followed by a barrier.
-ghost use Rattle.std.specs.Prelude.{◌≡◌, ◌+◌, ◌<◌, [], ◌∷◌, ◌++◌, ℕ, List, Ok, IsTrue, OnOk, true};
+ghost use Rattle.std.specs.Prelude.{◌≡◌, ◌+◌, ◌<◌, [], ◌∷◌, ◌++◌, ℕ, List, Ok, IsTrue, OnOk, true, false};
 ghost use Rattle.mars_base.specs.Costs.{Costs};
 ghost use Rattle.pcm_media.specs.View.{View, LeavesOnly, Writes};
 ghost use Rattle.array_shape.specs.Places.{media_len};
 ghost use Rattle.array_shape.specs.Logged.{applied};
+ghost use Rattle.row_bytes.specs.Ballots.{has_row};
 ghost use Rattle.array_image.specs.Standing.{IsEither, SameCells, StandsFor};
 ghost use Rattle.commit_queue.specs.Queue.{Commit, queue_parts};
 ghost use Rattle.commit_queue.specs.Between.{IsAtRest};
+ghost use Rattle.commit_queue.specs.Rows.{HasRowBytes, bytes_of, with_votes};
 ghost use Rattle.coordinator.specs.Commits.{AreGood, AreThere, MayJoin, Names, commit_of, parts_named};
 ghost use Rattle.coordinator.specs.Costs.{commit_calls, decide_calls, write_back_calls};
 ghost use Rattle.coordinator.specs.Places.{commit_places, row_places};
+ghost use Rattle.coordinator.specs.Rows.{with_rows};
 
 use crate::cells::Cells;
 use crate::phases::{install, put_rows, set_votes};
@@ -35,6 +38,8 @@ pub fn commit<M: Media>(
         LeavesOnly (IsEither shape.now bytes (applied (parts_named shape.now (M.view media.old).content.bytes ballot cells.now) bytes)) (M.view media.old) (M.view media.new) }
     ensures committed { IsTrue M.tells → (bytes : List ℕ) → IsAtRest shape.now [] bytes (M.view media.old).content →
         OnOk result (IsAtRest shape.now [] (applied (parts_named shape.now (M.view media.old).content.bytes ballot cells.now) bytes) (M.view media.new).content) }
+    // The bytes of its rows then: the group of a number alone is 0, and the vote is 0 again. No other row changes.
+    ensures rows { IsTrue M.tells → OnOk result (HasRowBytes shape.now (M.view media.new).content.bytes (with_rows ballot cells.now false (bytes_of shape.now (M.view media.old).content.bytes))) }
     ensures cells { IsTrue M.tells → SameCells shape.now (M.view media.old).content.bytes (M.view media.new).content.bytes }
     ensures costs { Costs M.tells (commit_calls shape.now ballot cells.now) (M.view media.old).moment (M.view media.new).moment result }
     ensures does { Writes M.tells (commit_places shape.now (M.view media.old).content.bytes ballot cells.now) (M.view media.old) (M.view media.new) result }
@@ -63,6 +68,8 @@ pub fn decide<M: Media>(
         LeavesOnly (IsEither shape.now before (applied (parts_named shape.now (M.view media.old).content.bytes ballot cells.now) before)) (M.view media.old) (M.view media.new)) }
     ensures joined { IsTrue M.tells → (queue : List Commit) (bytes : List ℕ) → IsAtRest shape.now queue bytes (M.view media.old).content → MayJoin shape.now queue ballot →
         OnOk result (IsAtRest shape.now (queue ++ commit_of shape.now (M.view media.old).content.bytes ballot cells.now ∷ []) bytes (M.view media.new).content) }
+    // The bytes of its rows then, which are voted. No other row changes.
+    ensures rows { IsTrue M.tells → OnOk result (HasRowBytes shape.now (M.view media.new).content.bytes (with_rows ballot cells.now true (bytes_of shape.now (M.view media.old).content.bytes))) }
     ensures cells { IsTrue M.tells → SameCells shape.now (M.view media.old).content.bytes (M.view media.new).content.bytes }
     ensures costs { Costs true (decide_calls shape.now ballot) (M.view media.old).moment (M.view media.new).moment result }
     ensures does { Writes M.tells (row_places shape.now ballot) (M.view media.old) (M.view media.new) result }
@@ -86,6 +93,8 @@ pub fn write_back<M: Media>(
         LeavesOnly (λ image. StandsFor shape.now image (applied (queue_parts (oldest ∷ queue)) bytes)) (M.view media.old) (M.view media.new) }
     ensures left { IsTrue M.tells → (queue : List Commit) (oldest : Commit) (bytes : List ℕ) → Names shape.now ballot cells.now oldest → IsAtRest shape.now (oldest ∷ queue) bytes (M.view media.old).content →
         OnOk result (IsAtRest shape.now queue (applied oldest.parts bytes) (M.view media.new).content) }
+    // The vote bytes of its rows are 0 then, and no other byte of a row changes.
+    ensures rows { IsTrue M.tells → OnOk result (HasRowBytes shape.now (M.view media.new).content.bytes (with_votes (has_row ballot) false (bytes_of shape.now (M.view media.old).content.bytes))) }
     ensures cells { IsTrue M.tells → SameCells shape.now (M.view media.old).content.bytes (M.view media.new).content.bytes }
     ensures costs { Costs M.tells (write_back_calls shape.now ballot cells.now) (M.view media.old).moment (M.view media.new).moment result }
     ensures does { Writes M.tells (commit_places shape.now (M.view media.old).content.bytes ballot cells.now) (M.view media.old) (M.view media.new) result }

@@ -7,12 +7,14 @@ ghost use Rattle.array_shape.specs.Places.{media_len};
 ghost use Rattle.array_shape.specs.Logged.{applied, places_of};
 ghost use Rattle.array_shape.specs.NumberSet.{has};
 ghost use Rattle.row_bytes.specs.Ballots.{has_row};
-ghost use Rattle.array_image.specs.Image.{row_of, data_of};
+ghost use Rattle.array_image.specs.Image.{data_of};
 ghost use Rattle.array_image.specs.Votes.{votes_of};
 ghost use Rattle.commit_queue.specs.Between.{bodies_of};
-ghost use Rattle.coordinator.specs.Commits.{AreGood, AreThere, Says, number_parts, parts_named};
+ghost use Rattle.commit_queue.specs.Rows.{bytes_of};
+ghost use Rattle.coordinator.specs.Commits.{AreGood, AreThere, number_parts, parts_named};
 ghost use Rattle.coordinator.specs.Costs.{parts_at, parts_in_all, rows_at, rows_in_all};
 ghost use Rattle.coordinator.specs.Places.{bodies_at, votes_at};
+ghost use Rattle.coordinator.specs.Rows.{HasVote, Says};
 
 use crate::cells::{Cells, cells_in};
 use array_shape::{NumberSet, Shape};
@@ -34,7 +36,7 @@ pub(crate) fn put_rows<M: Media>(
     ensures costs { Costs true (rows_in_all shape.now ballot + 1) (M.view media.old).moment (M.view media.new).moment result }
     ensures does { Writes M.tells (bodies_of shape.now (has_row ballot)) (M.view media.old) (M.view media.new) result }
     ensures names { IsTrue M.tells → OnOk result (((M.view media.new).content.unsettled ≡ []) × ((g t : ℕ) → g < shape.now.loggers → t < shape.now.numbers → has_row ballot g t ≡ true
-        → Says ballot cells.now g t (row_of shape.now (M.view media.new).content.bytes g t))) }
+        → Says ballot cells.now g t (bytes_of shape.now (M.view media.new).content.bytes g t))) }
 {
     for tid in group_of(ballot).members() {
         put_rows_of(media, shape, ballot, cells, tid)?;
@@ -57,7 +59,7 @@ fn put_rows_of<M: Media>(
     ensures costs { Costs true (rows_at shape.now ballot tid) (M.view media.old).moment (M.view media.new).moment result }
     ensures does { Writes M.tells (bodies_at shape.now ballot tid) (M.view media.old) (M.view media.new) result }
     ensures names { IsTrue M.tells → OnOk result ((g : ℕ) → g < shape.now.loggers → has_row ballot g tid ≡ true
-        → Says ballot cells.now g tid (row_of shape.now (M.view media.new).content.bytes g tid)) }
+        → Says ballot cells.now g tid (bytes_of shape.now (M.view media.new).content.bytes g tid)) }
 {
     for number in mask_of(ballot).members() {
         let Cells { first, count } = cells_in(cells, number, tid);
@@ -80,7 +82,7 @@ pub(crate) fn set_votes<M: Media>(
     ensures costs { Costs true (rows_in_all shape.now ballot + 1) (M.view media.old).moment (M.view media.new).moment result }
     ensures does { Writes M.tells (votes_of shape.now (has_row ballot)) (M.view media.old) (M.view media.new) result }
     ensures votes { IsTrue M.tells → OnOk result (((M.view media.new).content.unsettled ≡ []) × ((g t : ℕ) → g < shape.now.loggers → t < shape.now.numbers → has_row ballot g t ≡ true
-        → (row_of shape.now (M.view media.new).content.bytes g t).voted ≡ voted)) }
+        → HasVote voted (bytes_of shape.now (M.view media.new).content.bytes g t))) }
 {
     for tid in group_of(ballot).members() {
         set_votes_of(media, shape, ballot, tid, voted)?;
@@ -103,7 +105,7 @@ fn set_votes_of<M: Media>(
     ensures costs { Costs true (rows_at shape.now ballot tid) (M.view media.old).moment (M.view media.new).moment result }
     ensures does { Writes M.tells (votes_at shape.now ballot tid) (M.view media.old) (M.view media.new) result }
     ensures votes { IsTrue M.tells → OnOk result ((g : ℕ) → g < shape.now.loggers → has_row ballot g tid ≡ true
-        → (row_of shape.now (M.view media.new).content.bytes g tid).voted ≡ voted) }
+        → HasVote voted (bytes_of shape.now (M.view media.new).content.bytes g tid)) }
 {
     for number in mask_of(ballot).members() {
         Logger::new(*shape, number).set_vote(media, tid, voted)?;

@@ -13,3 +13,4 @@ pub mod Totals
 pub mod OrderSums
 pub mod Moments
 pub mod Phases
+pub mod Zeroing

@@ -1,10 +1,11 @@
 -- What recovery finds, says and writes.
-use Rattle.std.specs.Prelude.{ℕ, ◌≡◌, ◌+◌, ◌*◌, ◌/◌, ◌%◌, ◌<◌, Bool, true, false, not, nat_eq, if◌then◌else◌, List, [], ◌∷◌, ◌++◌, length, map, sum}
+use Rattle.std.specs.Prelude.{ℕ, ◌≡◌, ◌+◌, ◌*◌, ◌/◌, ◌%◌, ◌<◌, ◌⊎◌, Bool, true, false, not, nat_eq, if◌then◌else◌, List, [], ◌∷◌, ◌++◌, length, map, sum, slice_index}
 use Rattle.std.specs.List.{range_with_len}
 use Rattle.mars_base.specs.Bytes.{range}
 use Rattle.mars_base.specs.Check.{Check, test, unless, each}
 use Rattle.pcm_media.specs.Images.{Content, MayLeave}
 use Rattle.array_shape.specs.declared.shape.Shape.{Shape}
+use Rattle.array_shape.specs.Places.{row_at}
 use Rattle.array_image.specs.Joined.{joined}
 use Rattle.array_shape.specs.Logged.{places_of}
 use Rattle.array_image.specs.Image.{row_of}
@@ -49,6 +50,10 @@ dropped_rows shape image = at_rows shape (dropped shape image) row_name
 -- no row is voted
 abbrev pub HasNoVote : Shape → List ℕ → Type 0
 HasNoVote shape image = (g t : ℕ) → g < shape.loggers → t < shape.numbers → (row_of shape image g t).voted ≡ false
+
+-- the vote byte of each row is as it was, or 0
+abbrev pub OnlyCleared : Shape → List ℕ → List ℕ → Type 0
+OnlyCleared shape old new = (g t : ℕ) → g < shape.loggers → t < shape.numbers → (slice_index new (row_at shape g t) ≡ slice_index old (row_at shape g t)) ⊎ (slice_index new (row_at shape g t) ≡ 0)
 
 -- how many calls of the medium recovery makes if no row is voted: a barrier, and a read of each row
 abbrev pub quiet_calls : Shape → ℕ

@@ -1,16 +1,17 @@
 // Recovery of an array.
-ghost use Rattle.std.specs.Prelude.{◌≡◌, ◌+◌, ◌<◌, ◌≤◌, ◌⊎◌, [], ℕ, List, true, Some, None, IsTrue, IfOk, IfErr, OnOk, OnErr};
+ghost use Rattle.std.specs.Prelude.{◌≡◌, ◌+◌, ◌<◌, ◌≤◌, ◌⊎◌, [], ℕ, List, true, false, Some, None, IsTrue, IfOk, IfErr, OnOk, OnErr};
 ghost use Rattle.mars_base.specs.Costs.{Costs};
 ghost use Rattle.pcm_media.specs.Images.{MayLeave, Touched};
 ghost use Rattle.pcm_media.specs.View.{View, LeavesOnly, Writes};
 ghost use Rattle.array_shape.specs.Places.{media_len};
-ghost use Rattle.array_image.specs.Image.{data_of};
+ghost use Rattle.array_image.specs.Image.{data_of, row_of};
 ghost use Rattle.array_image.specs.Decided.{settled_data};
 ghost use Rattle.array_image.specs.Standing.{AllSettled, IsLawful};
 ghost use Rattle.commit_queue.specs.Between.{IsAtRest};
+ghost use Rattle.commit_queue.specs.Rows.{HasRowBytes, bytes_of, with_votes};
 ghost use Rattle.device_recovery.specs.Table.{row_in, settle_calls, RowsAre, decided_in};
 ghost use Rattle.pcm_media.specs.Answer.{media_answer};
-ghost use Rattle.device_recovery.specs.Recovered.{rows_good, HasNoVote, Counts, cells_named, recovery_calls, quiet_calls, KeepsSense, SettlesLike, recovered_places, is_of_media};
+ghost use Rattle.device_recovery.specs.Recovered.{rows_good, HasNoVote, OnlyCleared, Counts, cells_named, recovery_calls, quiet_calls, KeepsSense, SettlesLike, recovered_places, is_of_media};
 ghost use Rattle.device_recovery.specs.declared.report.RecoverFault.TheVariants.{BadRow};
 
 use crate::checking::check_rows;
@@ -35,6 +36,8 @@ pub fn recover<M: Media>(media: &mut M, shape: &Shape) -> Result<Report, Recover
     // Whatever the bytes were, the data is then what they settle to, and no vote is left.
     ensures clean { IsTrue M.tells → OnOk result (IsAtRest shape.now [] (settled_data shape.now (M.view media.old).content.bytes) (M.view media.new).content) }
     ensures settled { IsTrue M.tells → OnOk result (data_of shape.now (M.view media.new).content.bytes ≡ settled_data shape.now (M.view media.old).content.bytes) }
+    // The vote bytes of the rows that were voted are 0 then, and nothing else in a row changes.
+    ensures rows { IsTrue M.tells → OnOk result (HasRowBytes shape.now (M.view media.new).content.bytes (with_votes (λ g t. (row_of shape.now (M.view media.old).content.bytes g t).voted) false (bytes_of shape.now (M.view media.old).content.bytes))) }
     ensures counts { IsTrue M.tells → IfOk result (Counts shape.now (M.view media.old).content.bytes) }
     ensures sure { IsTrue M.tells → OnOk result (AllSettled (M.view media.new).content) }
     // It succeeds only if each decided row is good. The row that it refuses is the first one that is not good.
@@ -86,6 +89,8 @@ fn settle<M: Media>(media: &mut M, shape: &Shape, rows: &[Row; ROWS_MAX]) -> Res
     ensures clean { IsTrue M.tells → OnOk result (IsAtRest shape.now [] (settled_data shape.now (M.view media.old).content.bytes) (M.view media.new).content) }
     ensures settled { IsTrue M.tells → OnOk result (data_of shape.now (M.view media.new).content.bytes ≡ settled_data shape.now (M.view media.old).content.bytes) }
     ensures sure { IsTrue M.tells → OnOk result (AllSettled (M.view media.new).content) }
+    ensures zeros { IsTrue M.tells → OnOk result (OnlyCleared shape.now (M.view media.old).content.bytes (M.view media.new).content.bytes) }
+    ensures unvoted { IsTrue M.tells → OnOk result (HasNoVote shape.now (M.view media.new).content.bytes) }
     ensures costs { Costs M.tells (settle_calls shape.now rows.now) (M.view media.old).moment (M.view media.new).moment result }
     ensures any_moment { IsTrue M.tells → IsLawful shape.now (M.view media.old).content.bytes → LeavesOnly (SettlesLike shape.now (M.view media.old).content.bytes) (M.view media.old) (M.view media.new) }
     ensures does { Writes M.tells (recovered_places shape.now (M.view media.old).content.bytes) (M.view media.old) (M.view media.new) result }

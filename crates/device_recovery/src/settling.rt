@@ -11,7 +11,7 @@ ghost use Rattle.array_image.specs.Standing.{AllSettled, IsSettled, IsRecovering
 ghost use Rattle.array_image.specs.Votes.{votes_of};
 ghost use Rattle.device_recovery.specs.Table.{row_in, cells_in_order, rows_in_order, RowsAre, RowsLeft, decided_in, is_one_of};
 ghost use Rattle.device_recovery.specs.declared.which.Which.TheVariants.{Dropped};
-ghost use Rattle.device_recovery.specs.Recovered.{rows_good, HasNoVote, SettlesTo, apply_calls, at_rows, clear_calls, row_name, total};
+ghost use Rattle.device_recovery.specs.Recovered.{rows_good, HasNoVote, OnlyCleared, SettlesTo, apply_calls, at_rows, clear_calls, row_name, total};
 
 use crate::rows::{nth_row, row_count};
 use crate::table::{ROWS_MAX, is_one_of, next_order, row_in};
@@ -99,6 +99,7 @@ pub(crate) fn drop_votes<M: Media>(
     requires sure { IsTrue M.tells → AllSettled (M.view media.old).content }
     requires rows { IsTrue M.tells → RowsAre shape.now (M.view media.old).content.bytes shape.now.numbers rows.now }
     ensures left { IsTrue M.tells → OnOk result (AllSettled (M.view media.new).content × RowsLeft shape.now (M.view media.new).content.bytes rows.now 0) }
+    ensures zeros { IsTrue M.tells → OnOk result (OnlyCleared shape.now (M.view media.old).content.bytes (M.view media.new).content.bytes) }
     ensures costs { Costs true (clear_calls (length (at_rows shape.now (is_one_of shape.now rows.now Dropped) row_name))) (M.view media.old).moment (M.view media.new).moment result }
     ensures does { Writes M.tells (votes_of shape.now (is_one_of shape.now rows.now Dropped)) (M.view media.old) (M.view media.new) result }
 {
@@ -133,6 +134,7 @@ pub(crate) fn clear_decided<M: Media>(
     requires sure { IsTrue M.tells → AllSettled (M.view media.old).content }
     requires left { IsTrue M.tells → RowsLeft shape.now (M.view media.old).content.bytes rows.now 0 }
     ensures cleared { IsTrue M.tells → OnOk result (AllSettled (M.view media.new).content × HasNoVote shape.now (M.view media.new).content.bytes) }
+    ensures zeros { IsTrue M.tells → OnOk result (OnlyCleared shape.now (M.view media.old).content.bytes (M.view media.new).content.bytes) }
     ensures any_moment { IsTrue M.tells → (bytes : List ℕ) → IsRecovering shape.now bytes (M.view media.old).content
         → LeavesOnly (SettlesTo shape.now bytes (range (M.view media.old).content.bytes 0 512)) (M.view media.old) (M.view media.new) }
     ensures costs { Costs true (total (λ o. clear_calls (rows_in_order shape.now rows.now o)) orders) (M.view media.old).moment (M.view media.new).moment result }
@@ -156,6 +158,7 @@ fn clear_votes<M: Media>(
     requires size { (M.view media.old).size ≡ media_len shape.now }
     ensures cleared { IsTrue M.tells → OnOk result (AllSettled (M.view media.new).content × ((g t : ℕ) → g < shape.now.loggers → t < shape.now.numbers → is_one_of shape.now rows.now which g t ≡ true
         → (row_of shape.now (M.view media.new).content.bytes g t).voted ≡ false)) }
+    ensures zeros { IsTrue M.tells → OnOk result (OnlyCleared shape.now (M.view media.old).content.bytes (M.view media.new).content.bytes) }
     ensures costs { Costs true (length (at_rows shape.now (is_one_of shape.now rows.now which) row_name) + 1) (M.view media.old).moment (M.view media.new).moment result }
     ensures does { Writes M.tells (votes_of shape.now (is_one_of shape.now rows.now which)) (M.view media.old) (M.view media.new) result }
 {

@@ -17,10 +17,10 @@ use Rattle.array_image.proofs.Joined.{joined_one}
 use Rattle.coordinator.specs.declared.cells.Cells.{Cells}
 use Rattle.coordinator.specs.Commits.{cells_in, takes_part}
 use Rattle.eaw_face.specs.State.{count_on}
-use Rattle.deferred_parts.specs.declared.entry.Entry.{Entry}
+use Rattle.write_back.specs.declared.entry.Entry.{Entry}
 use Rattle.eaw_device.specs.declared.log.Log.{Log}
 use Rattle.eaw_device.specs.Logs.{IsKept, IsHeld}
-use Rattle.deferred_parts.specs.Entries.{ranges_in, parts_in, cells_on}
+use Rattle.write_back.specs.Entries.{ranges_in, parts_in, cells_on}
 use Rattle.eaw_device.specs.Costs.{loggers_with}
 use Rattle.eaw_device.specs.Groups.{HaveCells, HaveEntries, HaveParts, group_count}
 use Rattle.eaw_device.proofs.Costing.{behind, ranges_counted}

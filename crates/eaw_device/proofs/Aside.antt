@@ -5,13 +5,13 @@ use Rattle.array_shape.specs.declared.shape.Shape.{Shape}
 use Rattle.array_shape.specs.NumberSet.{has}
 use Rattle.row_bytes.specs.declared.ballot.Ballot.{Ballot}
 use Rattle.coordinator.specs.declared.cells.Cells.{Cells}
-use Rattle.deferred_parts.specs.declared.entry.Entry.{Entry}
+use Rattle.write_back.specs.declared.entry.Entry.{Entry}
 use Rattle.coordinator.specs.Commits.{cells_in}
-use Rattle.deferred_parts.specs.Turns.{has_some}
-use Rattle.late_commits.specs.declared.queue.LateCommits.{LateCommits}
-use Rattle.late_commits.specs.Orders.{behind, due_for_place, with_one_more}
-use Rattle.late_data.specs.Tied.{AreTied}
-use Rattle.late_data.proofs.Tying.{lacks_drop, pushed_lacks}
+use Rattle.write_back.specs.Turns.{has_some}
+use Rattle.write_back.specs.declared.queue.LateCommits.{LateCommits}
+use Rattle.write_back.specs.Orders.{behind, due_for_place, with_one_more}
+use Rattle.write_back.specs.Tied.{AreTied}
+use Rattle.write_back.proofs.Tying.{lacks_drop, pushed_lacks}
 use Rattle.eaw_device.specs.declared.log.Log.{Log}
 use Rattle.eaw_device.specs.Sound.{IsBefore}
 use Rattle.eaw_device.proofs.GroupBits.{has_bit}
@@ -64,7 +64,7 @@ alone_aside shape cells entries ballots old new t group depth is = aside_as shap
 
 -- what waits after one more commit
 more_lacks : (depth : ℕ) (bs : List Ballot) (ballot : Ballot) (t : ℕ) → has ballot.group t ≡ false → has_some bs t ≡ false → has_some (with_one_more depth bs ballot) t ≡ false
-more_lacks depth bs ballot t off lacks = by (nat_eq ballot.mask 0 || nat_eq depth 0)
+more_lacks depth bs ballot t off lacks = by (nat_eq depth 0)
   where
     by : (b : Bool) → has_some (cond b bs (drop (due_for_place depth bs) bs ++ behind (drop (due_for_place depth bs) bs) ballot ∷ [])) t ≡ false
     by true = lacks

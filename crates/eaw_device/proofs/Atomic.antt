@@ -13,6 +13,7 @@ use Rattle.eaw_face.specs.State.{State, Logs, listed, with_log}
 use Rattle.eaw_face.specs.StoreView.{StoreView, IsLive, LeavesOnly}
 use Rattle.eaw_face.specs.Command.{log_write, commit, atomic_write, after}
 use Rattle.eaw_face.specs.Causes.{IsAlive, fit, Cause}
+use Rattle.eaw_face.specs.Sending.{Sending}
 use Rattle.eaw_face.proofs.Mirroring.{sent_then}
 use Rattle.eaw_face.specs.Does.{Becomes, IsEither, Does}
 use Rattle.eaw_face.specs.declared.fault.EawFault.{EawFault}
@@ -92,7 +93,7 @@ module _ (tells : Bool) (Opens : Shape → List ℕ → List ℕ → Type 0) (ol
           done.state told ∙ (λ i. record { bytes = written told i; logs = logs i });
     }
 
-  pub atomic : mid.sending.sent ≡ old.sending.sent → (r : Result (Unit {0}) EawFault) → Does tells (Opens mid.shape) (commit t) mid new r → Does tells (Opens old.shape) (atomic_write t addr bytes) old new r
+  pub atomic : (mid.sending ≡ old.sending) × (old.sending.mirrors ≡ false) → (r : Result (Unit {0}) EawFault) → Does tells (Opens mid.shape) (commit t) mid new r → Does tells (Opens old.shape) (atomic_write t addr bytes) old new r
   atomic still (Ok x) second = record {
     shape = second.shape ∙ first.shape;
     later = omega (arith, first.later, second.later);
@@ -103,7 +104,9 @@ module _ (tells : Bool) (Opens : Shape → List ℕ → List ℕ → Type 0) (ol
     others = λ u other. second.others u other ∙ first.others u other;
     time = time (Ok x) second;
     mirrors = sent_then tells old mid new first.mirrors second.mirrors;
-    one = omega (arith, second.one, still);
+    one = omega (arith, second.one, ap (λ (s : Sending). s.sent) still.0);
+    sends = λ mirrors. absurd (false≢true (sym still.1 ∙ mirrors));
+    refused = tt;
   }
   atomic still (Err (UnknownTid u)) second = absurd (second.cause.1.0 mid_live)
   atomic still (Err (LogFull g h n)) second = absurd second.cause.2
@@ -117,7 +120,9 @@ module _ (tells : Bool) (Opens : Shape → List ℕ → List ℕ → Type 0) (ol
     others = λ u other. second.others u other ∙ first.others u other;
     time = time (Err Media) second;
     mirrors = sent_then tells old mid new first.mirrors second.mirrors;
-    one = omega (arith, second.one, still);
+    one = omega (arith, second.one, ap (λ (s : Sending). s.sent) still.0);
+    sends = tt;
+    refused = second.refused ∙ still.0;
   }
   atomic still (Err Dead) second = absurd (false≢true (sym mid_alive ∙ second.cause))
 
@@ -145,6 +150,8 @@ write_fails tells Opens old new t addr bytes free small fault does = record {
   time = λ told alive. weaker (λ image either. ⊎_elim (λ before. inl before) (λ before. inl before) either) (does.time told alive);
   mirrors = does.mirrors;
   one = does.one;
+  sends = tt;
+  refused = does.refused;
 }
   where
     none : listed (old.ranges t) ≡ []

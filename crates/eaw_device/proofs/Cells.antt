@@ -15,10 +15,10 @@ use Rattle.commit_queue.proofs.Resting.{free_rests, free_at_rest, rest_by_bytes}
 use Rattle.row_bytes.specs.declared.ballot.Ballot.{Ballot}
 use Rattle.commit_queue.specs.Queue.{Commit, Each, NamesCell}
 use Rattle.coordinator.specs.declared.cells.Cells.{Cells}
-use Rattle.late_commits.specs.declared.queue.LateCommits.{LateCommits}
-use Rattle.late_commits.specs.Waiting.{AreWaiting, commits_of, data_with, queue_of}
-use Rattle.late_commits.proofs.Waiting.{rests_again, stands_again}
-use Rattle.late_data.specs.Spared.{AreSpared}
+use Rattle.write_back.specs.declared.queue.LateCommits.{LateCommits}
+use Rattle.write_back.specs.Waiting.{AreWaiting, commits_of, data_with, queue_of}
+use Rattle.write_back.proofs.Waiting.{rests_again, stands_again}
+use Rattle.write_back.specs.Spared.{AreSpared}
 use Rattle.eaw_device.specs.Sound.{IsClean}
 
 -- a place that no cell has is outside the ranges

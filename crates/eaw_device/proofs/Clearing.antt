@@ -11,14 +11,14 @@ use Rattle.array_shape.specs.Logged.{ranges_of}
 use Rattle.array_image.specs.Image.{cell_of}
 use Rattle.array_image.specs.Standing.{SameCells}
 use Rattle.eaw_face.specs.State.{is_one_of, with_each}
-use Rattle.deferred_parts.specs.declared.entry.Entry.{Entry}
+use Rattle.write_back.specs.declared.entry.Entry.{Entry}
 use Rattle.eaw_device.specs.declared.log.Log.{Log}
-use Rattle.late_data.specs.declared.commits.LateData.{LateData}
+use Rattle.write_back.specs.declared.commits.LateData.{LateData}
 use Rattle.eaw_device.specs.Logs.{IsKept, IsHeld, IsCleared, entries_of, entries_at, ranges_logged, parts_logged}
-use Rattle.deferred_parts.specs.Entries.{ranges_in, parts_in, cells_on}
-use Rattle.deferred_parts.specs.Entries.{AreHeld}
-use Rattle.deferred_parts.specs.Shown.{entries_of as kept_entries}
-use Rattle.late_data.specs.Tied.{IsReady, IsTied}
+use Rattle.write_back.specs.Entries.{ranges_in, parts_in, cells_on}
+use Rattle.write_back.specs.Entries.{AreHeld}
+use Rattle.write_back.specs.Shown.{entries_of as kept_entries}
+use Rattle.write_back.specs.Tied.{IsReady, IsTied}
 use Rattle.eaw_device.specs.Sound.{IsBefore, IsInOrder, IsSure, IsSound}
 use Rattle.eaw_device.proofs.Keeping.{length-cells_on_kept}
 use Rattle.eaw_device.proofs.Tables.{found_log, slice_get-set_same, slice_get-set_other, entries_free, others_kept, held_kept}

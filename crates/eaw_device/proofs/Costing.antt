@@ -8,7 +8,7 @@ use Rattle.array_shape.specs.declared.shape.Shape.{Shape}
 use Rattle.eaw_face.specs.State.{count_on}
 use Rattle.eaw_device.specs.declared.log.Log.{Log}
 use Rattle.eaw_device.specs.Logs.{IsKept}
-use Rattle.deferred_parts.specs.Entries.{ranges_in, cells_on}
+use Rattle.write_back.specs.Entries.{ranges_in, cells_on}
 use Rattle.coordinator.specs.Costs.{total}
 use Rattle.array_shape.specs.Places.{IsShape, logger_of}
 use Rattle.eaw_device.proofs.Dealt.{below, below_none, below_more, below_all}

@@ -9,15 +9,15 @@ use Rattle.array_shape.specs.Logged.{Part, ranges_of}
 use Rattle.array_image.specs.Image.{cell_of}
 use Rattle.array_image.specs.Standing.{SameCells}
 use Rattle.eaw_face.specs.State.{listed, with_log}
-use Rattle.deferred_parts.specs.declared.entry.Entry.{Entry}
+use Rattle.write_back.specs.declared.entry.Entry.{Entry}
 use Rattle.eaw_device.specs.declared.log.Log.{Log}
-use Rattle.late_commits.specs.declared.queue.LateCommits.{LateCommits}
-use Rattle.late_data.specs.declared.commits.LateData.{LateData}
+use Rattle.write_back.specs.declared.queue.LateCommits.{LateCommits}
+use Rattle.write_back.specs.declared.commits.LateData.{LateData}
 use Rattle.eaw_device.specs.Logs.{IsKept, IsHeld, entries_at}
-use Rattle.deferred_parts.specs.Entries.{ranges_in, parts_in, cells_on}
-use Rattle.deferred_parts.specs.Entries.{AreHeld}
-use Rattle.deferred_parts.specs.Shown.{entries_of as kept_entries}
-use Rattle.late_data.specs.Tied.{IsReady, IsTied}
+use Rattle.write_back.specs.Entries.{ranges_in, parts_in, cells_on}
+use Rattle.write_back.specs.Entries.{AreHeld}
+use Rattle.write_back.specs.Shown.{entries_of as kept_entries}
+use Rattle.write_back.specs.Tied.{IsReady, IsTied}
 use Rattle.eaw_device.specs.Sound.{IsBefore, IsInOrder, IsSure, IsSound}
 use Rattle.eaw_device.proofs.Entries.{ranges_in-take}
 use Rattle.eaw_device.proofs.Keeping.{length-cells_on_kept, first_few}

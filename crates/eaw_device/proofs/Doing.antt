@@ -18,7 +18,7 @@ use Rattle.eaw_face.specs.Does.{Becomes, IsEither, Does}
 use Rattle.eaw_face.specs.declared.fault.EawFault.{EawFault}
 use Rattle.eaw_face.specs.declared.fault.EawFault.TheVariants.{UnknownTid, LogFull, Media, Dead}
 use Rattle.eaw_device.specs.declared.log.Log.{Log}
-use Rattle.late_data.specs.declared.commits.LateData.{LateData}
+use Rattle.write_back.specs.declared.commits.LateData.{LateData}
 use Rattle.eaw_device.specs.Logs.{IsKept, IsHeld}
 use Rattle.eaw_device.specs.Sound.{IsSound, IsTold, LacksLog, LacksGroup, view_of}
 use Rattle.eaw_device.proofs.Tables.{found_log, live_there}
@@ -45,6 +45,8 @@ module _ (tells : Bool) (Opens : List ℕ → List ℕ → Type 0) (command : Co
     time = time;
     mirrors = mirrors alive;
     one = sent;
+    sends = λ mirrors. absurd (false≢true (sym (still.1 becomes.alive) ∙ mirrors));
+    refused = tt;
   }
 
   -- a command in which the medium failed
@@ -60,6 +62,8 @@ module _ (tells : Bool) (Opens : List ℕ → List ℕ → Type 0) (command : Co
     time = time;
     mirrors = mirrors alive;
     one = sent;
+    sends = tt;
+    refused = still.0;
   }
 
 -- a command that is refused, by a fault other than the medium's
@@ -77,6 +81,8 @@ refused {T} tells Opens command store fault cause other (Err e) is = record {
   time = λ told fine. stays store.moment store.left_since (IsEither Opens store.state.bytes (after command store.state).bytes);
   mirrors = none_sent tells store store refl refl (λ alive. alive) (λ told mirrors alive. refl);
   one = omega arith;
+  sends = tt;
+  refused = refl;
 }
   where
     same : (let r : Result T EawFault = Err e in let s : Result T EawFault = Err Media in r ≡ s) → e ≡ Media

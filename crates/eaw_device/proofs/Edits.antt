@@ -25,20 +25,20 @@ use Rattle.eaw_face.specs.Command.{log_edit}
 use Rattle.eaw_face.specs.Does as face
 use Rattle.eaw_face.specs.declared.fault.EawFault.{EawFault}
 use Rattle.eaw_face.specs.declared.fault.EawFault.TheVariants.{Media}
-use Rattle.deferred_parts.specs.declared.entry.Entry.{Entry}
+use Rattle.write_back.specs.declared.entry.Entry.{Entry}
 use Rattle.eaw_device.specs.declared.log.Log.{Log}
-use Rattle.late_data.specs.declared.commits.LateData.{LateData}
+use Rattle.write_back.specs.declared.commits.LateData.{LateData}
 use Rattle.eaw_device.specs.Opens.{Opens}
 use Rattle.eaw_device.specs.Logs.{IsHeld, entries_at}
-use Rattle.deferred_parts.specs.Entries.{parts_in, cells_on}
+use Rattle.write_back.specs.Entries.{parts_in, cells_on}
 use Rattle.eaw_device.specs.Laws.{alive_shown}
 use Rattle.array_shape.specs.NumberSet.{has}
 use Rattle.row_bytes.specs.declared.ballot.Ballot.{Ballot}
 use Rattle.coordinator.specs.Commits.{cells_in}
-use Rattle.deferred_parts.specs.Turns.{has_some}
-use Rattle.late_data.specs.Spared.{AreSpared}
-use Rattle.late_data.proofs.Sparing.{late_held}
-use Rattle.late_data.proofs.Tying.{or_also}
+use Rattle.write_back.specs.Turns.{has_some}
+use Rattle.write_back.specs.Spared.{AreSpared}
+use Rattle.write_back.proofs.Sparing.{late_held}
+use Rattle.write_back.proofs.Tying.{or_also}
 use Rattle.eaw_device.specs.Sound.{IsSound, shown, view_of}
 use Rattle.eaw_device.proofs.Entries.{cells_on_here, cells_on_past}
 use Rattle.eaw_device.proofs.LogParts.{firsts_same, rests_same, part_in, EachCell, EachIn, each_number, each_cell, each_held, parts_in_same}

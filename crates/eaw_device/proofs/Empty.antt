@@ -7,10 +7,10 @@ use Rattle.array_shape.specs.declared.shape.Shape.{Shape}
 use Rattle.row_bytes.specs.declared.ballot.Ballot.{Ballot}
 use Rattle.array_image.specs.Image.{data_of}
 use Rattle.commit_queue.specs.Between.{IsAtRest}
-use Rattle.late_commits.specs.declared.queue.LateCommits.{LateCommits}
-use Rattle.late_commits.specs.Waiting.{AreWaiting, IsFit, commits_of, data_with}
-use Rattle.late_commits.proofs.Waiting.{data_in}
-use Rattle.deferred_parts.specs.Turns.{has_some}
+use Rattle.write_back.specs.declared.queue.LateCommits.{LateCommits}
+use Rattle.write_back.specs.Waiting.{AreWaiting, IsFit, commits_of, data_with}
+use Rattle.write_back.proofs.Waiting.{data_in}
+use Rattle.write_back.specs.Turns.{has_some}
 use Rattle.eaw_device.specs.declared.log.Log.{Log}
 use Rattle.eaw_device.specs.Sound.{IsBefore, IsClean}
 

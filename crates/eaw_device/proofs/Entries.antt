@@ -7,8 +7,8 @@ use Rattle.std.proofs.lemmas.Nat.{mod_below}
 use Rattle.array_shape.specs.declared.shape.Shape.{Shape}
 use Rattle.array_shape.specs.Places.{logger_of, IsShape}
 use Rattle.eaw_face.specs.State.{is_range_on, count_on}
-use Rattle.deferred_parts.specs.declared.entry.Entry.{Entry}
-use Rattle.deferred_parts.specs.Entries.{ranges_in, cells_on}
+use Rattle.write_back.specs.declared.entry.Entry.{Entry}
+use Rattle.write_back.specs.Entries.{ranges_in, cells_on}
 use Rattle.eaw_device.proofs.Dealt.{below_few, below_all}
 
 -- numbers one after another

@@ -14,7 +14,7 @@ use Rattle.coordinator.specs.Commits.{cells_in}
 use Rattle.eaw_face.specs.State.{listed, count_on}
 use Rattle.eaw_device.specs.declared.log.Log.{Log}
 use Rattle.eaw_device.specs.Logs.{IsKept, IsHeld, entries_of, ranges_logged, parts_logged}
-use Rattle.deferred_parts.specs.Entries.{ranges_in, parts_in}
+use Rattle.write_back.specs.Entries.{ranges_in, parts_in}
 use Rattle.eaw_device.specs.Groups.{HaveCells, HaveParts}
 use Rattle.eaw_device.proofs.Grouping.{group_parts}
 use Rattle.eaw_device.proofs.Costing.{behind}

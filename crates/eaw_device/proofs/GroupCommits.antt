@@ -15,14 +15,14 @@ use Rattle.eaw_face.specs.Does as face
 use Rattle.eaw_face.specs.declared.fault.EawFault.{EawFault}
 use Rattle.eaw_face.specs.declared.fault.EawFault.TheVariants.{Media}
 use Rattle.eaw_device.specs.declared.log.Log.{Log}
-use Rattle.late_data.specs.declared.commits.LateData.{LateData}
+use Rattle.write_back.specs.declared.commits.LateData.{LateData}
 use Rattle.eaw_device.specs.Opens.{Opens}
 use Rattle.eaw_device.specs.Logs.{IsKept, IsCleared, parts_logged}
-use Rattle.late_commits.specs.Steps.{WritesBehind}
-use Rattle.deferred_parts.specs.Entries.{AreHeld}
-use Rattle.deferred_parts.specs.Shown.{entries_of as kept_entries}
-use Rattle.late_commits.specs.Waiting.{AreWaiting, data_with}
-use Rattle.late_data.specs.Tied.{IsReady}
+use Rattle.write_back.specs.Steps.{WritesBehind}
+use Rattle.write_back.specs.Entries.{AreHeld}
+use Rattle.write_back.specs.Shown.{entries_of as kept_entries}
+use Rattle.write_back.specs.Waiting.{AreWaiting, data_with}
+use Rattle.write_back.specs.Tied.{IsReady}
 use Rattle.eaw_device.specs.Laws.{alive_shown}
 use Rattle.eaw_device.specs.Sound.{IsInOrder, IsSound, shown, view_of}
 use Rattle.eaw_device.proofs.Clearing.{group_sound, group_ranges, group_parts_logged}

@@ -22,8 +22,8 @@ use Rattle.commit_queue.specs.Deferred.{any_below}
 use Rattle.coordinator.specs.declared.cells.Cells.{Cells}
 use Rattle.coordinator.specs.Commits.{cells_in, takes_part, parts_named, IsMaskOf, AreThere, AreGood}
 use Rattle.coordinator.specs.Costs.{total, decide_calls, write_back_calls, commit_calls}
-use Rattle.deferred_parts.specs.declared.entry.Entry.{Entry}
-use Rattle.late_data.specs.Tied.{HasNamed}
+use Rattle.write_back.specs.declared.entry.Entry.{Entry}
+use Rattle.write_back.specs.Tied.{HasNamed}
 use Rattle.eaw_device.specs.Groups.{HaveCells, HaveEntries, HaveParts, group_count}
 
 -- the parts in the cells of number t at logger g, if the group has the number

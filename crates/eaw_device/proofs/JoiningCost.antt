@@ -7,12 +7,12 @@ use Rattle.row_bytes.specs.declared.ballot.Ballot.{Ballot}
 use Rattle.row_bytes.specs.Ballots.{has_row}
 use Rattle.coordinator.specs.declared.cells.Cells.{Cells}
 use Rattle.coordinator.specs.Commits.{IsMaskOf, cells_in, takes_part}
-use Rattle.coordinator.specs.Costs.{commit_calls, decide_calls, parts_at, parts_in_all}
-use Rattle.deferred_parts.specs.Turns.{has_some}
-use Rattle.late_commits.specs.declared.queue.LateCommits.{LateCommits}
-use Rattle.late_commits.specs.Costs.{calls_back, late_calls}
-use Rattle.late_commits.specs.Orders.{IsFree, due_for, due_for_place}
-use Rattle.late_data.proofs.Tying.{free_lacks, lacks_take, or_also}
+use Rattle.coordinator.specs.Costs.{parts_at, parts_in_all}
+use Rattle.write_back.specs.Turns.{has_some}
+use Rattle.write_back.specs.declared.queue.LateCommits.{LateCommits}
+use Rattle.write_back.specs.Costs.{calls_back, late_calls}
+use Rattle.write_back.specs.Orders.{IsFree, due_for, due_for_place}
+use Rattle.write_back.proofs.Tying.{free_lacks, lacks_take, or_also}
 use Rattle.eaw_device.specs.Costs.{back_cost, commit_cost, group_of, joining_cost, loggers_with, place_cost}
 use Rattle.eaw_device.specs.Groups.{group_count}
 use Rattle.eaw_device.proofs.Grouping.{commit_is, decide_is, group_rows, takes_some, total_same}
@@ -65,8 +65,7 @@ module _ (shape : Shape) (group : ℕ) (queue back named : LateCommits) (ballot 
       let takes = takes_some shape group named.cells ballot group_is mask some in
       let at_once = commit_is shape group named.cells ballot group_is mask takes ∙ (λ i. 3 * rows i + 2 * count i + 4) in
       let decided = decide_is shape group named.cells ballot group_is mask ∙ (λ i. 2 * rows i + 2) in
-      ap (λ (b : Bool). cond b 0 (cond (nat_eq named.depth 0) (commit_calls shape ballot named.cells) (calls_back shape named.cells (take (due_for_place named.depth named.ballots.items) named.ballots.items) + decide_calls shape ballot))) (ne_eqb ballot.mask 0 takes)
-      ∙ (λ i. cond (nat_eq (depth_is i) 0) (at_once i) (place i + decided i))
+      (λ i. cond (nat_eq (depth_is i) 0) (at_once i) (place i + decided i))
 
   pub whole_cost : (ts : List ℕ) (ranges : List (ℕ × ℕ)) → group ≡ group_of ts → group_rows shape group named.cells ≡ length ts * loggers_with shape ranges → group_count shape group named.cells ≡ length ranges
       → calls_back shape queue.cells (take (due_for group queue.ballots.items) queue.ballots.items) + late_calls shape named.depth named.ballots.items ballot named.cells ≡ commit_cost shape queue ts ranges

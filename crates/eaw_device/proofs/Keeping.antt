@@ -12,10 +12,10 @@ use Rattle.array_shape.specs.declared.part.Part.{Part}
 use Rattle.array_shape.specs.Places.{IsPlaced, IsShape, logger_of}
 use Rattle.array_shape.specs.Parts.{IsPartOf, is_part_on}
 use Rattle.logger.proofs.Staging.{kept_here, left_here}
-use Rattle.deferred_parts.specs.declared.entry.Entry.{Entry}
+use Rattle.write_back.specs.declared.entry.Entry.{Entry}
 use Rattle.eaw_device.specs.declared.log.Log.{Log}
 use Rattle.eaw_device.specs.Logs.{IsKept, Adds}
-use Rattle.deferred_parts.specs.Entries.{ranges_in, cells_on}
+use Rattle.write_back.specs.Entries.{ranges_in, cells_on}
 use Rattle.eaw_device.proofs.Entries.{numbers_split, numbers_more, ranges_in-append, ranges_in-take, length-ranges_in, logger_small, cells_on-append, cells_on_here, cells_on_past, few_entries}
 
 abbrev pub HasPlace : Shape → ℕ × ℕ → Type 0

@@ -11,10 +11,10 @@ use Rattle.array_shape.specs.Logged.{Part, ranges_of, AllPlaced, parts_at}
 use Rattle.array_image.specs.Image.{cell_of, cell_part, parts_from}
 use Rattle.array_image.specs.Image.{IsGoodCell}
 use Rattle.eaw_face.specs.State.{is_range_on, count_on}
-use Rattle.deferred_parts.specs.declared.entry.Entry.{Entry}
+use Rattle.write_back.specs.declared.entry.Entry.{Entry}
 use Rattle.eaw_device.specs.declared.log.Log.{Log}
 use Rattle.eaw_device.specs.Logs.{IsKept, IsHeld}
-use Rattle.deferred_parts.specs.Entries.{IsEntry, ranges_in, parts_in, cells_on}
+use Rattle.write_back.specs.Entries.{IsEntry, ranges_in, parts_in, cells_on}
 use Rattle.eaw_device.proofs.Entries.{logger_small, cells_on_here, cells_on_past}
 use Rattle.eaw_device.proofs.Keeping.{HasPlace, last_cells, first_few}
 

@@ -14,14 +14,14 @@ use Rattle.eaw_face.specs.Command.{log_read, read}
 use Rattle.eaw_face.specs.Does as face
 use Rattle.eaw_face.specs.declared.fault.EawFault.{EawFault}
 use Rattle.eaw_face.specs.declared.fault.EawFault.TheVariants.{Media}
-use Rattle.deferred_parts.specs.declared.entry.Entry.{Entry}
+use Rattle.write_back.specs.declared.entry.Entry.{Entry}
 use Rattle.eaw_device.specs.declared.log.Log.{Log}
-use Rattle.late_data.specs.declared.commits.LateData.{LateData}
+use Rattle.write_back.specs.declared.commits.LateData.{LateData}
 use Rattle.eaw_device.specs.Opens.{Opens}
 use Rattle.eaw_device.specs.Logs.{IsKept, IsHeld, entries_at}
-use Rattle.deferred_parts.specs.Entries.{ranges_in, parts_in}
-use Rattle.deferred_parts.specs.Entries.{AreHeld}
-use Rattle.deferred_parts.specs.Shown.{entries_of as kept_entries}
+use Rattle.write_back.specs.Entries.{ranges_in, parts_in}
+use Rattle.write_back.specs.Entries.{AreHeld}
+use Rattle.write_back.specs.Shown.{entries_of as kept_entries}
 use Rattle.eaw_device.specs.Sound.{IsSound, shown, view_of}
 use Rattle.eaw_device.proofs.Cells.{none_spared}
 use Rattle.eaw_device.proofs.Entries.{logger_small, length-ranges_in, count_on-ranges_in}

@@ -8,11 +8,11 @@ use Rattle.row_bytes.proofs.OneShape.{one_shape}
 use Rattle.array_image.specs.Decided.{settled_data}
 use Rattle.array_shape.specs.declared.shape.Shape.{Shape}
 use Rattle.array_shape.specs.Logged.{ranges_of}
-use Rattle.deferred_parts.specs.declared.entry.Entry.{Entry}
+use Rattle.write_back.specs.declared.entry.Entry.{Entry}
 use Rattle.eaw_device.specs.declared.log.Log.{Log}
 use Rattle.eaw_device.specs.Logs.{IsHeld, entries_of, entries_at}
-use Rattle.deferred_parts.specs.Entries.{ranges_in, parts_in, cells_on}
-use Rattle.late_data.specs.declared.commits.LateData.{LateData}
+use Rattle.write_back.specs.Entries.{ranges_in, parts_in, cells_on}
+use Rattle.write_back.specs.declared.commits.LateData.{LateData}
 use Rattle.eaw_device.specs.Sound.{IsSound, view_of}
 use Rattle.eaw_device.specs.Opens.{header_of, Attached, FindsData}
 use Rattle.eaw_device.specs.Opening.{IsFree, AreFree, IsOpened, Settled}

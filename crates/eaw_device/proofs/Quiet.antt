@@ -3,7 +3,7 @@ use Rattle.std.proofs.Common.{◌≡◌, ℕ, ◌<◌, ◌≤◌, Bool, true, fa
 use Rattle.std.specs.Prelude.{IsTrue, Option, Some, slice_get, slice_index, None}
 use Rattle.std.proofs.lemmas.Bool.{cases_Bool, false≢true}
 use Rattle.std.proofs.lemmas.Option.{slice_get_within}
-use Rattle.std.proofs.lemmas.Result.{on_ok_weaker}
+use Rattle.std.proofs.lemmas.Result.{on_ok_weaker, on_err_weaker}
 use Rattle.mars_base.specs.Causes.{Rose}
 use Rattle.mars_base.specs.Check.{test}
 use Rattle.mars_base.proofs.Going.{then, weaker}
@@ -14,18 +14,18 @@ use Rattle.array_shape.specs.Parts.{parts_of_write}
 use Rattle.array_shape.specs.Places.{media_len}
 use Rattle.array_image.specs.Image.{cell_of}
 use Rattle.row_bytes.specs.declared.ballot.Ballot.{Ballot}
-use Rattle.deferred_parts.specs.Turns.{has_some}
-use Rattle.late_commits.specs.Steps.{WritesBack}
-use Rattle.late_data.specs.declared.commits.LateData.{LateData}
-use Rattle.late_data.specs.Tied.{IsTied, Stays}
-use Rattle.late_data.proofs.Tying.{lacks_drop}
+use Rattle.write_back.specs.Turns.{has_some}
+use Rattle.write_back.specs.Steps.{WritesBack}
+use Rattle.write_back.specs.declared.commits.LateData.{LateData}
+use Rattle.write_back.specs.Tied.{IsTied, Stays}
+use Rattle.write_back.proofs.Tying.{lacks_drop}
 use Rattle.eaw_face.specs.State.{Logs, State, listed}
 use Rattle.eaw_face.specs.StoreView.{StoreView, LeavesOnly}
 use Rattle.eaw_face.specs.Command.{Command, after, log_write, ranges_after}
 use Rattle.eaw_face.specs.Causes.{Cause, IsAlive, fit, known, room_for}
 use Rattle.eaw_face.specs.Does.{Does, IsEither}
 use Rattle.eaw_face.specs.Sending.{Sending}
-use Rattle.eaw_face.proofs.Mirroring.{none_sent, sent_then}
+use Rattle.eaw_face.proofs.Mirroring.{none_sent, none_due, sent_then}
 use Rattle.eaw_face.specs.declared.fault.EawFault.{EawFault}
 use Rattle.eaw_face.specs.declared.fault.EawFault.TheVariants.{Dead, LogFull, Media, UnknownTid}
 use Rattle.eaw_device.specs.declared.log.Log.{Log}
@@ -35,15 +35,15 @@ use Rattle.eaw_device.specs.Sound.{IsSound, shown, view_of}
 use Rattle.eaw_device.specs.Steps.{IsQuiet}
 use Rattle.coordinator.specs.declared.cells.Cells.{Cells}
 use Rattle.coordinator.specs.Commits.{cells_in}
-use Rattle.late_commits.specs.Waiting.{AreWaiting, data_with}
+use Rattle.write_back.specs.Waiting.{AreWaiting, data_with}
 use Rattle.eaw_device.proofs.Sure.{back_time, commit_sure}
 use Rattle.eaw_device.proofs.Doing.{failed}
 use Rattle.eaw_device.proofs.Tables.{held_kept, others_kept}
 
 -- a command after a quiet step is that command, where its cause stood before the step too
-pub quiet_then : {T : Type 0} (tells : Bool) (Opens : List ℕ → List ℕ → Type 0) (command : Command) (old mid new : StoreView) (x : Unit {0}) → IsAlive old → (let ok : Result (Unit {0}) EawFault = Ok x in IsQuiet tells Opens old mid ok)
+pub quiet_then : {T : Type 0} (tells : Bool) (Opens : List ℕ → List ℕ → Type 0) (command : Command) (old mid new : StoreView) (x : Unit {0}) → IsAlive old → old.sending.mirrors ≡ false → (let ok : Result (Unit {0}) EawFault = Ok x in IsQuiet tells Opens old mid ok)
     → (r : Result T EawFault) → Cause old command new.faults r → Does tells Opens command mid new r → Does tells Opens command old new r
-quiet_then tells Opens command old mid new x was_alive quiet r cause does = record {
+quiet_then tells Opens command old mid new x was_alive none quiet r cause does = record {
   shape = does.shape ∙ quiet.shape;
   later = omega (arith, quiet.later, does.later);
   cause = cause;
@@ -60,6 +60,8 @@ quiet_then tells Opens command old mid new x was_alive quiet r cause does = reco
       (subst (λ (s : State). LeavesOnly (IsEither Opens s.bytes (after command s).bytes) mid new) (quiet.state told) (does.time told quiet.alive));
   mirrors = sent_then tells old mid new (none_sent tells old mid quiet.shape quiet.sending (λ _. was_alive) (λ told mirrors alive. ap (λ (s : State). s.bytes) (quiet.state told))) does.mirrors;
   one = omega (arith, does.one, ap (λ (s : Sending). s.sent) quiet.sending);
+  sends = none_due tells command _ old new r none;
+  refused = on_err_weaker r (λ same. same ∙ quiet.sending) does.refused;
 }
 
 -- a command of which that step fails
@@ -69,10 +71,10 @@ quiet_fails {T} tells Opens command old new fault quiet alive knows room = faile
     alive knows room quiet.failed.2 quiet.failed.1 (λ u other. ap (λ ranges. ranges u) quiet.ranges)
 
 -- a write into a log after a quiet step is that write: what it asks for stood before the step too
-pub quiet_write : {T : Type 0} (tells : Bool) (Opens : Shape → List ℕ → List ℕ → Type 0) (t addr : ℕ) (bytes : List ℕ) (old mid new : StoreView) → IsAlive old → (x : Unit {0}) → (let ok : Result (Unit {0}) EawFault = Ok x in IsQuiet tells (Opens old.shape) old mid ok)
+pub quiet_write : {T : Type 0} (tells : Bool) (Opens : Shape → List ℕ → List ℕ → Type 0) (t addr : ℕ) (bytes : List ℕ) (old mid new : StoreView) → IsAlive old → old.sending.mirrors ≡ false → (x : Unit {0}) → (let ok : Result (Unit {0}) EawFault = Ok x in IsQuiet tells (Opens old.shape) old mid ok)
     → (r : Result T EawFault) → Does tells (Opens mid.shape) (log_write t addr bytes) mid new r → Does tells (Opens old.shape) (log_write t addr bytes) old new r
-quiet_write {T} tells Opens t addr bytes old mid new alive x quiet r does =
-    quiet_then tells (Opens old.shape) (log_write t addr bytes) old mid new x alive quiet r (cause_before r does.cause) (subst (λ (s : Shape). Does tells (Opens s) (log_write t addr bytes) mid new r) quiet.shape does)
+quiet_write {T} tells Opens t addr bytes old mid new alive none x quiet r does =
+    quiet_then tells (Opens old.shape) (log_write t addr bytes) old mid new x alive none quiet r (cause_before r does.cause) (subst (λ (s : Shape). Does tells (Opens s) (log_write t addr bytes) mid new r) quiet.shape does)
   where
     known_before : (u : Option ℕ) → known mid (log_write t addr bytes) u → known old (log_write t addr bytes) u
     known_before u knows = subst (λ (s : Shape). test (t < s.numbers) t u) quiet.shape knows

@@ -3,9 +3,9 @@ use Rattle.std.proofs.Common.{◌≡◌, ℕ, suc, ◌*◌, ◌+◌, ◌<◌, �
 use Rattle.std.proofs.lemmas.Bool.{cases_Bool, ne_eqb}
 use Rattle.array_shape.specs.declared.shape.Shape.{Shape}
 use Rattle.row_bytes.specs.declared.ballot.Ballot.{Ballot}
-use Rattle.late_commits.specs.declared.queue.LateCommits.{LateCommits}
-use Rattle.late_commits.specs.Costs.{calls_back}
-use Rattle.late_commits.specs.Orders.{due_for, due_for_place, shares}
+use Rattle.write_back.specs.declared.queue.LateCommits.{LateCommits}
+use Rattle.write_back.specs.Costs.{calls_back}
+use Rattle.write_back.specs.Orders.{due_for, due_for_place, shares}
 use Rattle.eaw_device.specs.Costs.{back_cost, commit_cost, group_of, joining_cost, loggers_with, place_cost}
 
 -- nothing more is due

@@ -18,8 +18,8 @@ use Rattle.array_image.proofs.Frames.{AllWithin}
 use Rattle.array_shape.specs.NumberSet.{has}
 use Rattle.row_bytes.specs.declared.ballot.Ballot.{Ballot}
 use Rattle.coordinator.specs.declared.cells.Cells.{Cells}
-use Rattle.deferred_parts.specs.Turns.{has_some}
-use Rattle.late_data.specs.Spared.{AreSpared}
+use Rattle.write_back.specs.Turns.{has_some}
+use Rattle.write_back.specs.Spared.{AreSpared}
 use Rattle.eaw_device.proofs.Cells.{AreInCells}
 use Rattle.logger.specs.Cells.{cell_ranges, HoldsParts}
 use Rattle.logger.specs.Staging.{staged_places}

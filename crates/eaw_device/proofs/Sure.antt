@@ -20,11 +20,11 @@ use Rattle.array_image.proofs.Headers.{AreBehind}
 use Rattle.eaw_device.proofs.Cells.{AreInCells, staged_data, staging_left, staging_waits}
 use Rattle.eaw_face.specs.Does as face
 use Rattle.eaw_device.specs.Opens.{header_of, Opens}
-use Rattle.late_commits.specs.Steps.{WritesBehind}
-use Rattle.late_commits.specs.declared.queue.LateCommits.{LateCommits}
-use Rattle.late_commits.specs.Waiting.{AreWaiting, data_with}
-use Rattle.late_data.specs.Spared.{AreSpared}
-use Rattle.late_data.specs.declared.commits.LateData.{LateData}
+use Rattle.write_back.specs.Steps.{WritesBehind}
+use Rattle.write_back.specs.declared.queue.LateCommits.{LateCommits}
+use Rattle.write_back.specs.Waiting.{AreWaiting, data_with}
+use Rattle.write_back.specs.Spared.{AreSpared}
+use Rattle.write_back.specs.declared.commits.LateData.{LateData}
 use Rattle.eaw_device.specs.Laws.{alive_shown}
 use Rattle.eaw_device.specs.Sound.{IsSure, shown}
 

@@ -11,14 +11,14 @@ use Rattle.array_image.specs.Standing.{SameCells}
 use Rattle.array_shape.specs.Logged.{Part, ranges_of}
 use Rattle.array_image.specs.Image.{cell_of, IsGoodCell}
 use Rattle.eaw_face.specs.State.{listed, with_log}
-use Rattle.deferred_parts.specs.declared.entry.Entry.{Entry}
+use Rattle.write_back.specs.declared.entry.Entry.{Entry}
 use Rattle.eaw_device.specs.declared.log.Log.{Log}
-use Rattle.late_data.specs.declared.commits.LateData.{LateData}
+use Rattle.write_back.specs.declared.commits.LateData.{LateData}
 use Rattle.eaw_device.specs.Logs.{IsKept, IsHeld, entries_of, entries_at}
-use Rattle.deferred_parts.specs.Entries.{ranges_in, parts_in}
-use Rattle.deferred_parts.specs.Entries.{AreHeld}
-use Rattle.deferred_parts.specs.Shown.{entries_of as kept_entries}
-use Rattle.late_data.specs.Tied.{IsReady}
+use Rattle.write_back.specs.Entries.{ranges_in, parts_in}
+use Rattle.write_back.specs.Entries.{AreHeld}
+use Rattle.write_back.specs.Shown.{entries_of as kept_entries}
+use Rattle.write_back.specs.Tied.{IsReady}
 use Rattle.eaw_device.specs.Sound.{IsInOrder, IsSure, IsSound}
 use Rattle.eaw_device.proofs.LogParts.{each_held, parts_in_same}
 

@@ -27,16 +27,16 @@ use Rattle.eaw_face.specs.Does as face
 use Rattle.eaw_face.specs.declared.fault.EawFault.{EawFault}
 use Rattle.eaw_face.specs.declared.fault.EawFault.TheVariants.{UnknownTid, LogFull, Media, Dead}
 use Rattle.eaw_device.specs.declared.log.Log.{Log}
-use Rattle.late_data.specs.declared.commits.LateData.{LateData}
+use Rattle.write_back.specs.declared.commits.LateData.{LateData}
 use Rattle.eaw_device.specs.Opens.{Opens}
 use Rattle.eaw_device.specs.Logs.{IsKept, IsHeld, Adds, entries_at}
-use Rattle.deferred_parts.specs.Entries.{ranges_in, parts_in, cells_on}
+use Rattle.write_back.specs.Entries.{ranges_in, parts_in, cells_on}
 use Rattle.logger.specs.Staging.{staged_places}
 use Rattle.eaw_device.specs.Steps.{cells_fit, RefusesWrite}
 use Rattle.eaw_device.specs.Laws.{alive_shown}
-use Rattle.deferred_parts.specs.Turns.{has_some}
-use Rattle.late_data.specs.Spared.{AreSpared}
-use Rattle.late_data.proofs.Sparing.{late_held}
+use Rattle.write_back.specs.Turns.{has_some}
+use Rattle.write_back.specs.Spared.{AreSpared}
+use Rattle.write_back.proofs.Sparing.{late_held}
 use Rattle.eaw_device.specs.Sound.{IsBefore, IsSound, shown, view_of}
 use Rattle.eaw_device.proofs.Entries.{numbers_split, ranges_in-append, length-ranges_in, cells_on-append, count_on-ranges_in}
 use Rattle.eaw_device.proofs.Keeping.{length-cells_on_kept}

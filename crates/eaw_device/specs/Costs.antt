@@ -7,12 +7,12 @@ use Rattle.array_shape.specs.Logged.{ranges_of}
 use Rattle.coordinator.specs.Costs.{total}
 use Rattle.eaw_face.specs.State.{Logs, listed, group_log, count_on}
 use Rattle.eaw_face.specs.StoreView.{StoreView}
-use Rattle.deferred_parts.specs.Reading.{read_calls}
-use Rattle.deferred_parts.specs.Shown.{entries_of}
-use Rattle.late_commits.specs.declared.queue.LateCommits.{LateCommits}
-use Rattle.late_commits.specs.Costs.{calls_back}
-use Rattle.late_commits.specs.Orders.{due_for, due_for_place}
-use Rattle.late_data.specs.declared.commits.LateData.{LateData}
+use Rattle.write_back.specs.Reading.{read_calls}
+use Rattle.write_back.specs.Shown.{entries_of}
+use Rattle.write_back.specs.declared.queue.LateCommits.{LateCommits}
+use Rattle.write_back.specs.Costs.{calls_back}
+use Rattle.write_back.specs.Orders.{due_for, due_for_place}
+use Rattle.write_back.specs.declared.commits.LateData.{LateData}
 use Rattle.eaw_face.specs.Command.{Command, log_write, log_edit, commit, commit_group, abort, nested_top, partial_abort, atomic_write, log_read, read}
 
 -- how many loggers have one of these ranges

@@ -9,10 +9,10 @@ use Rattle.coordinator.specs.declared.cells.Cells.{Cells}
 use Rattle.row_bytes.specs.declared.ballot.Ballot.{Ballot}
 use Rattle.coordinator.specs.Commits.{IsMaskOf, cells_in, takes_part}
 use Rattle.coordinator.specs.Costs.{total}
-use Rattle.deferred_parts.specs.declared.entry.Entry.{Entry}
-use Rattle.deferred_parts.specs.Entries.{cells_on}
-use Rattle.late_commits.specs.declared.queue.LateCommits.{LateCommits}
-use Rattle.late_commits.specs.Steps.{CommitsOne}
+use Rattle.write_back.specs.declared.entry.Entry.{Entry}
+use Rattle.write_back.specs.Entries.{cells_on}
+use Rattle.write_back.specs.declared.queue.LateCommits.{LateCommits}
+use Rattle.write_back.specs.Steps.{CommitsOne}
 
 -- the cells of a group's numbers exist
 abbrev pub HaveCells : Shape → ℕ → List Cells → Type 0

@@ -19,13 +19,13 @@ use Rattle.eaw_face.specs.State.{listed}
 use Rattle.eaw_face.specs.StoreView.{ArePlaced, LeavesSome}
 use Rattle.commit_queue.specs.Queue.{Commit, Each, IsWritten, queue_parts}
 use Rattle.commit_queue.proofs.Moments.{written_placed}
-use Rattle.late_commits.specs.declared.queue.LateCommits.{LateCommits}
-use Rattle.late_commits.specs.Waiting.{AreWaiting, data_with, queue_of}
-use Rattle.late_data.specs.declared.commits.LateData.{LateData}
+use Rattle.write_back.specs.declared.queue.LateCommits.{LateCommits}
+use Rattle.write_back.specs.Waiting.{AreWaiting, data_with, queue_of}
+use Rattle.write_back.specs.declared.commits.LateData.{LateData}
 use Rattle.eaw_device.specs.declared.log.Log.{Log}
 use Rattle.eaw_device.specs.Opens.{Opens}
 use Rattle.eaw_device.specs.Logs.{IsKept, IsHeld, entries_of, entries_at}
-use Rattle.deferred_parts.specs.Entries.{ranges_in, parts_in}
+use Rattle.write_back.specs.Entries.{ranges_in, parts_in}
 use Rattle.eaw_device.specs.Sound.{IsSound, IsSure, IsTold, shown, view_of}
 
 -- ranges that are all placed

@@ -6,9 +6,9 @@ use Rattle.array_shape.specs.declared.shape.Shape.{Shape}
 use Rattle.array_shape.specs.Places.{IsPlaced}
 use Rattle.array_shape.specs.Logged.{Part, ranges_of}
 use Rattle.array_image.specs.Image.{cell_of, IsGoodCell}
-use Rattle.deferred_parts.specs.Entries.{cells_on, parts_in, ranges_in}
+use Rattle.write_back.specs.Entries.{cells_on, parts_in, ranges_in}
 use Rattle.eaw_face.specs.State.{Logs}
-use Rattle.deferred_parts.specs.declared.entry.Entry.{Entry}
+use Rattle.write_back.specs.declared.entry.Entry.{Entry}
 use Rattle.eaw_device.specs.declared.log.Log.{Log}
 
 -- A log with room for all that it may have. It has no entry while its number is free. At each logger its cells are the first ones, in

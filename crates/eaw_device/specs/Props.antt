@@ -4,10 +4,10 @@ use Rattle.std.proofs.Props.{props}
 use Rattle.pcm_media.specs.Images.{Content}
 use Rattle.pcm_media.specs.View.{View}
 use Rattle.array_shape.specs.declared.shape.Shape.{Shape}
-use Rattle.deferred_parts.specs.Shown.{entries_of}
-use Rattle.late_commits.specs.Props.{AreWaiting-prop}
-use Rattle.late_data.specs.declared.commits.LateData.{LateData}
-use Rattle.late_data.specs.Props.{AreTied-prop}
+use Rattle.write_back.specs.Shown.{entries_of}
+use Rattle.write_back.specs.Props.{AreWaiting-prop}
+use Rattle.write_back.specs.declared.commits.LateData.{LateData}
+use Rattle.write_back.specs.Props.{AreTied-prop}
 use Rattle.eaw_device.specs.declared.log.Log.{Log}
 use Rattle.eaw_device.specs.Sound.{IsInOrder, IsSound, IsTold}
 

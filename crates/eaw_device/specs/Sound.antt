@@ -8,14 +8,14 @@ use Rattle.array_shape.specs.Places.{media_len, IsShape}
 use Rattle.row_bytes.specs.Header.{SaysShape}
 use Rattle.array_image.specs.Image.{data_of}
 use Rattle.commit_queue.specs.Between.{IsAtRest}
-use Rattle.late_commits.specs.declared.queue.LateCommits.{LateCommits}
+use Rattle.write_back.specs.declared.queue.LateCommits.{LateCommits}
 use Rattle.coordinator.specs.Commits.{cells_in}
-use Rattle.late_commits.specs.Waiting.{AreWaiting, data_with}
-use Rattle.deferred_parts.specs.Entries.{AreHeld}
-use Rattle.deferred_parts.specs.Shown.{entries_of}
-use Rattle.deferred_parts.specs.Turns.{has_some}
-use Rattle.late_data.specs.declared.commits.LateData.{LateData}
-use Rattle.late_data.specs.Tied.{IsReady, IsTied}
+use Rattle.write_back.specs.Waiting.{AreWaiting, data_with}
+use Rattle.write_back.specs.Entries.{AreHeld}
+use Rattle.write_back.specs.Shown.{entries_of}
+use Rattle.write_back.specs.Turns.{has_some}
+use Rattle.write_back.specs.declared.commits.LateData.{LateData}
+use Rattle.write_back.specs.Tied.{IsReady, IsTied}
 use Rattle.eaw_face.specs.Sending.{silent}
 use Rattle.eaw_face.specs.StoreView.{StoreView, IsLive}
 use Rattle.eaw_face.specs.Command.{commit_group}

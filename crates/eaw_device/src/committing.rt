@@ -8,22 +8,22 @@ ghost use Rattle.coordinator.specs.Commits.{cells_in};
 ghost use Rattle.eaw_face.specs.State.{is_one_of, listed, group_log, count_on};
 ghost use Rattle.eaw_device.specs.declared.log.Log.{Log};
 ghost use Rattle.eaw_device.specs.Logs.{IsKept, IsHeld, ranges_logged, parts_logged};
-ghost use Rattle.deferred_parts.specs.Entries.{AreHeld, ranges_in, parts_in, cells_on};
-ghost use Rattle.deferred_parts.specs.Shown.{entries_of};
+ghost use Rattle.write_back.specs.Entries.{AreHeld, ranges_in, parts_in, cells_on};
+ghost use Rattle.write_back.specs.Shown.{entries_of};
 ghost use Rattle.eaw_device.specs.Sound.{IsBefore};
-ghost use Rattle.late_commits.specs.Orders.{IsFree};
-ghost use Rattle.late_commits.specs.Waiting.{AreWaiting, data_with};
-ghost use Rattle.late_data.specs.Steps.{Commits};
-ghost use Rattle.late_data.specs.Tied.{IsReady, IsTied, Stays};
+ghost use Rattle.write_back.specs.Orders.{IsFree};
+ghost use Rattle.write_back.specs.Waiting.{AreWaiting, data_with};
+ghost use Rattle.write_back.specs.Steps.{Commits};
+ghost use Rattle.write_back.specs.Tied.{IsReady, IsTied, Stays};
 ghost use Rattle.eaw_device.specs.Costs.{commit_cost, with_entries};
 ghost use Rattle.eaw_device.specs.Groups.{CommitsGroup, HaveCells, HaveEntries, HaveParts, group_count};
 
 use crate::log::Log;
 use array_shape::{NumberSet, Shape};
 use coordinator::{Cells, ballot_for};
-use late_data::LateData;
 use mars_base::Failed;
 use pcm_media::Media;
+use write_back::LateData;
 
 /// Commits the parts that number `tid` has logged from position `offset` on, once what waits of the number is written back. The log itself
 /// stays as it is. If there is no such part, nothing is done.

@@ -3,7 +3,7 @@ ghost use Rattle.std.specs.Prelude.{◌≡◌, ◌≢◌, ◌+◌, ◌^◌, ◌�
 ghost use Rattle.mars_base.specs.Costs.{Costs};
 ghost use Rattle.array_shape.specs.NumberSet.{has, members};
 ghost use Rattle.array_shape.specs.Parts.{parts_of_write};
-ghost use Rattle.late_commits.specs.Orders.{IsFree, due_for};
+ghost use Rattle.write_back.specs.Orders.{IsFree, due_for};
 ghost use Rattle.array_shape.specs.Places.{data_len};
 ghost use Rattle.eaw_face.specs.StoreView.{IsLive, log_len};
 ghost use Rattle.eaw_face.specs.Command.{commit_group, log_write};
@@ -21,13 +21,13 @@ use crate::fault::AttachFault;
 use crate::log::{Log, clear_logs};
 use crate::opening::open_array;
 use crate::staging::check_room;
-use crate::write_back::{AtOnce, Late, WriteBack};
+use crate::when::{AtOnce, Late, WriteBack};
 use array_shape::{NumberSet, Shape};
 use eaw_face::{EawFault, EawStore};
-use late_data::LateData;
 use logger::{Logger, stage_write};
 use pcm_media::Media;
 use std::alloc::Global;
+use write_back::LateData;
 
 /// The array over a medium.
 #[derive(Drop)]

@@ -12,9 +12,9 @@ mod fresh;
 mod log;
 mod opening;
 mod staging;
-mod write_back;
+mod when;
 
 pub use device::Eaw;
 pub use fault::AttachFault;
 pub use fresh::{FormatFault, format};
-pub use write_back::{AtOnce, Late, WriteBack};
+pub use when::{AtOnce, Late, WriteBack};

@@ -6,11 +6,11 @@ ghost use Rattle.array_shape.specs.Places.{data_len};
 ghost use Rattle.eaw_face.specs.State.{is_one_of};
 ghost use Rattle.array_shape.specs.Parts.{parts_of, parts_on, IsPartOf};
 ghost use Rattle.eaw_device.specs.Logs.{IsKept, IsCleared, Adds};
-ghost use Rattle.deferred_parts.specs.Entries.{ranges_in, cells_on};
+ghost use Rattle.write_back.specs.Entries.{ranges_in, cells_on};
 
 use array_shape::{LOGGERS_MAX, NumberSet, Part, Shape};
-use deferred_parts::Entry;
 use std::alloc::{AllocError, Global};
+use write_back::Entry;
 
 // How many loggers a log counts for.
 pub(crate) const LOGGERS: usize = LOGGERS_MAX as usize;

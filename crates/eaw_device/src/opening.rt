@@ -7,10 +7,10 @@ use crate::attach::{read_header, settle};
 use crate::fault::AttachFault;
 use crate::log::Log;
 use array_shape::Shape;
-use late_data::LateData;
 use mars_base::NoMemory;
 use pcm_media::Media;
 use std::alloc::Global;
+use write_back::LateData;
 
 /// Settles the array on the medium, and returns its shape, a free log for each number, and a queue of which `depth` commits may wait.
 pub(crate) fn open_array<M: Media>(

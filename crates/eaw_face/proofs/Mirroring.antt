@@ -1,6 +1,6 @@
 -- What is sent from one view of a store to a later one.
-use Rattle.std.proofs.Common.{◌≡◌, ℕ, ◌+◌, ◌^◌, ◌≤◌, ◌⊎◌, inl, inr, ⊎_elim, Bool, true, false, List, [], ◌∷◌, ◌++◌, suc, append_assoc, length, refl, sym, ◌∙◌, ap, subst, arith}
-use Rattle.std.specs.Prelude.{IsTrue, All, map}
+use Rattle.std.proofs.Common.{◌≡◌, ℕ, ◌+◌, ◌^◌, ◌≤◌, ◌⊎◌, inl, inr, ⊎_elim, Bool, true, false, List, [], ◌∷◌, ◌++◌, suc, append_assoc, length, Result, Ok, Err, refl, sym, ◌∙◌, ap, subst, arith}
+use Rattle.std.specs.Prelude.{IsTrue, OnOk, All, map}
 use Rattle.std.proofs.lemmas.Bool.{false≢true, cases_Bool}
 use Rattle.std.proofs.lemmas.List.{append-nil, length-append, map-append}
 use Rattle.std.proofs.lemmas.List.Elements.{All-nil, All-append}
@@ -11,6 +11,9 @@ use Rattle.eaw_face.specs.Frame.{Frame, frame_bytes, written_by, IsFrameIn}
 use Rattle.eaw_face.specs.Sending.{Sending}
 use Rattle.eaw_face.specs.StoreView.{StoreView}
 use Rattle.eaw_face.specs.Mirroring.{AreInSequence, followed, Adds, EndsFor, Mirrors}
+use Rattle.eaw_face.specs.Command.{Command}
+use Rattle.eaw_face.specs.Due.{SendsDue}
+use Rattle.eaw_face.specs.declared.fault.EawFault.{EawFault}
 
 -- nothing was sent, and the data is as it was
 pub none_sent : (tells : Bool) (old new : StoreView) → new.shape ≡ old.shape → new.sending ≡ old.sending → (new.is_dead ≡ false → old.is_dead ≡ false)
@@ -35,6 +38,11 @@ none_sent tells old new shape sending lived same = record {
   lived = lived;
   data_is = λ told mirrors up alive. same told mirrors alive;
 }
+
+-- no frame is due of a store that does not mirror
+pub none_due : {T : Type 0} (tells : Bool) (command : Command) (added : List Frame) (old new : StoreView) (r : Result T EawFault) → old.sending.mirrors ≡ false → OnOk r (old.sending.mirrors ≡ true → SendsDue tells command added old new)
+none_due tells command added old new (Ok x) none = λ mirrors. absurd (false≢true (sym none ∙ mirrors))
+none_due tells command added old new (Err fault) none = tt
 
 pub sequence_append : (n : ℕ) (f1 f2 : List Frame) → AreInSequence n f1 → AreInSequence (n + length f1) f2 → AreInSequence n (f1 ++ f2)
 sequence_append n [] f2 one two = subst (λ (m : ℕ). AreInSequence m f2) (let same : n + 0 ≡ n = omega arith in same) two

@@ -5,4 +5,5 @@ pub mod StoreView
 pub mod Causes
 pub mod Frame
 pub mod Mirroring
+pub mod Due
 pub mod Does

@@ -1,11 +1,11 @@
 -- Lines that are followed one after another.
-use Rattle.std.proofs.Common.{◌≡◌, ℕ, suc, ◌+◌, ◌⊎◌, inl, inr, Bool, false, List, [], ◌∷◌, ◌++◌, length, Result, Err, refl, sym, ◌∙◌, ap, subst, arith, append_assoc}
+use Rattle.std.proofs.Common.{◌≡◌, ℕ, suc, ◌+◌, ◌≤◌, ◌⊎◌, inl, inr, ⊎_elim, Bool, false, List, [], ◌∷◌, ◌++◌, length, Result, Err, refl, sym, ◌∙◌, ap, subst, arith, append_assoc}
 use Rattle.std.specs.Prelude.{IsTrue, All}
 use Rattle.std.proofs.lemmas.List.{append-nil, length-append}
 use Rattle.std.proofs.lemmas.List.Elements.{All-nil, All-cons, All-append}
 use Rattle.array_shape.specs.declared.shape.Shape.{Shape}
 use Rattle.array_shape.specs.Logged.{applied}
-use Rattle.eaw_face.specs.StoreView.{StoreView}
+use Rattle.eaw_face.specs.StoreView.{StoreView, LeavesOnly}
 use Rattle.eaw_face.specs.Frame.{Frame, IsFrameIn, written_by}
 use Rattle.eaw_face.specs.Mirroring.{AreInSequence, followed}
 use Rattle.eaw_face.proofs.Mirroring.{sequence_append, followed_append}
@@ -14,7 +14,7 @@ use Rattle.mirror.specs.FollowerView.{FollowerView}
 use Rattle.texts.specs.Written.{IsWritten}
 use Rattle.frame_lines.specs.Lines.{IsMeant, Says, AllSay, applied_line, applied_lines}
 use Rattle.frame_lines.specs.Taken.{IsBetween, GoesOn, Applied, OpensTaken, FollowedLine}
-use Rattle.frame_lines.specs.Followed.{StopsAt, LeavesStore, FollowedLines, OpensFirst}
+use Rattle.frame_lines.specs.Followed.{StopsAt, LeavesNear, LeavesStore, FollowedLines, OpensFirst}
 use Rattle.frame_lines.specs.declared.ended.FollowEnd.{FollowEnd}
 use Rattle.frame_lines.specs.declared.ended.FollowEnd.TheVariants.{All as AllFollowed, BadFrame, Gap, WriteFault, MediaFault, NoMemory}
 
@@ -73,9 +73,9 @@ module _ {S : Type 0} (tells : Bool) (view : S → StoreView) (first : FollowerV
   }
 
   -- all lines were followed
-  pub ended_all : (now : FollowerView S) (rest : List (List ℕ)) (n : ℕ) (text : List ℕ) → rest ≡ [] → SoFar tells view first now lines rest n text
-      → FollowedLines (view first.store).shape (LeavesStore tells (view first.store) (view now.store) AllFollowed) lines AllFollowed false text
-  ended_all now rest n text none far = record {
+  pub ended_all : (Opens : Shape → List ℕ → List ℕ → Type 0) (now : FollowerView S) (rest : List (List ℕ)) (n : ℕ) (text : List ℕ) → rest ≡ [] → SoFar tells view first now lines rest n text
+      → FollowedLines (view first.store).shape (LeavesStore tells Opens (view first.store) (view now.store) AllFollowed) lines AllFollowed false text
+  ended_all Opens now rest n text none far = record {
     frames = far.frames;
     front = far.front;
     behind = rest;
@@ -145,9 +145,9 @@ module _ {S : Type 0} (tells : Bool) (view : S → StoreView) (first : FollowerV
     goes_on more (inr took) = subst (λ (t : List ℕ). SoFar tells view first new lines rest (n + 1) (text ++ t)) (sym took.3) (applies took.0 took.1 took.2)
 
     -- the run ends at this line
-    stopped : (ended : FollowEnd) (cut : Bool) (more : List ℕ) → cut ≡ false → more ≡ [] → LeavesStore tells (view first.store) (view new.store) ended far.frames → StopsAt (view first.store).shape (length far.front) (length far.frames) (line ∷ rest) ended
-        → FollowedLines (view first.store).shape (LeavesStore tells (view first.store) (view new.store) ended) lines ended cut (text ++ more)
-    stopped ended cut more whole none leaves stops = record {
+    stopped : (Opens : Shape → List ℕ → List ℕ → Type 0) (ended : FollowEnd) (cut : Bool) (more : List ℕ) → cut ≡ false → more ≡ [] → LeavesStore tells Opens (view first.store) (view new.store) ended far.frames (line ∷ rest) → StopsAt (view first.store).shape (length far.front) (length far.frames) (line ∷ rest) ended
+        → FollowedLines (view first.store).shape (LeavesStore tells Opens (view first.store) (view new.store) ended) lines ended cut (text ++ more)
+    stopped Opens ended cut more whole none leaves stops = record {
       frames = far.frames;
       front = far.front;
       behind = line ∷ rest;
@@ -163,15 +163,15 @@ module _ {S : Type 0} (tells : Bool) (view : S → StoreView) (first : FollowerV
     still : GoesOn tells [] (view now.store) (view new.store) → GoesOn tells far.frames (view first.store) (view new.store)
     still same = subst (λ (fs : List Frame). GoesOn tells fs (view first.store) (view new.store)) (append-nil far.frames) (more_applied [] same)
 
-    pub ended_at : (T : Type 0) (ended : FollowEnd) (cut : Bool) (more : List ℕ) → (let r : Result T FollowEnd = Err ended in FollowedLine tells view shape n line now new r cut more)
-        → FollowedLines (view first.store).shape (LeavesStore tells (view first.store) (view new.store) ended) lines ended cut (text ++ more)
-    ended_at T AllFollowed cut more ended = absurd ended.2.2
-    ended_at T (BadFrame m) cut more ended = stopped (BadFrame m) cut more ended.0 ended.1
+    pub ended_at : (Opens : Shape → List ℕ → List ℕ → Type 0) → LeavesNear tells Opens (view first.store) (view new.store) far.frames (line ∷ rest) → (T : Type 0) (ended : FollowEnd) (cut : Bool) (more : List ℕ) → (let r : Result T FollowEnd = Err ended in FollowedLine tells view shape n line now new r cut more)
+        → FollowedLines (view first.store).shape (LeavesStore tells Opens (view first.store) (view new.store) ended) lines ended cut (text ++ more)
+    ended_at Opens near T AllFollowed cut more ended = absurd ended.2.2
+    ended_at Opens near T (BadFrame m) cut more ended = stopped Opens (BadFrame m) cut more ended.0 ended.1
         (subst (λ (f : FollowerView S). GoesOn tells far.frames (view first.store) (view f.store)) (sym ended.2.3) far.goes_on)
         (omega (arith, ended.2.0, far.number), line, rest, refl, ended.2.1, λ f says. ended.2.2 f (subst (λ (s : Shape). Says s f line) shape_is says))
-    ended_at T (Gap expected got) cut more ended = stopped (Gap expected got) cut more ended.0 ended.1 (still ended.2.2.2)
+    ended_at Opens near T (Gap expected got) cut more ended = stopped Opens (Gap expected got) cut more ended.0 ended.1 (still ended.2.2.2)
         (line, rest, refl, ended.2.0, here ended.2.0 ended.2.1, ended.2.2.0, subst (λ (k : ℕ). IsGap k expected got) far.count ended.2.2.1)
-    ended_at T WriteFault cut more ended =
+    ended_at Opens near T WriteFault cut more ended =
         let f = ended.1 in
         let next = applies f ended.2 ended.3 in
         record {
@@ -187,8 +187,34 @@ module _ {S : Type 0} (tells : Bool) (view : S → StoreView) (first : FollowerV
           leaves = next.goes_on;
           stops = tt;
         }
-    ended_at T MediaFault cut more ended = stopped MediaFault cut more ended.0 ended.1 tt tt
-    ended_at T NoMemory cut more ended = stopped NoMemory cut more ended.0 ended.1 tt tt
+    ended_at Opens near T MediaFault cut more ended = stopped Opens MediaFault cut more ended.0 ended.1 near tt
+    ended_at Opens near T NoMemory cut more ended = stopped Opens NoMemory cut more ended.0 ended.1 near tt
+
+    -- what a loss of power leaves behind this line
+    pub near : (Opens : Shape → List ℕ → List ℕ → Type 0) → ((t : ℕ) (image : List ℕ) → IsTrue tells → t ≤ (view new.store).moment → (view new.store).left_since (view new.store).moment image → (view new.store).left_since t image)
+        → ((image : List ℕ) → IsTrue tells → (view now.store).left_since (view now.store).moment image → Opens (view now.store).shape image (view now.store).state.bytes)
+        → (IsTrue tells → LeavesOnly (OpensTaken view Opens shape line now) (view now.store) (view new.store)) → LeavesNear tells Opens (view first.store) (view new.store) far.frames (line ∷ rest)
+    near Opens counts only time told image left = ⊎_elim
+        (λ was. inl (here_before (only image told was)))
+        (λ taken. ⊎_elim
+        (λ before. inl (here_before before))
+        (λ next. inr (
+          line,
+          rest,
+          next.0,
+          refl,
+          here next.0 next.1,
+          subst (λ (p : Shape × List ℕ). Opens p.0 image p.1)
+              (λ i. (far.goes_on.data_is.shape i, (ap (λ (b : List ℕ). applied (written_by next.0) b) (far.goes_on.data_is.data_is told) ∙ sym (followed_append far.frames (next.0 ∷ []) (view first.store).state.bytes)) i)) next.3,
+        ))
+        taken)
+        (e.only (view now.store).moment image (omega arith) (counts (view now.store).moment image told e.later left))
+      where
+        e : LeavesOnly (OpensTaken view Opens shape line now) (view now.store) (view new.store)
+        e = time told
+
+        here_before : Opens (view now.store).shape image (view now.store).state.bytes → Opens (view first.store).shape image (followed far.frames (view first.store).state.bytes)
+        here_before before = subst (λ (p : Shape × List ℕ). Opens p.0 image p.1) (λ i. (far.goes_on.data_is.shape i, far.goes_on.data_is.data_is told i)) before
 
     -- what a loss of power leaves of this line
     pub opens_first : (Opens : Shape → List ℕ → List ℕ → Type 0) (image : List ℕ) → IsTrue tells → OpensTaken view Opens shape line now image → OpensFirst Opens (view first.store).shape (view first.store).state.bytes lines image
@@ -213,16 +239,17 @@ module _ {S : Type 0} (tells : Bool) (view : S → StoreView) (first : FollowerV
     }
 
 -- nothing was followed, since there was no memory for a follower
-pub none_followed : (tells : Bool) (old new : StoreView) (lines : List (List ℕ)) → FollowedLines old.shape (LeavesStore tells old new NoMemory) lines NoMemory false []
-none_followed tells old new lines = record {
+pub none_followed : (tells : Bool) (Opens : Shape → List ℕ → List ℕ → Type 0) (store : StoreView) (lines : List (List ℕ)) → ((image : List ℕ) → IsTrue tells → store.left_since store.moment image → Opens store.shape image store.state.bytes)
+    → FollowedLines store.shape (LeavesStore tells Opens store store NoMemory) lines NoMemory false []
+none_followed tells Opens store lines only = record {
   frames = [];
   front = [];
   behind = lines;
   lines_are = refl;
   said = refl;
-  good = All-nil (IsFrameIn old.shape);
+  good = All-nil (IsFrameIn store.shape);
   sequence = tt;
   told = refl;
-  leaves = tt;
+  leaves = λ told image left. inl (only image told left);
   stops = tt;
 }

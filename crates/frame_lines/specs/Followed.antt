@@ -1,5 +1,5 @@
 -- What comes of lines that say frames.
-use Rattle.std.specs.Prelude.{ℕ, ◌≡◌, ◌+◌, Bool, List, [], ◌∷◌, ◌++◌, length, All}
+use Rattle.std.specs.Prelude.{ℕ, ◌≡◌, ◌⊎◌, ◌+◌, Bool, IsTrue, List, [], ◌∷◌, ◌++◌, length, All}
 use Rattle.mars_base.specs.Causes.{Rose}
 use Rattle.array_shape.specs.declared.shape.Shape.{Shape}
 use Rattle.eaw_face.specs.StoreView.{StoreView}
@@ -20,15 +20,25 @@ StopsAt shape lines frames behind (BadFrame n) = (n ≡ lines + 1) × (line : Li
 StopsAt shape lines frames behind (Gap expected got) = (line : List ℕ) × (later : List (List ℕ)) × (behind ≡ line ∷ later) × (f : Frame) × Says shape f line × (got ≡ f.sequence) × IsGap frames expected got
 StopsAt shape lines frames behind _ = Unit {0}
 
--- the store goes on with these frames applied, unless the medium failed or memory ran out
-abbrev pub LeavesStore : Bool → StoreView → StoreView → FollowEnd → List Frame → Type 0
-LeavesStore tells old new MediaFault frames = Unit {0}
-LeavesStore tells old new NoMemory frames = Unit {0}
-LeavesStore tells old new _ frames = GoesOn tells frames old new
+-- an image opens with this data with these frames applied, or with one more, which the next line says
+abbrev pub OpensNear : (Shape → List ℕ → List ℕ → Type 0) → Shape → List ℕ → List Frame → List (List ℕ) → List ℕ → Type 0
+OpensNear Opens shape bytes frames behind image =
+    Opens shape image (followed frames bytes)
+    ⊎ ((line : List ℕ) × (later : List (List ℕ)) × (f : Frame) × (behind ≡ line ∷ later) × Says shape f line × Opens shape image (followed (frames ++ f ∷ []) bytes))
+
+-- so does whatever a loss of power leaves now
+abbrev pub LeavesNear : Bool → (Shape → List ℕ → List ℕ → Type 0) → StoreView → StoreView → List Frame → List (List ℕ) → Type 0
+LeavesNear tells Opens old new frames behind = IsTrue tells → (image : List ℕ) → new.left_since new.moment image → OpensNear Opens old.shape old.state.bytes frames behind image
+
+-- The store goes on with these frames applied. If the medium failed or memory ran out, they are applied, or they and the one of the next line.
+abbrev pub LeavesStore : Bool → (Shape → List ℕ → List ℕ → Type 0) → StoreView → StoreView → FollowEnd → List Frame → List (List ℕ) → Type 0
+LeavesStore tells Opens old new MediaFault frames behind = LeavesNear tells Opens old new frames behind
+LeavesStore tells Opens old new NoMemory frames behind = LeavesNear tells Opens old new frames behind
+LeavesStore tells Opens old new _ frames behind = GoesOn tells frames old new
 
 -- Frames that the first lines say, in sequence from 1 on, were applied, and of each was told how many are by then: but of the last one a front
--- only, if the sink took no more. Then the lines ended, or were not followed further. Leaves says what the frames leave.
-pub record FollowedLines (shape : Shape) (Leaves : List Frame → Type 0) (lines : List (List ℕ)) (ended : FollowEnd) (cut : Bool) (text : List ℕ) : Type 0 where
+-- only, if the sink took no more. Then the lines ended, or were not followed further. Leaves says what the frames leave, given the lines behind.
+pub record FollowedLines (shape : Shape) (Leaves : List Frame → List (List ℕ) → Type 0) (lines : List (List ℕ)) (ended : FollowEnd) (cut : Bool) (text : List ℕ) : Type 0 where
   pub frames : List Frame
   pub front : List (List ℕ)
   pub behind : List (List ℕ)
@@ -37,7 +47,7 @@ pub record FollowedLines (shape : Shape) (Leaves : List Frame → Type 0) (lines
   pub good : All (IsFrameIn shape) frames
   pub sequence : AreInSequence 1 frames
   pub told : IsWritten cut text (applied_lines 0 frames)
-  pub leaves : Leaves frames
+  pub leaves : Leaves frames behind
   pub stops : StopsAt shape (length front) (length frames) behind ended
 
 -- an image opens with this data with some first of the frames applied that the lines say

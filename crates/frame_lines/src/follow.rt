@@ -31,7 +31,7 @@ pub fn follow_lines<K: Sink, S: EawStore>(
     requires alive { IsAlive (S.view store) }
     requires free { IsFree (S.view store) }
     ensures ran { Wrote K.tells (K.written sink.old) (K.written sink.new) (K.faults sink.old) (K.faults sink.new)
-        (λ cut text. FollowedLines (S.view store).shape (LeavesStore S.tells (S.view store) (S.view result.1) result.0) (lines_of input.now) result.0 cut text) }
+        (λ cut text. FollowedLines (S.view store).shape (LeavesStore S.tells S.opens (S.view store) (S.view result.1) result.0) (lines_of input.now) result.0 cut text) }
     // At each moment a loss of power leaves the data with some first of these frames applied.
     ensures moments { IsTrue S.tells → LeavesOnly (OpensFirst S.opens (S.view store).shape (S.view store).state.bytes (lines_of input.now)) (S.view store) (S.view result.1) }
     ensures counts { Counts result.0 (K.faults sink.old) (K.faults sink.new) (S.view store).faults (S.view result.1).faults }
@@ -58,7 +58,7 @@ fn follow_all<K: Sink, S: EawStore>(
     requires alive { IsAlive (S.view follower.old.store) }
     requires shape { (S.view follower.old.store).shape ≡ shape }
     ensures ran { Wrote K.tells (K.written sink.old) (K.written sink.new) (K.faults sink.old) (K.faults sink.new)
-        (λ cut text. FollowedLines (S.view follower.old.store).shape (LeavesStore S.tells (S.view follower.old.store) (S.view follower.new.store) result) (lines_of input.now) result cut text) }
+        (λ cut text. FollowedLines (S.view follower.old.store).shape (LeavesStore S.tells S.opens (S.view follower.old.store) (S.view follower.new.store) result) (lines_of input.now) result cut text) }
     ensures moments { IsTrue S.tells → LeavesOnly (OpensFirst S.opens (S.view follower.old.store).shape (S.view follower.old.store).state.bytes (lines_of input.now)) (S.view follower.old.store) (S.view follower.new.store) }
     ensures counts { Counts result (K.faults sink.old) (K.faults sink.new) (S.view follower.old.store).faults (S.view follower.new.store).faults }
 {

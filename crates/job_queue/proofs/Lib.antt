@@ -1,3 +1,4 @@
 pub mod Ring
 pub mod Going
 pub mod Staying
+pub mod Missing

@@ -43,7 +43,7 @@ next size first n within few = by (place_is size first 1) (place_is size (place 
     by (inr a) (inr b) (inr c) most = omega (arith, a.0, a.1, b.0, b.1, c.0, c.1, within, most)
 
 -- a record is one number at most
-same_number : (m n : ℕ) (told : Option (List ℕ)) → m < 2 ^ 64 → n < 2 ^ 64 → IsNumber m told → IsNumber n told → m ≡ n
+pub same_number : (m n : ℕ) (told : Option (List ℕ)) → m < 2 ^ 64 → n < 2 ^ 64 → IsNumber m told → IsNumber n told → m ≡ n
 same_number m n (Some text) fits fits' is is' = decimal_injective m n fits fits' (sym is ∙ is')
 same_number m n None fits fits' is is' = is ∙ sym is'
 

@@ -7,9 +7,9 @@ ghost use Rattle.caller_steps.specs.Core.{Continues};
 ghost use Rattle.caller_steps.specs.Sound.{IsSound};
 ghost use Rattle.caller_steps.specs.State.{records_of};
 ghost use Rattle.transactions.specs.Adds.{Stays, Adds};
-ghost use Rattle.transactions.specs.Went.{IsOfCore};
+ghost use Rattle.transactions.specs.Went.{WentWithin, IsOfCore};
 ghost use Rattle.transactions.specs.Makes.{Holds, IsEnded, IsGivenUp, IsMade};
-ghost use Rattle.job_queue.specs.Queue.{IsNumber, IsUnmet, Pushes, Takes, place, Reads};
+ghost use Rattle.job_queue.specs.Queue.{HasFoundNone, IsNumber, IsUnmet, Pushes, Takes, place, Reads};
 ghost use Rattle.job_queue.specs.Along.{Deed, pushed, IsTaking, StaysAlong};
 ghost use Rattle.job_queue.specs.declared.queue.Unmet.TheVariants.{NoQueue};
 
@@ -96,6 +96,7 @@ impl Work<(), Unmet> for Pushing {
         requires begun { IsTrue C.tells → (C.view core.old).state.live caller ≡ Some [] }
         ensures limits { (C.view core.new).limits ≡ (C.view core.old).limits }
         ensures stays { IsTrue C.tells → Stays caller (C.view core.old) (C.view core.new) }
+        ensures within { IsTrue C.tells → WentWithin caller (C.view core.old) (C.view core.new) }
         ensures done { IsTrue C.tells → IfOk result (λ done. Holds (λ calls. Pushes self.now.size self.now.job (records_of (C.view core.old).state) (left_by (records_of (C.view core.old).state) calls)) caller (C.view core.new)) }
         ensures stopped { IsTrue C.tells → IfErr result (IsGivenUp (IsUnmet self.now.size) (records_of (C.view core.old).state)) }
         ensures of_core { IsTrue C.tells → IfErr result (IsOfCore caller (C.view core.old) (C.view core.new)) }
@@ -124,6 +125,7 @@ impl Work<Value, Unmet> for Taking {
         requires begun { IsTrue C.tells → (C.view core.old).state.live caller ≡ Some [] }
         ensures limits { (C.view core.new).limits ≡ (C.view core.old).limits }
         ensures stays { IsTrue C.tells → Stays caller (C.view core.old) (C.view core.new) }
+        ensures within { IsTrue C.tells → WentWithin caller (C.view core.old) (C.view core.new) }
         ensures done { IsTrue C.tells → IfOk result (λ job. Holds (λ calls. Takes self.now.size job (records_of (C.view core.old).state) (left_by (records_of (C.view core.old).state) calls)) caller (C.view core.new)) }
         ensures stopped { IsTrue C.tells → IfErr result (IsGivenUp (IsUnmet self.now.size) (records_of (C.view core.old).state)) }
         ensures of_core { IsTrue C.tells → IfErr result (IsOfCore caller (C.view core.old) (C.view core.new)) }
@@ -162,12 +164,15 @@ fn place(size: u64, first: u64, n: u64) -> u64
 fn bounds<C: Core>(core: &mut C, caller: u8, size: u64) -> Result<(u64, u64), Stop<Unmet>>
     requires inside { caller < (C.view core.old).limits.callers }
     requires sound { IsTrue C.tells → IsSound (C.view core.old).state }
+    requires begun { IsTrue C.tells → (C.view core.old).state.live caller ≡ Some [] }
     ensures limits { (C.view core.new).limits ≡ (C.view core.old).limits }
     ensures stays { IsTrue C.tells → Stays caller (C.view core.old) (C.view core.new) }
+    ensures stays_within { IsTrue C.tells → WentWithin caller (C.view core.old) (C.view core.new) }
     ensures most { IfOk result (λ bounds. size ≤ 2 ^ 32) }
     ensures within { IfOk result (λ bounds. bounds.0 < size) }
     ensures few { IfOk result (λ bounds. bounds.1 ≤ size) }
     ensures cause { IfErr result (IsGivenUp (λ unmet table. unmet ≡ NoQueue) (records_of (C.view core.old).state)) }
+    ensures none { IsTrue C.tells → IfErr result (IsGivenUp (IsUnmet size) (records_of (C.view core.old).state)) }
     ensures of_core { IsTrue C.tells → IfErr result (IsOfCore caller (C.view core.old) (C.view core.new)) }
     ensures found { IsTrue C.tells → IfOk result (λ bounds. Reads bounds.0 bounds.1 caller (C.view core.old) (C.view core.new)) }
 {
@@ -186,8 +191,11 @@ fn read_number<C: Core>(core: &mut C, caller: u8, key: u64) -> Result<u64, Stop<
     requires sound { IsTrue C.tells → IsSound (C.view core.old).state }
     ensures limits { (C.view core.new).limits ≡ (C.view core.old).limits }
     ensures stays { IsTrue C.tells → Stays caller (C.view core.old) (C.view core.new) }
+    ensures stays_within { IsTrue C.tells → WentWithin caller (C.view core.old) (C.view core.new) }
     ensures cause { IfErr result (IsGivenUp (λ unmet table. unmet ≡ NoQueue) (records_of (C.view core.old).state)) }
     ensures of_core { IsTrue C.tells → IfErr result (IsOfCore caller (C.view core.old) (C.view core.new)) }
+    ensures small { IfOk result (λ n. n < 2 ^ 64) }
+    ensures none { IsTrue C.tells → IfErr result (HasFoundNone key caller (C.view core.old) (C.view core.new)) }
     ensures found { IsTrue C.tells → IfOk result (λ n. (told : Option (List ℕ)) × IsNumber n told × Adds caller (Get main_name key) (found told) (C.view core.old) (C.view core.new)) }
 {
     let Some(value) = get(core, caller, main_table(), key)? else {

@@ -1,10 +1,10 @@
 -- Cells that are written, in part or whole.
-use Rattle.std.proofs.Common.{◌≡◌, ℕ, zero, suc, ◌+◌, ◌*◌, ◌^◌, ◌<◌, ◌≤◌, inl, inr, List, [], ◌∷◌, ◌++◌, length, get_or, take, drop, refl, sym, ◌∙◌, ap, subst, arith}
+use Rattle.std.proofs.Common.{◌≡◌, ℕ, zero, suc, ◌+◌, ◌*◌, ◌^◌, ◌<◌, ◌≤◌, inl, inr, List, [], ◌∷◌, ◌++◌, length, get_or, take, drop, sym, ◌∙◌, ap, subst, arith}
 use Rattle.std.proofs.lemmas.List.{length-append, get_or_append_left, get_or-append-add, get_or-drop, get_or-take, length-take-le, length-drop, ext_get_or}
 use Rattle.std.proofs.lemmas.Bool.{cases_lt, cases_eq}
 use Rattle.std.proofs.lemmas.Nat.{mul-le}
 use Rattle.mars_base.specs.Bytes.{put, range}
-use Rattle.pcm_media.specs.Images.{SameOutside, IsOutside}
+use Rattle.pcm_media.specs.Images.{SameOutside}
 use Rattle.mars_base.proofs.Puts.{length-put, get_or-put_before, get_or-put_after, get_or-put_inside}
 use Rattle.pcm_media.proofs.Left.{get_or-put_outside}
 use Rattle.pcm_media.proofs.Ranges.{get_or-range, length-range}
@@ -15,11 +15,11 @@ use Rattle.array_shape.proofs.Apart.{areas_apart}
 use Rattle.row_bytes.specs.declared.head.Head.{Head}
 use Rattle.row_bytes.specs.Written.{head_bytes}
 use Rattle.row_bytes.proofs.Saying.{head_said-same, head_said-bytes}
-use Rattle.array_shape.specs.Logged.{Part, applied, IsOwned, AllOwned}
+use Rattle.array_shape.specs.Logged.{Part, applied, IsOwned}
 use Rattle.array_image.specs.Image.{cell_of, cell_head, cell_part, parts_from, IsGoodCell}
 use Rattle.array_image.proofs.Places.{cell_fits_in}
 use Rattle.array_image.proofs.Rows.{cell_away, parts_same}
-use Rattle.logger.specs.Cells.{cell_writes, cell_ranges, HoldsParts}
+use Rattle.logger.specs.Cells.{cell_writes, HoldsParts}
 
 -- a write within a range
 pub range-put : (old : List ℕ) (at n from : ℕ) (bytes : List ℕ) → at + n ≤ length old → from + length bytes ≤ n → range (put old (at + from) bytes) at n ≡ put (range old at n) from bytes
@@ -106,45 +106,10 @@ module _ (shape : Shape) (g t : ℕ) (there : g < shape.loggers) (small : t < sh
     pub one_good : p.0 < 2 ^ 64 → IsOwned shape g p.0 (length p.1) → IsGoodCell shape g cell
     one_good fits owned = subst (λ head. IsOwned shape g head.addr head.len) (sym (one_head fits)) owned
 
-  -- cells behind one
-  cells_behind : (e n i : ℕ) → i < cell_at shape g t e → IsOutside (cell_ranges shape g t e n) i
-  cells_behind e zero i lt = tt
-  cells_behind e (suc n) i lt = ((λ le lt'. omega arith), cells_behind (e + 1) n i (omega arith))
-
   address_fits : (p : Part) → IsOwned shape g p.0 (length p.1) → p.0 < 2 ^ 64
   address_fits p owned =
       let pages : shape.loggers * shape.pages ≤ 8 * 4096 = mul-le shape.loggers shape.pages 8 4096 (omega arith) (omega arith) in
       omega (arith, owned.placed.inside, owned.placed.some)
-
-  pub cells_away : (ps : List Part) (e : ℕ) (image : List ℕ) → length image ≡ media_len shape → e + length ps ≤ shape.entries → AllOwned shape g ps
-      → SameOutside (cell_ranges shape g t e (length ps)) image (applied (cell_writes shape g t e ps) image)
-  cells_away [] e image long fits owned = record { long = refl; same = λ i out. refl }
-  cells_away (p ∷ ps) e image long fits owned =
-      let one = one_away image e p long (omega arith) (omega (arith, owned.0.placed.page)) in
-      let rest = cells_away ps (e + 1) (put_one image e p) (one.long ∙ long) (omega arith) owned.1 in
-      record { long = rest.long ∙ one.long; same = λ i out. rest.same i out.1 ∙ one.same i (out.0, tt) }
-
-  -- parts that were written to cells are in them
-  pub holds_parts : (ps : List Part) (e : ℕ) (image : List ℕ) → length image ≡ media_len shape → e + length ps ≤ shape.entries → AllOwned shape g ps
-      → HoldsParts shape (applied (cell_writes shape g t e ps) image) g t e ps
-  holds_parts [] e image long fits owned = record { hold = refl; good = λ k le lt. absurd (omega arith) }
-  holds_parts (p ∷ ps) e image long fits owned =
-      let short : length p.1 ≤ 512 = omega (arith, owned.0.placed.page) in
-      let below : e < shape.entries = omega arith in
-      let one_long = length-put_one image e p long below short ∙ long in
-      let rest = holds_parts ps (e + 1) (put_one image e p) one_long (omega arith) owned.1 in
-      let same = cells_away ps (e + 1) (put_one image e p) one_long (omega arith) owned.1 in
-      let final = applied (cell_writes shape g t (e + 1) ps) (put_one image e p) in
-      let kept : cell_of shape (applied (cell_writes shape g t (e + 1) ps) (put_one image e p)) g t e ≡ cell_of shape (put_one image e p) g t e =
-      cell_away shape (cell_ranges shape g t (e + 1) (length ps)) (put_one image e p) final g t e same (λ i le lt. cells_behind (e + 1) (length ps) i (omega arith)) in
-      let fits' = address_fits p owned.0 in
-      record {
-        hold = λ i. (ap cell_part kept ∙ one_part image e p long below short fits') i ∷ rest.hold i;
-        good = λ k le lt. elim (cases_eq k e) [
-          | inl is ↦ subst (λ (j : ℕ). IsGoodCell shape g (cell_of shape (applied (cell_writes shape g t (e + 1) ps) (put_one image e p)) g t j)) (sym is) (subst (IsGoodCell shape g) (sym kept) (one_good image e p long below short fits' owned.0))
-          | inr ne ↦ rest.good k (omega arith) (omega arith)
-        ];
-      }
 
   parts_from_more : (image : List ℕ) (n e : ℕ) → parts_from shape image g t e (suc n) ≡ parts_from shape image g t e n ++ cell_part (cell_of shape image g t (e + n)) ∷ []
   parts_from_more image zero e = ap (λ (k : ℕ). cell_part (cell_of shape image g t k) ∷ []) (let same : e ≡ e + 0 = omega arith in same)

@@ -6,8 +6,6 @@
 
 mod all_loggers;
 mod logger;
-mod stage_fault;
 
 pub use all_loggers::{cells_of_write, stage_write};
 pub use logger::Logger;
-pub use stage_fault::StageFault;

@@ -4,7 +4,6 @@ ghost use Rattle.array_shape.specs.Parts.{part_of_write};
 ghost use Rattle.row_bytes.specs.Written.{head_bytes};
 ghost use Rattle.array_image.specs.Image.{cell_head};
 
-use crate::stage_fault::StageFault;
 use array_shape::{HEAD_LEN, PAGE_LEN, Part, Shape};
 use mars_base::Failed;
 use pcm_media::Media;
@@ -20,19 +19,16 @@ pub struct Logger {
 
 impl Logger {
     ghost use Rattle.std.specs.Prelude.{◌≡◌, ◌↔◌, ◌+◌, ◌*◌, ◌≤◌, ◌<◌, ℕ, [], ◌∷◌, drop, length, true, false};
-    ghost use Rattle.std.specs.Prelude.{IsTrue, IfOk, OnOk, IfErr, OnErr};
+    ghost use Rattle.std.specs.Prelude.{IsTrue, IsOk, IfOk, OnOk, OnErr};
     ghost use Rattle.mars_base.specs.Bytes.{put};
     ghost use Rattle.mars_base.specs.Costs.{Costs};
     ghost use Rattle.pcm_media.specs.Images.{written};
     ghost use Rattle.pcm_media.specs.View.{Writes};
     ghost use Rattle.array_shape.specs.Places.{media_len, data_len, row_at, cell_at, place_of};
-    ghost use Rattle.array_shape.specs.Parts.{parts_on};
     ghost use Rattle.row_bytes.specs.Written.{row_rest, vote_byte};
     ghost use Rattle.array_shape.specs.Logged.{applied, places_of, IsOwned};
     ghost use Rattle.array_image.specs.Image.{row_of, cell_of, cell_head, cell_part, parts_from, data_of, IsGoodCell};
-    ghost use Rattle.logger.specs.Cells.{cell_writes, cell_ranges, in_media, HoldsParts};
-    ghost use Rattle.pcm_media.specs.Answer.{media_answer};
-    ghost use Rattle.logger.specs.Staging.{write_parts_here, IsStageFault, is_of_media};
+    ghost use Rattle.logger.specs.Cells.{cell_writes, in_media};
 
     /// The logger with this number.
     pub fn new(shape: Shape, number: u8) -> Logger
@@ -60,23 +56,6 @@ impl Logger {
         let mut bytes = [0; 16];
         write_row(&row, &mut bytes);
         media.write(self.shape.row_at(self.number, tid) + 1, &bytes[1..])
-    }
-
-    /// Votes for a transaction number: byte 0 of its row becomes 0xC3.
-    pub fn vote<M: Media>(self, media: &mut M, tid: u8) -> Result<(), Failed>
-        requires size { (M.view media.old).size ≡ media_len self.shape }
-        requires tid { tid < self.shape.numbers }
-        ensures written { IsTrue M.tells → OnOk result ((M.view media.new).content ≡
-            written (row_at self.shape self.number tid) (0xC3 ∷ []) (M.view media.old).content) }
-        ensures row { IsTrue M.tells → OnOk result (
-            row_of self.shape (M.view media.new).content.bytes self.number tid ≡
-            (let row = row_of self.shape (M.view media.old).content.bytes self.number tid in
-            record row { voted = true })) }
-        ensures costs { Costs true 1 (M.view media.old).moment (M.view media.new).moment result }
-        ensures does { Writes M.tells ((row_at self.shape self.number tid, 1) ∷ [])
-            (M.view media.old) (M.view media.new) result }
-    {
-        self.set_vote(media, tid, true)
     }
 
     /// Takes a vote back: byte 0 of the row of a transaction number becomes 0.
@@ -111,57 +90,6 @@ impl Logger {
             (M.view media.old) (M.view media.new) result }
     {
         media.write(self.shape.row_at(self.number, tid), &[vote_byte(voted)])
-    }
-
-    /// How many cells a write needs here: one for each of its parts that this logger has.
-    pub fn cells_needed(self, addr: u64, len: u64) -> u16
-        requires { addr + len ≤ data_len self.shape }
-        ensures { result ≡ length (parts_on self.shape self.number addr len) }
-    {
-        let mut needed = 0;
-        for part in self.shape.parts(addr, len) {
-            if part.logger == self.number {
-                needed += 1;
-            }
-        }
-        needed
-    }
-
-    /// Writes the parts of a write that this logger has into cells of a transaction number, in the order of their
-    /// addresses, from the first cell that is not held. Returns how many cells it took.
-    ///
-    /// If too few cells are left, it makes no call of the medium.
-    pub fn stage<M: Media>(
-        self,
-        media: &mut M,
-        tid: u8,
-        held: u16,
-        addr: u64,
-        bytes: &[u8],
-    ) -> Result<u16, StageFault>
-        requires size { (M.view media.old).size ≡ media_len self.shape }
-        requires tid { tid < self.shape.numbers }
-        requires range { addr + length bytes.now ≤ data_len self.shape }
-        ensures took { IfOk result (λ n. n ≡ length (write_parts_here self addr bytes.now)) }
-        ensures fits { OnOk result (held + length (write_parts_here self addr bytes.now) ≤ self.shape.entries) }
-        ensures fault { IfErr result (IsStageFault self.shape.entries held (length (write_parts_here self addr bytes.now))) }
-        ensures full { self.shape.entries < held + length (write_parts_here self addr bytes.now) → media.new ≡ media.old }
-        ensures written { IsTrue M.tells → OnOk result ((M.view media.new).content.bytes ≡
-            applied (cell_writes self.shape self.number tid held (write_parts_here self addr bytes.now))
-            (M.view media.old).content.bytes) }
-        ensures holds { IsTrue M.tells → OnOk result (
-            HoldsParts self.shape (M.view media.new).content.bytes self.number tid held (write_parts_here self addr bytes.now)) }
-        ensures costs { Costs true (length (write_parts_here self addr bytes.now)) (M.view media.old).moment (M.view media.new).moment result }
-        ensures does { Writes M.tells
-            (cell_ranges self.shape self.number tid held (length (write_parts_here self addr bytes.now)))
-            (M.view media.old) (M.view media.new) (media_answer is_of_media result) }
-    {
-        let needed = self.cells_needed(addr, bytes.len() as u64);
-        if u32::from(held) + u32::from(needed) > u32::from(self.shape.entries) {
-            return Err(StageFault::Full { held, needed });
-        }
-        self.put_parts(media, tid, held, addr, bytes)?;
-        Ok(needed)
     }
 
     /// Replaces bytes within the data of a cell, from `at` on.
@@ -246,38 +174,6 @@ impl Logger {
         Ok(())
     }
 
-    // Writes the parts into the cells, of which enough are left.
-    fn put_parts<M: Media>(
-        self,
-        media: &mut M,
-        tid: u8,
-        held: u16,
-        addr: u64,
-        bytes: &[u8],
-    ) -> Result<(), Failed>
-        requires size { (M.view media.old).size ≡ media_len self.shape }
-        requires tid { tid < self.shape.numbers }
-        requires range { addr + length bytes.now ≤ data_len self.shape }
-        requires room { held + length (write_parts_here self addr bytes.now) ≤ self.shape.entries }
-        ensures written { IsTrue M.tells → OnOk result ((M.view media.new).content.bytes ≡
-            applied (cell_writes self.shape self.number tid held (write_parts_here self addr bytes.now))
-            (M.view media.old).content.bytes) }
-        ensures costs { Costs true (length (write_parts_here self addr bytes.now)) (M.view media.old).moment (M.view media.new).moment result }
-        ensures does { Writes M.tells
-            (cell_ranges self.shape self.number tid held (length (write_parts_here self addr bytes.now)))
-            (M.view media.old) (M.view media.new) result }
-    {
-        let mut entry = held;
-        for part in self.shape.parts(addr, bytes.len() as u64) {
-            if part.logger == self.number {
-                let piece = bytes_of(part, addr, bytes);
-                self.put_cell(media, tid, entry, part.addr, piece)?;
-                entry += 1;
-            }
-        }
-        Ok(())
-    }
-
     pub(crate) fn put_cell<M: Media>(
         self,
         media: &mut M,
@@ -332,7 +228,20 @@ impl Logger {
             (M.view media.old) (M.view media.new) result }
     {
         let cell = self.read_cell(media, tid, entry)?;
-        let head = head_of(&cell);
+        self.write_part(media, &cell)
+    }
+
+    // Writes the part that a cell holds to its address. If it holds none of this logger, no call is made.
+    fn write_part<M: Media>(self, media: &mut M, cell: &[u8; 528]) -> Result<(), Failed>
+        requires size { (M.view media.old).size ≡ media_len self.shape }
+        ensures none { ¬ IsGoodCell self.shape self.number cell.now → IsOk result × (media.new ≡ media.old) }
+        ensures written { IsTrue M.tells → IsGoodCell self.shape self.number cell.now → OnOk result ((M.view media.new).content.bytes ≡
+            (let part = cell_part cell.now in put (M.view media.old).content.bytes (place_of self.shape part.0) part.1)) }
+        ensures costs { IsGoodCell self.shape self.number cell.now → Costs true 1 (M.view media.old).moment (M.view media.new).moment result }
+        ensures most { (M.view media.new).moment ≤ (M.view media.old).moment + 1 }
+        ensures does { Writes M.tells (places_of self.shape (cell_part cell.now ∷ [])) (M.view media.old) (M.view media.new) result }
+    {
+        let head = head_of(cell);
         if !self.has_part(head) {
             return Ok(());
         }

@@ -21,6 +21,7 @@ use Rattle.caller_steps.specs.Fate.{is_refusal, is_busy}
 use Rattle.caller_steps.specs.State.{State, unoffered}
 use Rattle.caller_steps.specs.Locked.{IsFree}
 use Rattle.caller_steps.specs.Core.{Steps}
+use Rattle.caller_steps.specs.Cause.{IsOfKind}
 use Rattle.mars_core.specs.Held.{core_over}
 use Rattle.mars_core.specs.Kept.{IsKept}
 use Rattle.mars_core.specs.Seats.{Seats, live_in, bare}
@@ -148,9 +149,9 @@ module _ (tells : Bool) (Opens : Shape → List ℕ → List ℕ → Type 0) (in
       where
         go : (result : Result Reply TableFault) → Works tells (Opens p.store.shape) index made.table t call p q result → IsAnswered calls call result left answer → IsKept tells Opens index q count' rows new
         go (Ok r) works (inl (more, told)) = granted_keeps tells Opens index one laws p q old_laws new_laws s new shows shows_new names offers base history doubt count count' same_count rows kept alive tells_writes made.table t call of (asked_in made.table made.number) made.saves_there calls is un free
-            r (did tells (Opens p.store.shape) index made.table t call p q (Ok r) works.does) works.granted works.plain (grows r more)
+            r (did tells (Opens p.store.shape) index made.table t call p q (Ok r) works.does) works.granted works.plain works.kind (grows r more)
         go (Ok r) works (inr (listed_rows, same, still, told)) = refused_keeps tells Opens index one laws p q old_laws new_laws s new shows shows_new names offers base history doubt count count' same_count rows kept alive tells_writes made.table t call of (asked_in made.table made.number) made.saves_there calls is un free
-            NoMemory (did_unkept tells (Opens p.store.shape) index made.table t call p q listed_rows alive (listed r listed_rows same works)) (λ failed. absurd (no_media failed)) (stays still)
+            NoMemory (did_unkept tells (Opens p.store.shape) index made.table t call p q listed_rows alive (subst (λ (x : Reply). IsOfKind (length (p.counts t)) call x) same works.kind) (listed r listed_rows same works)) (λ failed. absurd (no_media failed)) (stays still)
         go (Err f) works (still, told) = refused_keeps tells Opens index one laws p q old_laws new_laws s new shows shows_new names offers base history doubt count count' same_count rows kept alive tells_writes made.table t call of (asked_in made.table made.number) made.saves_there calls is un free
             f (did tells (Opens p.store.shape) index made.table t call p q (Err f) works.does) works.due (stays still)
 
@@ -160,10 +161,10 @@ module _ (tells : Bool) (Opens : Shape → List ℕ → List ℕ → Type 0) (in
         go : (result : Result Reply TableFault) → Works tells (Opens p.store.shape) index made.table t call p q result → IsAnswered calls call result left answer → Steps tells t call (core_over Opens index p.store s) (core_over Opens index q.store new) answer
         go (Ok r) works (inl (more, told)) = subst (λ (r : Reply). Steps tells t call (core_over Opens index p.store s) (core_over Opens index q.store new) r) (sym told)
             (granted_steps tells Opens index one laws p q old_laws new_laws s new shows shows_new names offers base history doubt count count' same_count rows kept alive tells_writes made.table t call of (asked_in made.table made.number) made.saves_there calls is un free
-            r (did tells (Opens p.store.shape) index made.table t call p q (Ok r) works.does) works.granted works.plain (grows r more))
+            r (did tells (Opens p.store.shape) index made.table t call p q (Ok r) works.does) works.granted works.plain works.kind (grows r more))
         go (Ok r) works (inr (listed_rows, same, still, told)) = subst (λ (r : Reply). Steps tells t call (core_over Opens index p.store s) (core_over Opens index q.store new) r) (sym told)
             (refused_steps tells Opens index one laws p q old_laws new_laws s new shows shows_new names offers base history doubt count count' same_count rows kept alive tells_writes made.table t call of (asked_in made.table made.number) made.saves_there calls is un free
-            NoMemory (did_unkept tells (Opens p.store.shape) index made.table t call p q listed_rows alive (listed r listed_rows same works)) (λ failed. absurd (no_media failed)) (stays still))
+            NoMemory (did_unkept tells (Opens p.store.shape) index made.table t call p q listed_rows alive (subst (λ (x : Reply). IsOfKind (length (p.counts t)) call x) same works.kind) (listed r listed_rows same works)) (λ failed. absurd (no_media failed)) (stays still))
         go (Err f) works (still, told) = subst (λ (r : Reply). Steps tells t call (core_over Opens index p.store s) (core_over Opens index q.store new) r) (sym told)
             (refused_steps tells Opens index one laws p q old_laws new_laws s new shows shows_new names offers base history doubt count count' same_count rows kept alive tells_writes made.table t call of (asked_in made.table made.number) made.saves_there calls is un free
             f (did tells (Opens p.store.shape) index made.table t call p q (Err f) works.does) works.due (stays still))

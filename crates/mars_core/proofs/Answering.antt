@@ -1,7 +1,7 @@
 -- A call of a transaction that the records made: granted, refused, or failed.
 use Rattle.std.proofs.Common.{◌≡◌, ◌≢◌, ◌⊎◌, ℕ, inl, inr, Bool, true, false, ◌||◌, nat_eq, List, [], ◌∷◌, ◌++◌, length, IsTrue, Option, Some, unwrap_or, Result, Ok, Err, refl, sym, ap, subst, ◌∙◌, arith}
-use Rattle.std.specs.Prelude.{None, is_some, IsFalse, IsErrOf, IfOk, OnErr}
-use Rattle.std.specs.FinMap.{get}
+use Rattle.std.specs.Prelude.{None, is_some, IsFalse, IsErrOf, IfOk, OnOk, OnErr}
+use Rattle.std.proofs.lemmas.Bool.{cases_eq}
 use Rattle.std.specs.Map.{update}
 use Rattle.mars_base.specs.Causes.{Rose}
 use Rattle.std.proofs.lemmas.Bool.{false≢true}
@@ -12,19 +12,18 @@ use Rattle.eaw_face.specs.Causes.{IsAlive}
 use Rattle.page_store.specs.Index as below
 use Rattle.page_store.specs.Shown.{PagesView}
 use Rattle.history.specs.Writes.{Write}
-use Rattle.history.specs.Key.{of_table}
 use Rattle.history.specs.Rows.{NamedRows}
-use Rattle.history.specs.Table.{Granted, found, removed, IsRight}
+use Rattle.history.specs.Table.{Granted, IsRight}
 use Rattle.history.specs.Legal.{records}
 use Rattle.history.specs.Log.{Log, log_of}
 use Rattle.history.specs.declared.call.Call.{Call}
 use Rattle.history.specs.declared.call.Call.TheVariants.{Begin, Get, Put, Del, Scan, Save, Back, Commit, Abort, Offer, Settle, Purge}
 use Rattle.history.specs.declared.call.Reply.{Reply}
 use Rattle.history.specs.declared.call.Reply.TheVariants as reply
-use Rattle.record_table.specs.State.{TableState, seen_by}
+use Rattle.record_table.specs.State.{TableState}
 use Rattle.record_table.specs.Faults.{reply_to}
 use Rattle.record_table.specs.Causes.{Cause, IsSavedOut, IsScan}
-use Rattle.record_table.specs.Calls.{Replies, table_after, after}
+use Rattle.record_table.specs.Calls.{Replies, table_after, after, saves_after}
 use Rattle.record_table.specs.Does.{Does, OpensWith, Indexed, IsQuiet, is_failed}
 use Rattle.record_table.specs.Shown.{state_of, pairs_of, keys_of}
 use Rattle.record_table.specs.Shown as shown
@@ -37,6 +36,10 @@ use Rattle.caller_steps.specs.Step.{Asks, Step, uses_index}
 use Rattle.caller_steps.specs.Fate.{is_refusal, is_media, is_committed}
 use Rattle.caller_steps.specs.Prefix.{HasPrefixOf}
 use Rattle.caller_steps.specs.Core.{IsSafe, Steps}
+use Rattle.caller_steps.specs.Cause.{saves_of, IsOfKind, TableCause, ReplyCause}
+use Rattle.caller_steps.specs.Offers.{may_do}
+use Rattle.caller_steps.proofs.Able.{takes_within}
+use Rattle.caller_steps.proofs.Causing.{call_cause}
 use Rattle.caller_steps.proofs.Holding.{AreNamed}
 use Rattle.caller_steps.proofs.Sound.{step_sound, history_whole}
 use Rattle.record_slots.specs.Names.{names_in}
@@ -52,9 +55,11 @@ use Rattle.mars_core.proofs.Indexing.{IsWithin, InsertsNone, is_within, indexes_
 use Rattle.mars_core.proofs.Mirroring.{IsOfTable, scan_after, mirrors_granted, same_table, answers}
 use Rattle.mars_core.proofs.Rooming.{fits_is, log_lacks, slot_lacks, page_lacks, named_is}
 use Rattle.mars_core.proofs.Entering.{index_room, room_granted}
+use Rattle.mars_core.proofs.Saving.{saves_in, saves_same, saves_one, saves_granted}
+use Rattle.mars_core.proofs.Causes.{no_refusal, of_table_cause, granted_cause, fault_cause}
 use Rattle.mars_core.proofs.Idle.{no_calls, idle_after, idle_still}
 use Rattle.mars_core.proofs.Prefixes.{StoreLaws, sound_after, safe_dead, safe_alive}
-use Rattle.mars_core.proofs.Stepping.{ShowsPages, or_false, or_true, media_none, moves_refused, moves_granted, step_of, asks_at, steps_of, time_same, counts_is, saves_at, returns_at, enters_at}
+use Rattle.mars_core.proofs.Stepping.{ShowsPages, or_false, or_true, media_none, moves_refused, moves_granted, step_of, may_table, shows_tied, asks_at, steps_of, time_same, counts_is, saves_at, returns_at, enters_at}
 
 -- what is known about an index
 pub record IndexLaws (index : below.Index) : Type 0 where
@@ -140,7 +145,10 @@ scan_same limits Begin answer old new scan same = same
 -- What the records made of a call, as far as a core needs it.
 pub record Did (tells : Bool) (Opens : List ℕ → List ℕ → Type 0) (index : below.Index) (table t : ℕ) (call : Call) (old new : PagesView) (result : Result Reply TableFault) : Type 0 where
   pub shape : new.store.shape ≡ old.store.shape
-  pub cause : IsTrue tells → Cause tells index table t call old result
+  pub cause : Cause tells index table t call old result
+  pub grown : OnOk result (length (new.counts t) ≡ saves_after call (length (old.counts t)))
+  pub counts : OnErr result ((u : ℕ) → length (new.counts u) ≡ length (old.counts u))
+  pub apart : (u : ℕ) → u ≢ t → new.counts u ≡ old.counts u
   pub faults : IsFalse (is_failed result) → (new.store.is_dead ≡ old.store.is_dead) × (new.store.faults ≡ old.store.faults)
   pub dies : IsTrue (is_failed result) → (new.store.is_dead ≡ true) × Rose old.store.faults new.store.faults
   pub replies : IsTrue tells → IfOk result (Replies (state_of index old) t call)
@@ -158,7 +166,10 @@ pub did : (tells : Bool) (Opens : List ℕ → List ℕ → Type 0) (index : bel
     → Did tells Opens index table t call old new result
 did tells Opens index table t call old new result does = record {
   shape = does.shape;
-  cause = λ told. does.cause;
+  cause = does.cause;
+  grown = does.saves;
+  counts = counted result does.same_saves;
+  apart = λ u ne. (does.others u ne).1;
   faults = does.faults;
   dies = does.dies;
   replies = does.replies;
@@ -171,43 +182,45 @@ did tells Opens index table t call old new result does = record {
   others = λ u ne. (does.others u ne).0;
   time = does.time;
 }
-
-found_no_rows : (rows : List (ℕ × List ℕ)) (o : Option (List ℕ)) → reply.Listed rows ≡ found o → ⊥
-found_no_rows rows None is = absurd (cc)
-found_no_rows rows (Some value) is = absurd (cc)
-
-removed_no_rows : (rows : List (ℕ × List ℕ)) (o : Option (List ℕ)) → reply.Listed rows ≡ removed o → ⊥
-removed_no_rows rows None is = absurd (cc)
-removed_no_rows rows (Some value) is = absurd (cc)
+  where
+    counted : (r : Result Reply TableFault) → OnErr r (new.counts ≡ old.counts) → OnErr r ((u : ℕ) → length (new.counts u) ≡ length (old.counts u))
+    counted (Ok x) same = tt
+    counted (Err e) same = λ u. ap (λ (f : ℕ → List ℕ). length (f u)) same
 
 -- only a scan lists rows
-listed_is : (s : TableState) (t : ℕ) (call : Call) (rows : List (ℕ × List ℕ)) → Replies s t call (reply.Listed rows) → (name : List ℕ) × (low : ℕ) × (high : ℕ) × (call ≡ Scan name low high)
-listed_is s t (Scan name low high) rows replies = (name, low, high, refl)
-listed_is s t (Get name key) rows replies = absurd (found_no_rows rows (get (seen_by s t) (of_table name key)) replies)
-listed_is s t (Put name key value) rows replies = absurd (cc)
-listed_is s t (Del name key) rows replies = absurd (removed_no_rows rows (get (seen_by s t) (of_table name key)) replies)
-listed_is s t Save rows replies = absurd (cc)
-listed_is s t (Back n) rows replies = absurd (let e = replies.1 in cc)
-listed_is s t Commit rows replies = absurd replies
-listed_is s t Abort rows replies = absurd (cc)
-listed_is s t Offer rows replies = absurd replies
-listed_is s t Settle rows replies = absurd replies
-listed_is s t Purge rows replies = absurd replies
-listed_is s t Begin rows replies = absurd replies
+listed_is : (saves : ℕ) (call : Call) (rows : List (ℕ × List ℕ)) → IsOfKind saves call (reply.Listed rows) → (name : List ℕ) × (low : ℕ) × (high : ℕ) × (call ≡ Scan name low high)
+listed_is saves (Scan name low high) rows kind = (name, low, high, refl)
+listed_is saves (Get name key) rows kind = absurd kind
+listed_is saves (Put name key value) rows kind = absurd kind
+listed_is saves (Del name key) rows kind = absurd kind
+listed_is saves Save rows kind = absurd kind
+listed_is saves (Back n) rows kind = absurd kind
+listed_is saves Commit rows kind = absurd kind
+listed_is saves Abort rows kind = absurd kind
+listed_is saves Offer rows kind = absurd kind
+listed_is saves Settle rows kind = absurd kind
+listed_is saves Purge rows kind = absurd kind
+listed_is saves Begin rows kind = absurd kind
 
 -- a scan whose rows there is no memory to keep has changed nothing
-pub did_unkept : (tells : Bool) (Opens : List ℕ → List ℕ → Type 0) (index : below.Index) (table t : ℕ) (call : Call) (old new : PagesView) (rows : List (ℕ × List ℕ)) → IsAlive old.store
+pub did_unkept : (tells : Bool) (Opens : List ℕ → List ℕ → Type 0) (index : below.Index) (table t : ℕ) (call : Call) (old new : PagesView) (rows : List (ℕ × List ℕ)) → IsAlive old.store → IsOfKind (length (old.counts t)) call (reply.Listed rows)
     → Does tells Opens index table t call old new (Ok (reply.Listed rows)) → Did tells Opens index table t call old new (Err NoMemory)
-did_unkept tells Opens index table t call old new rows alive does = record {
+did_unkept tells Opens index table t call old new rows alive kind does = record {
   shape = does.shape;
-  cause = λ told. (alive, (let is = scan told in subst IsScan (sym is.3) tt));
+  cause = (alive, (let is = scan in subst IsScan (sym is.3) tt));
+  grown = tt;
+  counts = λ u. elim (cases_eq u t) [
+    | inl e ↦ subst (λ (v : ℕ). length (new.counts v) ≡ length (old.counts v)) (sym e) (does.saves ∙ (let is = scan in ap (λ (c : Call). saves_after c (length (old.counts t))) is.3))
+    | inr ne ↦ ap (λ (counts : List ℕ). length counts) (does.others u ne).1
+  ];
+  apart = λ u ne. (does.others u ne).1;
   faults = does.faults;
   dies = λ failed. absurd (false≢true failed);
   replies = λ told. tt;
   done = λ told. tt;
-  refused = λ told _. let is = scan told in does.done told ∙ ap (λ (c : Call). after t c (reply.Listed rows) (state_of index old)) is.3 ∙ scan_after (state_of index old) t is.0 is.1 is.2 (reply.Listed rows);
+  refused = λ told _. let is = scan in does.done told ∙ ap (λ (c : Call). after t c (reply.Listed rows) (state_of index old)) is.3 ∙ scan_after (state_of index old) t is.0 is.1 is.2 (reply.Listed rows);
   quiet = λ told _ quiet. does.quiet told refl quiet;
-  indexed = λ told living _. let is = scan told in
+  indexed = λ told living _. let is = scan in
       subst (λ (c : Call). (let r : Result Reply TableFault = Err NoMemory in Indexed table c (keys_of index old.store.state.bytes) (keys_of index new.store.state.bytes) r)) (sym is.3)
       (subst (λ (c : Call). (let r : Result Reply TableFault = Ok (reply.Listed rows) in Indexed table c (keys_of index old.store.state.bytes) (keys_of index new.store.state.bytes) r)) is.3 (does.indexed told living refl));
   version = λ told _. does.version told refl;
@@ -216,8 +229,8 @@ did_unkept tells Opens index table t call old new rows alive does = record {
   time = does.time;
 }
   where
-    scan : IsTrue tells → (name : List ℕ) × (low : ℕ) × (high : ℕ) × (call ≡ Scan name low high)
-    scan told = listed_is (state_of index old) t call rows (does.replies told)
+    scan : (name : List ℕ) × (low : ℕ) × (high : ℕ) × (call ≡ Scan name low high)
+    scan = listed_is (length (old.counts t)) call rows kind
 
 -- there is the table that is asked for
 pub has_asked : (names : List (List ℕ)) (call : Call) (table : ℕ) → number_for names call ≡ Some table → has_table names call ≡ true
@@ -296,12 +309,22 @@ module _ (tells : Bool) (Opens : Shape → List ℕ → List ℕ → Type 0) (in
       time = time_same tells Opens index p q s new (state_of index p).table (table_after t call (state_of index p)) (history_whole s tied.sound) works.shape tied.mirrors.table
           (same_table (state_of index p) t call of ∙ tied.mirrors.table) base history (works.time told alive)
 
+  -- the call has the saves that it needs, and the table is there, so the state does not refuse it
+  may : may_do s t call ≡ true
+  may = may_table s t call of ∙ takes_within s t calls un is
+
+  count_is : length (p.counts t) ≡ saves_of s t
+  count_is = kept.saves alive t (records_of s)
+
+  asked_cause : (answer : Reply) → TableCause (limits_of index p.store.shape) s t call answer → ReplyCause (limits_of index p.store.shape) s t call answer
+  asked_cause answer cause = call_cause (limits_of index p.store.shape) s t call living_state may (no_refusal (saves_of s t) call (subst (λ (n : ℕ). HasSaves n call) count_is saves)) there answer (of_table_cause (limits_of index p.store.shape) s t call answer of cause)
+
   -- the names stay
   names_same : (result : Result Reply TableFault) → IsTrue tells → IsFalse (is_failed result) → Did tells (Opens p.store.shape) index table t call p q result → names_of q.store.state.bytes ≡ names_of p.store.state.bytes
   names_same result told well works = ap names_in (works.tables told well)
 
   -- the caller's call was granted
-  module _ (answer : Reply) (works : Did tells (Opens p.store.shape) index table t call p q (Ok answer)) (granted : IsFalse (is_refusal answer)) (plain : IsFalse (is_committed answer))
+  module _ (answer : Reply) (works : Did tells (Opens p.store.shape) index table t call p q (Ok answer)) (granted : IsFalse (is_refusal answer)) (plain : IsFalse (is_committed answer)) (kind : IsOfKind (length (p.counts t)) call answer)
       (live : new.live ≡ update nat_eq s.live t (Some (calls ++ (call, answer) ∷ []))) where
     living : IsAlive q.store
     living = (works.faults refl).0 ∙ alive
@@ -323,7 +346,7 @@ module _ (tells : Bool) (Opens : Shape → List ℕ → List ℕ → Type 0) (in
         free,
         inl (
           answers (state_of index p) s (tied told).mirrors t (right told) call answer of (works.replies told),
-          fits_is index table p s shows.indexed (tied told).mirrors (tells_writes.held told alive) t (right told) call of ((works.cause told).2 told),
+          fits_is index table p s shows.indexed (tied told).mirrors (tells_writes.held told alive) t (right told) (tied told).room call of (asked_below told) (works.cause.2 told),
           new.index,
           indexes,
           λ i. record { names = names i; base = base i; history = history i; live = live i; offers = offers i; doubt = doubt i; is_dead = dead_same i; index = new.index },
@@ -343,7 +366,7 @@ module _ (tells : Bool) (Opens : Shape → List ℕ → List ℕ → Type 0) (in
         sound = step_sound (limits_of index p.store.shape) s t call answer new (tied told).sound step;
         room = subst (λ (h : Shape). HasHeld (limits_of index h) new) (sym works.shape)
             (room_granted (limits_of index p.store.shape) s (named told) (tied told).room new.index (indexes_slots (limits_of index p.store.shape) call answer s.index new.index indexes) t calls is new call answer refl live
-            (enters_at index table p s shows (tied told).mirrors (tells_writes.held told alive) t (right told) call answer new.index of ((works.cause told).2 told) (works.replies told) indexes)
+            (enters_at index table p s shows (tied told).mirrors (tells_writes.held told alive) t (right told) call answer new.index of (works.cause.2 told) (works.replies told) indexes)
             (returns_at index table p s shows (tied told).mirrors (tells_writes.held told alive) t (right told) calls (ap (λ (o : Option Granted). unwrap_or o []) is) call has));
       }
 
@@ -355,14 +378,17 @@ module _ (tells : Bool) (Opens : Shape → List ℕ → List ℕ → Type 0) (in
       seats = same_count ∙ kept.seats ∙ sym (ap (λ (h : Shape). h.numbers) works.shape);
       in_order = kept.in_order;
       idle = λ _. idle_after p.store.ranges q.store.ranges s.live new.live t works.others (kept.idle alive) (Some (calls ++ (call, answer) ∷ [])) live (λ e. absurd (no_calls (calls ++ (call, answer) ∷ []) e));
+      saves = λ _. saves_one p.counts q.counts s new t (Some (calls ++ (call, answer) ∷ [])) works.apart live (λ table. saves_granted (length (p.counts t)) (length (q.counts t)) table calls call answer of
+          (kept.saves alive t table ∙ ap (λ (o : Option Granted). saves_in table (unwrap_or o [])) is) saves works.grown) (kept.saves alive);
       tied = λ told _. tied_new told;
       safe = safe_new;
     }
 
     pub granted_steps : Steps tells t call (core_over Opens index p.store s) (core_over Opens index q.store new) answer
     granted_steps = steps_of tells Opens index p q s new t call answer works.shape
-        (moves_granted p.store.shape.numbers s new t calls call answer names base history dead_same offers un is live of granted plain) (λ failed. absurd (false≢true (sym (media_none answer granted) ∙ failed)))
-        (λ _. (works.faults refl).1) step (λ told. time told (Ok answer) works) safe_new
+        (moves_granted p.store.shape.numbers s new t calls call answer names base history dead_same offers un is live of granted plain)
+        (asked_cause answer (granted_cause (limits_of index p.store.shape) s t call answer free granted (subst (λ (n : ℕ). IsOfKind n call answer) count_is kind))) (λ failed. absurd (false≢true (sym (media_none answer granted) ∙ failed)))
+        (λ _. (works.faults refl).1) step (λ told. time told (Ok answer) works) safe_new (λ told _ _. shows_tied index q new shows_new.indexed (tied_new told))
 
   -- the call was refused
   module _ (f : TableFault) (works : Did tells (Opens p.store.shape) index table t call p q (Err f)) (live : new.live ≡ s.live) where
@@ -399,7 +425,7 @@ module _ (tells : Bool) (Opens : Shape → List ℕ → List ℕ → Type 0) (in
         asks_fault (PagesFull n) well cause made = inr (inr (
           free,
           inr (inl (
-            page_lacks index table p s shows.indexed (tied told).mirrors (tells_writes.held told alive) t (right told) (tied told).room call n of (cause.3 told) cause.2,
+            page_lacks index table p s shows.indexed (tied told).mirrors (tells_writes.held told alive) t (right told) (tied told).room call n of (asked_below told) (cause.3 told) cause.2,
             new.index,
             made,
             changed,
@@ -408,7 +434,7 @@ module _ (tells : Bool) (Opens : Shape → List ℕ → List ℕ → Type 0) (in
         asks_fault (LogFull g h n) well cause made = inr (inr (
           free,
           inr (inl (
-            log_lacks index table p s shows.indexed (tied told).mirrors (tells_writes.held told alive) t (right told) (tied told).room call g h n of (cause.2 told) cause.1,
+            log_lacks index table p s shows.indexed (tied told).mirrors (tells_writes.held told alive) t (right told) (tied told).room call g h n of (asked_below told) (cause.2 told) cause.1,
             new.index,
             made,
             changed,
@@ -423,7 +449,7 @@ module _ (tells : Bool) (Opens : Shape → List ℕ → List ℕ → Type 0) (in
 
         step_still : Step (limits_of index p.store.shape) s t call (reply_to f) new
         step_still = step_of (limits_of index p.store.shape) (Some calls) s new t call (reply_to f) living_state is un
-            (asks_at (limits_of index p.store.shape) calls s new t call (reply_to f) of there (saves_at index table p s shows (tied told).mirrors (tells_writes.held told alive) t (right told) call has) (asks_fault f well (works.cause told) indexes_still))
+            (asks_at (limits_of index p.store.shape) calls s new t call (reply_to f) of there (saves_at index table p s shows (tied told).mirrors (tells_writes.held told alive) t (right told) call has) (asks_fault f well works.cause indexes_still))
 
         tied_still : IsTied index q new
         tied_still = record {
@@ -444,6 +470,7 @@ module _ (tells : Bool) (Opens : Shape → List ℕ → List ℕ → Type 0) (in
         seats = same_count ∙ kept.seats ∙ sym (ap (λ (h : Shape). h.numbers) works.shape);
         in_order = kept.in_order;
         idle = λ _. idle_still p.store.ranges q.store.ranges s.live new.live t works.others (kept.idle alive) calls is live;
+        saves = λ _. saves_same p.counts q.counts s new works.counts live (kept.saves alive);
         tied = λ told _. tied_still told;
         safe = safe_still;
       }
@@ -451,7 +478,8 @@ module _ (tells : Bool) (Opens : Shape → List ℕ → List ℕ → Type 0) (in
       well_steps : Steps tells t call (core_over Opens index p.store s) (core_over Opens index q.store new) (reply_to f)
       well_steps = steps_of tells Opens index p q s new t call (reply_to f) works.shape
           (moves_refused p.store.shape.numbers s new t call (reply_to f) names base history live offers (dead_still ∙ sym (ap (λ (b : Bool). s.is_dead || b) (media_of f well) ∙ or_false s.is_dead)) (refusal_of f) (plain_of f))
-          (λ failed. absurd (false≢true (sym (media_of f well) ∙ failed))) (λ _. (works.faults well).1) step_still (λ told. time told (Err f) works) safe_still
+          (asked_cause (reply_to f) (fault_cause tells index table p s t call alive (saved_out p t call of saves) free f works.cause (λ media. absurd (false≢true (sym well ∙ ap is_failed media)))))
+          (λ failed. absurd (false≢true (sym (media_of f well) ∙ failed))) (λ _. (works.faults well).1) step_still (λ told. time told (Err f) works) safe_still (λ told _ _. shows_tied index q new shows_new.indexed (tied_still told))
 
   -- the medium failed
   module _ (works : Did tells (Opens p.store.shape) index table t call p q (Err Media)) (due : IsTrue (uses_index call)) (live : new.live ≡ s.live) where
@@ -471,14 +499,15 @@ module _ (tells : Bool) (Opens : Shape → List ℕ → List ℕ → Type 0) (in
       seats = same_count ∙ kept.seats ∙ sym (ap (λ (h : Shape). h.numbers) works.shape);
       in_order = kept.in_order;
       idle = λ living. absurd (false≢true (sym living ∙ (works.dies refl).0));
+      saves = λ living. absurd (false≢true (sym living ∙ (works.dies refl).0));
       tied = λ told living. absurd (false≢true (sym living ∙ (works.dies refl).0));
       safe = safe_failed;
     }
 
     media_steps : Steps tells t call (core_over Opens index p.store s) (core_over Opens index q.store new) reply.Media
     media_steps = steps_of tells Opens index p q s new t call reply.Media works.shape
-        (moves_refused p.store.shape.numbers s new t call reply.Media names base history live offers (died ∙ sym (or_true s.is_dead)) refl refl)
-        (λ _. (works.dies refl).1) (λ kept. absurd (false≢true (sym kept))) step_failed (λ told. time told (Err Media) works) safe_failed
+        (moves_refused p.store.shape.numbers s new t call reply.Media names base history live offers (died ∙ sym (or_true s.is_dead)) refl refl) (asked_cause reply.Media (free, inr due))
+        (λ _. (works.dies refl).1) (λ kept. absurd (false≢true (sym kept))) step_failed (λ told. time told (Err Media) works) safe_failed (λ told _ living. absurd (false≢true (sym living ∙ died)))
 
   module _ (f : TableFault) (works : Did tells (Opens p.store.shape) index table t call p q (Err f)) (due : (let r : Result Reply TableFault = Err f in IsErrOf r Media → IsTrue (uses_index call))) (live : new.live ≡ s.live) where
     pub refused_keeps : IsKept tells Opens index q count' rows new

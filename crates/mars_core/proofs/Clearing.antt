@@ -34,19 +34,20 @@ use Rattle.page_store.specs.Shown.{PagesView}
 use Rattle.record_table.proofs.Moving.{shown_same}
 use Rattle.record_table.proofs.Putting.{filter_short}
 use Rattle.record_table.specs.Does.{OpensWith, is_failed}
-use Rattle.record_table.specs.Removing.{IsAbsent, IsUnwritten, IsNextAbsent, SearchCause, Loses, Removes}
+use Rattle.record_table.specs.Removing.{IsAbsent, IsUnwritten, IsNextAbsent, SearchCause, IsKept, removal_in, Loses, Removes}
 use Rattle.record_table.specs.Shown.{table_of, state_of, keys_of}
 use Rattle.record_table.specs.State.{TableState}
 use Rattle.record_table.specs.declared.fault.TableFault.{TableFault}
 use Rattle.record_table.specs.declared.fault.TableFault.TheVariants.{SlotsFull, PagesFull, SavesFull, LogFull, Media, Dead, Damaged, NoMemory}
 use Rattle.caller_steps.specs.Locked.{IsFree, IsBusyWith}
-use Rattle.caller_steps.specs.Purging.{LosesKey, Lost}
+use Rattle.caller_steps.specs.Purging.{Try, LosesKey, Lost, IsTried, ComesBefore}
+use Rattle.caller_steps.proofs.Trying.{lost_append, each_append, each_as, tried_later, tried_before, order_append}
 use Rattle.caller_steps.specs.State.{Index}
 use Rattle.mars_core.specs.Over.{index_of}
 use Rattle.record_slots.specs.Names.{names_in, number_of}
 use Rattle.record_table.specs.Names.{IsCalled, names_of, key_in}
 use Rattle.record_table.specs.State as below_state
-use Rattle.mars_core.specs.Purging.{Keeps, IsTouchedIn, AreFreeIn, Cleared, IsReady, ClearCause, Tried, Tries, Clears}
+use Rattle.mars_core.specs.Purging.{Keeps, IsTouchedIn, AreFreeIn, Tried, Trail, Cleared, IsReady, ClearCause, Tries, Clears}
 use Rattle.mars_core.specs.Seats.{Seats, calls_at, bare}
 use Rattle.mars_core.proofs.Unwritten.{unwritten}
 
@@ -83,7 +84,7 @@ pub called_key : (bytes : List ℕ) (table : ℕ) (key : Key) → IsCalled bytes
 called_key bytes table key called = λ i. record { table = unwrap_or (called i) []; key = key.key }
 
 -- as callers see it
-loses_one : (index : below.Index) (a b : List ℕ) (table : ℕ) (key : Key) → IsCalled a table key.table → names_of b ≡ names_of a → Loses index table key.key a b → LosesKey key (index_of index a) (index_of index b)
+pub loses_one : (index : below.Index) (a b : List ℕ) (table : ℕ) (key : Key) → IsCalled a table key.table → names_of b ≡ names_of a → Loses index table key.key a b → LosesKey key (index_of index a) (index_of index b)
 loses_one index a b table key called same loses =
     let lost : below_state.LosesKey key (keys_of index a) (keys_of index b) = subst (λ (k : Key). below_state.LosesKey k (keys_of index a) (keys_of index b)) (called_key a table key called) loses.keys in
     record {
@@ -108,20 +109,46 @@ free_append : (index : below.Index) (seats : Seats) (bytes : List ℕ) (xs ys : 
 free_append index seats bytes [] ys a b = b
 free_append index seats bytes (x ∷ xs) ys a b = (a.0, free_append index seats bytes xs ys a.1 b)
 
+-- keys tried behind others
+trail_then : (index : below.Index) (seats : Seats) (first mid now : List ℕ) (tries later : List Try) → Trail index seats first tries mid → Trail index seats mid later now → Trail index seats first (later ++ tries) now
+trail_then index seats first mid now tries [] trail same = subst (λ (d : List ℕ). Trail index seats first tries d) (sym same) trail
+trail_then index seats first mid now tries (one ∷ later) trail (before, then_trail, tried) = (before, trail_then index seats first mid before tries later trail then_trail, tried)
+
 module _ (index : below.Index) (seats : Seats) (first : List ℕ) where
   pub cleared_none : (Passed : Key → Type 0) → ((key : Key) → Passed key → ⊥) → Cleared index seats Passed 0 first first
-  cleared_none Passed none = record { keys = []; count = refl; free = tt; lost = refl; kept = λ key some keeps. keeps; left = λ key passed is. absurd (none key passed) }
+  cleared_none Passed none = record {
+    keys = [];
+    count = refl;
+    free = tt;
+    lost = refl;
+    kept = λ key some keeps. keeps;
+    left = λ key passed is. absurd (none key passed);
+    tried = [];
+    keys_are = refl;
+    passed = tt;
+    order = tt;
+    absent = tt;
+    all = λ key passed is. absurd (none key passed);
+    trail = refl;
+  }
 
   module _ (mid : List ℕ) (Passed : Key → Type 0) (n : ℕ) (cleared : Cleared index seats Passed n first mid) where
     -- the same where no key more is absent
-    pub cleared_as : (Other : Key → Type 0) → ((key : Key) → Other key → IsAbsent index mid key → Passed key) → Cleared index seats Other n first mid
-    cleared_as Other passed = record {
+    pub cleared_as : (Other : Key → Type 0) → ((key : Key) → Other key → IsAbsent index mid key → Passed key) → ((key : Key) → Passed key → Other key) → Cleared index seats Other n first mid
+    cleared_as Other passed among = record {
       keys = cleared.keys;
       count = cleared.count;
       free = cleared.free;
       lost = cleared.lost;
       kept = cleared.kept;
       left = λ key other is. cleared.left key (passed key other is) is;
+      tried = cleared.tried;
+      keys_are = cleared.keys_are;
+      passed = each_as Passed Other among cleared.tried cleared.passed;
+      order = cleared.order;
+      absent = cleared.absent;
+      all = λ key other is. cleared.all key (passed key other is) is;
+      trail = cleared.trail;
     }
 
     -- no more keys were lost than slots were in use
@@ -134,24 +161,42 @@ module _ (index : below.Index) (seats : Seats) (first : List ℕ) where
       free_before [] free = tt
       free_before (key ∷ keys) free = (((lost_still (index_of index first) (index_of index mid) cleared.keys cleared.lost key free.0.0.0, ap (λ (t : Table). get t key) (sym same) ∙ free.0.0.1), free.0.1), free_before keys free.1)
 
+      still_absent : (key : Key) → IsAbsent index last key → IsAbsent index mid key
+      still_absent key is = (lost_still (index_of index mid) (index_of index last) then_cleared.keys then_cleared.lost key is.0, ap (λ (t : Table). get t key) (sym after) ∙ is.1)
+
+      was_absent_in : (key : Key) → IsAbsent index mid key → IsAbsent index first key
+      was_absent_in key is = (lost_still (index_of index first) (index_of index mid) cleared.keys cleared.lost key is.0, ap (λ (t : Table). get t key) (sym same) ∙ is.1)
+
       left_of : (key : Key) → Passed key ⊎ More key → IsAbsent index last key → IsTouchedIn seats key ⊎ Keeps index last key
       left_of key (inr more) is = then_cleared.left key more is
-      left_of key (inl passed) is =
-          let was = lost_still (index_of index mid) (index_of index last) then_cleared.keys then_cleared.lost key is.0 in
-          elim (cleared.left key passed (was, ap (λ (t : Table). get t key) (sym after) ∙ is.1)) [
-            | inl touch ↦ inl touch
-            | inr keeps ↦ inr (then_cleared.kept key is.0 keeps)
-          ]
+      left_of key (inl passed) is = elim (cleared.left key passed (still_absent key is)) [
+        | inl touch ↦ inl touch
+        | inr keeps ↦ inr (then_cleared.kept key is.0 keeps)
+      ]
 
-      pub cleared_then : Cleared index seats (λ key. Passed key ⊎ More key) (n + m) first last
-      cleared_then = record {
-        keys = then_cleared.keys ++ cleared.keys;
-        count = omega (arith, cleared.count, then_cleared.count, length-append then_cleared.keys cleared.keys);
-        free = free_append index seats first then_cleared.keys cleared.keys (free_before then_cleared.keys then_cleared.free) cleared.free;
-        lost = lost_then (index_of index first) (index_of index mid) (index_of index last) cleared.keys then_cleared.keys cleared.lost then_cleared.lost;
-        kept = λ key some keeps. then_cleared.kept key some (cleared.kept key (lost_still (index_of index mid) (index_of index last) then_cleared.keys then_cleared.lost key some) keeps);
-        left = left_of;
-      }
+      all_of : (key : Key) → Passed key ⊎ More key → IsAbsent index last key → IsTried key (then_cleared.tried ++ cleared.tried)
+      all_of key (inr more) is = tried_later key then_cleared.tried cleared.tried (then_cleared.all key more is)
+      all_of key (inl passed) is = tried_before key then_cleared.tried cleared.tried (cleared.all key passed (still_absent key is))
+
+      module _ (before : (one other : Key) → Passed one → More other → ComesBefore seats.names one other) where
+        pub cleared_then : Cleared index seats (λ key. Passed key ⊎ More key) (n + m) first last
+        cleared_then = record {
+          keys = then_cleared.keys ++ cleared.keys;
+          count = omega (arith, cleared.count, then_cleared.count, length-append then_cleared.keys cleared.keys);
+          free = free_append index seats first then_cleared.keys cleared.keys (free_before then_cleared.keys then_cleared.free) cleared.free;
+          lost = lost_then (index_of index first) (index_of index mid) (index_of index last) cleared.keys then_cleared.keys cleared.lost then_cleared.lost;
+          kept = λ key some keeps. then_cleared.kept key some (cleared.kept key (lost_still (index_of index mid) (index_of index last) then_cleared.keys then_cleared.lost key some) keeps);
+          left = left_of;
+          tried = then_cleared.tried ++ cleared.tried;
+          keys_are = (λ i. then_cleared.keys_are i ++ cleared.keys_are i) ∙ sym (lost_append then_cleared.tried cleared.tried);
+          passed = each_append (λ key. Passed key ⊎ More key) then_cleared.tried cleared.tried
+              (each_as More (λ key. Passed key ⊎ More key) (λ key more. inr more) then_cleared.tried then_cleared.passed)
+              (each_as Passed (λ key. Passed key ⊎ More key) (λ key passed. inl passed) cleared.tried cleared.passed);
+          order = order_append seats.names Passed More before then_cleared.tried cleared.tried then_cleared.passed cleared.passed then_cleared.order cleared.order;
+          absent = each_append (IsAbsent index first) then_cleared.tried cleared.tried (each_as (IsAbsent index mid) (IsAbsent index first) was_absent_in then_cleared.tried then_cleared.absent) cleared.absent;
+          all = all_of;
+          trail = trail_then index seats first mid last cleared.tried then_cleared.tried cleared.trail then_cleared.trail;
+        }
 
       -- no more keys were lost than slots were in use
       pub cleared_both : (most : ℕ) → used_slots first ≤ most → n + m ≤ most
@@ -161,9 +206,9 @@ module _ (index : below.Index) (seats : Seats) (first : List ℕ) where
           omega (arith, sum, more, le, cleared.count, then_cleared.count)
 
 -- what comes of one key that is tried
-module _ (index : below.Index) (seats : Seats) (mid last : List ℕ) (table : ℕ) (key : Key) (called : IsCalled mid table key.table) (names : names_of last ≡ names_of mid) (absent : IsAbsent index mid key) where
+module _ (index : below.Index) (seats : Seats) (mid last : List ℕ) (table : ℕ) (key : Key) (sound : index.sound mid) (called : IsCalled mid table key.table) (names : names_of last ≡ names_of mid) (absent : IsAbsent index mid key) where
   pub tried_clears : (was : Bool) → Tried index seats table key mid last was → Cleared index seats (λ one. one ≡ key) (one_if was) mid last
-  tried_clears true (free, loses) = record {
+  tried_clears true (free, unkept, loses) = record {
     keys = key ∷ [];
     count = refl;
     free = ((absent, free), tt);
@@ -172,6 +217,13 @@ module _ (index : below.Index) (seats : Seats) (mid last : List ℕ) (table : �
     left = λ one is at.
         let lost = loses_one index mid last table key called names loses in
         absurd ((kept_slot (index_of index mid).slot_of (index_of index last).slot_of key one lost.slot_of at.0).0 is);
+    tried = (key, true) ∷ [];
+    keys_are = refl;
+    passed = (refl, tt);
+    order = (tt, tt);
+    absent = (absent, tt);
+    all = λ one is at. inl (sym is);
+    trail = (mid, refl, record { sound = sound; table = table; called = called; named = names; comes = (free, unkept, loses) });
   }
   tried_clears false (same, why) = record {
     keys = [];
@@ -180,6 +232,13 @@ module _ (index : below.Index) (seats : Seats) (mid last : List ℕ) (table : �
     lost = ap (index_of index) same;
     kept = λ one some keeps. subst (λ (d : List ℕ). Keeps index d one) (sym same) keeps;
     left = λ one is at. subst (λ (x : Key × List ℕ). IsTouchedIn seats x.0 ⊎ Keeps index x.1 x.0) (λ i. (sym is i, sym same i)) why;
+    tried = (key, false) ∷ [];
+    keys_are = refl;
+    passed = (refl, tt);
+    order = (tt, tt);
+    absent = (absent, tt);
+    all = λ one is at. inl (sym is);
+    trail = (mid, refl, record { sound = sound; table = table; called = called; named = names; comes = (same, why) });
   }
 
 -- an array has fewer slots than numbers of 32 bits
@@ -207,6 +266,7 @@ module _ (tells : Bool) (Opens : List ℕ → List ℕ → Type 0) (index : belo
     called = called;
     small = small;
     ranges = λ _ u. refl;
+    saves = λ _. refl;
     sound = λ told _. (ready told).sound;
     tried = λ told. (refl, inl (holder, busy.0.1));
     time = λ told. stays old.store.moment old.store.left_since _;
@@ -242,8 +302,12 @@ module _ (tells : Bool) (Opens : List ℕ → List ℕ → Type 0) (index : belo
       cause_so new (Err SavesFull) removes = absurd removes.cause
       cause_so new (Err NoMemory) removes = absurd removes.cause
 
+      -- a pair that is taken out is not kept
+      unkept : (pages : List ℕ) → removal_in index table old.store.state.bytes key.key ≡ Some pages → IsKept index table old.store.state.bytes key.key → ⊥
+      unkept pages takes kept = absurd (cc)
+
       tried_so : (new : PagesView) (r : Result Bool TableFault) → IsTrue tells → Removes tells Opens index table t key.key old new r → IfOk r (Tried index seats table key old.store.state.bytes new.store.state.bytes)
-      tried_so new (Ok true) told removes = (untouched, removes.lost told alive)
+      tried_so new (Ok true) told removes = (untouched, unkept (removes.cause.1 told).0 (removes.cause.1 told).1, removes.lost told alive)
       tried_so new (Ok false) told removes = (removes.lost told alive, inr (table, called told, removes.cause.1 told))
       tried_so new (Err fault) told removes = tt
 
@@ -260,6 +324,7 @@ module _ (tells : Bool) (Opens : List ℕ → List ℕ → Type 0) (index : belo
         called = called;
         small = small;
         ranges = removes.ranges;
+        saves = λ _. removes.saves;
         sound = removes.sound;
         tried = λ told. tried_so new r told removes;
         time = λ told. removes.time told alive;
@@ -271,6 +336,7 @@ pub record Going (tells : Bool) (Opens : List ℕ → List ℕ → Type 0) (inde
   pub dead : now.store.is_dead ≡ old.store.is_dead
   pub faults : now.store.faults ≡ old.store.faults
   pub ranges : (u : ℕ) → listed (now.store.ranges u) ≡ listed (old.store.ranges u)
+  pub saves : now.counts ≡ old.counts
   pub ready : IsTrue tells → IsReady index seats t now
   pub state : IsTrue tells → state_of index now ≡ state_of index old
   pub cleared : IsTrue tells → Cleared index seats Passed n old.store.state.bytes now.store.state.bytes
@@ -289,6 +355,7 @@ module _ (tells : Bool) (Opens : List ℕ → List ℕ → Type 0) (index : belo
     dead = refl;
     faults = refl;
     ranges = λ u. refl;
+    saves = refl;
     ready = ready;
     state = λ told. refl;
     cleared = λ told. cleared_none index seats old.store.state.bytes Passed none;
@@ -321,6 +388,7 @@ module _ (tells : Bool) (Opens : List ℕ → List ℕ → Type 0) (index : belo
           dead = still.dead ∙ going.dead;
           faults = still.faults ∙ going.faults;
           ranges = λ u. ap (λ (f : ℕ → Option (List (ℕ × ℕ))). listed (f u)) looks.ranges ∙ going.ranges u;
+          saves = looks.saves ∙ going.saves;
           ready = λ told. let was = going.ready told in record {
             sound = subst (λ (d : List ℕ). index.sound d) (sym (bytes told)) was.sound;
             version = ap version_of (bytes told) ∙ was.version;
@@ -344,6 +412,7 @@ module _ (tells : Bool) (Opens : List ℕ → List ℕ → Type 0) (index : belo
       dies = λ _. let dies = both.0.dies refl in (dies.0, subst (λ (k : ℕ). Rose k new.store.faults) going.faults dies.1);
       state = λ told well. absurd (false≢true (sym well));
       ranges = λ well. absurd (false≢true (sym well));
+      saves = λ well. absurd (false≢true (sym well));
       sound = λ told live. absurd (false≢true (sym live ∙ (both.0.dies refl).0));
       ready = λ told. tt;
       cleared = λ told. tt;
@@ -357,6 +426,7 @@ module _ (tells : Bool) (Opens : List ℕ → List ℕ → Type 0) (index : belo
       dies = λ failed. absurd (false≢true failed);
       state = λ told _. now.state told;
       ranges = λ _. now.ranges;
+      saves = λ _. now.saves;
       sound = λ told _. (now.ready told).sound;
       ready = λ told. tt;
       cleared = λ told. tt;
@@ -370,8 +440,9 @@ module _ (tells : Bool) (Opens : List ℕ → List ℕ → Type 0) (index : belo
     look_refused Wanted new NoMemory both = absurd both.1
 
     -- all keys were tried
-    pub all_tried : (Wanted : Key → Type 0) → (IsTrue tells → (key : Key) → Wanted key → IsAbsent index mid.store.state.bytes key → Passed key) → Clears tells Opens index seats t Wanted old mid (Ok n)
-    all_tried Wanted passed = record {
+    pub all_tried : (Wanted : Key → Type 0) → (IsTrue tells → (key : Key) → Wanted key → IsAbsent index mid.store.state.bytes key → Passed key) → (IsTrue tells → (key : Key) → Passed key → Wanted key)
+        → Clears tells Opens index seats t Wanted old mid (Ok n)
+    all_tried Wanted passed among = record {
       shape = going.shape;
       mirrors = going.mirrors;
       cause = tt;
@@ -379,9 +450,10 @@ module _ (tells : Bool) (Opens : List ℕ → List ℕ → Type 0) (index : belo
       dies = λ failed. absurd (false≢true failed);
       state = λ told _. going.state told;
       ranges = λ _. going.ranges;
+      saves = λ _. going.saves;
       sound = λ told _. (going.ready told).sound;
       ready = λ told. going.ready told;
-      cleared = λ told. cleared_as index seats old.store.state.bytes mid.store.state.bytes Passed n (going.cleared told) Wanted (passed told);
+      cleared = λ told. cleared_as index seats old.store.state.bytes mid.store.state.bytes Passed n (going.cleared told) Wanted (passed told) (among told);
       time = going.time;
     }
 
@@ -403,11 +475,11 @@ module _ (tells : Bool) (Opens : List ℕ → List ℕ → Type 0) (index : belo
       -- a key was tried
       module _ (absent : IsTrue tells → IsAbsent index mid.store.state.bytes key) (was : Bool) (tries : Tries tells Opens index seats table key mid new (Ok was)) where
         fewer_slots : (w : Bool) → Tried index seats table key mid.store.state.bytes new.store.state.bytes w → used_slots new.store.state.bytes ≤ used_slots mid.store.state.bytes
-        fewer_slots true tried = omega (arith, tried.1.keys.slots)
+        fewer_slots true tried = omega (arith, tried.2.keys.slots)
         fewer_slots false tried = omega (arith, ap used_slots tried.0)
 
         one_more : IsTrue tells → Cleared index seats (λ one. one ≡ key) (one_if was) mid.store.state.bytes new.store.state.bytes
-        one_more told = tried_clears index seats mid.store.state.bytes new.store.state.bytes table key (tries.called told) (ap names_in (tries.tables told refl)) (absent told) was (tries.tried told)
+        one_more told = tried_clears index seats mid.store.state.bytes new.store.state.bytes table key (going.ready told).sound (tries.called told) (ap names_in (tries.tables told refl)) (absent told) was (tries.tried told)
 
         table_still : IsTrue tells → table_of index new.store.state.bytes ≡ table_of index mid.store.state.bytes
         table_still told = ap (λ (s : TableState). s.table) (tries.state told refl)
@@ -419,8 +491,8 @@ module _ (tells : Bool) (Opens : List ℕ → List ℕ → Type 0) (index : belo
           ap (λ (t : Table). get t one) (sym (table_still told)) ∙ is.1,
         )
 
-        pub going_on : Going tells Opens index seats t (λ one. Passed one ⊎ (one ≡ key)) (n + one_if was) old new
-        going_on =
+        pub going_on : (IsTrue tells → (one : Key) → Passed one → ComesBefore seats.names one key) → Going tells Opens index seats t (λ one. Passed one ⊎ (one ≡ key)) (n + one_if was) old new
+        going_on before =
             let well = tries.faults refl in
             record {
               shape = tries.shape ∙ going.shape;
@@ -428,6 +500,7 @@ module _ (tells : Bool) (Opens : List ℕ → List ℕ → Type 0) (index : belo
               dead = well.0 ∙ going.dead;
               faults = well.1 ∙ going.faults;
               ranges = λ u. tries.ranges refl u ∙ going.ranges u;
+              saves = tries.saves refl ∙ going.saves;
               ready = λ told. let r = going.ready told in record {
                 sound = tries.sound told (well.0 ∙ living);
                 version = tries.version told refl ∙ r.version;
@@ -436,7 +509,8 @@ module _ (tells : Bool) (Opens : List ℕ → List ℕ → Type 0) (index : belo
                 slots = omega (arith, r.slots, fewer_slots was (tries.tried told), ap slots_of tries.shape);
               };
               state = λ told. tries.state told refl ∙ going.state told;
-              cleared = λ told. cleared_then index seats old.store.state.bytes mid.store.state.bytes Passed n (going.cleared told) new.store.state.bytes (λ one. one ≡ key) (one_if was) (one_more told) (same_table told) (table_still told);
+              cleared = λ told. cleared_then index seats old.store.state.bytes mid.store.state.bytes Passed n (going.cleared told) new.store.state.bytes (λ one. one ≡ key) (one_if was) (one_more told) (same_table told) (table_still told)
+                  (λ one other passed is. subst (ComesBefore seats.names one) (sym is) (before told one passed));
               time = later_time new tries.time;
             }
 
@@ -458,6 +532,7 @@ module _ (tells : Bool) (Opens : List ℕ → List ℕ → Type 0) (index : belo
         dies = λ failed. let dies = tries.dies failed in (dies.0, subst (λ (k : ℕ). Rose k new.store.faults) going.faults dies.1);
         state = λ told well. tries.state told well ∙ going.state told;
         ranges = λ well u. tries.ranges well u ∙ going.ranges u;
+        saves = λ well. tries.saves well ∙ going.saves;
         sound = tries.sound;
         ready = λ told. tt;
         cleared = λ told. tt;
@@ -470,16 +545,17 @@ module _ (tells : Bool) (Opens : List ℕ → List ℕ → Type 0) (index : belo
         table_after : IsTrue tells → table_of index new.store.state.bytes ≡ table_of index mid.store.state.bytes
         table_after told = ap (λ (s : TableState). s.table) (clears.state told refl)
 
-        pub going_more : Going tells Opens index seats t (λ one. Passed one ⊎ More one) (n + m) old new
-        going_more = record {
+        pub going_more : (IsTrue tells → (one other : Key) → Passed one → More other → ComesBefore seats.names one other) → Going tells Opens index seats t (λ one. Passed one ⊎ More one) (n + m) old new
+        going_more before = record {
           shape = clears.shape ∙ going.shape;
           mirrors = sent_then tells old.store mid.store new.store going.mirrors clears.mirrors;
           dead = (clears.faults refl).0 ∙ going.dead;
           faults = (clears.faults refl).1 ∙ going.faults;
           ranges = λ u. clears.ranges refl u ∙ going.ranges u;
+          saves = clears.saves refl ∙ going.saves;
           ready = λ told. clears.ready told;
           state = λ told. clears.state told refl ∙ going.state told;
-          cleared = λ told. cleared_then index seats old.store.state.bytes mid.store.state.bytes Passed n (going.cleared told) new.store.state.bytes More m (clears.cleared told) (same_table told) (table_after told);
+          cleared = λ told. cleared_then index seats old.store.state.bytes mid.store.state.bytes Passed n (going.cleared told) new.store.state.bytes More m (clears.cleared told) (same_table told) (table_after told) (before told);
           time = later_time new clears.time;
         }
 
@@ -498,6 +574,7 @@ module _ (tells : Bool) (Opens : List ℕ → List ℕ → Type 0) (index : belo
         dies = λ failed. let dies = clears.dies failed in (dies.0, subst (λ (k : ℕ). Rose k new.store.faults) going.faults dies.1);
         state = λ told well. clears.state told well ∙ going.state told;
         ranges = λ well u. clears.ranges well u ∙ going.ranges u;
+        saves = λ well. clears.saves well ∙ going.saves;
         sound = clears.sound;
         ready = λ told. tt;
         cleared = λ told. tt;
@@ -506,17 +583,19 @@ module _ (tells : Bool) (Opens : List ℕ → List ℕ → Type 0) (index : belo
 
 -- the same purge, told by another count that is equal and by keys of which none more was passed
 pub going_to : (tells : Bool) (Opens : List ℕ → List ℕ → Type 0) (index : below.Index) (seats : Seats) (t n n' : ℕ) (Passed Other : Key → Type 0) (old now : PagesView) → (IsTrue tells → n' ≡ n)
-    → (IsTrue tells → (key : Key) → Other key → IsAbsent index now.store.state.bytes key → Passed key) → Going tells Opens index seats t Passed n old now → Going tells Opens index seats t Other n' old now
-going_to tells Opens index seats t n n' Passed Other old now count passed going = record {
+    → (IsTrue tells → (key : Key) → Other key → IsAbsent index now.store.state.bytes key → Passed key) → (IsTrue tells → (key : Key) → Passed key → Other key)
+    → Going tells Opens index seats t Passed n old now → Going tells Opens index seats t Other n' old now
+going_to tells Opens index seats t n n' Passed Other old now count passed among going = record {
   shape = going.shape;
   mirrors = going.mirrors;
   dead = going.dead;
   faults = going.faults;
   ranges = going.ranges;
+  saves = going.saves;
   ready = going.ready;
   state = going.state;
   cleared = λ told. subst (λ (k : ℕ). Cleared index seats Other k old.store.state.bytes now.store.state.bytes) (sym (count told))
-      (cleared_as index seats old.store.state.bytes now.store.state.bytes Passed n (going.cleared told) Other (passed told));
+      (cleared_as index seats old.store.state.bytes now.store.state.bytes Passed n (going.cleared told) Other (passed told) (among told));
   time = going.time;
 }
 

@@ -39,6 +39,8 @@ use Rattle.caller_steps.specs.Room.{Settles}
 use Rattle.caller_steps.specs.Step.{Step}
 use Rattle.caller_steps.specs.Prefix.{HasPrefix, HasPrefixOf}
 use Rattle.caller_steps.specs.Core.{IsSafe, Steps}
+use Rattle.caller_steps.proofs.Causing.{call_cause}
+use Rattle.mars_core.proofs.Saving.{saves_one}
 use Rattle.caller_steps.proofs.Sound.{step_sound, history_whole, one_more_whole}
 use Rattle.record_slots.specs.Names.{names_in}
 use Rattle.mars_core.specs.Over.{limits_of, index_with}
@@ -48,7 +50,7 @@ use Rattle.mars_core.proofs.Mirroring.{with_one_here, mirrors_at, apart}
 use Rattle.mars_core.proofs.Entering.{room_empty}
 use Rattle.mars_core.proofs.Idle.{idle_after}
 use Rattle.mars_core.proofs.Prefixes.{StoreLaws, prefix_all, prefix_more, sound_after, safe_dead, safe_alive}
-use Rattle.mars_core.proofs.Stepping.{ShowsPages, or_false, or_true, step_of, steps_of, steps_same, time_same}
+use Rattle.mars_core.proofs.Stepping.{shows_tied, ShowsPages, or_false, or_true, step_of, steps_of, steps_same, time_same}
 
 -- what was pushed last is what is removed
 no_tail : {A : Type 0} (x : A) (xs : List A) → x ∷ xs ≡ [] → ⊥
@@ -201,6 +203,7 @@ module _ (tells : Bool) (Opens : Shape → List ℕ → List ℕ → Type 0) (in
       seats = same_count ∙ kept.seats ∙ sym (ap (λ (h : Shape). h.numbers) does.shape);
       in_order = kept.in_order;
       idle = λ _. idle_after p.store.ranges q.store.ranges s.live new.live t (λ u ne. (does.others u ne).0) (kept.idle alive) None live (λ _. ap (λ (o : Option (List (ℕ × ℕ))). listed o) free);
+      saves = λ _. saves_one p.counts q.counts s new t None (λ u ne. (does.others u ne).1) live (λ table. does.saves) (kept.saves alive);
       tied = λ told _. tied_new told;
       safe = safe_new;
     }
@@ -220,8 +223,8 @@ module _ (tells : Bool) (Opens : Shape → List ℕ → List ℕ → Type 0) (in
             mine = ap (commits_of other) longer ∙ more_theirs other s.history (done_by s t calls) (λ e. ne (sym e));
           });
           refused = λ refusal _. absurd (false≢true refusal);
-        }) (λ failed. absurd (false≢true failed)) (λ _. (does.faults refl).1) step
-        (λ told. time_commit done done_is (Ok (Committed k)) does live told (no_doubt told)) safe_new)
+        }) (call_cause (limits_of index p.store.shape) s t Commit living_state (takes_within s t calls un is) refl refl (Committed (length s.history + 1)) refl) (λ failed. absurd (false≢true failed)) (λ _. (does.faults refl).1) step
+        (λ told. time_commit done done_is (Ok (Committed k)) does live told (no_doubt told)) safe_new (λ told _ _. shows_tied index q new shows_new.indexed (tied_new told)))
 
   -- the medium failed in the commit
   module _ (done : Done) (done_is : done ≡ done_by s t calls) (does : Does tells (Opens p.store.shape) index 0 t Commit p q (Err fault.Media))
@@ -255,6 +258,7 @@ module _ (tells : Bool) (Opens : Shape → List ℕ → List ℕ → Type 0) (in
       seats = same_count ∙ kept.seats ∙ sym (ap (λ (h : Shape). h.numbers) does.shape);
       in_order = kept.in_order;
       idle = λ living. absurd (false≢true (sym living ∙ (does.dies refl).0));
+      saves = λ living. absurd (false≢true (sym living ∙ (does.dies refl).0));
       tied = λ told living. absurd (false≢true (sym living ∙ (does.dies refl).0));
       safe = safe_doubt;
     }
@@ -273,7 +277,7 @@ module _ (tells : Bool) (Opens : Shape → List ℕ → List ℕ → Type 0) (in
         mine = ap (commits_of other) history;
       });
       refused = λ _ well. absurd (false≢true (sym well));
-    }) (λ _. (does.dies refl).1) (λ well. absurd (false≢true (sym well))) step_doubt time_doubt safe_doubt
+    }) (call_cause (limits_of index p.store.shape) s t Commit living_state (takes_within s t calls un is) refl refl reply.Media tt) (λ _. (does.dies refl).1) (λ well. absurd (false≢true (sym well))) step_doubt time_doubt safe_doubt (λ told _ living. absurd (false≢true (sym living ∙ died)))
 
   -- an abort
   module _ (history : new.history ≡ s.history) (doubt : new.doubt ≡ s.doubt) where
@@ -318,6 +322,7 @@ module _ (tells : Bool) (Opens : Shape → List ℕ → List ℕ → Type 0) (in
         seats = same_count ∙ kept.seats ∙ sym (ap (λ (h : Shape). h.numbers) does.shape);
         in_order = kept.in_order;
         idle = λ _. idle_after p.store.ranges q.store.ranges s.live new.live t (λ u ne. (does.others u ne).0) (kept.idle alive) None live (λ _. ap (λ (o : Option (List (ℕ × ℕ))). listed o) free);
+        saves = λ _. saves_one p.counts q.counts s new t None (λ u ne. (does.others u ne).1) live (λ table. does.saves) (kept.saves alive);
         tied = λ told _. tied_abort told;
         safe = safe_abort;
       }
@@ -336,10 +341,10 @@ module _ (tells : Bool) (Opens : Shape → List ℕ → List ℕ → Type 0) (in
           mine = ap (commits_of other) history;
         });
         refused = λ refusal _. absurd (false≢true refusal);
-      }) (λ failed. absurd (false≢true failed)) (λ _. (does.faults refl).1) step_abort time_abort safe_abort
+      }) (call_cause (limits_of index p.store.shape) s t Abort living_state (takes_within s t calls un is) refl refl Fine refl) (λ failed. absurd (false≢true failed)) (λ _. (does.faults refl).1) step_abort time_abort safe_abort (λ told _ _. shows_tied index q new shows_new.indexed (tied_abort told))
 
 -- a commit for which the history has no memory
 pub unkept : (tells : Bool) (Opens : Shape → List ℕ → List ℕ → Type 0) (index : below.Index) (p : PagesView) (s new : State) (shows : ShowsPages index p s) (count : ℕ) (rows : List NamedRows)
     → IsKept tells Opens index p count rows s → IsAlive p.store → (t : ℕ) (calls : Granted) → s.live t ≡ Some calls → s.offers t ≡ unoffered → new ≡ s → Steps tells t Commit (core_over Opens index p.store s) (core_over Opens index p.store new) NoMemory
-unkept tells Opens index p s new shows count rows kept alive t calls is un same = steps_same tells Opens index p s new t Commit NoMemory same kept.safe refl refl refl (λ told.
+unkept tells Opens index p s new shows count rows kept alive t calls is un same = steps_same tells Opens index p s new t Commit NoMemory same kept.safe refl refl refl (call_cause (limits_of index p.store.shape) s t Commit (shows.dead ∙ alive) (takes_within s t calls un is) refl refl NoMemory tt) (λ told.
     step_of (limits_of index p.store.shape) (Some calls) s s t Commit NoMemory (shows.dead ∙ alive) is un (inl (refl, refl)))

@@ -38,6 +38,7 @@ module _ (tells : Bool) (Opens : Shape → List ℕ → List ℕ → Type 0) (in
         seats = kept.seats ∙ sym (ap (λ (h : Shape). h.numbers) gives.shape);
         in_order = kept.in_order;
         idle = λ alive t none. ap (λ (f : store.Logs (ℕ × ℕ)). listed (f t)) gives.ranges ∙ kept.idle (sym gives.is_dead ∙ alive) t none;
+        saves = λ alive t table. ap (λ (f : ℕ → List ℕ). length (f t)) counts ∙ kept.saves (sym gives.is_dead ∙ alive) t table;
         tied = λ told alive.
             let tied = kept.tied told (sym gives.is_dead ∙ alive) in
             record {

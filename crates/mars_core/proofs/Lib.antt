@@ -2,13 +2,16 @@ pub mod Touching
 pub mod Idle
 pub mod Seating
 pub mod Mirroring
+pub mod Viewing
 pub mod Indexing
 pub mod Rooming
 pub mod Entering
 pub mod Prefixes
 pub mod Stepping
 pub mod Answering
-pub mod Staying
+pub mod Saving
+mod Causes
+mod Staying
 pub mod Answered
 pub mod Finishing
 pub mod Settling

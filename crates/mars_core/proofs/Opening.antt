@@ -28,6 +28,8 @@ use Rattle.mars_core.specs.Held.{core_over, state_at}
 use Rattle.mars_core.specs.Kept.{Mirrors, HasHeld, IsTied, IsKept}
 use Rattle.mars_core.specs.Seats.{Seats, live_in, offers_in}
 use Rattle.mars_core.proofs.Prefixes.{StoreLaws, safe_alive}
+use Rattle.mars_core.proofs.Viewing.{views_are}
+use Rattle.mars_core.proofs.Saving.{saves_in}
 
 -- the rows of a table are that table's
 module _ (m : Table) (rows : List NamedRows) (is : records_in rows ≡ entries m) where
@@ -42,7 +44,7 @@ no_log new idle t = ap (λ (o : Option Granted). unwrap_or o []) (idle t)
 
 -- A core over records to which nobody has written, with their rows, once their data is in version 2.
 module _ (tells : Bool) (Opens : Shape → List ℕ → List ℕ → Type 0) (index : below.Index) (p r : PagesView) (new_laws : StoreLaws tells Opens r.store) (alive : IsAlive p.store) (sound : IsTrue tells → index.sound p.store.state.bytes)
-    (idle : IsTrue tells → (t : ℕ) → ((state_of index p).logs t).writes ≡ []) (unsaved : IsTrue tells → (t : ℕ) → ((state_of index p).logs t).saved ≡ []) (upgrades : Upgrades tells (Opens p.store.shape) index p r (Ok tt))
+    (idle : IsTrue tells → (t : ℕ) → ((state_of index p).logs t).writes ≡ []) (unsaved : IsTrue tells → (t : ℕ) → ((state_of index p).logs t).saved ≡ []) (fresh : (t : ℕ) → p.counts t ≡ []) (upgrades : Upgrades tells (Opens p.store.shape) index p r (Ok tt))
     (rows : List NamedRows) (are : IsTrue tells → records_in rows ≡ entries (shown.table_of index p.store.state.bytes))
     (free : (t : ℕ) → p.store.ranges t ≡ None) (seats : Seats) (named : IsTrue tells → seats.names ≡ names_of p.store.state.bytes) (count : length seats.places ≡ p.store.shape.numbers) (none : (t : ℕ) → live_in seats t ≡ None) (unoffered_all : (t : ℕ) → offers_in seats t ≡ unoffered) (history : List Done) (empty : history ≡ []) (doubt : List Done) (sure : doubt ≡ []) where
   lives : IsAlive r.store
@@ -89,6 +91,7 @@ module _ (tells : Bool) (Opens : Shape → List ℕ → List ℕ → Type 0) (in
     seats = count ∙ sym (ap (λ (h : Shape). h.numbers) upgrades.shape);
     in_order = λ told. base_rows (shown.table_of index p.store.state.bytes) rows (are told);
     idle = λ _ t none. ap (λ (o : Option (List (ℕ × ℕ))). listed o) (still_free t);
+    saves = λ _ t table. ap (λ (f : ℕ → List ℕ). length (f t)) upgrades.saves ∙ ap (λ (counts : List ℕ). length counts) (fresh t) ∙ ap (λ (o : Option Granted). saves_in table (unwrap_or o [])) (sym (none t));
     tied = λ told _. tied_new told;
     safe = λ told. safe_alive tells Opens index r new_laws (state_at index r.store seats.names (table_of rows) history (live_in seats) (offers_in seats) doubt) told lives (tied_new told);
   }
@@ -106,6 +109,7 @@ module _ (tells : Bool) (Opens : Shape → List ℕ → List ℕ → Type 0) (in
       sound = λ told _. upgrades.sound told;
       names = λ told _. names_new told ∙ sym (named told);
       table = λ told _. (mirrors told).table;
+      views = λ told _ caller. views_are index r (state_at index r.store seats.names (table_of rows) history (live_in seats) (offers_in seats) doubt) (tied_new told) caller;
     };
     alive = lives;
     faults = (upgrades.faults refl).1;

@@ -1,11 +1,12 @@
 -- Which keys a purge has passed.
-use Rattle.std.proofs.Common.{◌≡◌, ◌+◌, ◌^◌, ◌<◌, ◌⊎◌, ℕ, zero, suc, min, inl, inr, List, [], ◌∷◌, length, Some, sym, ap, subst, ◌∙◌, arith}
+use Rattle.std.proofs.Common.{◌≡◌, ◌+◌, ◌^◌, ◌<◌, ◌≤◌, ◌⊎◌, ℕ, zero, suc, min, inl, inr, List, [], ◌∷◌, length, Some, sym, ap, subst, ◌∙◌, arith}
 use Rattle.std.specs.Prelude.{slice_get}
 use Rattle.std.proofs.lemmas.Bool.{cases_eq, cases_lt}
 use Rattle.history.specs.Key.{of_table}
 use Rattle.history.specs.declared.key.Key.{Key}
 use Rattle.page_store.specs.Index.{Index}
 use Rattle.record_table.specs.Removing.{IsAbsent, HasNoAbsent}
+use Rattle.caller_steps.specs.Purging.{ComesBefore}
 use Rattle.mars_core.specs.Purging.{IsBelow, IsOfTable, IsOfFirst}
 use Rattle.mars_core.proofs.Clearing.{one_name}
 
@@ -36,6 +37,32 @@ module _ (index : Index) (bytes : List ℕ) (name : List ℕ) (from : ℕ) where
       | inr ne ↦ absurd (none key.key (omega (arith, le)) (omega (arith, small, ne)) (subst (λ (k : Key). IsAbsent index bytes k) (key_is key name is) absent))
     ]
   ]
+
+-- what was passed is passed still
+pub below_more : (name : List ℕ) (from to : ℕ) → from ≤ to → (key : Key) → IsBelow name from key → IsBelow name to key
+below_more name from to le key below = (below.0, omega (arith, le, below.1))
+
+-- and so it is with the next key
+pub below_both : (name : List ℕ) (from next to : ℕ) → from ≤ next → next < to → (key : Key) → IsBelow name from key ⊎ (key ≡ of_table name next) → IsBelow name to key
+below_both name from next to le lt key (inl below) = (below.0, omega (arith, le, lt, below.1))
+below_both name from next to le lt key (inr is) = (ap (λ (k : Key). k.table) is, omega (arith, lt, ap (λ (k : Key). k.key) is))
+
+-- which comes behind them
+pub below_before : (names : List (List ℕ)) (name : List ℕ) (from next : ℕ) → from ≤ next → (one : Key) → IsBelow name from one → ComesBefore names one (of_table name next)
+below_before names name from next le one below = inr (below.0, omega (arith, le, below.1))
+
+-- the tables before one, and that one
+pub first_both : (names : List (List ℕ)) (n : ℕ) (name : List ℕ) → slice_get names n ≡ Some name → (key : Key) → IsOfFirst names n key ⊎ IsOfTable name key → IsOfFirst names (n + 1) key
+first_both names n name at key (inl (j, lt, is, small)) = (j, omega (arith, lt), is, small)
+first_both names n name at key (inr (is, small)) = (n, omega arith, at ∙ ap (λ (x : List ℕ). Some x) (sym is), small)
+
+-- whose keys come behind theirs
+pub first_before : (names : List (List ℕ)) (n : ℕ) (name : List ℕ) → slice_get names n ≡ Some name → (one other : Key) → IsOfFirst names n one → IsOfTable name other → ComesBefore names one other
+first_before names n name at one other (j, lt, is, small) of = inl (j, n, lt, is, at ∙ ap (λ (x : List ℕ). Some x) (sym of.0))
+
+-- all of them are of all tables
+pub first_all : (names : List (List ℕ)) (n : ℕ) (key : Key) → IsOfFirst names n key → IsOfFirst names (length names) key
+first_all names n key (j, lt, is, small) = (j, there names j key.table is, is, small)
 
 -- one table more
 pub first_more : (names : List (List ℕ)) (n : ℕ) (name : List ℕ) → slice_get names n ≡ Some name → (key : Key) → IsOfFirst names (n + 1) key → IsOfFirst names n key ⊎ IsOfTable name key

@@ -1,15 +1,15 @@
 -- A core after a purge.
 use Rattle.std.proofs.Common.{◌≡◌, ℕ, zero, suc, ◌<◌, ◌≤◌, ◌⊎◌, ◌++◌, inl, inr, Bool, true, false, cond, ◌||◌, IsTrue, List, [], ◌∷◌, length, filter, Result, Ok, Err, refl, sym, ◌∙◌, ap, subst, arith}
-use Rattle.std.specs.Prelude.{Option, Some, None, is_some, not, IsSome, IsFalse, unwrap_or, slice_get, map, if◌then◌else◌}
+use Rattle.std.specs.Prelude.{Option, Some, None, is_some, not, IsSome, IsFalse, slice_get, map, if◌then◌else◌}
 use Rattle.std.specs.FinMap.{get}
 use Rattle.std.specs.List.{list_any}
 use Rattle.std.specs.Map.{update}
 use Rattle.std.proofs.lemmas.Bool.{cases_Bool, false≢true, true≢false, or_parts}
-use Rattle.mars_base.proofs.Going.{stays, weaker}
+use Rattle.mars_base.proofs.Going.{weaker}
 use Rattle.array_shape.specs.declared.shape.Shape.{Shape}
 use Rattle.eaw_face.specs.StoreView.{LeavesOnly}
 use Rattle.eaw_face.specs.Causes.{IsAlive}
-use Rattle.record_slots.specs.Places.{version_of, tables_of}
+use Rattle.record_slots.specs.Places.{tables_of}
 use Rattle.page_store.specs.Index as below
 use Rattle.page_store.specs.Shown.{PagesView}
 use Rattle.history.specs.Key.{is_same_key}
@@ -27,7 +27,6 @@ use Rattle.caller_steps.proofs.AtKeys.{at_other_key}
 use Rattle.caller_steps.proofs.Sound.{history_whole}
 use Rattle.history.specs.Log.{log_of}
 use Rattle.history.specs.Rows.{NamedRows}
-use Rattle.history.specs.Table.{Granted}
 use Rattle.history.specs.Writes.{Table, Write, is_of}
 use Rattle.history.specs.declared.transaction.Done.{Done}
 use Rattle.history.specs.declared.call.Call.{Call}
@@ -41,8 +40,13 @@ use Rattle.record_table.specs.State.{TableState}
 use Rattle.record_table.specs.declared.fault.TableFault.{TableFault}
 use Rattle.record_table.specs.declared.fault.TableFault.TheVariants.{SlotsFull, PagesFull, SavesFull, LogFull, Media, Dead, Damaged, NoMemory}
 use Rattle.caller_steps.specs.Core.{IsSafe, Steps}
+use Rattle.caller_steps.specs.Cause as cause
+use Rattle.caller_steps.proofs.Causing.{call_cause}
+use Rattle.mars_core.proofs.Saving.{saves_same}
 use Rattle.caller_steps.specs.Prefix.{HasPrefixOf}
-use Rattle.caller_steps.specs.Purging.{AreFree, Lost, PurgeCause}
+use Rattle.caller_steps.specs.Purging as face
+use Rattle.caller_steps.specs.Purging.{Try, IsTouched, IsTried, Becomes, Lost, PurgeCause}
+use Rattle.caller_steps.proofs.Trying.{each_as}
 use Rattle.caller_steps.specs.Offers.{is_unoffered, is_engaged}
 use Rattle.caller_steps.specs.Fate.{is_busy, is_media, Moves}
 use Rattle.caller_steps.specs.Run.{is_purge}
@@ -54,17 +58,21 @@ use Rattle.caller_steps.specs.State.{State, Index, unoffered}
 use Rattle.mars_core.specs.Held.{core_over, state_at}
 use Rattle.mars_core.specs.Kept.{IsTied, IsKept}
 use Rattle.mars_core.specs.Over.{limits_of, index_of, keeps_at, keeps_in}
-use Rattle.mars_core.specs.Purging.{IsOfFirst, Keeps, AreFreeIn, IsReady, ClearCause, Clears}
+use Rattle.mars_core.specs.Purging.{IsOfFirst, IsTouchedIn, Keeps, AreFreeIn, Tried, Trail, IsReady, ClearCause, Clears}
 use Rattle.mars_core.specs.TableCall.{call_of}
 use Rattle.mars_core.specs.declared.table_call.TableCall.{TableCall}
 use Rattle.mars_core.specs.declared.table_call.TableCall.TheVariants as asks
 use Rattle.mars_core.specs.Seats.{Seats, live_in, offers_in, calls_at}
 use Rattle.mars_core.proofs.Answered.{fault_plain}
 use Rattle.mars_core.proofs.Answering.{IndexLaws}
-use Rattle.mars_core.proofs.Clearing.{one_name}
+use Rattle.mars_core.proofs.Clearing.{one_name, loses_one}
+use Rattle.record_table.specs.Names.{IsCalled}
+use Rattle.record_table.specs.Removing as removing
+use Rattle.record_table.specs.Removing.{IsAbsent, removal_in}
+use Rattle.history.proofs.Keys.{cases_key}
 use Rattle.mars_core.proofs.Indexing.{is_within}
 use Rattle.mars_core.proofs.Prefixes.{StoreLaws, safe_dead, safe_alive}
-use Rattle.mars_core.proofs.Stepping.{step_of, steps_of, time_same}
+use Rattle.mars_core.proofs.Stepping.{shows_tied, step_of, steps_of, time_same}
 use Rattle.mars_core.proofs.Unwritten.{unwritten}
 
 -- a key of the pairs of tables is one of theirs
@@ -121,6 +129,14 @@ numbered index laws bytes sound table name called = first_is (names_of bytes) na
 keeps_told : (index : below.Index) (laws : IndexLaws index) (bytes : List ℕ) → index.sound bytes → (key : Key) → Keeps index bytes key → keeps_in index bytes key ≡ true
 keeps_told index laws bytes sound key (table, called, kept) =
     ap (keeps_at index bytes key.key) (numbered index laws bytes sound table key.table called) ∙ ap (λ (o : Option (List ℕ)). not (is_some o)) kept
+
+-- and one that it does not keep is not
+keeps_not : (index : below.Index) (laws : IndexLaws index) (bytes : List ℕ) → index.sound bytes → (key : Key) (table : ℕ) → IsCalled bytes table key.table → (removing.IsKept index table bytes key.key → ⊥) → keeps_in index bytes key ≡ false
+keeps_not index laws bytes sound key table called unkept = ap (keeps_at index bytes key.key) (numbered index laws bytes sound table key.table called) ∙ go (removal_in index table bytes key.key) refl
+  where
+    go : (o : Option (List ℕ)) → removal_in index table bytes key.key ≡ o → not (is_some o) ≡ false
+    go None is = absurd (unkept is)
+    go (Some pages) is = refl
 
 -- how a purge is answered, by what came of it
 abbrev pub outcome : Result ℕ TableFault → Reply
@@ -229,13 +245,50 @@ module _ (tells : Bool) (Opens : Shape → List ℕ → List ℕ → Type 0) (in
         seats = kept.seats ∙ ap (λ (x : Shape). x.numbers) (sym clears.shape);
         in_order = kept.in_order;
         idle = λ living u none. clears.ranges (not_failed living) u ∙ kept.idle alive u none;
+        saves = λ living. saves_same p.counts q.counts s new (λ u. ap (λ (f : ℕ → List ℕ). length (f u)) (clears.saves (not_failed living))) refl (kept.saves alive);
         tied = λ told living. tied_of told r clears living;
         safe = safe_now q.store.is_dead refl;
       }
 
-    free_so : IsTrue tells → (keys : List Key) → AreFreeIn index seats p.store.state.bytes keys → AreFree (state_at index p.store seats.names base history (live_in seats) (offers_in seats) doubt) keys
-    free_so told [] free = tt
-    free_so told (key ∷ keys) free = (((free.0.0.0, ap (λ (x : Table). get x key) (sym (was told).mirrors.table) ∙ free.0.0.1), free.0.1), free_so told keys free.1)
+    -- the keys without a record, as callers see them
+    absent_so : IsTrue tells → (key : Key) → IsAbsent index p.store.state.bytes key → face.IsAbsent (state_at index p.store seats.names base history (live_in seats) (offers_in seats) doubt) key
+    absent_so told key absent = (absent.0, ap (λ (x : Table). get x key) (sym (was told).mirrors.table) ∙ absent.1)
+
+    was_absent : IsTrue tells → (key : Key) → face.IsAbsent (state_at index p.store seats.names base history (live_in seats) (offers_in seats) doubt) key → IsAbsent index p.store.state.bytes key
+    was_absent told key absent = (absent.0, ap (λ (x : Table). get x key) (was told).mirrors.table ∙ absent.1)
+
+    -- and what came of each that was tried
+    comes_so : (key : Key) (lost : Bool) (a b : List ℕ) (table : ℕ) → index.sound a → IsCalled a table key.table → names_of b ≡ names_of a → Tried index seats table key a b lost
+        → Becomes (limits_of index p.store.shape) (state_at index p.store seats.names base history (live_in seats) (offers_in seats) doubt) key lost (index_of index a) (index_of index b)
+    comes_so key true a b table sound called named comes = (comes.0, keeps_not index index_laws a sound key table called comes.1, loses_one index a b table key called named comes.2)
+    comes_so key false a b table sound called named comes = (touched_or comes.1, ap (index_of index) comes.0)
+      where
+        touched_or : IsTouchedIn seats key ⊎ Keeps index a key → IsTouched (state_at index p.store seats.names base history (live_in seats) (offers_in seats) doubt) key ⊎ IsTrue (keeps_in index a key)
+        touched_or (inl touch) = inl touch
+        touched_or (inr keeps) = inr (keeps_told index index_laws a sound key keeps)
+
+    tries_so : (first now : List ℕ) (tries : List Try) → Trail index seats first tries now
+        → face.Tries (limits_of index p.store.shape) (state_at index p.store seats.names base history (live_in seats) (offers_in seats) doubt) (index_of index first) tries (index_of index now)
+    tries_so first now [] trail = ap (index_of index) trail
+    tries_so first now (one ∷ tries) (before, trail, tried) =
+        (index_of index before, tries_so first before tries trail, comes_so one.0 one.1 before now tried.table tried.sound tried.called tried.named tried.comes)
+
+    -- A key that was absent is absent still, or was tried.
+    tried_or_still : (first now : List ℕ) (tries : List Try) (key : Key) → Trail index seats first tries now → IsSome ((index_of index first).slot_of key) → IsTried key tries ⊎ IsSome ((index_of index now).slot_of key)
+    tried_or_still first now [] key trail some = inr (subst (λ (d : List ℕ). IsSome ((index_of index d).slot_of key)) (sym trail) some)
+    tried_or_still first now (one ∷ tries) key (before, trail, tried) some = elim (tried_or_still first before tries key trail some) [
+      | inl tried_then ↦ inl (inr tried_then)
+      | inr there ↦ elim (cases_key key one.0) [
+        | inl same ↦ inl (inl (sym same))
+        | inr other ↦ inr (still one.1 tried.table tried.called tried.named tried.comes other there)
+      ]
+    ]
+      where
+        still : (lost : Bool) (table : ℕ) → IsCalled before table one.0.table → names_of now ≡ names_of before → Tried index seats table one.0 before now lost → (key ≡ one.0 → ⊥) → IsSome ((index_of index before).slot_of key) → IsSome ((index_of index now).slot_of key)
+        still true table called named comes other there =
+            let lost = loses_one index before now table one.0 called named comes.2 in
+            subst (λ (o : Option ℕ). IsSome o) (sym (ap (λ (f : Key → Option ℕ). f key) lost.slot_of ∙ at_other_key (index_of index before).slot_of one.0 None key other)) there
+        still false table called named comes other there = subst (λ (d : List ℕ). IsSome ((index_of index d).slot_of key)) (sym comes.0) there
 
     -- the same callers over another index
     still : (r : Result ℕ TableFault) → IsFalse (is_failed r) → Clears tells (Opens p.store.shape) index seats t (IsOfFirst seats.names (length seats.names)) p q r → new ≡ record s { index = index_of index q.store.state.bytes }
@@ -265,11 +318,18 @@ module _ (tells : Bool) (Opens : Shape → List ℕ → List ℕ → Type 0) (in
           n,
           refl,
           record {
-            keys = cleared.keys;
-            count = cleared.count;
-            free = free_so told cleared.keys cleared.free;
+            tried = cleared.tried;
+            order = cleared.order;
+            absent = each_as (IsAbsent index p.store.state.bytes) (face.IsAbsent (state_at index p.store seats.names base history (live_in seats) (offers_in seats) doubt)) (absent_so told) cleared.tried cleared.absent;
+            all = λ key small is. elim (tried_or_still p.store.state.bytes q.store.state.bytes cleared.tried key cleared.trail is.0) [
+              | inl tried ↦ tried
+              | inr there ↦ (let at = named_key index q.store.state.bytes key there in
+                  cleared.all key (at.0, subst (λ (ns : List (List ℕ)). at.0 < length ns) ready_then.named at.1, ap (λ (ns : List (List ℕ)). slice_get ns at.0) (sym ready_then.named) ∙ at.2, small)
+                  (there, ap (λ (x : TableState). get x.table key) (clears.state told refl) ∙ (was_absent told key is).1))
+            ];
+            count = cleared.count ∙ ap length cleared.keys_are;
             index = index_of index q.store.state.bytes;
-            lost = cleared.lost;
+            trail = tries_so p.store.state.bytes q.store.state.bytes cleared.tried cleared.trail;
             same = still (Ok n) refl clears;
             left = λ key lt is.
                 let at = named_key index q.store.state.bytes key is.0 in
@@ -300,6 +360,17 @@ module _ (tells : Bool) (Opens : Shape → List ℕ → List ℕ → Type 0) (in
     purge_cause (Err (Damaged page)) clears = (alive, free_caller)
     purge_cause (Err NoMemory) clears = absurd clears.cause
 
+    cleared_cause : (r : Result ℕ TableFault) → ClearCause tells r → cause.ClearCause (outcome r)
+    cleared_cause (Ok n) cause = tt
+    cleared_cause (Err Media) cause = tt
+    cleared_cause (Err Dead) cause = absurd cause
+    cleared_cause (Err (SlotsFull n)) cause = absurd cause
+    cleared_cause (Err (PagesFull n)) cause = absurd cause
+    cleared_cause (Err SavesFull) cause = absurd cause
+    cleared_cause (Err (LogFull g h n)) cause = absurd cause
+    cleared_cause (Err (Damaged page)) cause = tt
+    cleared_cause (Err NoMemory) cause = absurd cause
+
     failed_is : (r : Result ℕ TableFault) → ClearCause tells r → is_media (outcome r) ≡ is_failed r
     failed_is (Ok n) cause = refl
     failed_is (Err Media) cause = refl
@@ -314,5 +385,6 @@ module _ (tells : Bool) (Opens : Shape → List ℕ → List ℕ → Type 0) (in
     module _ (r : Result ℕ TableFault) (clears : Clears tells (Opens p.store.shape) index seats t (IsOfFirst seats.names (length seats.names)) p q r) where
       pub purged_steps : Steps tells t Purge (core_over Opens index p.store s) (core_over Opens index q.store new) (outcome r)
       purged_steps = steps_of tells Opens index p q s new t Purge (outcome r) clears.shape (moves_of r clears)
+          (call_cause (limits_of index p.store.shape) s t Purge alive (ap not free_caller) refl refl (outcome r) (cleared_cause r clears.cause))
           (λ ill. (clears.dies (sym (failed_is r clears.cause) ∙ ill)).1) (λ well. (clears.faults (sym (failed_is r clears.cause) ∙ well)).1)
-          (purge_step r clears) (time_now r clears) (purged_keeps r clears).safe
+          (purge_step r clears) (time_now r clears) (purged_keeps r clears).safe (λ told _ living. shows_tied index q new refl (tied_of told r clears living))

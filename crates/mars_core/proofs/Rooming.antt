@@ -3,7 +3,6 @@ use Rattle.std.proofs.Common.{◌≡◌, ◌≢◌, ◌≤◌, ◌<◌, ◌+◌,
 use Rattle.std.specs.Prelude.{IsSome}
 use Rattle.std.specs.FinMap.{get}
 use Rattle.std.proofs.lemmas.Bool.{cases_eq}
-use Rattle.mars_base.specs.Room.{IsFirstFull}
 use Rattle.array_shape.specs.declared.shape.Shape.{Shape}
 use Rattle.array_shape.proofs.Apart.{logger_below}
 use Rattle.page_store.specs.Index.{slots_of}
@@ -25,9 +24,13 @@ use Rattle.record_table.specs.Causes as table_causes
 use Rattle.record_table.specs.Shown.{state_of, pairs_of, keys_of, logger_of_slot, needed_on}
 use Rattle.record_table.specs.Shown as shown
 use Rattle.caller_steps.specs.State.{State, Index, calls_of, records_of}
-use Rattle.caller_steps.specs.Room.{Limits, is_slot_on, is_write_on, held_on, HasEntry, slot_for, IsSeen, Fits, IsFull, LacksAt, Lacks}
+use Rattle.caller_steps.specs.Room.{Action, Limits, is_slot_on, is_write_on, held_on, HasEntry, slot_for, IsSeen, FitsAt, Fits, pages_left, AllFit, LackPages, LackRoom, IsSlotFull, LacksAt, Lacks}
+use Rattle.page_store.specs.Inserts as inserts
+use Rattle.record_slots.specs.Names.{number_of}
+use Rattle.record_table.specs.Names.{names_of}
+use Rattle.mars_core.specs.TableCall.{number_for}
 use Rattle.caller_steps.proofs.Holding.{AreNamed}
-use Rattle.mars_core.specs.Over.{limits_of, index_of}
+use Rattle.mars_core.specs.Over.{limits_of, index_of, actions_as, actions_at}
 use Rattle.mars_core.specs.Kept.{Mirrors, HasHeld}
 use Rattle.mars_core.proofs.Mirroring.{IsOfTable, seen_is}
 
@@ -38,6 +41,12 @@ same_slot_on index shape g (Some slot) = refl
 pub named_is : (index : Index) (pairs : List shown.KeyPair) (writes : List Write) → ((key : Key) → index.slot_of key ≡ shown.found_key pairs key) → shown.AreNamed pairs writes → AreNamed index writes
 named_is index pairs [] same named = tt
 named_is index pairs (write ∷ writes) same named = (subst (λ (o : Option ℕ). IsSome o) (sym (same write.0)) named.0, named_is index pairs writes same named.1)
+
+-- if the call writes, there is an entry for it
+abbrev pub HasEntryFor : Limits → State → ℕ → Call → Type 0
+HasEntryFor limits old caller (Put name key value) = HasEntry limits old caller (of_table name key) (slot_for old.index (of_table name key))
+HasEntryFor limits old caller (Del name key) = IsSeen old caller (of_table name key) → HasEntry limits old caller (of_table name key) (slot_for old.index (of_table name key))
+HasEntryFor limits old caller _ = Unit {0}
 
 -- A state s over what pages show, whose index is that of the data.
 module _ (index : below.Index) (table : ℕ) (p : PagesView) (s : State) (indexed : s.index ≡ index_of index p.store.state.bytes) (mirrors : Mirrors (state_of index p) s)
@@ -76,92 +85,147 @@ module _ (index : below.Index) (table : ℕ) (p : PagesView) (s : State) (indexe
     slot_is : (key : Key) → unwrap_or (shown.found_key (pairs_of index p.store.state.bytes) key) (slot_due p.store.state.bytes) ≡ slot_for s.index key
     slot_is key = sym (ap (λ (ix : Index). slot_for ix key) indexed)
 
-    pub fits_is : (call : Call) → IsOfTable call → table_causes.Fits index table p t call → Fits (limits_of index p.store.shape) s t call
-    fits_is (Put name key value) of fits =
+    pub entry_is : (call : Call) → IsOfTable call → table_causes.Fits index table p t call → HasEntryFor (limits_of index p.store.shape) s t call
+    entry_is (Put name key value) of fits =
         subst (λ (slot : ℕ). HasEntry (limits_of index p.store.shape) s t (of_table name key) slot) (slot_is (of_table name key)) (put_fits (of_table name key) (shown.found_key (pairs_of index p.store.state.bytes) (of_table name key)) fits)
-    fits_is (Del name key) of fits = λ seen_there.
+    entry_is (Del name key) of fits = λ seen_there.
         let at = fits (seen_from (of_table name key) seen_there) in
         subst (λ (slot : ℕ). HasEntry (limits_of index p.store.shape) s t (of_table name key) slot)
         (sym (ap (λ (o : Option ℕ). unwrap_or o (slot_due p.store.state.bytes)) at.1) ∙ slot_is (of_table name key)) (has_entry t (of_table name key) at.0 at.2)
-    fits_is (Get name key) of fits = tt
-    fits_is (Scan name low high) of fits = tt
-    fits_is Save of fits = tt
-    fits_is (Back n) of fits = tt
-    fits_is Commit of fits = tt
-    fits_is Abort of fits = tt
-    fits_is Offer of fits = tt
-    fits_is Settle of fits = tt
-    fits_is Purge of fits = tt
-    fits_is Begin of fits = tt
+    entry_is (Get name key) of fits = tt
+    entry_is (Scan name low high) of fits = tt
+    entry_is Save of fits = tt
+    entry_is (Back n) of fits = tt
+    entry_is Commit of fits = tt
+    entry_is Abort of fits = tt
+    entry_is Offer of fits = tt
+    entry_is Settle of fits = tt
+    entry_is Purge of fits = tt
+    entry_is Begin of fits = tt
 
     -- Refusals of a full array, if no logger holds more than it has entries for.
     module _ (room : HasHeld (limits_of index p.store.shape) s) where
-      full_is : (g h n : ℕ) → table_causes.IsShort p t g h n → IsFull (limits_of index p.store.shape) s t g h n
-      full_is g h n short = (
-        omega (arith, short.2.full, short.2.held_is, held_is t g, room t g),
-        short.0,
-        short.1,
-        subst (λ (held : ℕ → ℕ). IsFirstFull p.store.shape.loggers p.store.shape.entries held short.1 g h n) (λ i k. sym (held_is t k) i) short.2,
-      )
-
       -- a slot's logger is full
-      slot_full : (key : Key) (slot g h n : ℕ) → table_causes.IsFull index t p key slot g h n → table_causes.IsShort p t g h n → LacksAt (limits_of index p.store.shape) s t key (Some slot) (reply.LogFull g h n)
-      slot_full key slot g h n full short = go (cases_eq (logger_of_slot p.store.shape slot) g)
+      slot_full : (key : Key) (slot g h n : ℕ) → table_causes.IsFull index t p key slot g h n → IsSlotFull (limits_of index p.store.shape) s t key slot g h n
+      slot_full key slot g h n full = go (cases_eq (logger_of_slot p.store.shape slot) g)
         where
-          module_full : IsFull (limits_of index p.store.shape) s t g h n
-          module_full = full_is g h n short
+          some : 1 ≤ n
+          some = omega (arith, full.1.full, full.1.held_is, held_is t g, room t g)
 
-          go : (logger_of_slot p.store.shape slot ≡ g) ⊎ (logger_of_slot p.store.shape slot ≢ g) → LacksAt (limits_of index p.store.shape) s t key (Some slot) (reply.LogFull g h n)
+          go : (logger_of_slot p.store.shape slot ≡ g) ⊎ (logger_of_slot p.store.shape slot ≢ g) → IsSlotFull (limits_of index p.store.shape) s t key slot g h n
           go (inr ne) = absurd (
               let none : n ≡ 0 = full.1.needed_is ∙ ap (λ (b : Bool). cond b 1 0) (ne_eqb (logger_of_slot p.store.shape slot) g ne) in
-              omega (arith, none, module_full.0)
+              omega (arith, none, some)
               )
           go (inl e) =
               let one : n ≡ 1 = full.1.needed_is ∙ ap (λ (b : Bool). cond b 1 0) (eq-eqb (logger_of_slot p.store.shape slot) g e) in (
                 λ has.
                     let few = has (anew_is t key ∙ full.0) in
                     let same : held_on (limits_of index p.store.shape) s t (logger_of_slot p.store.shape slot) ≡ held_on (limits_of index p.store.shape) s t g = ap (λ (k : ℕ). held_on (limits_of index p.store.shape) s t k) e in
-                    omega (arith, few, same, module_full.3.held_is, module_full.3.full, one),
+                    omega (arith, few, same, held_is t g, full.1.held_is, full.1.full, one),
                 sym e,
                 one,
-                module_full,
+                full.1.held_is ∙ sym (held_is t g),
+                full.1.logger,
               )
+
+      -- The actions of an insertion fit as the records say.
+      abbrev held_below : ℕ → ℕ
+      held_below = shown.held_on p t
+
+      holds : held_below ≡ held_on (limits_of index p.store.shape) s t
+      holds = λ i k. sym (held_is t k) i
+
+      all_fit : (left : ℕ) (actions : List below.Action) → inserts.AllFit p.store t left actions → AllFit (limits_of index p.store.shape) held_below left (actions_as p.store.shape actions)
+      all_fit left [] fit = tt
+      all_fit left (action ∷ later) (fits, fit) = (fits, all_fit (left - action.takes) later fit)
+
+      lack_pages : (left : ℕ) (actions : List below.Action) → inserts.LackPages p.store t left actions → LackPages (limits_of index p.store.shape) held_below left (actions_as p.store.shape actions)
+      lack_pages left [] lacks = absurd lacks
+      lack_pages left (action ∷ later) (inl few) = inl few
+      lack_pages left (action ∷ later) (inr (fits, lacks)) = inr (fits, lack_pages (left - action.takes) later lacks)
+
+      lack_room : (g h n left : ℕ) (actions : List below.Action) → inserts.LackRoom p.store t g h n left actions → LackRoom (limits_of index p.store.shape) held_below g h n left (actions_as p.store.shape actions)
+      lack_room g h n left [] lacks = absurd lacks
+      lack_room g h n left (action ∷ later) (inl (some, lacks)) = inl (some, lacks)
+      lack_room g h n left (action ∷ later) (inr (fits, lacks)) = inr (fits, lack_room g h n (left - action.takes) later lacks)
+
+      -- in terms of the state
+      module _ (key : Key) (number : number_of (names_of p.store.state.bytes) key.table ≡ Some table) where
+        actions_is : actions_as p.store.shape (table_causes.actions_in index p.store.state.bytes table key.key) ≡ (limits_of index p.store.shape).actions s.index.bytes key
+        actions_is = ap (actions_at index p.store.shape p.store.state.bytes key.key) (sym number) ∙ ap (λ (ix : Index). (limits_of index p.store.shape).actions ix.bytes key) (sym indexed)
+
+        left_is : inserts.pages_left p.store.shape p.store.state.bytes ≡ pages_left (limits_of index p.store.shape) s.index
+        left_is = ap (λ (ix : Index). pages_left (limits_of index p.store.shape) ix) (sym indexed)
+
+        moved : (P : (ℕ → ℕ) → ℕ → List Action → Type 0) → P held_below (inserts.pages_left p.store.shape p.store.state.bytes) (actions_as p.store.shape (table_causes.actions_in index p.store.state.bytes table key.key))
+            → P (held_on (limits_of index p.store.shape) s t) (pages_left (limits_of index p.store.shape) s.index) ((limits_of index p.store.shape).actions s.index.bytes key)
+        moved P is = subst (λ (x : (ℕ → ℕ) × ℕ × List Action). P x.0 x.1 x.2) (λ i. (holds i, left_is i, actions_is i)) is
+
+        due_is : slot_due p.store.state.bytes ≡ s.index.due
+        due_is = ap (λ (ix : Index). ix.due) (sym indexed)
 
       -- a slot is left
       slot_left : used_slots p.store.state.bytes < slots_of p.store.shape → s.index.used_slots < (limits_of index p.store.shape).slots
       slot_left left = subst (λ (ix : Index). ix.used_slots < slots_of p.store.shape) (sym indexed) left
 
-      put_lacks : (key : Key) (g h n : ℕ) (o : Option ℕ) → table_causes.PutLacks index table t key p g h n o → table_causes.IsShort p t g h n → LacksAt (limits_of index p.store.shape) s t key o (reply.LogFull g h n)
-      put_lacks key g h n None lacks short = (left lacks, full_is g h n short)
-        where
-          left : table_causes.PutLacks index table t key p g h n None → s.index.used_slots < (limits_of index p.store.shape).slots
-          left (inl comes) = slot_left comes.0
-          left (inr (comes, full)) = slot_left comes.0
-      put_lacks key g h n (Some slot) full short = slot_full key slot g h n full short
+      put_lacks : (key : Key) → number_of (names_of p.store.state.bytes) key.table ≡ Some table → (g h n : ℕ) (o : Option ℕ) → table_causes.PutLacks index table t key p g h n o → LacksAt (limits_of index p.store.shape) s t key o (reply.LogFull g h n)
+      put_lacks key number g h n None (inl comes) =
+          (slot_left comes.0, inl (moved key number (λ held left actions. LackRoom (limits_of index p.store.shape) held g h n left actions) (lack_room g h n _ (table_causes.actions_in index p.store.state.bytes table key.key) comes.1)))
+      put_lacks key number g h n None (inr (comes, full)) = (
+        slot_left comes.0,
+        inr (
+          moved key number (λ held left actions. AllFit (limits_of index p.store.shape) held left actions) (all_fit _ (table_causes.actions_in index p.store.state.bytes table key.key) comes.1),
+          subst (λ (slot : ℕ). IsSlotFull (limits_of index p.store.shape) s t key slot g h n) (due_is key number) (slot_full key (slot_due p.store.state.bytes) g h n full),
+        ),
+      )
+      put_lacks key number g h n (Some slot) full = slot_full key slot g h n full
 
       found_is : (key : Key) → shown.found_key (pairs_of index p.store.state.bytes) key ≡ s.index.slot_of key
       found_is key = sym (ap (λ (ix : Index). ix.slot_of key) indexed)
 
-      pub log_lacks : (call : Call) (g h n : ℕ) → IsOfTable call → table_causes.Lacks index table p g h n t call → table_causes.MayLack p g h n t call
+      fits_at : (key : Key) → number_of (names_of p.store.state.bytes) key.table ≡ Some table → (o : Option ℕ) → table_causes.PutFits index table t key p o → FitsAt (limits_of index p.store.shape) s t key o
+      fits_at key number None (comes, room) = (
+        slot_left comes.0,
+        moved key number (λ held left actions. AllFit (limits_of index p.store.shape) held left actions) (all_fit _ (table_causes.actions_in index p.store.state.bytes table key.key) comes.1),
+        subst (λ (slot : ℕ). HasEntry (limits_of index p.store.shape) s t key slot) (due_is key number) (has_entry t key (slot_due p.store.state.bytes) room),
+      )
+      fits_at key number (Some slot) room = has_entry t key slot room
+
+      pub fits_is : (call : Call) → IsOfTable call → number_for (names_of p.store.state.bytes) call ≡ Some table → table_causes.Fits index table p t call → Fits (limits_of index p.store.shape) s t call
+      fits_is (Put name key value) of number fits = subst (λ (o : Option ℕ). FitsAt (limits_of index p.store.shape) s t (of_table name key) o) (found_is (of_table name key)) (fits_at (of_table name key) number (shown.found_key (pairs_of index p.store.state.bytes) (of_table name key)) fits)
+      fits_is (Del name key) of number fits = entry_is (Del name key) of fits
+      fits_is (Get name key) of number fits = tt
+      fits_is (Scan name low high) of number fits = tt
+      fits_is Save of number fits = tt
+      fits_is (Back n) of number fits = tt
+      fits_is Commit of number fits = tt
+      fits_is Abort of number fits = tt
+      fits_is Offer of number fits = tt
+      fits_is Settle of number fits = tt
+      fits_is Purge of number fits = tt
+      fits_is Begin of number fits = tt
+
+      pub log_lacks : (call : Call) (g h n : ℕ) → IsOfTable call → number_for (names_of p.store.state.bytes) call ≡ Some table → table_causes.Lacks index table p g h n t call → table_causes.MayLack p g h n t call
           → Lacks (limits_of index p.store.shape) s t call (reply.LogFull g h n)
-      log_lacks (Put name key value) g h n of lacks short = subst (λ (o : Option ℕ). LacksAt (limits_of index p.store.shape) s t (of_table name key) o (reply.LogFull g h n)) (found_is (of_table name key))
-          (put_lacks (of_table name key) g h n (shown.found_key (pairs_of index p.store.state.bytes) (of_table name key)) lacks short)
-      log_lacks (Del name key) g h n of (seen_there, slot, at, full) short = (
+      log_lacks (Put name key value) g h n of number lacks short = subst (λ (o : Option ℕ). LacksAt (limits_of index p.store.shape) s t (of_table name key) o (reply.LogFull g h n)) (found_is (of_table name key))
+          (put_lacks (of_table name key) number g h n (shown.found_key (pairs_of index p.store.state.bytes) (of_table name key)) lacks)
+      log_lacks (Del name key) g h n of number (seen_there, slot, at, full) short = (
         seen_to (of_table name key) seen_there,
         slot,
         sym (found_is (of_table name key)) ∙ at,
-        slot_full (of_table name key) slot g h n full short,
+        slot_full (of_table name key) slot g h n full,
       )
-      log_lacks (Get name key) g h n of lacks short = absurd short
-      log_lacks (Scan name low high) g h n of lacks short = absurd short
-      log_lacks Save g h n of lacks short = absurd short
-      log_lacks (Back m) g h n of lacks short = absurd short
-      log_lacks Commit g h n of lacks short = absurd short
-      log_lacks Abort g h n of lacks short = absurd short
-      log_lacks Offer g h n of lacks short = absurd short
-      log_lacks Settle g h n of lacks short = absurd short
-      log_lacks Purge g h n of lacks short = absurd short
-      log_lacks Begin g h n of lacks short = absurd of
+      log_lacks (Get name key) g h n of number lacks short = absurd short
+      log_lacks (Scan name low high) g h n of number lacks short = absurd short
+      log_lacks Save g h n of number lacks short = absurd short
+      log_lacks (Back m) g h n of number lacks short = absurd short
+      log_lacks Commit g h n of number lacks short = absurd short
+      log_lacks Abort g h n of number lacks short = absurd short
+      log_lacks Offer g h n of number lacks short = absurd short
+      log_lacks Settle g h n of number lacks short = absurd short
+      log_lacks Purge g h n of number lacks short = absurd short
+      log_lacks Begin g h n of number lacks short = absurd of
 
       pub slot_lacks : (call : Call) (n : ℕ) → IsOfTable call → table_causes.LacksSlot index p n call → n ≡ slots_of p.store.shape
           → Lacks (limits_of index p.store.shape) s t call (reply.SlotsFull n)
@@ -179,20 +243,20 @@ module _ (index : below.Index) (table : ℕ) (p : PagesView) (s : State) (indexe
       slot_lacks Purge n of lacks most = absurd lacks
       slot_lacks Begin n of lacks most = absurd lacks
 
-      pub page_lacks : (call : Call) (n : ℕ) → IsOfTable call → table_causes.LacksPage index table p t call → n ≡ (limits_of index p.store.shape).index_pages - 1
+      pub page_lacks : (call : Call) (n : ℕ) → IsOfTable call → number_for (names_of p.store.state.bytes) call ≡ Some table → table_causes.LacksPage index table p t call → n ≡ (limits_of index p.store.shape).index_pages - 1
           → Lacks (limits_of index p.store.shape) s t call (reply.PagesFull n)
-      page_lacks (Put name key value) n of lacks most = subst (λ (o : Option ℕ). LacksAt (limits_of index p.store.shape) s t (of_table name key) o (reply.PagesFull n)) (sym lacks.0 ∙ found_is (of_table name key)) (slot_left lacks.1.0, most)
-      page_lacks (Get name key) n of lacks most = absurd lacks
-      page_lacks (Del name key) n of lacks most = absurd lacks
-      page_lacks (Scan name low high) n of lacks most = absurd lacks
-      page_lacks Save n of lacks most = absurd lacks
-      page_lacks (Back m) n of lacks most = absurd lacks
-      page_lacks Commit n of lacks most = absurd lacks
-      page_lacks Abort n of lacks most = absurd lacks
-      page_lacks Offer n of lacks most = absurd lacks
-      page_lacks Settle n of lacks most = absurd lacks
-      page_lacks Purge n of lacks most = absurd lacks
-      page_lacks Begin n of lacks most = absurd lacks
+      page_lacks (Put name key value) n of number lacks most = subst (λ (o : Option ℕ). LacksAt (limits_of index p.store.shape) s t (of_table name key) o (reply.PagesFull n)) (sym lacks.0 ∙ found_is (of_table name key)) (slot_left lacks.1.0, most, moved (of_table name key) number (λ held left actions. LackPages (limits_of index p.store.shape) held left actions) (lack_pages _ (table_causes.actions_in index p.store.state.bytes table key) lacks.1.1))
+      page_lacks (Get name key) n of number lacks most = absurd lacks
+      page_lacks (Del name key) n of number lacks most = absurd lacks
+      page_lacks (Scan name low high) n of number lacks most = absurd lacks
+      page_lacks Save n of number lacks most = absurd lacks
+      page_lacks (Back m) n of number lacks most = absurd lacks
+      page_lacks Commit n of number lacks most = absurd lacks
+      page_lacks Abort n of number lacks most = absurd lacks
+      page_lacks Offer n of number lacks most = absurd lacks
+      page_lacks Settle n of number lacks most = absurd lacks
+      page_lacks Purge n of number lacks most = absurd lacks
+      page_lacks Begin n of number lacks most = absurd lacks
 
 -- a write that finds an entry leaves no logger with more than it has entries for
 module _ (limits : Limits) (ix : Index) (write : Write) (slot : ℕ) (at : ix.slot_of write.0 ≡ Some slot) (l : Log)

@@ -30,13 +30,16 @@ use Rattle.record_table.specs.declared.fault.TableFault.{TableFault}
 use Rattle.record_table.specs.declared.fault.TableFault.TheVariants as fault
 use Rattle.record_slots.specs.Names.{names_in}
 use Rattle.caller_steps.specs.State.{State, Index, Offer, unoffered, offered, unsettled, calls_of, with_live, with_offer}
-use Rattle.caller_steps.specs.Offers.{is_unoffered, offerers, group_in, group_end, number_among, group_writes, without, committed_group, doubted_group}
+use Rattle.caller_steps.specs.Offers.{may_do, is_unoffered, offerers, group_in, group_end, number_among, group_writes, without, committed_group, doubted_group}
 use Rattle.caller_steps.specs.Room.{Limits, Settles, is_write_on, held_on}
 use Rattle.caller_steps.specs.Step.{Step, StepAt, StepIf, StepBy}
 use Rattle.caller_steps.specs.Fate.{is_refusal, is_media, is_committed, Moves}
 use Rattle.caller_steps.specs.Prefix.{HasPrefix, HasPrefixOf}
 use Rattle.caller_steps.specs.Purging.{PurgeCause}
 use Rattle.caller_steps.specs.Core.{IsSafe, Steps}
+use Rattle.caller_steps.specs.Cause.{misplaced, ReplyCause}
+use Rattle.caller_steps.proofs.Causing.{misplaced_cause, call_cause}
+use Rattle.caller_steps.proofs.Able.{takes_within}
 use Rattle.caller_steps.proofs.Fates.{given, settled, unsure, told, fate_moves}
 use Rattle.caller_steps.proofs.Sound.{step_sound, history_whole}
 use Rattle.caller_steps.proofs.Offering.{is_in, offerers_once, group_names, group_base, group_doubt, group_dead, group_history, group_apart, without_names, without_base, without_history}
@@ -44,9 +47,11 @@ use Rattle.caller_steps.proofs.Grouped.{group_whole}
 use Rattle.caller_steps.proofs.Leaving.{group_records, calls_in_group, calls_apart}
 use Rattle.mars_core.specs.Over.{limits_of, index_with}
 use Rattle.mars_core.specs.Held.{core_over}
-use Rattle.mars_core.specs.Kept.{Mirrors, HasHeld, IsTied, IsKept}
+use Rattle.mars_core.proofs.Saving.{saves_in, saves_same}
+use Rattle.mars_core.proofs.Causes.{settle_cause, told_cause, closed_may, misplaced_is}
+use Rattle.mars_core.specs.Kept.{Mirrors, HaveSaves, HasHeld, IsTied, IsKept}
 use Rattle.mars_core.proofs.Prefixes.{StoreLaws, prefix_all, prefix_more, sound_after, safe_dead, safe_alive}
-use Rattle.mars_core.proofs.Stepping.{ShowsPages, step_of, steps_of, steps_same}
+use Rattle.mars_core.proofs.Stepping.{shows_tied, ShowsPages, step_of, steps_of, steps_same}
 use Rattle.mars_core.proofs.Staying.{update_same}
 
 -- what numbers have written, and what their callers have
@@ -191,19 +196,27 @@ module _ (tells : Bool) (Opens : Shape → List ℕ → List ℕ → Type 0) (in
         go false out = ap (λ (o : Option (List (ℕ × ℕ))). listed o) (does.others u out).0
             ∙ kept.idle alive u (sym ((group_apart s end os u out).live) ∙ sym (ap (λ (f : ℕ → Option Granted). f u) live) ∙ none)
 
+    saves_new : HaveSaves q.counts new
+    saves_new u table = go (is_one_of os u) refl
+      where
+        go : (b : Bool) → is_one_of os u ≡ b → length (q.counts u) ≡ saves_in table (calls_of new u)
+        go true is = ap (λ (counts : List ℕ). length counts) (does.saves u is) ∙ ap (saves_in table) (sym (calls_here u is))
+        go false out = ap (λ (counts : List ℕ). length counts) (does.others u out).1 ∙ kept.saves alive u table ∙ ap (saves_in table) (sym (calls_there u out))
+
     pub settled_keeps : IsKept tells Opens index q count' rows new
     settled_keeps = record {
       seats = same_count ∙ kept.seats ∙ sym (ap (λ (h : Shape). h.numbers) does.shape);
       in_order = kept.in_order;
       idle = λ _. idle_new;
+      saves = λ _. saves_new;
       tied = λ told _. tied_new told;
       safe = safe_new;
     }
 
     pub settled_steps : (n : ℕ) → n ≡ number_among (length s.history + 1) os t → Steps tells t call.Settle (core_over Opens index p.store s) (core_over Opens index q.store new) (Committed n)
     settled_steps n n_is = subst (λ (k : ℕ). Steps tells t call.Settle (core_over Opens index p.store s) (core_over Opens index q.store new) (Committed k)) (sym n_is)
-        (steps_of tells Opens index p q s new t call.Settle (Committed (number_among (length s.history + 1) os t)) does.shape moves (λ failed. absurd (false≢true failed)) (λ _. (does.faults refl).1) step
-        (λ told. time_group (Ok tt) does told (no_doubt told)) safe_new)
+        (steps_of tells Opens index p q s new t call.Settle (Committed (number_among (length s.history + 1) os t)) does.shape moves (settle_cause (limits_of index p.store.shape) s t living_state has (Committed (number_among (length s.history + 1) os t)) refl) (λ failed. absurd (false≢true failed)) (λ _. (does.faults refl).1) step
+        (λ told. time_group (Ok tt) does told (no_doubt told)) safe_new (λ told _ _. shows_tied index q new shows_new.indexed (tied_new told)))
 
   -- the medium failed in it
   module _ (does : CommitsGroup tells (Opens p.store.shape) index os p q (Err fault.Media)) (live : new.live ≡ (without s os).live) (offers : new.offers ≡ (without s os).offers)
@@ -244,14 +257,15 @@ module _ (tells : Bool) (Opens : Shape → List ℕ → List ℕ → Type 0) (in
       seats = same_count ∙ kept.seats ∙ sym (ap (λ (h : Shape). h.numbers) does.shape);
       in_order = kept.in_order;
       idle = λ living. absurd (false≢true (sym living ∙ (does.dies refl).0));
+      saves = λ living. absurd (false≢true (sym living ∙ (does.dies refl).0));
       tied = λ so living. absurd (false≢true (sym living ∙ (does.dies refl).0));
       safe = safe_lost;
     }
 
     pub lost_steps : Steps tells t call.Settle (core_over Opens index p.store s) (core_over Opens index q.store new) reply.Media
     lost_steps = steps_of tells Opens index p q s new t call.Settle reply.Media does.shape
-        (fate_moves p.store.shape.numbers s t call.Settle reply.Media new (unsure inside has refl refl new.index lost_is))
-        (λ _. (does.dies refl).1) (λ well. absurd (false≢true (sym well))) step_lost time_lost safe_lost
+        (fate_moves p.store.shape.numbers s t call.Settle reply.Media new (unsure inside has refl refl new.index lost_is)) (settle_cause (limits_of index p.store.shape) s t living_state has reply.Media tt)
+        (λ _. (does.dies refl).1) (λ well. absurd (false≢true (sym well))) step_lost time_lost safe_lost (λ told _ living. absurd (false≢true (sym living ∙ died)))
 
 -- What only changes what a caller has offered, and ends no log.
 module _ (tells : Bool) (Opens : Shape → List ℕ → List ℕ → Type 0) (index : below.Index) (p : PagesView) (laws : StoreLaws tells Opens p.store) (s new : State) (shows : ShowsPages index p s) (count count' : ℕ)
@@ -283,12 +297,13 @@ module _ (tells : Bool) (Opens : Shape → List ℕ → List ℕ → Type 0) (in
       seats = same_count ∙ kept.seats;
       in_order = kept.in_order;
       idle = λ living u none. kept.idle living u (sym (ap (λ (f : ℕ → Option Granted). f u) live) ∙ none);
+      saves = λ living. saves_same p.counts p.counts s new (λ u. refl) live (kept.saves living);
       tied = λ told _. tied_kept told;
       safe = safe_kept;
     }
 
-    pub offer_steps : Moves p.store.shape.numbers s t call answer new → is_media answer ≡ false → Steps tells t call (core_over Opens index p.store s) (core_over Opens index p.store new) answer
-    offer_steps moves sure = steps_of tells Opens index p p s new t call answer refl moves (λ failed. absurd (false≢true (sym sure ∙ failed))) (λ _. refl) step (λ told. stays p.store.moment p.store.left_since _) safe_kept
+    pub offer_steps : Moves p.store.shape.numbers s t call answer new → ReplyCause (limits_of index p.store.shape) s t call answer → is_media answer ≡ false → Steps tells t call (core_over Opens index p.store s) (core_over Opens index p.store new) answer
+    offer_steps moves cause sure = steps_of tells Opens index p p s new t call answer refl moves cause (λ failed. absurd (false≢true (sym sure ∙ failed))) (λ _. refl) step (λ told. stays p.store.moment p.store.left_since _) safe_kept (λ told _ _. shows_tied index p new (slots ∙ shows.indexed) (tied_kept told))
 
   -- a caller offers its transaction
   module _ (calls : Granted) (is : s.live t ≡ Some calls) (un : s.offers t ≡ unoffered) (new_is : new ≡ with_offer s t offered) where
@@ -300,7 +315,7 @@ module _ (tells : Bool) (Opens : Shape → List ℕ → List ℕ → Type 0) (in
 
     pub given_steps : Steps tells t call.Offer (core_over Opens index p.store s) (core_over Opens index p.store new) Fine
     given_steps = offer_steps call.Offer Fine (ap (λ (x : State). x.live) new_is) (ap (λ (x : State). x.base) new_is) (ap (λ (x : State). x.names) new_is) (ap (λ (x : State). x.history) new_is) (ap (λ (x : State). x.index) new_is) step_given
-        (fate_moves p.store.shape.numbers s t call.Offer Fine new (given calls un refl refl is new_is)) refl
+        (fate_moves p.store.shape.numbers s t call.Offer Fine new (given calls un refl refl is new_is)) (call_cause (limits_of index p.store.shape) s t call.Offer (shows.dead ∙ alive) (takes_within s t calls un is) refl refl Fine refl) refl
 
   -- a caller whose transaction a group has committed is told its number
   module _ (n : ℕ) (has : s.offers t ≡ unsettled n) (none : s.live t ≡ None) (settles : new ≡ with_offer s t unoffered) where
@@ -315,28 +330,28 @@ module _ (tells : Bool) (Opens : Shape → List ℕ → List ℕ → Type 0) (in
 
     pub told_steps : Steps tells t call.Settle (core_over Opens index p.store s) (core_over Opens index p.store new) (Committed n)
     told_steps = offer_steps call.Settle (Committed n) (ap (λ (x : State). x.live) settles) (ap (λ (x : State). x.base) settles) (ap (λ (x : State). x.names) settles) (ap (λ (x : State). x.history) settles) (ap (λ (x : State). x.index) settles) step_told
-        (fate_moves p.store.shape.numbers s t call.Settle (Committed n) new (told n has refl refl ended_is)) refl
+        (fate_moves p.store.shape.numbers s t call.Settle (Committed n) new (told n has refl refl ended_is)) (told_cause (limits_of index p.store.shape) s t (shows.dead ∙ alive) n has) refl
 
 -- Calls that are refused because of what their callers have offered.
 module _ (tells : Bool) (Opens : Shape → List ℕ → List ℕ → Type 0) (index : below.Index) (p : PagesView) (s : State) (shows : ShowsPages index p s) (safe : IsTrue tells → IsSafe (core_over Opens index p.store s) p.store.moment (length s.history)) (alive : IsAlive p.store)
     (t : ℕ) where
-  closed_steps : (offer : Offer) (asked : Call) (answer : Reply) → s.offers t ≡ offer → StepBy (limits_of index p.store.shape) offer s t asked answer s → is_refusal answer ≡ true → is_media answer ≡ false → is_committed answer ≡ false
+  closed_steps : (offer : Offer) (asked : Call) (answer : Reply) → s.offers t ≡ offer → StepBy (limits_of index p.store.shape) offer s t asked answer s → is_refusal answer ≡ true → is_media answer ≡ false → is_committed answer ≡ false → may_do s t asked ≡ false → answer ≡ misplaced asked
       → Steps tells t asked (core_over Opens index p.store s) (core_over Opens index p.store s) answer
-  closed_steps offer asked answer has by refusal sure plain =
-      steps_same tells Opens index p s s t asked answer refl safe refusal sure plain (λ told. step_by (limits_of index p.store.shape) offer s s t asked answer (shows.dead ∙ alive) has by)
+  closed_steps offer asked answer has by refusal sure plain may kind =
+      steps_same tells Opens index p s s t asked answer refl safe refusal sure plain (misplaced_cause (limits_of index p.store.shape) s t asked (shows.dead ∙ alive) may answer kind) (λ told. step_by (limits_of index p.store.shape) offer s s t asked answer (shows.dead ∙ alive) has by)
 
   -- one that has offered its transaction begins no other and purges nothing, and its own takes no calls
   pub offered_begins : s.offers t ≡ offered → Steps tells t call.Begin (core_over Opens index p.store s) (core_over Opens index p.store s) reply.Already
-  offered_begins has = closed_steps offered call.Begin reply.Already has (refl, refl) refl refl refl
+  offered_begins has = closed_steps offered call.Begin reply.Already has (refl, refl) refl refl refl (closed_may s t offered has refl call.Begin (λ e. cc)) refl
 
   pub offered_purges : s.offers t ≡ offered → Steps tells t call.Purge (core_over Opens index p.store s) (core_over Opens index p.store s) reply.Already
-  offered_purges has = closed_steps offered call.Purge reply.Already has (refl, refl) refl refl refl
+  offered_purges has = closed_steps offered call.Purge reply.Already has (refl, refl) refl refl refl (closed_may s t offered has refl call.Purge (λ e. cc)) refl
 
   pub offered_cause : s.offers t ≡ offered → PurgeCause s t reply.Already
   offered_cause has = (shows.dead ∙ alive, or_right (is_some (s.live t)) (not (is_unoffered (s.offers t))) (ap (λ (o : Offer). not (is_unoffered o)) has))
 
   pub offered_asks : s.offers t ≡ offered → (asked : Call) → (asked ≡ call.Begin → ⊥) → (asked ≡ call.Settle → ⊥) → (asked ≡ call.Purge → ⊥) → Steps tells t asked (core_over Opens index p.store s) (core_over Opens index p.store s) reply.NoTransaction
-  offered_asks has asked begin settle purge = closed_steps offered asked reply.NoTransaction has (by asked begin settle purge) refl refl refl
+  offered_asks has asked begin settle purge = closed_steps offered asked reply.NoTransaction has (by asked begin settle purge) refl refl refl (closed_may s t offered has refl asked settle) (misplaced_is asked begin purge)
     where
       by : (asked : Call) → (asked ≡ call.Begin → ⊥) → (asked ≡ call.Settle → ⊥) → (asked ≡ call.Purge → ⊥) → StepBy (limits_of index p.store.shape) offered s t asked reply.NoTransaction s
       by call.Begin begin settle purge = absurd (begin refl)
@@ -346,16 +361,16 @@ module _ (tells : Bool) (Opens : Shape → List ℕ → List ℕ → Type 0) (in
 
   -- neither does one that has not settled
   pub unsettled_begins : (n : ℕ) → s.offers t ≡ unsettled n → Steps tells t call.Begin (core_over Opens index p.store s) (core_over Opens index p.store s) reply.Already
-  unsettled_begins n has = closed_steps (unsettled n) call.Begin reply.Already has (refl, refl) refl refl refl
+  unsettled_begins n has = closed_steps (unsettled n) call.Begin reply.Already has (refl, refl) refl refl refl (closed_may s t (unsettled n) has refl call.Begin (λ e. cc)) refl
 
   pub unsettled_purges : (n : ℕ) → s.offers t ≡ unsettled n → Steps tells t call.Purge (core_over Opens index p.store s) (core_over Opens index p.store s) reply.Already
-  unsettled_purges n has = closed_steps (unsettled n) call.Purge reply.Already has (refl, refl) refl refl refl
+  unsettled_purges n has = closed_steps (unsettled n) call.Purge reply.Already has (refl, refl) refl refl refl (closed_may s t (unsettled n) has refl call.Purge (λ e. cc)) refl
 
   pub unsettled_cause : (n : ℕ) → s.offers t ≡ unsettled n → PurgeCause s t reply.Already
   unsettled_cause n has = (shows.dead ∙ alive, or_right (is_some (s.live t)) (not (is_unoffered (s.offers t))) (ap (λ (o : Offer). not (is_unoffered o)) has))
 
   pub unsettled_asks : (n : ℕ) → s.offers t ≡ unsettled n → (asked : Call) → (asked ≡ call.Begin → ⊥) → (asked ≡ call.Settle → ⊥) → (asked ≡ call.Purge → ⊥) → Steps tells t asked (core_over Opens index p.store s) (core_over Opens index p.store s) reply.NoTransaction
-  unsettled_asks n has asked begin settle purge = closed_steps (unsettled n) asked reply.NoTransaction has (by asked begin settle purge) refl refl refl
+  unsettled_asks n has asked begin settle purge = closed_steps (unsettled n) asked reply.NoTransaction has (by asked begin settle purge) refl refl refl (closed_may s t (unsettled n) has refl asked settle) (misplaced_is asked begin purge)
     where
       by : (asked : Call) → (asked ≡ call.Begin → ⊥) → (asked ≡ call.Settle → ⊥) → (asked ≡ call.Purge → ⊥) → StepBy (limits_of index p.store.shape) (unsettled n) s t asked reply.NoTransaction s
       by call.Begin begin settle purge = absurd (begin refl)
@@ -365,7 +380,7 @@ module _ (tells : Bool) (Opens : Shape → List ℕ → List ℕ → Type 0) (in
 
   -- and one that has offered nothing has nothing to settle
   pub open_settles : s.offers t ≡ unoffered → Steps tells t call.Settle (core_over Opens index p.store s) (core_over Opens index p.store s) reply.NoTransaction
-  open_settles un = closed_steps unoffered call.Settle reply.NoTransaction un (by (s.live t)) refl refl refl
+  open_settles un = closed_steps unoffered call.Settle reply.NoTransaction un (by (s.live t)) refl refl refl (ap (λ (o : Offer). not (is_unoffered o)) un) refl
     where
       by : (live : Option Granted) → StepAt (limits_of index p.store.shape) live s t call.Settle reply.NoTransaction s
       by None = (refl, refl)

@@ -19,7 +19,10 @@ use Rattle.history.specs.declared.call.Reply.{Reply}
 use Rattle.history.specs.declared.call.Reply.TheVariants.{Fine, Busy, NoMemory, SavesFull, NoSave, NoTransaction, NoTable}
 use Rattle.record_table.specs.Shown.{state_of}
 use Rattle.caller_steps.specs.State.{State, unoffered, calls_of, commits_of, records_of, view_of, with_live}
-use Rattle.caller_steps.proofs.Able.{free_outside}
+use Rattle.caller_steps.specs.Offers.{may_do}
+use Rattle.caller_steps.specs.Cause.{saves_of, save_refusal}
+use Rattle.caller_steps.proofs.Able.{takes_within, free_outside}
+use Rattle.caller_steps.proofs.Causing.{save_cause, table_cause, call_cause}
 use Rattle.caller_steps.specs.Locked.{Blocks, IsFree, IsBusyWith}
 use Rattle.caller_steps.specs.Room.{Limits}
 use Rattle.caller_steps.specs.Step.{Step, StepAt}
@@ -36,9 +39,12 @@ use Rattle.mars_core.specs.Works.{HasSaves, IsSaveRefusal, IsShown}
 use Rattle.mars_core.proofs.Touching.{both}
 use Rattle.mars_core.proofs.Mirroring.{IsOfTable, calls_there, mirrors_at, saves_are, has_saves}
 use Rattle.mars_core.proofs.Entering.{room_empty}
+use Rattle.mars_core.proofs.Answering.{has_none}
+use Rattle.mars_core.proofs.Saving.{saves_in, saves_one}
+use Rattle.mars_core.proofs.Causes.{no_refusal, is_refused, of_table_cause, absent_cause}
 use Rattle.mars_core.proofs.Idle.{no_calls, idle_after}
 use Rattle.mars_core.proofs.Prefixes.{StoreLaws, safe_alive}
-use Rattle.mars_core.proofs.Stepping.{ShowsPages, or_false, step_of, asks_at, steps_same, steps_of, counts_is, saves_at}
+use Rattle.mars_core.proofs.Stepping.{ShowsPages, or_false, step_of, may_table, shows_tied, asks_at, steps_same, steps_of, counts_is, saves_at}
 
 -- an option that has a value
 pub some_of : {A : Type 0} (o : Option A) → is_some o ≡ true → (x : A) × (o ≡ Some x)
@@ -126,12 +132,29 @@ module _ (tells : Bool) (Opens : Shape → List ℕ → List ℕ → Type 0) (in
     save_step Purge answer refused = absurd refused
     save_step Begin answer refused = absurd refused
 
+  count_is : length (p.counts t) ≡ saves_of s t
+  count_is = kept.saves alive t (records_of s)
+
   -- refused because of its saves
   pub save_refused : (answer : Reply) → IsSaveRefusal (length (p.counts t)) call answer → Steps tells t call (core_over Opens index p.store s) (core_over Opens index p.store s) answer
   save_refused answer refused =
       let kind = refusal call answer refused in
-      steps_same tells Opens index p s s t call answer refl kept.safe kind.0 kind.1 kind.2 (λ told. save_step told call answer refused)
+      steps_same tells Opens index p s s t call answer refl kept.safe kind.0 kind.1 kind.2 (save_cause (limits_of index p.store.shape) s t call (shows.dead ∙ alive) (may_asked call answer refused) answer (is_refused (saves_of s t) call answer (subst (λ (n : ℕ). IsSaveRefusal n call answer) count_is refused))) (λ told. save_step told call answer refused)
     where
+      may_asked : (c : Call) (r : Reply) → IsSaveRefusal (length (p.counts t)) c r → may_do s t c ≡ true
+      may_asked Save r refused = takes_within s t calls un is
+      may_asked (Back n) r refused = takes_within s t calls un is
+      may_asked (Get name key) r refused = absurd refused
+      may_asked (Put name key value) r refused = absurd refused
+      may_asked (Del name key) r refused = absurd refused
+      may_asked (Scan name low high) r refused = absurd refused
+      may_asked Commit r refused = absurd refused
+      may_asked Abort r refused = absurd refused
+      may_asked Offer r refused = absurd refused
+      may_asked Settle r refused = absurd refused
+      may_asked Purge r refused = absurd refused
+      may_asked Begin r refused = absurd refused
+
       refusal : (c : Call) (r : Reply) → IsSaveRefusal (length (p.counts t)) c r → (is_refusal r ≡ true) × (is_media r ≡ false) × (is_committed r ≡ false)
       refusal Save r refused = subst (λ (x : Reply). (is_refusal x ≡ true) × (is_media x ≡ false) × (is_committed x ≡ false)) (sym refused.1) (refl, refl, refl)
       refusal (Back n) r refused = subst (λ (x : Reply). (is_refusal x ≡ true) × (is_media x ≡ false) × (is_committed x ≡ false)) (sym refused.1) (refl, refl, refl)
@@ -150,9 +173,15 @@ module _ (tells : Bool) (Opens : Shape → List ℕ → List ℕ → Type 0) (in
     has : HasSaves (length ((state_of index p).logs t).saved) call
     has = subst (λ (n : ℕ). HasSaves n call) (sym (counts_is index p t)) saves
 
+    may : may_do s t call ≡ true
+    may = may_table s t call of ∙ takes_within s t calls un is
+
+    saved : save_refusal (saves_of s t) call ≡ None
+    saved = no_refusal (saves_of s t) call (subst (λ (n : ℕ). HasSaves n call) count_is saves)
+
     -- since its table is not there
     pub table_refused : number_for s.names call ≡ None → Steps tells t call (core_over Opens index p.store s) (core_over Opens index p.store new) NoTable
-    table_refused none = steps_same tells Opens index p s new t call NoTable same kept.safe refl refl refl (λ told.
+    table_refused none = steps_same tells Opens index p s new t call NoTable same kept.safe refl refl refl (table_cause (limits_of index p.store.shape) s t call (shows.dead ∙ alive) may saved (has_none s.names call none)) (λ told.
         step_of (limits_of index p.store.shape) (Some calls) s s t call NoTable (shows.dead ∙ alive) is un (none_at call none))
       where
         none_at : (c : Call) → number_for s.names c ≡ None → StepAt (limits_of index p.store.shape) (Some calls) s t c NoTable s
@@ -171,13 +200,13 @@ module _ (tells : Bool) (Opens : Shape → List ℕ → List ℕ → Type 0) (in
 
     -- for lack of memory
     pub memory_refused : has_table s.names call ≡ true → Steps tells t call (core_over Opens index p.store s) (core_over Opens index p.store new) NoMemory
-    memory_refused there = steps_same tells Opens index p s new t call NoMemory same kept.safe refl refl refl (λ told.
+    memory_refused there = steps_same tells Opens index p s new t call NoMemory same kept.safe refl refl refl (call_cause (limits_of index p.store.shape) s t call (shows.dead ∙ alive) may saved there NoMemory (of_table_cause (limits_of index p.store.shape) s t call NoMemory of tt)) (λ told.
         step_of (limits_of index p.store.shape) (Some calls) s s t call NoMemory (shows.dead ∙ alive) is un (asks_at (limits_of index p.store.shape) calls s s t call NoMemory of there
         (saves_at index 0 p s shows (tied told).mirrors (tells_writes.held told alive) t ((tied told).sound.right t) call has) (inl (refl, refl))))
 
     -- because another caller holds its keys
     pub busy_refused : has_table s.names call ≡ true → (holder : ℕ) → IsBusyWith s t call holder → Steps tells t call (core_over Opens index p.store s) (core_over Opens index p.store new) (Busy holder)
-    busy_refused there holder busy = steps_same tells Opens index p s new t call (Busy holder) same kept.safe refl refl refl (λ told.
+    busy_refused there holder busy = steps_same tells Opens index p s new t call (Busy holder) same kept.safe refl refl refl (call_cause (limits_of index p.store.shape) s t call (shows.dead ∙ alive) may saved there (Busy holder) (of_table_cause (limits_of index p.store.shape) s t call (Busy holder) of busy)) (λ told.
         step_of (limits_of index p.store.shape) (Some calls) s s t call (Busy holder) (shows.dead ∙ alive) is un (asks_at (limits_of index p.store.shape) calls s s t call (Busy holder) of there
         (saves_at index 0 p s shows (tied told).mirrors (tells_writes.held told alive) t ((tied told).sound.right t) call has) (inr (inl (holder, busy, (refl, refl))))))
 
@@ -220,6 +249,7 @@ module _ (tells : Bool) (Opens : Shape → List ℕ → List ℕ → Type 0) (in
     seats = same_count ∙ kept.seats;
     in_order = kept.in_order;
     idle = λ living. idle_after p.store.ranges p.store.ranges s.live new.live t (λ u ne. refl) (kept.idle living) (Some []) live_is (λ e. absurd (no_calls [] e));
+    saves = λ living. saves_one p.counts p.counts s new t (Some []) (λ u ne. refl) live_is (λ table. kept.saves living t table ∙ ap (saves_in table) (ap (λ (o : Option Granted). unwrap_or o []) none)) (kept.saves living);
     tied = λ told _. tied_new told;
     safe = safe_new;
   }
@@ -238,7 +268,7 @@ module _ (tells : Bool) (Opens : Shape → List ℕ → List ℕ → Type 0) (in
       mine = ap (λ (x : State). commits_of other x.history) begins;
     });
     refused = λ refusal _. absurd (false≢true refusal);
-  }) (λ failed. absurd (false≢true failed)) (λ _. refl) step (λ told. stays p.store.moment p.store.left_since _) safe_new
+  }) (call_cause (limits_of index p.store.shape) s t Begin (shows.dead ∙ alive) (free_outside s t un none) refl refl Fine refl) (λ failed. absurd (false≢true failed)) (λ _. refl) step (λ told. stays p.store.moment p.store.left_since _) safe_new (λ told _ _. shows_tied index p new (ap (λ (x : State). x.index) begins ∙ shows.indexed) (tied_new told))
 
 -- a call of the table outside of a transaction
 absent_at : (limits : Limits) (s : State) (t : ℕ) (call : TableCall) → StepAt limits None s t (call_of call) NoTransaction s
@@ -255,5 +285,5 @@ is_absent_at limits s t asked call said = subst (λ (c : Call). StepAt limits No
 pub absent_steps : (tells : Bool) (Opens : Shape → List ℕ → List ℕ → Type 0) (index : below.Index) (p : PagesView) (s : State) → ShowsPages index p s → (count : ℕ) (rows : List NamedRows) → IsKept tells Opens index p count rows s
     → IsAlive p.store → (t : ℕ) (call : Call) → s.live t ≡ None → s.offers t ≡ unoffered → StepAt (limits_of index p.store.shape) None s t call NoTransaction s → (new : State) → new ≡ s
     → Steps tells t call (core_over Opens index p.store s) (core_over Opens index p.store new) NoTransaction
-absent_steps tells Opens index p s shows count rows kept alive t call none un at new same = steps_same tells Opens index p s new t call NoTransaction same kept.safe refl refl refl (λ told.
+absent_steps tells Opens index p s shows count rows kept alive t call none un at new same = steps_same tells Opens index p s new t call NoTransaction same kept.safe refl refl refl (absent_cause (limits_of index p.store.shape) s t call (shows.dead ∙ alive) none un s at) (λ told.
     step_of (limits_of index p.store.shape) None s s t call NoTransaction (shows.dead ∙ alive) none un at)

@@ -38,14 +38,16 @@ use Rattle.caller_steps.specs.Step.{Asks, StepAt, StepBy, StepIf, Step, most_sav
 use Rattle.caller_steps.specs.Fate.{Moves, is_refusal, is_media, is_committed, committed_by, live_with, offer_with}
 use Rattle.caller_steps.specs.Prefix.{HasPrefix, HasPrefixOf}
 use Rattle.caller_steps.specs.Core.{IsSafe, Steps}
-use Rattle.mars_core.specs.Over.{limits_of, index_of}
+use Rattle.caller_steps.specs.Cause.{ReplyCause}
+use Rattle.mars_core.specs.Over.{limits_of, index_of, ShowsAll}
+use Rattle.record_table.specs.Names.{names_of}
 use Rattle.mars_core.specs.Held.{core_over}
-use Rattle.mars_core.specs.Kept.{Mirrors}
+use Rattle.mars_core.specs.Kept.{Mirrors, IsTied}
 use Rattle.record_table.specs.Calls.{Replies}
 use Rattle.mars_core.specs.Works.{HasSaves}
 use Rattle.mars_core.proofs.Indexing.{slot_after}
 use Rattle.mars_core.proofs.Mirroring.{IsOfTable, has_save_is, saves_are, has_saves}
-use Rattle.mars_core.proofs.Rooming.{has_entry, fits_is}
+use Rattle.mars_core.proofs.Rooming.{has_entry, entry_is}
 use Rattle.mars_core.proofs.Entering.{Enters, Returns}
 use Rattle.mars_core.proofs.Prefixes.{prefix_all}
 use Rattle.record_table.specs.Causes as table_causes
@@ -101,7 +103,7 @@ offer_with_is Offer of = absurd of
 offer_with_is _ of = refl
 
 -- it is done within a transaction that takes calls
-may_table : (s : State) (t : ℕ) (call : Call) → IsOfTable call → may_do s t call ≡ takes_calls s t
+pub may_table : (s : State) (t : ℕ) (call : Call) → IsOfTable call → may_do s t call ≡ takes_calls s t
 may_table s t Begin of = absurd of
 may_table s t Settle of = absurd of
 may_table s t Purge of = absurd of
@@ -156,30 +158,45 @@ asks_at limits calls s new t Settle answer of there saves asks = absurd of
 asks_at limits calls s new t Purge answer of there saves asks = absurd of
 asks_at limits calls s new t Begin answer of there saves asks = absurd of
 
+-- while the store is not dead, its data shows the state
+pub shows_tied : (index : below.Index) (q : PagesView) (new : State) → new.index ≡ index_of index q.store.state.bytes → IsTied index q new → ShowsAll index new
+shows_tied index q new indexed tied =
+    let bytes : new.index.bytes ≡ q.store.state.bytes = ap (λ (x : Index). x.bytes) indexed in
+    record {
+      sound = subst (λ (b : List ℕ). index.sound b) (sym bytes) tied.index_sound;
+      names = ap names_of bytes ∙ sym tied.named;
+      table = ap (shown.table_of index) bytes ∙ tied.mirrors.table;
+      keys = indexed ∙ ap (index_of index) (sym bytes);
+    }
+
 module _ (tells : Bool) (Opens : Shape → List ℕ → List ℕ → Type 0) (index : below.Index) where
-  pub steps_of : (p q : PagesView) (s new : State) (t : ℕ) (call : Call) (answer : Reply) → q.store.shape ≡ p.store.shape → Moves p.store.shape.numbers s t call answer new
+  pub steps_of : (p q : PagesView) (s new : State) (t : ℕ) (call : Call) (answer : Reply) → q.store.shape ≡ p.store.shape → Moves p.store.shape.numbers s t call answer new → ReplyCause (limits_of index p.store.shape) s t call answer
       → (IsTrue (is_media answer) → Rose p.store.faults q.store.faults) → (IsFalse (is_media answer) → q.store.faults ≡ p.store.faults) → (IsTrue tells → Step (limits_of index p.store.shape) s t call answer new)
       → (IsTrue tells → LeavesOnly (HasPrefixOf (OpensWith (Opens q.store.shape) index) new (length s.history)) p.store q.store)
-      → (IsTrue tells → IsSafe (core_over Opens index q.store new) q.store.moment (length new.history)) → Steps tells t call (core_over Opens index p.store s) (core_over Opens index q.store new) answer
-  steps_of p q s new t call answer shape moves failed kept step time now = record {
+      → (IsTrue tells → IsSafe (core_over Opens index q.store new) q.store.moment (length new.history)) → (IsTrue tells → (IsFalse s.is_dead → ShowsAll index s) → IsFalse new.is_dead → ShowsAll index new)
+      → Steps tells t call (core_over Opens index p.store s) (core_over Opens index q.store new) answer
+  steps_of p q s new t call answer shape moves cause failed kept step time now shown = record {
     limits = ap (limits_of index) shape;
     opens = λ image table opens. subst (λ (h : Shape). OpensWith (Opens h) index image table) (sym shape) opens;
     moves = moves;
+    cause = cause;
     failed = failed;
     kept = kept;
     step = step;
     time = time;
     now = now;
+    shows = λ state. (λ x. x, λ x. x);
+    shown = shown;
   }
 
   -- a refusal that leaves everything as it was
   pub steps_same : (p : PagesView) (s new : State) (t : ℕ) (call : Call) (answer : Reply) → new ≡ s → (IsTrue tells → IsSafe (core_over Opens index p.store s) p.store.moment (length s.history))
-      → is_refusal answer ≡ true → is_media answer ≡ false → is_committed answer ≡ false → (IsTrue tells → Step (limits_of index p.store.shape) s t call answer s)
+      → is_refusal answer ≡ true → is_media answer ≡ false → is_committed answer ≡ false → ReplyCause (limits_of index p.store.shape) s t call answer → (IsTrue tells → Step (limits_of index p.store.shape) s t call answer s)
       → Steps tells t call (core_over Opens index p.store s) (core_over Opens index p.store new) answer
-  steps_same p s new t call answer same safe refusal no_media plain step =
+  steps_same p s new t call answer same safe refusal no_media plain cause step =
       subst (λ (x : State). Steps tells t call (core_over Opens index p.store s) (core_over Opens index p.store x) answer) (sym same)
-      (steps_of p p s s t call answer refl (moves_refused p.store.shape.numbers s s t call answer refl refl refl refl refl (sym (ap (λ (b : Bool). s.is_dead || b) no_media ∙ or_false s.is_dead)) refusal plain)
-      (λ failed. absurd (false≢true (sym no_media ∙ failed))) (λ _. refl) step (λ told. stays p.store.moment p.store.left_since _) safe)
+      (steps_of p p s s t call answer refl (moves_refused p.store.shape.numbers s s t call answer refl refl refl refl refl (sym (ap (λ (b : Bool). s.is_dead || b) no_media ∙ or_false s.is_dead)) refusal plain) cause
+      (λ failed. absurd (false≢true (sym no_media ∙ failed))) (λ _. refl) step (λ told. stays p.store.moment p.store.left_since _) safe (λ told was. was))
 
   -- what a loss of power leaves within a call that does not change the table
   pub time_same : (p q : PagesView) (s new : State) (A B : Table) → AreWhole (length s.history) s.history → q.store.shape ≡ p.store.shape → A ≡ records_of s → B ≡ records_of s → new.base ≡ s.base → new.history ≡ s.history
@@ -239,7 +256,7 @@ module _ (index : below.Index) (table : ℕ) (p : PagesView) (s : State) (shows 
       → Indexes (limits_of index p.store.shape) call answer s.index ix → Enters (limits_of index p.store.shape) s t ix call answer
   enters_at (Put name key value) answer ix of fits replies indexes =
       let after = slot_after (limits_of index p.store.shape) (of_table name key) (s.index.slot_of (of_table name key)) s.index ix refl (subst (λ (r : Reply). IndexesAt (limits_of index p.store.shape) (of_table name key) (s.index.slot_of (of_table name key)) r s.index ix) replies indexes) in
-      (after.0, after.1, subst (λ (slot : ℕ). HasEntry (limits_of index p.store.shape) s t (of_table name key) slot) (sym after.2) (fits_is index table p s shows.indexed mirrors held t right (Put name key value) of fits))
+      (after.0, after.1, subst (λ (slot : ℕ). HasEntry (limits_of index p.store.shape) s t (of_table name key) slot) (sym after.2) (entry_is index table p s shows.indexed mirrors held t right (Put name key value) of fits))
   enters_at (Del name key) answer ix of fits replies indexes = subst (Enters (limits_of index p.store.shape) s t ix (Del name key)) (sym replies) (go (get (seen_by (state_of index p) t) (of_table name key)) refl)
     where
       go : (o : Option (List ℕ)) → get (seen_by (state_of index p) t) (of_table name key) ≡ o → Enters (limits_of index p.store.shape) s t ix (Del name key) (removed o)

@@ -11,7 +11,7 @@ use Rattle.history.specs.Writes.{Table}
 use Rattle.history.specs.declared.transaction.Done.{Done}
 use Rattle.caller_steps.specs.State.{State, Offer}
 use Rattle.caller_steps.specs.Core.{CoreView}
-use Rattle.mars_core.specs.Over.{limits_of, index_of}
+use Rattle.mars_core.specs.Over.{limits_of, index_of, ShowsAll}
 use Rattle.mars_core.specs.Seats.{Seats, live_in, offers_in}
 
 -- The records over a store, the rows of the records at the opening, the callers' live transactions, the transactions committed since, and
@@ -44,6 +44,7 @@ abbrev pub core_over : (Shape → List ℕ → List ℕ → Type 0) → Index �
 core_over Opens index store state = record {
   limits = limits_of index store.shape;
   state = state;
+  shows = ShowsAll index;
   faults = store.faults;
   moment = store.moment;
   left_since = store.left_since;

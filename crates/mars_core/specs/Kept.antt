@@ -1,5 +1,7 @@
 -- The invariant of a core.
 use Rattle.std.specs.Prelude.{ℕ, ◌≡◌, ◌≤◌, Bool, IsTrue, List, [], length, None}
+use Rattle.history.specs.Writes.{Table}
+use Rattle.history.specs.Table.{begun, worked}
 use Rattle.std.specs.FinMap.{entries}
 use Rattle.array_shape.specs.declared.shape.Shape.{Shape}
 use Rattle.eaw_face.specs.Causes.{IsAlive}
@@ -28,6 +30,10 @@ pub record Mirrors (below : TableState) (state : State) : Type 0 where
 abbrev pub HasHeld : Limits → State → Type 0
 HasHeld limits state = (caller g : ℕ) → held_on limits state caller g ≤ limits.entries
 
+-- of each number so many counts are kept as its caller's transaction has saves, whatever table it began on
+abbrev pub HaveSaves : (ℕ → List ℕ) → State → Type 0
+HaveSaves counts state = (caller : ℕ) (table : Table) → length (counts caller) ≡ length (worked (begun table) (calls_of state caller)).saves
+
 -- what holds while the store is not dead; the names are those of the data, which is of version 2
 pub record IsTied (index : Index) (pages : PagesView) (state : State) : Type 0 where
   pub index_sound : index.sound pages.store.state.bytes
@@ -37,11 +43,12 @@ pub record IsTied (index : Index) (pages : PagesView) (state : State) : Type 0 w
   pub sound : IsSound state
   pub room : HasHeld (limits_of index pages.store.shape) state
 
--- There is a seat for each number. The rows at the opening are those of a table. A caller without a live transaction has nothing logged, over
--- any store. What the records show is tied to the state. Whatever may be left now opens with the whole history.
+-- There is a seat for each number. The rows at the opening are those of a table. A caller without a live transaction has nothing logged, and the
+-- saves of each are counted, over any store. What the records show is tied to the state. Whatever may be left now opens with the whole history.
 pub record IsKept (tells : Bool) (Opens : Shape → List ℕ → List ℕ → Type 0) (index : Index) (pages : PagesView) (count : ℕ) (rows : List NamedRows) (state : State) : Type 0 where
   pub seats : count ≡ pages.store.shape.numbers
   pub in_order : IsTrue tells → entries (table_of rows) ≡ records_in rows
   pub idle : IsAlive pages.store → (t : ℕ) → state.live t ≡ None → listed (pages.store.ranges t) ≡ []
+  pub saves : IsAlive pages.store → HaveSaves pages.counts state
   pub tied : IsTrue tells → IsAlive pages.store → IsTied index pages state
   pub safe : IsTrue tells → IsSafe (core_over Opens index pages.store state) pages.store.moment (length state.history)

@@ -1,20 +1,26 @@
 -- A core over a store: what it shows of it, and how it begins.
-use Rattle.std.specs.Prelude.{ℕ, ◌≡◌, Bool, false, not, IsTrue, List, [], Option, Some, None, is_some}
+use Rattle.std.specs.Prelude.{ℕ, ◌≡◌, Bool, false, not, IsTrue, List, [], map, filter, length, Option, Some, None, is_some}
 use Rattle.array_shape.specs.declared.shape.Shape.{Shape}
+use Rattle.eaw_face.specs.State.{listed}
 use Rattle.eaw_face.specs.StoreView.{StoreView, LeavesOnly}
 use Rattle.eaw_face.specs.Causes.{IsAlive}
 use Rattle.page_store.specs.Index.{Index, slots_of, index_pages_of}
+use Rattle.page_store.specs.Index as below
+use Rattle.page_store.specs.Fits.{is_page_on}
+use Rattle.record_table.specs.Causes.{actions_in}
 use Rattle.record_slots.specs.Places.{version_of}
 use Rattle.record_table.specs.Does.{OpensWith}
 use Rattle.history.specs.declared.key.Key.{Key}
+use Rattle.history.specs.Writes.{all_written}
 use Rattle.record_slots.specs.Names.{number_of}
 use Rattle.record_table.specs.Names.{names_of}
 use Rattle.record_table.specs.Removing.{removal_in}
 use Rattle.record_table.specs.State.{Keys}
-use Rattle.record_table.specs.Shown.{table_of, keys_of, logger_of_slot}
+use Rattle.record_table.specs.Shown.{table_of, keys_of, logger_of_slot, writes_of}
 use Rattle.record_table.specs.Upgrading.{upgraded, OpensUpgraded}
 use Rattle.caller_steps.specs.State as face
-use Rattle.caller_steps.specs.State.{unoffered, opened, records_of}
+use Rattle.caller_steps.specs.Room as room
+use Rattle.caller_steps.specs.State.{unoffered, opened, records_of, view_of}
 use Rattle.caller_steps.specs.Room.{Limits}
 use Rattle.caller_steps.specs.Core.{CoreView}
 use Rattle.eaw_face.specs.Mirroring.{Mirrors}
@@ -28,6 +34,18 @@ keeps_at index bytes key (Some table) = not (is_some (removal_in index table byt
 abbrev pub keeps_in : Index → List ℕ → Key → Bool
 keeps_in index bytes key = keeps_at index bytes key.key (number_of (names_of bytes) key.table)
 
+-- the actions of an insertion, as callers count them: a part in each of its pages, which are dealt to the loggers by turns
+abbrev pub actions_as : Shape → List below.Action → List room.Action
+actions_as shape actions = map (λ (action : below.Action). record { takes = action.takes; needs = λ g. length (filter (is_page_on shape.loggers g) action.pages) }) actions
+
+abbrev pub actions_at : Index → Shape → List ℕ → ℕ → Option ℕ → List room.Action
+actions_at index shape bytes key None = []
+actions_at index shape bytes key (Some table) = actions_as shape (actions_in index bytes table key)
+
+-- those of a key of a table of this data
+abbrev pub actions_for : Index → Shape → List ℕ → Key → List room.Action
+actions_for index shape bytes key = actions_at index shape bytes key.key (number_of (names_of bytes) key.table)
+
 -- the limits of an array of this shape, under an index
 abbrev pub limits_of : Index → Shape → Limits
 limits_of index shape = record {
@@ -38,6 +56,7 @@ limits_of index shape = record {
   entries = shape.entries;
   logger_of = logger_of_slot shape;
   keeps = keeps_in index;
+  actions = actions_for index shape;
 }
 
 -- how many levels of inner pages the index of this table has; none if there is no such table
@@ -61,7 +80,20 @@ index_with names bytes keys = record {
 abbrev pub index_of : Index → List ℕ → face.Index
 index_of index bytes = index_with (names_of bytes) bytes (keys_of index bytes)
 
--- The core shows its store. While the store is not dead, its data is a sound index with the records of the history.
+-- the data of a state shows it: under the index it is sound, and it has the names, the records and the keys
+pub record ShowsAll (index : Index) (state : face.State) : Type 0 where
+  pub sound : index.sound state.index.bytes
+  pub names : names_of state.index.bytes ≡ state.names
+  pub table : table_of index state.index.bytes ≡ records_of state
+  pub keys : state.index ≡ index_of index state.index.bytes
+
+-- What is logged for a caller, written into the records of the data, is what the caller sees.
+abbrev pub LeavesView : Index → StoreView → face.State → ℕ → Type 0
+LeavesView index store state caller =
+    all_written (table_of index store.state.bytes) (writes_of store.state.bytes (listed (store.state.logs caller))) ≡ (view_of state caller).table
+
+-- The core shows its store. While the store is not dead, its data is a sound index with the records of the history, and what is logged over it
+-- leaves each caller's view.
 pub record IsOver (tells : Bool) (Opens : List ℕ → List ℕ → Type 0) (index : Index) (store : StoreView) (core : CoreView) : Type 0 where
   pub limits : core.limits ≡ limits_of index store.shape
   pub faults : core.faults ≡ store.faults
@@ -73,6 +105,7 @@ pub record IsOver (tells : Bool) (Opens : List ℕ → List ℕ → Type 0) (ind
   pub sound : IsTrue tells → IsAlive store → index.sound store.state.bytes
   pub names : IsTrue tells → IsAlive store → names_of store.state.bytes ≡ core.state.names
   pub table : IsTrue tells → IsAlive store → table_of index store.state.bytes ≡ records_of core.state
+  pub views : IsTrue tells → IsAlive store → (caller : ℕ) → LeavesView index store core.state caller
 
 -- The core begins with the records of the store's data, which is a sound index, and has brought that data to version 2. Whatever a loss of
 -- power might have left meanwhile opens with the data as it was or in version 2, which have the same records and keys.

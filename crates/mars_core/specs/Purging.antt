@@ -17,7 +17,7 @@ use Rattle.record_table.specs.Removing.{IsAbsent, IsKept, Loses}
 use Rattle.record_table.specs.Shown.{state_of}
 use Rattle.record_table.specs.declared.fault.TableFault.{TableFault}
 use Rattle.record_table.specs.declared.fault.TableFault.TheVariants.{Media, Damaged}
-use Rattle.caller_steps.specs.Purging.{Lost}
+use Rattle.caller_steps.specs.Purging.{Try, lost_among, IsTried, Each, AreInOrder, Lost}
 use Rattle.mars_core.specs.Over.{index_of}
 use Rattle.mars_core.specs.Seats.{Seats, calls_at}
 use Rattle.eaw_face.specs.Mirroring.{Mirrors}
@@ -47,8 +47,26 @@ IsOfTable name key = IsBelow name (2 ^ 64) key
 abbrev pub IsOfFirst : List (List ℕ) → ℕ → Key → Type 0
 IsOfFirst names n key = (j : ℕ) × (j < n) × (slice_get names j ≡ Some key.table) × (key.key < 2 ^ 64)
 
+-- what comes of one key: it is lost, and no live transaction touched it; or the data is as it was, and one did, or the index keeps it
+abbrev pub Tried : Index → Seats → ℕ → Key → List ℕ → List ℕ → Bool → Type 0
+Tried index seats table key old new true = (IsTouchedIn seats key → ⊥) × (IsKept index table old key.key → ⊥) × Loses index table key.key old new
+Tried index seats table key old new false = (new ≡ old) × (IsTouchedIn seats key ⊎ Keeps index old key)
+
+-- so it was with a key of a table of sound data
+pub record TriedIn (index : Index) (seats : Seats) (one : Try) (old new : List ℕ) : Type 0 where
+  pub sound : index.sound old
+  pub table : ℕ
+  pub called : IsCalled old table one.0.table
+  pub named : names_of new ≡ names_of old
+  pub comes : Tried index seats table one.0 old new one.1
+
+-- and with keys one after another, the last one first
+abbrev pub Trail : Index → Seats → List ℕ → List Try → List ℕ → Type 0
+Trail index seats first [] now = now ≡ first
+Trail index seats first (one ∷ tries) now = (before : List ℕ) × Trail index seats first tries before × TriedIn index seats one before now
+
 -- Of n keys the indexes have lost each. A pair that was kept is kept still, if it is there. Each key that was passed, has no record and is
--- still in the indexes is touched, or kept.
+-- still in the indexes is touched, or kept. The keys that were passed were tried in order.
 pub record Cleared (index : Index) (seats : Seats) (Passed : Key → Type 0) (n : ℕ) (old new : List ℕ) : Type 0 where
   pub keys : List Key
   pub count : n ≡ length keys
@@ -56,6 +74,13 @@ pub record Cleared (index : Index) (seats : Seats) (Passed : Key → Type 0) (n 
   pub lost : Lost (index_of index old) keys (index_of index new)
   pub kept : (key : Key) → IsSome ((index_of index new).slot_of key) → Keeps index old key → Keeps index new key
   pub left : (key : Key) → Passed key → IsAbsent index new key → IsTouchedIn seats key ⊎ Keeps index new key
+  pub tried : List Try
+  pub keys_are : keys ≡ lost_among tried
+  pub passed : Each Passed tried
+  pub order : AreInOrder seats.names tried
+  pub absent : Each (IsAbsent index old) tried
+  pub all : (key : Key) → Passed key → IsAbsent index new key → IsTried key tried
+  pub trail : Trail index seats old tried new
 
 -- What a purge rests on: the data is a sound index, the super page is of version 2, its tables have the names that callers ask for, the
 -- records have the logs of the callers' calls, and no more slots are in use than there are.
@@ -73,11 +98,6 @@ ClearCause tells (Err Media) = Unit {0}
 ClearCause tells (Err (Damaged page)) = ¬ IsTrue tells
 ClearCause tells (Err fault) = ⊥
 
--- what comes of one key: it is lost, and no live transaction touched it; or the data is as it was, and one did, or the index keeps it
-abbrev pub Tried : Index → Seats → ℕ → Key → List ℕ → List ℕ → Bool → Type 0
-Tried index seats table key old new true = (IsTouchedIn seats key → ⊥) × Loses index table key.key old new
-Tried index seats table key old new false = (new ≡ old) × (IsTouchedIn seats key ⊎ Keeps index old key)
-
 -- One key of the table with this number was tried. Records, writes and saves are as they were, and so is all that a purge rests on.
 pub record Tries (tells : Bool) (Opens : List ℕ → List ℕ → Type 0) (index : Index) (seats : Seats) (table : ℕ) (key : Key) (old new : PagesView) (result : Result Bool TableFault) : Type 0 where
   pub shape : new.store.shape ≡ old.store.shape
@@ -90,6 +110,7 @@ pub record Tries (tells : Bool) (Opens : List ℕ → List ℕ → Type 0) (inde
   pub called : IsTrue tells → IsCalled old.store.state.bytes table key.table
   pub small : key.key < 2 ^ 64
   pub ranges : IsFalse (is_failed result) → (u : ℕ) → listed (new.store.ranges u) ≡ listed (old.store.ranges u)
+  pub saves : IsFalse (is_failed result) → new.counts ≡ old.counts
   pub sound : IsTrue tells → IsAlive new.store → index.sound new.store.state.bytes
   pub tried : IsTrue tells → IfOk result (Tried index seats table key old.store.state.bytes new.store.state.bytes)
   pub time : IsTrue tells → LeavesOnly (λ image. OpensWith Opens index image (state_of index old).table) old.store new.store
@@ -104,6 +125,7 @@ pub record Clears (tells : Bool) (Opens : List ℕ → List ℕ → Type 0) (ind
   pub dies : IsTrue (is_failed result) → (new.store.is_dead ≡ true) × Rose old.store.faults new.store.faults
   pub state : IsTrue tells → IsFalse (is_failed result) → state_of index new ≡ state_of index old
   pub ranges : IsFalse (is_failed result) → (u : ℕ) → listed (new.store.ranges u) ≡ listed (old.store.ranges u)
+  pub saves : IsFalse (is_failed result) → new.counts ≡ old.counts
   pub sound : IsTrue tells → IsAlive new.store → index.sound new.store.state.bytes
   pub ready : IsTrue tells → IfOk result (λ n. IsReady index seats t new)
   pub cleared : IsTrue tells → IfOk result (λ n. Cleared index seats Passed n old.store.state.bytes new.store.state.bytes)

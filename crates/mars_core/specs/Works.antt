@@ -16,14 +16,16 @@ use Rattle.record_table.specs.declared.fault.TableFault.TheVariants.{Media}
 use Rattle.caller_steps.specs.Fate.{is_refusal, is_committed}
 use Rattle.caller_steps.specs.Locked.{IsFree, IsBusyWith}
 use Rattle.caller_steps.specs.Step.{uses_index}
+use Rattle.caller_steps.specs.Cause.{IsOfKind}
 use Rattle.mars_core.specs.Seats.{Seats, bare}
 use Rattle.mars_core.specs.TableCall.{number_for}
 
--- The records made the call as number t, on the table with that number. A reply of theirs grants it, and only a call that uses the index meets a fault of the medium.
+-- The records made the call as number t, on the table with that number. A reply of theirs grants it and is of its kind, and only a call that uses the index meets a fault of the medium.
 pub record Works (tells : Bool) (Opens : List ℕ → List ℕ → Type 0) (index : Index) (table t : ℕ) (call : Call) (old new : PagesView) (result : Result Reply TableFault) : Type 0 where
   pub does : Does tells Opens index table t call old new result
   pub due : IsErrOf result Media → IsTrue (uses_index call)
   pub granted : IfOk result (λ answer. IsFalse (is_refusal answer))
+  pub kind : IfOk result (IsOfKind (length (old.counts t)) call)
   pub plain : IfOk result (λ answer. IsFalse (is_committed answer))
 
 -- a save or a way back finds what it needs: fewer than 32 saves, or the one that it names

@@ -4,7 +4,7 @@ ghost use Rattle.std.specs.FinMap.{entries};
 ghost use Rattle.history.specs.Rows.{records_in};
 ghost use Rattle.eaw_face.specs.Causes.{IsAlive};
 ghost use Rattle.eaw_face.specs.Mirroring.{Mirrors, GivesUp};
-ghost use Rattle.page_store.specs.Shown.{pages_of};
+ghost use Rattle.page_store.specs.Shown.{counts_in, pages_of};
 ghost use Rattle.history.specs.Locks.{touched, has_table};
 ghost use Rattle.history.specs.declared.call.Call.TheVariants as call;
 ghost use Rattle.history.specs.declared.call.Call.TheVariants.{Begin, Commit, Abort, Settle, Purge};
@@ -22,7 +22,7 @@ ghost use Rattle.mars_core.specs.Attached.{CoreCause, GivesBack, is_media_fault}
 ghost use Rattle.mars_core.specs.declared.locks.Locks.TheVariants.{Held};
 ghost use Rattle.mars_core.specs.Held.{core_of};
 ghost use Rattle.mars_core.specs.Masks.{IsMaskOf};
-ghost use Rattle.mars_core.specs.Over.{Begins, IsOver};
+ghost use Rattle.mars_core.specs.Over.{Begins, IsOver, LeavesView};
 ghost use Rattle.mars_core.specs.Seats.{live_in, offers_in};
 ghost use Rattle.mars_core.specs.TableCall.{call_of};
 ghost use Rattle.mars_core.specs.Works.{IsShown};
@@ -108,10 +108,12 @@ impl<S: EawStore, K: KeyIndex> Core<S, K> {
         self.doubt.as_slice()
     }
 
-    /// Whether the caller has a live transaction.
+    /// Whether the caller has a live transaction. While the store below is not dead, what is logged there for the caller is what its calls
+    /// have written: written into the records, it leaves what the caller sees.
     pub fn live(&self, caller: u8) -> bool
         requires { caller < (S.view self.now.records.store).shape.numbers }
-        ensures { result ≡ is_some (live_in self.now.seats caller) }
+        ensures live { result ≡ is_some (live_in self.now.seats caller) }
+        ensures views { IsTrue S.tells → IsAlive (S.view self.now.records.store) → LeavesView K.index (S.view self.now.records.store) (core_of S.opens K.index (S.view self.now.records.store) self.now).state caller }
     {
         self.seats.is_live(caller)
     }
@@ -154,7 +156,7 @@ impl<S: EawStore, K: KeyIndex> Core<S, K> {
         self.records.link_down()
     }
 
-    /// The store below. What live transactions have written is still logged in it.
+    /// The store below. What live transactions have written is still logged in it, and leaves their views.
     pub fn into_store(self) -> S
         ensures store { result ≡ self.records.store }
         ensures over { IsOver S.tells (S.opens (S.view result).shape) K.index (S.view result) (core_of S.opens K.index (S.view result) self) }
@@ -512,6 +514,7 @@ fn begin_over<S: EawStore, K: KeyIndex>(
     requires sound { IsTrue S.tells → K.index.sound (S.view records.store).state.bytes }
     requires base { IsTrue S.tells → records_in tables.items ≡ entries (state_of K.index (pages_of (S.view records.store) records)).table }
     requires idle { IsTrue S.tells → (t : ℕ) → ((state_of K.index (pages_of (S.view records.store) records)).logs t).writes ≡ [] }
+    requires unmarked { (t : ℕ) → counts_in records.marks t ≡ [] }
     requires unsaved { IsTrue S.tells → (t : ℕ) → ((state_of K.index (pages_of (S.view records.store) records)).logs t).saved ≡ [] }
     ensures begins { IfOk result (λ core. Begins S.tells (S.opens (S.view records.store).shape) K.index (S.view records.store) (S.view core.records.store)
         (core_of S.opens K.index (S.view core.records.store) core)) }

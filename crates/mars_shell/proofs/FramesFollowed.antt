@@ -37,15 +37,15 @@ module _ (tells : Bool) (told : IsTrue tells) (old : View) (only_now : (image : 
     ap (λ (s : Shape). settled_data s new.content.bytes) (sym on.data_is.shape) ∙ behind.bytes told on.alive ∙ on.data_is.data_is told ∙ ap (λ (b : List ℕ). followed frames b) (attached.bytes told),
   )
 
-  leaves_on : (ended : FollowEnd) (frames : List Frame) → LeavesStore tells store store' ended frames → LeavesFollowed store.shape old new ended frames
-  leaves_on follow.All frames on = stands frames on
-  leaves_on (follow.BadFrame n) frames on = stands frames on
-  leaves_on (follow.Gap expected got) frames on = stands frames on
-  leaves_on follow.WriteFault frames on = stands frames on
-  leaves_on follow.MediaFault frames on = tt
-  leaves_on follow.NoMemory frames on = tt
+  leaves_on : (ended : FollowEnd) (frames : List Frame) (later : List (List ℕ)) → LeavesStore tells Opens store store' ended frames later → LeavesFollowed store.shape old new ended frames later
+  leaves_on follow.All frames later on = stands frames on
+  leaves_on (follow.BadFrame n) frames later on = stands frames on
+  leaves_on (follow.Gap expected got) frames later on = stands frames on
+  leaves_on follow.WriteFault frames later on = stands frames on
+  leaves_on follow.MediaFault frames later on = tt
+  leaves_on follow.NoMemory frames later on = tt
 
-  pub follows : (input : List ℕ) (ended : FollowEnd) (cut : Bool) (text : List ℕ) → FollowedLines store.shape (LeavesStore tells store store' ended) (lines_of input) ended cut text
+  pub follows : (input : List ℕ) (ended : FollowEnd) (cut : Bool) (text : List ℕ) → FollowedLines store.shape (LeavesStore tells Opens store store' ended) (lines_of input) ended cut text
       → LeavesOnly (OpensFirst Opens store.shape store.state.bytes (lines_of input)) store store' → Follows old input ended new cut text
   follows input ended cut text ran time = record {
     shape = store.shape;
@@ -59,7 +59,7 @@ module _ (tells : Bool) (told : IsTrue tells) (old : View) (only_now : (image : 
       good = ran.good;
       sequence = ran.sequence;
       told = ran.told;
-      leaves = leaves_on ended ran.frames ran.leaves;
+      leaves = leaves_on ended ran.frames ran.behind ran.leaves;
       stops = ran.stops;
     };
     later = λ all. omega (arith, (keeps told store.shape all).later, time.later, behind.moment);

@@ -24,10 +24,10 @@ follow_status follow.MediaFault = MediaFault
 follow_status follow.NoMemory = NoMemory
 
 -- the array settles to its data before with these frames applied, and no row is voted, unless the medium failed or memory ran out
-abbrev pub LeavesFollowed : Shape → View → View → FollowEnd → List Frame → Type 0
-LeavesFollowed shape old new follow.MediaFault frames = Unit {0}
-LeavesFollowed shape old new follow.NoMemory frames = Unit {0}
-LeavesFollowed shape old new _ frames = HasNoVote shape new.content.bytes × (settled_data shape new.content.bytes ≡ followed frames (settled_data shape old.content.bytes))
+abbrev pub LeavesFollowed : Shape → View → View → FollowEnd → List Frame → List (List ℕ) → Type 0
+LeavesFollowed shape old new follow.MediaFault frames behind = Unit {0}
+LeavesFollowed shape old new follow.NoMemory frames behind = Unit {0}
+LeavesFollowed shape old new _ frames behind = HasNoVote shape new.content.bytes × (settled_data shape new.content.bytes ≡ followed frames (settled_data shape old.content.bytes))
 
 -- The frames that the lines of the input say were applied to the data of the array. Whatever a loss of power might have left since the start
 -- opens with that data with some first of the frames applied, or with the data of an image that could be left at first, if all of those

@@ -4,3 +4,4 @@ mod ReadLemmas
 mod WriteLemmas
 mod FillLemmas
 mod ShowLemmas
+mod TakeLemmas

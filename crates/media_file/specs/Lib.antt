@@ -6,3 +6,4 @@ pub mod Honest
 pub mod AsListed
 pub mod InMemory
 pub mod Filled
+pub mod Opened

@@ -1,14 +1,16 @@
 // A file of the system.
-ghost use Rattle.std.specs.Prelude.{◌≡◌, ◌≤◌, true, false, IfOk, IfSome, IsNone, IsSome};
+ghost use Rattle.std.specs.Prelude.{◌≡◌, ◌≢◌, ◌≤◌, Err, Ok, IfErr, IfOk, IfSome, IsSome};
+ghost use Rattle.std.specs.IoError.{error_kind};
+ghost use Rattle.media_file.specs.Opened.{anew, IsOpenedFor};
 
+use crate::opening::{Opening, end_of, find_file, find_folder};
 use crate::{CallFault, CallFaults, Calls};
 use mars_base::Failed;
-use std::fs::{File, OpenOptions};
-use std::io::{ErrorKind, Seek, SeekFrom};
+use std::fs::File;
+use std::io;
+use std::io::ErrorKind;
 use std::os::unix::fs::FileExt;
-use std::path::Path;
 use std::rt::Files;
-use std::{fs, io};
 
 /// A file of the system, open for reading and writing, and locked until it is dropped. Each call makes one call of the system,
 /// or more if a length or a sync is interrupted. It is not trusted: no contract says what the system answers.
@@ -16,6 +18,7 @@ use std::{fs, io};
 pub struct FileCalls {
     file: File,
     faults: CallFaults,
+    opening: Opening,
 }
 
 impl FileCalls {
@@ -34,11 +37,14 @@ impl FileCalls {
     ) -> Result<Option<FileCalls>, Failed>
         ensures there { 1 ≤ least → IfOk result IsSome }
         ensures anew { IfOk result (λ found. IfSome found (λ file. file.faults ≡ no_faults)) }
+        ensures opened { IfOk result (λ found. IfSome found (λ file. IsOpenedFor least file.opening)) }
     {
-        match open_or_make(rt, path, least) {
+        let mut opening = Opening::new();
+        match open_or_make(rt, path, least, &mut opening) {
             Ok(Some(file)) => Ok(Some(FileCalls {
                 file,
                 faults: CallFaults::new(),
+                opening,
             })),
             Ok(None) => Ok(None),
             Err(_) => Err(Failed),
@@ -51,79 +57,38 @@ fn open_or_make<R: AllocGlobal + Files<File = File>>(
     rt: &R,
     path: &str,
     least: u64,
+    opening: &mut Opening,
 ) -> io::Result<Option<File>>
+    requires { opening.old ≡ anew }
     ensures there { 1 ≤ least → IfOk result IsSome }
+    ensures none_made { least ≡ 0 → opening.new.made ≡ opening.old.made }
+    ensures opened { IfOk result (λ found. IfSome found (λ file. IsOpenedFor least opening.new)) }
 {
-    let Some(file) = open_or_create(rt, path, least > 0)? else {
-        return Ok(None);
+    let file = match find_file(rt, path)? {
+        Some(file) => file,
+        None if least == 0 => {
+            find_folder(rt, path)?;
+            return Ok(None);
+        }
+        None => opening.make(rt, path)?,
     };
     file.try_lock()?;
-    if least > 0 && end_of(&file)? == 0 {
-        sync_folder(rt, path)?;
+    if least > 0 && opening.measure(&file)? == 0 {
+        opening.sync_folder(rt, path)?;
     }
     Ok(Some(file))
 }
 
-// The file at this path.
-fn open_or_create<R: Files<File = File>>(
-    rt: &R,
-    path: &str,
-    create: bool,
-) -> io::Result<Option<File>>
-    ensures there { create ≡ true → IfOk result IsSome }
+// What an answer of the system says of the call: it was interrupted only where a signal came first.
+fn answer_of<T>(answer: io::Result<T>) -> Result<T, CallFault>
+    ensures done { IfOk answer (λ value. result ≡ Ok value) }
+    ensures interrupted { IfErr answer (λ error. error_kind error ≡ ErrorKind.Interrupted → result ≡ Err CallFault.Interrupted) }
+    ensures failed { IfErr answer (λ error. error_kind error ≢ ErrorKind.Interrupted → result ≡ Err CallFault.Failed) }
 {
-    match options().open(rt, path) {
-        Ok(file) => Ok(Some(file)),
-        Err(error) if error.kind() == ErrorKind::NotFound => create_missing(rt, path, create),
-        Err(error) => Err(error),
-    }
-}
-
-// A new empty file, if it is to be created. If not, its folder has to be there.
-fn create_missing<R: Files<File = File>>(
-    rt: &R,
-    path: &str,
-    create: bool,
-) -> io::Result<Option<File>>
-    ensures none { create ≡ false → IfOk result IsNone }
-    ensures there { create ≡ true → IfOk result IsSome }
-{
-    if create {
-        return Ok(Some(options().create(true).open(rt, path)?));
-    }
-    fs::metadata(rt, folder_of(Path::new(path)))?;
-    Ok(None)
-}
-
-fn options() -> OpenOptions {
-    let mut options = OpenOptions::new();
-    options.read(true).write(true);
-    options
-}
-
-// Syncs the folder in which the file lies, also if the path leads there by a link, so that a loss of power leaves the file there.
-fn sync_folder<R: AllocGlobal + Files<File = File>>(rt: &R, path: &str) -> io::Result<()> {
-    let whole = Path::new(path).canonicalize(rt)?;
-    File::open(rt, folder_of(whole.as_path()))?.sync_all()
-}
-
-fn folder_of(path: Path<'_>) -> Path<'_> {
-    match path.parent() {
-        Some(folder) if !folder.as_str().is_empty() => folder,
-        _ => Path::new("."),
-    }
-}
-
-// The length in bytes: where the file ends, since a block device does not tell its length otherwise.
-fn end_of(file: &File) -> io::Result<u64> {
-    let mut file = file;
-    file.seek(SeekFrom::End(0))
-}
-
-fn fault_of(error: io::Error) -> CallFault {
-    match error.kind() {
-        ErrorKind::Interrupted => CallFault::Interrupted,
-        _ => CallFault::Failed,
+    match answer {
+        Ok(value) => Ok(value),
+        Err(error) if error.kind() == ErrorKind::Interrupted => Err(CallFault::Interrupted),
+        Err(_) => Err(CallFault::Failed),
     }
 }
 
@@ -142,26 +107,26 @@ impl Calls for FileCalls {
     ghost honest = { λ file told. absurd (false≢true told) };
 
     fn len(&mut self, _moment: u64) -> Result<u64, CallFault> {
-        self.faults.count(end_of(&self.file).map_err(fault_of))
+        self.faults.count(answer_of(end_of(&self.file)))
     }
 
     fn read_at(&mut self, _moment: u64, at: u64, buf: &mut [u8]) -> Result<usize, CallFault> {
-        let answer = self.file.read_at(buf, at).map_err(fault_of);
+        let answer = answer_of(self.file.read_at(buf, at));
         self.faults.count_part(buf.len(), answer)
     }
 
     fn write_at(&mut self, _moment: u64, at: u64, bytes: &[u8]) -> Result<usize, CallFault> {
-        let answer = self.file.write_at(bytes, at).map_err(fault_of);
+        let answer = answer_of(self.file.write_at(bytes, at));
         self.faults.count_part(bytes.len(), answer)
     }
 
     fn set_len(&mut self, _moment: u64, len: u64) -> Result<(), CallFault> {
-        self.faults.count(self.file.set_len(len).map_err(fault_of))
+        self.faults.count(answer_of(self.file.set_len(len)))
     }
 
     // A later read needs the bytes and the length of the file, and `sync_data` makes both durable. It leaves out what nobody
     // reads, such as the time of the last access.
     fn sync_data(&mut self, _moment: u64) -> Result<(), CallFault> {
-        self.faults.count(self.file.sync_data().map_err(fault_of))
+        self.faults.count(answer_of(self.file.sync_data()))
     }
 }

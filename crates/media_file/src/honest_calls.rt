@@ -1,5 +1,5 @@
 // An honest file in memory.
-ghost use Rattle.std.specs.Prelude.{◌≡◌, ◌-◌, ◌≤◌, ◌⊎◌, ℕ, min, List, [], length, take, drop, replicate, true, false, if◌then◌else◌, is_ok, IfOk, OnOk, OnErr, MatchResult};
+ghost use Rattle.std.specs.Prelude.{◌≡◌, ◌-◌, ◌≤◌, ◌⊎◌, ℕ, min, List, [], length, take, drop, replicate, true, false, if◌then◌else◌, is_ok, IfErr, IfOk, OnOk, OnErr, MatchResult};
 ghost use Rattle.media_file.specs.Past.{held, noted, measured, came, stands, resized, synced};
 ghost use Rattle.media_file.specs.Counted.{after_answer, part_of};
 ghost use Rattle.media_file.specs.AsListed.{next_of, Obeys, part_done};
@@ -114,6 +114,7 @@ impl HonestCalls {
         requires { is_quiet done ≡ true }
         ensures kept { OnOk result (past_in self.new ≡ noted moment (event_of done (held (past_in self.old))) (past_in self.old)) }
         ensures failed { OnErr result (past_in self.new ≡ past_in self.old) }
+        ensures fault { IfErr result (λ fault. fault ≡ CallFault.Failed) }
         ensures listed { self.new.as_listed ≡ (if is_ok result then self.old.as_listed else false) }
         ensures same { (self.new.faults ≡ self.old.faults) × (self.new.answers ≡ self.old.answers) }
     {
@@ -127,6 +128,7 @@ impl HonestCalls {
     fn put(&mut self, moment: u64, at: u64, bytes: &[u8]) -> Result<(), CallFault>
         ensures put { OnOk result (past_in self.new ≡ noted moment (stands at bytes.now) (past_in self.old)) }
         ensures failed { OnErr result (past_in self.new ≡ past_in self.old) }
+        ensures fault { IfErr result (λ fault. fault ≡ CallFault.Failed) }
         ensures listed { self.new.as_listed ≡ (if is_ok result then self.old.as_listed else false) }
         ensures same { (self.new.faults ≡ self.old.faults) × (self.new.answers ≡ self.old.answers) }
     {
@@ -238,7 +240,8 @@ impl HonestCalls {
         ensures takes { Takes self.old self.new result }
     {
         self.answer(0)?;
-        self.keep(moment, Done::Synced)
+        self.keep(moment, Done::Synced)?;
+        Ok(())
     }
 }
 

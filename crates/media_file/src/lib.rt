@@ -16,6 +16,7 @@ mod file_media;
 mod filling;
 mod honest_call;
 mod honest_calls;
+mod opening;
 mod reading;
 mod writing;
 
@@ -25,3 +26,4 @@ pub use file_calls::FileCalls;
 pub use file_media::FileMedia;
 pub use honest_call::{Answer, Done, HonestCall};
 pub use honest_calls::HonestCalls;
+pub use opening::Opening;

@@ -11,9 +11,11 @@ use Rattle.eaw_face.specs.Command.{Command, log_write, log_edit, commit, abort, 
 use Rattle.eaw_face.specs.Causes.{IsAlive, fit}
 use Rattle.eaw_face.specs.Does.{Does, IsEither}
 use Rattle.memory_eaw.specs.Kept.{Kept, changed, MustFailChange}
-use Rattle.memory_eaw.specs.Log.{Log, logged}
+use Rattle.mirror.specs.Log.{Log}
+use Rattle.memory_eaw.specs.Log.{logged}
 use Rattle.memory_eaw.specs.Plain.{Plain, IsData, view_of, IsSound}
-use Rattle.memory_eaw.specs.Steps.{log_at, relogged, called_plain, changed_plain, committed}
+use Rattle.mirror.specs.Log.{log_at}
+use Rattle.memory_eaw.specs.Steps.{relogged, called_plain, changed_plain, committed}
 use Rattle.memory_eaw.specs.Calls.{IsCounted, is_change, FailsAs, kept_after, Counts}
 use Rattle.memory_eaw.proofs.Views.{is_live_from}
 use Rattle.memory_eaw.proofs.Time.{time_same, time_changed, time_committed, bytes-committed, logs-committed}

@@ -15,10 +15,11 @@ use Rattle.mars_base.proofs.Going.{stays}
 use Rattle.eaw_face.proofs.Others.{others_after}
 use Rattle.eaw_face.proofs.Mirroring.{none_sent}
 use Rattle.std.proofs.lemmas.Bool.{false≢true}
-use Rattle.memory_eaw.specs.Log.{Log, log_of, logged, outline}
+use Rattle.mirror.specs.Log.{Log}
+use Rattle.memory_eaw.specs.Log.{log_of, logged, outline}
 use Rattle.memory_eaw.specs.Plain.{Plain, IsData, view_of, IsSound}
-use Rattle.memory_eaw.specs.Steps.{log_at}
-use Rattle.memory_eaw.proofs.Parts.{length-ranges_of, ranges_of-append, ranges_of-take, ranges_of-edited}
+use Rattle.mirror.specs.Log.{log_at}
+use Rattle.mirror.proofs.Parts.{length-ranges_of, ranges_of-append, ranges_of-take, ranges_of-edited}
 use Rattle.memory_eaw.proofs.Views.{logged-at, logged-set, outline-with, with_log-same, listed-map, parts_are, ranges_are}
 
 -- the answer to a command that was done
@@ -45,6 +46,8 @@ does_done x old new command may shape faults becomes time = record {
   time = λ told alive. time;
   mirrors = none_sent true (view_of old) (view_of new) shape refl (λ _. may.0) (λ told mirrors alive. absurd (false≢true mirrors));
   one = omega arith;
+  sends = λ mirrors. absurd (false≢true mirrors);
+  refused = tt;
 }
 
 -- a command that is refused, by a fault other than the medium's
@@ -60,6 +63,8 @@ does_refused {T} store command fault cause other = record {
   time = λ told alive. stays store.moment store.left_since (IsEither IsData store.state.bytes (after command store.state).bytes);
   mirrors = none_sent true store store refl refl (λ alive. alive) (λ told mirrors alive. refl);
   one = omega arith;
+  sends = tt;
+  refused = refl;
 }
   where
     same : (let r : Result T EawFault = Err fault in let s : Result T EawFault = Err Media in r ≡ s) → fault ≡ Media

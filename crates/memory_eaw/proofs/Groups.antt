@@ -11,12 +11,15 @@ use Rattle.eaw_face.specs.Causes.{IsAlive, known}
 use Rattle.eaw_face.specs.Does.{Does}
 use Rattle.eaw_face.proofs.Groups.{with_each_next, applied_append, group_ranges, known_there, known_whole}
 use Rattle.memory_eaw.specs.Kept.{Kept, MustFailChange}
-use Rattle.memory_eaw.specs.Log.{Log, logged, outline}
+use Rattle.mirror.specs.Log.{Log}
+use Rattle.memory_eaw.specs.Log.{logged, outline}
 use Rattle.memory_eaw.specs.Plain.{Plain, IsData, view_of, IsSound}
-use Rattle.memory_eaw.specs.Steps.{log_at, relogged, committed, IsUnknownIn}
+use Rattle.mirror.specs.Log.{log_at}
+use Rattle.memory_eaw.specs.Steps.{relogged, committed, IsUnknownIn}
 use Rattle.memory_eaw.specs.Calls.{IsCounted, Counts}
-use Rattle.memory_eaw.proofs.Parts.{length-ranges_of}
-use Rattle.memory_eaw.proofs.Views.{logged-set, listed-map, parts_are, log_is}
+use Rattle.mirror.proofs.Parts.{length-ranges_of}
+use Rattle.mirror.proofs.Parts.{log_is}
+use Rattle.memory_eaw.proofs.Views.{logged-set, listed-map, parts_are}
 use Rattle.memory_eaw.proofs.Doing.{done, does_done}
 use Rattle.memory_eaw.proofs.Commands.{counts_parts, same-committed, moment-committed}
 use Rattle.eaw_face.specs.declared.fault.EawFault.{EawFault}

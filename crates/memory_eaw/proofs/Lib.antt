@@ -1,7 +1,4 @@
-pub mod Lists
 pub mod Versions
-pub mod Parts
-pub mod Pushing
 pub mod Views
 pub mod Sound
 pub mod Stopping

@@ -10,10 +10,12 @@ use Rattle.array_shape.proofs.Cutting.{write_parts_placed}
 use Rattle.array_shape.specs.Logged.{Part, applied, ranges_of}
 use Rattle.eaw_face.specs.State.{edited, range_at}
 use Rattle.memory_eaw.specs.Kept.{Version, MustFail, MustFailChange}
-use Rattle.memory_eaw.specs.Log.{Log, IsWritePart, IsSoundLog}
+use Rattle.mirror.specs.Log.{Log, IsWritePart}
+use Rattle.memory_eaw.specs.Log.{IsSoundLog}
 use Rattle.memory_eaw.specs.Plain.{Plain, IsSound}
-use Rattle.memory_eaw.specs.Steps.{log_at, called_plain, changed_plain, failed_plain, committed}
-use Rattle.memory_eaw.proofs.Parts.{ranges_of-edited, length-ranges_of, placed_edited}
+use Rattle.mirror.specs.Log.{log_at}
+use Rattle.memory_eaw.specs.Steps.{called_plain, changed_plain, failed_plain, committed}
+use Rattle.mirror.proofs.Parts.{ranges_of-edited, length-ranges_of, placed_edited}
 
 later : (before now : ℕ) (past : List Version) → before ≤ now → All (λ v. v.until ≤ before) past → All (λ v. v.until ≤ now) past
 later before now past le stamped = All-weaker (λ v. v.until ≤ before) (λ v. v.until ≤ now) (λ v was. omega (arith, was)) past stamped

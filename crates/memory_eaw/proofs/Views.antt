@@ -1,15 +1,15 @@
 -- The logs of a store in memory, as the model says them.
-use Rattle.std.proofs.Common.{◌≡◌, ◌≢◌, ℕ, zero, suc, ◌<◌, Bool, true, false, cond, nat_eq, List, [], ◌∷◌, length, get_or, set, replicate, refl, sym, ◌∙◌, ap, subst, arith}
+use Rattle.std.proofs.Common.{◌≡◌, ◌≢◌, ℕ, zero, suc, ◌<◌, Bool, true, false, cond, nat_eq, List, [], ◌∷◌, length, set, replicate, refl, sym, ◌∙◌, ap, subst, arith}
 use Rattle.std.specs.Prelude.{Option, Some, None, is_some, IsSome, All}
 use Rattle.std.specs.Option.{option_map}
 use Rattle.std.proofs.lemmas.Bool.{eqb-true, eq-eqb}
-use Rattle.std.proofs.lemmas.List.{get_or_default}
 use Rattle.std.proofs.lemmas.List.Elements.{All-get_or}
 use Rattle.array_shape.specs.declared.shape.Shape.{Shape}
 use Rattle.array_shape.specs.Logged.{Part, ranges_of}
 use Rattle.eaw_face.specs.State.{Logs, listed, with_log}
-use Rattle.memory_eaw.specs.Log.{Log, IsSoundLog, log_of, logged, outline}
-use Rattle.memory_eaw.specs.Steps.{log_at}
+use Rattle.mirror.specs.Log.{Log}
+use Rattle.memory_eaw.specs.Log.{IsSoundLog, log_of, logged, outline}
+use Rattle.mirror.specs.Log.{log_at}
 
 -- a log of a list
 pub logged-at : (logs : List Log) (t : ℕ) → t < length logs → logged logs t ≡ log_of (log_at logs t)
@@ -105,10 +105,6 @@ is_some-outline logs t lt = ap (λ (o : Option (List Part)). is_some (option_map
     go : (b : Bool) → is_some (option_map ranges_of (cond b (Some (log_at logs t).parts) None)) ≡ b
     go true = refl
     go false = refl
-
--- a log that was read from the list
-pub log_is : (logs : List Log) (t n : ℕ) (log : Log) → t < length logs → n ≡ t → log ≡ get_or logs n log → log ≡ log_at logs t
-log_is logs t n log lt is read = read ∙ ap (λ (k : ℕ). get_or logs k log) is ∙ get_or_default logs t log (record { is_live = false; parts = []; room = 0 }) lt
 
 -- none of n fresh logs is live
 pub logged-replicate : (n t room : ℕ) → logged (replicate n (record { is_live = false; parts = []; room = room })) t ≡ None

@@ -8,7 +8,8 @@ use Rattle.array_shape.specs.Logged.{Part, ranges_of}
 use Rattle.eaw_face.specs.State.{listed}
 use Rattle.eaw_face.specs.StoreView.{ArePlaced, LeavesSome}
 use Rattle.memory_eaw.specs.Kept.{Version}
-use Rattle.memory_eaw.specs.Log.{Log, IsWritePart, IsSoundLog, logged, outline}
+use Rattle.mirror.specs.Log.{Log, IsWritePart}
+use Rattle.memory_eaw.specs.Log.{IsSoundLog, logged, outline}
 use Rattle.memory_eaw.specs.Plain.{Plain, WasBefore, LeftSince, IsData, view_of, IsSound}
 
 logged-past : (logs : List Log) (t : ℕ) → length logs ≤ t → logged logs t ≡ None

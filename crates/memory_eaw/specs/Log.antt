@@ -1,20 +1,10 @@
--- What one number has logged.
+-- What the numbers have logged, as the model has it.
 use Rattle.std.specs.Prelude.{ℕ, zero, suc, ◌≡◌, ◌*◌, ◌≤◌, Bool, false, if◌then◌else◌, List, [], ◌∷◌, length, Option, Some, None, All}
 use Rattle.std.specs.Option.{option_map}
 use Rattle.array_shape.specs.declared.shape.Shape.{Shape}
-use Rattle.array_shape.specs.Places.{IsPlaced}
 use Rattle.array_shape.specs.Logged.{Part, ranges_of}
 use Rattle.eaw_face.specs.State.{Logs}
-
--- whether the number is live; its parts, in the order in which they were logged; and how many parts it has room for
-pub record Log : Type 0 where
-  pub is_live : Bool
-  pub parts : List (ℕ × List ℕ)
-  pub room : ℕ
-
--- a nonempty part, within one page of the data
-abbrev pub IsWritePart : Shape → Part → Type 0
-IsWritePart shape part = IsPlaced shape part.0 (length part.1)
+use Rattle.mirror.specs.Log.{Log, IsWritePart}
 
 -- A number that is not live has nothing logged. There is room for just as many parts as all loggers have entries for one number.
 pub record IsSoundLog (shape : Shape) (log : Log) : Type 0 where

@@ -5,7 +5,8 @@ use Rattle.array_shape.specs.Places.{data_len}
 use Rattle.eaw_face.specs.Sending.{silent}
 use Rattle.eaw_face.specs.StoreView.{StoreView}
 use Rattle.memory_eaw.specs.Kept.{Version, Kept}
-use Rattle.memory_eaw.specs.Log.{Log, IsSoundLog, logged, outline}
+use Rattle.mirror.specs.Log.{Log}
+use Rattle.memory_eaw.specs.Log.{IsSoundLog, logged, outline}
 
 pub record Plain : Type 0 where
   pub shape : Shape

@@ -1,5 +1,5 @@
 -- What the steps of a command make of a store in memory, and why they stop.
-use Rattle.std.specs.Prelude.{Some, ℕ, ◌≡◌, ◌⊎◌, Bool, true, false, List, [], ◌∷◌, get_or, slice_set}
+use Rattle.std.specs.Prelude.{Some, ℕ, ◌≡◌, ◌⊎◌, Bool, true, List, [], ◌∷◌, slice_set}
 use Rattle.array_shape.specs.Logged.{Part, applied}
 use Rattle.eaw_face.specs.StoreView.{StoreView}
 use Rattle.eaw_face.specs.Causes.{IsAlive, fit, known}
@@ -7,12 +7,8 @@ use Rattle.eaw_face.specs.Command.{commit_group}
 use Rattle.eaw_face.specs.declared.fault.EawFault.{EawFault}
 use Rattle.eaw_face.specs.declared.fault.EawFault.TheVariants.{UnknownTid, LogFull, Dead}
 use Rattle.memory_eaw.specs.Kept.{failed, called, changed}
-use Rattle.memory_eaw.specs.Log.{Log}
+use Rattle.mirror.specs.Log.{log_at}
 use Rattle.memory_eaw.specs.Plain.{Plain}
-
--- the log of a number
-abbrev pub log_at : List Log → ℕ → Log
-log_at logs t = get_or logs t (record { is_live = false; parts = []; room = 0 })
 
 -- number t is now live or not, and has logged these parts
 abbrev pub relogged : ℕ → Bool → List Part → Plain → Plain

@@ -4,7 +4,7 @@ ghost use Rattle.mars_base.specs.Bytes.{put, range};
 ghost use Rattle.mars_base.specs.Costs.{Costs};
 ghost use Rattle.array_shape.specs.NumberSet.{members};
 ghost use Rattle.array_shape.specs.Places.{data_len};
-ghost use Rattle.array_shape.specs.Parts.{parts_of_write};
+ghost use Rattle.array_shape.specs.Parts.{parts_on, parts_of_write};
 ghost use Rattle.array_shape.specs.Logged.{applied, ranges_of};
 ghost use Rattle.eaw_face.specs.State.{listed, group_log, with_each, edited, range_at, part_at};
 ghost use Rattle.eaw_face.specs.StoreView.{IsLive, log_len};
@@ -17,14 +17,14 @@ ghost use Rattle.memory_eaw.specs.Fresh.{IsFresh};
 ghost use Rattle.memory_eaw.specs.Log.{logged};
 ghost use Rattle.memory_eaw.specs.Plain.{IsData};
 ghost use Rattle.memory_eaw.specs.Calls.{Counts, plain_calls};
-ghost use Rattle.memory_eaw.specs.Steps.{log_at, relogged, called_plain, changed_plain, failed_plain, committed, IsUnknown, IsUnknownIn, IsFullBy};
+ghost use Rattle.mirror.specs.Log.{log_at};
+ghost use Rattle.memory_eaw.specs.Steps.{relogged, called_plain, changed_plain, failed_plain, committed, IsUnknown, IsUnknownIn, IsFullBy};
 
 use crate::journal::Journal;
-use crate::log::{PlainLog, count_range};
-use crate::part::overwrite;
 use array_shape::{NumberSet, Shape};
 use eaw_face::{EawFault, EawStore};
 use mars_base::NoMemory;
+use mirror::PlainLog;
 use std::alloc::Global;
 
 /// An array of editable atomic writes in plain memory, for tests.
@@ -52,6 +52,20 @@ fn free_logs(alloc: Global, numbers: u8, room: usize) -> Result<Vec<PlainLog>, N
         logs.push_reserved(PlainLog::new(alloc, room)?);
     }
     Ok(logs)
+}
+
+// How many parts of a range this logger has.
+fn count_range(shape: Shape, logger: u8, addr: u64, len: u64) -> u16
+    requires { addr + len ≤ data_len shape }
+    ensures { result ≡ length (parts_on shape logger addr len) }
+{
+    let mut count = 0;
+    for part in shape.parts(addr, len) {
+        if part.logger == logger {
+            count += 1;
+        }
+    }
+    count
 }
 
 impl MemoryEaw {
@@ -257,7 +271,8 @@ impl MemoryEaw {
         requires { addr + length bytes.now ≤ data_len self.old.shape }
         ensures { plain_of self.new ≡ record (plain_of self.old) { bytes = put (plain_of self.old).bytes addr bytes.now } }
     {
-        overwrite(&mut self.bytes, addr as usize, bytes);
+        let at = addr as usize;
+        self.bytes[at..at + bytes.len()].copy_from_slice(bytes);
     }
 
     // Logs the parts of a write. Returns how many parts the number has logged by then.

@@ -13,8 +13,8 @@ use Rattle.array_shape.proofs.WriteParts.{applied_write_parts}
 use Rattle.eaw_face.specs.State.{listed}
 use Rattle.eaw_face.specs.StoreView.{StoreView}
 use Rattle.eaw_face.specs.Causes.{fit}
-use Rattle.memory_eaw.specs.Log.{Log, IsWritePart}
-use Rattle.memory_eaw.proofs.Views.{log_is}
+use Rattle.mirror.specs.Log.{Log, IsWritePart}
+use Rattle.mirror.proofs.Parts.{log_is}
 use Rattle.eaw_face.specs.Frame.{Group}
 use Rattle.mirror.specs.Sending.{IsSendable, group_of}
 use Rattle.mirror.specs.Mirroring.{IsCopy}

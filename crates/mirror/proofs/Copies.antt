@@ -12,10 +12,10 @@ use Rattle.eaw_face.specs.Command.{Command, after}
 use Rattle.eaw_face.specs.Causes.{fit}
 use Rattle.eaw_face.specs.Does.{Becomes}
 use Rattle.eaw_face.proofs.Others.{with_log_other}
-use Rattle.memory_eaw.specs.Log.{Log}
-use Rattle.memory_eaw.specs.Steps.{log_at}
-use Rattle.memory_eaw.proofs.Parts.{ranges_of-append, ranges_of-take, ranges_of-edited, length-ranges_of}
-use Rattle.memory_eaw.proofs.Views.{log_is}
+use Rattle.mirror.specs.Log.{Log}
+use Rattle.mirror.specs.Log.{log_at}
+use Rattle.mirror.proofs.Parts.{ranges_of-append, ranges_of-take, ranges_of-edited, length-ranges_of}
+use Rattle.mirror.proofs.Parts.{log_is}
 use Rattle.mirror.specs.Sending.{IsSendable}
 use Rattle.mirror.specs.Mirroring.{IsCopy, AreLogs, AreCopies}
 use Rattle.mirror.proofs.Holding.{count_append, fit_most}

@@ -2,9 +2,9 @@
 use Rattle.std.proofs.Common.{◌≡◌, ℕ, ◌<◌, Bool, true, false, ◌||◌, nat_eq, List, [], ◌∷◌, length, get_or, set, refl, sym, ◌∙◌, ap, subst}
 use Rattle.std.proofs.lemmas.Bool.{false≢true, eqb-true, eq-eqb}
 use Rattle.eaw_face.specs.State.{is_one_of}
-use Rattle.memory_eaw.specs.Log.{Log}
-use Rattle.memory_eaw.specs.Steps.{log_at}
-use Rattle.memory_eaw.proofs.Views.{log_is}
+use Rattle.mirror.specs.Log.{Log}
+use Rattle.mirror.specs.Log.{log_at}
+use Rattle.mirror.proofs.Parts.{log_is}
 use Rattle.mirror.specs.Mirroring.{IsFreed}
 use Rattle.mirror.proofs.Copies.{log_here, log_there}
 

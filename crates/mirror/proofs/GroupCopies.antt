@@ -8,8 +8,8 @@ use Rattle.eaw_face.specs.State.{Logs, listed, is_one_of, with_each, group_log}
 use Rattle.eaw_face.specs.StoreView.{StoreView, ArePlaced}
 use Rattle.eaw_face.specs.Command.{commit_group}
 use Rattle.eaw_face.specs.Causes.{known, fit}
-use Rattle.memory_eaw.specs.Log.{Log}
-use Rattle.memory_eaw.specs.Steps.{log_at}
+use Rattle.mirror.specs.Log.{Log}
+use Rattle.mirror.specs.Log.{log_at}
 use Rattle.eaw_face.specs.Frame.{Group}
 use Rattle.mirror.specs.Groups.{IsSendableAt, AreSendable, groups_of}
 use Rattle.mirror.specs.Mirroring.{IsCopy, AreLogs, AreCopies, IsFreed}

@@ -12,8 +12,8 @@ use Rattle.array_shape.specs.declared.shape.Shape.{Shape}
 use Rattle.array_shape.specs.Places.{IsShape}
 use Rattle.array_shape.specs.NumberSet.{has, numbers_from, numbers_in}
 use Rattle.array_shape.specs.Logged.{Part, AllPlaced}
-use Rattle.memory_eaw.specs.Log.{Log}
-use Rattle.memory_eaw.specs.Steps.{log_at}
+use Rattle.mirror.specs.Log.{Log}
+use Rattle.mirror.specs.Log.{log_at}
 use Rattle.eaw_face.specs.Frame.{Group, Frame, part_bytes, group_bytes, Rise, IsGroup, IsGroupIn, IsFrameIn}
 use Rattle.mirror.specs.Sending.{IsSendable, HasBytes, group_of, frame_most}
 use Rattle.mirror.specs.Groups.{IsSendableAt, AreSendable, IsListed, HasByteLog, groups_of}

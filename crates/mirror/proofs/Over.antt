@@ -1,6 +1,6 @@
 -- What a command does of a store, it does of the store that has sent something.
-use Rattle.std.proofs.Common.{ℕ, ◌+◌, ◌≤◌, inl, inr, Bool, List, [], ◌∷◌, Result, Ok, Err}
-use Rattle.std.specs.Prelude.{Option, Some, None}
+use Rattle.std.proofs.Common.{◌≡◌, ℕ, ◌+◌, ◌≤◌, inl, inr, Bool, true, List, [], ◌∷◌, Result, Ok, Err}
+use Rattle.std.specs.Prelude.{Option, Some, None, OnOk, OnErr}
 use Rattle.std.proofs.lemmas.Result.{on_ok_weaker}
 use Rattle.mars_base.specs.Check.{test, each}
 use Rattle.eaw_face.specs.Sending.{Sending}
@@ -8,6 +8,7 @@ use Rattle.eaw_face.specs.StoreView.{StoreView, IsLive}
 use Rattle.eaw_face.specs.Command.{Command, log_write, log_edit, commit, commit_group, abort, nested_top, partial_abort, atomic_write, log_read, read}
 use Rattle.eaw_face.specs.Causes.{Cause, known, room_for}
 use Rattle.eaw_face.specs.Mirroring.{Mirrors}
+use Rattle.eaw_face.specs.Due.{SendsDue}
 use Rattle.eaw_face.specs.Does.{Does}
 use Rattle.eaw_face.specs.declared.fault.EawFault.{EawFault}
 use Rattle.eaw_face.specs.declared.fault.EawFault.TheVariants.{UnknownTid, LogFull, Media, Dead}
@@ -63,8 +64,9 @@ module _ (store : StoreView) (sending : Sending) where
 
 -- a command of the store below is that command of a primary, if it sent what it wrote
 pub does_over : {T : Type 0} (tells : Bool) (Opens : List ℕ → List ℕ → Type 0) (command : Command) (old new : StoreView) (before after : Sending) (r : Result T EawFault)
-    → Does tells Opens command old new r → Mirrors tells (over old before) (over new after) → after.sent ≤ before.sent + 1 → Does tells Opens command (over old before) (over new after) r
-does_over tells Opens command old new before after r does mirrors one = record {
+    → Does tells Opens command old new r → (m : Mirrors tells (over old before) (over new after)) → after.sent ≤ before.sent + 1
+    → OnOk r (before.mirrors ≡ true → SendsDue tells command m.added (over old before) (over new after)) → OnErr r (after ≡ before) → Does tells Opens command (over old before) (over new after) r
+does_over tells Opens command old new before after r does mirrors one sends refused = record {
   shape = does.shape;
   later = does.later;
   cause = cause_over old before command new.faults r does.cause;
@@ -75,4 +77,6 @@ does_over tells Opens command old new before after r does mirrors one = record {
   time = does.time;
   mirrors = mirrors;
   one = one;
+  sends = sends;
+  refused = refused;
 }

@@ -9,7 +9,7 @@ use Rattle.array_shape.specs.Places.{IsShape, data_len}
 use Rattle.array_shape.specs.Logged.{Part, ranges_of, AllPlaced}
 use Rattle.eaw_face.specs.State.{count_on}
 use Rattle.eaw_face.specs.Causes.{fit}
-use Rattle.memory_eaw.proofs.Parts.{length-ranges_of, ranges_of-append}
+use Rattle.mirror.proofs.Parts.{length-ranges_of, ranges_of-append}
 use Rattle.eaw_face.specs.Frame.{Group, Frame, frame_bytes, IsPart, IsGroup, IsInside, IsGroupIn, IsFrameIn}
 use Rattle.mars_base.specs.Causes.{Rose}
 use Rattle.eaw_face.specs.Sending.{Sending}

@@ -12,7 +12,7 @@ use Rattle.mirror.specs.declared.follow_fault.FollowFault.{FollowFault}
 use Rattle.mirror.specs.declared.follow_fault.FollowFault.TheVariants.{BadFrame, Gap, Media, Dead, NoMemory}
 use Rattle.eaw_face.specs.Frame.{mark, frame_bytes, group_bytes, IsFrameIn, AreFrame}
 use Rattle.mirror.specs.Applying.{Applied, OpensEither}
-use Rattle.mirror.specs.Following.{HasNoFrame, IsBroken, Stand, IsReady, Cuts, HasFollowed, Follows, LeavesFirst, IsGap, StopCause, AppliesNext, NotApplied, OpensNext}
+use Rattle.mirror.specs.Following.{HasNoFrame, IsBroken, CanGoOn, Stand, IsReady, Cuts, HasFollowed, Follows, LeavesFirst, IsGap, StopCause, AppliesNext, NotApplied, OpensNext}
 use Rattle.mirror.proofs.Grouping.{head_long}
 
 -- the sequence that a frame's bytes say
@@ -75,14 +75,14 @@ module _ (tells : Bool) (Opens : Shape → List ℕ → List ℕ → Type 0) (ol
   same_data = record { shape = refl; data_is = λ told. refl }
 
   -- the frame is not whole
-  pub byte_kept : (new : List ℕ) → new ≡ rest → (AreFrame old.store.shape rest → ⊥) → Follows tells old (record { store = old.store; applied = old.applied; rest = new }) (byte ∷ [])
-  byte_kept new is not = record {
+  pub byte_kept : (new : List ℕ) → new ≡ rest → (AreFrame old.store.shape rest → ⊥) → CanGoOn old.store.shape new → Follows tells old (record { store = old.store; applied = old.applied; rest = new }) (byte ∷ [])
+  byte_kept new is not goes_on = record {
     frames = [];
     cuts = record { good = All-nil (IsFrameIn old.store.shape); sequence = tt; joined = sym is };
     count = omega arith;
     faults = refl;
     data_is = same_data;
-    ready = record { alive = ready.alive; free = ready.free; none = subst (HasNoFrame old.store.shape) (sym is) (no_frame_more old.store.shape old.rest byte ready.none not) };
+    ready = record { alive = ready.alive; free = ready.free; none = subst (HasNoFrame old.store.shape) (sym is) (no_frame_more old.store.shape old.rest byte ready.none not); goes_on = goes_on };
   }
 
   -- it cannot become one, or memory ran out
@@ -133,9 +133,9 @@ module _ (tells : Bool) (Opens : Shape → List ℕ → List ℕ → Type 0) (ol
       either) e
 
   -- the frame is whole, and applied
-  pub frame_applied : (bytes : List ℕ) → bytes ≡ rest → (new : StoreView) (count : ℕ) → count ≡ old.applied + 1 → (left : List ℕ) → left ≡ [] → AppliesNext tells old.applied bytes old.store new
+  pub frame_applied : (bytes : List ℕ) → bytes ≡ rest → (new : StoreView) (count : ℕ) → count ≡ old.applied + 1 → (left : List ℕ) → left ≡ [] → CanGoOn old.store.shape left → AppliesNext tells old.applied bytes old.store new
       → Follows tells old (record { store = new; applied = count; rest = left }) (byte ∷ [])
-  frame_applied bytes is new count count_is left none next =
+  frame_applied bytes is new count count_is left none goes_on next =
       let a = next.applied in
       record {
         frames = a.frame.frame ∷ [];
@@ -143,5 +143,5 @@ module _ (tells : Bool) (Opens : Shape → List ℕ → List ℕ → Type 0) (ol
         count = omega (arith, count_is);
         faults = a.faults;
         data_is = record { shape = a.shape; data_is = a.data_is };
-        ready = record { alive = a.alive; free = a.free; none = subst (HasNoFrame new.shape) (sym none) (none_at_first new.shape) };
+        ready = record { alive = a.alive; free = a.free; none = subst (HasNoFrame new.shape) (sym none) (none_at_first new.shape); goes_on = subst (λ (s : Shape). CanGoOn s left) (sym a.shape) goes_on };
       }

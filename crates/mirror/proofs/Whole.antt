@@ -45,7 +45,7 @@ starts shape bytes = (
 )
 
 -- at an open place at least one byte is to come
-pub open_needs : (shape : Shape) (place : Place) → IsOpen place → (place ≡ End → ⊥) → Rest shape place [] → ⊥
+pub open_needs : (shape : Shape) (place : Place) → IsOpen shape place → (place ≡ End → ⊥) → Rest shape place [] → ⊥
 open_needs shape (Mark taken) ready not r =
     let all = length-append (drop taken mark) r.rest in
     let front = length-drop taken mark in
@@ -54,8 +54,8 @@ open_needs shape (Mark taken) ready not r =
 open_needs shape (Sequence n) ready not r = number_needs (AfterSequence shape) n.left n.value n.weight ready r
 open_needs shape (GroupCount n) ready not r = number_needs (AfterGroupCount shape) n.left n.value n.weight ready r
 open_needs shape (Number groups) ready not r = let none : 0 ≡ suc (length r.rest) = ap (λ (l : List ℕ). length l) r.is in omega (arith, none)
-open_needs shape (PartCount n groups) ready not r = number_needs (AfterPartCount shape groups) n.left n.value n.weight ready r
+open_needs shape (PartCount n groups) ready not r = number_needs (AfterPartCount shape groups) n.left n.value n.weight ready.0 r
 open_needs shape (Address n parts) ready not r = number_needs (AfterAddress shape parts) n.left n.value n.weight ready.0 r
-open_needs shape (Length n addr parts) ready not r = number_needs (AfterLength shape addr parts.count parts.held parts.behind) n.left n.value n.weight ready r
-open_needs shape (Bytes left parts) ready not r = bytes_need (IsPartsRest shape parts) left ready r
+open_needs shape (Length n addr parts) ready not r = number_needs (AfterLength shape addr parts.count parts.held parts.behind) n.left n.value n.weight ready.0 r
+open_needs shape (Bytes left parts) ready not r = bytes_need (IsPartsRest shape parts) left ready.0 r
 open_needs shape End ready not r = not refl

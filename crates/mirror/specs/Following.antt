@@ -18,6 +18,16 @@ HasNoFrame shape bytes = (front rest : List ℕ) → bytes ≡ front ++ rest →
 abbrev pub IsBroken : Shape → List ℕ → Type 0
 IsBroken shape bytes = (rest : List ℕ) → AreFrame shape (bytes ++ rest) → ⊥
 
+-- As far as whole fields show, something behind these bytes makes them a frame: behind those before the last number, of which some bytes
+-- have come and not all.
+pub record CanGoOn (shape : Shape) (bytes : List ℕ) : Type 0 where
+  pub whole : List ℕ
+  pub part : List ℕ
+  pub are : bytes ≡ whole ++ part
+  pub short : length part ≤ 7
+  pub rest : List ℕ
+  pub frame : AreFrame shape (whole ++ rest)
+
 -- where a follower stands: its store, how many frames it has applied, and the bytes that it keeps of the next
 pub record Stand : Type 1 where
   pub store : StoreView
@@ -28,11 +38,12 @@ pub record Stand : Type 1 where
 abbrev pub stand : StoreView → ℕ → List ℕ → Stand
 stand store applied rest = record { store = store; applied = applied; rest = rest }
 
--- it can go on
+-- it can go on, and so can the bytes that it keeps
 pub record IsReady (stand : Stand) : Type 0 where
   pub alive : stand.store.is_dead ≡ false
   pub free : IsFree stand.store
   pub none : HasNoFrame stand.store.shape stand.rest
+  pub goes_on : CanGoOn stand.store.shape stand.rest
 
 -- These frames, in sequence, and then the bytes `left`, are what the follower kept and the piece that it is fed.
 pub record Cuts (old : Stand) (piece : List ℕ) (frames : List Frame) (left : List ℕ) : Type 0 where

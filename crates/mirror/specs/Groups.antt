@@ -1,8 +1,8 @@
 -- What several numbers have logged, as the groups of a frame.
 use Rattle.std.specs.Prelude.{ℕ, ◌^◌, ◌<◌, List, length, flat_map, All}
 use Rattle.array_shape.specs.declared.shape.Shape.{Shape}
-use Rattle.memory_eaw.specs.Log.{Log}
-use Rattle.memory_eaw.specs.Steps.{log_at}
+use Rattle.mirror.specs.Log.{Log}
+use Rattle.mirror.specs.Log.{log_at}
 use Rattle.eaw_face.specs.Frame.{Group}
 use Rattle.mirror.specs.Sending.{IsSendable, HasBytes, AreShort, group_of}
 

@@ -1,3 +1,4 @@
+pub mod Log
 pub mod Partial
 pub mod Links
 pub mod Rest

@@ -5,8 +5,8 @@ use Rattle.array_shape.specs.Logged.{Part, ranges_of}
 use Rattle.eaw_face.specs.State.{listed, is_one_of}
 use Rattle.eaw_face.specs.Causes.{fit}
 use Rattle.eaw_face.specs.StoreView.{StoreView}
-use Rattle.memory_eaw.specs.Log.{Log}
-use Rattle.memory_eaw.specs.Steps.{log_at}
+use Rattle.mirror.specs.Log.{Log}
+use Rattle.mirror.specs.Log.{log_at}
 use Rattle.eaw_face.specs.Sending.{Sending}
 
 -- the store and the link of a primary; how many frames it has sent; and whether it sends no more

@@ -1,11 +1,12 @@
 -- What may still come of a frame, told by what has come.
-use Rattle.std.specs.Prelude.{ℕ, ◌≡◌, ◌+◌, ◌-◌, ◌*◌, ◌%◌, ◌^◌, ◌<◌, ◌≤◌, ◌↔◌, List, [], ◌∷◌, ◌++◌, length, drop, flat_map, All, slice_index, slice_set, replicate, Option, Some, None}
+use Rattle.std.specs.Prelude.{ℕ, zero, suc, ◌⊎◌, ◌≡◌, ◌+◌, ◌-◌, ◌*◌, ◌%◌, ◌^◌, ◌<◌, ◌≤◌, ◌↔◌, List, [], ◌∷◌, ◌++◌, length, drop, flat_map, All, slice_index, slice_set, replicate, Option, Some, None}
 use Rattle.byteorder.specs.Endian.{little_bytes}
 use Rattle.array_shape.specs.declared.shape.Shape.{Shape}
 use Rattle.array_shape.specs.Places.{data_len, logger_of}
 use Rattle.array_shape.specs.Logged.{Part, ranges_of}
 use Rattle.eaw_face.specs.State.{count_on}
 use Rattle.eaw_face.specs.Frame.{Group, mark, part_bytes, group_bytes, IsByte, IsPart, IsGroup, Rise, IsInside, IsGroupIn}
+use Rattle.mirror.specs.declared.partial_number.PartialNumber.{PartialNumber}
 use Rattle.mirror.specs.declared.to_come.Groups.{Groups}
 use Rattle.mirror.specs.declared.to_come.Parts.{Parts}
 use Rattle.mirror.specs.declared.place.Place.{Place}
@@ -113,19 +114,64 @@ Rest shape (Length n addr parts) bytes = NumberRest n.left n.value n.weight (Aft
 Rest shape (Bytes left parts) bytes = BytesRest left (IsPartsRest shape parts) bytes
 Rest shape End bytes = bytes ≡ []
 
--- at least one byte is to come, unless this is the end
-abbrev pub IsOpen : Place → Type 0
-IsOpen (Mark taken) = taken < 4
-IsOpen (Sequence n) = 0 < n.left
-IsOpen (GroupCount n) = 0 < n.left
-IsOpen (Number groups) = 0 < groups.count
-IsOpen (PartCount n groups) = 0 < n.left
-IsOpen (Address n parts) = (0 < n.left) × (0 < parts.count)
-IsOpen (Length n addr parts) = 0 < n.left
-IsOpen (Bytes left parts) = 0 < left
-IsOpen End = Unit {0}
+-- the sum of f over the first n
+abbrev pub total : (ℕ → ℕ) → ℕ → ℕ
+total f zero = 0
+total f (suc n) = total f n + f n
+
+-- the shape has numbers for the groups that are to come, from the least one on
+abbrev pub HasNumbers : Shape → Groups → Type 0
+HasNumbers shape groups = groups.low + groups.count ≤ shape.numbers
+
+-- and the loggers have entries for the parts that are to come
+abbrev pub HasEntries : Shape → Parts → Type 0
+HasEntries shape parts = (parts.count ≤ total (λ g. shape.entries - slice_index parts.held g) shape.loggers) × HasNumbers shape parts.behind
+
+-- At least one byte is to come, unless this is the end, and there are numbers and entries for what is to come.
+abbrev pub IsOpen : Shape → Place → Type 0
+IsOpen shape (Mark taken) = taken < 4
+IsOpen shape (Sequence n) = 0 < n.left
+IsOpen shape (GroupCount n) = 0 < n.left
+IsOpen shape (Number groups) = (0 < groups.count) × HasNumbers shape groups
+IsOpen shape (PartCount n groups) = (0 < n.left) × HasNumbers shape groups
+IsOpen shape (Address n parts) = (0 < n.left) × (0 < parts.count) × HasEntries shape parts
+IsOpen shape (Length n addr parts) = (0 < n.left) × HasEntries shape parts
+IsOpen shape (Bytes left parts) = (0 < left) × HasEntries shape parts
+IsOpen shape End = Unit {0}
+
+-- how many bytes of the number are to come in which a place stands, and one where it stands in none
+abbrev pub to_come : Place → ℕ
+to_come (Mark taken) = 1
+to_come (Sequence n) = n.left
+to_come (GroupCount n) = n.left
+to_come (Number groups) = 1
+to_come (PartCount n groups) = n.left
+to_come (Address n parts) = n.left
+to_come (Length n addr parts) = n.left
+to_come (Bytes left parts) = 1
+to_come End = 1
+
+-- a number of so many bytes of which none has come
+abbrev pub IsNew : PartialNumber → ℕ → Type 0
+IsNew n len = (n.left ≡ len) × (n.value ≡ 0) × (n.weight ≡ 1)
+
+-- a place within no number
+abbrev pub Begins : Place → Type 0
+Begins (Mark taken) = Unit {0}
+Begins (Sequence n) = IsNew n 8
+Begins (GroupCount n) = IsNew n 2
+Begins (Number groups) = Unit {0}
+Begins (PartCount n groups) = IsNew n 2
+Begins (Address n parts) = IsNew n 8
+Begins (Length n addr parts) = IsNew n 2
+Begins (Bytes left parts) = Unit {0}
+Begins End = Unit {0}
+
+-- the next place stands in the same number, or in none
+abbrev pub GoesOn : Place → Place → Type 0
+GoesOn place next = (suc (to_come next) ≡ to_come place) ⊎ Begins next
 
 -- A byte leads from one place to another, where just the same may still come; or nothing makes it a frame.
 abbrev pub Takes : Shape → Place → ℕ → Option Place → Type 0
 Takes shape place byte None = (bytes : List ℕ) → Rest shape place (byte ∷ bytes) → ⊥
-Takes shape place byte (Some next) = IsOpen next × ((bytes : List ℕ) → Rest shape place (byte ∷ bytes) ↔ Rest shape next bytes)
+Takes shape place byte (Some next) = IsOpen shape next × GoesOn place next × ((bytes : List ℕ) → Rest shape place (byte ∷ bytes) ↔ Rest shape next bytes)

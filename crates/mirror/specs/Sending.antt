@@ -30,10 +30,12 @@ group_of number (p ∷ ps) = record { number = number; parts = p ∷ ps } ∷ []
 abbrev pub next_frame : Sending → List Group → Frame
 next_frame old groups = record { sequence = old.sent + 1; groups = groups }
 
--- what a sender shows: its link, the shape of its frames, how many it has sent, and whether it sends no more
+-- what a sender shows: its link, the shape of its frames, for how many bytes of a frame it has room, how many frames it has sent, and
+-- whether it sends no more
 pub record SenderView (L : Type 0) : Type 0 where
   pub link : L
   pub shape : Shape
+  pub room : ℕ
   pub sent : ℕ
   pub is_down : Bool
 

@@ -1,9 +1,10 @@
 // Laws of frames: each follows from the definitions alone.
-ghost use Rattle.std.specs.Prelude.{◌≡◌, ◌++◌, List, ℕ, [], false, true, flat_map, IsTrue};
+ghost use Rattle.std.specs.Prelude.{◌≡◌, ◌≤◌, ◌+◌, length, ◌++◌, List, ℕ, [], false, true, flat_map, IsTrue};
 ghost use Rattle.eaw_face.specs.Frame.{Frame, IsFrame, frame_bytes};
 ghost use Rattle.eaw_face.specs.Mirroring.{Mirrors};
 ghost use Rattle.mirror.specs.Following.{LeavesFirst};
-ghost use Rattle.mirror.specs.FollowerView.{FollowerView, stand_of, IsFollowed, HasGap, AreAlike};
+ghost use Rattle.mirror.specs.Sending.{frame_most};
+ghost use Rattle.mirror.specs.FollowerView.{FollowerView, stand_of, IsFollowed, HasGap, HasBadFrame, AreAlike};
 ghost use Rattle.mirror.specs.Both.{HaveOneData, HasFirst, OpensFirstOf};
 
 use eaw_face::EawStore;
@@ -25,6 +26,12 @@ pub fn streams_are_followed_in_one_way<S: EawStore>()
     // A piece whose next whole frame is out of sequence is not followed.
     ensures gap { (old new other : FollowerView S) (piece : List ℕ) (expected got : ℕ)
         → IsFollowed S.tells S.view old new piece → HasGap S.tells S.view old other piece expected got → ⊥ }
+    // A piece that breaks a frame is not followed to the seventh byte behind those that break it.
+    ensures broken { (old new other : FollowerView S) (piece : List ℕ) (bad : HasBadFrame S.tells S.view old other piece)
+        → IsFollowed S.tells S.view old new piece → length bad.later ≤ 6 }
+    // What a follower keeps is no longer than the longest frame of its shape and seven bytes: behind so many it has applied one or told of one.
+    ensures short { (old new : FollowerView S) (piece : List ℕ) → IsFollowed S.tells S.view old new piece
+        → length new.rest ≤ frame_most (S.view new.store).shape + 7 }
 {}
 
 /// A follower that is fed a beginning of the frames that a store has sent has the data of the first of its commits. Both have one data at

@@ -4,7 +4,7 @@ ghost use Rattle.array_shape.specs.Places.{IsShape};
 ghost use Rattle.array_shape.specs.declared.shape.Shape.{Shape};
 ghost use Rattle.eaw_face.specs.Frame.{AreFrame};
 ghost use Rattle.mirror.specs.declared.place.Place.{Place};
-ghost use Rattle.mirror.specs.Rest.{Rest, IsOpen, Takes, IsPartsRest};
+ghost use Rattle.mirror.specs.Rest.{Rest, HasNumbers, HasEntries, IsOpen, Begins, GoesOn, Takes, IsPartsRest};
 
 use crate::partial_number::PartialNumber;
 use crate::to_come::{Groups, Parts};
@@ -50,7 +50,8 @@ pub(crate) enum Place {
 
 // The place behind the bytes of a part.
 fn after_part(parts: Parts) -> Place
-    ensures ready { IsOpen result }
+    ensures ready { (shape : Shape) → HasEntries shape parts → IsOpen shape result }
+    ensures begins { Begins result }
     ensures same { (shape : Shape) → IsShape shape → (bytes : List ℕ) → IsPartsRest shape parts bytes ↔ Rest shape result bytes }
 {
     if parts.count > 0 {
@@ -84,7 +85,8 @@ fn take_mark(taken: u8, byte: u8) -> Option<Place>
 
 fn take_sequence(number: PartialNumber, byte: u8) -> Place
     requires { 0 < number.left }
-    ensures ready { IsOpen result }
+    ensures ready { (shape : Shape) → IsOpen shape result }
+    ensures goes_on { GoesOn (Place.Sequence number) result }
     ensures same { (shape : Shape) (bytes : List ℕ) → Rest shape (Place.Sequence number) (byte ∷ bytes) ↔ Rest shape result bytes }
 {
     let number = number.take(byte);
@@ -138,7 +140,8 @@ fn take_number(shape: Shape, groups: Groups, byte: u8) -> Option<Place>
 }
 
 fn take_part_count(shape: Shape, number: PartialNumber, groups: Groups, byte: u8) -> Option<Place>
-    requires { 0 < number.left }
+    requires number { 0 < number.left }
+    requires groups { HasNumbers shape groups }
     ensures { Takes shape (Place.PartCount number groups) byte result }
 {
     let number = number.take(byte);
@@ -162,6 +165,7 @@ fn take_part_count(shape: Shape, number: PartialNumber, groups: Groups, byte: u8
 fn take_address(shape: Shape, number: PartialNumber, parts: Parts, byte: u8) -> Option<Place>
     requires number { 0 < number.left }
     requires parts { 0 < parts.count }
+    requires entries { HasEntries shape parts }
     ensures { Takes shape (Place.Address number parts) byte result }
 {
     let number = number.take(byte);
@@ -188,7 +192,7 @@ fn take_address(shape: Shape, number: PartialNumber, parts: Parts, byte: u8) -> 
 
 fn take_length(number: PartialNumber, addr: u64, parts: Parts, byte: u8) -> Option<Place>
     requires { 0 < number.left }
-    ensures { (shape : Shape) → Takes shape (Place.Length number addr parts) byte result }
+    ensures { (shape : Shape) → HasEntries shape parts → Takes shape (Place.Length number addr parts) byte result }
 {
     let number = number.take(byte);
     if number.left > 0 {
@@ -212,7 +216,8 @@ fn take_length(number: PartialNumber, addr: u64, parts: Parts, byte: u8) -> Opti
 
 fn take_byte(left: u16, parts: Parts, byte: u8) -> Place
     requires { 0 < left }
-    ensures ready { IsOpen result }
+    ensures ready { (shape : Shape) → HasEntries shape parts → IsOpen shape result }
+    ensures begins { Begins result }
     ensures same { (shape : Shape) → IsShape shape → (bytes : List ℕ) → Rest shape (Place.Bytes left parts) (byte ∷ bytes) ↔ Rest shape result bytes }
 {
     if left > 1 {
@@ -227,15 +232,17 @@ fn take_byte(left: u16, parts: Parts, byte: u8) -> Place
 impl Place {
     /// The place where a frame begins.
     pub(crate) fn start() -> Place
-        ensures ready { IsOpen result }
+        ensures ready { (shape : Shape) → IsOpen shape result }
+        ensures begins { Begins result }
         ensures same { (shape : Shape) (bytes : List ℕ) → AreFrame shape bytes ↔ Rest shape result bytes }
     {
         Place::Mark { taken: 0 }
     }
 
-    /// The place behind one more byte, or `None` if no bytes behind it make this a frame for an array of the shape.
+    /// The place behind one more byte, or `None` if no bytes behind it make this a frame for an array of the shape. It is `None` at the
+    /// last byte of the field that shows it.
     pub(crate) fn after(self, shape: Shape, byte: u8) -> Option<Place>
-        requires { IsOpen self }
+        requires { IsOpen shape self }
         ensures { Takes shape self byte result }
     {
         match self {
@@ -257,8 +264,7 @@ impl Place {
 
     /// Whether the frame is whole.
     pub(crate) fn is_end(self) -> bool
-        requires { IsOpen self }
-        ensures { (shape : Shape) → IsTrue result ↔ Rest shape self [] }
+        ensures { (shape : Shape) → IsOpen shape self → IsTrue result ↔ Rest shape self [] }
     {
         matches!(self, Place::End)
     }

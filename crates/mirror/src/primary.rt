@@ -1,17 +1,17 @@
 // A store that sends what its commits write.
-ghost use Rattle.std.specs.Prelude.{ℕ, ◌≡◌, ◌<◌, [], All, false, length, replicate, IfOk, IfErr};
+ghost use Rattle.std.specs.Prelude.{ℕ, ◌≡◌, ◌<◌, [], All, false, length, replicate, IfOk, IfErr, vec_capacity};
 ghost use Rattle.array_shape.specs.NumberSet.{members};
 ghost use Rattle.eaw_face.specs.Causes.{IsAlive};
 ghost use Rattle.mirror.specs.Applying.{IsFree};
-ghost use Rattle.memory_eaw.specs.Steps.{log_at};
+ghost use Rattle.mirror.specs.Log.{log_at};
 ghost use Rattle.mirror.specs.Mirroring.{IsFreed};
 
 use crate::link::Link;
+use crate::log::PlainLog;
 use crate::sender::Sender;
 use array_shape::{NumberSet, Shape};
 use eaw_face::{EawFault, EawStore};
 use mars_base::NoMemory;
-use memory_eaw::PlainLog;
 use std::alloc::Global;
 use std::marker::Model;
 
@@ -37,7 +37,8 @@ impl<S: EawStore, L: Link> Model for Primary<S, L> {
 
 // Logs of so many numbers, none of which has logged anything.
 fn empty_logs(alloc: Global, numbers: u8, room: usize) -> Result<Vec<PlainLog>, NoMemory>
-    ensures { IfOk result (λ logs. logs.items ≡ replicate numbers (record { is_live = false; parts = []; room = room })) }
+    ensures logs { IfOk result (λ logs. logs.items ≡ replicate numbers (record { is_live = false; parts = []; room = room })) }
+    ensures room { IfOk result (λ logs. vec_capacity logs ≡ numbers) }
 {
     let mut logs = Vec::with_capacity(alloc, usize::from(numbers))?;
     for _number in 0..numbers {

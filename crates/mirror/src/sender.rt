@@ -1,14 +1,14 @@
 // Sends frames, one after another.
 ghost use Rattle.std.specs.Prelude.{◌≡◌, ◌+◌, ◌^◌, ◌≤◌, ◌<◌, ◌⊎◌, [], IsTrue, false, true, length, drop, slice_index_or, IfOk, IfErr, IfSome, IsNone};
 ghost use Rattle.array_shape.specs.NumberSet.{members};
-ghost use Rattle.mirror.specs.Sending.{IsSendable, Sends, sending_of, group_of};
+ghost use Rattle.mirror.specs.Sending.{IsSendable, Sends, sending_of, group_of, frame_most};
 ghost use Rattle.mirror.specs.Groups.{AreSendable, groups_of};
 
 use crate::link::Link;
+use crate::log::PlainLog;
 use crate::writer::{append_group, append_groups, begin_frame, count_groups};
 use array_shape::{NumberSet, Shape};
 use mars_base::NoMemory;
-use memory_eaw::PlainLog;
 use std::alloc::Global;
 use std::marker::Model;
 
@@ -28,15 +28,15 @@ impl<L: Link> Model for Sender<L> {
 
     ghost Value = { SenderView L };
 
-    ghost view = { λ s. record { link = s.link; shape = s.shape; sent = s.sent; is_down = s.is_down } };
+    ghost view = { λ s. record { link = s.link; shape = s.shape; room = vec_capacity s.frame; sent = s.sent; is_down = s.is_down } };
 
     ghost invariant = { λ s. frame_most s.shape ≤ vec_capacity s.frame };
 }
 
 impl<L: Link> Sender<L> {
-    /// A sender that has sent nothing. An error returns the link.
+    /// A sender that has sent nothing, with room for just the longest frame. An error returns the link.
     pub(crate) fn new(alloc: Global, shape: Shape, link: L) -> Result<Sender<L>, (NoMemory, L)>
-        ensures fresh { IfOk result (λ sender. sender ≡ record { link = link; shape = shape; sent = 0; is_down = false }) }
+        ensures fresh { IfOk result (λ sender. sender ≡ record { link = link; shape = shape; room = frame_most shape; sent = 0; is_down = false }) }
         ensures returned { IfErr result (λ failed. failed.1 ≡ link) }
     {
         let parts = usize::from(shape.loggers) * usize::from(shape.entries);

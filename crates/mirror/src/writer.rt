@@ -6,9 +6,9 @@ ghost use Rattle.mirror.specs.Sending.{HasBytes, AreShort, group_of};
 ghost use Rattle.mirror.specs.Groups.{IsListed, HasByteLog, groups_of};
 ghost use Rattle.array_shape.specs.NumberSet.{members};
 
+use crate::log::PlainLog;
 use crate::place::MARK;
 use array_shape::NumberSet;
-use memory_eaw::PlainLog;
 
 // Bytes are below 256.
 fn are_bytes(bytes: &[u8])

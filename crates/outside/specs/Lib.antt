@@ -1,3 +1,4 @@
 pub mod Told
 pub mod Memory
 pub mod Standard
+pub mod Turning

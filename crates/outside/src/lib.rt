@@ -10,6 +10,7 @@ mod memory_source;
 mod sink;
 mod source;
 mod standard;
+mod turn;
 
 pub use memory_sink::MemorySink;
 pub use memory_source::MemorySource;

@@ -5,9 +5,10 @@ ghost use Rattle.mars_base.specs.Causes.{HasCause};
 ghost use Rattle.outside.specs.Told.{TakesPart};
 ghost use Rattle.mars_base.specs.Causes.{faults_after};
 
+use crate::turn::{Turn, turn_of};
 use crate::{Sink, Source};
 use mars_base::Failed;
-use std::io::{ErrorKind, Read, Write};
+use std::io::{Read, Write};
 use std::marker::Model;
 
 /// A source over a reader. As a source it does not tell its bytes: no contract says what a reader over the outside gives.
@@ -51,28 +52,27 @@ impl<R: Read> Source for StdSource<R> {
         ensures faults { self.new.faults ≡ faults_after self.old.faults result }
         ensures cause { HasCause self.old.faults self.new.faults result }
     {
-        let answer = read_again(&mut self.reader, buf);
-        if answer.is_err() {
-            self.faults = self.faults.saturating_add(1);
-        }
-        answer
+        read_again(&mut self.reader, &mut self.faults, buf)
     }
 
     fn fails_when_spent(&self) {}
 }
 
 // A read that is made again if a signal came first.
-fn read_again<R: Read>(reader: &mut R, buf: &mut [u8]) -> Result<usize, Failed>
+fn read_again<R: Read>(reader: &mut R, faults: &mut u64, buf: &mut [u8]) -> Result<usize, Failed>
     ensures bound { IfOk result (λ n. n ≤ length buf.new) }
     ensures passed_on { ReadConsumes (R.remaining reader.old) (R.remaining reader.new) result buf.new }
+    ensures counted { faults.new ≡ faults_after faults.old result }
+    ensures later { faults.old ≤ faults.new }
 {
     'turns: for _ in 0..u64::MAX {
-        match reader.read(buf) {
-            Ok(count) => return Ok(count),
-            Err(error) if error.kind() == ErrorKind::Interrupted => {}
-            Err(_) => return Err(Failed),
+        match turn_of(reader.read(buf), 0, faults) {
+            Turn::Done(count) => return Ok(count),
+            Turn::Again => {}
+            Turn::Failed => return Err(Failed),
         }
     }
+    *faults = faults.saturating_add(1);
     Err(Failed)
 }
 
@@ -118,27 +118,27 @@ impl<W: Write> Sink for StdSink<W> {
         ensures faults { self.new.faults ≡ faults_after self.old.faults result }
         ensures cause { HasCause self.old.faults self.new.faults result }
     {
-        let answer = write_again(&mut self.writer, piece);
-        if answer.is_err() {
-            self.faults = self.faults.saturating_add(1);
-        }
-        answer
+        write_again(&mut self.writer, &mut self.faults, piece)
     }
 
     fn fails_when_spent(&self) {}
 }
 
 // A write that is made again if a signal came first.
-fn write_again<W: Write>(writer: &mut W, piece: &[u8]) -> Result<usize, Failed>
+fn write_again<W: Write>(writer: &mut W, faults: &mut u64, piece: &[u8]) -> Result<usize, Failed>
     ensures part { TakesPart result piece.now }
     ensures passed_on { WriteAppends (W.contents writer.old) (W.contents writer.new) result piece.now }
+    ensures counted { faults.new ≡ faults_after faults.old result }
+    ensures later { faults.old ≤ faults.new }
 {
+    let least = piece.len().min(1);
     'turns: for _ in 0..u64::MAX {
-        match writer.write(piece) {
-            Ok(count) if count > 0 || piece.is_empty() => return Ok(count),
-            Err(error) if error.kind() == ErrorKind::Interrupted => {}
-            _ => return Err(Failed),
+        match turn_of(writer.write(piece), least, faults) {
+            Turn::Done(count) => return Ok(count),
+            Turn::Again => {}
+            Turn::Failed => return Err(Failed),
         }
     }
+    *faults = faults.saturating_add(1);
     Err(Failed)
 }

@@ -9,6 +9,8 @@ use Rattle.eaw_face.specs.State.{State}
 use Rattle.eaw_face.specs.Mirroring.{Mirrors}
 use Rattle.eaw_face.proofs.Mirroring.{none_sent}
 use Rattle.eaw_face.specs.StoreView.{StoreView, LeavesOnly}
+use Rattle.eaw_face.specs.Frame.{Frame}
+use Rattle.eaw_face.specs.Due.{SendsDue}
 use Rattle.eaw_face.specs.Command.{Command}
 use Rattle.eaw_face.specs.Command as model
 use Rattle.eaw_face.specs.Causes as causes
@@ -19,7 +21,7 @@ use Rattle.page_store.specs.Command.{PageCommand, after}
 use Rattle.page_store.specs.Device.{device, done, ranges_done, if_live}
 use Rattle.page_store.specs.Outline.{Outline, outline_after}
 use Rattle.page_store.specs.Kept.{IsOrdered, IsAllowed}
-use Rattle.page_store.specs.Does.{Does, Becomes, Cause, HasRoom, IsFull, Names}
+use Rattle.page_store.specs.Does.{Does, SendsAs, Becomes, Cause, HasRoom, IsFull, Names}
 use Rattle.page_store.specs.Shown.{PagesView, outline_of, state_of}
 use Rattle.page_store.specs.Told.{IsKnown, told_as, TellsAs, DoesWhereLive}
 use Rattle.page_store.specs.declared.fault.PageFault.{PageFault}
@@ -108,6 +110,19 @@ module _ (tells : Bool) (Opens : List ℕ → List ℕ → Type 0) (c : PageComm
   lifted_done (Err f) (Ok y) same does marks = absurd same
   lifted_done (Err f) (Err p) same does marks = tt
 
+  lifted_sends : {T U : Type 0} (r : Result T EawFault) (s : Result U PageFault) → TellsAs r s → (added : List Frame) → OnOk r (old.store.sending.mirrors ≡ true → SendsDue tells d added old.store new.store)
+      → old.store.sending.mirrors ≡ true → OnOk s (SendsAs tells (device c (outline_of old)) added old.store new.store)
+  lifted_sends (Ok x) (Ok y) same added sends mirrors = subst (λ (o : Option Command). SendsAs tells o added old.store new.store) (sym makes.device_is) (sends mirrors)
+  lifted_sends (Ok x) (Err p) same added sends mirrors = absurd same
+  lifted_sends (Err f) (Ok y) same added sends mirrors = absurd same
+  lifted_sends (Err f) (Err p) same added sends mirrors = tt
+
+  lifted_refused : {T U : Type 0} (r : Result T EawFault) (s : Result U PageFault) → TellsAs r s → OnErr r (new.store.sending ≡ old.store.sending) → OnErr s (new.store.sending ≡ old.store.sending)
+  lifted_refused (Ok x) (Ok y) same as_it_was = tt
+  lifted_refused (Ok x) (Err p) same as_it_was = absurd same
+  lifted_refused (Err f) (Ok y) same as_it_was = absurd same
+  lifted_refused (Err f) (Err p) same as_it_was = as_it_was
+
   pub lifted : {T U : Type 0} (r : Result T EawFault) (s : Result U PageFault) → TellsAs r s → does_store.Does tells Opens d old.store new.store r
       → OnOk s ((new.counts ≡ (outline_after c (outline_of old)).counts) × (new.top ≡ (outline_after c (outline_of old)).top))
       → OnErr s ((new.counts ≡ old.counts) × (new.top ≡ old.top)) → Does tells Opens c old new s
@@ -123,6 +138,8 @@ module _ (tells : Bool) (Opens : List ℕ → List ℕ → Type 0) (c : PageComm
         (λ image either. ⊎_elim (λ before. inl before) (λ after'. inr (subst (λ (st : State). Opens image st.bytes) (data_after tell alive) after')) either)
         (does.time tell alive);
     mirrors = does.mirrors;
+    sends = lifted_sends r s same does.mirrors.added does.sends;
+    refused = λ mirrors. lifted_refused r s same does.refused;
   }
 
   -- counts stay ordered, whatever the answer, if the command changes no marks
@@ -173,6 +190,12 @@ module _ (tells : Bool) (Opens : List ℕ → List ℕ → Type 0) (c : PageComm
     state = λ tell. state_after old (told tell) ordered c new allowed (still_data tell) still_out;
   }
 
+  abbrev still_mirrors : Mirrors tells old.store new.store
+  still_mirrors = subst (λ (st : StoreView). Mirrors tells old.store st) (sym same) (none_sent tells old.store old.store refl refl (λ fine. fine) (λ told mirrors fine. refl))
+
+  still_sends : SendsAs tells (device c (outline_of old)) still_mirrors.added old.store new.store
+  still_sends = subst (λ (o : Option Command). SendsAs tells o still_mirrors.added old.store new.store) (sym device_is) (ap (λ (st : StoreView). st.sending) same)
+
   pub still : {U : Type 0} (y : U) → HasRoom old c → (let s : Result U PageFault = Ok y in Does tells Opens c old new s)
   still y room = record {
     shape = ap (λ (st : StoreView). st.shape) same;
@@ -184,7 +207,9 @@ module _ (tells : Bool) (Opens : List ℕ → List ℕ → Type 0) (c : PageComm
     others = λ u ne. ap (λ (st : StoreView). st.ranges u) same;
     time = λ tell living. subst (λ (st : StoreView). LeavesOnly (does_store.IsEither Opens old.store.state.bytes (after c (state_of old)).store.bytes) old.store st) (sym same)
         (stays old.store.moment old.store.left_since _);
-    mirrors = subst (λ (st : StoreView). Mirrors tells old.store st) (sym same) (none_sent tells old.store old.store refl refl (λ fine. fine) (λ told mirrors fine. refl));
+    mirrors = still_mirrors;
+    sends = λ mirrors. still_sends;
+    refused = λ mirrors. tt;
   }
 
 -- a refusal that changes nothing
@@ -200,6 +225,8 @@ unchanged tells Opens c old p other cause = record {
   others = λ u ne. refl;
   time = λ tell living. stays old.store.moment old.store.left_since _;
   mirrors = none_sent tells old.store old.store refl refl (λ fine. fine) (λ told mirrors fine. refl);
+  sends = λ mirrors. tt;
+  refused = λ mirrors. refl;
 }
 
 -- A command that makes one of the store if its number is live, and none otherwise.

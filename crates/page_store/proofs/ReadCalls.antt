@@ -1,11 +1,15 @@
 -- Reads of a store one after another, and as reads of pages.
-use Rattle.std.proofs.Common.{◌≡◌, ℕ, Bool, true, false, inl, ⊎_elim, List, Result, Ok, Err, refl, sym, ◌∙◌, ap, subst, arith}
-use Rattle.std.specs.Prelude.{Some, IsOk, OnOk, OnErr, IsErrOf}
+use Rattle.std.proofs.Common.{◌≡◌, ℕ, Bool, true, false, inl, ⊎_elim, List, [], ◌∷◌, length, Result, Ok, Err, refl, sym, ◌∙◌, ap, subst, arith}
+use Rattle.std.specs.Prelude.{Option, Some, None, map, IsOk, OnOk, OnErr, IsErrOf}
 use Rattle.std.proofs.lemmas.Bool.{false≢true}
 use Rattle.std.proofs.lemmas.Result.{IfErr-at_err}
 use Rattle.mars_base.specs.Causes.{Rose}
 use Rattle.mars_base.proofs.Going.{weaker, then}
+use Rattle.array_shape.specs.Logged.{ranges_of}
 use Rattle.eaw_face.specs.State.{State, Logs}
+use Rattle.eaw_face.specs.Frame.{Group, Frame}
+use Rattle.eaw_face.specs.Due.{ranges_due}
+use Rattle.page_store.specs.Device.{device}
 use Rattle.eaw_face.proofs.Mirroring.{none_sent, sent_then}
 use Rattle.eaw_face.specs.StoreView.{StoreView}
 use Rattle.eaw_face.specs.Command.{Command}
@@ -17,7 +21,7 @@ use Rattle.eaw_face.specs.declared.fault.EawFault.TheVariants as fault
 use Rattle.page_store.specs.State.{PagesState}
 use Rattle.page_store.specs.Command.{PageCommand, after}
 use Rattle.page_store.specs.Outline.{Outline, outline_after}
-use Rattle.page_store.specs.Does.{Does, Cause, HasRoom, Becomes, Names}
+use Rattle.page_store.specs.Does.{Does, SendsAs, Cause, HasRoom, Becomes, Names}
 use Rattle.page_store.specs.Reads.{Reads, IsRead, ReadCause}
 use Rattle.page_store.specs.Shown.{PagesView, outline_of, state_of}
 use Rattle.page_store.specs.Told.{IsKnown, told_as, TellsAs}
@@ -30,7 +34,7 @@ NotMedia _ = Unit {0}
 
 -- a command of the store that reads, of a number that is live
 module _ (tells : Bool) (Opens : List ℕ → List ℕ → Type 0) (t : ℕ) (d : Command) (old new : StoreView)
-    (same : (s : State) → model.after d s ≡ s) (same_ranges : (rs : Logs (ℕ × ℕ)) → model.ranges_after d rs ≡ rs)
+    (same : (s : State) → model.after d s ≡ s) (same_ranges : (rs : Logs (ℕ × ℕ)) → model.ranges_after d rs ≡ rs) (none : ranges_due d old ≡ [])
     (unknown : (u : ℕ) → causes.known old d (Some u) → ⊥) (room : (g h n : ℕ) → causes.room_for old d (Some (g, h, n)) → ⊥) where
   cause_of : {T : Type 0} (r : Result T EawFault) → causes.Cause old d new.faults r → ReadCause old new.faults r
   cause_of (Ok x) cause = cause.0
@@ -46,6 +50,14 @@ module _ (tells : Bool) (Opens : List ℕ → List ℕ → Type 0) (t : ℕ) (d 
   done_of (Ok x) is = is_read is
   done_of (Err f) is = tt
 
+  no_groups : (groups : List Group) → map (λ g. (g.number, ranges_of g.parts)) groups ≡ ranges_due d old → groups ≡ []
+  no_groups [] is = refl
+  no_groups (g ∷ gs) is = absurd (let long = ap (λ (l : List (ℕ × List (ℕ × ℕ))). length l) (is ∙ none) in omega (arith, long))
+
+  silent_of : {T : Type 0} (r : Result T EawFault) → store.Does tells Opens d old new r → old.sending.mirrors ≡ true → new.sending ≡ old.sending
+  silent_of (Ok x) does mirrors = let sends = does.sends mirrors in sends.none (no_groups sends.groups sends.due.ranges)
+  silent_of (Err f) does mirrors = does.refused
+
   pub reads_of : {T : Type 0} → ((u : ℕ) → (u ≡ t → ⊥) → new.ranges u ≡ old.ranges u) → (r : Result T EawFault) → store.Does tells Opens d old new r → Reads tells Opens t old new r
   reads_of others r does = record {
     shape = does.shape;
@@ -56,6 +68,7 @@ module _ (tells : Bool) (Opens : List ℕ → List ℕ → Type 0) (t : ℕ) (d 
     others = others;
     time = λ tell alive. weaker (λ image either. ⊎_elim (λ b. b) (λ a. subst (λ (st : State). Opens image st.bytes) (same old.state) a) either) (does.time tell alive);
     mirrors = does.mirrors;
+    silent = silent_of r does;
   }
 
 -- one read that succeeded, and others
@@ -102,6 +115,7 @@ module _ {T : Type 0} (tells : Bool) (Opens : List ℕ → List ℕ → Type 0) 
     time = λ tell alive. then (first.time tell alive)
         (weaker (λ image opens. subst (λ (st : State). Opens image st.bytes) ((done_first r ok first.done).state tell) opens) (more.time tell (done_first r ok first.done).alive));
     mirrors = sent_then tells old mid new first.mirrors more.mirrors;
+    silent = λ mirrors. more.silent (first.mirrors.kind.mirrors ∙ mirrors) ∙ first.silent mirrors;
   }
 
 -- a fault of a read, passed on
@@ -116,6 +130,7 @@ reads_err {T} {U} tells Opens t old new f reads = record {
   others = reads.others;
   time = reads.time;
   mirrors = reads.mirrors;
+  silent = reads.silent;
 }
   where
     cause : (f : EawFault) → (let r : Result T EawFault = Err f in ReadCause old new.faults r) → (let s : Result U EawFault = Err f in ReadCause old new.faults s)
@@ -136,6 +151,7 @@ reads_ok tells Opens t old new y reads = record {
   others = reads.others;
   time = reads.time;
   mirrors = reads.mirrors;
+  silent = reads.silent;
 }
 
 -- nothing was read
@@ -149,11 +165,12 @@ reads_none tells Opens t old x alive = record {
   others = λ u ne. refl;
   time = λ tell living. record { later = omega arith; keeps = λ t image le left. left; only = λ t image le left. inl left };
   mirrors = none_sent tells old old refl refl (λ fine. fine) (λ told mirrors fine. refl);
+  silent = λ mirrors. refl;
 }
 
 -- As a command of pages that changes nothing.
 module _ (tells : Bool) (Opens : List ℕ → List ℕ → Type 0) (t : ℕ) (c : PageCommand) (old new : PagesView)
-    (same : (s : PagesState) → after c s ≡ s) (same_outline : (o : Outline) → outline_after c o ≡ o) (room : HasRoom old c)
+    (same : (s : PagesState) → after c s ≡ s) (same_outline : (o : Outline) → outline_after c o ≡ o) (none : device c (outline_of old) ≡ None) (room : HasRoom old c)
     (counts : new.counts ≡ old.counts) (top : new.top ≡ old.top) (number : (u : ℕ) → (Names c u → ⊥) → new.store.ranges u ≡ old.store.ranges u) where
   page_cause : {T U : Type 0} (r : Result T EawFault) (s : Result U PageFault) → TellsAs r s → ReadCause old.store new.store.faults r → Cause old c new.store.faults s
   page_cause (Ok x) (Ok y) as_told cause = (cause, room)
@@ -202,6 +219,14 @@ module _ (tells : Bool) (Opens : List ℕ → List ℕ → Type 0) (t : ℕ) (c 
   any (Ok x) = tt
   any (Err e) = (counts, top)
 
+  page_sends : {U : Type 0} (s : Result U PageFault) (added : List Frame) → new.store.sending ≡ old.store.sending → OnOk s (SendsAs tells (device c (outline_of old)) added old.store new.store)
+  page_sends (Ok x) added is = subst (λ (o : Option Command). SendsAs tells o added old.store new.store) (sym none) is
+  page_sends (Err e) added is = tt
+
+  page_refused : {U : Type 0} (s : Result U PageFault) → new.store.sending ≡ old.store.sending → OnErr s (new.store.sending ≡ old.store.sending)
+  page_refused (Ok x) is = tt
+  page_refused (Err e) is = is
+
   pub page_read : {T U : Type 0} (r : Result T EawFault) (s : Result U PageFault) → TellsAs r s → Reads tells Opens t old.store new.store r → Does tells Opens c old new s
   page_read r s as_told reads = record {
     shape = reads.shape;
@@ -213,4 +238,6 @@ module _ (tells : Bool) (Opens : List ℕ → List ℕ → Type 0) (t : ℕ) (c 
     others = number;
     time = λ tell alive. weaker (λ image opens. inl opens) (reads.time tell alive);
     mirrors = reads.mirrors;
+    sends = λ mirrors. page_sends s reads.mirrors.added (reads.silent mirrors);
+    refused = λ mirrors. page_refused s (reads.silent mirrors);
   }

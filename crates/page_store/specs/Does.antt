@@ -4,11 +4,15 @@ use Rattle.mars_base.specs.Causes.{Rose}
 use Rattle.array_shape.specs.Parts.{parts_of_write}
 use Rattle.array_shape.specs.Logged.{ranges_of}
 use Rattle.eaw_face.specs.State.{listed}
-use Rattle.eaw_face.specs.StoreView.{LeavesOnly}
+use Rattle.eaw_face.specs.StoreView.{StoreView, LeavesOnly}
+use Rattle.eaw_face.specs.Command.{Command}
+use Rattle.eaw_face.specs.Frame.{Frame}
+use Rattle.eaw_face.specs.Due.{SendsDue}
 use Rattle.eaw_face.specs.Causes.{IsAlive, fit}
 use Rattle.eaw_face.specs.Mirroring.{Mirrors}
 use Rattle.eaw_face.specs.Does.{IsEither}
 use Rattle.page_store.specs.Edit.{edit_pos}
+use Rattle.page_store.specs.Device.{device}
 use Rattle.page_store.specs.Outline.{outline_after, floor_in}
 use Rattle.page_store.specs.Command.{PageCommand, write_as, save, atomic_write, read_as, after, WorksFor}
 use Rattle.page_store.specs.Shown.{PagesView, outline_of, state_of}
@@ -57,11 +61,16 @@ abbrev pub Names : PageCommand → ℕ → Type 0
 Names (read_as t) u = u ≡ t
 Names command u = WorksFor command u
 
+-- what is sent by a command of the store that is done, or by none
+abbrev pub SendsAs : Bool → Option Command → List Frame → StoreView → StoreView → Type 0
+SendsAs tells None added old new = new.sending ≡ old.sending
+SendsAs tells (Some command) added old new = SendsDue tells command added old new
+
 -- A call of pages over a store, where `Opens` says which data an image opens with. Each answer has its cause. An Ok is the model's
 -- command, and hides no fault. A refusal leaves saves and open top actions. A fault of the medium leaves the store dead. Whatever the
 -- answer, other numbers keep what they have logged, and a loss of power during a call on a store that was not dead leaves what it
--- might have left before, or an image that opens with the data before the command or after it. Frames are added at the end, as the store
--- below sends them.
+-- might have left before, or an image that opens with the data before the command or after it. If it is done, what is sent is what the
+-- store below sends of the command that it makes of it, and else nothing.
 pub record Does {T : Type 0} (tells : Bool) (Opens : List ℕ → List ℕ → Type 0) (command : PageCommand) (old new : PagesView) (result : Result T PageFault) : Type 0 where
   pub shape : new.store.shape ≡ old.store.shape
   pub cause : Cause old command new.store.faults result
@@ -72,3 +81,5 @@ pub record Does {T : Type 0} (tells : Bool) (Opens : List ℕ → List ℕ → T
   pub others : (u : ℕ) → (Names command u → ⊥) → new.store.ranges u ≡ old.store.ranges u
   pub time : IsTrue tells → old.store.is_dead ≡ false → LeavesOnly (IsEither Opens old.store.state.bytes (after command (state_of old)).store.bytes) old.store new.store
   pub mirrors : Mirrors tells old.store new.store
+  pub sends : old.store.sending.mirrors ≡ true → OnOk result (SendsAs tells (device command (outline_of old)) mirrors.added old.store new.store)
+  pub refused : old.store.sending.mirrors ≡ true → OnErr result (new.store.sending ≡ old.store.sending)

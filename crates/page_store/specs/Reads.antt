@@ -20,7 +20,8 @@ ReadCause old faults (Err Dead) = old.is_dead ≡ true
 ReadCause old faults (Err Media) = (old.is_dead ≡ false) × Rose old.faults faults
 ReadCause old faults _ = ⊥
 
--- Reads of data and of the log of number t: a loss of power leaves what it might have left before, or an image that opens with the data.
+-- Reads of data and of the log of number t: a loss of power leaves what it might have left before, or an image that opens with the data,
+-- and nothing is sent.
 pub record Reads {T : Type 0} (tells : Bool) (Opens : List ℕ → List ℕ → Type 0) (t : ℕ) (old new : StoreView) (result : Result T EawFault) : Type 0 where
   pub shape : new.shape ≡ old.shape
   pub cause : ReadCause old new.faults result
@@ -30,6 +31,7 @@ pub record Reads {T : Type 0} (tells : Bool) (Opens : List ℕ → List ℕ → 
   pub others : (u : ℕ) → (u ≡ t → ⊥) → new.ranges u ≡ old.ranges u
   pub time : IsTrue tells → old.is_dead ≡ false → LeavesOnly (λ image. Opens image old.state.bytes) old new
   pub mirrors : Mirrors tells old new
+  pub silent : old.sending.mirrors ≡ true → new.sending ≡ old.sending
 
 -- whether two ranges share a byte
 abbrev pub overlap : ℕ × ℕ → ℕ × ℕ → Bool

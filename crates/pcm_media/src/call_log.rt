@@ -27,11 +27,11 @@ impl Model for CallLog {
     ghost use Rattle.std.specs.Prelude.{length, ◌∷◌, ◌++◌, []};
     ghost use Rattle.std.specs.Vec.{vec_capacity};
     ghost use Rattle.pcm_media.specs.Calls.{records_in};
-    ghost use Rattle.pcm_media.specs.Logged.{Logged, least_room, AreCounted};
+    ghost use Rattle.pcm_media.specs.Logged.{Logged, least_room, most_room, AreCounted};
 
     ghost Value = { Logged };
 
-    ghost view = { λ l. record { records = records_in (l.marks.items ++ l.last ∷ []) l.places.items; room = least_room (vec_capacity l.places) (length l.places.items) (vec_capacity l.marks) (length l.marks.items) } };
+    ghost view = { λ l. record { records = records_in (l.marks.items ++ l.last ∷ []) l.places.items; room = least_room (vec_capacity l.places) (length l.places.items) (vec_capacity l.marks) (length l.marks.items); most_room = most_room (vec_capacity l.places) (length l.places.items) (vec_capacity l.marks) (length l.marks.items) } };
 
     ghost invariant = { λ l. AreCounted l.marks.items l.last l.places.items l.settled };
 }
@@ -77,10 +77,10 @@ fn with_write(marks: &mut Vec<Mark>, last: Mark) -> Mark
 }
 
 impl CallLog {
-    // No call, with room for `calls` of them.
+    // No call, with room for `calls` of them and no more.
     pub fn new(alloc: Global, calls: u64) -> Result<CallLog, NoMemory>
         ensures records { IfOk result (λ l. l.records ≡ []) }
-        ensures room { IfOk result (λ l. calls ≤ l.room) }
+        ensures room { IfOk result (λ l. (l.room ≡ calls) × (l.most_room ≡ calls)) }
     {
         Ok(CallLog {
             places: Vec::with_capacity(alloc, calls as usize)?,

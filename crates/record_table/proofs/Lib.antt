@@ -1,3 +1,4 @@
+mod Walks
 pub mod Tables
 pub mod Joint
 pub mod Sharing
@@ -30,3 +31,5 @@ pub mod SuperPages
 pub mod Extended
 pub mod Made
 pub mod KeptNames
+pub mod Hearing
+mod Erasing

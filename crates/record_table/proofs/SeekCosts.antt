@@ -16,6 +16,9 @@ use Rattle.page_store.specs.Looks.{LookCause, is_failed}
 use Rattle.page_store.specs.Reads.{overlap, lay_cost, laid_cost, seen_cost}
 use Rattle.page_store.specs.declared.fault.PageFault.{PageFault}
 use Rattle.page_store.specs.declared.fault.PageFault.TheVariants.{LogFull, SavesFull, Media, Dead, Damaged}
+use Rattle.page_store.specs.Records.{value_of}
+use Rattle.record_slots.specs.declared.slot.Slot.{Slot}
+use Rattle.record_table.specs.Hearing.{Hearing}
 use Rattle.record_table.specs.Seeks.{Seeks, slot_cost}
 use Rattle.record_table.specs.declared.slots.Place.{Place}
 
@@ -35,9 +38,9 @@ slot_same calls other t slot old mid shape ranges same =
     one ∙ ap (λ (s : Shape). seen_cost calls t (64 * (slots_of s + slot)) 64 (listed (mid.ranges t))) shape
     ∙ ap (λ (rs : Logs (ℕ × ℕ)). seen_cost calls t (64 * (slots_of old.shape + slot)) 64 (listed (rs t))) ranges
 
-module _ (tells : Bool) (course : Course (Option ℕ)) (t : ℕ) (calls calls_mid : Command → ℕ) (old mid : StoreView) where
+module _ (tells : Bool) (course : Course (Option ℕ)) (key t : ℕ) (calls calls_mid : Command → ℕ) (before : List Hearing) (old mid : StoreView) where
   -- the index lacks the key
-  pub seeks_none : (let r : Result (Option ℕ) PageFault = Ok None in Follows tells calls calls_mid course (λ slot. slot) old mid r) → Seeks course t calls old mid (Ok None)
+  pub seeks_none : (let r : Result (Option ℕ) PageFault = Ok None in Follows tells calls calls_mid course (λ slot. slot) old mid r) → Seeks course key t calls before before old mid.moment (Ok None)
   seeks_none walks = record {
     read = walks.read;
     slot = None;
@@ -48,16 +51,17 @@ module _ (tells : Bool) (course : Course (Option ℕ)) (t : ℕ) (calls calls_mi
     most = omega (arith, walks.reads.most);
     exact = λ well. omega (arith, walks.reads.exact refl);
     answers = (walks.ends, refl);
+    hears = (refl, refl);
     blames = tt;
   }
 
   -- the index is not read to the end
-  pub seeks_err : (fault : PageFault) → (let r : Result (Option ℕ) PageFault = Err fault in Follows tells calls calls_mid course (λ slot. slot) old mid r) → Seeks course t calls old mid (Err fault)
-  seeks_err Media walks = record { read = walks.read; slot = None; there = walks.reads.there; way = walks.way; few = walks.few; inside = tt; most = omega (arith, walks.reads.most); exact = λ well. absurd (false≢true (sym well)); answers = tt; blames = tt }
-  seeks_err Dead walks = record { read = walks.read; slot = None; there = walks.reads.there; way = walks.way; few = walks.few; inside = tt; most = omega (arith, walks.reads.most); exact = λ well. omega (arith, walks.reads.exact refl); answers = tt; blames = tt }
-  seeks_err (Damaged bad) walks = record { read = walks.read; slot = None; there = walks.reads.there; way = walks.way; few = walks.few; inside = tt; most = omega (arith, walks.reads.most); exact = λ well. omega (arith, walks.reads.exact refl); answers = tt; blames = walks.blames }
-  seeks_err (LogFull g h n) walks = record { read = walks.read; slot = None; there = walks.reads.there; way = walks.way; few = walks.few; inside = tt; most = omega (arith, walks.reads.most); exact = λ well. omega (arith, walks.reads.exact refl); answers = tt; blames = tt }
-  seeks_err SavesFull walks = record { read = walks.read; slot = None; there = walks.reads.there; way = walks.way; few = walks.few; inside = tt; most = omega (arith, walks.reads.most); exact = λ well. omega (arith, walks.reads.exact refl); answers = tt; blames = tt }
+  pub seeks_err : (fault : PageFault) → (let r : Result (Option ℕ) PageFault = Err fault in Follows tells calls calls_mid course (λ slot. slot) old mid r) → Seeks course key t calls before before old mid.moment (Err fault)
+  seeks_err Media walks = record { read = walks.read; slot = None; there = walks.reads.there; way = walks.way; few = walks.few; inside = tt; most = omega (arith, walks.reads.most); exact = λ well. absurd (false≢true (sym well)); answers = tt; hears = (refl, tt); blames = tt }
+  seeks_err Dead walks = record { read = walks.read; slot = None; there = walks.reads.there; way = walks.way; few = walks.few; inside = tt; most = omega (arith, walks.reads.most); exact = λ well. omega (arith, walks.reads.exact refl); answers = tt; hears = (refl, tt); blames = tt }
+  seeks_err (Damaged bad) walks = record { read = walks.read; slot = None; there = walks.reads.there; way = walks.way; few = walks.few; inside = tt; most = omega (arith, walks.reads.most); exact = λ well. omega (arith, walks.reads.exact refl); answers = tt; hears = (refl, tt); blames = walks.blames }
+  seeks_err (LogFull g h n) walks = record { read = walks.read; slot = None; there = walks.reads.there; way = walks.way; few = walks.few; inside = tt; most = omega (arith, walks.reads.most); exact = λ well. omega (arith, walks.reads.exact refl); answers = tt; hears = (refl, tt); blames = tt }
+  seeks_err SavesFull walks = record { read = walks.read; slot = None; there = walks.reads.there; way = walks.way; few = walks.few; inside = tt; most = omega (arith, walks.reads.most); exact = λ well. omega (arith, walks.reads.exact refl); answers = tt; hears = (refl, tt); blames = tt }
 
   -- the index has the key, and its slot is read
   module _ (slot : ℕ) (inside : slot < slots_of old.shape) (shape : mid.shape ≡ old.shape) (ranges : mid.ranges ≡ old.ranges) (new : StoreView)
@@ -67,7 +71,7 @@ module _ (tells : Bool) (course : Course (Option ℕ)) (t : ℕ) (calls calls_mi
 
     -- the read fails
     pub seeks_unread : {T : Type 0} (fault : PageFault) → IsAlive mid → (fault ≡ Media) ⊎ (fault ≡ Dead) → (let r : Result T PageFault = Err fault in LookCause tells mid r)
-        → (let r : Result T PageFault = Err fault in Costs true (slot_cost calls_mid t mid (Some slot)) mid.moment new.moment r) → Seeks course t calls old new (Err fault)
+        → (let r : Result T PageFault = Err fault in Costs true (slot_cost calls_mid t mid (Some slot)) mid.moment new.moment r) → Seeks course key t calls before before old new.moment (Err fault)
     seeks_unread Media alive is cause costs = record {
       read = walks.read;
       slot = Some slot;
@@ -78,6 +82,7 @@ module _ (tells : Bool) (course : Course (Option ℕ)) (t : ℕ) (calls calls_mi
       most = omega (arith, walks.reads.exact refl, costs.most, same);
       exact = λ well. absurd (false≢true (sym well));
       answers = tt;
+      hears = refl;
       blames = tt;
     }
     seeks_unread Dead alive is cause costs = absurd (false≢true (sym alive ∙ cause))
@@ -88,8 +93,8 @@ module _ (tells : Bool) (course : Course (Option ℕ)) (t : ℕ) (calls calls_mi
 
     module _ {T : Type 0} (x : T) (costs : (let r : Result T PageFault = Ok x in Costs true (slot_cost calls_mid t mid (Some slot)) mid.moment new.moment r)) where
       -- it says nothing
-      pub seeks_bad : (fault : PageFault) (page : ℕ) → fault ≡ Damaged page → page ≡ index_pages_of mid.shape + slot / 8 → Seeks course t calls old new (Err fault)
-      seeks_bad fault page is at = subst (λ (f : PageFault). Seeks course t calls old new (Err f)) (sym is)
+      pub seeks_bad : (fault : PageFault) (page : ℕ) (said : Option Slot) (after : List Hearing) → fault ≡ Damaged page → said ≡ None → after ≡ (key, slot, said) ∷ before → page ≡ index_pages_of mid.shape + slot / 8 → Seeks course key t calls before after old new.moment (Err fault)
+      seeks_bad fault page said after is none heard at = subst (λ (f : PageFault). Seeks course key t calls before after old new.moment (Err f)) (sym is)
           (record {
             read = walks.read;
             slot = Some slot;
@@ -100,12 +105,13 @@ module _ (tells : Bool) (course : Course (Option ℕ)) (t : ℕ) (calls calls_mi
             most = omega (arith, walks.reads.exact refl, costs.most, same);
             exact = λ well. omega (arith, walks.reads.exact refl, costs.done refl, same);
             answers = tt;
+            hears = heard ∙ ap (λ (o : Option Slot). (key, slot, o) ∷ before) none;
             blames = at ∙ ap (λ (s : Shape). index_pages_of s + slot / 8) shape;
           })
 
       -- it is heard
-      pub seeks_some : (place : Place) → place.slot ≡ slot → Seeks course t calls old new (Ok (Some place))
-      seeks_some place is = record {
+      pub seeks_some : (place : Place) (said : Option Slot) (spoke : Slot) (after : List Hearing) → place.slot ≡ slot → said ≡ Some spoke → place.value ≡ value_of (Some spoke) → after ≡ (key, slot, said) ∷ before → Seeks course key t calls before after old new.moment (Ok (Some place))
+      seeks_some place said spoke after is speaks value heard = record {
         read = walks.read;
         slot = Some slot;
         there = walks.reads.there;
@@ -115,6 +121,7 @@ module _ (tells : Bool) (course : Course (Option ℕ)) (t : ℕ) (calls calls_mi
         most = omega (arith, walks.reads.exact refl, costs.most, same);
         exact = λ well. omega (arith, walks.reads.exact refl, costs.done refl, same);
         answers = (walks.ends ∙ ap (λ (n : ℕ). Some (Some n)) (sym is), ap Some (sym is));
+        hears = (spoke, heard ∙ ap (λ (o : Option Slot). (key, slot, o) ∷ before) speaks, λ i. Some (record { slot = is i; value = value i }));
         blames = tt;
       }
 

@@ -10,6 +10,7 @@ pub mod Attached
 pub mod AllTables
 pub mod Sought
 pub mod Faults
+pub mod Hearing
 pub mod Seeks
 pub mod Scanned
 pub mod Form

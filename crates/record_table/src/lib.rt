@@ -7,6 +7,7 @@
 
 mod fault;
 mod form;
+mod hearings;
 mod laws;
 mod making;
 mod names;

@@ -17,7 +17,8 @@ ghost use Rattle.record_slots.specs.Places.{version_of};
 ghost use Rattle.record_table.specs.Removing.{IsAbsent, IsUnwritten, IsNextAbsent, SearchCause, Removes};
 ghost use Rattle.record_table.specs.Groups.{CommitsGroup, group_writes};
 ghost use Rattle.record_table.specs.Does.{Does, replied, is_failed};
-ghost use Rattle.record_table.specs.Seeks.{Gets};
+ghost use Rattle.record_table.specs.Hearing.{Hearing, HearsAbsent, HearsRows};
+ghost use Rattle.record_table.specs.Seeks.{Erases, Gets};
 ghost use Rattle.record_table.specs.Shown.{state_of, table_of, pairs_of, held_on, is_write_on, AreNamed};
 ghost use Rattle.record_table.specs.Sought.{LooksAs};
 ghost use Rattle.record_table.specs.Upgrading.{Upgrades};
@@ -25,6 +26,7 @@ ghost use Rattle.record_table.specs.Making.{Makes};
 ghost use Rattle.record_table.specs.Names.{IsNew, IsCalled, names_of, name_at, key_in};
 
 use crate::fault::{AttachRecords, TableFault};
+use crate::hearings::Hearings;
 use crate::making::{MakeFault, make};
 use crate::names::Roots;
 use crate::placing::{place_of, slot_of};
@@ -228,11 +230,12 @@ impl<S: EawStore, K: KeyIndex> Records<S, K> {
         ensures does { (name : List ℕ) → (IsTrue S.tells → IsAlive (S.view self.old.store) → IsCalled (S.view self.old.store).state.bytes table name)
             → Does S.tells (S.opens (S.view self.old.store).shape) K.index table tid (Get name key)
             (pages_of (S.view self.old.store) self.old) (pages_of (S.view self.new.store) self.new) (replied found result) }
-        ensures gets { (root : ℕ) × Gets (K.index.finding root key) tid (S.calls self.old.store) (S.view self.old.store) (S.view self.new.store) result × (IsTrue S.tells → IsAlive (S.view self.old.store) → IsTable (S.view self.old.store).state.bytes table root) }
+        ensures gets { (root : ℕ) × Gets (K.index.finding root key) key tid (S.calls self.old.store) (S.view self.old.store) (S.view self.new.store) result × (IsTrue S.tells → IsAlive (S.view self.old.store) → IsTable (S.view self.old.store).state.bytes table root) }
         ensures dead { IsErrOf result TableFault.Dead → self.new ≡ self.old }
     {
         let root = self.roots.of_table(table);
-        match seek::<S, K>(&mut self.pages, tid, table, root, key) {
+        let mut hearings = Hearings::new();
+        match seek::<S, K>(&mut self.pages, tid, table, root, key, &mut hearings) {
             Ok(found) => Ok(value_at(&found)),
             Err(fault) => Err(TableFault::from(fault)),
         }
@@ -273,10 +276,12 @@ impl<S: EawStore, K: KeyIndex> Records<S, K> {
         ensures does { (name : List ℕ) → (IsTrue S.tells → IsAlive (S.view self.old.store) → IsCalled (S.view self.old.store).state.bytes table name)
             → Does S.tells (S.opens (S.view self.old.store).shape) K.index table tid (Del name key)
             (pages_of (S.view self.old.store) self.old) (pages_of (S.view self.new.store) self.new) (replied (λ was. if was then Fine else Absent) result) }
+        ensures erases { (root : ℕ) × Erases (K.index.finding root key) key tid (S.calls self.old.store) (S.view self.old.store) result × (IsTrue S.tells → IsAlive (S.view self.old.store) → IsTable (S.view self.old.store).state.bytes table root) }
         ensures dead { IsErrOf result TableFault.Dead → self.new ≡ self.old }
     {
         let root = self.roots.of_table(table);
-        let place = match seek::<S, K>(&mut self.pages, tid, table, root, key) {
+        let mut hearings = Hearings::new();
+        let place = match seek::<S, K>(&mut self.pages, tid, table, root, key, &mut hearings) {
             Ok(Some(place)) => place,
             Ok(None) => return Ok(false),
             Err(fault) => return Err(TableFault::from(fault)),
@@ -310,6 +315,7 @@ impl<S: EawStore, K: KeyIndex> Records<S, K> {
         ensures does { (name : List ℕ) → (IsTrue S.tells → IsAlive (S.view self.old.store) → IsCalled (S.view self.old.store).state.bytes table name)
             → Does S.tells (S.opens (S.view self.old.store).shape) K.index table tid (Scan name low high)
             (pages_of (S.view self.old.store) self.old) (pages_of (S.view self.new.store) self.new) (replied Listed result) }
+        ensures hears { (hearings : List Hearing) × HearsRows (S.view self.old.store).shape hearings (λ rows. rows) result }
         ensures looks { LooksAs S.tells (S.opens (S.view self.old.store).shape) tid (is_failed result)
             (pages_of (S.view self.old.store) self.old) (pages_of (S.view self.new.store) self.new) }
         ensures dead { IsErrOf result TableFault.Dead → self.new ≡ self.old }
@@ -319,7 +325,17 @@ impl<S: EawStore, K: KeyIndex> Records<S, K> {
         }
         let mut rows = Rows::new(alloc);
         let root = self.roots.of_table(table);
-        match gather::<S, K>(&mut self.pages, tid, table, root, low, high, &mut rows) {
+        let mut hearings = Hearings::new();
+        match gather::<S, K>(
+            &mut self.pages,
+            tid,
+            table,
+            root,
+            low,
+            high,
+            &mut rows,
+            &mut hearings,
+        ) {
             Ok(()) => Ok(rows),
             Err(fault) => Err(fault),
         }
@@ -392,13 +408,15 @@ impl<S: EawStore, K: KeyIndex> Records<S, K> {
         ensures cause { SearchCause S.tells (pages_of (S.view self.old.store) self.old) result }
         ensures next { IsTrue S.tells → IfOk result (IsNextAbsent K.index (S.view self.old.store).state.bytes (name_at (S.view self.old.store).state.bytes table) from) }
         ensures inside { IfOk result (λ key. IfSome key (λ key. from ≤ key)) }
+        ensures hears { (hearings : List Hearing) × HearsAbsent (S.view self.old.store).shape hearings result }
         ensures dead { IsErrOf result TableFault.Dead → self.new ≡ self.old }
     {
         if self.pages.is_dead() {
             return Err(TableFault::Dead);
         }
         let root = self.roots.of_table(table);
-        told(next_absent::<S, K>(&mut self.pages, table, root, from))
+        let mut hearings = Hearings::new();
+        told(next_absent::<S, K>(&mut self.pages, table, root, from, &mut hearings))
     }
 
     /// Takes a key of a table that has no record out of the index, as this number, and gives its slot back: the next key that is inserted

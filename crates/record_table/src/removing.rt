@@ -1,5 +1,5 @@
 // Keys of a table that have no record any more: the next of them, and the removal of one from the index.
-ghost use Rattle.std.specs.Prelude.{◌≡◌, ◌^◌, ◌≤◌, ◌<◌, IfOk, IfSome, IsErrOf, IsTrue};
+ghost use Rattle.std.specs.Prelude.{[], ◌≡◌, ◌^◌, ◌≤◌, ◌<◌, ◌⊎◌, IfOk, IfErr, IfSome, IsErrOf, IsTrue};
 ghost use Rattle.array_shape.specs.Places.{page_count};
 ghost use Rattle.eaw_face.specs.Causes.{IsAlive};
 ghost use Rattle.record_slots.specs.Slots.{slot_said};
@@ -8,10 +8,12 @@ ghost use Rattle.page_store.specs.Index.{IsTable, slots_of};
 ghost use Rattle.page_store.specs.Looks.{Looks, LookCause, is_failed};
 ghost use Rattle.page_store.specs.Shown.{pages_of};
 ghost use Rattle.record_table.specs.Faults.{told_as};
+ghost use Rattle.record_table.specs.Hearing.{HearsOne, HearsAbsent};
 ghost use Rattle.record_table.specs.Invariant.{Holds};
 ghost use Rattle.record_table.specs.Removing.{IsAbsent, IsUnwritten, IsNextAbsent, ComesNext, Removes};
 ghost use Rattle.record_table.specs.Names.{name_at, key_in};
 
+use crate::hearings::Hearings;
 use crate::scanning::Next;
 use crate::slots::{SLOTS_IN_PAGE, heard, page_of, value_in};
 use eaw_face::EawStore;
@@ -25,6 +27,7 @@ fn read_said<S: EawStore>(pages: &mut Pages<S>, slot: u32) -> Result<Option<Slot
         (pages_of (S.view pages.old.store) pages.old) (pages_of (S.view pages.new.store) pages.new) }
     ensures cause { LookCause S.tells (S.view pages.old.store) result }
     ensures said { IsTrue S.tells → IfOk result (λ said. said ≡ slot_said (slot_of (S.view pages.old.store).state.bytes slot)) }
+    ensures faults { IfErr result (λ fault. (fault ≡ PageFault.Media) ⊎ (fault ≡ PageFault.Dead)) }
     ensures dead { IsErrOf result PageFault.Dead → pages.new ≡ pages.old }
 {
     let page = page_of(pages, slot);
@@ -39,6 +42,7 @@ fn next_in_data<S: EawStore, K: KeyIndex>(
     table: u8,
     root: u32,
     from: u64,
+    hearings: &mut Hearings,
 ) -> Result<Option<Next>, PageFault>
     requires table { table < 8 }
     requires root { root < page_count (S.view pages.old.store).shape }
@@ -49,6 +53,7 @@ fn next_in_data<S: EawStore, K: KeyIndex>(
     ensures cause { LookCause S.tells (S.view pages.old.store) result }
     ensures comes { IsTrue S.tells → IfOk result (ComesNext K.index (S.view pages.old.store).state.bytes (name_at (S.view pages.old.store).state.bytes table) from) }
     ensures inside { IfOk result (λ next. IfSome next (λ next. from ≤ next.key)) }
+    ensures hears { HearsOne (S.view pages.old.store).shape hearings.old.said hearings.new.said result }
     ensures dead { IsErrOf result PageFault.Dead → pages.new ≡ pages.old }
 {
     let some = match K::next_pairs(pages, root, table, from) {
@@ -65,7 +70,7 @@ fn next_in_data<S: EawStore, K: KeyIndex>(
         Ok(said) => said,
         Err(fault) => return Err(fault),
     };
-    match heard(said, page) {
+    match heard(hearings, key, slot, said, page) {
         Ok(said) => Ok(Some(Next {
             key,
             value: value_in(&said),
@@ -80,21 +85,24 @@ pub fn next_absent<S: EawStore, K: KeyIndex>(
     table: u8,
     root: u32,
     from: u64,
+    hearings: &mut Hearings,
 ) -> Result<Option<u64>, PageFault>
     requires table { table < 8 }
     requires root { root < page_count (S.view pages.old.store).shape }
     requires named { IsTrue S.tells → IsAlive (S.view pages.old.store) → IsTable (S.view pages.old.store).state.bytes table root }
     requires alive { IsAlive (S.view pages.old.store) }
+    requires unheard { hearings.old.said ≡ [] }
     requires holds { Holds S.tells K.index (pages_of (S.view pages.old.store) pages.old) }
     ensures looks { Looks S.tells (S.opens (S.view pages.old.store).shape) (is_failed result)
         (pages_of (S.view pages.old.store) pages.old) (pages_of (S.view pages.new.store) pages.new) }
     ensures cause { LookCause S.tells (S.view pages.old.store) result }
     ensures next { IsTrue S.tells → IfOk result (IsNextAbsent K.index (S.view pages.old.store).state.bytes (name_at (S.view pages.old.store).state.bytes table) from) }
     ensures inside { IfOk result (λ key. IfSome key (λ key. from ≤ key)) }
+    ensures hears { HearsAbsent (S.view pages.old.store).shape hearings.new.said (told_as result) }
 {
     let mut low = from;
     loop {
-        let next = match next_in_data::<S, K>(pages, table, root, low) {
+        let next = match next_in_data::<S, K>(pages, table, root, low, hearings) {
             Ok(Some(next)) => next,
             Ok(None) => return Ok(None),
             Err(fault) => return Err(fault),

@@ -8,12 +8,14 @@ ghost use Rattle.page_store.specs.Pairs.{AreInside, InTurn, next};
 ghost use Rattle.page_store.specs.Records.{row_at};
 ghost use Rattle.page_store.specs.Shown.{pages_of};
 ghost use Rattle.record_table.specs.Does as answers;
+ghost use Rattle.record_table.specs.Hearing.{AllSpoke, HearsNext, HearsRows, rows_heard};
 ghost use Rattle.record_table.specs.Invariant.{Holds};
 ghost use Rattle.record_table.specs.Scanned.{rows_seen, rows_left, Follows, ScanCause};
 ghost use Rattle.record_table.specs.Names.{IsCalled};
 ghost use Rattle.record_table.specs.Sought.{LooksAs};
 
 use crate::fault::TableFault;
+use crate::hearings::Hearings;
 use crate::slots::{heard, page_of, read_as, value_in};
 use eaw_face::EawStore;
 use history::Rows;
@@ -43,6 +45,7 @@ fn read_row<S: EawStore, K: KeyIndex>(
     tid: u8,
     span: Span,
     pair: (u64, u32),
+    hearings: &mut Hearings,
 ) -> Result<Next, PageFault>
     requires tid { tid < (S.view pages.old.store).shape.numbers }
     requires table { span.table < 8 }
@@ -57,6 +60,7 @@ fn read_row<S: EawStore, K: KeyIndex>(
     ensures cause { LookCause S.tells (S.view pages.old.store) result }
     ensures follows { IsTrue S.tells → (name : List ℕ) → IsCalled (S.view pages.old.store).state.bytes span.table name → IfOk result (λ row. Follows K.index tid name span.low span.high (pages_of (S.view pages.old.store) pages.old) (Some row)) }
     ensures key { IfOk result (λ row. row.key ≡ pair.0) }
+    ensures hears { HearsNext (S.view pages.old.store).shape pair hearings.old.said hearings.new.said result }
 {
     let (key, slot) = pair;
     let page = page_of(pages, slot);
@@ -64,7 +68,7 @@ fn read_row<S: EawStore, K: KeyIndex>(
         Ok(said) => said,
         Err(fault) => return Err(fault),
     };
-    match heard(said, page) {
+    match heard(hearings, key, slot, said, page) {
         Ok(said) => Ok(Next {
             key,
             value: value_in(&said),
@@ -90,6 +94,7 @@ fn push_rows<S: EawStore, K: KeyIndex>(
     span: Span,
     pairs: &[(u64, u32)],
     rows: &mut Rows,
+    hearings: &mut Hearings,
 ) -> Result<Option<u64>, TableFault>
     requires tid { tid < (S.view pages.old.store).shape.numbers }
     requires table { span.table < 8 }
@@ -100,6 +105,8 @@ fn push_rows<S: EawStore, K: KeyIndex>(
     requires order { span.low ≤ span.high }
     requires turn { IsTrue S.tells → InTurn (K.index.pairs (S.view pages.old.store).state.bytes span.root) span.low pairs.now }
     requires inside { AreInside span.low (slots_of (S.view pages.old.store).shape) pairs.now }
+    requires spoke { AllSpoke hearings.old.said }
+    requires heard { rows.old ≡ rows_heard hearings.old.said }
     ensures looks { LooksAs S.tells (S.opens (S.view pages.old.store).shape) tid (answers.is_failed result)
         (pages_of (S.view pages.old.store) pages.old) (pages_of (S.view pages.new.store) pages.new) }
     ensures cause { ScanCause S.tells result }
@@ -107,13 +114,14 @@ fn push_rows<S: EawStore, K: KeyIndex>(
         rows.new ++ rows_left K.index tid name (pages_of (S.view pages.old.store) pages.old) from span.high
         ≡ rows.old ++ rows_seen K.index tid name (pages_of (S.view pages.old.store) pages.old) span.low span.high) }
     ensures further { IfOk result (λ from. IfSome from (λ from. (span.low < from) × (from ≤ span.high))) }
+    ensures hears { HearsRows (S.view pages.old.store).shape hearings.new.said (λ done. rows.new) result }
 {
     let mut from = span.low;
     for pair in pairs {
         if pair.0 > span.high {
             return Ok(None);
         }
-        let row = match read_row::<S, K>(pages, tid, Span { low: from, ..span }, *pair) {
+        let row = match read_row::<S, K>(pages, tid, Span { low: from, ..span }, *pair, hearings) {
             Ok(row) => row,
             Err(fault) => return Err(TableFault::from(fault)),
         };
@@ -138,6 +146,7 @@ pub fn gather<S: EawStore, K: KeyIndex>(
     low: u64,
     high: u64,
     rows: &mut Rows,
+    hearings: &mut Hearings,
 ) -> Result<(), TableFault>
     requires tid { tid < (S.view pages.old.store).shape.numbers }
     requires table { table < 8 }
@@ -146,10 +155,12 @@ pub fn gather<S: EawStore, K: KeyIndex>(
     requires alive { IsAlive (S.view pages.old.store) }
     requires holds { Holds S.tells K.index (pages_of (S.view pages.old.store) pages.old) }
     requires empty { rows.old ≡ [] }
+    requires unheard { hearings.old.said ≡ [] }
     ensures looks { LooksAs S.tells (S.opens (S.view pages.old.store).shape) tid (answers.is_failed result)
         (pages_of (S.view pages.old.store) pages.old) (pages_of (S.view pages.new.store) pages.new) }
     ensures cause { ScanCause S.tells result }
     ensures rows { IsTrue S.tells → (name : List ℕ) → IsCalled (S.view pages.old.store).state.bytes table name → OnOk result (rows.new ≡ rows_seen K.index tid name (pages_of (S.view pages.old.store) pages.old) low high) }
+    ensures hears { HearsRows (S.view pages.old.store).shape hearings.new.said (λ done. rows.new) result }
 {
     let mut from = low;
     while from <= high {
@@ -166,7 +177,7 @@ pub fn gather<S: EawStore, K: KeyIndex>(
             low: from,
             high,
         };
-        match push_rows::<S, K>(pages, tid, span, pairs.as_slice(), rows) {
+        match push_rows::<S, K>(pages, tid, span, pairs.as_slice(), rows, hearings) {
             Ok(Some(next)) => from = next,
             Ok(None) => return Ok(()),
             Err(fault) => return Err(fault),

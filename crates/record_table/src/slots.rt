@@ -1,5 +1,5 @@
 // Slots of keys, read and written as a number.
-ghost use Rattle.std.specs.Prelude.{ℕ, List, ◌≡◌, ◌≢◌, ◌⊎◌, ◌/◌, true, None, ◌+◌, ◌*◌, ◌%◌, ◌<◌, Some, IfOk, IfErr, IfSome, IsErrOf, IsTrue, length};
+ghost use Rattle.std.specs.Prelude.{ℕ, List, ◌∷◌, ◌≡◌, ◌≢◌, ◌⊎◌, ◌/◌, true, None, ◌+◌, ◌*◌, ◌%◌, ◌<◌, Some, IfOk, IfErr, IfSome, IsErrOf, IsTrue, length};
 ghost use Rattle.history.specs.Key.{of_table};
 ghost use Rattle.mars_base.specs.Bytes.{range};
 ghost use Rattle.mars_base.specs.Costs.{Costs};
@@ -19,6 +19,7 @@ ghost use Rattle.record_table.specs.Names.{IsCalled};
 ghost use Rattle.record_table.specs.Seeks.{Seeks, slot_cost};
 ghost use Rattle.record_table.specs.Sought.{LooksAs, Finds, value_at};
 
+use crate::hearings::Hearings;
 use eaw_face::EawStore;
 use page_store::{KeyIndex, PageFault, Pages};
 use record_slots::{SLOT_LEN, Slot, Value, read_slot, write_slot};
@@ -94,14 +95,27 @@ pub fn write_as<S: EawStore>(
     pages.write_as(tid, page, slot % SLOTS_IN_PAGE * 64, &bytes)
 }
 
-// What a slot says. It is damage of the slot's page if it says nothing.
-pub fn heard(said: Option<Slot>, page: u32) -> Result<Slot, PageFault>
+// What the slot of a key says, which is put before these. It is damage of the slot's page if it says nothing.
+pub fn heard(
+    hearings: &mut Hearings,
+    key: u64,
+    slot: u32,
+    said: Option<Slot>,
+    page: u32,
+) -> Result<Slot, PageFault>
     ensures slot { IfOk result (λ slot. said ≡ Some slot) }
     ensures none { IfErr result (λ fault. (fault ≡ PageFault.Damaged page) × (said ≡ None)) }
+    ensures hears { hearings.new.said ≡ (key, slot, said) ∷ hearings.old.said }
 {
     match said {
-        Some(slot) => Ok(slot),
-        None => Err(PageFault::Damaged { page }),
+        Some(said) => {
+            *hearings = hearings.then(key, slot, &said);
+            Ok(said)
+        }
+        None => {
+            *hearings = hearings.silent(key, slot);
+            Err(PageFault::Damaged { page })
+        }
     }
 }
 
@@ -112,6 +126,7 @@ pub fn seek<S: EawStore, K: KeyIndex>(
     table: u8,
     root: u32,
     key: u64,
+    hearings: &mut Hearings,
 ) -> Result<Option<Place>, PageFault>
     requires tid { tid < (S.view pages.old.store).shape.numbers }
     requires table { table < 8 }
@@ -121,7 +136,8 @@ pub fn seek<S: EawStore, K: KeyIndex>(
     ensures looks { LooksAs S.tells (S.opens (S.view pages.old.store).shape) tid (is_failed result)
         (pages_of (S.view pages.old.store) pages.old) (pages_of (S.view pages.new.store) pages.new) }
     ensures cause { LookCause S.tells (S.view pages.old.store) result }
-    ensures seeks { Seeks (K.index.finding root key) tid (S.calls pages.old.store) (S.view pages.old.store) (S.view pages.new.store) result }
+    ensures seeks { Seeks (K.index.finding root key) key tid (S.calls pages.old.store) hearings.old.said hearings.new.said
+        (S.view pages.old.store) (S.view pages.new.store).moment result }
     ensures finds { IsTrue S.tells → (name : List ℕ) → IsCalled (S.view pages.old.store).state.bytes table name → IfOk result (Finds K.index tid (of_table name key) (pages_of (S.view pages.old.store) pages.old)) }
     ensures inside { IfOk result (λ place. IfSome place (λ place. place.slot < slots_of (S.view pages.old.store).shape)) }
     ensures dead { IsErrOf result PageFault.Dead → pages.new ≡ pages.old }
@@ -136,7 +152,7 @@ pub fn seek<S: EawStore, K: KeyIndex>(
         Ok(said) => said,
         Err(fault) => return Err(fault),
     };
-    match heard(said, page) {
+    match heard(hearings, key, slot, said, page) {
         Ok(said) => Ok(Some(Place {
             slot,
             value: value_in(&said),

@@ -18,13 +18,14 @@ use Rattle.caller_steps.specs.Core.{CoreView, Continues}
 use Rattle.transactions.specs.Told.{reply_of}
 use Rattle.transactions.specs.Went.{turns_by, Went, Refuses, IsOfCore}
 use Rattle.caller_steps.specs.Fate.{is_busy}
-use Rattle.transactions.specs.Tries.{WentBusy, IsOften, was_busy}
+use Rattle.transactions.specs.Tries.{WentTries, WentBusy, IsOften, was_busy}
 use Rattle.transactions.specs.Adds.{Stays}
 use Rattle.transactions.specs.Makes.{IsGivenUp, IsMade, IsEnded, IsInDoubt, MayAdd}
 use Rattle.transactions.specs.declared.refusal.Refusal.TheVariants.{Busy, Media}
 use Rattle.transactions.specs.declared.work.Stop.{Stop}
 use Rattle.transactions.specs.declared.work.Stop.TheVariants.{Refused}
 use Rattle.transactions.proofs.Going.{joined, went_on, core_later}
+use Rattle.transactions.proofs.Trying.{tries_on}
 
 -- a core that is dead stays dead
 dead_on : (limits : Limits) (old new : State) (turns : List Turn) → Runs limits old turns new → old.is_dead ≡ true → new.is_dead ≡ true
@@ -118,6 +119,7 @@ pub record Tried {T E : Type 0} (n : ℕ) (Does : T → Table → Granted → Ty
   pub refused : OnErr outcome (new.state.history ≡ old.state.history)
   pub cause : IfErr outcome (IsGivenUp GivesUp (records_of old.state))
   pub of_core : IfErr outcome (IsOfCore caller old new)
+  pub tries : WentTries n caller old new
   pub often : IfErr outcome (IsOften n caller old new)
   pub went : Went caller old new
   pub ended : IsEnded caller old new
@@ -157,6 +159,7 @@ tried_on n Does GivesUp caller old mid new (Err (Refused (Busy holder))) second 
       refused = tt;
       cause = tt;
       of_core = tt;
+      tries = tries_on n 1 caller old mid new limits a.tries b.tries;
       often = tt;
       went = went_on caller old mid new limits a.went b.went;
       ended = ended_after caller old mid new stays a.ended b.ended b.went;
@@ -172,6 +175,7 @@ tried_on n Does GivesUp caller old mid new (Err (Refused (Busy holder))) second 
       refused = b.refused ∙ stays.history;
       cause = given_up_after caller old mid new stays (λ (table : Table). IsGivenUp GivesUp table stop) b.cause;
       of_core = core_later caller old mid new stop limits a.went b.of_core;
+      tries = tries_on n 1 caller old mid new limits a.tries b.tries;
       often = often_on n caller old mid new stop limits a.often b.often;
       went = went_on caller old mid new limits a.went b.went;
       ended = ended_after caller old mid new stays a.ended b.ended b.went;

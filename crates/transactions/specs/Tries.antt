@@ -3,6 +3,7 @@ use Rattle.std.specs.Prelude.{ℕ, ◌≤◌, Bool, true, false, Result, Err}
 use Rattle.std.specs.List.{count_by}
 use Rattle.history.specs.Table.{Granted}
 use Rattle.history.specs.declared.call.Call.{Call}
+use Rattle.history.specs.declared.call.Call.TheVariants.{Begin}
 use Rattle.history.specs.declared.call.Reply.{Reply}
 use Rattle.caller_steps.specs.Core.{CoreView}
 use Rattle.caller_steps.specs.Fate.{is_busy}
@@ -11,6 +12,16 @@ use Rattle.transactions.specs.Went.{turns_by}
 use Rattle.transactions.specs.declared.refusal.Refusal.TheVariants.{Busy}
 use Rattle.transactions.specs.declared.work.Stop.{Stop}
 use Rattle.transactions.specs.declared.work.Stop.TheVariants.{Refused}
+
+abbrev pub is_begin : Call → Bool
+is_begin Begin = true
+is_begin call = false
+
+-- calls of the caller, and nothing else, led from one state to the other, and at most so many of them were begins: one for each try
+pub record WentTries (n caller : ℕ) (old new : CoreView) : Type 0 where
+  pub told : Granted
+  pub run : Runs old.limits old.state (turns_by caller told) new.state
+  pub few : count_by (λ (entry : Call × Reply). is_begin entry.0) told ≤ n
 
 -- calls of the caller, and nothing else, led from one state to the other, and at least so many of them were refused as busy
 pub record WentBusy (n caller : ℕ) (old new : CoreView) : Type 0 where

@@ -1,7 +1,8 @@
 -- Calls of one caller, one after another, and a refusal among them.
-use Rattle.std.specs.Prelude.{ℕ, List, ◌∷◌, ◌++◌, map}
+use Rattle.std.specs.Prelude.{ℕ, ◌≡◌, Bool, true, false, IsTrue, List, ◌∷◌, ◌++◌, map, All}
 use Rattle.history.specs.Table.{Granted}
 use Rattle.history.specs.declared.call.Call.{Call}
+use Rattle.history.specs.declared.call.Call.TheVariants.{Begin, Commit, Abort, Offer, Settle, Purge}
 use Rattle.history.specs.declared.call.Reply.{Reply}
 use Rattle.caller_steps.specs.Core.{CoreView}
 use Rattle.caller_steps.specs.Run.{Turn}
@@ -19,6 +20,23 @@ turns_by caller told = map (λ (entry : Call × Reply). (caller, entry.0, entry.
 pub record Went (caller : ℕ) (old new : CoreView) : Type 0 where
   pub told : Granted
   pub run : Runs old.limits old.state (turns_by caller told) new.state
+
+-- a call within a transaction: it begins none, ends none and offers none
+abbrev pub is_within : Call → Bool
+is_within Begin = false
+is_within Commit = false
+is_within Abort = false
+is_within Offer = false
+is_within Settle = false
+is_within Purge = false
+is_within call = true
+
+-- so they did, each of them was a call within a transaction, and the limits are the same
+pub record WentWithin (caller : ℕ) (old new : CoreView) : Type 0 where
+  pub limits : new.limits ≡ old.limits
+  pub told : Granted
+  pub run : Runs old.limits old.state (turns_by caller told) new.state
+  pub within : All (λ (entry : Call × Reply). IsTrue (is_within entry.0)) told
 
 -- so they did, and one of them was answered with this refusal
 pub record Refuses (caller : ℕ) (old new : CoreView) (refusal : Refusal) : Type 0 where

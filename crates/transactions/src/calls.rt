@@ -6,7 +6,7 @@ ghost use Rattle.caller_steps.specs.Core.{Steps, Continues};
 ghost use Rattle.caller_steps.specs.Sound.{IsSound};
 ghost use Rattle.caller_steps.specs.State.{unoffered};
 ghost use Rattle.transactions.specs.Told.{reply_of, told_done, told_get, told_del, told_scan, told_save, told_commit};
-ghost use Rattle.transactions.specs.Went.{Refuses};
+ghost use Rattle.transactions.specs.Went.{Refuses, WentWithin};
 ghost use Rattle.transactions.specs.Adds.{Stays, Adds, Keeps, Commits, MayDoubt, MayEnd, MayGrow};
 
 use crate::Refusal;
@@ -46,6 +46,7 @@ pub fn get<C: Core>(
     requires sound { IsTrue C.tells → IsSound (C.view core.old).state }
     ensures steps { Steps C.tells caller (Get table key) (C.view core.old) (C.view core.new) (told_get result) }
     ensures stays { IsTrue C.tells → Stays caller (C.view core.old) (C.view core.new) }
+    ensures within { IsTrue C.tells → WentWithin caller (C.view core.old) (C.view core.new) }
     ensures ok { IsTrue C.tells → OnOk result (Adds caller (Get table key) (told_get result) (C.view core.old) (C.view core.new)) }
     ensures err { IsTrue C.tells → OnErr result (Keeps caller (C.view core.old) (C.view core.new)) }
     ensures refused { IsTrue C.tells → IfErr result (Refuses caller (C.view core.old) (C.view core.new)) }
@@ -71,6 +72,7 @@ pub fn put<C: Core>(
     requires sound { IsTrue C.tells → IsSound (C.view core.old).state }
     ensures steps { Steps C.tells caller (Put table key value) (C.view core.old) (C.view core.new) (told_done result) }
     ensures stays { IsTrue C.tells → Stays caller (C.view core.old) (C.view core.new) }
+    ensures within { IsTrue C.tells → WentWithin caller (C.view core.old) (C.view core.new) }
     ensures ok { IsTrue C.tells → OnOk result (Adds caller (Put table key value) Fine (C.view core.old) (C.view core.new)) }
     ensures err { IsTrue C.tells → OnErr result (Keeps caller (C.view core.old) (C.view core.new)) }
     ensures refused { IsTrue C.tells → IfErr result (Refuses caller (C.view core.old) (C.view core.new)) }
@@ -89,6 +91,7 @@ pub fn del<C: Core>(core: &mut C, caller: u8, table: Name, key: u64) -> Result<b
     requires sound { IsTrue C.tells → IsSound (C.view core.old).state }
     ensures steps { Steps C.tells caller (Del table key) (C.view core.old) (C.view core.new) (told_del result) }
     ensures stays { IsTrue C.tells → Stays caller (C.view core.old) (C.view core.new) }
+    ensures within { IsTrue C.tells → WentWithin caller (C.view core.old) (C.view core.new) }
     ensures ok { IsTrue C.tells → OnOk result (Adds caller (Del table key) (told_del result) (C.view core.old) (C.view core.new)) }
     ensures err { IsTrue C.tells → OnErr result (Keeps caller (C.view core.old) (C.view core.new)) }
     ensures refused { IsTrue C.tells → IfErr result (Refuses caller (C.view core.old) (C.view core.new)) }
@@ -114,6 +117,7 @@ pub fn scan<C: Core>(
     requires sound { IsTrue C.tells → IsSound (C.view core.old).state }
     ensures steps { Steps C.tells caller (Scan table low high) (C.view core.old) (C.view core.new) (told_scan result) }
     ensures stays { IsTrue C.tells → Stays caller (C.view core.old) (C.view core.new) }
+    ensures within { IsTrue C.tells → WentWithin caller (C.view core.old) (C.view core.new) }
     ensures ok { IsTrue C.tells → IfOk result (λ rows. Adds caller (Scan table low high) (Listed rows) (C.view core.old) (C.view core.new)) }
     ensures err { IsTrue C.tells → OnErr result (Keeps caller (C.view core.old) (C.view core.new)) }
     ensures refused { IsTrue C.tells → IfErr result (Refuses caller (C.view core.old) (C.view core.new)) }
@@ -132,6 +136,7 @@ pub fn save<C: Core>(core: &mut C, caller: u8) -> Result<u32, Refusal>
     requires sound { IsTrue C.tells → IsSound (C.view core.old).state }
     ensures steps { Steps C.tells caller Save (C.view core.old) (C.view core.new) (told_save result) }
     ensures stays { IsTrue C.tells → Stays caller (C.view core.old) (C.view core.new) }
+    ensures within { IsTrue C.tells → WentWithin caller (C.view core.old) (C.view core.new) }
     ensures ok { IsTrue C.tells → IfOk result (λ saves. Adds caller Save (Saved saves) (C.view core.old) (C.view core.new)) }
     ensures err { IsTrue C.tells → OnErr result (Keeps caller (C.view core.old) (C.view core.new)) }
     ensures refused { IsTrue C.tells → IfErr result (Refuses caller (C.view core.old) (C.view core.new)) }
@@ -150,6 +155,7 @@ pub fn back<C: Core>(core: &mut C, caller: u8, save: u32) -> Result<(), Refusal>
     requires sound { IsTrue C.tells → IsSound (C.view core.old).state }
     ensures steps { Steps C.tells caller (Back save) (C.view core.old) (C.view core.new) (told_done result) }
     ensures stays { IsTrue C.tells → Stays caller (C.view core.old) (C.view core.new) }
+    ensures within { IsTrue C.tells → WentWithin caller (C.view core.old) (C.view core.new) }
     ensures ok { IsTrue C.tells → OnOk result (Adds caller (Back save) Fine (C.view core.old) (C.view core.new)) }
     ensures err { IsTrue C.tells → OnErr result (Keeps caller (C.view core.old) (C.view core.new)) }
     ensures refused { IsTrue C.tells → IfErr result (Refuses caller (C.view core.old) (C.view core.new)) }

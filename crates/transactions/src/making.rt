@@ -4,7 +4,7 @@ ghost use Rattle.caller_steps.specs.Core.{Continues};
 ghost use Rattle.caller_steps.specs.Sound.{IsSound};
 ghost use Rattle.caller_steps.specs.State.{records_of};
 ghost use Rattle.transactions.specs.Went.{Went, IsOfCore};
-ghost use Rattle.transactions.specs.Tries.{IsOften, was_busy};
+ghost use Rattle.transactions.specs.Tries.{IsOften, WentTries, was_busy};
 ghost use Rattle.transactions.specs.Makes.{IsGivenUp, IsMade, IsEnded, IsInDoubt, MayAdd};
 
 use crate::Refusal;
@@ -28,6 +28,8 @@ pub fn transaction<C: Core, T: Drop, E: Drop, W: Work<T, E>>(
     ensures refused { IsTrue C.tells → OnErr result ((C.view core.new).state.history ≡ (C.view core.old).state.history) }
     ensures cause { IsTrue C.tells → IfErr result (IsGivenUp (W.gives_up work.now) (records_of (C.view core.old).state)) }
     ensures of_core { IsTrue C.tells → IfErr result (IsOfCore caller (C.view core.old) (C.view core.new)) }
+    // It is one try.
+    ensures tries { IsTrue C.tells → WentTries 1 caller (C.view core.old) (C.view core.new) }
     // Afterwards the caller has no live transaction, unless it had one before, or the medium has failed. No other caller's changes, and what
     // callers have offered stays so.
     ensures went { IsTrue C.tells → Went caller (C.view core.old) (C.view core.new) }
@@ -73,7 +75,8 @@ pub fn transaction_retried<C: Core, T: Drop, E: Drop, W: Work<T, E>>(
     ensures refused { IsTrue C.tells → OnErr result ((C.view core.new).state.history ≡ (C.view core.old).state.history) }
     ensures cause { IsTrue C.tells → IfErr result (IsGivenUp (W.gives_up work.now) (records_of (C.view core.old).state)) }
     ensures of_core { IsTrue C.tells → IfErr result (IsOfCore caller (C.view core.old) (C.view core.new)) }
-    // It is refused as busy only if the core refused a call so in each of the tries.
+    // There are at most so many tries, and it is refused as busy only if the core refused a call so in each of them.
+    ensures tries { IsTrue C.tells → WentTries (retries + 1) caller (C.view core.old) (C.view core.new) }
     ensures often { IsTrue C.tells → IfErr result (IsOften (retries + 1) caller (C.view core.old) (C.view core.new)) }
     ensures went { IsTrue C.tells → Went caller (C.view core.old) (C.view core.new) }
     ensures ended { IsTrue C.tells → IsEnded caller (C.view core.old) (C.view core.new) }

@@ -5,7 +5,7 @@ ghost use Rattle.history.specs.Table.{Granted};
 ghost use Rattle.caller_steps.specs.Sound.{IsSound};
 ghost use Rattle.caller_steps.specs.State.{records_of};
 ghost use Rattle.transactions.specs.Adds.{Stays};
-ghost use Rattle.transactions.specs.Went.{IsOfCore};
+ghost use Rattle.transactions.specs.Went.{WentWithin, IsOfCore};
 ghost use Rattle.transactions.specs.Makes.{Holds, IsGivenUp};
 
 use crate::Refusal;
@@ -40,13 +40,14 @@ pub trait Work<T, E> {
     /// On which records it is given up for this reason.
     ghost gives_up: { Self → E → Table → Type 0 };
 
-    /// Makes the calls of the caller's transaction, which has just begun.
+    /// Makes the calls of the caller's transaction, which has just begun. It begins none of its own, and ends or offers none.
     fn make<C: Core>(&self, core: &mut C, caller: u8) -> Result<T, Stop<E>>
         requires inside { caller < (C.view core.old).limits.callers }
         requires sound { IsTrue C.tells → IsSound (C.view core.old).state }
         requires begun { IsTrue C.tells → (C.view core.old).state.live caller ≡ Some [] }
         ensures limits { (C.view core.new).limits ≡ (C.view core.old).limits }
         ensures stays { IsTrue C.tells → Stays caller (C.view core.old) (C.view core.new) }
+        ensures within { IsTrue C.tells → WentWithin caller (C.view core.old) (C.view core.new) }
         ensures done { IsTrue C.tells → IfOk result (λ answer. Holds (does self.now answer (records_of (C.view core.old).state)) caller (C.view core.new)) }
         ensures stopped { IsTrue C.tells → IfErr result (IsGivenUp (gives_up self.now) (records_of (C.view core.old).state)) }
         ensures of_core { IsTrue C.tells → IfErr result (IsOfCore caller (C.view core.old) (C.view core.new)) };

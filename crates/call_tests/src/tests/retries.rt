@@ -3,7 +3,7 @@ ghost use Rattle.std.specs.Prelude.{◌≡◌, ◌<◌, [], Some, IsTrue, IfOk, 
 ghost use Rattle.caller_steps.specs.Sound.{IsSound};
 ghost use Rattle.caller_steps.specs.State.{records_of};
 ghost use Rattle.transactions.specs.Adds.{Stays};
-ghost use Rattle.transactions.specs.Went.{IsOfCore};
+ghost use Rattle.transactions.specs.Went.{WentWithin, IsOfCore};
 ghost use Rattle.transactions.specs.Makes.{Holds, IsGivenUp};
 
 use super::accounts::with_accounts;
@@ -38,6 +38,7 @@ impl Work<u64, Missing> for Looking {
         requires begun { IsTrue C.tells → (C.view core.old).state.live caller ≡ Some [] }
         ensures limits { (C.view core.new).limits ≡ (C.view core.old).limits }
         ensures stays { IsTrue C.tells → Stays caller (C.view core.old) (C.view core.new) }
+        ensures within { IsTrue C.tells → WentWithin caller (C.view core.old) (C.view core.new) }
         ensures done { IsTrue C.tells → IfOk result (λ answer. Holds (λ calls. Unit {0}) caller (C.view core.new)) }
         ensures stopped { IsTrue C.tells → IfErr result (IsGivenUp (λ (reason : Missing) table. Unit {0}) (records_of (C.view core.old).state)) }
         ensures of_core { IsTrue C.tells → IfErr result (IsOfCore caller (C.view core.old) (C.view core.new)) }

@@ -1,5 +1,6 @@
-use Rattle.std.proofs.Common.{◌≡◌, ℕ, inr, List, [], ◌∷◌, ◌++◌, refl, sym, ap, subst, append-nil}
+use Rattle.std.proofs.Common.{◌≡◌, ℕ, false, inr, List, [], ◌∷◌, ◌++◌, refl, sym, ap, subst, append-nil}
 use Rattle.std.specs.Prelude.{IsTrue}
+use Rattle.std.proofs.lemmas.Result.{on_ok_weaker}
 use Rattle.mars_base.proofs.Going.{then, weaker}
 use Rattle.pcm_media.specs.Images.{IsOutside}
 use Rattle.array_shape.specs.Logged.{Part, applied, places_of}
@@ -12,6 +13,7 @@ use Rattle.coordinator.specs.Places.{commit_places, row_places}
 use Rattle.coordinator.proofs.Applying.{all_same, none_named}
 use Rattle.coordinator.proofs.Committing.{succeeded}
 use Rattle.coordinator.proofs.Placing.{rows_in_all_places}
+use Rattle.coordinator.proofs.RowBytes.{cleared_again, no_rows}
 use Rattle.coordinator.proofs.commits.commit.Given.{Over}
 use Rattle.coordinator.proofs.commits.commit.Goals as goal
 
@@ -59,3 +61,12 @@ returns-clause-does g c =
     ends_with g.M.Media.tells (commit_places shape base.content.bytes ballot cells) (commit_places shape mid.content.bytes ballot cells) base mid (g.M.Media.view c.write_back.new.media)
     (λ told i out. subst (λ places. IsOutside places i) (ap (λ (ps : List Part). row_places shape ballot ++ places_of shape ps) (sym (all_same shape ballot cells c.requires.there base.content.bytes mid.content.bytes (c.in_ok-decide.ensures.cells told)))) out)
     first c.write_back.result c.write_back.ensures.does
+
+pub returns-then-ballot-eq0-clause-rows : goal.returns-then-ballot-eq0-clause-rows
+returns-then-ballot-eq0-clause-rows g c told = no_rows c.args.shape.now c.args.ballot c.args.cells.now false (g.M.Media.view c.args.media.now).content.bytes c.if-ballot-eq0.true
+
+pub returns-clause-rows : goal.returns-clause-rows
+returns-clause-rows g c told =
+    on_ok_weaker c.write_back.result
+    (cleared_again c.args.shape.now c.args.ballot c.args.cells.now (g.M.Media.view c.args.media.now).content.bytes (g.M.Media.view c.decide.new.media).content.bytes (g.M.Media.view c.write_back.new.media).content.bytes (c.in_ok-decide.ensures.rows told))
+    (c.write_back.ensures.rows told)

@@ -1,6 +1,9 @@
-use Rattle.std.proofs.Common.{refl, ◌∙◌}
+use Rattle.std.proofs.Common.{false, refl, ◌∙◌}
 use Rattle.std.proofs.lemmas.Result.{on_ok_weaker}
+use Rattle.coordinator.specs.Commits.{parts_named}
+use Rattle.coordinator.proofs.Applying.{parts_placed}
 use Rattle.coordinator.proofs.Committing.{WritesBack, Installed, at_last, handed, in_clearing, in_install, succeeded}
+use Rattle.coordinator.proofs.RowBytes.{votes_set}
 use Rattle.coordinator.proofs.commits.write_back.Given.{Over}
 use Rattle.coordinator.proofs.commits.write_back.Goals as goal
 
@@ -36,3 +39,14 @@ returns-clause-cells g c = (ended g c).kept
 
 pub returns-clause-does : goal.returns-clause-does
 returns-clause-does g c = (ended g c).writes
+
+pub returns-clause-rows : goal.returns-clause-rows
+returns-clause-rows g c told =
+    let shape = c.args.shape.now in
+    let base = (g.M.Media.view c.args.media.now).content.bytes in
+    let long = g.met.M.Media.long c.args.media.now told ∙ c.requires.size in
+    on_ok_weaker c.set_votes.result
+    (λ voted. votes_set shape c.args.ballot false (parts_named shape base c.args.ballot c.args.cells.now) base (g.M.Media.view c.install.new.media).content.bytes (g.M.Media.view c.set_votes.new.media).content.bytes
+    (parts_placed shape c.args.ballot c.args.cells.now c.requires.there base long (c.requires.good told))
+    (g.met.M.Media.long c.set_votes.new.media told ∙ (ended g c).writes.size ∙ c.requires.size) (c.in_ok-install.ensures.does.touched told).bytes (c.set_votes.ensures.does.touched told).bytes voted.1)
+    (c.set_votes.ensures.votes told)

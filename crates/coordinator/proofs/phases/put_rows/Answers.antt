@@ -2,13 +2,13 @@ use Rattle.std.proofs.Common.{true, ◌≡◌, ℕ, ◌+◌, ◌<◌, refl, ◌�
 use Rattle.std.proofs.lemmas.Result.{on_ok_weaker}
 use Rattle.array_shape.specs.NumberSet.{numbers_from}
 use Rattle.row_bytes.specs.Ballots.{has_row}
-use Rattle.array_image.specs.Image.{row_of}
 use Rattle.array_image.proofs.Joined.{outside_at}
 use Rattle.array_image.proofs.Calls.{goes_on, hands_on, none_yet, then_barrier, barrier_keeps}
 use Rattle.mars_base.proofs.Costing.{costs_one, costs_err, costs_then, so_far}
-use Rattle.coordinator.specs.Commits.{Says}
+use Rattle.commit_queue.specs.Rows.{bytes_of}
 use Rattle.coordinator.specs.Costs.{rows_at, rows_in_all}
 use Rattle.coordinator.specs.Places.{bodies_at}
+use Rattle.coordinator.specs.Rows.{Says}
 use Rattle.coordinator.proofs.Absent.{no_row, no_rows}
 use Rattle.coordinator.proofs.Calls.{bodies_in_rows, numbers_more}
 use Rattle.coordinator.proofs.Costing.{total_le, total_more}
@@ -60,7 +60,7 @@ loop-tid-preserved g c =
         does = goes_on g.M.Media.tells _ _ _ _ _ (λ told i out. outside_at (bodies_at shape ballot) i 0 shape.numbers out n (omega arith) (omega (arith, below))) done.does c.in_ok-put_rows_of.ensures.does refl;
         names = λ told. numbers_more shape (has_row ballot) (λ h t r. Says ballot c.args.cells.now h t r) n below (bodies_at shape ballot n) (bodies_in_rows shape ballot n)
             _ _ (c.in_ok-put_rows_of.ensures.does.touched told).bytes
-            (λ h t lt. each_past at n reached (has_row ballot h) (λ u. Says ballot c.args.cells.now h u (row_of shape (g.M.Media.view c.loop-tid.media).content.bytes h u)) (λ u from under. no_row shape ballot u (between u from under) h) (λ u. done.names told h u lt) t)
+            (λ h t lt. each_past at n reached (has_row ballot h) (λ u. Says ballot c.args.cells.now h u (bytes_of shape (g.M.Media.view c.loop-tid.media).content.bytes h u)) (λ u from under. no_row shape ballot u (between u from under) h) (λ u. done.names told h u lt) t)
             (c.in_ok-put_rows_of.ensures.names told);
       },
     )
@@ -75,8 +75,8 @@ returns-clause-names g c told =
     let at = c.loop-tid.invariant.0 in
     let done = c.loop-tid.invariant.1 in
     let behind = numbers_behind shape ballot c.requires.group at _ done.left c.in-None.ensures.steps.0 in
-    on_ok_weaker c.barrier.result (barrier_keeps (λ bytes. (h t : ℕ) → h < shape.loggers → t < shape.numbers → has_row ballot h t ≡ true → Says ballot c.args.cells.now h t (row_of shape bytes h t)) (g.M.Media.view c.loop-tid.media).content (g.M.Media.view c.barrier.new.self).content
-    (λ h t lt. each_past at shape.numbers done.left.most (has_row ballot h) (λ u. Says ballot c.args.cells.now h u (row_of shape (g.M.Media.view c.loop-tid.media).content.bytes h u)) (λ u from under. no_row shape ballot u (behind u from under) h) (λ u. done.names told h u lt) t)) (c.barrier.ensures.settled told)
+    on_ok_weaker c.barrier.result (barrier_keeps (λ bytes. (h t : ℕ) → h < shape.loggers → t < shape.numbers → has_row ballot h t ≡ true → Says ballot c.args.cells.now h t (bytes_of shape bytes h t)) (g.M.Media.view c.loop-tid.media).content (g.M.Media.view c.barrier.new.self).content
+    (λ h t lt. each_past at shape.numbers done.left.most (has_row ballot h) (λ u. Says ballot c.args.cells.now h u (bytes_of shape (g.M.Media.view c.loop-tid.media).content.bytes h u)) (λ u from under. no_row shape ballot u (behind u from under) h) (λ u. done.names told h u lt) t)) (c.barrier.ensures.settled told)
 
 pub returns-in_err-put_rows_of-clause-costs : goal.returns-in_err-put_rows_of-clause-costs
 returns-in_err-put_rows_of-clause-costs g c =

@@ -1,10 +1,10 @@
 use Rattle.std.proofs.Common.{◌≡◌, ◌+◌, ◌<◌, ℕ, true, IsTrue}
 use Rattle.row_bytes.specs.Ballots.{has_row}
-use Rattle.array_image.specs.Image.{row_of}
 use Rattle.array_image.proofs.Calls.{SoFar}
 use Rattle.commit_queue.specs.Between.{bodies_of}
-use Rattle.coordinator.specs.Commits.{Says}
+use Rattle.commit_queue.specs.Rows.{bytes_of}
 use Rattle.coordinator.specs.Costs.{total, rows_at}
+use Rattle.coordinator.specs.Rows.{Says}
 use Rattle.coordinator.proofs.Members.{AreLeft}
 use Rattle.coordinator.proofs.phases.put_rows.Given as goal
 
@@ -15,5 +15,5 @@ invariant-loop-tid g l =
       left : AreLeft l.shape.numbers l.ballot.group at l.tid-iterator;
       costs : (m.view l.media).moment ≡ (m.view l.fn.media).moment + total (rows_at l.shape l.ballot) at;
       does : SoFar m.tells (bodies_of l.shape (has_row l.ballot)) (m.view l.fn.media) (m.view l.media);
-      names : IsTrue m.tells → (h t : ℕ) → h < l.shape.loggers → t < at → has_row l.ballot h t ≡ true → Says l.ballot l.cells h t (row_of l.shape (m.view l.media).content.bytes h t);
+      names : IsTrue m.tells → (h t : ℕ) → h < l.shape.loggers → t < at → has_row l.ballot h t ≡ true → Says l.ballot l.cells h t (bytes_of l.shape (m.view l.media).content.bytes h t);
     }

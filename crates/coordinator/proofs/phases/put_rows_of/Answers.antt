@@ -1,17 +1,20 @@
-use Rattle.std.proofs.Common.{◌≡◌, ℕ, ◌+◌, true, cond, [], ◌∷◌, refl, sym, ◌∙◌, ap, subst, arith}
-use Rattle.pcm_media.specs.Images.{IsOutside, Touched}
+use Rattle.std.proofs.Common.{◌≡◌, ℕ, ◌+◌, true, false, cond, [], ◌∷◌, length, drop, refl, sym, ◌∙◌, ap, subst, arith}
+use Rattle.pcm_media.specs.Images.{Content, IsOutside, Touched, written}
 use Rattle.array_shape.specs.NumberSet.{numbers_from}
-use Rattle.array_shape.specs.Places.{row_at}
-use Rattle.row_bytes.specs.declared.row.Row.{Row}
-use Rattle.row_bytes.specs.Ballots.{ballot_of, has_row}
-use Rattle.array_image.specs.Image.{row_of}
+use Rattle.array_shape.specs.Places.{media_len, row_at}
+use Rattle.row_bytes.specs.declared.ballot.Ballot.{Ballot}
+use Rattle.row_bytes.specs.Ballots.{has_row}
+use Rattle.row_bytes.specs.Written.{row_rest}
+use Rattle.row_bytes.proofs.Saying.{row}
 use Rattle.array_image.proofs.Calls.{goes_on, hands_on, none_yet}
 use Rattle.mars_base.proofs.Costing.{costs_err, costs_all}
+use Rattle.commit_queue.specs.Rows.{bytes_of}
 use Rattle.coordinator.specs.declared.cells.Cells.{Cells}
-use Rattle.coordinator.specs.Commits.{Says}
+use Rattle.coordinator.specs.Rows.{Says, row_with}
 use Rattle.coordinator.proofs.Calls.{body_within, rows_more}
 use Rattle.coordinator.proofs.Costing.{counted, not_counted, total_le, total_next}
 use Rattle.coordinator.proofs.Members.{all_left, each_past, total_past, row_here, rows_between, row_reached, row_below, rows_left, rows_behind}
+use Rattle.coordinator.proofs.RowBytes.{put_body}
 use Rattle.coordinator.proofs.phases.put_rows_of.Goals as goal
 
 pub loop-number-init : goal.loop-number-init
@@ -86,15 +89,21 @@ loop-number-preserved g c =
         does = goes_on g.M.Media.tells _ _ _ _ _ (λ told i out. subst (λ r. IsOutside (r ∷ []) i) (sym same) (body_within c.args.shape.now ballot n t below has i out)) so_far.does c.in_ok-put_row.ensures.does refl;
         names = λ told.
             let touched = subst (λ r. Touched (r ∷ []) (g.M.Media.view c.loop-number.media).content (g.M.Media.view c.put_row.new.media).content) same (c.in_ok-put_row.ensures.does.touched told) in
-            let row = (λ i. row_of (sym logger.shape i) bytes (sym logger.number i) c.args.tid) ∙ c.in_ok-put_row.ensures.row told in
+            let old = (g.M.Media.view c.loop-number.media).content in
+            let its = c.row-row.result in
+            let said : row_rest its ≡ row_rest (row_with ballot c.args.cells.now false n t) = (λ i. row_rest (row false
+            (ap (λ (b : Ballot). b.mask) c.row-row.ensures.ballot i)
+            ((c.row-row.ensures.first ∙ ap (λ (k : Cells). k.first) c.cells_in-first.ensures) i)
+            ((c.row-row.ensures.count ∙ ap (λ (k : Cells). k.count) c.cells_in-first.ensures) i)
+            (c.row-row.ensures.alone i)
+            (ap (λ (b : Ballot). b.order) c.row-row.ensures.ballot i))) in
+            let wrote : (g.M.Media.view c.put_row.new.media).content ≡ written (row_at c.args.shape.now n t + 1) (row_rest its) old = c.in_ok-put_row.ensures.written told ∙ (λ i. written (row_at (logger.shape i) (logger.number i) t + 1) (row_rest its) old) in
+            let long : length old.bytes ≡ media_len c.args.shape.now = g.met.M.Media.long c.loop-number.media told ∙ so_far.does.size ∙ c.requires.size in
+            let body = ap (λ (content : Content). drop 1 (bytes_of c.args.shape.now content.bytes n t)) wrote ∙ put_body c.args.shape.now old.bytes long n t below c.requires.tid its ∙ said in
             rows_more c.args.shape.now t c.requires.tid (λ h. has_row c.args.ballot h c.args.tid) (λ h r. Says c.args.ballot c.args.cells.now h c.args.tid r) n
             (row_at c.args.shape.now c.in-Some.number c.args.tid + 1) 15 (λ i from under. (omega arith, omega arith)) _ bytes touched.bytes
-            (each_past at n reached (λ h. has_row c.args.ballot h c.args.tid) (λ h. Says c.args.ballot c.args.cells.now h c.args.tid (row_of c.args.shape.now (g.M.Media.view c.loop-number.media).content.bytes h c.args.tid)) between (so_far.names told))
-            (record {
-              ballot_is = ap (ballot_of c.args.tid) row ∙ c.row-row.ensures.ballot;
-              first_is = ap (λ (r : Row). r.first) row ∙ c.row-row.ensures.first ∙ ap (λ (n : Cells). n.first) c.cells_in-first.ensures;
-              count_is = ap (λ (r : Row). r.count) row ∙ c.row-row.ensures.count ∙ ap (λ (n : Cells). n.count) c.cells_in-first.ensures;
-            });
+            (each_past at n reached (λ h. has_row c.args.ballot h c.args.tid) (λ h. Says c.args.ballot c.args.cells.now h c.args.tid (bytes_of c.args.shape.now (g.M.Media.view c.loop-number.media).content.bytes h c.args.tid)) between (so_far.names told))
+            body;
       },
     )
 
@@ -115,4 +124,4 @@ returns-clause-names g c told =
     let at = c.loop-number.invariant.0 in
     let so_far = c.loop-number.invariant.1 in
     let behind = rows_behind c.args.shape.now ballot c.requires.mask t at _ so_far.left c.in-None.ensures.steps.0 in
-    each_past at c.args.shape.now.loggers so_far.left.most (λ h. has_row c.args.ballot h c.args.tid) (λ h. Says c.args.ballot c.args.cells.now h c.args.tid (row_of c.args.shape.now (g.M.Media.view c.loop-number.media).content.bytes h c.args.tid)) behind (so_far.names told)
+    each_past at c.args.shape.now.loggers so_far.left.most (λ h. has_row c.args.ballot h c.args.tid) (λ h. Says c.args.ballot c.args.cells.now h c.args.tid (bytes_of c.args.shape.now (g.M.Media.view c.loop-number.media).content.bytes h c.args.tid)) behind (so_far.names told)

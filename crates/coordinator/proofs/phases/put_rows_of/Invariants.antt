@@ -1,10 +1,10 @@
 use Rattle.std.proofs.Common.{◌≡◌, ◌+◌, ◌<◌, ℕ, cond, true, IsTrue}
 use Rattle.row_bytes.specs.Ballots.{has_row}
-use Rattle.array_image.specs.Image.{row_of}
 use Rattle.array_image.proofs.Calls.{SoFar}
-use Rattle.coordinator.specs.Commits.{Says}
+use Rattle.commit_queue.specs.Rows.{bytes_of}
 use Rattle.coordinator.specs.Costs.{total}
 use Rattle.coordinator.specs.Places.{bodies_at}
+use Rattle.coordinator.specs.Rows.{Says}
 use Rattle.coordinator.proofs.Members.{AreLeft}
 use Rattle.coordinator.proofs.phases.put_rows_of.Given as goal
 
@@ -15,5 +15,5 @@ invariant-loop-number g l =
       left : AreLeft l.shape.loggers l.ballot.mask at l.number-iterator;
       costs : (m.view l.media).moment ≡ (m.view l.fn.media).moment + total (λ h. cond (has_row l.ballot h l.tid) 1 0) at;
       does : SoFar m.tells (bodies_at l.shape l.ballot l.tid) (m.view l.fn.media) (m.view l.media);
-      names : IsTrue m.tells → (h : ℕ) → h < at → has_row l.ballot h l.tid ≡ true → Says l.ballot l.cells h l.tid (row_of l.shape (m.view l.media).content.bytes h l.tid);
+      names : IsTrue m.tells → (h : ℕ) → h < at → has_row l.ballot h l.tid ≡ true → Says l.ballot l.cells h l.tid (bytes_of l.shape (m.view l.media).content.bytes h l.tid);
     }

@@ -2,12 +2,13 @@ use Rattle.std.proofs.Common.{true, ◌≡◌, ℕ, ◌+◌, ◌<◌, refl, ◌�
 use Rattle.std.proofs.lemmas.Result.{on_ok_weaker}
 use Rattle.array_shape.specs.NumberSet.{numbers_from}
 use Rattle.row_bytes.specs.Ballots.{has_row}
-use Rattle.array_image.specs.Image.{row_of}
 use Rattle.array_image.proofs.Joined.{outside_at}
 use Rattle.array_image.proofs.Calls.{goes_on, hands_on, none_yet, then_barrier, barrier_keeps}
 use Rattle.mars_base.proofs.Costing.{costs_one, costs_err, costs_then, so_far}
+use Rattle.commit_queue.specs.Rows.{bytes_of}
 use Rattle.coordinator.specs.Costs.{rows_at, rows_in_all}
 use Rattle.coordinator.specs.Places.{votes_at}
+use Rattle.coordinator.specs.Rows.{HasVote}
 use Rattle.coordinator.proofs.Absent.{no_row, no_rows}
 use Rattle.coordinator.proofs.Calls.{votes_in_rows, numbers_more}
 use Rattle.coordinator.proofs.Costing.{total_le, total_more}
@@ -57,9 +58,9 @@ loop-tid-preserved g c =
         left = numbers_left shape ballot c.requires.group at _ done.left n _ steps;
         costs = omega (arith, one, done.costs, past, total_more (rows_at shape ballot) n);
         does = goes_on g.M.Media.tells _ _ _ _ _ (λ told i out. outside_at (votes_at shape ballot) i 0 shape.numbers out n (omega arith) (omega (arith, below))) done.does c.in_ok-set_votes_of.ensures.does refl;
-        votes = λ told. numbers_more shape (has_row ballot) (λ h t r. r.voted ≡ c.args.voted) n below (votes_at shape ballot n) (votes_in_rows shape ballot n)
+        votes = λ told. numbers_more shape (has_row ballot) (λ h t r. HasVote c.args.voted r) n below (votes_at shape ballot n) (votes_in_rows shape ballot n)
             _ _ (c.in_ok-set_votes_of.ensures.does.touched told).bytes
-            (λ h t lt. each_past at n reached (has_row ballot h) (λ u. (row_of shape (g.M.Media.view c.loop-tid.media).content.bytes h u).voted ≡ c.args.voted) (λ u from under. no_row shape ballot u (between u from under) h) (λ u. done.votes told h u lt) t)
+            (λ h t lt. each_past at n reached (has_row ballot h) (λ u. HasVote c.args.voted (bytes_of shape (g.M.Media.view c.loop-tid.media).content.bytes h u)) (λ u from under. no_row shape ballot u (between u from under) h) (λ u. done.votes told h u lt) t)
             (c.in_ok-set_votes_of.ensures.votes told);
       },
     )
@@ -74,8 +75,8 @@ returns-clause-votes g c told =
     let at = c.loop-tid.invariant.0 in
     let done = c.loop-tid.invariant.1 in
     let behind = numbers_behind shape ballot c.requires.group at _ done.left c.in-None.ensures.steps.0 in
-    on_ok_weaker c.barrier.result (barrier_keeps (λ bytes. (h t : ℕ) → h < shape.loggers → t < shape.numbers → has_row ballot h t ≡ true → (row_of shape bytes h t).voted ≡ c.args.voted) (g.M.Media.view c.loop-tid.media).content (g.M.Media.view c.barrier.new.self).content
-    (λ h t lt. each_past at shape.numbers done.left.most (has_row ballot h) (λ u. (row_of shape (g.M.Media.view c.loop-tid.media).content.bytes h u).voted ≡ c.args.voted) (λ u from under. no_row shape ballot u (behind u from under) h) (λ u. done.votes told h u lt) t)) (c.barrier.ensures.settled told)
+    on_ok_weaker c.barrier.result (barrier_keeps (λ bytes. (h t : ℕ) → h < shape.loggers → t < shape.numbers → has_row ballot h t ≡ true → HasVote c.args.voted (bytes_of shape bytes h t)) (g.M.Media.view c.loop-tid.media).content (g.M.Media.view c.barrier.new.self).content
+    (λ h t lt. each_past at shape.numbers done.left.most (has_row ballot h) (λ u. HasVote c.args.voted (bytes_of shape (g.M.Media.view c.loop-tid.media).content.bytes h u)) (λ u from under. no_row shape ballot u (behind u from under) h) (λ u. done.votes told h u lt) t)) (c.barrier.ensures.settled told)
 
 pub returns-in_err-set_votes_of-clause-costs : goal.returns-in_err-set_votes_of-clause-costs
 returns-in_err-set_votes_of-clause-costs g c =

@@ -1,15 +1,17 @@
-use Rattle.std.proofs.Common.{◌≡◌, ℕ, ◌+◌, true, cond, [], ◌∷◌, refl, sym, ◌∙◌, ap, subst, arith}
-use Rattle.pcm_media.specs.Images.{IsOutside, Touched}
+use Rattle.std.proofs.Common.{◌≡◌, ℕ, ◌+◌, true, cond, [], ◌∷◌, length, get_or, refl, sym, ◌∙◌, ap, subst, arith}
+use Rattle.pcm_media.specs.Images.{Content, IsOutside, Touched, written}
 use Rattle.array_shape.specs.NumberSet.{numbers_from}
-use Rattle.array_shape.specs.Places.{row_at}
-use Rattle.row_bytes.specs.declared.row.Row.{Row}
+use Rattle.array_shape.specs.Places.{media_len, row_at}
 use Rattle.row_bytes.specs.Ballots.{has_row}
-use Rattle.array_image.specs.Image.{row_of}
+use Rattle.row_bytes.specs.Written.{vote_byte}
 use Rattle.array_image.proofs.Calls.{goes_on, hands_on, none_yet}
 use Rattle.mars_base.proofs.Costing.{costs_err, costs_all}
+use Rattle.commit_queue.specs.Rows.{bytes_of}
+use Rattle.coordinator.specs.Rows.{HasVote}
 use Rattle.coordinator.proofs.Calls.{vote_within, rows_more}
 use Rattle.coordinator.proofs.Costing.{counted, not_counted, total_le, total_next}
 use Rattle.coordinator.proofs.Members.{all_left, each_past, total_past, row_here, rows_between, row_reached, row_below, rows_left, rows_behind}
+use Rattle.coordinator.proofs.RowBytes.{put_vote}
 use Rattle.coordinator.proofs.phases.set_votes_of.Goals as goal
 
 pub loop-number-init : goal.loop-number-init
@@ -80,10 +82,14 @@ loop-number-preserved g c =
         does = goes_on g.M.Media.tells _ _ _ _ _ (λ told i out. subst (λ r. IsOutside (r ∷ []) i) (sym same) (vote_within c.args.shape.now ballot n t below has i out)) so_far.does c.in_ok-set_vote.ensures.does refl;
         votes = λ told.
             let touched = subst (λ r. Touched (r ∷ []) (g.M.Media.view c.loop-number.media).content (g.M.Media.view c.set_vote.new.media).content) same (c.in_ok-set_vote.ensures.does.touched told) in
-            let voted = ap (λ (r : Row). r.voted) ((λ i. row_of (sym logger.shape i) bytes (sym logger.number i) c.args.tid) ∙ c.in_ok-set_vote.ensures.row told) in
-            rows_more c.args.shape.now t c.requires.tid (λ h. has_row c.args.ballot h c.args.tid) (λ h r. r.voted ≡ c.args.voted) n
+            let old = (g.M.Media.view c.loop-number.media).content in
+            let vote = vote_byte c.args.voted in
+            let wrote : (g.M.Media.view c.set_vote.new.media).content ≡ written (row_at c.args.shape.now n t) (vote ∷ []) old = c.in_ok-set_vote.ensures.written told ∙ (λ i. written (row_at (logger.shape i) (logger.number i) t) (vote ∷ []) old) in
+            let long : length old.bytes ≡ media_len c.args.shape.now = g.met.M.Media.long c.loop-number.media told ∙ so_far.does.size ∙ c.requires.size in
+            let voted = ap (λ (content : Content). get_or (bytes_of c.args.shape.now content.bytes n t) 0 0) wrote ∙ put_vote c.args.shape.now old.bytes long n t below c.requires.tid vote in
+            rows_more c.args.shape.now t c.requires.tid (λ h. has_row c.args.ballot h c.args.tid) (λ h r. HasVote c.args.voted r) n
             (row_at c.args.shape.now c.in-Some.number c.args.tid) 1 (λ i from under. (omega arith, omega arith)) _ bytes touched.bytes
-            (each_past at n reached (λ h. has_row c.args.ballot h c.args.tid) (λ h. (row_of c.args.shape.now (g.M.Media.view c.loop-number.media).content.bytes h c.args.tid).voted ≡ c.args.voted) between (so_far.votes told))
+            (each_past at n reached (λ h. has_row c.args.ballot h c.args.tid) (λ h. HasVote c.args.voted (bytes_of c.args.shape.now (g.M.Media.view c.loop-number.media).content.bytes h c.args.tid)) between (so_far.votes told))
             voted;
       },
     )
@@ -105,4 +111,4 @@ returns-clause-votes g c told =
     let at = c.loop-number.invariant.0 in
     let so_far = c.loop-number.invariant.1 in
     let behind = rows_behind c.args.shape.now ballot c.requires.mask t at _ so_far.left c.in-None.ensures.steps.0 in
-    each_past at c.args.shape.now.loggers so_far.left.most (λ h. has_row c.args.ballot h c.args.tid) (λ h. (row_of c.args.shape.now (g.M.Media.view c.loop-number.media).content.bytes h c.args.tid).voted ≡ c.args.voted) behind (so_far.votes told)
+    each_past at c.args.shape.now.loggers so_far.left.most (λ h. has_row c.args.ballot h c.args.tid) (λ h. HasVote c.args.voted (bytes_of c.args.shape.now (g.M.Media.view c.loop-number.media).content.bytes h c.args.tid)) behind (so_far.votes told)

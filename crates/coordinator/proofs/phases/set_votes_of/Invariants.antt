@@ -1,9 +1,10 @@
 use Rattle.std.proofs.Common.{◌≡◌, ◌+◌, ◌<◌, ℕ, cond, true, IsTrue}
 use Rattle.row_bytes.specs.Ballots.{has_row}
-use Rattle.array_image.specs.Image.{row_of}
 use Rattle.array_image.proofs.Calls.{SoFar}
+use Rattle.commit_queue.specs.Rows.{bytes_of}
 use Rattle.coordinator.specs.Costs.{total}
 use Rattle.coordinator.specs.Places.{votes_at}
+use Rattle.coordinator.specs.Rows.{HasVote}
 use Rattle.coordinator.proofs.Members.{AreLeft}
 use Rattle.coordinator.proofs.phases.set_votes_of.Given as goal
 
@@ -14,5 +15,5 @@ invariant-loop-number g l =
       left : AreLeft l.shape.loggers l.fn.ballot.mask at l.number-iterator;
       costs : (m.view l.media).moment ≡ (m.view l.fn.media).moment + total (λ h. cond (has_row l.fn.ballot h l.tid) 1 0) at;
       does : SoFar m.tells (votes_at l.shape l.fn.ballot l.tid) (m.view l.fn.media) (m.view l.media);
-      votes : IsTrue m.tells → (h : ℕ) → h < at → has_row l.fn.ballot h l.tid ≡ true → (row_of l.shape (m.view l.media).content.bytes h l.tid).voted ≡ l.voted;
+      votes : IsTrue m.tells → (h : ℕ) → h < at → has_row l.fn.ballot h l.tid ≡ true → HasVote l.voted (bytes_of l.shape (m.view l.media).content.bytes h l.tid);
     }

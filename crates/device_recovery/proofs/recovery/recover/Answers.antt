@@ -1,15 +1,18 @@
-use Rattle.std.proofs.Common.{refl, inl, inr, ◌≡◌, ℕ, ◌∙◌, [], List, length, sym, ap, subst, arith}
+use Rattle.std.proofs.Common.{false, refl, inl, inr, ◌≡◌, ℕ, ◌∙◌, [], ◌∷◌, List, drop, length, sym, ap, subst, arith}
 use Rattle.std.specs.Prelude.{IsTrue, None}
+use Rattle.std.proofs.lemmas.Bool.{cond-false}
 use Rattle.std.proofs.lemmas.Result.{err_from_is_err_and}
 use Rattle.mars_base.proofs.Going.{then}
 use Rattle.pcm_media.specs.Images.{IsOutside}
 use Rattle.pcm_media.proofs.Left.{same_bytes, left_as_read}
 use Rattle.array_shape.specs.Places.{media_len}
-use Rattle.array_image.specs.Image.{data_of}
+use Rattle.array_image.specs.Image.{data_of, row_of}
 use Rattle.array_image.specs.Decided.{settled_data}
 use Rattle.array_image.specs.Standing.{IsLawful}
 use Rattle.array_image.proofs.Calls.{none_yet, goes_on, ends_with, hands_on}
+use Rattle.array_image.proofs.Parts.{decided_placed}
 use Rattle.commit_queue.specs.Between.{IsAtRest}
+use Rattle.commit_queue.specs.Rows.{HasRowBytes, bytes_of, with_votes}
 use Rattle.device_recovery.proofs.Done.{all_done}
 use Rattle.device_recovery.specs.Table.{RowsAre}
 use Rattle.device_recovery.specs.Recovered.{rows_good, HasNoVote, recovered_places}
@@ -17,6 +20,8 @@ use Rattle.device_recovery.proofs.Clearing.{no_vote_settled}
 use Rattle.device_recovery.proofs.Lists.{decided_count, dropped_count, no_vote, no_count}
 use Rattle.device_recovery.proofs.OrderSums.{settle_same, silent_named, silent_calls}
 use Rattle.device_recovery.proofs.Moments.{clean_from, reading_law, sense_law}
+use Rattle.device_recovery.proofs.Goods.{all_good}
+use Rattle.device_recovery.proofs.Zeroing.{votes_cleared}
 use Rattle.device_recovery.proofs.recovery.recover.Goals as goal
 
 pub returns-in_err-rows : goal.returns-in_err-rows
@@ -30,6 +35,7 @@ returns-in_err-rows g c =
     rw (p.1, p.2) (record {
       clean = λ told. tt;
       settled = λ told. tt;
+      rows = λ told. tt;
       counts = λ told. tt;
       sure = λ told. tt;
       good = λ told. tt;
@@ -61,6 +67,9 @@ returns-then-report-eq0 g c =
           clean_from shape (settled_data shape base) now.content long (read.sure told) (subst (λ bytes. HasNoVote shape bytes) (sym (same_bytes _ _ (read.does.touched told))) (none told))
           (ap (λ (bytes : List ℕ). data_of shape bytes) (same_bytes _ _ (read.does.touched told)) ∙ sym (no_vote_settled shape base (none told)));
       settled = λ told. ap (λ (bytes : List ℕ). data_of shape bytes) (same_bytes _ _ (read.does.touched told)) ∙ sym (no_vote_settled shape base (none told));
+      rows = λ told.
+          let same = same_bytes _ _ (read.does.touched told) in
+          λ h t lt lt'. ap (λ (bytes : List ℕ). bytes_of shape bytes h t) same ∙ sym (cond-false (row_of shape base h t).voted (0 ∷ drop 1 (bytes_of shape base h t)) (bytes_of shape base h t) (none told h t lt lt'));
       counts = λ told. record { decided = report.decided ∙ decided_count shape base rows (read.rows told); dropped = report.dropped ∙ dropped_count shape base rows (read.rows told) };
       sure = read.sure;
       good = read.good;
@@ -107,6 +116,7 @@ returns-in_err-settle g c =
     rw (p.1, p.2) (record {
       clean = λ told. tt;
       settled = λ told. tt;
+      rows = λ told. tt;
       counts = λ told. tt;
       sure = λ told. tt;
       good = λ told. tt;
@@ -144,6 +154,14 @@ returns g c =
     record {
       clean = λ told. subst (λ (bytes : List ℕ). IsAtRest shape [] (settled_data shape bytes) (m.view c.settle.new.media).content) (sym (same told)) (settled.clean told);
       settled = λ told. settled.settled told ∙ ap (λ (bytes : List ℕ). settled_data shape bytes) (sym (same told));
+      rows = λ told.
+          let now = m.view c.settle.new.media in
+          let base = mid.content.bytes in
+          let long : length base ≡ media_len shape = g.met.M.Media.long c.read_sound.new.media told ∙ read.does.size ∙ c.requires.size in
+          let after : length now.content.bytes ≡ media_len shape = g.met.M.Media.long c.settle.new.media told ∙ settled.does.size ∙ read.does.size ∙ c.requires.size in
+          let placed = decided_placed shape base long (all_good shape base (subst (λ bytes. rows_good shape bytes None) (same told) (read.good told))) in
+          subst (λ (bytes : List ℕ). HasRowBytes shape now.content.bytes (with_votes (λ h t. (row_of shape bytes h t).voted) false (bytes_of shape bytes))) (sym (same told))
+          (votes_cleared shape base now.content.bytes after placed (settled.does.touched told).bytes (settled.zeros told) (settled.unvoted told));
       counts = λ told. record { decided = report.decided ∙ decided_count shape old.content.bytes rows (read.rows told); dropped = report.dropped ∙ dropped_count shape old.content.bytes rows (read.rows told) };
       sure = settled.sure;
       good = read.good;

@@ -10,6 +10,7 @@ use Rattle.array_image.proofs.Calls.{none_yet, goes_on, ends_with, hands_on}
 use Rattle.device_recovery.specs.Recovered.{recovered_places, at_rows, row_name, apply_calls, clear_calls, total}
 use Rattle.device_recovery.proofs.Goods.{all_good}
 use Rattle.device_recovery.proofs.Moments.{data_law, mid_rows, drop_law, low_recovering, clear_law, data_stays, data_within, dropped_within, decided_within, clean_from}
+use Rattle.device_recovery.proofs.Zeroing.{more_cleared, parts_clear_nothing}
 use Rattle.device_recovery.proofs.recovery.settle.Goals as goal
 
 pub returns-in_err-settle_data-clause-any_moment : goal.returns-in_err-settle_data-clause-any_moment
@@ -137,3 +138,19 @@ returns-clause-costs g c =
     let both : CostsSoFar m.tells (apply_calls (length (at_rows shape (decided_in shape rows) row_name)) (total (cells_in_order shape rows) orders) + clear_calls (length (at_rows shape (is_one_of shape rows Dropped) row_name))) (m.view c.args.media.now).moment (m.view c.drop_votes.new.media).moment =
     record { done = λ told. let one = written.done told in let two = dropped.done refl in omega (arith, one, two); most = omega (arith, written.most, dropped.most) } in
     costs_then m.tells _ _ (total (λ o. clear_calls (rows_in_order shape rows o)) orders) _ _ _ c.clear_decided.result refl both (record { done = λ told. c.clear_decided.ensures.costs.done refl; most = c.clear_decided.ensures.costs.most })
+
+pub returns-clause-zeros : goal.returns-clause-zeros
+returns-clause-zeros g c told =
+    let m = g.M.Media in
+    let shape = c.args.shape.now in
+    let old = (m.view c.args.media.now).content.bytes in
+    let mid = (m.view c.settle_data.new.media).content.bytes in
+    let low = (m.view c.drop_votes.new.media).content.bytes in
+    let now = (m.view c.clear_decided.new.media).content.bytes in
+    let long : length old ≡ media_len shape = g.met.M.Media.long c.args.media.now told ∙ c.requires.size in
+    let parts = parts_clear_nothing shape old mid long (all_good shape old (c.requires.good told)) (c.in_ok-settle_data.ensures.does.touched told).bytes in
+    let dropped = more_cleared shape old mid low parts (c.in_ok-drop_votes.ensures.zeros told) in
+    on_ok_weaker c.clear_decided.result (more_cleared shape old low now dropped) (c.clear_decided.ensures.zeros told)
+
+pub returns-clause-unvoted : goal.returns-clause-unvoted
+returns-clause-unvoted g c told = on_ok_weaker c.clear_decided.result (λ done. done.1) (c.clear_decided.ensures.cleared told)

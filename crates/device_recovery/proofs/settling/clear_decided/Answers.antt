@@ -19,6 +19,7 @@ use Rattle.device_recovery.proofs.Lists.{some_clear_calls}
 use Rattle.device_recovery.proofs.Leaving.{cleared_left}
 use Rattle.device_recovery.proofs.Moments.{votes_behind}
 use Rattle.device_recovery.proofs.Phases.{order_left, clearing, still_recovering}
+use Rattle.device_recovery.proofs.Zeroing.{more_cleared}
 use Rattle.device_recovery.proofs.settling.clear_decided.Goals as goal
 
 pub returns-in_err-clear_votes-clause-any_moment : goal.returns-in_err-clear_votes-clause-any_moment
@@ -79,6 +80,7 @@ loop-order-preserved g c =
       does = goes_on m.tells _ _ _ _ _ (λ told. fewer_votes shape (decided_in shape rows) (is_one_of shape rows (DecidedAs order)) (λ h t lt lt' so. (and_parts (decided_in shape rows h t) (nat_eq (row_in rows h t).order order) so).0))
           so_far.does cleared.does refl;
       settled = λ told. (cleared.cleared told).0;
+      zeros = λ told. more_cleared shape old.content.bytes mid.content.bytes new.content.bytes (so_far.zeros told) (cleared.zeros told);
       left = λ told. subst (RowsLeft shape new.content.bytes rows) next
           (cleared_left shape rows order mid.content.bytes new.content.bytes (order_left shape rows mid.content c.loop-order.from order (so_far.left told) some.0 some.2) (cleared.does.touched told).bytes (cleared.cleared told).1);
       recovering = λ told bytes recovering.

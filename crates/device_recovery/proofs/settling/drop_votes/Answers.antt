@@ -7,11 +7,15 @@ use Rattle.device_recovery.specs.Table.{is_one_of}
 use Rattle.device_recovery.specs.Recovered.{at_rows, row_name}
 use Rattle.device_recovery.proofs.Lists.{none_counted, no_clear_calls, some_clear_calls}
 use Rattle.device_recovery.proofs.Leaving.{dropped_left, none_dropped}
+use Rattle.device_recovery.proofs.Zeroing.{none_cleared}
 use Rattle.device_recovery.proofs.settling.drop_votes.Goals as goal
 
 pub returns-then-not-has_dropped-clause-left : goal.returns-then-not-has_dropped-clause-left
 returns-then-not-has_dropped-clause-left g c told =
     (c.requires.sure told, none_dropped c.args.shape.now c.args.rows.now (g.M.Media.view c.args.media.now).content.bytes (c.requires.rows told) (c.if-not-has_dropped.ensures.none refl))
+
+pub returns-then-not-has_dropped-clause-zeros : goal.returns-then-not-has_dropped-clause-zeros
+returns-then-not-has_dropped-clause-zeros g c told = none_cleared c.args.shape.now (g.M.Media.view c.args.media.now).content.bytes
 
 pub returns-clause-left : goal.returns-clause-left
 returns-clause-left g c told =

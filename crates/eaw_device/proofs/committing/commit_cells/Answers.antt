@@ -3,8 +3,8 @@ use Rattle.std.specs.Prelude.{nat_lt}
 use Rattle.array_shape.specs.NumberSet.{has}
 use Rattle.coordinator.specs.declared.cells.Cells.{Cells}
 use Rattle.coordinator.specs.Commits.{IsMaskOf, takes_part}
-use Rattle.deferred_parts.specs.Shown.{entries_of}
-use Rattle.late_data.specs.Tied.{IsTied}
+use Rattle.write_back.specs.Shown.{entries_of}
+use Rattle.write_back.specs.Tied.{IsTied}
 use Rattle.eaw_device.proofs.Grouping.{are_there, are_good, has_named, some_number, takes_some}
 use Rattle.eaw_device.proofs.committing.commit_cells.Goals as goal
 

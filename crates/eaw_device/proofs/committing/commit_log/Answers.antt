@@ -8,13 +8,13 @@ use Rattle.array_shape.specs.Logged.{Part, applied}
 use Rattle.array_shape.specs.NumberSet.{has}
 use Rattle.coordinator.specs.declared.cells.Cells.{Cells}
 use Rattle.coordinator.specs.Commits.{cells_in, parts_named}
-use Rattle.deferred_parts.specs.declared.entry.Entry.{Entry}
-use Rattle.deferred_parts.specs.Entries.{cells_on, ranges_in, parts_in}
-use Rattle.deferred_parts.specs.Shown.{entries_of}
-use Rattle.late_commits.specs.Orders.{IsFree, due_for}
-use Rattle.late_commits.specs.Waiting.{data_with}
-use Rattle.late_data.proofs.Composing.{back_fails, commits_after, commits_as, commits_none}
-use Rattle.late_data.proofs.Tying.{free_lacks}
+use Rattle.write_back.specs.declared.entry.Entry.{Entry}
+use Rattle.write_back.specs.Entries.{cells_on, ranges_in, parts_in}
+use Rattle.write_back.specs.Shown.{entries_of}
+use Rattle.write_back.specs.Orders.{IsFree, due_for}
+use Rattle.write_back.specs.Waiting.{data_with}
+use Rattle.write_back.proofs.Composing.{back_fails, commits_after, commits_as, commits_none}
+use Rattle.write_back.proofs.Tying.{free_lacks}
 use Rattle.row_bytes.specs.declared.ballot.Ballot.{Ballot}
 use Rattle.eaw_device.specs.Costs.{commit_cost, joining_cost}
 use Rattle.eaw_device.specs.Groups.{HaveCells, HaveEntries, HaveParts, group_count}

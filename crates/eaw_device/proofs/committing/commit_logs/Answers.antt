@@ -12,11 +12,11 @@ use Rattle.array_shape.proofs.Sets.{none_has, small_from_bits}
 use Rattle.array_image.specs.Standing.{SameCells}
 use Rattle.coordinator.specs.declared.cells.Cells.{Cells}
 use Rattle.coordinator.specs.Commits.{cells_in, parts_named}
-use Rattle.deferred_parts.specs.Shown.{entries_of}
+use Rattle.write_back.specs.Shown.{entries_of}
 use Rattle.eaw_face.specs.State.{listed, group_log, count_on}
-use Rattle.late_commits.specs.Orders.{IsFree, due_for}
-use Rattle.late_commits.specs.Waiting.{data_with}
-use Rattle.late_data.proofs.Composing.{back_fails, commits_after, commits_as, commits_none}
+use Rattle.write_back.specs.Orders.{IsFree, due_for}
+use Rattle.write_back.specs.Waiting.{data_with}
+use Rattle.write_back.proofs.Composing.{back_fails, commits_after, commits_as, commits_none}
 use Rattle.row_bytes.specs.declared.ballot.Ballot.{Ballot}
 use Rattle.eaw_device.specs.Costs.{commit_cost, group_of, joining_cost, with_entries}
 use Rattle.eaw_device.specs.Groups.{HaveCells, group_count}

@@ -4,7 +4,7 @@ use Rattle.std.proofs.lemmas.Bool.{eqb-true, eqb-false, lt-ltb, le-ltb}
 use Rattle.array_shape.proofs.Sets.{passed_first, passed_with, passed_skip, passed_past, passed_at}
 use Rattle.eaw_face.specs.State.{listed}
 use Rattle.eaw_device.specs.Logs.{ranges_logged}
-use Rattle.deferred_parts.specs.Entries.{ranges_in}
+use Rattle.write_back.specs.Entries.{ranges_in}
 use Rattle.eaw_device.proofs.Entries.{length-ranges_in}
 use Rattle.eaw_device.proofs.Tables.{found_log, ranges_there}
 use Rattle.eaw_device.proofs.committing.logged.Goals as goal

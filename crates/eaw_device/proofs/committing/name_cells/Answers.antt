@@ -3,9 +3,9 @@ use Rattle.std.specs.Prelude.{slice_index}
 use Rattle.std.proofs.lemmas.Bool.{cases_eq}
 use Rattle.coordinator.specs.declared.cells.Cells.{Cells}
 use Rattle.coordinator.specs.Commits.{cells_in}
-use Rattle.deferred_parts.specs.Entries.{cells_on}
+use Rattle.write_back.specs.Entries.{cells_on}
 use Rattle.row_bytes.specs.declared.ballot.Ballot.{Ballot}
-use Rattle.late_commits.specs.Orders.{IsFree}
+use Rattle.write_back.specs.Orders.{IsFree}
 use Rattle.eaw_device.proofs.Keeping.{first_few}
 use Rattle.eaw_device.proofs.committing.name_cells.Goals as goal
 

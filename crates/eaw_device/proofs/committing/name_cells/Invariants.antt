@@ -2,9 +2,9 @@ use Rattle.std.proofs.Common.{◌≡◌, ◌≢◌, ◌-◌, ℕ, ◌<◌, Bool,
 use Rattle.std.specs.Prelude.{slice_index}
 use Rattle.pcm_media.specs.Images.{Content}
 use Rattle.coordinator.specs.Commits.{cells_in}
-use Rattle.deferred_parts.specs.Entries.{cells_on}
-use Rattle.late_commits.specs.Waiting.{AreWaiting, data_with}
-use Rattle.late_data.specs.Tied.{IsReady, IsTied}
+use Rattle.write_back.specs.Entries.{cells_on}
+use Rattle.write_back.specs.Waiting.{AreWaiting, data_with}
+use Rattle.write_back.specs.Tied.{IsReady, IsTied}
 use Rattle.eaw_device.proofs.committing.name_cells.Given as goal
 
 abbrev pub invariant-loop-logger : goal.invariant-loop-logger

@@ -3,13 +3,13 @@ use Rattle.std.specs.Prelude.{All, nat_lt}
 use Rattle.std.proofs.lemmas.List.{length-drop, take_all}
 use Rattle.std.proofs.lemmas.List.Elements.{All-drop}
 use Rattle.array_shape.specs.Logged.{ranges_of}
-use Rattle.deferred_parts.specs.declared.entry.Entry.{Entry}
-use Rattle.deferred_parts.specs.Entries.{AreHeld, IsEntry, ranges_in, parts_in}
-use Rattle.deferred_parts.specs.declared.deferred.DeferredParts.{DeferredParts}
-use Rattle.deferred_parts.specs.Shown.{entries_of}
-use Rattle.late_commits.specs.declared.queue.LateCommits.{LateCommits}
-use Rattle.late_commits.specs.Waiting.{AreWaiting}
-use Rattle.late_data.specs.Tied.{AreTied, IsTied}
+use Rattle.write_back.specs.declared.entry.Entry.{Entry}
+use Rattle.write_back.specs.Entries.{AreHeld, IsEntry, ranges_in, parts_in}
+use Rattle.write_back.specs.declared.deferred.DeferredParts.{DeferredParts}
+use Rattle.write_back.specs.Shown.{entries_of}
+use Rattle.write_back.specs.declared.queue.LateCommits.{LateCommits}
+use Rattle.write_back.specs.Waiting.{AreWaiting}
+use Rattle.write_back.specs.Tied.{AreTied, IsTied}
 use Rattle.eaw_device.proofs.Keeping.{length-cells_on_kept}
 use Rattle.eaw_device.proofs.Entries.{few_entries}
 use Rattle.eaw_device.proofs.LogParts.{heads_left, kept_entries}

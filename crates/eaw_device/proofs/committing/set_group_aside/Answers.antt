@@ -5,11 +5,11 @@ use Rattle.std.proofs.lemmas.Bool.{cases_eq, false≢true}
 use Rattle.array_shape.specs.NumberSet.{has}
 use Rattle.coordinator.specs.declared.cells.Cells.{Cells}
 use Rattle.coordinator.specs.Commits.{cells_in}
-use Rattle.deferred_parts.specs.Entries.{cells_on}
-use Rattle.deferred_parts.specs.Shown.{entries_of}
-use Rattle.deferred_parts.specs.Turns.{has_some}
+use Rattle.write_back.specs.Entries.{cells_on}
+use Rattle.write_back.specs.Shown.{entries_of}
+use Rattle.write_back.specs.Turns.{has_some}
 use Rattle.eaw_face.specs.State.{listed, count_on}
-use Rattle.late_data.proofs.Tying.{free_lacks}
+use Rattle.write_back.proofs.Tying.{free_lacks}
 use Rattle.eaw_device.specs.declared.log.Log.{Log}
 use Rattle.eaw_device.specs.Logs.{ranges_logged}
 use Rattle.eaw_device.proofs.Aside.{aside_as, below, below_next, not_below}

@@ -4,11 +4,11 @@ use Rattle.std.specs.Option.{ForSome}
 use Rattle.pcm_media.specs.Images.{Content}
 use Rattle.array_shape.specs.NumberSet.{has}
 use Rattle.coordinator.specs.Commits.{cells_in}
-use Rattle.deferred_parts.specs.Entries.{AreHeld}
-use Rattle.deferred_parts.specs.Shown.{entries_of}
+use Rattle.write_back.specs.Entries.{AreHeld}
+use Rattle.write_back.specs.Shown.{entries_of}
 use Rattle.eaw_face.specs.State.{listed, count_on}
-use Rattle.late_commits.specs.Waiting.{AreWaiting, data_with}
-use Rattle.late_data.specs.Tied.{IsReady, IsTied}
+use Rattle.write_back.specs.Waiting.{AreWaiting, data_with}
+use Rattle.write_back.specs.Tied.{IsReady, IsTied}
 use Rattle.eaw_device.specs.Logs.{IsHeld, ranges_logged}
 use Rattle.eaw_device.proofs.Aside.{below}
 use Rattle.eaw_device.proofs.committing.set_group_aside.Given as goal

@@ -1,4 +1,4 @@
-use Rattle.std.proofs.Common.{◌≡◌, ℕ, Bool, true, false, List, Option, Some, None, Result, Ok, Err, refl, sym, ap, subst}
+use Rattle.std.proofs.Common.{◌≡◌, ℕ, Bool, true, false, List, length, Option, Some, None, Result, Ok, Err, refl, sym, ap, subst}
 use Rattle.std.specs.Prelude.{IfOk, if◌then◌else◌}
 use Rattle.page_store.specs.Index as below
 use Rattle.page_store.specs.Shown.{PagesView, pages_of}
@@ -9,6 +9,7 @@ use Rattle.history.specs.declared.call.Reply.{Reply}
 use Rattle.history.specs.declared.call.Reply.TheVariants as reply
 use Rattle.caller_steps.specs.Fate.{is_refusal, is_committed}
 use Rattle.caller_steps.specs.Step.{uses_index}
+use Rattle.caller_steps.specs.Cause.{IsOfKind}
 use Rattle.record_table.specs.Does.{Does}
 use Rattle.record_table.specs.Names.{names_of}
 use Rattle.record_table.specs.declared.fault.TableFault.{TableFault}
@@ -20,25 +21,26 @@ use Rattle.mars_core.proofs.asking.work.Goals as goal
 
 -- a call that uses the index, as the records made it
 works_of : (tells : Bool) (Opens : List ℕ → List ℕ → Type 0) (index : below.Index) (table t : ℕ) (one other : Call) (p q : PagesView) (r : Result Reply TableFault) → other ≡ one → uses_index one ≡ true
-    → IfOk r (λ answer. (is_refusal answer ≡ false) × (is_committed answer ≡ false)) → Does tells Opens index table t one p q r → Works tells Opens index table t other p q r
+    → IfOk r (λ answer. (is_refusal answer ≡ false) × (is_committed answer ≡ false) × IsOfKind (length (p.counts t)) one answer) → Does tells Opens index table t one p q r → Works tells Opens index table t other p q r
 works_of tells Opens index table t one other p q r same uses plain does = subst (λ (k : Call). Works tells Opens index table t k p q r) (sym same) (record {
   does = does;
   due = λ media. uses;
   granted = weaker r (λ answer both. both.0) plain;
   plain = weaker r (λ answer both. both.1) plain;
+  kind = weaker r (λ answer both. both.2) plain;
 })
   where
     weaker : {A B : Reply → Type 0} (r : Result Reply TableFault) → ((x : Reply) → A x → B x) → IfOk r A → IfOk r B
     weaker (Ok x) f h = f x h
     weaker (Err e) f h = tt
 
-found_plain : (o : Option (List ℕ)) → (is_refusal (found o) ≡ false) × (is_committed (found o) ≡ false)
-found_plain None = (refl, refl)
-found_plain (Some value) = (refl, refl)
+found_plain : (n : ℕ) (name : List ℕ) (key : ℕ) (o : Option (List ℕ)) → (is_refusal (found o) ≡ false) × (is_committed (found o) ≡ false) × IsOfKind n (call.Get name key) (found o)
+found_plain n name key None = (refl, refl, tt)
+found_plain n name key (Some value) = (refl, refl, tt)
 
-removed_plain : (was : Bool) → (let r : Reply = if was then reply.Fine else reply.Absent in (is_refusal r ≡ false) × (is_committed r ≡ false))
-removed_plain true = (refl, refl)
-removed_plain false = (refl, refl)
+removed_plain : (n : ℕ) (name : List ℕ) (key : ℕ) (was : Bool) → (let r : Reply = if was then reply.Fine else reply.Absent in (is_refusal r ≡ false) × (is_committed r ≡ false) × IsOfKind n (call.Del name key) r)
+removed_plain n name key true = (refl, refl, tt)
+removed_plain n name key false = (refl, refl, tt)
 
 pub get-requires-clause-there : goal.get-requires-clause-there
 get-requires-clause-there g c = λ told alive.
@@ -46,7 +48,7 @@ get-requires-clause-there g c = λ told alive.
 
 pub returns-in-Ok : goal.returns-in-Ok
 returns-in-Ok g c = record {
-  works = works_of g.S.EawStore.tells (g.S.EawStore.opens (g.S.EawStore.view c.args.records.now.store).shape) g.K.KeyIndex.index c.args.table c.args.tid (call.Get c.in-Get.table.now c.in-Get.key) (call_of c.args.asked) (pages_of (g.S.EawStore.view c.args.records.now.store) c.args.records.now) (pages_of (g.S.EawStore.view c.get.new.self.store) c.get.new.self) (Ok c.found.result) (ap call_of c.in-Get.is) refl (subst (λ (r : Reply). (is_refusal r ≡ false) × (is_committed r ≡ false)) (sym c.found.ensures) (found_plain c.in-Ok.value))
+  works = works_of g.S.EawStore.tells (g.S.EawStore.opens (g.S.EawStore.view c.args.records.now.store).shape) g.K.KeyIndex.index c.args.table c.args.tid (call.Get c.in-Get.table.now c.in-Get.key) (call_of c.args.asked) (pages_of (g.S.EawStore.view c.args.records.now.store) c.args.records.now) (pages_of (g.S.EawStore.view c.get.new.self.store) c.get.new.self) (Ok c.found.result) (ap call_of c.in-Get.is) refl (subst (λ (r : Reply). (is_refusal r ≡ false) × (is_committed r ≡ false) × IsOfKind (length ((pages_of (g.S.EawStore.view c.args.records.now.store) c.args.records.now).counts c.args.tid)) (call.Get c.in-Get.table.now c.in-Get.key) r) (sym c.found.ensures) (found_plain (length ((pages_of (g.S.EawStore.view c.args.records.now.store) c.args.records.now).counts c.args.tid)) c.in-Get.table.now c.in-Get.key c.in-Ok.value))
       (subst (λ (r : Reply). Does g.S.EawStore.tells (g.S.EawStore.opens (g.S.EawStore.view c.args.records.now.store).shape) g.K.KeyIndex.index c.args.table c.args.tid (call.Get c.in-Get.table.now c.in-Get.key) (pages_of (g.S.EawStore.view c.args.records.now.store) c.args.records.now) (pages_of (g.S.EawStore.view c.get.new.self.store) c.get.new.self) (Ok r)) (sym c.found.ensures) (c.in-Ok.ensures.does c.in-Get.table.now (λ told alive. number_at (names_of (g.S.EawStore.view c.args.records.now.store).state.bytes) c.in-Get.table.now c.args.table (subst (λ (k : Call). number_for (names_of (g.S.EawStore.view c.args.records.now.store).state.bytes) k ≡ Some c.args.table) (ap call_of c.in-Get.is) (c.requires.asked told alive)))));
 }
 
@@ -62,7 +64,7 @@ put-requires-clause-there g c = λ told alive.
 
 pub returns-in-Ok-put : goal.returns-in-Ok-put
 returns-in-Ok-put g c = record {
-  works = works_of g.S.EawStore.tells (g.S.EawStore.opens (g.S.EawStore.view c.args.records.now.store).shape) g.K.KeyIndex.index c.args.table c.args.tid (call.Put c.in-Put.table.now c.in-Put.key c.in-Put.value.now) (call_of c.args.asked) (pages_of (g.S.EawStore.view c.args.records.now.store) c.args.records.now) (pages_of (g.S.EawStore.view c.put.new.self.store) c.put.new.self) (Ok reply.Fine) (ap call_of c.in-Put.is) refl (refl, refl)
+  works = works_of g.S.EawStore.tells (g.S.EawStore.opens (g.S.EawStore.view c.args.records.now.store).shape) g.K.KeyIndex.index c.args.table c.args.tid (call.Put c.in-Put.table.now c.in-Put.key c.in-Put.value.now) (call_of c.args.asked) (pages_of (g.S.EawStore.view c.args.records.now.store) c.args.records.now) (pages_of (g.S.EawStore.view c.put.new.self.store) c.put.new.self) (Ok reply.Fine) (ap call_of c.in-Put.is) refl (refl, refl, tt)
       (c.in-Ok-put.ensures.does c.in-Put.table.now (λ told alive. number_at (names_of (g.S.EawStore.view c.args.records.now.store).state.bytes) c.in-Put.table.now c.args.table (subst (λ (k : Call). number_for (names_of (g.S.EawStore.view c.args.records.now.store).state.bytes) k ≡ Some c.args.table) (ap call_of c.in-Put.is) (c.requires.asked told alive))));
 }
 
@@ -78,7 +80,7 @@ del-requires-clause-there g c = λ told alive.
 
 pub returns-in-Ok-del : goal.returns-in-Ok-del
 returns-in-Ok-del g c = record {
-  works = works_of g.S.EawStore.tells (g.S.EawStore.opens (g.S.EawStore.view c.args.records.now.store).shape) g.K.KeyIndex.index c.args.table c.args.tid (call.Del c.in-Del.table.now c.in-Del.key) (call_of c.args.asked) (pages_of (g.S.EawStore.view c.args.records.now.store) c.args.records.now) (pages_of (g.S.EawStore.view c.del.new.self.store) c.del.new.self) (Ok c.removed.result) (ap call_of c.in-Del.is) refl (subst (λ (r : Reply). (is_refusal r ≡ false) × (is_committed r ≡ false)) (sym c.removed.ensures) (removed_plain c.in-Ok-del.was))
+  works = works_of g.S.EawStore.tells (g.S.EawStore.opens (g.S.EawStore.view c.args.records.now.store).shape) g.K.KeyIndex.index c.args.table c.args.tid (call.Del c.in-Del.table.now c.in-Del.key) (call_of c.args.asked) (pages_of (g.S.EawStore.view c.args.records.now.store) c.args.records.now) (pages_of (g.S.EawStore.view c.del.new.self.store) c.del.new.self) (Ok c.removed.result) (ap call_of c.in-Del.is) refl (subst (λ (r : Reply). (is_refusal r ≡ false) × (is_committed r ≡ false) × IsOfKind (length ((pages_of (g.S.EawStore.view c.args.records.now.store) c.args.records.now).counts c.args.tid)) (call.Del c.in-Del.table.now c.in-Del.key) r) (sym c.removed.ensures) (removed_plain (length ((pages_of (g.S.EawStore.view c.args.records.now.store) c.args.records.now).counts c.args.tid)) c.in-Del.table.now c.in-Del.key c.in-Ok-del.was))
       (subst (λ (r : Reply). Does g.S.EawStore.tells (g.S.EawStore.opens (g.S.EawStore.view c.args.records.now.store).shape) g.K.KeyIndex.index c.args.table c.args.tid (call.Del c.in-Del.table.now c.in-Del.key) (pages_of (g.S.EawStore.view c.args.records.now.store) c.args.records.now) (pages_of (g.S.EawStore.view c.del.new.self.store) c.del.new.self) (Ok r)) (sym c.removed.ensures) (c.in-Ok-del.ensures.does c.in-Del.table.now (λ told alive. number_at (names_of (g.S.EawStore.view c.args.records.now.store).state.bytes) c.in-Del.table.now c.args.table (subst (λ (k : Call). number_for (names_of (g.S.EawStore.view c.args.records.now.store).state.bytes) k ≡ Some c.args.table) (ap call_of c.in-Del.is) (c.requires.asked told alive)))));
 }
 
@@ -94,7 +96,7 @@ scan-requires-clause-there g c = λ told alive.
 
 pub returns-in-Ok-scan : goal.returns-in-Ok-scan
 returns-in-Ok-scan g c = record {
-  works = works_of g.S.EawStore.tells (g.S.EawStore.opens (g.S.EawStore.view c.args.records.now.store).shape) g.K.KeyIndex.index c.args.table c.args.tid (call.Scan c.in-Scan.table.now c.in-Scan.low c.in-Scan.high) (call_of c.args.asked) (pages_of (g.S.EawStore.view c.args.records.now.store) c.args.records.now) (pages_of (g.S.EawStore.view c.scan.new.self.store) c.scan.new.self) (Ok (reply.Listed c.in-Ok-scan.rows)) (ap call_of c.in-Scan.is) refl (refl, refl)
+  works = works_of g.S.EawStore.tells (g.S.EawStore.opens (g.S.EawStore.view c.args.records.now.store).shape) g.K.KeyIndex.index c.args.table c.args.tid (call.Scan c.in-Scan.table.now c.in-Scan.low c.in-Scan.high) (call_of c.args.asked) (pages_of (g.S.EawStore.view c.args.records.now.store) c.args.records.now) (pages_of (g.S.EawStore.view c.scan.new.self.store) c.scan.new.self) (Ok (reply.Listed c.in-Ok-scan.rows)) (ap call_of c.in-Scan.is) refl (refl, refl, tt)
       (c.in-Ok-scan.ensures.does c.in-Scan.table.now (λ told alive. number_at (names_of (g.S.EawStore.view c.args.records.now.store).state.bytes) c.in-Scan.table.now c.args.table (subst (λ (k : Call). number_for (names_of (g.S.EawStore.view c.args.records.now.store).state.bytes) k ≡ Some c.args.table) (ap call_of c.in-Scan.is) (c.requires.asked told alive))));
 }
 

@@ -4,7 +4,7 @@ use Rattle.array_shape.specs.declared.shape.Shape.{Shape}
 use Rattle.page_store.specs.Shown.{pages_of}
 use Rattle.mars_core.specs.Purging.{IsOfTable, IsOfFirst, Clears}
 use Rattle.mars_core.proofs.Clearing.{going_first, going_more, counted_more, more_refused, going_to, all_tried}
-use Rattle.mars_core.proofs.Passing.{first_none, first_more, sum_is}
+use Rattle.mars_core.proofs.Passing.{first_none, first_more, first_both, first_before, first_all, sum_is}
 use Rattle.mars_core.proofs.purging.clear.Goals as goal
 
 pub loop-table-init : goal.loop-table-init
@@ -25,11 +25,13 @@ loop-table-preserved g c =
     let q = pages_of (V c.clear_table.new.records.store) c.clear_table.new.records in
     let clears = subst (λ (s : Shape). Clears g.S.EawStore.tells (g.S.EawStore.opens s) g.K.KeyIndex.index c.args.seats.now c.args.caller (IsOfTable c.in-Some.name) (pages_of (g.S.EawStore.view c.loop-table.records.store) c.loop-table.records)
     (pages_of (g.S.EawStore.view c.clear_table.new.records.store) c.clear_table.new.records) (Ok c.in-Ok.more)) c.loop-table.invariant.shape c.in-Ok.ensures.clears in
-    let on = going_more T E I c.args.seats.now c.args.caller p c.requires.alive (IsOfFirst names c.loop-table.table) c.loop-table.taken m c.loop-table.invariant q (IsOfTable c.in-Some.name) c.in-Ok.more clears in
+    let at = ap (λ (ns : List (List ℕ)). slice_get ns c.loop-table.table) (sym c.names-in-loop-table.ensures) ∙ (sym c.name.ensures ∙ c.in-Some.is) in
+    let on = going_more T E I c.args.seats.now c.args.caller p c.requires.alive (IsOfFirst names c.loop-table.table) c.loop-table.taken m c.loop-table.invariant q (IsOfTable c.in-Some.name) c.in-Ok.more clears
+    (λ told. first_before names c.loop-table.table c.in-Some.name at) in
     going_to T E I c.args.seats.now c.args.caller (c.loop-table.taken + c.in-Ok.more) c.saturating_add-taken.result _ (IsOfFirst names (c.loop-table.table + 1)) p q
     (λ told. sum_is c.loop-table.taken c.in-Ok.more c.saturating_add-taken.result c.saturating_add-taken.ensures
     (counted_more T E I c.args.seats.now c.args.caller p c.requires.alive (IsOfFirst names c.loop-table.table) c.loop-table.taken m c.loop-table.invariant q (IsOfTable c.in-Some.name) c.in-Ok.more clears told (c.requires.ready told)))
-    (λ told key of is. first_more names c.loop-table.table c.in-Some.name (ap (λ (ns : List (List ℕ)). slice_get ns c.loop-table.table) (sym c.names-in-loop-table.ensures) ∙ (sym c.name.ensures ∙ c.in-Some.is)) key of) on
+    (λ told key of is. first_more names c.loop-table.table c.in-Some.name at key of) (λ told. first_both names c.loop-table.table c.in-Some.name at) on
 
 pub returns-in-Err : goal.returns-in-Err
 returns-in-Err g c =
@@ -53,5 +55,5 @@ returns g c =
     let m = pages_of (V c.loop-table.records.store) c.loop-table.records in
     record {
       clears = all_tried g.S.EawStore.tells (g.S.EawStore.opens (V c.args.records.now.store).shape) g.K.KeyIndex.index c.args.seats.now c.args.caller p c.requires.alive (IsOfFirst names c.loop-table.table) c.loop-table.taken m c.loop-table.invariant
-          (IsOfFirst names (length names)) (λ told key of is. (of.0, omega (arith, of.1, c.loop-table-test.false, c.count-table-end.ensures.count, ap length c.names.ensures), of.2, of.3));
+          (IsOfFirst names (length names)) (λ told key of is. (of.0, omega (arith, of.1, c.loop-table-test.false, c.count-table-end.ensures.count, ap length c.names.ensures), of.2, of.3)) (λ told. first_all names c.loop-table.table);
     }

@@ -12,7 +12,7 @@ use Rattle.record_table.specs.Removing.{IsAbsent, IsNextAbsent}
 use Rattle.record_table.specs.declared.fault.TableFault.{TableFault}
 use Rattle.mars_core.specs.Purging.{IsBelow, IsOfTable, Tries}
 use Rattle.mars_core.proofs.Clearing.{one_if, going_first, going_look, going_on, going_to, next_still, all_tried, counted, was_absent, look_refused, try_refused}
-use Rattle.mars_core.proofs.Passing.{there, all_below, below_next, below_none}
+use Rattle.mars_core.proofs.Passing.{there, all_below, below_next, below_none, below_more, below_both, below_before}
 use Rattle.mars_core.proofs.purging.clear_table.Goals as goal
 
 -- what is found is found in the table of this name
@@ -30,16 +30,17 @@ returns-in-Ok-None g c =
     let p = pages_of (V c.args.records.now.store) c.args.records.now in
     let m = pages_of (V c.loop-key.records.store) c.loop-key.records in
     let q = pages_of (V c.next_absent.new.self.store) c.next_absent.new.self in
-    let looks = subst (λ (s : Shape). Looks g.S.EawStore.tells (g.S.EawStore.opens s) false (pages_of (g.S.EawStore.view c.loop-key.records.store) c.loop-key.records) (pages_of (g.S.EawStore.view c.next_absent.new.self.store) c.next_absent.new.self)) c.loop-key.invariant.shape c.in-Ok-None.ensures.looks in
-    let going = going_look T E I c.args.seats.now c.args.caller p c.requires.alive (IsBelow c.args.name.now c.loop-key.from) c.loop-key.taken m c.loop-key.invariant q looks in
-    let next = λ (told : IsTrue g.S.EawStore.tells). next_still T E I m q c.args.name.now c.loop-key.from (None) looks told (named_next c.args.seats.now.names c.args.table c.args.name.now I (V c.loop-key.records.store).state.bytes c.loop-key.from (None) (c.loop-key.invariant.ready told).named c.requires.named (rw c.in-Ok-None.field-0-is at (c.in-Ok-None.ensures.next told))) in
+    let looks = subst (λ (s : Shape). Looks g.S.EawStore.tells (g.S.EawStore.opens s) false (pages_of (g.S.EawStore.view c.loop-key.records.store) c.loop-key.records) (pages_of (g.S.EawStore.view c.next_absent.new.self.store) c.next_absent.new.self)) c.loop-key.invariant.0.shape c.in-Ok-None.ensures.looks in
+    let going = going_look T E I c.args.seats.now c.args.caller p c.requires.alive (IsBelow c.args.name.now c.loop-key.from) c.loop-key.taken m c.loop-key.invariant.0 q looks in
+    let next = λ (told : IsTrue g.S.EawStore.tells). next_still T E I m q c.args.name.now c.loop-key.from (None) looks told (named_next c.args.seats.now.names c.args.table c.args.name.now I (V c.loop-key.records.store).state.bytes c.loop-key.from (None) (c.loop-key.invariant.0.ready told).named c.requires.named (rw c.in-Ok-None.field-0-is at (c.in-Ok-None.ensures.next told))) in
     record {
-      clears = all_tried T E I c.args.seats.now c.args.caller p c.requires.alive (IsBelow c.args.name.now c.loop-key.from) c.loop-key.taken q going (IsOfTable c.args.name.now) (λ told. all_below I q.store.state.bytes c.args.name.now c.loop-key.from (next told));
+      clears = all_tried T E I c.args.seats.now c.args.caller p c.requires.alive (IsBelow c.args.name.now c.loop-key.from) c.loop-key.taken q going (IsOfTable c.args.name.now) (λ told. all_below I q.store.state.bytes c.args.name.now c.loop-key.from (next told))
+          (λ told. below_more c.args.name.now c.loop-key.from (2 ^ 64) (omega (arith, c.loop-key.invariant.1)));
     }
 
 pub next_absent-requires-clause-there : goal.next_absent-requires-clause-there
 next_absent-requires-clause-there g c = λ told alive.
-    subst (λ (ns : List (List ℕ)). c.args.table < length ns) (sym (c.loop-key.invariant.ready told).named) (there c.args.seats.now.names c.args.table c.args.name.now c.requires.named)
+    subst (λ (ns : List (List ℕ)). c.args.table < length ns) (sym (c.loop-key.invariant.0.ready told).named) (there c.args.seats.now.names c.args.table c.args.name.now c.requires.named)
 
 pub try_key-requires-clause-ready : goal.try_key-requires-clause-ready
 try_key-requires-clause-ready g c =
@@ -50,8 +51,8 @@ try_key-requires-clause-ready g c =
     let p = pages_of (V c.args.records.now.store) c.args.records.now in
     let m = pages_of (V c.loop-key.records.store) c.loop-key.records in
     let q = pages_of (V c.next_absent.new.self.store) c.next_absent.new.self in
-    let looks = subst (λ (s : Shape). Looks g.S.EawStore.tells (g.S.EawStore.opens s) false (pages_of (g.S.EawStore.view c.loop-key.records.store) c.loop-key.records) (pages_of (g.S.EawStore.view c.next_absent.new.self.store) c.next_absent.new.self)) c.loop-key.invariant.shape c.in-Ok-Some.ensures.looks in
-    (going_look T E I c.args.seats.now c.args.caller p c.requires.alive (IsBelow c.args.name.now c.loop-key.from) c.loop-key.taken m c.loop-key.invariant q looks).ready
+    let looks = subst (λ (s : Shape). Looks g.S.EawStore.tells (g.S.EawStore.opens s) false (pages_of (g.S.EawStore.view c.loop-key.records.store) c.loop-key.records) (pages_of (g.S.EawStore.view c.next_absent.new.self.store) c.next_absent.new.self)) c.loop-key.invariant.0.shape c.in-Ok-Some.ensures.looks in
+    (going_look T E I c.args.seats.now c.args.caller p c.requires.alive (IsBelow c.args.name.now c.loop-key.from) c.loop-key.taken m c.loop-key.invariant.0 q looks).ready
 
 pub try_key-requires-clause-absent : goal.try_key-requires-clause-absent
 try_key-requires-clause-absent g c =
@@ -62,8 +63,8 @@ try_key-requires-clause-absent g c =
     let p = pages_of (V c.args.records.now.store) c.args.records.now in
     let m = pages_of (V c.loop-key.records.store) c.loop-key.records in
     let q = pages_of (V c.next_absent.new.self.store) c.next_absent.new.self in
-    let looks = subst (λ (s : Shape). Looks g.S.EawStore.tells (g.S.EawStore.opens s) false (pages_of (g.S.EawStore.view c.loop-key.records.store) c.loop-key.records) (pages_of (g.S.EawStore.view c.next_absent.new.self.store) c.next_absent.new.self)) c.loop-key.invariant.shape c.in-Ok-Some.ensures.looks in
-    let next = λ (told : IsTrue g.S.EawStore.tells). next_still T E I m q c.args.name.now c.loop-key.from (Some c.in-Ok-Some.key) looks told (named_next c.args.seats.now.names c.args.table c.args.name.now I (V c.loop-key.records.store).state.bytes c.loop-key.from (Some c.in-Ok-Some.key) (c.loop-key.invariant.ready told).named c.requires.named (rw c.in-Ok-Some.field-0-is at (c.in-Ok-Some.ensures.next told))) in
+    let looks = subst (λ (s : Shape). Looks g.S.EawStore.tells (g.S.EawStore.opens s) false (pages_of (g.S.EawStore.view c.loop-key.records.store) c.loop-key.records) (pages_of (g.S.EawStore.view c.next_absent.new.self.store) c.next_absent.new.self)) c.loop-key.invariant.0.shape c.in-Ok-Some.ensures.looks in
+    let next = λ (told : IsTrue g.S.EawStore.tells). next_still T E I m q c.args.name.now c.loop-key.from (Some c.in-Ok-Some.key) looks told (named_next c.args.seats.now.names c.args.table c.args.name.now I (V c.loop-key.records.store).state.bytes c.loop-key.from (Some c.in-Ok-Some.key) (c.loop-key.invariant.0.ready told).named c.requires.named (rw c.in-Ok-Some.field-0-is at (c.in-Ok-Some.ensures.next told))) in
     (λ told. (next told).1)
 
 -- the count after a key was tried
@@ -80,17 +81,21 @@ loop-key-preserved g c =
     let p = pages_of (V c.args.records.now.store) c.args.records.now in
     let m = pages_of (V c.loop-key.records.store) c.loop-key.records in
     let q = pages_of (V c.next_absent.new.self.store) c.next_absent.new.self in
-    let looks = subst (λ (s : Shape). Looks g.S.EawStore.tells (g.S.EawStore.opens s) false (pages_of (g.S.EawStore.view c.loop-key.records.store) c.loop-key.records) (pages_of (g.S.EawStore.view c.next_absent.new.self.store) c.next_absent.new.self)) c.loop-key.invariant.shape c.in-Ok-Some.ensures.looks in
-    let going = going_look T E I c.args.seats.now c.args.caller p c.requires.alive (IsBelow c.args.name.now c.loop-key.from) c.loop-key.taken m c.loop-key.invariant q looks in
-    let next = λ (told : IsTrue g.S.EawStore.tells). next_still T E I m q c.args.name.now c.loop-key.from (Some c.in-Ok-Some.key) looks told (named_next c.args.seats.now.names c.args.table c.args.name.now I (V c.loop-key.records.store).state.bytes c.loop-key.from (Some c.in-Ok-Some.key) (c.loop-key.invariant.ready told).named c.requires.named (rw c.in-Ok-Some.field-0-is at (c.in-Ok-Some.ensures.next told))) in
+    let looks = subst (λ (s : Shape). Looks g.S.EawStore.tells (g.S.EawStore.opens s) false (pages_of (g.S.EawStore.view c.loop-key.records.store) c.loop-key.records) (pages_of (g.S.EawStore.view c.next_absent.new.self.store) c.next_absent.new.self)) c.loop-key.invariant.0.shape c.in-Ok-Some.ensures.looks in
+    let going = going_look T E I c.args.seats.now c.args.caller p c.requires.alive (IsBelow c.args.name.now c.loop-key.from) c.loop-key.taken m c.loop-key.invariant.0 q looks in
+    let next = λ (told : IsTrue g.S.EawStore.tells). next_still T E I m q c.args.name.now c.loop-key.from (Some c.in-Ok-Some.key) looks told (named_next c.args.seats.now.names c.args.table c.args.name.now I (V c.loop-key.records.store).state.bytes c.loop-key.from (Some c.in-Ok-Some.key) (c.loop-key.invariant.0.ready told).named c.requires.named (rw c.in-Ok-Some.field-0-is at (c.in-Ok-Some.ensures.next told))) in
     let r = pages_of (V c.try_key.new.records.store) c.try_key.new.records in
     let key = of_table c.args.name.now c.in-Ok-Some.key in
     let tries = subst (λ (s : Shape). Tries g.S.EawStore.tells (g.S.EawStore.opens s) g.K.KeyIndex.index c.args.seats.now c.args.table (of_table c.args.name.now c.in-Ok-Some.key) (pages_of (g.S.EawStore.view c.next_absent.new.self.store) c.next_absent.new.self) (pages_of (g.S.EawStore.view c.try_key.new.records.store) c.try_key.new.records) (Ok c.in-Ok.was)) going.shape c.in-Ok.ensures.tries in
-    let on = going_on T E I c.args.seats.now c.args.caller p c.requires.alive (IsBelow c.args.name.now c.loop-key.from) c.loop-key.taken q going c.args.table key r (λ told. (next told).1) c.in-Ok.was tries in
+    let on = going_on T E I c.args.seats.now c.args.caller p c.requires.alive (IsBelow c.args.name.now c.loop-key.from) c.loop-key.taken q going c.args.table key r (λ told. (next told).1) c.in-Ok.was tries
+    (λ told. below_before c.args.seats.now.names c.args.name.now c.loop-key.from c.in-Ok-Some.key (next told).0) in
     let count = λ (told : IsTrue g.S.EawStore.tells). count_is c.in-Ok.was c.loop-key.taken c.from.result c.saturating_add-taken.result c.from.ensures c.saturating_add-taken.ensures (counted T E I c.args.seats.now c.args.caller p c.requires.alive (IsBelow c.args.name.now c.loop-key.from) c.loop-key.taken q going c.args.table key r (λ told. (next told).1) c.in-Ok.was tries told (c.requires.ready told)) in
     let passed = λ (told : IsTrue g.S.EawStore.tells) (to : ℕ) (le : to ≤ suc c.in-Ok-Some.key) (one : Key) (below : IsBelow c.args.name.now to one) (is : IsAbsent g.K.KeyIndex.index (g.S.EawStore.view c.try_key.new.records.store).state.bytes one).
-    below_next I q.store.state.bytes c.args.name.now c.loop-key.from c.in-Ok-Some.key (next told).2 one (below.0, omega (arith, le, below.1)) (was_absent T E I c.args.seats.now c.args.caller p c.requires.alive (IsBelow c.args.name.now c.loop-key.from) c.loop-key.taken q going c.args.table key r (λ told. (next told).1) c.in-Ok.was tries told one is) in
-    going_to T E I c.args.seats.now c.args.caller (c.loop-key.taken + one_if c.in-Ok.was) c.saturating_add-taken.result _ (IsBelow c.args.name.now (c.in-Ok-Some.key + 1)) p r count (λ told. passed told (c.in-Ok-Some.key + 1) (omega arith)) on
+    below_next I q.store.state.bytes c.args.name.now c.loop-key.from c.in-Ok-Some.key (next told).2 one (below.0, omega (arith, le, below.1)) (was_absent T E I c.args.seats.now c.args.caller p c.requires.alive (IsBelow c.args.name.now c.loop-key.from) c.loop-key.taken q going c.args.table key r (λ told. (next told).1) c.in-Ok.was tries told one is) in (
+      going_to T E I c.args.seats.now c.args.caller (c.loop-key.taken + one_if c.in-Ok.was) c.saturating_add-taken.result _ (IsBelow c.args.name.now (c.in-Ok-Some.key + 1)) p r count (λ told. passed told (c.in-Ok-Some.key + 1) (omega arith))
+          (λ told. below_both c.args.name.now c.loop-key.from c.in-Ok-Some.key (c.in-Ok-Some.key + 1) (next told).0 (omega arith)) on,
+      omega arith,
+    )
 
 pub returns-then-key : goal.returns-then-key
 returns-then-key g c =
@@ -101,27 +106,29 @@ returns-then-key g c =
     let p = pages_of (V c.args.records.now.store) c.args.records.now in
     let m = pages_of (V c.loop-key.records.store) c.loop-key.records in
     let q = pages_of (V c.next_absent.new.self.store) c.next_absent.new.self in
-    let looks = subst (λ (s : Shape). Looks g.S.EawStore.tells (g.S.EawStore.opens s) false (pages_of (g.S.EawStore.view c.loop-key.records.store) c.loop-key.records) (pages_of (g.S.EawStore.view c.next_absent.new.self.store) c.next_absent.new.self)) c.loop-key.invariant.shape c.in-Ok-Some.ensures.looks in
-    let going = going_look T E I c.args.seats.now c.args.caller p c.requires.alive (IsBelow c.args.name.now c.loop-key.from) c.loop-key.taken m c.loop-key.invariant q looks in
-    let next = λ (told : IsTrue g.S.EawStore.tells). next_still T E I m q c.args.name.now c.loop-key.from (Some c.in-Ok-Some.key) looks told (named_next c.args.seats.now.names c.args.table c.args.name.now I (V c.loop-key.records.store).state.bytes c.loop-key.from (Some c.in-Ok-Some.key) (c.loop-key.invariant.ready told).named c.requires.named (rw c.in-Ok-Some.field-0-is at (c.in-Ok-Some.ensures.next told))) in
+    let looks = subst (λ (s : Shape). Looks g.S.EawStore.tells (g.S.EawStore.opens s) false (pages_of (g.S.EawStore.view c.loop-key.records.store) c.loop-key.records) (pages_of (g.S.EawStore.view c.next_absent.new.self.store) c.next_absent.new.self)) c.loop-key.invariant.0.shape c.in-Ok-Some.ensures.looks in
+    let going = going_look T E I c.args.seats.now c.args.caller p c.requires.alive (IsBelow c.args.name.now c.loop-key.from) c.loop-key.taken m c.loop-key.invariant.0 q looks in
+    let next = λ (told : IsTrue g.S.EawStore.tells). next_still T E I m q c.args.name.now c.loop-key.from (Some c.in-Ok-Some.key) looks told (named_next c.args.seats.now.names c.args.table c.args.name.now I (V c.loop-key.records.store).state.bytes c.loop-key.from (Some c.in-Ok-Some.key) (c.loop-key.invariant.0.ready told).named c.requires.named (rw c.in-Ok-Some.field-0-is at (c.in-Ok-Some.ensures.next told))) in
     let r = pages_of (V c.try_key.new.records.store) c.try_key.new.records in
     let key = of_table c.args.name.now c.in-Ok-Some.key in
     let tries = subst (λ (s : Shape). Tries g.S.EawStore.tells (g.S.EawStore.opens s) g.K.KeyIndex.index c.args.seats.now c.args.table (of_table c.args.name.now c.in-Ok-Some.key) (pages_of (g.S.EawStore.view c.next_absent.new.self.store) c.next_absent.new.self) (pages_of (g.S.EawStore.view c.try_key.new.records.store) c.try_key.new.records) (Ok c.in-Ok.was)) going.shape c.in-Ok.ensures.tries in
-    let on = going_on T E I c.args.seats.now c.args.caller p c.requires.alive (IsBelow c.args.name.now c.loop-key.from) c.loop-key.taken q going c.args.table key r (λ told. (next told).1) c.in-Ok.was tries in
+    let on = going_on T E I c.args.seats.now c.args.caller p c.requires.alive (IsBelow c.args.name.now c.loop-key.from) c.loop-key.taken q going c.args.table key r (λ told. (next told).1) c.in-Ok.was tries
+    (λ told. below_before c.args.seats.now.names c.args.name.now c.loop-key.from c.in-Ok-Some.key (next told).0) in
     let count = λ (told : IsTrue g.S.EawStore.tells). count_is c.in-Ok.was c.loop-key.taken c.from.result c.saturating_add-taken.result c.from.ensures c.saturating_add-taken.ensures (counted T E I c.args.seats.now c.args.caller p c.requires.alive (IsBelow c.args.name.now c.loop-key.from) c.loop-key.taken q going c.args.table key r (λ told. (next told).1) c.in-Ok.was tries told (c.requires.ready told)) in
     let passed = λ (told : IsTrue g.S.EawStore.tells) (to : ℕ) (le : to ≤ suc c.in-Ok-Some.key) (one : Key) (below : IsBelow c.args.name.now to one) (is : IsAbsent g.K.KeyIndex.index (g.S.EawStore.view c.try_key.new.records.store).state.bytes one).
     below_next I q.store.state.bytes c.args.name.now c.loop-key.from c.in-Ok-Some.key (next told).2 one (below.0, omega (arith, le, below.1)) (was_absent T E I c.args.seats.now c.args.caller p c.requires.alive (IsBelow c.args.name.now c.loop-key.from) c.loop-key.taken q going c.args.table key r (λ told. (next told).1) c.in-Ok.was tries told one is) in
     record {
       clears = all_tried T E I c.args.seats.now c.args.caller p c.requires.alive (IsBelow c.args.name.now (2 ^ 64)) c.saturating_add-taken.result r
-          (going_to T E I c.args.seats.now c.args.caller (c.loop-key.taken + one_if c.in-Ok.was) c.saturating_add-taken.result _ (IsBelow c.args.name.now (2 ^ 64)) p r count (λ told. passed told (2 ^ 64) (omega (arith, c.if-key.true))) on)
-          (IsOfTable c.args.name.now) (λ told one wanted is. wanted);
+          (going_to T E I c.args.seats.now c.args.caller (c.loop-key.taken + one_if c.in-Ok.was) c.saturating_add-taken.result _ (IsBelow c.args.name.now (2 ^ 64)) p r count (λ told. passed told (2 ^ 64) (omega (arith, c.if-key.true)))
+          (λ told. below_both c.args.name.now c.loop-key.from c.in-Ok-Some.key (2 ^ 64) (next told).0 (omega (arith, c.if-key.true))) on)
+          (IsOfTable c.args.name.now) (λ told one wanted is. wanted) (λ told one passed. passed);
     }
 
 pub loop-key-init : goal.loop-key-init
 loop-key-init g c =
     let V = g.S.EawStore.view in
     let p = pages_of (V c.args.records.now.store) c.args.records.now in
-    going_first g.S.EawStore.tells (g.S.EawStore.opens (V c.args.records.now.store).shape) g.K.KeyIndex.index c.args.seats.now c.args.caller p c.requires.alive (IsBelow c.args.name.now 0) (below_none c.args.name.now) c.requires.ready
+    (going_first g.S.EawStore.tells (g.S.EawStore.opens (V c.args.records.now.store).shape) g.K.KeyIndex.index c.args.seats.now c.args.caller p c.requires.alive (IsBelow c.args.name.now 0) (below_none c.args.name.now) c.requires.ready, omega arith)
 
 pub returns-in-Err : goal.returns-in-Err
 returns-in-Err g c =
@@ -132,8 +139,8 @@ returns-in-Err g c =
     let p = pages_of (V c.args.records.now.store) c.args.records.now in
     let m = pages_of (V c.loop-key.records.store) c.loop-key.records in
     let q = pages_of (V c.next_absent.new.self.store) c.next_absent.new.self in
-    let looks = subst (λ (s : Shape). Looks g.S.EawStore.tells (g.S.EawStore.opens s) (let r : Result (Option ℕ) TableFault = Err c.in-Err.fault in is_failed r) (pages_of (g.S.EawStore.view c.loop-key.records.store) c.loop-key.records) (pages_of (g.S.EawStore.view c.next_absent.new.self.store) c.next_absent.new.self)) c.loop-key.invariant.shape c.in-Err.ensures.looks in
-    record { clears = look_refused T E I c.args.seats.now c.args.caller p c.requires.alive (IsBelow c.args.name.now c.loop-key.from) c.loop-key.taken m c.loop-key.invariant (IsOfTable c.args.name.now) q c.in-Err.fault (looks, c.in-Err.ensures.cause) }
+    let looks = subst (λ (s : Shape). Looks g.S.EawStore.tells (g.S.EawStore.opens s) (let r : Result (Option ℕ) TableFault = Err c.in-Err.fault in is_failed r) (pages_of (g.S.EawStore.view c.loop-key.records.store) c.loop-key.records) (pages_of (g.S.EawStore.view c.next_absent.new.self.store) c.next_absent.new.self)) c.loop-key.invariant.0.shape c.in-Err.ensures.looks in
+    record { clears = look_refused T E I c.args.seats.now c.args.caller p c.requires.alive (IsBelow c.args.name.now c.loop-key.from) c.loop-key.taken m c.loop-key.invariant.0 (IsOfTable c.args.name.now) q c.in-Err.fault (looks, c.in-Err.ensures.cause) }
 
 pub returns-in-Err-try_key : goal.returns-in-Err-try_key
 returns-in-Err-try_key g c =
@@ -144,8 +151,8 @@ returns-in-Err-try_key g c =
     let p = pages_of (V c.args.records.now.store) c.args.records.now in
     let m = pages_of (V c.loop-key.records.store) c.loop-key.records in
     let q = pages_of (V c.next_absent.new.self.store) c.next_absent.new.self in
-    let looks = subst (λ (s : Shape). Looks g.S.EawStore.tells (g.S.EawStore.opens s) false (pages_of (g.S.EawStore.view c.loop-key.records.store) c.loop-key.records) (pages_of (g.S.EawStore.view c.next_absent.new.self.store) c.next_absent.new.self)) c.loop-key.invariant.shape c.in-Ok-Some.ensures.looks in
-    let going = going_look T E I c.args.seats.now c.args.caller p c.requires.alive (IsBelow c.args.name.now c.loop-key.from) c.loop-key.taken m c.loop-key.invariant q looks in
+    let looks = subst (λ (s : Shape). Looks g.S.EawStore.tells (g.S.EawStore.opens s) false (pages_of (g.S.EawStore.view c.loop-key.records.store) c.loop-key.records) (pages_of (g.S.EawStore.view c.next_absent.new.self.store) c.next_absent.new.self)) c.loop-key.invariant.0.shape c.in-Ok-Some.ensures.looks in
+    let going = going_look T E I c.args.seats.now c.args.caller p c.requires.alive (IsBelow c.args.name.now c.loop-key.from) c.loop-key.taken m c.loop-key.invariant.0 q looks in
     let r = pages_of (V c.try_key.new.records.store) c.try_key.new.records in
     let key = of_table c.args.name.now c.in-Ok-Some.key in
     let tries = subst (λ (s : Shape). Tries g.S.EawStore.tells (g.S.EawStore.opens s) g.K.KeyIndex.index c.args.seats.now c.args.table (of_table c.args.name.now c.in-Ok-Some.key) (pages_of (g.S.EawStore.view c.next_absent.new.self.store) c.next_absent.new.self) (pages_of (g.S.EawStore.view c.try_key.new.records.store) c.try_key.new.records) (Err c.in-Err-try_key.fault)) going.shape c.in-Err-try_key.ensures.tries in

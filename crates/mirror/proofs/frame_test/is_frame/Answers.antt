@@ -19,7 +19,10 @@ returns c =
     let i = c.loop-byte.byte-index in
     let whole : take i bytes ++ [] ≡ bytes = append-nil (take i bytes) ∙ take_all i bytes c.loop-byte-test.false in
     let same = c.loop-byte.invariant.same [] in
-    let end = c.is_end.ensures c.args.shape in (
+    let end = c.is_end.ensures c.args.shape c.loop-byte.invariant.ready in (
       (λ is. subst (AreFrame c.args.shape) whole (same.1 (end.0 is))),
       (λ frame. end.1 (same.0 (subst (AreFrame c.args.shape) (sym whole) frame))),
     )
+
+pub loop-byte-init : goal.loop-byte-init
+loop-byte-init c = record { ready = c.start-place.ensures.ready c.args.shape; same = c.start-place.ensures.same c.args.shape }

@@ -19,3 +19,12 @@ returns-clause-same c shape shaped bytes =
     let none : c.args.parts.count ≡ 0 = omega (arith, c.if-parts-gt0.false) in
     let last : c.args.parts.behind.count ≡ 0 = omega (arith, c.if-parts-gt0-2.false) in
     both_ways (no_parts shape c.args.parts none bytes) (no_groups shape c.args.parts.behind last bytes)
+
+pub returns-then-parts-gt0-clause-ready : goal.returns-then-parts-gt0-clause-ready
+returns-then-parts-gt0-clause-ready c shape entries = (omega (arith, c.new.ensures.left), c.if-parts-gt0.true, entries)
+
+pub returns-then-parts-gt0-clause-begins : goal.returns-then-parts-gt0-clause-begins
+returns-then-parts-gt0-clause-begins c = (c.new.ensures.left, c.new.ensures.value, c.new.ensures.weight)
+
+pub returns-then-parts-gt0-2-clause-ready : goal.returns-then-parts-gt0-2-clause-ready
+returns-then-parts-gt0-2-clause-ready c shape entries = (c.if-parts-gt0-2.true, entries.1)

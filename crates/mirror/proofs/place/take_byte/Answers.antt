@@ -17,3 +17,6 @@ returns-clause-same c shape shaped bytes =
     (subst (λ (n : ℕ). BytesRest n (IsPartsRest shape c.args.parts) (c.args.byte ∷ bytes) ↔ IsPartsRest shape c.args.parts bytes) is
     (byte_last (IsPartsRest shape c.args.parts) c.args.byte bytes c.ranges.byte.fits))
     (c.after_part.ensures.same shape shaped bytes)
+
+pub returns-then-left-gt1-clause-ready : goal.returns-then-left-gt1-clause-ready
+returns-then-left-gt1-clause-ready c shape entries = (omega (arith, c.if-left-gt1.true), entries)

@@ -1,4 +1,4 @@
-use Rattle.std.proofs.Common.{◌<◌, arith}
+use Rattle.std.proofs.Common.{◌<◌, inl, inr, arith}
 use Rattle.mirror.specs.Rest.{AfterGroupCount}
 use Rattle.mirror.proofs.Numbers.{number_goes, number_ends, both_ways}
 use Rattle.mirror.proofs.Parting.{group_splits, rise_most}
@@ -9,6 +9,7 @@ returns-then-number-gt0 c =
     let n = c.args.number in
     let next = c.take-number.result in (
       c.if-number-gt0.true,
+      inl (omega (arith, c.requires, c.take-number.ensures.left)),
       λ bytes.
           number_goes (AfterGroupCount c.args.shape) n.left next.left n.value n.weight next.value next.weight c.args.byte c.ranges.byte.fits c.requires c.take-number.ensures.left c.take-number.ensures.value c.take-number.ensures.weight bytes,
     )
@@ -28,7 +29,8 @@ returns c =
     let next = c.take-number.result in
     let last : 0 < next.left → ⊥ = λ some. omega (arith, some, c.if-number-gt0.false) in
     let some : 0 < next.value = omega (arith, c.if-number-eq0.false) in (
-      some,
+      (some, omega (arith, c.if-number-from.false, c.from.ensures)),
+      inr tt,
       λ bytes.
           let split = group_splits c.args.shape c.args.shape.in_range (record { count = next.value; low = 0 }) some bytes in
           both_ways

@@ -1,4 +1,4 @@
-use Rattle.std.proofs.Common.{◌<◌, arith}
+use Rattle.std.proofs.Common.{◌<◌, inl, inr, arith}
 use Rattle.mirror.specs.Rest.{AfterSequence, AfterGroupCount}
 use Rattle.mirror.proofs.Numbers.{number_goes, number_ends, number_begins, both_ways}
 use Rattle.mirror.proofs.place.take_sequence.Goals as goal
@@ -17,3 +17,9 @@ returns-clause-same c shape bytes =
     both_ways
     (number_ends (AfterSequence shape) n.left next.left n.value n.weight next.value c.args.byte c.ranges.byte.fits c.requires c.take-number.ensures.left last c.take-number.ensures.value bytes)
     (number_begins (AfterGroupCount shape) 2 c.new.result.left c.new.result.value c.new.result.weight c.new.ensures.left c.new.ensures.value c.new.ensures.weight bytes)
+
+pub returns-then-number-gt0-clause-goes_on : goal.returns-then-number-gt0-clause-goes_on
+returns-then-number-gt0-clause-goes_on c = inl (omega (arith, c.requires, c.take-number.ensures.left))
+
+pub returns-clause-goes_on : goal.returns-clause-goes_on
+returns-clause-goes_on c = inr (c.new.ensures.left, c.new.ensures.value, c.new.ensures.weight)

@@ -1,6 +1,6 @@
 use Rattle.std.specs.Prelude.{◌≡◌, ◌<◌, ℕ, length, All}
 use Rattle.array_shape.specs.NumberSet.{members}
-use Rattle.memory_eaw.specs.Steps.{log_at}
+use Rattle.mirror.specs.Log.{log_at}
 use Rattle.mirror.proofs.Frees.{FreesOn}
 use Rattle.mirror.proofs.primary.free_logs.Given as goal
 

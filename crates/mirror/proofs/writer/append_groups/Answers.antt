@@ -2,8 +2,8 @@ use Rattle.std.proofs.Common.{arith, ap, ◌∙◌, subst, length, ◌++◌}
 use Rattle.std.specs.Prelude.{All, vec_capacity, flat_map}
 use Rattle.std.proofs.lemmas.List.Elements.{All-head, All-tail}
 use Rattle.array_shape.specs.NumberSet.{members}
-use Rattle.memory_eaw.specs.Log.{Log}
-use Rattle.memory_eaw.proofs.Views.{log_is}
+use Rattle.mirror.specs.Log.{Log}
+use Rattle.mirror.proofs.Parts.{log_is}
 use Rattle.eaw_face.specs.Frame.{group_bytes}
 use Rattle.mirror.specs.Sending.{HasBytes, group_of}
 use Rattle.mirror.specs.Groups.{IsListed}

@@ -1,7 +1,7 @@
 use Rattle.std.proofs.Common.{arith, subst}
 use Rattle.std.specs.Prelude.{All}
 use Rattle.std.proofs.lemmas.List.Elements.{All-head, All-tail}
-use Rattle.memory_eaw.proofs.Views.{log_is}
+use Rattle.mirror.proofs.Parts.{log_is}
 use Rattle.mirror.specs.Groups.{IsListed}
 use Rattle.mirror.proofs.GroupWriting.{counts_one, counts_none}
 use Rattle.mirror.proofs.writer.count_groups.Goals as goal

@@ -48,7 +48,7 @@ returns-in-Err-clause-does g c =
     let old = view c.args.store.now in
     let new = view c.log_read.new.self in
     reads_err g.S.EawStore.tells (g.S.EawStore.opens old.shape) c.args.tid old new c.in-Err.fault
-    (reads_of g.S.EawStore.tells (g.S.EawStore.opens old.shape) c.args.tid (log_read c.args.tid) old new (λ s. refl) (λ rs. refl)
+    (reads_of g.S.EawStore.tells (g.S.EawStore.opens old.shape) c.args.tid (log_read c.args.tid) old new (λ s. refl) (λ rs. refl) refl
     (λ u no. no.0 (record { small = c.requires.tid; live = is_there (old.ranges c.args.tid) c.args.pos c.requires.pos })) (λ h i n no. no) (λ u ne. c.in-Err.ensures.does.others u ne) _ c.in-Err.ensures.does)
 
 pub returns-clause-does : goal.returns-clause-does
@@ -57,7 +57,7 @@ returns-clause-does g c =
     let old = view c.args.store.now in
     let new = view c.log_read.new.self in
     reads_ok g.S.EawStore.tells (g.S.EawStore.opens old.shape) c.args.tid old new tt
-    (reads_of g.S.EawStore.tells (g.S.EawStore.opens old.shape) c.args.tid (log_read c.args.tid) old new (λ s. refl) (λ rs. refl)
+    (reads_of g.S.EawStore.tells (g.S.EawStore.opens old.shape) c.args.tid (log_read c.args.tid) old new (λ s. refl) (λ rs. refl) refl
     (λ u no. no.0 (record { small = c.requires.tid; live = is_there (old.ranges c.args.tid) c.args.pos c.requires.pos })) (λ h i n no. no) (λ u ne. c.in-Ok.ensures.does.others u ne) _ c.in-Ok.ensures.does)
 
 pub returns-then-first-last-clause-does : goal.returns-then-first-last-clause-does

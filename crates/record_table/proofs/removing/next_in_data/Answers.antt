@@ -3,8 +3,10 @@ use Rattle.index_pages.proofs.Looking.{looks_next}
 use Rattle.page_store.specs.Shown.{pages_of}
 use Rattle.page_store.specs.Looks.{Looks, is_failed}
 use Rattle.std.proofs.lemmas.Bool.{eqb-true, eqb-false}
-use Rattle.page_store.specs.Pairs.{Pair, AreNext}
-use Rattle.std.proofs.Common.{List, get_or, subst, refl, sym, ◌∙◌, ap, arith}
+use Rattle.page_store.specs.Index.{slots_of}
+use Rattle.page_store.specs.Pairs.{Pair, AreInside, AreNext}
+use Rattle.record_slots.specs.declared.slot.Slot.{Slot}
+use Rattle.std.proofs.Common.{List, ◌∷◌, Some, get_or, subst, refl, sym, ◌∙◌, ap, arith}
 use Rattle.eaw_face.specs.State.{State}
 use Rattle.record_slots.specs.Slots.{slot_said}
 use Rattle.record_slots.specs.Places.{slot_of}
@@ -17,6 +19,7 @@ use Rattle.page_store.specs.Looks.{LookCause}
 use Rattle.page_store.specs.declared.fault.PageFault.{PageFault}
 use Rattle.page_store.specs.declared.fault.PageFault.TheVariants.{Damaged}
 use Rattle.record_table.specs.declared.scanning.Next.{Next}
+use Rattle.record_table.proofs.Hearing.{one_unfound, one_failed, one_silent, first_inside}
 use Rattle.record_table.proofs.removing.next_in_data.Goals as goal
 
 pub returns-then-is_empty-clause-comes : goal.returns-then-is_empty-clause-comes
@@ -76,3 +79,24 @@ returns-in-Err-heard-clause-looks g c =
     let E = g.S.EawStore.opens in
     subst (λ (f : PageFault). Looks T (E (V c.args.pages.now.store).shape) (let r : Result (Option Next) PageFault = Err f in is_failed r) (pages_of (V c.args.pages.now.store) c.args.pages.now) (pages_of (V c.read_said.new.pages.store) c.read_said.new.pages)) (sym c.in-Err-heard.ensures.none.0)
     (looks_next T E false (pages_of (V c.args.pages.now.store) c.args.pages.now) (pages_of (V c.next_pairs.new.pages.store) c.next_pairs.new.pages) (pages_of (V c.read_said.new.pages.store) c.read_said.new.pages) c.in-Ok.ensures.looks c.in-Ok-read_said.ensures.looks)
+
+pub returns-in-Err-clause-hears : goal.returns-in-Err-clause-hears
+returns-in-Err-clause-hears g c =
+    let V = g.S.EawStore.view in
+    one_unfound g.S.EawStore.tells (g.S.EawStore.calls c.args.pages.now.store) (g.S.EawStore.calls c.next_pairs.new.pages.store) (g.K.KeyIndex.index.nexting c.args.root c.args.from) _ (V c.args.pages.now.store) (V c.next_pairs.new.pages.store) c.args.hearings.now.said c.in-Err.fault c.in-Err.ensures.follows
+
+pub returns-in-Err-read_said-clause-hears : goal.returns-in-Err-read_said-clause-hears
+returns-in-Err-read_said-clause-hears g c = one_failed (g.S.EawStore.view c.args.pages.now.store).shape c.args.hearings.now.said c.in-Err-read_said.fault c.in-Err-read_said.ensures.faults
+
+pub returns-in-Ok-heard-clause-hears : goal.returns-in-Ok-heard-clause-hears
+returns-in-Ok-heard-clause-hears g c =
+    let pair = get_or c.as_slice-some.result.now 0 (0, 0) in
+    (pair.1, c.in-Ok-heard.said, c.in-Ok-heard.ensures.hears ∙ ap (λ (o : Option Slot). (pair.0, pair.1, o) ∷ c.args.hearings.now.said) c.in-Ok-heard.ensures.slot, c.value_in.ensures)
+
+pub returns-in-Err-heard-clause-hears : goal.returns-in-Err-heard-clause-hears
+returns-in-Err-heard-clause-hears g c =
+    let V = g.S.EawStore.view in
+    let pair = get_or c.as_slice-some.result.now 0 (0, 0) in
+    one_silent (V c.args.pages.now.store).shape c.args.hearings.now.said (V c.next_pairs.new.pages.store).shape c.heard.new.hearings.said pair.0 pair.1 c.in-Ok-read_said.said c.in-Err-heard.fault c.page_of-page.result c.in-Ok.ensures.looks.shape
+    (first_inside c.as_slice-some.result.now c.args.from (slots_of (V c.args.pages.now.store).shape) (omega (arith, eqb-false _ 0 (sym c.if-is_empty.ensures))) (subst (λ (l : List Pair). AreInside c.args.from (slots_of (V c.args.pages.now.store).shape) l) (sym c.as_slice-some.ensures.value) c.in-Ok.ensures.inside))
+    c.in-Err-heard.ensures.none.0 c.in-Err-heard.ensures.none.1 c.in-Err-heard.ensures.hears c.page_of-page.ensures.page

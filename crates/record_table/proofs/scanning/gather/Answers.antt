@@ -1,4 +1,4 @@
-use Rattle.std.proofs.Common.{Bool, Result, Err}
+use Rattle.std.proofs.Common.{Bool, Option, Result, Err}
 use Rattle.history.specs.Writes.{Row}
 use Rattle.record_table.specs.Does as answers
 use Rattle.record_table.specs.declared.fault.TableFault.{TableFault}
@@ -20,6 +20,9 @@ use Rattle.record_table.proofs.Looking.{looks_as, looks_none, looks_next}
 use Rattle.record_table.proofs.Gathering.{follows_end, follows_past, no_row}
 use Rattle.record_table.proofs.Moving.{moved_by_look, rests_moved}
 use Rattle.record_table.proofs.Sharing.{Laws}
+use Rattle.array_shape.specs.declared.shape.Shape.{Shape}
+use Rattle.record_table.specs.Hearing.{HearsRows}
+use Rattle.record_table.proofs.Hearing.{all_spoke_yet, no_rows_yet, index_refused, rows_refused}
 use Rattle.record_table.proofs.scanning.gather.Goals as goal
 
 pub next_pairs-requires-clause-sound : goal.next_pairs-requires-clause-sound
@@ -125,6 +128,8 @@ loop-from-init g c =
     let T = g.S.EawStore.tells in
     let E = g.S.EawStore.opens in
     record {
+      spoke = all_spoke_yet c.args.hearings.now.said c.requires.unheard;
+      heard = no_rows_yet c.args.hearings.now.said c.args.rows.now c.requires.unheard c.requires.empty;
       looks = looks_none T (E (V c.args.pages.now.store).shape) c.args.tid (pages_of (V c.args.pages.now.store) c.args.pages.now);
       rows = λ told name called. ap (λ (r : List Row). r ++ rows_seen g.K.KeyIndex.index c.args.tid name (pages_of (V c.args.pages.now.store) c.args.pages.now) c.args.low c.args.high) c.requires.empty;
     }
@@ -166,6 +171,8 @@ loop-from-preserved g c =
     let E = g.S.EawStore.opens in
     let looked = looks_next T E c.args.tid false (pages_of (V c.args.pages.now.store) c.args.pages.now) (pages_of (V c.loop-from.pages.store) c.loop-from.pages) (pages_of (V c.next_pairs.new.pages.store) c.next_pairs.new.pages) c.loop-from.invariant.looks (looks_as T (E (V c.loop-from.pages.store).shape) c.args.tid false (pages_of (V c.loop-from.pages.store) c.loop-from.pages) (pages_of (V c.next_pairs.new.pages.store) c.next_pairs.new.pages) c.in-Ok.ensures.looks) in
     record {
+      spoke = c.in-Ok-Some.ensures.hears.0;
+      heard = c.in-Ok-Some.ensures.hears.1;
       looks = looks_next T E c.args.tid false (pages_of (V c.args.pages.now.store) c.args.pages.now) (pages_of (V c.next_pairs.new.pages.store) c.next_pairs.new.pages) (pages_of (V c.push_rows.new.pages.store) c.push_rows.new.pages) looked c.in-Ok-Some.ensures.looks;
       rows = λ told name called.
           let moved = moved_by_look T (E (V c.args.pages.now.store).shape) g.K.KeyIndex.index c.args.tid (pages_of (V c.args.pages.now.store) c.args.pages.now) (pages_of (V c.next_pairs.new.pages.store) c.next_pairs.new.pages) c.requires.alive (c.requires.holds c.requires.alive) looked in
@@ -174,3 +181,32 @@ loop-from-preserved g c =
           ∙ ap (λ (s : TableState). c.loop-from.rows ++ rows_within name c.loop-from.from c.args.high (seen_by s c.args.tid)) (moved.state told)
           ∙ c.loop-from.invariant.rows told name called;
     }
+
+pub push_rows-requires-clause-spoke : goal.push_rows-requires-clause-spoke
+push_rows-requires-clause-spoke g c = c.loop-from.invariant.spoke
+
+pub push_rows-requires-clause-heard : goal.push_rows-requires-clause-heard
+push_rows-requires-clause-heard g c = c.loop-from.invariant.heard
+
+pub returns-clause-hears : goal.returns-clause-hears
+returns-clause-hears g c = (c.loop-from.invariant.spoke, c.loop-from.invariant.heard)
+
+pub returns-then-is_empty-clause-hears : goal.returns-then-is_empty-clause-hears
+returns-then-is_empty-clause-hears g c = (c.loop-from.invariant.spoke, c.loop-from.invariant.heard)
+
+pub returns-in-Ok-None-clause-hears : goal.returns-in-Ok-None-clause-hears
+returns-in-Ok-None-clause-hears g c = c.in-Ok-None.ensures.hears
+
+pub returns-in-Err-clause-hears : goal.returns-in-Err-clause-hears
+returns-in-Err-clause-hears g c =
+    let V = g.S.EawStore.view in
+    let rows = λ (done : Unit {0}). c.loop-from.rows in
+    subst (λ (s : Shape). HearsRows s c.loop-from.hearings.said rows (Err c.from.result)) c.loop-from.invariant.looks.shape
+    (subst (λ (e : TableFault). HearsRows (V c.loop-from.pages.store).shape c.loop-from.hearings.said rows (Err e)) (sym c.from.ensures)
+    (index_refused g.S.EawStore.tells (g.S.EawStore.calls c.loop-from.pages.store) (g.S.EawStore.calls c.next_pairs.new.pages.store) (g.K.KeyIndex.index.nexting c.args.root c.loop-from.from) _ (V c.loop-from.pages.store) (V c.next_pairs.new.pages.store) c.loop-from.hearings.said
+    rows c.in-Err.fault c.in-Err.ensures.follows c.loop-from.invariant.spoke))
+
+pub returns-in-Err-push_rows-clause-hears : goal.returns-in-Err-push_rows-clause-hears
+returns-in-Err-push_rows-clause-hears g c =
+    subst (λ (s : Shape). HearsRows s c.push_rows.new.hearings.said (λ (done : Unit {0}). c.push_rows.new.rows) (Err c.in-Err-push_rows.fault)) (c.in-Ok.ensures.looks.shape ∙ c.loop-from.invariant.looks.shape)
+    (rows_refused (g.S.EawStore.view c.next_pairs.new.pages.store).shape c.push_rows.new.hearings.said (λ (from : Option ℕ). c.push_rows.new.rows) (λ (done : Unit {0}). c.push_rows.new.rows) c.in-Err-push_rows.fault c.in-Err-push_rows.ensures.hears)

@@ -3,10 +3,13 @@ use Rattle.page_store.specs.Shown.{pages_of}
 use Rattle.record_table.specs.Scanned.{rows_seen}
 use Rattle.record_table.specs.Names.{IsCalled}
 use Rattle.record_table.specs.Sought.{LooksAs}
+use Rattle.record_table.specs.Hearing.{AllSpoke, rows_heard}
 use Rattle.record_table.proofs.scanning.gather.Given as goal
 
 abbrev pub invariant-loop-from : goal.invariant-loop-from
 invariant-loop-from g l = record {
+  spoke : AllSpoke l.hearings.said;
+  heard : l.rows ≡ rows_heard l.hearings.said;
   looks : LooksAs g.S.EawStore.tells (g.S.EawStore.opens (g.S.EawStore.view l.initial.pages.store).shape) l.tid false (pages_of (g.S.EawStore.view l.initial.pages.store) l.initial.pages) (pages_of (g.S.EawStore.view l.pages.store) l.pages);
   rows : IsTrue g.S.EawStore.tells → (name : List ℕ) → IsCalled (g.S.EawStore.view l.initial.pages.store).state.bytes l.table name → l.rows ++ rows_seen g.K.KeyIndex.index l.tid name (pages_of (g.S.EawStore.view l.initial.pages.store) l.initial.pages) l.from l.high
       ≡ rows_seen g.K.KeyIndex.index l.tid name (pages_of (g.S.EawStore.view l.initial.pages.store) l.initial.pages) l.low l.high;

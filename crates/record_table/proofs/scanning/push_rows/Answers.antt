@@ -6,6 +6,7 @@ use Rattle.record_table.proofs.Looking.{failed_told}
 use Rattle.std.proofs.Common.{◌≡◌, ◌+◌, false, ℕ, suc, ◌++◌, get_or, drop, refl, sym, ◌∙◌, ap, subst, arith}
 use Rattle.std.specs.Prelude.{Some}
 use Rattle.std.proofs.lemmas.List.{append-nil}
+use Rattle.array_shape.specs.declared.shape.Shape.{Shape}
 use Rattle.eaw_face.specs.State.{State}
 use Rattle.history.specs.Writes.{rows_within}
 use Rattle.page_store.specs.Index.{slots_of}
@@ -20,6 +21,8 @@ use Rattle.record_table.proofs.Looking.{looks_none, looks_next}
 use Rattle.record_table.proofs.Gathering.{follows_above, follows_past, last_row, no_row, more_row}
 use Rattle.record_table.proofs.Moving.{moved_by_look, rests_moved}
 use Rattle.record_table.proofs.Sharing.{Laws}
+use Rattle.record_table.specs.Hearing.{HearsRows}
+use Rattle.record_table.proofs.Hearing.{next_spoke, next_rows, next_refused}
 use Rattle.record_table.proofs.scanning.push_rows.Goals as goal
 
 pub loop-pair-init : goal.loop-pair-init
@@ -30,6 +33,8 @@ loop-pair-init g c = record {
   low = omega arith;
   later = λ some. absurd (omega arith);
   high = c.requires.order;
+  spoke = c.requires.spoke;
+  heard = c.requires.heard;
   rows = λ told name called. refl;
 }
 
@@ -86,6 +91,8 @@ loop-pair-preserved g c =
       low = omega (arith, c.loop-pair.invariant.low, here.0, key);
       later = λ some. omega (arith, c.loop-pair.invariant.low, here.0, key);
       high = omega (arith, c.in-Ok.ensures.key, c.if-row-span.false, c.if-pair-span.false);
+      spoke = next_spoke v1.store.shape (get_or c.args.pairs.now i (0, 0)) c.loop-pair.hearings.said c.read_row.new.hearings.said c.in-Ok.row c.in-Ok.ensures.hears c.loop-pair.invariant.spoke;
+      heard = next_rows v1.store.shape (get_or c.args.pairs.now i (0, 0)) c.loop-pair.hearings.said c.read_row.new.hearings.said c.in-Ok.row c.loop-pair.rows c.push_row.new.rows c.in-Ok.ensures.hears c.loop-pair.invariant.heard c.in-Ok-push_row.ensures;
       rows = λ told name called.
           let f = c.in-Ok.ensures.follows told name (subst (λ (s : State). IsCalled s.bytes c.args.span.table name) (sym ((c.loop-pair.invariant.looks.same refl).still.state told)) called) in
           let seen : rows_seen I t name v0 c.loop-pair.from c.args.span.high ≡ row_at c.in-Ok.row.key c.in-Ok.row.value ++ rows_seen I t name v0 (suc c.in-Ok.row.key) c.args.span.high =
@@ -161,3 +168,30 @@ returns-then-row-span-clause-looks g c =
     let T = g.S.EawStore.tells in
     let E = g.S.EawStore.opens in
     looks_next T E c.args.tid false (pages_of (V c.args.pages.now.store) c.args.pages.now) (pages_of (V c.loop-pair.pages.store) c.loop-pair.pages) (pages_of (V c.read_row.new.pages.store) c.read_row.new.pages) c.loop-pair.invariant.looks c.in-Ok.ensures.looks
+
+pub returns-then-pair-span-clause-hears : goal.returns-then-pair-span-clause-hears
+returns-then-pair-span-clause-hears g c = (c.loop-pair.invariant.spoke, c.loop-pair.invariant.heard)
+
+pub returns-in-Err-clause-hears : goal.returns-in-Err-clause-hears
+returns-in-Err-clause-hears g c =
+    let V = g.S.EawStore.view in
+    let here = inside_at c.args.pairs.now c.loop-pair.from (slots_of (V c.args.pages.now.store).shape) c.args.pairs.now c.loop-pair.pair-index c.loop-pair-test.true c.loop-pair.invariant.inside in
+    subst (λ (s : Shape). HearsRows s c.read_row.new.hearings.said (λ (from : Option ℕ). c.loop-pair.rows) (Err c.from.result)) c.loop-pair.invariant.looks.shape
+    (subst (λ (e : TableFault). HearsRows (V c.loop-pair.pages.store).shape c.read_row.new.hearings.said (λ (from : Option ℕ). c.loop-pair.rows) (Err e)) (sym c.from.ensures)
+    (next_refused (V c.loop-pair.pages.store).shape (get_or c.args.pairs.now c.loop-pair.pair-index (0, 0)) c.loop-pair.hearings.said c.read_row.new.hearings.said (λ (from : Option ℕ). c.loop-pair.rows) c.in-Err.fault
+    (omega (arith, here.1, ap slots_of c.loop-pair.invariant.looks.shape)) c.in-Err.ensures.hears c.loop-pair.invariant.spoke))
+
+pub returns-in-Err-push_row-clause-hears : goal.returns-in-Err-push_row-clause-hears
+returns-in-Err-push_row-clause-hears g c =
+    next_spoke (g.S.EawStore.view c.loop-pair.pages.store).shape (get_or c.args.pairs.now c.loop-pair.pair-index (0, 0)) c.loop-pair.hearings.said c.read_row.new.hearings.said c.in-Ok.row c.in-Ok.ensures.hears c.loop-pair.invariant.spoke
+
+pub returns-then-row-span-clause-hears : goal.returns-then-row-span-clause-hears
+returns-then-row-span-clause-hears g c =
+    let shape = (g.S.EawStore.view c.loop-pair.pages.store).shape in
+    let pair = get_or c.args.pairs.now c.loop-pair.pair-index (0, 0) in (
+      next_spoke shape pair c.loop-pair.hearings.said c.read_row.new.hearings.said c.in-Ok.row c.in-Ok.ensures.hears c.loop-pair.invariant.spoke,
+      next_rows shape pair c.loop-pair.hearings.said c.read_row.new.hearings.said c.in-Ok.row c.loop-pair.rows c.push_row.new.rows c.in-Ok.ensures.hears c.loop-pair.invariant.heard c.in-Ok-push_row.ensures,
+    )
+
+pub returns-clause-hears : goal.returns-clause-hears
+returns-clause-hears g c = (c.loop-pair.invariant.spoke, c.loop-pair.invariant.heard)

@@ -5,6 +5,7 @@ use Rattle.page_store.specs.Shown.{pages_of}
 use Rattle.record_table.specs.Scanned.{rows_seen}
 use Rattle.record_table.specs.Names.{IsCalled}
 use Rattle.record_table.specs.Sought.{LooksAs}
+use Rattle.record_table.specs.Hearing.{AllSpoke, rows_heard}
 use Rattle.record_table.proofs.scanning.push_rows.Given as goal
 
 -- the pairs that are left come next from the key on, and so do the rows under them
@@ -16,6 +17,8 @@ invariant-loop-pair g l = record {
   low : l.span.low ≤ l.from;
   later : 1 ≤ l.pair-index → l.span.low < l.from;
   high : l.from ≤ l.span.high;
+  spoke : AllSpoke l.hearings.said;
+  heard : l.rows ≡ rows_heard l.hearings.said;
   rows : IsTrue g.S.EawStore.tells → (name : List ℕ) → IsCalled (g.S.EawStore.view l.initial.pages.store).state.bytes l.span.table name → l.rows ++ rows_seen g.K.KeyIndex.index l.tid name (pages_of (g.S.EawStore.view l.initial.pages.store) l.initial.pages) l.from l.span.high
       ≡ l.initial.rows ++ rows_seen g.K.KeyIndex.index l.tid name (pages_of (g.S.EawStore.view l.initial.pages.store) l.initial.pages) l.span.low l.span.high;
 }

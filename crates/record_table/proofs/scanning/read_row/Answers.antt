@@ -10,6 +10,7 @@ use Rattle.page_store.specs.Looks.{LookCause}
 use Rattle.page_store.specs.declared.fault.PageFault.{PageFault}
 use Rattle.page_store.specs.declared.fault.PageFault.TheVariants.{Damaged}
 use Rattle.record_table.specs.declared.scanning.Next.{Next}
+use Rattle.record_table.proofs.Hearing.{next_failed, next_heard, next_silent}
 use Rattle.record_table.proofs.scanning.read_row.Goals as goal
 
 pub returns-in-Ok-heard-clause-follows : goal.returns-in-Ok-heard-clause-follows
@@ -43,3 +44,13 @@ returns-in-Err-heard-clause-cause g c =
           some_slot I laws c.args.tid (key_in d c.args.span.table c.args.pair.0) v0 tied v0 refl refl (g.met.S.EawStore.long c.args.pages.now.store told) c.args.pair.1 n.1
           (sym c.in-Err-heard.ensures.none.1 ∙ c.in-Ok.ensures.said told),
     ) in subst (λ (f : PageFault). LookCause g.S.EawStore.tells (V c.args.pages.now.store) (let r : Result Next PageFault = Err f in r)) (sym c.in-Err-heard.ensures.none.0) damaged)
+
+pub returns-in-Err-clause-hears : goal.returns-in-Err-clause-hears
+returns-in-Err-clause-hears g c = next_failed (g.S.EawStore.view c.args.pages.now.store).shape c.args.pair c.args.hearings.now.said c.in-Err.fault c.in-Err.ensures.faults
+
+pub returns-in-Ok-heard-clause-hears : goal.returns-in-Ok-heard-clause-hears
+returns-in-Ok-heard-clause-hears g c = next_heard (g.S.EawStore.view c.args.pages.now.store).shape c.args.pair c.args.hearings.now.said c.heard.new.hearings.said c.in-Ok.said c.in-Ok-heard.said _ c.in-Ok-heard.ensures.slot c.in-Ok-heard.ensures.hears refl c.value_in.ensures
+
+pub returns-in-Err-heard-clause-hears : goal.returns-in-Err-heard-clause-hears
+returns-in-Err-heard-clause-hears g c =
+    next_silent (g.S.EawStore.view c.args.pages.now.store).shape c.args.pair c.args.hearings.now.said c.heard.new.hearings.said c.in-Ok.said c.in-Err-heard.fault c.page_of-page.result c.in-Err-heard.ensures.none.0 c.in-Err-heard.ensures.none.1 c.in-Err-heard.ensures.hears c.page_of-page.ensures.page

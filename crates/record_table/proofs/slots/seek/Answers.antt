@@ -118,19 +118,19 @@ returns-in-Err-heard-clause-looks g c =
 pub returns-in-Ok-None-clause-seeks : goal.returns-in-Ok-None-clause-seeks
 returns-in-Ok-None-clause-seeks g c =
     let V = g.S.EawStore.view in
-    seeks_none g.S.EawStore.tells (g.K.KeyIndex.index.finding c.args.root c.args.key) c.args.tid (g.S.EawStore.calls c.args.pages.now.store) (g.S.EawStore.calls c.find.new.pages.store)
+    seeks_none g.S.EawStore.tells (g.K.KeyIndex.index.finding c.args.root c.args.key) c.args.key c.args.tid (g.S.EawStore.calls c.args.pages.now.store) (g.S.EawStore.calls c.find.new.pages.store) c.args.hearings.now.said
     (V c.args.pages.now.store) (V c.find.new.pages.store) (rw c.in-Ok-None.field-0-is at c.in-Ok-None.ensures.follows)
 
 pub returns-in-Err-clause-seeks : goal.returns-in-Err-clause-seeks
 returns-in-Err-clause-seeks g c =
     let V = g.S.EawStore.view in
-    seeks_err g.S.EawStore.tells (g.K.KeyIndex.index.finding c.args.root c.args.key) c.args.tid (g.S.EawStore.calls c.args.pages.now.store) (g.S.EawStore.calls c.find.new.pages.store)
+    seeks_err g.S.EawStore.tells (g.K.KeyIndex.index.finding c.args.root c.args.key) c.args.key c.args.tid (g.S.EawStore.calls c.args.pages.now.store) (g.S.EawStore.calls c.find.new.pages.store) c.args.hearings.now.said
     (V c.args.pages.now.store) (V c.find.new.pages.store) c.in-Err.fault c.in-Err.ensures.follows
 
 pub returns-in-Err-read_as-clause-seeks : goal.returns-in-Err-read_as-clause-seeks
 returns-in-Err-read_as-clause-seeks g c =
     let V = g.S.EawStore.view in
-    seeks_unread g.S.EawStore.tells (g.K.KeyIndex.index.finding c.args.root c.args.key) c.args.tid (g.S.EawStore.calls c.args.pages.now.store) (g.S.EawStore.calls c.find.new.pages.store)
+    seeks_unread g.S.EawStore.tells (g.K.KeyIndex.index.finding c.args.root c.args.key) c.args.key c.args.tid (g.S.EawStore.calls c.args.pages.now.store) (g.S.EawStore.calls c.find.new.pages.store) c.args.hearings.now.said
     (V c.args.pages.now.store) (V c.find.new.pages.store) c.in-Ok-Some.slot (rw c.in-Ok-Some.field-0-is at c.in-Ok-Some.ensures.inside) c.in-Ok-Some.ensures.looks.shape c.in-Ok-Some.ensures.looks.ranges
     (V c.read_as.new.pages.store) (rw c.in-Ok-Some.field-0-is at c.in-Ok-Some.ensures.follows)
     c.in-Err-read_as.fault ((c.in-Ok-Some.ensures.looks.still refl).dead ∙ c.in-Ok-Some.ensures.cause) c.in-Err-read_as.ensures.faults c.in-Err-read_as.ensures.cause c.in-Err-read_as.ensures.costs
@@ -138,18 +138,18 @@ returns-in-Err-read_as-clause-seeks g c =
 pub returns-in-Err-heard-clause-seeks : goal.returns-in-Err-heard-clause-seeks
 returns-in-Err-heard-clause-seeks g c =
     let V = g.S.EawStore.view in
-    seeks_bad g.S.EawStore.tells (g.K.KeyIndex.index.finding c.args.root c.args.key) c.args.tid (g.S.EawStore.calls c.args.pages.now.store) (g.S.EawStore.calls c.find.new.pages.store)
+    seeks_bad g.S.EawStore.tells (g.K.KeyIndex.index.finding c.args.root c.args.key) c.args.key c.args.tid (g.S.EawStore.calls c.args.pages.now.store) (g.S.EawStore.calls c.find.new.pages.store) c.args.hearings.now.said
     (V c.args.pages.now.store) (V c.find.new.pages.store) c.in-Ok-Some.slot (rw c.in-Ok-Some.field-0-is at c.in-Ok-Some.ensures.inside) c.in-Ok-Some.ensures.looks.shape c.in-Ok-Some.ensures.looks.ranges
     (V c.read_as.new.pages.store) (rw c.in-Ok-Some.field-0-is at c.in-Ok-Some.ensures.follows)
-    c.in-Ok.said c.in-Ok.ensures.costs c.in-Err-heard.fault c.page_of-page.result c.in-Err-heard.ensures.none.0 c.page_of-page.ensures.page
+    c.in-Ok.said c.in-Ok.ensures.costs c.in-Err-heard.fault c.page_of-page.result c.in-Ok.said _ c.in-Err-heard.ensures.none.0 c.in-Err-heard.ensures.none.1 c.in-Err-heard.ensures.hears c.page_of-page.ensures.page
 
 pub returns-in-Ok-heard-clause-seeks : goal.returns-in-Ok-heard-clause-seeks
 returns-in-Ok-heard-clause-seeks g c =
     let V = g.S.EawStore.view in
-    seeks_some g.S.EawStore.tells (g.K.KeyIndex.index.finding c.args.root c.args.key) c.args.tid (g.S.EawStore.calls c.args.pages.now.store) (g.S.EawStore.calls c.find.new.pages.store)
+    seeks_some g.S.EawStore.tells (g.K.KeyIndex.index.finding c.args.root c.args.key) c.args.key c.args.tid (g.S.EawStore.calls c.args.pages.now.store) (g.S.EawStore.calls c.find.new.pages.store) c.args.hearings.now.said
     (V c.args.pages.now.store) (V c.find.new.pages.store) c.in-Ok-Some.slot (rw c.in-Ok-Some.field-0-is at c.in-Ok-Some.ensures.inside) c.in-Ok-Some.ensures.looks.shape c.in-Ok-Some.ensures.looks.ranges
     (V c.read_as.new.pages.store) (rw c.in-Ok-Some.field-0-is at c.in-Ok-Some.ensures.follows)
-    c.in-Ok.said c.in-Ok.ensures.costs _ refl
+    c.in-Ok.said c.in-Ok.ensures.costs _ c.in-Ok.said c.in-Ok-heard.said _ refl c.in-Ok-heard.ensures.slot c.value_in.ensures c.in-Ok-heard.ensures.hears
 
 pub returns-in-Err-read_as-clause-looks : goal.returns-in-Err-read_as-clause-looks
 returns-in-Err-read_as-clause-looks g c =

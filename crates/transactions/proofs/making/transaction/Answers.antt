@@ -1,10 +1,59 @@
-use Rattle.std.proofs.Common.{◌∙◌, ⊎_elim, inl, inr, ap}
-use Rattle.history.specs.declared.call.Call.TheVariants.{Commit}
-use Rattle.transactions.specs.Told.{told_commit}
+use Rattle.std.proofs.Common.{◌∙◌, ⊎_elim, inl, inr, ap, refl}
+use Rattle.history.specs.declared.call.Call.TheVariants.{Commit, Abort}
+use Rattle.transactions.specs.Told.{told_done, told_commit}
 use Rattle.transactions.specs.declared.work.Stop.TheVariants.{Refused}
 use Rattle.transactions.proofs.Doubting.{doubts}
 use Rattle.transactions.proofs.Going.{went_one, went_on, refuses_later, refuses_before, core_later, core_before}
+use Rattle.transactions.proofs.Trying.{tries_one, tries_none, tries_still, tries_on}
 use Rattle.transactions.proofs.making.transaction.Goals as goal
+
+-- what is refused as it begins was one try; what is done within it adds none, and nor does its end
+pub returns-in_err-begin-clause-tries : goal.returns-in_err-begin-clause-tries
+returns-in_err-begin-clause-tries g c told =
+    let core = g.C.Core in
+    tries_one c.args.caller (core.view c.args.core.now) (core.view c.begin.new.core) (told_done c.begin.result) (c.begin.ensures.steps.step told)
+
+pub returns-in-Ok-commit-clause-tries : goal.returns-in-Ok-commit-clause-tries
+returns-in-Ok-commit-clause-tries g c told =
+    let core = g.C.Core in
+    let first = c.begin.ensures.stays told in
+    let second = c.make.ensures.stays told in
+    let old = core.view c.args.core.now in
+    let begun = core.view c.begin.new.core in
+    let mid = core.view c.make.new.core in
+    let new = core.view c.commit.new.core in
+    tries_on 1 0 c.args.caller old mid new (second.goes_on.limits ∙ first.goes_on.limits)
+    (tries_on 1 0 c.args.caller old begun mid first.goes_on.limits (tries_one c.args.caller old begun (told_done c.begin.result) (c.begin.ensures.steps.step told)) (tries_none c.args.caller begun mid (c.make.ensures.within told)))
+    (tries_still c.args.caller mid new Commit (told_commit c.commit.result) refl (c.commit.ensures.steps.step told))
+
+pub returns-in-Err-commit-clause-tries : goal.returns-in-Err-commit-clause-tries
+returns-in-Err-commit-clause-tries g c told =
+    let core = g.C.Core in
+    let first = c.begin.ensures.stays told in
+    let second = c.make.ensures.stays told in
+    let old = core.view c.args.core.now in
+    let begun = core.view c.begin.new.core in
+    let mid = core.view c.make.new.core in
+    let refused = core.view c.commit.new.core in
+    let new = core.view c.abort.new.core in
+    tries_on 1 0 c.args.caller old refused new ((c.commit.ensures.goes_on told).limits ∙ second.goes_on.limits ∙ first.goes_on.limits)
+    (tries_on 1 0 c.args.caller old mid refused (second.goes_on.limits ∙ first.goes_on.limits)
+    (tries_on 1 0 c.args.caller old begun mid first.goes_on.limits (tries_one c.args.caller old begun (told_done c.begin.result) (c.begin.ensures.steps.step told)) (tries_none c.args.caller begun mid (c.make.ensures.within told)))
+    (tries_still c.args.caller mid refused Commit (told_commit c.commit.result) refl (c.commit.ensures.steps.step told)))
+    (tries_still c.args.caller refused new Abort (told_done c.abort.result) refl (c.abort.ensures.steps.step told))
+
+pub returns-in-Err-clause-tries : goal.returns-in-Err-clause-tries
+returns-in-Err-clause-tries g c told =
+    let core = g.C.Core in
+    let first = c.begin.ensures.stays told in
+    let second = c.make.ensures.stays told in
+    let old = core.view c.args.core.now in
+    let begun = core.view c.begin.new.core in
+    let mid = core.view c.make.new.core in
+    let new = core.view c.abort-in-Err.new.core in
+    tries_on 1 0 c.args.caller old mid new (second.goes_on.limits ∙ first.goes_on.limits)
+    (tries_on 1 0 c.args.caller old begun mid first.goes_on.limits (tries_one c.args.caller old begun (told_done c.begin.result) (c.begin.ensures.steps.step told)) (tries_none c.args.caller begun mid (c.make.ensures.within told)))
+    (tries_still c.args.caller mid new Abort (told_done c.abort-in-Err.result) refl (c.abort-in-Err.ensures.steps.step told))
 
 pub returns-in-Err-commit-clause-doubt : goal.returns-in-Err-commit-clause-doubt
 returns-in-Err-commit-clause-doubt g c told =

@@ -1,7 +1,8 @@
-use Rattle.std.proofs.Common.{rules, ◌∙◌}
+use Rattle.std.proofs.Common.{rules, ◌+◌, ◌≤◌, ◌∙◌, arith}
 use Rattle.std.specs.Prelude.{IsTrue}
 use Rattle.transactions.specs.Tries.{was_busy}
 use Rattle.transactions.proofs.Again.{tried_on, often_once}
+use Rattle.transactions.proofs.Trying.{tries_on, tries_few}
 use Rattle.transactions.proofs.making.transaction_retried.Goals as goal
 
 pub loop-retry-init : goal.loop-retry-init
@@ -13,6 +14,7 @@ loop-retry-init g c = record {
     refused = e.refused told;
     cause = e.cause told;
     of_core = e.of_core told;
+    tries = e.tries told;
     often = often_once _ _ _ _ (e.of_core told);
     went = e.went told;
     ended = e.ended told;
@@ -22,6 +24,7 @@ loop-retry-init g c = record {
     doubt = e.doubt told;
     grows = e.grows told;
   };
+  tries = λ told. tries_few 1 (c.args.retries + 1) c.args.caller _ _ (c.transaction-outcome.ensures.tries told) (omega arith);
 }
 
 pub loop-retry-preserved : goal.loop-retry-preserved
@@ -39,6 +42,7 @@ loop-retry-preserved g c = record {
         refused = e.refused told;
         cause = e.cause told;
         of_core = e.of_core told;
+        tries = e.tries told;
         often = often_once _ _ _ _ (e.of_core told);
         went = e.went told;
         ended = e.ended told;
@@ -48,4 +52,10 @@ loop-retry-preserved g c = record {
         doubt = e.doubt told;
         grows = e.grows told;
       };
+  tries = λ told.
+      let e = c.transaction-outcome-in-loop-retry.ensures in
+      let before = c.loop-retry.invariant.tried told in
+      let le : c.loop-retry._retry + 1 + 1 ≤ c.args.retries + 1 = omega arith in
+      tries_few (c.loop-retry._retry + 1 + 1) (c.args.retries + 1) c.args.caller _ _
+      (tries_on (c.loop-retry._retry + 1) 1 c.args.caller (g.C.Core.view c.args.core.now) (g.C.Core.view c.loop-retry.core) (g.C.Core.view c.transaction-outcome-in-loop-retry.new.core) before.goes_on.limits before.tries (e.tries told)) le;
 }

@@ -2,9 +2,9 @@ use Rattle.std.proofs.Common.{sym, ◌∙◌, arith}
 use Rattle.pcm_media.proofs.Left.{left_as_read}
 use Rattle.array_image.specs.Image.{data_of}
 use Rattle.commit_queue.proofs.Counting.{deferred_are}
-use Rattle.late_commits.specs.Waiting.{queue_of}
-use Rattle.late_commits.proofs.Counting.{have_rows, many}
-use Rattle.late_commits.proofs.Orders.{rise_from}
+use Rattle.write_back.specs.Waiting.{queue_of}
+use Rattle.write_back.proofs.Counting.{have_rows, many}
+use Rattle.write_back.proofs.Orders.{rise_from}
 use Rattle.eaw_device.proofs.device.Eaw.deferred.Goals as goal
 
 pub overflow_cast-result : goal.overflow_cast-result

@@ -7,9 +7,9 @@ use Rattle.array_shape.specs.declared.part.Part.{Part}
 use Rattle.array_shape.specs.declared.shape.Shape.{Shape}
 use Rattle.array_shape.specs.Parts.{parts_of}
 use Rattle.array_shape.specs.Places.{data_len, media_len}
-use Rattle.deferred_parts.specs.Turns.{has_some}
-use Rattle.late_commits.specs.Orders.{due_for}
-use Rattle.late_data.proofs.Tying.{free_lacks}
+use Rattle.write_back.specs.Turns.{has_some}
+use Rattle.write_back.specs.Orders.{due_for}
+use Rattle.write_back.proofs.Tying.{free_lacks}
 use Rattle.eaw_face.specs.Command.{log_write}
 use Rattle.eaw_device.specs.declared.log.Log.{Log}
 use Rattle.eaw_device.specs.Costs.{back_cost}
@@ -112,7 +112,7 @@ returns-then-is_err-clause-does g c =
     let s = c.settle_for.new.self in
     let quiet = c.in_ok-settle_for.ensures.quiet in
     quiet_write m.tells Opens c.args.tid c.args.addr c.args.bytes.now (view_of (m.view first.media) first.shape first.logs.items first.late first.is_dead) (view_of (m.view s.media) s.shape s.logs.items s.late s.is_dead)
-    (view_of (m.view c.stage_write.new.media) s.shape s.logs.items s.late true) c.in_ok-at.ensures.alive c.in_ok-settle_for.field-0 quiet _
+    (view_of (m.view c.stage_write.new.media) s.shape s.logs.items s.late true) c.in_ok-at.ensures.alive refl c.in_ok-settle_for.field-0 quiet _
     (write_failed m.tells (m.view s.media) s.shape s.logs.items s.late s.is_dead s.sound quiet.alive c.args.tid (small g at) c.index-log.result.now (there g at) c.args.addr c.args.bytes.now (inside g at) (apart g at) (room g at)
     (m.view c.stage_write.new.media) c.stage_write.result c.stage_write.ensures.does (long g at) (when_err c.stage_write.result (sym c.is_err.ensures.value ∙ c.if-is_err.true) c.stage_write.ensures.does.cause.failed))
 
@@ -187,7 +187,7 @@ returns-clause-does g c =
     let s = c.settle_for.new.self in
     let quiet = c.in_ok-settle_for.ensures.quiet in
     quiet_write m.tells Opens c.args.tid c.args.addr c.args.bytes.now (view_of (m.view first.media) first.shape first.logs.items first.late first.is_dead) (view_of (m.view s.media) s.shape s.logs.items s.late s.is_dead)
-    (view_of (m.view c.stage_write.new.media) s.shape (slice_set s.logs.items c.in_ok-at.at c.add_range.new.self) s.late s.is_dead) c.in_ok-at.ensures.alive c.in_ok-settle_for.field-0 quiet _
+    (view_of (m.view c.stage_write.new.media) s.shape (slice_set s.logs.items c.in_ok-at.at c.add_range.new.self) s.late s.is_dead) c.in_ok-at.ensures.alive refl c.in_ok-settle_for.field-0 quiet _
     (write_done m.tells (m.view s.media) s.shape s.logs.items s.late s.is_dead s.sound quiet.alive c.args.tid (small g at) c.index-log.result.now (there g at) c.args.addr c.args.bytes.now (inside g at) (apart g at) (room g at)
     (m.view c.stage_write.new.media) c.stage_write.result c.stage_write.ensures.does (long g at) (λ told. when_ok c.stage_write.result (fine g (goal.at.returns-clause-does g c).After-add_range) (c.stage_write.ensures.holds told)) c.add_range.new.self c.add_range.ensures.kept c.add_range.ensures.live (adds g (goal.at.returns-clause-does g c).After-add_range) c.in_ok-at.at c.in_ok-at.ensures.at
     c.len.result (when_ok c.stage_write.result (fine g (goal.at.returns-clause-does g c).After-add_range) c.stage_write.ensures.does.cause.kept))

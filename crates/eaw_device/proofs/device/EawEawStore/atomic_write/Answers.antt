@@ -5,13 +5,13 @@ use Rattle.mars_base.proofs.Costing.{none_yet, costs_more, costs_then}
 use Rattle.array_shape.specs.Parts.{parts_of_write}
 use Rattle.array_shape.specs.Logged.{ranges_of}
 use Rattle.array_shape.proofs.Cutting.{parts_of_write-some}
-use Rattle.late_commits.specs.Orders.{due_for}
+use Rattle.write_back.specs.Orders.{due_for}
 use Rattle.eaw_face.specs.State.{listed}
 use Rattle.eaw_device.specs.Costs.{back_cost, commit_cost, group_of}
 use Rattle.eaw_device.specs.Laws.{length-shown}
 use Rattle.eaw_device.specs.Opens.{Opens}
 use Rattle.eaw_device.specs.Logs.{entries_at}
-use Rattle.deferred_parts.specs.Entries.{ranges_in, parts_in}
+use Rattle.write_back.specs.Entries.{ranges_in, parts_in}
 use Rattle.eaw_device.specs.Sound.{view_of}
 use Rattle.eaw_device.proofs.Atomic.{write_fails, atomic, mid_alive, mid_live, mid_ranges, commit_fails, media_alone, none_ranges}
 use Rattle.eaw_device.proofs.GroupBits.{group_of_one}
@@ -56,7 +56,7 @@ returns-clause-does g c =
     atomic m.tells Opens (view_of (m.view s.media) s.shape s.logs.items s.late s.is_dead) (view_of (m.view mid.media) mid.shape mid.logs.items mid.late mid.is_dead) (view_of (m.view last.media) last.shape last.logs.items last.late last.is_dead)
     c.args.tid c.args.addr c.args.bytes.now c.requires.free
     (λ told fine. none_ranges ranges_in (parts_in s.shape (m.view s.media).content.bytes c.args.tid) (entries_at s.logs.items c.args.tid) c.requires.free)
-    (λ told. omega (arith, c.requires.inside, length-shown m.tells (m.view s.media) s.shape s.logs.items s.late s.is_dead s.sound told)) c.in_ok-write_log.field-0 c.in_ok-write_log.ensures.does refl c.commit.result c.commit.ensures.does
+    (λ told. omega (arith, c.requires.inside, length-shown m.tells (m.view s.media) s.shape s.logs.items s.late s.is_dead s.sound told)) c.in_ok-write_log.field-0 c.in_ok-write_log.ensures.does (refl, refl) c.commit.result c.commit.ensures.does
 
 pub returns-clause-refused : goal.returns-clause-refused
 returns-clause-refused g c =

@@ -8,7 +8,7 @@ use Rattle.std.proofs.lemmas.Result.{err_from_is_err_and}
 use Rattle.eaw_face.specs.Command.{log_read}
 use Rattle.eaw_device.specs.Opens.{Opens}
 use Rattle.eaw_device.specs.Sound.{view_of}
-use Rattle.deferred_parts.specs.Entries.{parts_in}
+use Rattle.write_back.specs.Entries.{parts_in}
 use Rattle.eaw_device.proofs.Doing.{lacking, found}
 use Rattle.eaw_device.proofs.Tables.{parts_there}
 use Rattle.eaw_device.proofs.Looks.{look_len, look_range, look_kept, entry_range, entry_part, entry_inside, entry_page, read_sound, log_read_done, log_read_failed}

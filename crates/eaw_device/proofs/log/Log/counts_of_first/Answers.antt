@@ -2,7 +2,7 @@ use Rattle.std.proofs.Common.{◌≡◌, ◌∙◌, ◌<◌, ◌+◌, ℕ, ap, t
 use Rattle.std.specs.Prelude.{slice_index}
 use Rattle.std.proofs.lemmas.List.{length-take, get_or-take, length-set}
 use Rattle.array_shape.specs.Places.{logger_of}
-use Rattle.deferred_parts.specs.declared.entry.Entry.{Entry}
+use Rattle.write_back.specs.declared.entry.Entry.{Entry}
 use Rattle.eaw_device.proofs.Keeping.{entry_placed, counts_more, at_below, first_few}
 use Rattle.eaw_device.proofs.log.Log.counts_of_first.Goals as goal
 

@@ -1,6 +1,6 @@
 use Rattle.std.proofs.Common.{◌≡◌, ℕ, ◌<◌, length, take}
 use Rattle.std.specs.Prelude.{slice_index}
-use Rattle.deferred_parts.specs.Entries.{cells_on}
+use Rattle.write_back.specs.Entries.{cells_on}
 use Rattle.eaw_device.proofs.log.Log.counts_of_first.Given as goal
 
 abbrev pub invariant-loop-entry : goal.invariant-loop-entry

@@ -40,6 +40,7 @@ begin_over-requires g c =
       sound = λ told. subst (λ (s : State). g.K.KeyIndex.index.sound s.bytes) (sym (still.state told)) (c.in-Ok.ensures.attached.sound told);
       base = λ told. c.in-Ok.ensures.rows told ∙ ap (λ (s : State). entries (table_of g.K.KeyIndex.index s.bytes)) (sym (still.state told));
       idle = c.in-Ok.ensures.attached.idle;
+      unmarked = λ t. ap (λ (f : ℕ → List ℕ). f t) c.in-Ok.ensures.attached.looks.saves ∙ (c.attach_in.ensures.fresh t).0;
       unsaved = λ told t.
           ap (λ (counts : List ℕ). map (writes_of (g.S.EawStore.view c.in-Ok.attached.0.store).state.bytes) (saved_of (listed ((g.S.EawStore.view c.in-Ok.attached.0.store).state.logs t)) counts))
           (ap (λ (f : ℕ → List ℕ). f t) c.in-Ok.ensures.attached.looks.saves ∙ (c.attach_in.ensures.fresh t).0);

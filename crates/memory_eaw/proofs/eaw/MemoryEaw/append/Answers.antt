@@ -2,7 +2,7 @@ use Rattle.std.proofs.Common.{◌<◌, length, sym, subst, arith}
 use Rattle.memory_eaw.specs.Log.{IsSoundLog}
 use Rattle.memory_eaw.specs.Shown.{plain_of}
 use Rattle.memory_eaw.proofs.Sound.{sound_set, sound_read, sound_appended}
-use Rattle.memory_eaw.proofs.Views.{log_is}
+use Rattle.mirror.proofs.Parts.{log_is}
 use Rattle.memory_eaw.proofs.eaw.MemoryEaw.append.Goals as goal
 
 pub invariant_of-self : goal.invariant_of-self

@@ -2,8 +2,8 @@ use Rattle.std.proofs.Common.{◌≡◌, ℕ, length, drop, ◌∙◌, sym, ap, 
 use Rattle.std.proofs.lemmas.List.Elements.{All-drop}
 use Rattle.array_shape.specs.Places.{data_len}
 use Rattle.array_shape.specs.Logged.{AllFit}
-use Rattle.memory_eaw.specs.Log.{IsWritePart}
-use Rattle.memory_eaw.proofs.Parts.{all_fit}
+use Rattle.mirror.specs.Log.{IsWritePart}
+use Rattle.mirror.proofs.Parts.{all_fit}
 use Rattle.memory_eaw.proofs.Sound.{sound_read}
 use Rattle.memory_eaw.proofs.eaw.MemoryEaw.apply_from.Goals as goal
 

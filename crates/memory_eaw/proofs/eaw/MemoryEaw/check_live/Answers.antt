@@ -1,7 +1,8 @@
 use Rattle.std.proofs.Common.{◌≡◌, ◌<◌, inr, false, length, refl, sym, ◌∙◌, ap, arith}
-use Rattle.memory_eaw.specs.Log.{Log}
-use Rattle.memory_eaw.specs.Steps.{log_at}
-use Rattle.memory_eaw.proofs.Views.{log_is, is_live_from, some_from}
+use Rattle.mirror.specs.Log.{Log}
+use Rattle.mirror.specs.Log.{log_at}
+use Rattle.mirror.proofs.Parts.{log_is}
+use Rattle.memory_eaw.proofs.Views.{is_live_from, some_from}
 use Rattle.memory_eaw.proofs.eaw.MemoryEaw.check_live.Goals as goal
 use Rattle.memory_eaw.proofs.eaw.MemoryEaw.check_live.Goals.{then-tid-self-via-then-tid-self, then-tid-self-via-else-tid-self+then-not-is_live}
 

@@ -2,10 +2,11 @@ use Rattle.std.proofs.Common.{◌≡◌, ◌<◌, length, refl, sym, ◌∙◌, 
 use Rattle.array_shape.specs.Parts.{parts_of_write}
 use Rattle.array_shape.specs.Logged.{ranges_of}
 use Rattle.eaw_face.specs.State.{listed, count_on}
-use Rattle.memory_eaw.specs.Log.{Log}
+use Rattle.mirror.specs.Log.{Log}
 use Rattle.memory_eaw.specs.Shown.{shown}
-use Rattle.memory_eaw.proofs.Parts.{count_on-write}
-use Rattle.memory_eaw.proofs.Views.{log_is, ranges_are}
+use Rattle.mirror.proofs.Parts.{count_on-write}
+use Rattle.mirror.proofs.Parts.{log_is}
+use Rattle.memory_eaw.proofs.Views.{ranges_are}
 use Rattle.memory_eaw.proofs.eaw.MemoryEaw.check_room.Goals as goal
 use Rattle.memory_eaw.proofs.eaw.MemoryEaw.check_room.Goals.{After-count_range-needed}
 

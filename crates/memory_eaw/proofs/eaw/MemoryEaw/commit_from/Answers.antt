@@ -1,9 +1,9 @@
 use Rattle.std.proofs.Common.{◌≡◌, ◌<◌, length, ◌∙◌, ap, arith}
-use Rattle.memory_eaw.specs.Log.{Log}
+use Rattle.mirror.specs.Log.{Log}
 use Rattle.memory_eaw.specs.Shown.{plain_of}
-use Rattle.memory_eaw.specs.Steps.{log_at}
+use Rattle.mirror.specs.Log.{log_at}
 use Rattle.memory_eaw.proofs.Sound.{commit_steps}
-use Rattle.memory_eaw.proofs.Views.{log_is}
+use Rattle.mirror.proofs.Parts.{log_is}
 use Rattle.memory_eaw.proofs.eaw.MemoryEaw.commit_from.Goals as goal
 
 pub returns-clause-done : goal.returns-clause-done

@@ -2,7 +2,8 @@ use Rattle.std.proofs.Common.{◌≡◌, ℕ, [], List, ⊎_elim, refl, ◌∙�
 use Rattle.std.specs.Option.{option_map}
 use Rattle.array_shape.specs.Logged.{ranges_of}
 use Rattle.memory_eaw.specs.Kept.{Kept}
-use Rattle.memory_eaw.specs.Log.{Log, logged, outline}
+use Rattle.mirror.specs.Log.{Log}
+use Rattle.memory_eaw.specs.Log.{logged, outline}
 use Rattle.memory_eaw.specs.Plain.{LeftSince}
 use Rattle.memory_eaw.proofs.Views.{logged-replicate}
 use Rattle.memory_eaw.proofs.eaw.MemoryEaw.new.Goals as goal

@@ -1,6 +1,7 @@
 use Rattle.std.proofs.Common.{◌<◌, length, sym, ◌∙◌, ap, arith}
-use Rattle.memory_eaw.specs.Log.{Log}
-use Rattle.memory_eaw.proofs.Views.{log_is, is_some-outline}
+use Rattle.mirror.specs.Log.{Log}
+use Rattle.mirror.proofs.Parts.{log_is}
+use Rattle.memory_eaw.proofs.Views.{is_some-outline}
 use Rattle.memory_eaw.proofs.eaw.MemoryEawEawStore.is_live.Goals as goal
 
 pub returns : goal.returns

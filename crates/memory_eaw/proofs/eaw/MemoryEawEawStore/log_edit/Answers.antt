@@ -3,7 +3,8 @@ use Rattle.array_shape.specs.Logged.{ranges_of}
 use Rattle.eaw_face.specs.State.{edited, range_at}
 use Rattle.memory_eaw.specs.Plain.{Plain}
 use Rattle.memory_eaw.specs.Shown.{plain_of}
-use Rattle.memory_eaw.specs.Steps.{log_at, relogged}
+use Rattle.mirror.specs.Log.{log_at}
+use Rattle.memory_eaw.specs.Steps.{relogged}
 use Rattle.memory_eaw.proofs.Doing.{log_len_is, ranges_is}
 use Rattle.memory_eaw.proofs.Commands.{does_edited}
 use Rattle.memory_eaw.proofs.eaw.MemoryEawEawStore.log_edit.Goals as goal

@@ -1,7 +1,7 @@
 use Rattle.std.proofs.Common.{◌<◌, length, sym, ◌∙◌, ap, arith}
-use Rattle.memory_eaw.specs.Log.{Log}
+use Rattle.mirror.specs.Log.{Log}
 use Rattle.memory_eaw.specs.Shown.{plain_of}
-use Rattle.memory_eaw.proofs.Views.{log_is}
+use Rattle.mirror.proofs.Parts.{log_is}
 use Rattle.memory_eaw.proofs.Doing.{log_len_is}
 use Rattle.memory_eaw.proofs.eaw.MemoryEawEawStore.log_len.Goals as goal
 

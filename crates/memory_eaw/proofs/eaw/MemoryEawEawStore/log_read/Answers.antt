@@ -4,7 +4,7 @@ use Rattle.eaw_face.specs.Command.{log_read}
 use Rattle.eaw_face.specs.State.{range_at, part_at}
 use Rattle.memory_eaw.specs.Plain.{Plain}
 use Rattle.memory_eaw.specs.Shown.{plain_of}
-use Rattle.memory_eaw.specs.Steps.{log_at}
+use Rattle.mirror.specs.Log.{log_at}
 use Rattle.memory_eaw.proofs.Doing.{log_len_is, ranges_is, parts_is}
 use Rattle.memory_eaw.proofs.Commands.{does_looked}
 use Rattle.memory_eaw.proofs.eaw.MemoryEawEawStore.log_read.Goals as goal

@@ -5,8 +5,9 @@ use Rattle.array_shape.specs.Logged.{ranges_of}
 use Rattle.eaw_face.specs.State.{listed}
 use Rattle.memory_eaw.specs.Plain.{Plain}
 use Rattle.memory_eaw.specs.Shown.{plain_of, shown}
-use Rattle.memory_eaw.specs.Steps.{log_at, relogged}
-use Rattle.memory_eaw.proofs.Parts.{length-ranges_of}
+use Rattle.mirror.specs.Log.{log_at}
+use Rattle.memory_eaw.specs.Steps.{relogged}
+use Rattle.mirror.proofs.Parts.{length-ranges_of}
 use Rattle.memory_eaw.proofs.Room.{fit_room}
 use Rattle.memory_eaw.proofs.Doing.{log_len_is}
 use Rattle.memory_eaw.proofs.Commands.{does_written, parts-relogged}

@@ -4,7 +4,7 @@ use Rattle.std.proofs.lemmas.Result.{err_from_is_err_and}
 use Rattle.eaw_face.specs.Command.{nested_top}
 use Rattle.memory_eaw.specs.Plain.{Plain}
 use Rattle.memory_eaw.specs.Shown.{plain_of}
-use Rattle.memory_eaw.specs.Steps.{log_at}
+use Rattle.mirror.specs.Log.{log_at}
 use Rattle.memory_eaw.proofs.Stopping.{counts_failed}
 use Rattle.memory_eaw.proofs.Doing.{log_len_is}
 use Rattle.mars_base.proofs.Costing.{costs_err, costs_all}

@@ -1,9 +1,9 @@
 use Rattle.std.proofs.Common.{◌<◌, length, sym, ◌∙◌, ap, arith}
 use Rattle.array_shape.specs.Logged.{ranges_of}
 use Rattle.eaw_face.specs.State.{range_at}
-use Rattle.memory_eaw.specs.Log.{Log}
+use Rattle.mirror.specs.Log.{Log}
 use Rattle.memory_eaw.specs.Shown.{plain_of}
-use Rattle.memory_eaw.proofs.Views.{log_is}
+use Rattle.mirror.proofs.Parts.{log_is}
 use Rattle.memory_eaw.proofs.Doing.{log_len_is, ranges_is}
 use Rattle.memory_eaw.proofs.eaw.MemoryEawEawStore.part_range.Goals as goal
 

@@ -3,7 +3,8 @@ use Rattle.std.proofs.lemmas.Bool.{false≢true}
 use Rattle.mars_base.proofs.Going.{stays}
 use Rattle.array_shape.specs.declared.shape.Shape.{Shape}
 use Rattle.eaw_face.specs.Frame.{AreFrame}
-use Rattle.mirror.specs.Following.{stand, LeavesFirst, IsBroken}
+use Rattle.mirror.specs.Following.{stand, CanGoOn, LeavesFirst, IsBroken}
+use Rattle.mirror.specs.declared.reader.FrameReader.{FrameReader}
 use Rattle.mirror.specs.declared.follow_fault.FollowFault.TheVariants.{BadFrame, NoMemory}
 use Rattle.mirror.proofs.Streams.{byte_kept, byte_refused, frame_refused, byte_moments, frame_applied}
 use Rattle.mirror.proofs.following.Following.take.Goals as goal
@@ -17,6 +18,7 @@ returns-in-Ok-false-clause-follows g c =
     let e = c.in-Ok-false.ensures in
     byte_kept s.tells s.opens old c.args.byte c.requires.ready c.take.new.self.bytes.items e.bytes
     (λ f. false≢true (sym c.in-Ok-false.field-0-test ∙ e.whole.1 (subst (λ (shape : Shape). AreFrame shape rest) (sym c.requires.shape) f)))
+    (subst (λ (shape : Shape). CanGoOn shape c.take.new.self.bytes.items) (c.take.ensures.shape ∙ c.requires.shape) e.leads.goes_on)
 
 pub returns-in-Ok-false-clause-moments : goal.returns-in-Ok-false-clause-moments
 returns-in-Ok-false-clause-moments g c told =
@@ -64,7 +66,8 @@ returns-clause-follows g c =
     let self = c.args.self.now in
     let old = stand (s.view self.store) self.applied self.reader.bytes.items in
     frame_applied s.tells s.opens old c.args.byte c.requires.ready c.take.new.self.bytes.items c.in-Ok-true.ensures.bytes (s.view c.apply_next.new.self.store) (c.apply_next.new.self.applied + 1)
-    (ap (λ (n : ℕ). n + 1) c.apply_next.ensures.applied) c.clear.new.self.bytes.items c.clear.ensures.bytes c.in-Ok.ensures.next
+    (ap (λ (n : ℕ). n + 1) c.apply_next.ensures.applied) c.clear.new.self.bytes.items c.clear.ensures.bytes
+    (subst (λ (shape : Shape). CanGoOn shape c.clear.new.self.bytes.items) (c.clear.ensures.shape ∙ ap (λ (r : FrameReader). r.shape) c.apply_next.ensures.reader ∙ c.take.ensures.shape ∙ c.requires.shape) c.clear.ensures.leads.goes_on) c.in-Ok.ensures.next
 
 pub returns-clause-moments : goal.returns-clause-moments
 returns-clause-moments g c told =

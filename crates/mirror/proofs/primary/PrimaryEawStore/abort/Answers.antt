@@ -15,4 +15,4 @@ pub returns-clause-does : goal.returns-clause-does
 returns-clause-does g c =
     let s = g.S.EawStore in
     let l = g.L.Link in
-    rw (← c.self.view_is) (done_quiet s.tells _ (abort c.args.tid) _ _ (s.view c.self.inside.store) (s.view c.abort.new.self) tt c.in_ok-abort.ensures.does refl refl)
+    rw (← c.self.view_is) (done_quiet s.tells _ (abort c.args.tid) _ _ (s.view c.self.inside.store) (s.view c.abort.new.self) tt c.in_ok-abort.ensures.does refl refl refl refl)

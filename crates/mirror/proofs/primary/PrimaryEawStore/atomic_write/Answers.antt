@@ -7,11 +7,12 @@ use Rattle.array_shape.specs.Parts.{parts_of_write}
 use Rattle.array_shape.specs.Logged.{Part, ranges_of}
 use Rattle.eaw_face.specs.State.{listed}
 use Rattle.eaw_face.specs.Causes.{fit}
-use Rattle.memory_eaw.specs.Log.{Log}
+use Rattle.mirror.specs.Log.{Log}
 use Rattle.mirror.specs.Sending.{Sends, IsSendable, group_of, sending_of}
 use Rattle.mirror.proofs.Copies.{copy_of, lt, memory_for, bytes_after}
 use Rattle.mirror.proofs.Atomic.{free_parts, write_sendable, read_back, write_data}
 use Rattle.eaw_face.specs.Command.{atomic_write}
+use Rattle.mirror.proofs.Dues.{write_due}
 use Rattle.mirror.proofs.Mirrored.{refused, mirrored}
 use Rattle.mirror.proofs.primary.PrimaryEawStore.atomic_write.Goals as goal
 
@@ -67,4 +68,5 @@ returns-clause-does g c =
     let sender = c.self.inside.sender in
     rw (← c.self.view_is) (mirrored s.tells _ (atomic_write c.args.tid c.args.addr c.args.bytes.now) (sending_of l.tells l.frames l.faults sender) (sending_of l.tells l.frames l.faults c.send_log.new.self) old new tt (group_of t c.index.result.now.parts) d (record { mirrors = refl; told = refl }) refl
     (subst (λ (sh : Shape). Sends l.tells sh (group_of t c.index.result.now.parts) (sending_of l.tells l.frames l.faults sender) (sending_of l.tells l.frames l.faults c.send_log.new.self)) c.self.invariant.0 c.send_log.ensures.sends)
+    (write_due s.tells old t c.args.addr c.args.bytes.now c.index.result.now.parts parts)
     (write_data s.tells old new t c.args.addr c.args.bytes.now c.index.result.now.parts parts inside (g.met.S.EawStore.long c.self.inside.store) (bytes_after d.done)))

@@ -4,6 +4,7 @@ use Rattle.array_shape.specs.declared.shape.Shape.{Shape}
 use Rattle.eaw_face.specs.Command.{commit}
 use Rattle.mirror.specs.Sending.{Sends, group_of, sending_of}
 use Rattle.mirror.proofs.Copies.{copy_of, sendable_at, bytes_after}
+use Rattle.mirror.proofs.Dues.{log_due}
 use Rattle.mirror.proofs.Mirrored.{refused, mirrored, tail_data}
 use Rattle.mirror.proofs.primary.PrimaryEawStore.commit.Goals as goal
 
@@ -33,4 +34,5 @@ returns-clause-does g c =
     let sender = c.self.inside.sender in
     rw (← c.self.view_is) (mirrored s.tells _ (commit c.args.tid) (sending_of l.tells l.frames l.faults sender) (sending_of l.tells l.frames l.faults c.send_log.new.self) old new tt (group_of t (drop 0 log.parts)) d (record { mirrors = refl; told = refl }) refl
     (subst (λ (sh : Shape). Sends l.tells sh (group_of t (drop 0 log.parts)) (sending_of l.tells l.frames l.faults sender) (sending_of l.tells l.frames l.faults c.send_log.new.self)) c.self.invariant.0 c.send_log.ensures.sends)
+    (log_due s.tells old t log.parts copy)
     (tail_data s.tells old new t 0 log.parts (bytes_after d.done) copy.parts_are))

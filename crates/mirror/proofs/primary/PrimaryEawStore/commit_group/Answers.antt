@@ -2,12 +2,13 @@ use Rattle.std.proofs.Common.{List, ap, sym, ◌∙◌, refl, subst}
 use Rattle.std.proofs.lemmas.Result.{err_from_is_err_and}
 use Rattle.array_shape.specs.declared.shape.Shape.{Shape}
 use Rattle.array_shape.specs.NumberSet.{members}
-use Rattle.memory_eaw.specs.Log.{Log}
+use Rattle.mirror.specs.Log.{Log}
 use Rattle.mirror.specs.Sending.{Sends, sending_of}
 use Rattle.mirror.specs.Groups.{AreSendable, groups_of}
 use Rattle.mirror.proofs.Copies.{logs_after, bytes_after}
 use Rattle.mirror.proofs.GroupCopies.{group_sendable, group_within, group_data, group_copies}
 use Rattle.eaw_face.specs.Command.{commit_group}
+use Rattle.mirror.proofs.Dues.{group_due}
 use Rattle.mirror.proofs.Mirrored.{refused, mirrored}
 use Rattle.mirror.proofs.primary.PrimaryEawStore.commit_group.Goals as goal
 
@@ -57,4 +58,5 @@ returns-clause-does g c =
     rw (← c.self.view_is) (mirrored s.tells _ (commit_group (members c.args.tids)) (sending_of l.tells l.frames l.faults sender) (sending_of l.tells l.frames l.faults c.send_logs.new.self) old new tt groups d (record { mirrors = refl; told = refl }) refl
     (subst (λ (sh : Shape). Sends l.tells sh groups (sending_of l.tells l.frames l.faults sender) (sending_of l.tells l.frames l.faults c.send_logs.new.self)) c.self.invariant.0
     (subst (λ (ls : List Log). Sends l.tells sender.shape (groups_of ls (members c.args.tids)) (sending_of l.tells l.frames l.faults sender) (sending_of l.tells l.frames l.faults c.send_logs.new.self)) c.deref.ensures.value c.send_logs.ensures.sends))
+    (group_due logs s.tells old c.self.invariant.1 d.cause.0 (members c.args.tids) d.cause.1)
     (group_data s.tells old logs c.self.invariant.1 d.cause.0 new (members c.args.tids) d.cause.1 (bytes_after d.done)))

@@ -3,7 +3,7 @@ use Rattle.std.specs.Prelude.{Some}
 use Rattle.std.proofs.lemmas.Result.{err_from_is_err_and}
 use Rattle.eaw_face.specs.State.{listed, edited}
 use Rattle.eaw_face.specs.Command.{log_edit}
-use Rattle.memory_eaw.specs.Log.{Log}
+use Rattle.mirror.specs.Log.{Log}
 use Rattle.mirror.proofs.Copies.{copy_of, length_of, HasLogged, copies_now, others_kept, logs_after, remade}
 use Rattle.mirror.proofs.Mirrored.{refused, done_quiet}
 use Rattle.mirror.proofs.primary.PrimaryEawStore.log_edit.Goals as goal
@@ -42,4 +42,4 @@ pub returns-clause-does : goal.returns-clause-does
 returns-clause-does g c =
     let s = g.S.EawStore in
     let l = g.L.Link in
-    rw (← c.self.view_is) (done_quiet s.tells _ (log_edit c.args.tid c.args.pos c.args.at c.args.bytes.now) _ _ (s.view c.self.inside.store) (s.view c.log_edit.new.self) tt c.in_ok-log_edit.ensures.does refl refl)
+    rw (← c.self.view_is) (done_quiet s.tells _ (log_edit c.args.tid c.args.pos c.args.at c.args.bytes.now) _ _ (s.view c.self.inside.store) (s.view c.log_edit.new.self) tt c.in_ok-log_edit.ensures.does refl refl refl refl)

@@ -7,4 +7,4 @@ pub returns-clause-does : goal.returns-clause-does
 returns-clause-does g c =
     let s = g.S.EawStore in
     let l = g.L.Link in
-    rw (← c.self.view_is) (passed_on s.tells _ (log_read c.args.tid) _ _ (s.view c.self.inside.store) (s.view c.log_read.new.self) c.log_read.result c.log_read.ensures.does refl refl c.log_read.ensures.refused (λ same. ap (λ x. (s.view x).state.bytes) same))
+    rw (← c.self.view_is) (passed_on s.tells _ (log_read c.args.tid) _ _ (s.view c.self.inside.store) (s.view c.log_read.new.self) c.log_read.result c.log_read.ensures.does refl refl refl refl c.log_read.ensures.refused (λ same. ap (λ x. (s.view x).state.bytes) same))

@@ -4,7 +4,7 @@ use Rattle.std.proofs.lemmas.Result.{err_from_is_err_and}
 use Rattle.array_shape.specs.Parts.{parts_of_write}
 use Rattle.eaw_face.specs.State.{listed}
 use Rattle.eaw_face.specs.Command.{log_write}
-use Rattle.memory_eaw.specs.Log.{Log}
+use Rattle.mirror.specs.Log.{Log}
 use Rattle.mirror.proofs.Copies.{copy_of, memory_for, HasLogged, copies_now, others_kept, logs_after, grown}
 use Rattle.mirror.proofs.Mirrored.{refused, done_quiet}
 use Rattle.mirror.proofs.primary.PrimaryEawStore.log_write.Goals as goal
@@ -42,4 +42,4 @@ pub returns-clause-does : goal.returns-clause-does
 returns-clause-does g c =
     let s = g.S.EawStore in
     let l = g.L.Link in
-    rw (← c.self.view_is) (done_quiet s.tells _ (log_write c.args.tid c.args.addr c.args.bytes.now) _ _ (s.view c.self.inside.store) (s.view c.log_write.new.self) c.in_ok-len.len c.in_ok-len.ensures.does refl refl)
+    rw (← c.self.view_is) (done_quiet s.tells _ (log_write c.args.tid c.args.addr c.args.bytes.now) _ _ (s.view c.self.inside.store) (s.view c.log_write.new.self) c.in_ok-len.len c.in_ok-len.ensures.does refl refl refl refl)

@@ -4,9 +4,10 @@ use Rattle.std.proofs.lemmas.Result.{err_from_is_err_and}
 use Rattle.array_shape.specs.declared.shape.Shape.{Shape}
 use Rattle.eaw_face.specs.State.{listed}
 use Rattle.eaw_face.specs.Command.{nested_top}
-use Rattle.memory_eaw.specs.Log.{Log}
+use Rattle.mirror.specs.Log.{Log}
 use Rattle.mirror.specs.Sending.{Sends, group_of, sending_of}
 use Rattle.mirror.proofs.Copies.{copy_of, sendable_at, length_of, HasLogged, copies_now, others_kept, logs_after, bytes_after, cut}
+use Rattle.mirror.proofs.Dues.{tail_due}
 use Rattle.mirror.proofs.Mirrored.{refused, mirrored, tail_data}
 use Rattle.mirror.proofs.primary.PrimaryEawStore.nested_top.Goals as goal
 
@@ -60,4 +61,5 @@ returns-clause-does g c =
     let sender = c.self.inside.sender in
     rw (← c.self.view_is) (mirrored s.tells _ (nested_top c.args.tid c.args.offset) (sending_of l.tells l.frames l.faults sender) (sending_of l.tells l.frames l.faults c.send_log.new.self) old new tt (group_of t (drop c.args.offset log.parts)) d (record { mirrors = refl; told = refl }) refl
     (subst (λ (sh : Shape). Sends l.tells sh (group_of t (drop c.args.offset log.parts)) (sending_of l.tells l.frames l.faults sender) (sending_of l.tells l.frames l.faults c.send_log.new.self)) c.self.invariant.0 c.send_log.ensures.sends)
+    (tail_due s.tells old t log.parts copy c.args.offset)
     (tail_data s.tells old new t c.args.offset log.parts (bytes_after d.done) copy.parts_are))

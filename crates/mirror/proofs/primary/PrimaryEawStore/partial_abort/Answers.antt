@@ -3,7 +3,7 @@ use Rattle.std.specs.Prelude.{Some}
 use Rattle.std.proofs.lemmas.Result.{err_from_is_err_and}
 use Rattle.eaw_face.specs.State.{listed}
 use Rattle.eaw_face.specs.Command.{partial_abort}
-use Rattle.memory_eaw.specs.Log.{Log}
+use Rattle.mirror.specs.Log.{Log}
 use Rattle.mirror.proofs.Copies.{copy_of, HasLogged, copies_now, others_kept, logs_after, cut}
 use Rattle.mirror.proofs.Mirrored.{refused, done_quiet}
 use Rattle.mirror.proofs.primary.PrimaryEawStore.partial_abort.Goals as goal
@@ -35,4 +35,4 @@ pub returns-clause-does : goal.returns-clause-does
 returns-clause-does g c =
     let s = g.S.EawStore in
     let l = g.L.Link in
-    rw (← c.self.view_is) (done_quiet s.tells _ (partial_abort c.args.tid c.args.offset) _ _ (s.view c.self.inside.store) (s.view c.partial_abort.new.self) tt c.in_ok-partial_abort.ensures.does refl refl)
+    rw (← c.self.view_is) (done_quiet s.tells _ (partial_abort c.args.tid c.args.offset) _ _ (s.view c.self.inside.store) (s.view c.partial_abort.new.self) tt c.in_ok-partial_abort.ensures.does refl refl refl refl)

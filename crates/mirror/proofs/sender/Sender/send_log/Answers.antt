@@ -48,7 +48,7 @@ returns-in-Ok-clause-sends g c =
     let mid = c.self.inside in
     let count : mid.sent ≡ old.sent = sent_same same in
     let sequence : c.in-Some.sequence ≡ mid.sent + 1 = omega (arith, next.0, count) in
-    frame_sent l.frames l.faults l.tells old.shape (group_of c.args.number (drop c.args.offset parts)) (some_group c.args.number (drop c.args.offset parts) some) old (record { link = mid.link; shape = mid.shape; sent = mid.sent; is_down = mid.is_down }) same
+    frame_sent l.frames l.faults l.tells old.shape (group_of c.args.number (drop c.args.offset parts)) (some_group c.args.number (drop c.args.offset parts) some) old (record { link = mid.link; shape = mid.shape; room = vec_capacity mid.frame; sent = mid.sent; is_down = mid.is_down }) same
     c.send.new.self
     (down_same same ∙ next.2)
     (good_frame old.shape old.shape.in_range c.args.number c.requires.number (mid.sent + 1) (drop c.args.offset parts) some (omega (arith, next.1, count)) (sendable_drop old.shape c.args.offset parts c.requires.log) c.append_group.ensures.bytes)
@@ -68,5 +68,5 @@ returns-in-Err-clause-sends g c =
     let left = length-drop c.args.offset parts in
     let some : 0 < length (drop c.args.offset parts) = omega (arith, c.len.ensures, c.if-len-offset.false, c.requires.offset, left) in
     let mid = c.self.inside in
-    frame_failed l.frames l.faults l.tells old.shape (group_of c.args.number (drop c.args.offset parts)) (some_group c.args.number (drop c.args.offset parts) some) old (record { link = mid.link; shape = mid.shape; sent = mid.sent; is_down = mid.is_down }) same
+    frame_failed l.frames l.faults l.tells old.shape (group_of c.args.number (drop c.args.offset parts)) (some_group c.args.number (drop c.args.offset parts) some) old (record { link = mid.link; shape = mid.shape; room = vec_capacity mid.frame; sent = mid.sent; is_down = mid.is_down }) same
     c.send.new.self c.in-Err.ensures.unsent c.in-Err.ensures.cause.failed c.in-Err.ensures.cause.later

@@ -41,7 +41,7 @@ returns-in-Ok-clause-sends g c =
     let count : mid.sent ≡ old.sent = sent_same same in
     let sequence : c.in-Some.sequence ≡ mid.sent + 1 = omega (arith, next.0, count) in
     let some : 0 < length groups = omega (arith, c.count_groups-count.ensures, c.if-count-eq0.false) in
-    frame_sent l.frames l.faults l.tells old.shape groups some old (record { link = mid.link; shape = mid.shape; sent = mid.sent; is_down = mid.is_down }) same
+    frame_sent l.frames l.faults l.tells old.shape groups some old (record { link = mid.link; shape = mid.shape; room = vec_capacity mid.frame; sent = mid.sent; is_down = mid.is_down }) same
     c.send.new.self
     (down_same same ∙ next.2)
     (groups_frame old.shape old.shape.in_range c.args.logs.now c.args.tids.bits (mid.sent + 1) c.requires.logs c.append_groups.ensures.bytes some (omega (arith, next.1, count)))

@@ -12,5 +12,5 @@ returns-clause-does g c =
     let old : PagesView = record { store = view c.self.inside.store; counts = counts_in marks; top = top_in marks } in
     let new : PagesView = record { store = view c.read.new.self; counts = counts_in marks; top = top_in marks } in
     let reads = reads_of g.S.EawStore.tells (g.S.EawStore.opens (view c.self.inside.store).shape) 0 (model.read c.address.result (length c.args.buf.now)) (view c.self.inside.store) (view c.read.new.self)
-    (λ s. refl) (λ rs. refl) (λ u no. no) (λ h i n no. no) (λ u ne. c.read.ensures.does.others u (λ no. no)) c.read.result c.read.ensures.does in
-    rw (← c.self.view_is) (page_read g.S.EawStore.tells (g.S.EawStore.opens (view c.self.inside.store).shape) 0 read old new (λ s. refl) (λ o. refl) tt refl refl (λ u ne. c.read.ensures.does.others u (λ no. no)) c.read.result c.told.result c.told.ensures reads)
+    (λ s. refl) (λ rs. refl) refl (λ u no. no) (λ h i n no. no) (λ u ne. c.read.ensures.does.others u (λ no. no)) c.read.result c.read.ensures.does in
+    rw (← c.self.view_is) (page_read g.S.EawStore.tells (g.S.EawStore.opens (view c.self.inside.store).shape) 0 read old new (λ s. refl) (λ o. refl) refl tt refl refl (λ u ne. c.read.ensures.does.others u (λ no. no)) c.read.result c.told.result c.told.ensures reads)

@@ -10,5 +10,5 @@ returns-clause-does g c =
     let marks = c.self.inside.marks.items in
     let old : PagesView = record { store = view c.self.inside.store; counts = counts_in marks; top = top_in marks } in
     let new : PagesView = record { store = view c.read_seen.new.store; counts = counts_in marks; top = top_in marks } in
-    rw (← c.self.view_is) (page_read g.S.EawStore.tells (g.S.EawStore.opens (view c.self.inside.store).shape) c.args.tid (read_as c.args.tid) old new (λ s. refl) (λ o. refl) tt refl refl
+    rw (← c.self.view_is) (page_read g.S.EawStore.tells (g.S.EawStore.opens (view c.self.inside.store).shape) c.args.tid (read_as c.args.tid) old new (λ s. refl) (λ o. refl) refl tt refl refl
     (λ u ne. c.read_seen.ensures.does.others u (λ is. ne is)) c.read_seen.result c.told.result c.told.ensures c.read_seen.ensures.does)

@@ -22,6 +22,14 @@ use Rattle.record_table.proofs.Sharing.{Laws, called_below}
 use Rattle.record_table.proofs.records.Records.del.Given.{Over}
 use Rattle.record_table.proofs.records.Records.del.Goals.{in-Ok, in-Err-write_as}
 use Rattle.record_table.proofs.KeptNames.{kept}
+use Rattle.std.proofs.Common.{false, List, [], Option, None, Some}
+use Rattle.eaw_face.specs.Causes.{IsAlive}
+use Rattle.page_store.specs.Index.{IsTable}
+use Rattle.page_store.specs.declared.fault.PageFault.{PageFault}
+use Rattle.record_table.specs.Hearing.{Hearing}
+use Rattle.record_table.specs.Seeks.{Seeks, Erases, AnswersErase}
+use Rattle.record_table.specs.declared.slots.Place.{Place}
+use Rattle.record_table.proofs.Erasing.{erases, erased_as, erased_if, is_erased}
 use Rattle.record_table.proofs.records.Records.del.Goals as goal
 
 pub invariant_of-self : goal.invariant_of-self
@@ -159,3 +167,50 @@ seek-requires-clause-named g c =
 
 pub seek-requires-clause-root : goal.seek-requires-clause-root
 seek-requires-clause-root g c = inside_as g.S.EawStore.tells (pages_of (g.S.EawStore.view c.self.inside.pages.store) c.self.inside.pages) c.self.inside.roots.at c.args.table c.requires.table c.self.invariant.1.1 c.of_table-root.result c.of_table-root.ensures
+
+pub returns-in-Ok-None-clause-erases : goal.returns-in-Ok-None-clause-erases
+returns-in-Ok-None-clause-erases g c =
+    let V = g.S.EawStore.view in
+    let name = name_at (V c.args.self.now.store).state.bytes c.args.table in
+    let calls = called_inside g.S.EawStore.tells V c.args.self.now c.self.inside.pages c.self.view_is c.args.table name (λ told alive. called_below (V c.args.self.now.store).state.bytes c.args.table (c.requires.there told alive)) in
+    let roots = rooted_as g.S.EawStore.tells (pages_of (V c.self.inside.pages.store) c.self.inside.pages) c.self.inside.roots.at c.args.table c.requires.table c.self.invariant.1.1 name calls c.of_table-root.result c.of_table-root.ensures in
+    erases V g.S.EawStore.calls g.S.EawStore.tells (λ root. g.K.KeyIndex.index.finding root c.args.key) c.args.table c.args.key c.args.tid c.of_table-root.result c.args.self.now c.self.inside.pages c.self.view_is roots
+    (V c.seek.new.pages.store).moment c.new-hearings.result.said c.seek.new.hearings.said c.new-hearings.ensures (let r : Result (Option Place) PageFault = Ok None in r) (rw c.in-Ok-None.field-0-is at c.in-Ok-None.ensures.seeks) (Ok false) refl
+
+pub returns-in-Err-clause-erases : goal.returns-in-Err-clause-erases
+returns-in-Err-clause-erases g c =
+    let V = g.S.EawStore.view in
+    let name = name_at (V c.args.self.now.store).state.bytes c.args.table in
+    let calls = called_inside g.S.EawStore.tells V c.args.self.now c.self.inside.pages c.self.view_is c.args.table name (λ told alive. called_below (V c.args.self.now.store).state.bytes c.args.table (c.requires.there told alive)) in
+    let roots = rooted_as g.S.EawStore.tells (pages_of (V c.self.inside.pages.store) c.self.inside.pages) c.self.inside.roots.at c.args.table c.requires.table c.self.invariant.1.1 name calls c.of_table-root.result c.of_table-root.ensures in
+    erases V g.S.EawStore.calls g.S.EawStore.tells (λ root. g.K.KeyIndex.index.finding root c.args.key) c.args.table c.args.key c.args.tid c.of_table-root.result c.args.self.now c.self.inside.pages c.self.view_is roots
+    (V c.seek.new.pages.store).moment c.new-hearings.result.said c.seek.new.hearings.said c.new-hearings.ensures (let r : Result (Option Place) PageFault = Err c.in-Err.fault in r) c.in-Err.ensures.seeks (Err c.from.result) (ap (λ (e : TableFault). let r : Result Bool TableFault = Err e in r) c.from.ensures)
+
+pub returns-then-is_none-clause-erases : goal.returns-then-is_none-clause-erases
+returns-then-is_none-clause-erases g c =
+    let V = g.S.EawStore.view in
+    let name = name_at (V c.args.self.now.store).state.bytes c.args.table in
+    let calls = called_inside g.S.EawStore.tells V c.args.self.now c.self.inside.pages c.self.view_is c.args.table name (λ told alive. called_below (V c.args.self.now.store).state.bytes c.args.table (c.requires.there told alive)) in
+    let roots = rooted_as g.S.EawStore.tells (pages_of (V c.self.inside.pages.store) c.self.inside.pages) c.self.inside.roots.at c.args.table c.requires.table c.self.invariant.1.1 name calls c.of_table-root.result c.of_table-root.ensures in
+    erases V g.S.EawStore.calls g.S.EawStore.tells (λ root. g.K.KeyIndex.index.finding root c.args.key) c.args.table c.args.key c.args.tid c.of_table-root.result c.args.self.now c.self.inside.pages c.self.view_is roots
+    (V c.seek.new.pages.store).moment c.new-hearings.result.said c.seek.new.hearings.said c.new-hearings.ensures (let r : Result (Option Place) PageFault = Ok (Some c.in-Ok-Some.place) in r) (rw c.in-Ok-Some.field-0-is at c.in-Ok-Some.ensures.seeks) (Ok false)
+    (erased_if c.in-Ok-Some.place.value (none_is c.in-Ok-Some.place.value c.if-is_none.ensures))
+
+written_is : (g : Over) (c : goal.Joined-write_as g) → c.match-write_as.result ≡ erased_as c.write_as.result
+written_is g c = elim c.match-write_as.branch [
+  | in-Ok w ↦ w.result-is ∙ sym (ap erased_as w.in-Ok.is)
+  | in-Err-write_as w ↦ w.result-is ∙ ap (λ (f : TableFault). let r : Result Bool TableFault = Err f in r) w.from-in-Err-write_as.ensures ∙ sym (ap erased_as w.in-Err-write_as.is)
+]
+
+pub returns-clause-erases : goal.returns-clause-erases
+returns-clause-erases g c =
+    let V = g.S.EawStore.view in
+    let mid = c.seek.new.pages in
+    let new = c.write_as.new.pages in
+    let name = name_at (V c.args.self.now.store).state.bytes c.args.table in
+    let calls = called_inside g.S.EawStore.tells V c.args.self.now c.self.inside.pages c.self.view_is c.args.table name (λ told alive. called_below (V c.args.self.now.store).state.bytes c.args.table (c.requires.there told alive)) in
+    let roots = rooted_as g.S.EawStore.tells (pages_of (V c.self.inside.pages.store) c.self.inside.pages) c.self.inside.roots.at c.args.table c.requires.table c.self.invariant.1.1 name calls c.of_table-root.result c.of_table-root.ensures in
+    erases V g.S.EawStore.calls g.S.EawStore.tells (λ root. g.K.KeyIndex.index.finding root c.args.key) c.args.table c.args.key c.args.tid c.of_table-root.result c.args.self.now c.self.inside.pages c.self.view_is roots
+    (V c.seek.new.pages.store).moment c.new-hearings.result.said c.seek.new.hearings.said c.new-hearings.ensures (let r : Result (Option Place) PageFault = Ok (Some c.in-Ok-Some.place) in r) (rw c.in-Ok-Some.field-0-is at c.in-Ok-Some.ensures.seeks) c.match-write_as.result
+    (is_erased g.S.EawStore.tells (g.S.EawStore.opens (V mid.store).shape) (write_as c.args.tid (64 * (slots_of (V mid.store).shape + c.in-Ok-Some.place.slot)) (slot_bytes (Absent c.args.table c.args.key))) (pages_of (V mid.store) mid) (pages_of (V new.store) new) c.write_as.result
+    c.write_as.ensures.does c.in-Ok-Some.place.value c.if-is_none.ensures c.match-write_as.result (written_is g c))

@@ -1,4 +1,4 @@
-use Rattle.std.proofs.Common.{IsTrue, ◌∙◌, ap, subst, refl, sym, Ok, Err}
+use Rattle.std.proofs.Common.{List, Option, Result, IsTrue, ◌∙◌, ap, subst, refl, sym, Ok, Err}
 use Rattle.record_table.specs.Names.{name_at}
 use Rattle.record_table.proofs.Sharing.{called_below}
 use Rattle.record_table.proofs.Rooted.{rooted_as, inside_as, called_inside}
@@ -9,7 +9,10 @@ use Rattle.history.specs.Key.{of_table}
 use Rattle.history.specs.Table.{found}
 use Rattle.history.specs.declared.call.Call.TheVariants.{Get}
 use Rattle.record_table.specs.Faults.{as_table}
-use Rattle.record_table.specs.Seeks.{Gets}
+use Rattle.page_store.specs.declared.fault.PageFault.{PageFault}
+use Rattle.record_table.specs.declared.slots.Place.{Place}
+use Rattle.record_table.specs.Hearing.{Hearing}
+use Rattle.record_table.specs.Seeks.{Gets, Seeks}
 use Rattle.record_table.proofs.Seeking.{found_value}
 use Rattle.record_table.proofs.Doing.{got, look_refused}
 use Rattle.record_table.proofs.Ending.{does_of}
@@ -62,17 +65,19 @@ returns-clause-gets g c =
     let roots = rooted_as g.S.EawStore.tells (pages_of (V c.self.inside.pages.store) c.self.inside.pages) c.self.inside.roots.at c.args.table c.requires.table c.self.invariant.1.1 name calls c.of_table-root.result c.of_table-root.ensures in
     let new = c.seek.new.pages in
     let there = subst (λ (p : Shown g.row.S.Denot). IsTrue g.S.EawStore.tells → IsAlive (V p.store) → IsTable (V p.store).state.bytes c.args.table c.of_table-root.result) c.self.view_is roots in
+    let heard_first = λ (r : Result (Option Place) PageFault) (seeks : Seeks (g.K.KeyIndex.index.finding c.of_table-root.result c.args.key) c.args.key c.args.tid (g.S.EawStore.calls inside.store) c.new-hearings.result.said c.seek.new.hearings.said (V inside.store) (V new.store).moment r).
+    subst (λ (hs : List Hearing). Seeks (g.K.KeyIndex.index.finding c.of_table-root.result c.args.key) c.args.key c.args.tid (g.S.EawStore.calls inside.store) hs c.seek.new.hearings.said (V inside.store) (V new.store).moment r) c.new-hearings.ensures seeks in
     elim c.match-seek.branch [
       | in-Ok w ↦ rw w.result-is (
         root,
-        subst (λ (p : Shown g.row.S.Denot). Gets (g.K.KeyIndex.index.finding c.of_table-root.result c.args.key) c.args.tid (g.S.EawStore.calls p.store) (V p.store) (V new.store) (Ok w.value_at.result)) c.self.view_is
-            (record { sought = Ok w.in-Ok.found; seeks = w.in-Ok.ensures.seeks; told = ap Ok w.value_at.ensures }),
+        subst (λ (p : Shown g.row.S.Denot). Gets (g.K.KeyIndex.index.finding c.of_table-root.result c.args.key) c.args.key c.args.tid (g.S.EawStore.calls p.store) (V p.store) (V new.store) (Ok w.value_at.result)) c.self.view_is
+            (record { sought = Ok w.in-Ok.found; hearings = c.seek.new.hearings.said; seeks = heard_first (Ok w.in-Ok.found) w.in-Ok.ensures.seeks; told = ap Ok w.value_at.ensures }),
         there,
       )
       | in-Err w ↦ rw (w.result-is, w.from.ensures) (
         root,
-        subst (λ (p : Shown g.row.S.Denot). Gets (g.K.KeyIndex.index.finding c.of_table-root.result c.args.key) c.args.tid (g.S.EawStore.calls p.store) (V p.store) (V new.store) (Err (as_table w.in-Err.fault))) c.self.view_is
-            (record { sought = Err w.in-Err.fault; seeks = w.in-Err.ensures.seeks; told = refl }),
+        subst (λ (p : Shown g.row.S.Denot). Gets (g.K.KeyIndex.index.finding c.of_table-root.result c.args.key) c.args.key c.args.tid (g.S.EawStore.calls p.store) (V p.store) (V new.store) (Err (as_table w.in-Err.fault))) c.self.view_is
+            (record { sought = Err w.in-Err.fault; hearings = c.seek.new.hearings.said; seeks = heard_first (Err w.in-Err.fault) w.in-Err.ensures.seeks; told = refl }),
         there,
       )
     ]

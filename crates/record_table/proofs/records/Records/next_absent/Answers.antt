@@ -1,11 +1,14 @@
 use Rattle.index_pages.proofs.Looking.{looks_none}
-use Rattle.std.proofs.Common.{sym}
+use Rattle.std.proofs.Common.{List, [], ℕ, Option, Result, subst, sym}
 use Rattle.record_table.specs.Names.{name_at}
 use Rattle.record_table.proofs.Sharing.{called_below}
 use Rattle.record_table.proofs.Rooted.{rooted_as, inside_as, called_inside}
 use Rattle.page_store.specs.Shown.{pages_of}
 use Rattle.record_table.proofs.Following.{holds_looked}
 use Rattle.record_table.proofs.KeptNames.{kept_by_look}
+use Rattle.page_store.specs.Shown.{Shown}
+use Rattle.record_table.specs.Faults.{told_as}
+use Rattle.record_table.specs.Hearing.{Hearing, HearsAbsent}
 use Rattle.record_table.proofs.records.Records.next_absent.Goals as goal
 
 pub invariant_of-self : goal.invariant_of-self
@@ -35,3 +38,13 @@ returns-then-is_dead-clause-looks g c =
     let V = g.S.EawStore.view in
     let now = c.args.self.now in
     looks_none g.S.EawStore.tells (g.S.EawStore.opens (V now.store).shape) (pages_of (V now.store) now)
+
+pub returns-clause-hears : goal.returns-clause-hears
+returns-clause-hears g c =
+    let V = g.S.EawStore.view in (
+      c.next_absent.new.hearings.said,
+      rw c.told.ensures (subst (λ (p : Shown g.row.S.Denot). HearsAbsent (V p.store).shape c.next_absent.new.hearings.said (told_as c.next_absent.result)) c.self.view_is c.next_absent.ensures.hears),
+    )
+
+pub returns-then-is_dead-clause-hears : goal.returns-then-is_dead-clause-hears
+returns-then-is_dead-clause-hears g c = let none : List Hearing = [] in (none, tt)

@@ -1,4 +1,4 @@
-use Rattle.std.proofs.Common.{true, refl, subst}
+use Rattle.std.proofs.Common.{List, [], true, refl, subst}
 use Rattle.page_store.specs.Shown.{Shown}
 use Rattle.record_table.proofs.Doing.{does_dead}
 use Rattle.record_table.proofs.Looking.{looks_none}
@@ -13,6 +13,9 @@ use Rattle.record_table.proofs.Ending.{does_of}
 use Rattle.record_table.proofs.records.Records.scan.Given.{Over}
 use Rattle.record_table.proofs.records.Records.scan.Goals.{in-Ok, in-Err}
 use Rattle.record_table.proofs.KeptNames.{kept}
+use Rattle.history.specs.Writes.{Row}
+use Rattle.record_table.specs.Hearing.{Hearing, HearsRows}
+use Rattle.record_table.proofs.Hearing.{rows_given}
 use Rattle.record_table.proofs.records.Records.scan.Goals as goal
 
 answer_is : (g : Over) (c : goal.Joined-gather g) → c.match-gather.result ≡ scanned_as c.gather.new.rows c.gather.result
@@ -68,3 +71,15 @@ returns-then-is_dead-clause-looks g c =
     let V = g.S.EawStore.view in
     let now = c.args.self.now in
     looks_none g.S.EawStore.tells (g.S.EawStore.opens (V now.store).shape) c.args.tid (pages_of (V now.store) now)
+
+pub returns-clause-hears : goal.returns-clause-hears
+returns-clause-hears g c =
+    let V = g.S.EawStore.view in
+    rw (answer_is g c) (
+      c.gather.new.hearings.said,
+      subst (λ (p : Shown g.row.S.Denot). HearsRows (V p.store).shape c.gather.new.hearings.said (λ (rows : List Row). rows) (scanned_as c.gather.new.rows c.gather.result)) c.self.view_is
+          (rows_given (V c.self.inside.pages.store).shape c.gather.new.hearings.said c.gather.new.rows c.gather.result c.gather.ensures.hears),
+    )
+
+pub returns-then-is_dead-clause-hears : goal.returns-then-is_dead-clause-hears
+returns-then-is_dead-clause-hears g c = let none : List Hearing = [] in (none, tt)

@@ -1,4 +1,0 @@
-use Rattle.deferred_parts.proofs.laws.entries_are_of_the_array.Goals as goal
-
-pub returns : goal.returns
-returns c = c.args.parts.now.kept.entries

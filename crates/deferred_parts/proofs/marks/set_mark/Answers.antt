@@ -1,5 +1,0 @@
-use Rattle.deferred_parts.proofs.Marking.{gains}
-use Rattle.deferred_parts.proofs.marks.set_mark.Goals as goal
-
-pub returns : goal.returns
-returns c = gains c.args.masks.now c.args.page c.args.tid c.requires.page c.requires.tid

@@ -1,7 +1,0 @@
-use Rattle.late_commits.proofs.Adding.{at_once}
-use Rattle.late_commits.proofs.queue.LateCommits.commit_at_once.Goals as goal
-
-pub returns : goal.returns
-returns g c =
-    at_once g.M.Media.tells c.args.shape.now c.args.ballot c.args.self.now c.requires.depth c.requires.some c.requires.fit (g.M.Media.view c.args.media.now) (g.M.Media.view c.commit.new.media) c.requires.waiting
-    c.commit.result c.commit.ensures.any_moment c.commit.ensures.committed c.commit.ensures.cells c.commit.ensures.does c.commit.ensures.costs

@@ -1,4 +1,0 @@
-pub mod Tied
-pub mod Props
-pub mod Spared
-pub mod Steps

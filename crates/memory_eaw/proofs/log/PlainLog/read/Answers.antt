@@ -1,9 +1,0 @@
-use Rattle.std.proofs.Common.{◌<◌, length, sym, ◌∙◌}
-use Rattle.memory_eaw.proofs.Parts.{range_at-part}
-use Rattle.memory_eaw.proofs.log.PlainLog.read.Goals as goal
-
-pub returns-clause-range : goal.returns-clause-range
-returns-clause-range c =
-    let items = c.self.inside.parts.items in
-    let lt : c.args.pos < length items = rw (← c.self.view_is) at c.requires in
-    rw (← c.self.view_is) (c.read.ensures.range ∙ sym (range_at-part items c.args.pos c.index.result.now lt c.index.ensures))

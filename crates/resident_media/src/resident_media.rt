@@ -1,0 +1,201 @@
+// A medium over a medium, which serves reads from memory.
+ghost use Rattle.std.specs.Prelude.{◌≡◌, ◌+◌, ◌*◌, ◌-◌, ◌/◌, ◌^◌, ◌<◌, ◌≤◌, ◌⊎◌, nat_le, ◌&&◌, [], ◌∷◌, length, ℕ, IsTrue, IsOk, IfOk, IfErr, OnOk};
+ghost use Rattle.mars_base.specs.Moments.{Ticks};
+ghost use Rattle.mars_base.specs.Bytes.{range};
+ghost use Rattle.pcm_media.specs.Images.{written, settled};
+ghost use Rattle.pcm_media.specs.View.{Writes};
+ghost use Rattle.resident_media.specs.Blocks.{Learns, StaysOutside, end_block};
+ghost use Rattle.resident_media.specs.Once.{Does, handed};
+ghost use Rattle.resident_media.specs.Resident.{shown, is_steady, IsTicked, IsAnew, Knows, Called, Served};
+
+use crate::blocks::{BLOCK, count_read, forget, is_within, put_kept, read_kept};
+use crate::moment_notes::MomentNotes;
+use mars_base::Failed;
+use pcm_media::Media;
+use std::alloc::{AllocFailed, Global};
+use std::marker::Model;
+
+/// A medium over a medium that nobody else writes, of whose first bytes it keeps those in memory that were read, by blocks of 4,096. A read within
+/// known blocks makes no call below. A write is handed on, and then put into what is kept. Where it fails, the blocks that it touches are unknown
+/// again. As many reads as there are blocks are handed on first: clearing the room costs about as much, and a short run does not pay for it.
+#[derive(Drop)]
+pub struct ResidentMedia<M: Media> {
+    inner: M,
+    len: usize,
+    wait: usize,
+    kept: Vec<u8>,
+    known: Vec<bool>,
+    moment: u64,
+    faults: u64,
+    notes: MomentNotes,
+}
+
+impl<M: Media> Model for ResidentMedia<M> {
+    ghost use Rattle.std.specs.Vec.{vec_capacity};
+    ghost use Rattle.resident_media.specs.Resident.{Resident, Lies};
+
+    ghost Value = { Resident M };
+
+    ghost view = { λ m. record { inner = m.inner; len = m.len; wait = m.wait; kept = m.kept.items; known = m.known.items; moment = m.moment; faults = m.faults; stood = m.notes.stood } };
+
+    ghost invariant = { λ m. Lies M.tells (M.view m.inner) m.len (vec_capacity m.kept) m.kept.items m.known.items m.wait m.moment m.notes.stood };
+}
+
+impl<M: Media> ResidentMedia<M> {
+    /// Over this medium, with room for its first `limit` bytes, which is reserved now. If there is none, the medium is given back.
+    pub fn over(alloc: Global, inner: M, limit: u64) -> Result<ResidentMedia<M>, AllocFailed<M>>
+        ensures anew { IfOk result (λ media. IsAnew M.view inner limit media) }
+        ensures given_back { IfErr result (λ failed. failed.value ≡ inner) }
+    {
+        let len = inner.len().min(limit) as usize;
+        let blocks = len.div_ceil(BLOCK);
+        let Ok(kept) = Vec::with_capacity(alloc, len) else {
+            return Err(AllocFailed { value: inner });
+        };
+        let Ok(known) = Vec::from_elem(alloc, false, blocks) else {
+            return Err(AllocFailed { value: inner });
+        };
+        let moment = inner.moment();
+        Ok(ResidentMedia {
+            inner,
+            len,
+            wait: blocks,
+            kept,
+            known,
+            moment,
+            faults: 0,
+            notes: MomentNotes::new(moment),
+        })
+    }
+
+    /// The medium below.
+    pub fn into_inner(self) -> M
+        ensures { result ≡ self.inner }
+    {
+        let ResidentMedia {
+            inner,
+            len: _,
+            wait: _,
+            kept: _,
+            known: _,
+            moment: _,
+            faults: _,
+            notes: _,
+        } = self;
+        inner
+    }
+
+    // Raises the moment, or fails at its last value.
+    fn tick(&mut self) -> Result<(), Failed>
+        ensures { IsTicked M.view self.old self.new result }
+    {
+        if self.moment == u64::MAX {
+            self.faults = self.faults.saturating_add(1);
+            return Err(Failed);
+        }
+        self.notes = self.notes.then(self.inner.moment());
+        self.moment += 1;
+        Ok(())
+    }
+}
+
+impl<M: Media> Media for ResidentMedia<M> {
+    ghost use Rattle.std.specs.Prelude.{◌<◌, ◌⊎◌};
+    ghost use Rattle.resident_media.specs.Resident.{shown, is_steady, counts, only_over};
+
+    ghost tells = { M.tells };
+
+    ghost view = { shown M.view };
+
+    ghost steady = { is_steady M.view M.steady };
+
+    // A call came at the last moment, or the medium below is spent.
+    ghost spent = { λ m. (0 < m.faults) ⊎ M.spent m.inner };
+
+    ghost long = { λ m told. M.long m.inner told };
+
+    ghost counts_now = { λ m t image told le left. counts (M.view m.inner) M.tells m.stood m.moment m.faults t image (λ s le' left'. M.counts_now m.inner s image told le' left') left };
+
+    ghost only_now = { λ m image told left. only_over (M.view m.inner) m.stood m.moment m.faults image (M.only_now m.inner image told) left };
+
+    fn len(&self) -> u64 {
+        self.inner.len()
+    }
+
+    fn moment(&self) -> u64 {
+        self.moment
+    }
+
+    fn read(&mut self, at: u64, buf: &mut [u8]) -> Result<(), Failed>
+        requires { at + length buf.old ≤ (M.view self.old.inner).size }
+        ensures bytes { IsTrue M.tells →
+            OnOk result (buf.new ≡ range (M.view self.old.inner).content.bytes at (length buf.old)) }
+        ensures does { Writes M.tells [] (shown M.view self.old) (shown M.view self.new) result }
+        ensures ticks { Ticks self.old.moment self.new.moment result }
+        ensures steady { (calls more : ℕ) → IsTrue (is_steady M.view M.steady self.old (calls + 1) more)
+            → IsOk result × IsTrue (is_steady M.view M.steady self.new calls more) }
+
+        ensures hit { Knows self.old at (length buf.old) → self.old.moment < 2 ^ 64 - 1 → IsOk result × (self.new.inner ≡ self.old.inner) }
+        ensures learns { at < length self.old.kept → at + length buf.old ≤ length self.old.kept → OnOk result (Learns (M.view self.old.inner).moment (M.view self.new.inner).moment (at / 4096) (end_block at (length buf.old)) self.old.known self.new.known) }
+        ensures beyond { (at < length self.old.kept → length self.old.kept < at + length buf.old) → OnOk result (Does M.view handed self.old self.new) }
+        ensures others { StaysOutside (at / 4096) (end_block at (length buf.old)) self.old.known self.new.known }
+        ensures waits { self.old.moment < 2 ^ 64 - 1 → self.new.wait ≡ self.old.wait - 1 }
+        ensures room { self.old.moment < 2 ^ 64 - 1 → self.old.wait ≡ 0 → length self.new.kept ≡ self.old.len }
+        ensures len { self.new.len ≡ self.old.len }
+    {
+        self.tick()?;
+        if !is_within(at, buf.len(), self.kept.len()) {
+            let done = self.inner.read(at, buf);
+            count_read(&mut self.kept, &mut self.wait, self.len);
+            return done;
+        }
+        read_kept(&mut self.inner, &mut self.kept, &mut self.known, at, buf)
+    }
+
+    fn write(&mut self, at: u64, bytes: &[u8]) -> Result<(), Failed>
+        requires { at + length bytes.now ≤ (M.view self.old.inner).size }
+        ensures written { IsTrue M.tells →
+            OnOk result ((M.view self.new.inner).content ≡ written at bytes.now (M.view self.old.inner).content) }
+        ensures does { Writes M.tells ((at, length bytes.now) ∷ []) (shown M.view self.old) (shown M.view self.new) result }
+        ensures ticks { Ticks self.old.moment self.new.moment result }
+        ensures steady { (calls more : ℕ) → IsTrue (is_steady M.view M.steady self.old (calls + 1) (length bytes.now + more))
+            → IsOk result × IsTrue (is_steady M.view M.steady self.new calls more) }
+
+        ensures handed { OnOk result (Does M.view handed self.old self.new) }
+        ensures others { StaysOutside (at / 4096) (end_block at (length bytes.now)) self.old.known self.new.known }
+        ensures room { (length self.new.kept ≡ length self.old.kept) × (self.new.len ≡ self.old.len) × (self.new.wait ≡ self.old.wait) }
+    {
+        self.tick()?;
+        match self.inner.write(at, bytes) {
+            Ok(()) => {
+                put_kept(&mut self.kept, at, bytes);
+                Ok(())
+            }
+            Err(failed) => {
+                forget(&mut self.known, at, bytes.len());
+                Err(failed)
+            }
+        }
+    }
+
+    fn barrier(&mut self) -> Result<(), Failed>
+        ensures settled { IsTrue M.tells →
+            OnOk result ((M.view self.new.inner).content ≡ settled (M.view self.old.inner).content) }
+        ensures does { Writes M.tells [] (shown M.view self.old) (shown M.view self.new) result }
+        ensures ticks { Ticks self.old.moment self.new.moment result }
+        ensures steady { (calls more : ℕ) → IsTrue (is_steady M.view M.steady self.old (calls + 1) more)
+            → IsOk result × IsTrue (is_steady M.view M.steady self.new calls more) }
+
+        ensures same { (self.new.known ≡ self.old.known) × (self.new.kept ≡ self.old.kept) × (self.new.len ≡ self.old.len) × (self.new.wait ≡ self.old.wait) }
+        ensures handed { OnOk result (Does M.view handed self.old self.new) }
+    {
+        self.tick()?;
+        self.inner.barrier()
+    }
+
+    fn fails_when_spent(&self)
+        ensures { 0 < (shown M.view self.now).faults → (0 < self.now.faults) ⊎ M.spent self.now.inner }
+    {
+        self.inner.fails_when_spent();
+    }
+}

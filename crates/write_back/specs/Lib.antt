@@ -1,0 +1,12 @@
+pub mod Entries
+pub mod Turns
+pub mod Kept
+pub mod Shown
+pub mod Reading
+pub mod Waiting
+pub mod Orders
+pub mod Costs
+pub mod Steps
+pub mod Tied
+pub mod Spared
+pub mod Props
