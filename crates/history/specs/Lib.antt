@@ -8,3 +8,4 @@ pub mod Locks
 pub mod Rows
 pub mod Packed
 pub mod Told
+pub mod Answers

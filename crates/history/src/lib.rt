@@ -2,10 +2,11 @@
 //!
 //! Read first `call.rt`, then `specs/Table` (the table's replies, and what calls leave), `specs/Legal` (each transaction is right on what
 //! those before it left), `specs/Groups` (which of them were committed together) and `specs/Locks` (which stripes a call touches, and in
-//! which mode). `history_replay` runs a history. The laws in `laws.rt` are strict locking: transactions that touch no stripe in common that
-//! one of them writes leave each other's calls right.
+//! which mode). `specs/Answers` says what readers beside callers are answered. `history_replay` runs a history. The laws in `laws.rt` are
+//! strict locking: transactions that touch no stripe in common that one of them writes leave each other's calls right.
 #![tactic(auto)]
 
+mod answer;
 mod call;
 mod copying;
 mod key;
@@ -16,6 +17,7 @@ mod rows;
 mod transaction;
 mod unpacking;
 
+pub use answer::{Answer, Answers};
 pub use call::{Call, Reply};
 pub use copying::since;
 pub use key::{Key, main_table};

@@ -13,8 +13,8 @@ use Rattle.caller_plans.specs.declared.fate.Fate.{Fate}
 use Rattle.caller_plans.specs.declared.fate.Fate.TheVariants.{Committed, Aborted, Refused}
 use Rattle.caller_plans.specs.declared.fate.LineFault.{LineFault}
 use Rattle.caller_plans.specs.declared.fate.LineFault.TheVariants.{Bad, Stray}
-use Rattle.reader_work.specs.declared.answer.Answer.{Answer}
-use Rattle.reader_work.specs.declared.answer.Answer.TheVariants.{Value, NoTable}
+use Rattle.history.specs.declared.answer.Answer.{Answer}
+use Rattle.history.specs.declared.answer.Answer.TheVariants.{Value, NoTable}
 
 abbrev pub fault_line : LineFault → List ℕ
 fault_line (Bad n) = bad_line n

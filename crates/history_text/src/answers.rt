@@ -1,15 +1,14 @@
 // What readers were answered.
 ghost use Rattle.std.specs.Prelude.{◌≡◌, ◌++◌, ◌≤◌, length, OnOk};
 ghost use Rattle.std.specs.List.{flat_map};
-ghost use Rattle.reader_work.specs.declared.answer.Answer as Answer;
+ghost use Rattle.history.specs.declared.answer.Answer as Answer;
 ghost use Rattle.history.specs.Table.{found};
 ghost use Rattle.script_text.specs.Replies.{reply_text};
 ghost use Rattle.history_text.specs.Text.{answer_line, answer_lines, answer_text};
 
 use crate::keys::append_key;
-use history::{Key, Reply};
+use history::{Answer, Answers, Key, Reply};
 use mars_base::NoMemory;
-use reader_work::{Answer, Answers};
 use record_slots::Value;
 use script_text::put_reply_text;
 use texts::{Piece, append_pieces};

@@ -19,9 +19,9 @@ use Rattle.texts.specs.MediaFault.{media_line}
 use Rattle.script_text.specs.JointLine.{JointLineSays}
 use Rattle.script_text.specs.declared.joint_line.JointLine.{JointLine}
 use Rattle.caller_plans.specs.Asks.{keys_from}
-use Rattle.reader_work.specs.Answers.{AreAnswers}
+use Rattle.history.specs.Answers.{AreAnswers}
 use Rattle.reader_work.specs.Readership.{passes_for}
-use Rattle.reader_work.specs.declared.answer.Answer.{Answer}
+use Rattle.history.specs.declared.answer.Answer.{Answer}
 use Rattle.script_run.specs.declared.ended.Ended.{Ended}
 use Rattle.script_run.specs.declared.ended.Ended.TheVariants.{MediaFault, NoMemory}
 use Rattle.mars_shell.specs.Told.{TellsEnd}

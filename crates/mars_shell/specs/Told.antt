@@ -2,7 +2,7 @@
 use Rattle.std.specs.Prelude.{ℕ, ◌≡◌, Bool, false, if◌then◌else◌, List, [], Result, Ok, Err}
 use Rattle.std.specs.Global.{Vec}
 use Rattle.mars_base.specs.declared.NoMemory as none
-use Rattle.reader_work.specs.declared.answer.Answer.{Answer}
+use Rattle.history.specs.declared.answer.Answer.{Answer}
 use Rattle.texts.specs.Written.{IsWritten}
 use Rattle.script_run.specs.declared.ended.Ended.{Ended}
 use Rattle.script_run.specs.declared.ended.Ended.TheVariants.{All, WriteFault, MediaFault, NoMemory}

@@ -16,11 +16,11 @@ use Rattle.snapshot_readers.specs.Batches.{Batch, joined}
 use Rattle.snapshot_readers.specs.Feeds.{read, read_base}
 use Rattle.snapshot_readers.proofs.Joining.{joined_prefix}
 use Rattle.snapshot_readers.proofs.Prefixes.{prefix_trans}
-use Rattle.reader_work.specs.Answers.{IsAnswer, come_to, AreAnswers, AllAnswer}
+use Rattle.history.specs.Answers.{IsAnswer, come_to, AreAnswers, AllAnswer}
 use Rattle.reader_work.specs.Reading.{HasRead}
 use Rattle.reader_work.specs.Readership.{keys_of, answers_of, IsReady}
-use Rattle.reader_work.specs.declared.answer.Answer.{Answer}
-use Rattle.reader_work.specs.declared.answer.Answer.TheVariants.{Value, NoTable}
+use Rattle.history.specs.declared.answer.Answer.{Answer}
+use Rattle.history.specs.declared.answer.Answer.TheVariants.{Value, NoTable}
 use Rattle.reader_work.specs.declared.reading.ReadWorker.{ReadWorker}
 
 take_in : {A : Type 0} (n : ℕ) (xs more : List A) → n ≤ length xs → take n (xs ++ more) ≡ take n xs

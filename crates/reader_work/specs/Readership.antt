@@ -7,7 +7,7 @@ use Rattle.caller_plans.specs.declared.plan.Plan.{Plan}
 use Rattle.caller_work.specs.declared.crew.Job.{Job}
 use Rattle.snapshot_readers.specs.Feeds.{fed, fed_book, IsFresh}
 use Rattle.reader_work.specs.Reading.{CanRead}
-use Rattle.reader_work.specs.declared.answer.Answer.{Answer}
+use Rattle.history.specs.declared.answer.Answer.{Answer}
 use Rattle.reader_work.specs.declared.reading.ReadWorker.{ReadWorker}
 use Rattle.reader_work.specs.declared.readership.Readership.{Readership}
 

@@ -2,7 +2,7 @@
 use Rattle.std.specs.Prelude.{◌≡◌, ◌≤◌, [], length, vec_capacity}
 use Rattle.snapshot_readers.specs.Batches.{joined}
 use Rattle.snapshot_readers.specs.Feeds.{read, read_book, read_base}
-use Rattle.reader_work.specs.Answers.{AreAnswers}
+use Rattle.history.specs.Answers.{AreAnswers}
 use Rattle.reader_work.specs.declared.reading.ReadWorker.{ReadWorker}
 
 -- nothing was asked yet, and there is room for each answer

@@ -5,16 +5,14 @@
 //! publishes all that was committed, before it comes to the gate. When all have ended, each answer is the value after some first
 //! transactions of the one history, no fewer from one answer of a reader to the next.
 //!
-//! Read first `specs/Answers`, then `beside.rt`, `news.rt` (the feed and its pass) and `reading.rt` (one reader's work).
+//! Read first `specs/Answers` of `history`, then `beside.rt`, `news.rt` (the feed and its pass) and `reading.rt` (one reader's work).
 #![tactic(auto)]
 
-mod answer;
 mod beside;
 mod feeding;
 mod news;
 mod readership;
 mod reading;
 
-pub use answer::{Answer, Answers};
 pub use beside::work_with;
 pub use readership::{Readership, open_readership, passes_for};

@@ -3,13 +3,12 @@ ghost use Rattle.std.specs.Prelude.{◌≡◌, length};
 ghost use mathlib.Core.List.{IsPrefix};
 ghost use Rattle.snapshot_readers.specs.Batches.{joined};
 ghost use Rattle.snapshot_readers.specs.Feeds.{read, read_book, read_base};
-ghost use Rattle.reader_work.specs.Answers.{IsAnswer};
+ghost use Rattle.history.specs.Answers.{IsAnswer};
 ghost use Rattle.reader_work.specs.Reading.{CanRead, HasRead};
 
-use crate::answer::Answer;
 use caller_plans::Keys;
 use caller_work::{Gate, Place};
-use history::Key;
+use history::{Answer, Key};
 use record_slots::Names;
 use snapshot_readers::Reader;
 use std::sync::Wait;

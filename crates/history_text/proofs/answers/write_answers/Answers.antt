@@ -1,7 +1,7 @@
 use Rattle.std.proofs.Common.{◌≡◌, refl, ap, sym, ◌∙◌, ◌+◌, ◌++◌, arith, length, drop, slice_index_or, suc, List, ℕ}
 use Rattle.std.specs.List.{flat_map}
 use Rattle.std.proofs.lemmas.List.{append-nil}
-use Rattle.reader_work.specs.declared.answer.Answer.{Answer}
+use Rattle.history.specs.declared.answer.Answer.{Answer}
 use Rattle.history_text.specs.Text.{answer_line, numbered}
 use Rattle.history_text.proofs.Numbering.{one_more, nothing_left}
 use Rattle.history_text.proofs.answers.write_answers.Goals as goal

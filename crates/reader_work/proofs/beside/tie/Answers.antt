@@ -6,7 +6,7 @@ use mathlib.Core.List.{IsPrefix}
 use Rattle.snapshot_readers.specs.Batches.{Batch}
 use Rattle.snapshot_readers.specs.Feeds.{fed, fed_book, heard, told, read, read_book}
 use Rattle.snapshot_readers.proofs.Prefixes.{prefix_trans}
-use Rattle.reader_work.specs.declared.answer.Answer.{Answer}
+use Rattle.history.specs.declared.answer.Answer.{Answer}
 use Rattle.reader_work.specs.declared.reading.ReadWorker.{ReadWorker}
 use Rattle.reader_work.proofs.beside.tie.Goals as goal
 

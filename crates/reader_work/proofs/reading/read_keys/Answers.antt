@@ -4,8 +4,8 @@ use Rattle.history.specs.Writes.{Table}
 use Rattle.snapshot_readers.specs.Batches.{joined}
 use Rattle.snapshot_readers.specs.Feeds.{read, read_base}
 use Rattle.snapshot_readers.proofs.Joining.{joined_prefix}
-use Rattle.reader_work.specs.Answers.{IsAnswer, AreAnswers}
-use Rattle.reader_work.specs.declared.answer.Answer.{Answer}
+use Rattle.history.specs.Answers.{IsAnswer, AreAnswers}
+use Rattle.history.specs.declared.answer.Answer.{Answer}
 use Rattle.reader_work.proofs.Answering.{next_of}
 use Rattle.reader_work.proofs.reading.read_keys.Goals as goal
 

@@ -2,7 +2,7 @@ use Rattle.std.proofs.Common.{◌≡◌, length, take}
 use Rattle.std.specs.Vec.{vec_capacity}
 use Rattle.snapshot_readers.specs.Batches.{joined}
 use Rattle.snapshot_readers.specs.Feeds.{read, read_book, read_base}
-use Rattle.reader_work.specs.Answers.{AreAnswers}
+use Rattle.history.specs.Answers.{AreAnswers}
 use Rattle.reader_work.proofs.reading.read_keys.Given as goal
 
 -- the keys so far have their answers

@@ -1,5 +1,5 @@
 // What readers are answered.
-use history::Key;
+use crate::key::Key;
 use mars_base::Listed;
 use record_slots::Value;
 

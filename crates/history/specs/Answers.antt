@@ -7,8 +7,8 @@ use Rattle.history.specs.Locks.{has_table}
 use Rattle.history.specs.Writes.{Table}
 use Rattle.history.specs.declared.call.Call.TheVariants.{Get}
 use Rattle.history.specs.declared.transaction.Done.{Done}
-use Rattle.reader_work.specs.declared.answer.Answer.{Answer}
-use Rattle.reader_work.specs.declared.answer.Answer.TheVariants.{Value, NoTable}
+use Rattle.history.specs.declared.answer.Answer.{Answer}
+use Rattle.history.specs.declared.answer.Answer.TheVariants.{Value, NoTable}
 
 -- it is the value of the key after the first `at` transactions of a list, no fewer than `least`
 pub record IsValueIn (base : Table) (list : List Done) (least : ℕ) (key : Key) (at : ℕ) (value : Option (List ℕ)) : Type 0 where
