@@ -11,10 +11,12 @@ pub mod AllTables
 pub mod Sought
 pub mod Faults
 pub mod Hearing
+pub mod Blames
 pub mod Seeks
 pub mod Scanned
 pub mod Form
 pub mod Upgrading
 pub mod Removing
 pub mod Making
+pub mod Works
 pub mod Placing
