@@ -15,7 +15,7 @@ use Rattle.index_pages.specs.Keys.{from_on}
 use Rattle.index_pages.specs.Page.{level_said, pairs_said}
 use Rattle.index_pages.proofs.Courses.{reads_then}
 use Rattle.btree_laws.specs.Descent.{child_for}
-use Rattle.btree_pages.specs.Downward.{down, down_and_on, entry_from, behind_along, is_leaf, pairs_at, begun, rested, tree_nexting, slot_at, Descended, Gathered}
+use Rattle.btree_pages.specs.Downward.{down, down_and_on, entry_from, behind_along, is_leaf, pairs_at, begun, rested, tree_nexting, slot_at, Descended, Gathered, tree_placing}
 use Rattle.btree_pages.specs.Start.{entry_of}
 use Rattle.btree_pages.specs.declared.look.Start.{Start}
 use Rattle.btree_pages.specs.declared.look.Leaf.{Leaf}
@@ -48,6 +48,11 @@ leaf_said said level is leaf = grind (arith, nat_tests, is, leaf)
 -- an inner page leads on
 pub inner_leads : (root key page : ℕ) (said : List ℕ) (level child : ℕ) → level ≡ level_said said → level ≢ 0 → child ≡ child_for (pairs_said said) key → (read : List Reading) → down root key ((page, said) ∷ read) ≡ Some child
 inner_leads root key page said level child is inner leads read = let b : is_leaf said ≡ false = inner_said said level is inner in (rw b (ap Some (sym leads)))
+
+-- the leaf of a key as a place for it
+pub leaf_placed : (key : ℕ) (said : List ℕ) (leaf : Leaf) (read : List Reading) → Descended key said leaf read → tree_placing key read ≡ Some (record { page = leaf.page; link = 0; pairs = pairs_said said })
+leaf_placed key said leaf [] there = absurd there
+leaf_placed key said leaf (r ∷ rs) there = λ i. Some (record { page = there.0 i; link = 0; pairs = pairs_said (there.1 i) })
 
 -- what the leaf of a key says
 pub slot_is : (key : ℕ) (said : List ℕ) (leaf : Leaf) (read : List Reading) → Descended key said leaf read → slot_at key read ≡ Some (found (pairs_said said) key)

@@ -1,7 +1,7 @@
 -- How look-ups go down a tree.
 use Rattle.std.specs.Prelude.{ℕ, ◌≡◌, Bool, true, nat_eq, if◌then◌else◌, List, [], ◌∷◌, Option, Some, None}
 use Rattle.std.specs.Option.{option_map, option_or}
-use Rattle.page_store.specs.Course.{Reading, Course}
+use Rattle.page_store.specs.Course.{Reading, Course, LeafSaid}
 use Rattle.page_store.specs.Pairs.{Pair, found}
 use Rattle.index_pages.specs.Keys.{from_on}
 use Rattle.index_pages.specs.Page.{level_said, pairs_said}
@@ -32,6 +32,11 @@ slot_at key (r ∷ rs) = if is_leaf r.1 then Some (found (pairs_said r.1) key) e
 
 abbrev pub tree_finding : ℕ → ℕ → Course (Option ℕ)
 tree_finding root key = record { goes = down root key; answer = slot_at key; most = λ shape. 8 }
+
+-- a key that is not there goes into the leaf, which has no link
+abbrev pub tree_placing : ℕ → List Reading → Option LeafSaid
+tree_placing key [] = None
+tree_placing key (r ∷ rs) = Some (record { page = r.0; link = 0; pairs = pairs_said r.1 })
 
 -- the entry behind a key's way, as the pages on it say: the next leaf is the first under its child
 abbrev pub behind_along : ℕ → List Reading → Option Pair

@@ -10,7 +10,7 @@ use Rattle.index_pages.specs.Page.{level_of, count_of, page_pairs}
 use Rattle.index_pages.specs.Slots.{index_check}
 use Rattle.index_pages.specs.Within.{within}
 use Rattle.btree_laws.specs.Descent.{child_for, leaf_for}
-use Rattle.btree_pages.specs.Downward.{tree_finding, tree_nexting}
+use Rattle.btree_pages.specs.Downward.{tree_finding, tree_nexting, tree_placing}
 use Rattle.btree_laws.specs.Removals.{right_of, parent_for, stays_last}
 use Rattle.btree_laws.specs.Tree.{tree_check, pairs_of_tree, IsPageOfTree}
 
@@ -107,6 +107,7 @@ tree = record {
   removal = tree_removal;
   finding = tree_finding;
   nexting = tree_nexting;
+  placing = tree_placing;
 }
 
 -- The index for the rest of an insertion, from a page on its way that has room and is this many levels above the leaves. Its actions are

@@ -1,14 +1,15 @@
 // Insertions into the tree of a table: each full page on the way down is split, and then the pair goes to its leaf.
-ghost use Rattle.std.specs.Prelude.{◌≡◌, ◌≢◌, ◌↔◌, ◌+◌, ◌-◌, ◌*◌, ◌<◌, ◌≤◌, [], ◌∷◌, None, is_some, IfSome, IsErrOf, IsTrue, length};
+ghost use Rattle.std.specs.Prelude.{false, ◌≡◌, ◌≢◌, ◌↔◌, ◌+◌, ◌-◌, ◌*◌, ◌<◌, ◌≤◌, [], ◌∷◌, None, is_some, IfSome, IsErrOf, IsTrue, length};
 ghost use Rattle.eaw_face.specs.Causes.{IsAlive};
 ghost use Rattle.record_slots.specs.Places.{page_bytes};
 ghost use Rattle.record_slots.specs.Super.{SaysSuper};
 ghost use Rattle.page_store.specs.Index.{IsTable, index_pages_of, slots_of};
-ghost use Rattle.page_store.specs.Inserts.{Inserts};
+ghost use Rattle.page_store.specs.Inserts.{Inserts, are_slots_full};
+ghost use Rattle.page_store.specs.Looks.{Looks};
 ghost use Rattle.page_store.specs.Pairs.{found};
 ghost use Rattle.page_store.specs.Placed.{IsPlaceIn};
 ghost use Rattle.page_store.specs.Shown.{pages_of, top_in};
-ghost use Rattle.page_store.specs.Works.{Works, WorksFrom, blamed_index, insertion_limits, is_done};
+ghost use Rattle.page_store.specs.Works.{Works, WorksFrom, blamed_index, insertion_limits, is_done, unless_full};
 ghost use Rattle.index_pages.specs.Fetched.{IsFront};
 ghost use Rattle.index_pages.specs.Page.{level_of, page_pairs};
 ghost use Rattle.btree_laws.specs.Tree.{pairs_of_tree};
@@ -50,8 +51,11 @@ pub fn insert<S: EawStore>(
     ensures inserts { Inserts S.tells (S.opens (S.view pages.old.store).shape) tree tid root.page root.table key
         (pages_of (S.view pages.old.store) pages.old) (pages_of (S.view pages.new.store) pages.new) result }
     ensures works { Works (IsTrue S.tells) S.tells (is_done result) S.view S.calls tid (down root.page key)
-        (insertion_limits (is_some place) (tree_finding root.page key) (S.view pages.old.store).shape) (tree_actions (S.view pages.old.store).state.bytes root.page key)
+        (unless_full (are_slots_full result) (insertion_limits (is_some place) (tree_finding root.page key) (S.view pages.old.store).shape))
+        (tree_actions (S.view pages.old.store).state.bytes root.page key)
         (blamed_index result) (S.view pages.old.store) (S.view pages.new.store) }
+    ensures full { IsTrue (are_slots_full result) → Looks S.tells (S.opens (S.view pages.old.store).shape) false
+        (pages_of (S.view pages.old.store) pages.old) (pages_of (S.view pages.new.store) pages.new) }
     ensures dead { IsErrOf result IndexFault.Dead → pages.new ≡ pages.old }
 {
     let count = index_page_count(pages);
@@ -108,6 +112,7 @@ fn insert_above<S: EawStore>(
         (pages_of (S.view pages.old.store) pages.old) (pages_of (S.view pages.new.store) pages.new) result }
     ensures works { WorksFrom (0 ∷ root.page ∷ []) (IsTrue S.tells) S.tells (is_done result) S.view S.calls tid (below key top.level top.pairs.items) (limits_above top.level)
         (tree_actions (S.view pages.old.store).state.bytes root.page key) (blamed_index result) (S.view pages.old.store) (S.view pages.new.store) }
+    ensures left { are_slots_full result ≡ false }
     ensures dead { IsErrOf result IndexFault.Dead → ⊥ }
 {
     let count = index_page_count(pages);
@@ -201,6 +206,7 @@ fn insert_below<S: EawStore>(
         (pages_of (S.view pages.old.store) pages.old) (pages_of (S.view pages.new.store) pages.new) result }
     ensures works { WorksFrom (known_from node.level node.page) (IsTrue S.tells) S.tells (is_done result) S.view S.calls tid (below key node.level node.pairs.items) (limits_below node.level)
         (actions_below node.level (S.view pages.old.store).state.bytes node.page node.page 0 key) (blamed_index result) (S.view pages.old.store) (S.view pages.new.store) }
+    ensures left { are_slots_full result ≡ false }
     ensures dead { IsErrOf result IndexFault.Dead → ⊥ }
 {
     let count = index_page_count(pages);

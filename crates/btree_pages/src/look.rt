@@ -7,7 +7,7 @@ ghost use Rattle.page_store.specs.Follows.{Follows, HasRead, Walks, one_reading}
 ghost use Rattle.page_store.specs.Index.{IsTable, slots_of};
 ghost use Rattle.page_store.specs.Looks.{Looks, LookCause, is_failed};
 ghost use Rattle.page_store.specs.Pairs.{AreInside, AreNext, found};
-ghost use Rattle.page_store.specs.Placed.{IsSoughtFor, IsSoughtIn, slot_sought};
+ghost use Rattle.page_store.specs.Placed.{FollowsToPlace, IsSoughtFor, IsSoughtIn, slot_sought};
 ghost use Rattle.page_store.specs.Shown.{pages_of};
 ghost use Rattle.index_pages.specs.Fetched.{TestCause};
 ghost use Rattle.index_pages.specs.Page.{count_said};
@@ -218,7 +218,7 @@ pub fn find_place<S: EawStore>(
     ensures looks { Looks S.tells (S.opens (S.view pages.old.store).shape) (is_failed result)
         (pages_of (S.view pages.old.store) pages.old) (pages_of (S.view pages.new.store) pages.new) }
     ensures cause { LookCause S.tells (S.view pages.old.store) result }
-    ensures follows { Follows S.tells (S.calls pages.old.store) (S.calls pages.new.store) (tree_finding root.page key) slot_sought
+    ensures follows { FollowsToPlace S.tells (S.calls pages.old.store) (S.calls pages.new.store) tree root.page key
         (S.view pages.old.store) (S.view pages.new.store) result }
     ensures found { IsTrue S.tells → IfOk result (λ sought. slot_sought sought ≡ found (pairs_of_tree (S.view pages.old.store).state.bytes root.page) key) }
     ensures place { IsTrue S.tells → IfOk result (IsSoughtFor tree (S.view pages.old.store).state.bytes root.page key) }

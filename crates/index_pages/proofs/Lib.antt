@@ -31,6 +31,7 @@ pub mod Added
 pub mod Members
 pub mod Left
 pub mod Faulting
+pub mod Filled
 pub mod Lifting
 pub mod Claims
 pub mod Halved

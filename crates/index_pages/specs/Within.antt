@@ -16,4 +16,5 @@ within index most actions = record {
   removal = index.removal;
   finding = index.finding;
   nexting = index.nexting;
+  placing = index.placing;
 }

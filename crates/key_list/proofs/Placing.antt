@@ -2,15 +2,17 @@
 use Rattle.std.proofs.Common.{◌≡◌, ◌≢◌, ℕ, ◌<◌, ◌≤◌, true, false, nat_eq, nat_lt, List, [], ◌∷◌, length, Option, Some, None, inl, inr, refl, sym, ◌∙◌, ap, subst, arith}
 use Rattle.std.proofs.lemmas.Bool.Decides.{nat_tests, eqb_tells}
 use Rattle.array_shape.specs.declared.shape.Shape.{Shape}
+use Rattle.std.specs.Option.{option_map}
+use Rattle.page_store.specs.Course.{Reading, LeafSaid}
 use Rattle.page_store.specs.Index.{index_pages_of}
 use Rattle.page_store.specs.Pairs.{Pair, Rise, found, next}
-use Rattle.page_store.specs.Placed.{IsSoughtFor, IsSoughtIn, slot_sought}
+use Rattle.page_store.specs.Placed.{IsPlaceSaid, IsSoughtFor, IsSoughtIn, slot_sought}
 use Rattle.page_store.specs.declared.leaf_page.Sought.{Sought}
 use Rattle.page_store.specs.declared.leaf_page.Sought.TheVariants.{Slot, Place, Split}
 use Rattle.record_slots.specs.Places.{page_bytes, next_slot}
 use Rattle.index_pages.specs.Keys.{key_end}
 use Rattle.index_pages.specs.Page.{count_said, link_said, pairs_said, count_of, link_of, page_pairs}
-use Rattle.key_list.specs.Along.{led_to}
+use Rattle.key_list.specs.Along.{chain_placing, leaf_said, led_to, stay}
 use Rattle.key_list.specs.Chain.{chain_check, pairs_of_chain, page_of_key}
 use Rattle.key_list.specs.Index.{chain, chain_actions}
 use Rattle.key_list.specs.Located.{IsRoomIn}
@@ -29,6 +31,14 @@ pub room_inside : (shape : Shape) (at : KeyPage) (said : List ℕ) (s : Sought) 
 room_inside shape at said (Slot slot) is some inside = absurd is
 room_inside shape at said (Place leaf) is some inside = record { some = omega (arith, is.0, some); inside = omega (arith, is.0, inside); room = is.3; small = is.4 }
 room_inside shape at said Split is some inside = tt
+
+-- so is it in what was read
+pub room_said : (key : ℕ) (at : KeyPage) (said : List ℕ) (s : Sought) (read : List Reading) → IsRoomIn at said s → at.head.link ≡ link_said said → stay key read ≡ Some (at.page, said) → IsPlaceSaid (chain_placing key read) s
+room_said key at said (Slot slot) read is link there = tt
+room_said key at said (Place leaf) read is link there =
+    ap (λ (o : Option Reading). option_map leaf_said o) there
+    ∙ (λ i. Some (record { page = sym is.0 i; link = sym (is.1 ∙ link) i; pairs = sym is.2 i }))
+room_said key at said Split read is link there = tt
 
 -- the page of the key is its place in the data
 pub room_place : (bytes : List ℕ) (root key : ℕ) (at : KeyPage) (said : List ℕ) (s : Sought) → IsRoomIn at said s → at.page ≡ page_of_key bytes root key → said ≡ page_bytes bytes at.page → at.head.link ≡ link_said said → IsSoughtFor chain bytes root key s

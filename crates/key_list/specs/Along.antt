@@ -1,6 +1,7 @@
 -- How look-ups go along a chain.
-use Rattle.std.specs.Prelude.{ℕ, ◌≡◌, ◌≢◌, ◌||◌, ◌⊎◌, Bool, true, is_some, nat_eq, if◌then◌else◌, List, [], ◌∷◌, Option, Some, None, IfSome}
-use Rattle.page_store.specs.Course.{Reading, Course}
+use Rattle.std.specs.Prelude.{ℕ, ◌≡◌, ◌≢◌, ◌||◌, ◌⊎◌, Bool, true, false, is_some, nat_eq, nat_lt, if◌then◌else◌, List, [], ◌∷◌, Option, Some, None, IfSome}
+use Rattle.std.specs.Option.{option_map}
+use Rattle.page_store.specs.Course.{Reading, Course, LeafSaid}
 use Rattle.page_store.specs.Follows.{IsLast}
 use Rattle.page_store.specs.Index.{index_pages_of}
 use Rattle.page_store.specs.Pairs.{Pair, next}
@@ -34,6 +35,23 @@ chain_finding root key = record { goes = along root key; answer = answered (λ p
 abbrev pub chain_nexting : ℕ → ℕ → Course (List Pair)
 chain_nexting root from = record { goes = along root from; answer = answered (λ pairs. from_on pairs from) from; most = index_pages_of }
 
+-- pairs begin above a key
+abbrev pub is_past : ℕ → List Pair → Bool
+is_past key [] = false
+is_past key (p ∷ ps) = nat_lt key p.0
+
+-- the page that a key is in or goes into: the one that was read last, or the one before it, if the last one begins above the key
+abbrev pub stay : ℕ → List Reading → Option Reading
+stay key [] = None
+stay key (r ∷ []) = Some r
+stay key (r ∷ q ∷ rs) = if is_past key (pairs_said r.1) then Some q else Some r
+
+abbrev pub leaf_said : Reading → LeafSaid
+leaf_said r = record { page = r.0; link = link_said r.1; pairs = pairs_said r.1 }
+
+abbrev pub chain_placing : ℕ → List Reading → Option LeafSaid
+chain_placing key read = option_map leaf_said (stay key read)
+
 -- the page that was read last said this, and the way ends there
 abbrev pub Ended : ℕ → List ℕ → List Reading → Type 0
 Ended from said [] = ⊥
@@ -54,3 +72,4 @@ pub record Stays (key : ℕ) (said : List ℕ) (at : KeyPage) (read : List Readi
   pub answer : answered (λ pairs. led_to key (next pairs key)) key read ≡ Some (led_to key (next (pairs_said said) key))
   pub last : next (pairs_said said) key ≢ None → IsLast read at.page
   pub met : WasRead at.page read
+  pub place : stay key read ≡ Some (at.page, said)

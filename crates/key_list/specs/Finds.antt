@@ -33,6 +33,10 @@ limits_here = record { fronts = 0; way = 0; asides = 1; actions = 1 }
 abbrev pub limits_cut : Limits
 limits_cut = record { fronts = 0; way = 0; asides = 2; actions = 2 }
 
+-- nothing is left where all slots are in use
+abbrev pub limits_none : Limits
+limits_none = record { fronts = 0; way = 0; asides = 0; actions = 0 }
+
 -- The super page was read, once, and at most so many pages of the way of a key, each as it was to be; and nothing else was done. A page that is
 -- answered as damaged was read. An answer is what `Ends` says of it and of the steps.
 pub record Finds {S T : Type 0} (tells : Bool) (view : S → StoreView) (calls : S → store.Command → ℕ) (root key most : ℕ) (Ends : T → List Step → Type 0) (old new : StoreView) (result : Result T PageFault) : Type 0 where

@@ -1,13 +1,14 @@
 // Insertions into the chain of a table.
-ghost use Rattle.std.specs.Prelude.{◌≡◌, ◌<◌, ◌≤◌, ◌↔◌, [], ◌∷◌, None, IfSome, is_some, IsErrOf, IsTrue, length};
+ghost use Rattle.std.specs.Prelude.{false, ◌≡◌, ◌<◌, ◌≤◌, ◌↔◌, [], ◌∷◌, None, IfSome, is_some, IsErrOf, IsTrue, length};
 ghost use Rattle.array_shape.specs.Places.{page_count};
 ghost use Rattle.eaw_face.specs.Causes.{IsAlive};
 ghost use Rattle.page_store.specs.Index.{IsTable, slots_of};
-ghost use Rattle.page_store.specs.Inserts.{Inserts};
+ghost use Rattle.page_store.specs.Inserts.{Inserts, are_slots_full};
+ghost use Rattle.page_store.specs.Looks.{Looks};
 ghost use Rattle.page_store.specs.Pairs.{found};
 ghost use Rattle.page_store.specs.Placed.{IsPlaceIn};
 ghost use Rattle.page_store.specs.Shown.{pages_of, top_in};
-ghost use Rattle.page_store.specs.Works.{Works, WorksFrom, blamed_index, insertion_limits, is_done};
+ghost use Rattle.page_store.specs.Works.{Works, WorksFrom, blamed_index, insertion_limits, is_done, unless_full};
 ghost use Rattle.key_list.specs.Chain.{IsSoundChain, pairs_of_chain};
 ghost use Rattle.key_list.specs.Index.{chain, chain_actions, chain_within, IsPlaceOf};
 ghost use Rattle.key_list.specs.Along.{along, chain_finding};
@@ -43,8 +44,11 @@ pub fn insert<S: EawStore>(
     ensures inserts { Inserts S.tells (S.opens (S.view pages.old.store).shape) chain tid root table key
         (pages_of (S.view pages.old.store) pages.old) (pages_of (S.view pages.new.store) pages.new) result }
     ensures works { Works (IsTrue S.tells) S.tells (is_done result) S.view S.calls tid (along root key)
-        (insertion_limits (is_some place) (chain_finding root key) (S.view pages.old.store).shape) (chain_actions (S.view pages.old.store).state.bytes root key)
+        (unless_full (are_slots_full result) (insertion_limits (is_some place) (chain_finding root key) (S.view pages.old.store).shape))
+        (chain_actions (S.view pages.old.store).state.bytes root key)
         (blamed_index result) (S.view pages.old.store) (S.view pages.new.store) }
+    ensures full { IsTrue (are_slots_full result) → Looks S.tells (S.opens (S.view pages.old.store).shape) false
+        (pages_of (S.view pages.old.store) pages.old) (pages_of (S.view pages.new.store) pages.new) }
     ensures dead { IsErrOf result IndexFault.Dead → pages.new ≡ pages.old }
 {
     let at = match locate_for(pages, root, table, key, place) {
@@ -102,6 +106,7 @@ fn insert_here<S: EawStore>(
     ensures works { WorksFrom (0 ∷ []) (IsTrue S.tells) S.tells (is_done result) S.view S.calls tid no_way
         limits_here (chain_actions (S.view pages.old.store).state.bytes root key)
         (blamed_index result) (S.view pages.old.store) (S.view pages.new.store) }
+    ensures left { are_slots_full result ≡ false }
     ensures dead { IsErrOf result IndexFault.Dead → ⊥ }
 {
     let taken = match take_slot(pages, &at.front) {
@@ -139,6 +144,7 @@ fn insert_cut<S: EawStore>(
     ensures works { WorksFrom (0 ∷ []) (IsTrue S.tells) S.tells (is_done result) S.view S.calls tid no_way
         limits_cut (chain_actions (S.view pages.old.store).state.bytes root key)
         (blamed_index result) (S.view pages.old.store) (S.view pages.new.store) }
+    ensures left { are_slots_full result ≡ false }
     ensures dead { IsErrOf result IndexFault.Dead → ⊥ }
 {
     let count = index_page_count(pages);

@@ -2,15 +2,14 @@
 ghost use Rattle.std.specs.Prelude.{◌≡◌, ◌<◌, ◌≤◌, IfOk, IfSome, IsErrOf, IsTrue, is_some, length};
 ghost use Rattle.array_shape.specs.Places.{page_count};
 ghost use Rattle.eaw_face.specs.Causes.{IsAlive};
-ghost use Rattle.page_store.specs.Follows.{Follows};
 ghost use Rattle.page_store.specs.Index.{IsTable, index_pages_of};
 ghost use Rattle.page_store.specs.Looks.{Looks, LookCause, is_failed};
 ghost use Rattle.page_store.specs.Pairs.{AreSmall, found, next};
-ghost use Rattle.page_store.specs.Placed.{IsPlaceIn, IsSoughtFor, IsSoughtIn, slot_sought};
+ghost use Rattle.page_store.specs.Placed.{FollowsToPlace, IsPlaceIn, IsSoughtFor, IsSoughtIn, slot_sought};
 ghost use Rattle.page_store.specs.Shown.{pages_of};
 ghost use Rattle.page_store.specs.Works.{IsMet};
 ghost use Rattle.index_pages.specs.Page.{pairs_said};
-ghost use Rattle.key_list.specs.Along.{led_to, chain_finding};
+ghost use Rattle.key_list.specs.Along.{led_to};
 ghost use Rattle.key_list.specs.Chain.{IsSoundChain, pairs_of_chain};
 ghost use Rattle.key_list.specs.Finds.{Finds, most_read};
 ghost use Rattle.key_list.specs.Index.{chain, IsPlaceOf};
@@ -51,7 +50,7 @@ pub fn find_place<S: EawStore>(
     ensures looks { Looks S.tells (S.opens (S.view pages.old.store).shape) (is_failed result)
         (pages_of (S.view pages.old.store) pages.old) (pages_of (S.view pages.new.store) pages.new) }
     ensures cause { LookCause S.tells (S.view pages.old.store) result }
-    ensures follows { Follows S.tells (S.calls pages.old.store) (S.calls pages.new.store) (chain_finding root key) slot_sought
+    ensures follows { FollowsToPlace S.tells (S.calls pages.old.store) (S.calls pages.new.store) chain root key
         (S.view pages.old.store) (S.view pages.new.store) result }
     ensures found { IsTrue S.tells → IfOk result (λ sought. slot_sought sought ≡ found (pairs_of_chain (S.view pages.old.store).state.bytes root) key) }
     ensures place { IsTrue S.tells → IfOk result (IsSoughtFor chain (S.view pages.old.store).state.bytes root key) }

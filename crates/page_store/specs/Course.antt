@@ -2,6 +2,7 @@
 use Rattle.std.specs.Prelude.{ℕ, ◌≡◌, ◌<◌, List, [], ◌∷◌, Option, Some}
 use Rattle.array_shape.specs.declared.shape.Shape.{Shape}
 use Rattle.record_slots.specs.Places.{page_bytes}
+use Rattle.page_store.specs.Pairs.{Pair}
 
 -- a page that was read, and what it said then
 abbrev pub Reading : Type 0
@@ -28,3 +29,9 @@ AreThere count (r ∷ rs) = (r.0 < count) × AreThere count rs
 abbrev pub AreSaid : List ℕ → List Reading → Type 0
 AreSaid bytes [] = Unit {0}
 AreSaid bytes (r ∷ rs) = (r.1 ≡ page_bytes bytes r.0) × AreSaid bytes rs
+
+-- a page of level 0 with its link and its pairs
+pub record LeafSaid : Type 0 where
+  pub page : ℕ
+  pub link : ℕ
+  pub pairs : List Pair

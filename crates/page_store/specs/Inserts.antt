@@ -72,6 +72,11 @@ abbrev pub is_insert_failed : Result ℕ IndexFault → Bool
 is_insert_failed (Err Media) = true
 is_insert_failed _ = false
 
+-- whether all slots are in use
+abbrev pub are_slots_full : Result ℕ IndexFault → Bool
+are_slots_full (Err (SlotsFull n)) = true
+are_slots_full _ = false
+
 -- data that a loss of power during it may leave
 abbrev pub MayBecome : Index → ℕ → ℕ → ℕ → List ℕ → List ℕ → Type 0
 MayBecome index root table key old new = Grows index root old new × (Rests index root old new ⊎ Gains index root table key old new)

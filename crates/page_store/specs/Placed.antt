@@ -1,8 +1,13 @@
 -- Where a key is in an index, or where it is to go.
-use Rattle.std.specs.Prelude.{ℕ, ◌≡◌, ◌<◌, ◌≤◌, List, length, Option, Some, None}
+use Rattle.std.specs.Prelude.{ℕ, ◌≡◌, ◌<◌, ◌≤◌, Bool, List, length, Option, Some, None, Result}
 use Rattle.array_shape.specs.declared.shape.Shape.{Shape}
+use Rattle.eaw_face.specs.Command.{Command}
+use Rattle.eaw_face.specs.StoreView.{StoreView}
+use Rattle.page_store.specs.Course.{LeafSaid}
+use Rattle.page_store.specs.Follows.{Walks}
 use Rattle.page_store.specs.Index.{Index, slots_of, index_pages_of}
 use Rattle.page_store.specs.Pairs.{Pair, AreSmall}
+use Rattle.page_store.specs.declared.fault.PageFault.{PageFault}
 use Rattle.page_store.specs.declared.leaf_page.Sought.{Sought}
 use Rattle.page_store.specs.declared.leaf_page.Sought.TheVariants.{Slot, Place, Split}
 
@@ -29,3 +34,15 @@ abbrev pub IsSoughtIn : Shape → Sought → Type 0
 IsSoughtIn shape (Slot slot) = slot < slots_of shape
 IsSoughtIn shape (Place leaf) = IsPlaceIn shape leaf.page leaf.pairs.items
 IsSoughtIn shape Split = Unit {0}
+
+-- a place is the page that the pages which were read name, with the link and the pairs that it said
+abbrev pub IsPlaceSaid : Option LeafSaid → Sought → Type 0
+IsPlaceSaid said (Place leaf) = said ≡ Some (record { page = leaf.page; link = leaf.link; pairs = leaf.pairs.items })
+IsPlaceSaid said _ = Unit {0}
+
+-- A look for a key and its place. The slot is the answer of the course by which the key is found, over any store, and the place is that of the
+-- pages that were read on it.
+abbrev pub FollowsToPlace : Bool → (calls calls_now : Command → ℕ) → Index → (root key : ℕ) → (old new : StoreView) → Result Sought PageFault → Type 0
+FollowsToPlace tells calls calls_now index root key old new result =
+    Walks tells calls calls_now (index.finding root key).goes ((index.finding root key).most old.shape)
+    (λ sought read. ((index.finding root key).answer read ≡ Some (slot_sought sought)) × IsPlaceSaid (index.placing key read) sought) old new result

@@ -144,6 +144,11 @@ abbrev pub insertion_limits : {A : Type 0} → Bool → Course A → Shape → L
 insertion_limits true course shape = record { fronts = 1; way = 0; asides = 1; actions = 1 }
 insertion_limits false course shape = record { fronts = 1; way = course.most shape; asides = course.most shape + 2; actions = course.most shape + 1 }
 
+-- where all slots are in use, nothing is read aside, and no action is made
+abbrev pub unless_full : Bool → Limits → Limits
+unless_full true limits = record limits { asides = 0; actions = 0 }
+unless_full false limits = limits
+
 abbrev pub removal_limits : {A : Type 0} → Course A → Shape → Limits
 removal_limits course shape = record { fronts = 1; way = course.most shape; asides = 1; actions = 1 }
 

@@ -1,18 +1,18 @@
 // An index over pages, as the layers above see it.
-ghost use Rattle.std.specs.Prelude.{◌≡◌, ◌^◌, ◌<◌, ◌≤◌, ◌++◌, List, [], ℕ, None, is_some, IfOk, IfSome, OnOk, IsErrOf, IsTrue};
+ghost use Rattle.std.specs.Prelude.{◌≡◌, ◌^◌, ◌<◌, ◌≤◌, ◌++◌, List, [], ℕ, None, false, is_some, IfOk, IfSome, OnOk, IsErrOf, IsTrue};
 ghost use Rattle.array_shape.specs.Places.{page_count};
 ghost use Rattle.eaw_face.specs.Causes.{IsAlive};
 ghost use Rattle.record_slots.specs.Places.{next_page, page_bytes, version_of, AreGiven};
 ghost use Rattle.page_store.specs.Index.{Index, IsTable, HasCounts, KeepsIndex, IsEmptyRoot, Extends, slots_of};
 ghost use Rattle.page_store.specs.Follows.{Follows};
-ghost use Rattle.page_store.specs.Inserts.{Inserts};
+ghost use Rattle.page_store.specs.Inserts.{Inserts, are_slots_full};
 ghost use Rattle.page_store.specs.Removes.{HasAbsent, Removes};
 ghost use Rattle.page_store.specs.Looks.{Looks, LookCause, CheckCause, is_failed, is_check_failed};
 ghost use Rattle.page_store.specs.Pairs.{Rise, AreInside, AreNext, found};
-ghost use Rattle.page_store.specs.Placed.{IsPlaceIn, IsSoughtFor, IsSoughtIn, slot_sought};
+ghost use Rattle.page_store.specs.Placed.{FollowsToPlace, IsPlaceIn, IsSoughtFor, IsSoughtIn, slot_sought};
 ghost use Rattle.page_store.specs.Records.{records_of};
 ghost use Rattle.page_store.specs.Shown.{pages_of, top_in};
-ghost use Rattle.page_store.specs.Works.{Works, blamed, blamed_index, insertion_limits, is_done, removal_actions, removal_limits};
+ghost use Rattle.page_store.specs.Works.{Works, blamed, blamed_index, insertion_limits, is_done, removal_actions, removal_limits, unless_full};
 
 use crate::fault::PageFault;
 use crate::index_fault::{CheckFault, IndexFault};
@@ -92,7 +92,7 @@ pub trait KeyIndex {
         ensures looks { Looks S.tells (S.opens (S.view pages.old.store).shape) (is_failed result)
             (pages_of (S.view pages.old.store) pages.old) (pages_of (S.view pages.new.store) pages.new) }
         ensures cause { LookCause S.tells (S.view pages.old.store) result }
-        ensures follows { Follows S.tells (S.calls pages.old.store) (S.calls pages.new.store) (index.finding root key) slot_sought
+        ensures follows { FollowsToPlace S.tells (S.calls pages.old.store) (S.calls pages.new.store) index root key
             (S.view pages.old.store) (S.view pages.new.store) result }
         ensures found { IsTrue S.tells → IfOk result (λ sought. slot_sought sought ≡ found (index.pairs (S.view pages.old.store).state.bytes root) key) }
         ensures place { IsTrue S.tells → IfOk result (IsSoughtFor index (S.view pages.old.store).state.bytes root key) }
@@ -148,8 +148,11 @@ pub trait KeyIndex {
         ensures inserts { Inserts S.tells (S.opens (S.view pages.old.store).shape) index tid root table key
             (pages_of (S.view pages.old.store) pages.old) (pages_of (S.view pages.new.store) pages.new) result }
         ensures works { Works (IsTrue S.tells) S.tells (is_done result) S.view S.calls tid (index.finding root key).goes
-            (insertion_limits (is_some place) (index.finding root key) (S.view pages.old.store).shape) (index.actions (S.view pages.old.store).state.bytes root key)
+            (unless_full (are_slots_full result) (insertion_limits (is_some place) (index.finding root key) (S.view pages.old.store).shape))
+            (index.actions (S.view pages.old.store).state.bytes root key)
             (blamed_index result) (S.view pages.old.store) (S.view pages.new.store) }
+        ensures full { IsTrue (are_slots_full result) → Looks S.tells (S.opens (S.view pages.old.store).shape) false
+            (pages_of (S.view pages.old.store) pages.old) (pages_of (S.view pages.new.store) pages.new) }
         ensures dead { IsErrOf result IndexFault.Dead → pages.new ≡ pages.old };
 
     /// Takes out the pair of a key, whose slot is absent, as number `tid`, and frees the slot. A page that would be left without pairs is

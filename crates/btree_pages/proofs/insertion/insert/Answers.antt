@@ -11,7 +11,7 @@ use Rattle.page_store.specs.Inserts.{Inserts}
 use Rattle.page_store.specs.Pairs.{Pair, AreSmall}
 use Rattle.page_store.specs.Placed.{IsPlaceIn}
 use Rattle.page_store.specs.Shown.{pages_of}
-use Rattle.page_store.specs.Works.{WorksFrom, is_done, blamed_index, insertion_limits}
+use Rattle.page_store.specs.Works.{WorksFrom, is_done, blamed_index, insertion_limits, unless_full}
 use Rattle.page_store.specs.declared.leaf_page.LeafPage.{LeafPage}
 use Rattle.page_store.specs.declared.index_fault.IndexFault.{IndexFault}
 use Rattle.page_store.specs.declared.index_fault.IndexFault.TheVariants as index
@@ -24,6 +24,7 @@ use Rattle.btree_pages.specs.declared.node.Node.{Node}
 use Rattle.btree_pages.specs.Downward.{below, down, tree_finding}
 use Rattle.btree_pages.specs.Index.{tree, tree_actions, actions_below, IsOpenLeaf}
 use Rattle.btree_pages.specs.Steps.{known_from, limits_above, limits_below}
+use Rattle.index_pages.proofs.Filled.{told_left, works_left, not_filled}
 use Rattle.btree_pages.proofs.Beginning.{once_of, pair_known, root_known, works_super_err, works_front_err, works_root_err, works_root, works_placed}
 use Rattle.btree_pages.proofs.Stepping.{known_two}
 use Rattle.btree_pages.specs.Node.{IsNode}
@@ -274,8 +275,9 @@ returns-in-Err-clause-works g c =
     let n = c.index_page_count-count.ensures in
     let vs = pages_of (V c.fetch_super.new.pages.store) c.fetch_super.new.pages in
     let some : 0 < page_count (V c.args.pages.now.store).shape = omega (arith, n.some, n.all) in
-    subst (λ (f : IndexFault). (let r : Result ℕ IndexFault = Err f in WorksFrom [] (IsTrue T) T (is_done r) V g.S.EawStore.calls t (down root.page key) (insertion_limits (is_some c.args.place) (tree_finding root.page key) v0.store.shape) (tree_actions v0.store.state.bytes root.page key) (blamed_index r) v0.store vs.store)) (sym c.index_fault.ensures)
-    (works_super_err T V g.S.EawStore.calls t key root.page (tree_actions v0.store.state.bytes root.page key) c.args.pages.now.store (insertion_limits (is_some c.args.place) (tree_finding root.page key) v0.store.shape) (once_of (is_some c.args.place) root.page key v0.store.shape) Super (IsSuper 1 v0.store.state.bytes) c.fetch_super.new.pages.store c.in-Err.ensures.reads.0 (page_bytes v0.store.state.bytes 0) c.in-Err.fault some c.in-Err.ensures.cause c.in-Err.ensures.reads.1)
+    works_left _ (told_left c.in-Err.fault c.index_fault.result c.index_fault.ensures)
+    (subst (λ (f : IndexFault). (let r : Result ℕ IndexFault = Err f in WorksFrom [] (IsTrue T) T (is_done r) V g.S.EawStore.calls t (down root.page key) (insertion_limits (is_some c.args.place) (tree_finding root.page key) v0.store.shape) (tree_actions v0.store.state.bytes root.page key) (blamed_index r) v0.store vs.store)) (sym c.index_fault.ensures)
+    (works_super_err T V g.S.EawStore.calls t key root.page (tree_actions v0.store.state.bytes root.page key) c.args.pages.now.store (insertion_limits (is_some c.args.place) (tree_finding root.page key) v0.store.shape) (once_of (is_some c.args.place) root.page key v0.store.shape) Super (IsSuper 1 v0.store.state.bytes) c.fetch_super.new.pages.store c.in-Err.ensures.reads.0 (page_bytes v0.store.state.bytes 0) c.in-Err.fault some c.in-Err.ensures.cause c.in-Err.ensures.reads.1))
 
 pub returns-then-not-is_slot_left-clause-works : goal.returns-then-not-is_slot_left-clause-works
 returns-then-not-is_slot_left-clause-works g c =
@@ -289,7 +291,7 @@ returns-then-not-is_slot_left-clause-works g c =
     let n = c.index_page_count-count.ensures in
     let vs = pages_of (V c.fetch_super.new.pages.store) c.fetch_super.new.pages in
     let some : 0 < page_count (V c.args.pages.now.store).shape = omega (arith, n.some, n.all) in
-    works_front_err T V g.S.EawStore.calls t key root.page (tree_actions v0.store.state.bytes root.page key) c.args.pages.now.store (insertion_limits (is_some c.args.place) (tree_finding root.page key) v0.store.shape) (once_of (is_some c.args.place) root.page key v0.store.shape) c.fetch_super.new.pages.store c.in-Ok.ensures.reads.0 c.in-Ok.ensures.looks.shape c.in-Ok.ensures.reads.1 (index.SlotsFull c.in-Ok.front.next_slot) tt
+    works_front_err T V g.S.EawStore.calls t key root.page (tree_actions v0.store.state.bytes root.page key) c.args.pages.now.store (unless_full true (insertion_limits (is_some c.args.place) (tree_finding root.page key) v0.store.shape)) (once_of (is_some c.args.place) root.page key v0.store.shape) c.fetch_super.new.pages.store c.in-Ok.ensures.reads.0 c.in-Ok.ensures.looks.shape c.in-Ok.ensures.reads.1 (index.SlotsFull c.in-Ok.front.next_slot) tt
 
 pub returns-then-not-is_index_page-clause-works : goal.returns-then-not-is_index_page-clause-works
 returns-then-not-is_index_page-clause-works g c =
@@ -321,10 +323,11 @@ returns-in-Err-fetch_node-clause-works g c =
     let some : 0 < page_count (V c.args.pages.now.store).shape = omega (arith, n.some, n.all) in
     let v1 = pages_of (V c.fetch_node.new.pages.store) c.fetch_node.new.pages in
     let there : c.args.root.page < page_count (V c.args.pages.now.store).shape = omega (arith, (c.if-not-is_index_page.ensures.0 refl).1, n.all) in
-    subst (λ (f : IndexFault). (let r : Result ℕ IndexFault = Err f in WorksFrom [] (IsTrue T) T (is_done r) V g.S.EawStore.calls t (down root.page key) (insertion_limits (is_some c.args.place) (tree_finding root.page key) v0.store.shape) (tree_actions v0.store.state.bytes root.page key) (blamed_index r) v0.store v1.store)) (sym c.index_fault-in-Err-fetch_node.ensures)
+    works_left _ (told_left c.in-Err-fetch_node.fault c.index_fault-in-Err-fetch_node.result c.index_fault-in-Err-fetch_node.ensures)
+    (subst (λ (f : IndexFault). (let r : Result ℕ IndexFault = Err f in WorksFrom [] (IsTrue T) T (is_done r) V g.S.EawStore.calls t (down root.page key) (insertion_limits (is_some c.args.place) (tree_finding root.page key) v0.store.shape) (tree_actions v0.store.state.bytes root.page key) (blamed_index r) v0.store v1.store)) (sym c.index_fault-in-Err-fetch_node.ensures)
     (let r : Result ℕ IndexFault = Err (as_index c.in-Err-fetch_node.fault) in
     subst (λ (b : Bool). WorksFrom [] (IsTrue T) T (is_done r) V g.S.EawStore.calls t (down root.page key) (insertion_limits b (tree_finding root.page key) v0.store.shape) (tree_actions v0.store.state.bytes root.page key) (blamed_index r) v0.store v1.store) (sym (ap (λ (o : Option LeafPage). is_some o) c.in_default.is))
-    (works_root_err T V g.S.EawStore.calls t key root.page (tree_actions v0.store.state.bytes root.page key) c.args.pages.now.store (insertion_limits false (tree_finding root.page key) v0.store.shape) (omega arith) c.fetch_super.new.pages.store c.in-Ok.ensures.reads.0 c.in-Ok.ensures.looks.shape there c.in-Ok.ensures.reads.1 (omega arith) Node (IsNode (page_bytes vs.store.state.bytes root.page)) c.fetch_node.new.pages.store c.in-Err-fetch_node.ensures.reads.0 (page_bytes vs.store.state.bytes root.page) c.in-Err-fetch_node.fault c.in-Err-fetch_node.ensures.cause c.in-Err-fetch_node.ensures.reads.1))
+    (works_root_err T V g.S.EawStore.calls t key root.page (tree_actions v0.store.state.bytes root.page key) c.args.pages.now.store (insertion_limits false (tree_finding root.page key) v0.store.shape) (omega arith) c.fetch_super.new.pages.store c.in-Ok.ensures.reads.0 c.in-Ok.ensures.looks.shape there c.in-Ok.ensures.reads.1 (omega arith) Node (IsNode (page_bytes vs.store.state.bytes root.page)) c.fetch_node.new.pages.store c.in-Err-fetch_node.ensures.reads.0 (page_bytes vs.store.state.bytes root.page) c.in-Err-fetch_node.fault c.in-Err-fetch_node.ensures.cause c.in-Err-fetch_node.ensures.reads.1)))
 
 pub returns-then-len-lt-PAIRS_MAX-clause-works : goal.returns-then-len-lt-PAIRS_MAX-clause-works
 returns-then-len-lt-PAIRS_MAX-clause-works g c =
@@ -349,10 +352,11 @@ returns-then-len-lt-PAIRS_MAX-clause-works g c =
     let room : length c.in-Ok-fetch_node.top.pairs.items < 30 = room_for c.in-Ok-fetch_node.top.pairs.items c.len.result c.len.ensures.value c.if-len-lt-PAIRS_MAX.true in
     let v2 = pages_of (V c.insert_below-then-len-lt-PAIRS_MAX.new.pages.store) c.insert_below-then-len-lt-PAIRS_MAX.new.pages in
     let low : c.in-Ok-fetch_node.top.level ≤ 7 = c.in-Ok-fetch_node.ensures.read.level_most in
-    subst (λ (b : Bool). WorksFrom [] (IsTrue T) T (is_done c.insert_below-then-len-lt-PAIRS_MAX.result) V g.S.EawStore.calls t (down root.page key) (insertion_limits b (tree_finding root.page key) v0.store.shape) (tree_actions v0.store.state.bytes root.page key) (blamed_index c.insert_below-then-len-lt-PAIRS_MAX.result) v0.store v2.store) (sym (ap (λ (o : Option LeafPage). is_some o) c.in_default.is))
+    works_left _ (c.insert_below-then-len-lt-PAIRS_MAX.ensures.left)
+    (subst (λ (b : Bool). WorksFrom [] (IsTrue T) T (is_done c.insert_below-then-len-lt-PAIRS_MAX.result) V g.S.EawStore.calls t (down root.page key) (insertion_limits b (tree_finding root.page key) v0.store.shape) (tree_actions v0.store.state.bytes root.page key) (blamed_index c.insert_below-then-len-lt-PAIRS_MAX.result) v0.store v2.store) (sym (ap (λ (o : Option LeafPage). is_some o) c.in_default.is))
     (works_root T V g.S.EawStore.calls t key root.page (tree_actions v0.store.state.bytes root.page key) c.args.pages.now.store (insertion_limits false (tree_finding root.page key) v0.store.shape) (omega arith) c.fetch_super.new.pages.store c.fetch_node.new.pages.store c.in-Ok.ensures.reads.0 c.in-Ok-fetch_node.ensures.reads.0 c.in-Ok.ensures.looks.shape c.in-Ok-fetch_node.ensures.looks.shape there c.in-Ok.ensures.reads.1 c.in-Ok-fetch_node.ensures.reads.1 top.level top.pairs.items c.in-Ok-fetch_node.ensures.reads.2.level c.in-Ok-fetch_node.ensures.reads.2.pairs (limits_below top.level) refl (omega (arith, low)) (omega (arith, low)) (omega (arith, low)) (known_from top.level top.page)
     (λ p known. root_known (known_two top.level top.page p known) c.in-Ok-fetch_node.ensures.page) (actions_below top.level v1.store.state.bytes top.page top.page 0 key)
-    (room_due T E t root key v0 v1 c.requires.sound c.requires.named small looks c.in-Ok.ensures.cause top.page top.level top.pairs.items c.in-Ok-fetch_node.ensures.page level pairs room) c.insert_below-then-len-lt-PAIRS_MAX.new.pages.store c.insert_below-then-len-lt-PAIRS_MAX.result c.insert_below-then-len-lt-PAIRS_MAX.ensures.works)
+    (room_due T E t root key v0 v1 c.requires.sound c.requires.named small looks c.in-Ok.ensures.cause top.page top.level top.pairs.items c.in-Ok-fetch_node.ensures.page level pairs room) c.insert_below-then-len-lt-PAIRS_MAX.new.pages.store c.insert_below-then-len-lt-PAIRS_MAX.result c.insert_below-then-len-lt-PAIRS_MAX.ensures.works))
 
 pub returns-clause-works : goal.returns-clause-works
 returns-clause-works g c =
@@ -376,10 +380,11 @@ returns-clause-works g c =
     let small : c.args.key < 2 ^ 64 = omega arith in
     let v2 = pages_of (V c.insert_above.new.pages.store) c.insert_above.new.pages in
     let low : c.in-Ok-fetch_node.top.level ≤ 7 = c.in-Ok-fetch_node.ensures.read.level_most in
-    subst (λ (b : Bool). WorksFrom [] (IsTrue T) T (is_done c.insert_above.result) V g.S.EawStore.calls t (down root.page key) (insertion_limits b (tree_finding root.page key) v0.store.shape) (tree_actions v0.store.state.bytes root.page key) (blamed_index c.insert_above.result) v0.store v2.store) (sym (ap (λ (o : Option LeafPage). is_some o) c.in_default.is))
+    works_left _ (c.insert_above.ensures.left)
+    (subst (λ (b : Bool). WorksFrom [] (IsTrue T) T (is_done c.insert_above.result) V g.S.EawStore.calls t (down root.page key) (insertion_limits b (tree_finding root.page key) v0.store.shape) (tree_actions v0.store.state.bytes root.page key) (blamed_index c.insert_above.result) v0.store v2.store) (sym (ap (λ (o : Option LeafPage). is_some o) c.in_default.is))
     (works_root T V g.S.EawStore.calls t key root.page (tree_actions v0.store.state.bytes root.page key) c.args.pages.now.store (insertion_limits false (tree_finding root.page key) v0.store.shape) (omega arith) c.fetch_super.new.pages.store c.fetch_node.new.pages.store c.in-Ok.ensures.reads.0 c.in-Ok-fetch_node.ensures.reads.0 c.in-Ok.ensures.looks.shape c.in-Ok-fetch_node.ensures.looks.shape there c.in-Ok.ensures.reads.1 c.in-Ok-fetch_node.ensures.reads.1 top.level top.pairs.items c.in-Ok-fetch_node.ensures.reads.2.level c.in-Ok-fetch_node.ensures.reads.2.pairs (limits_above top.level) refl (omega (arith, low)) (omega (arith, low)) (omega (arith, low)) (0 ∷ root.page ∷ [])
     (λ p known. pair_known p root.page known) (tree_actions v1.store.state.bytes root.page key)
-    (λ told. ap (λ (st : State). tree_actions st.bytes root.page key) ((looks.still refl).state told)) c.insert_above.new.pages.store c.insert_above.result c.insert_above.ensures.works)
+    (λ told. ap (λ (st : State). tree_actions st.bytes root.page key) ((looks.still refl).state told)) c.insert_above.new.pages.store c.insert_above.result c.insert_above.ensures.works))
 
 pub insert_below-requires : goal.insert_below-requires
 insert_below-requires g c =
@@ -469,6 +474,28 @@ returns-in-Some-clause-works g c =
     let v2 = pages_of (V c.insert_below.new.pages.store) c.insert_below.new.pages in
     let works = subst (λ (m : ℕ). WorksFrom (known_from m c.node_of.result.page) (IsTrue g.S.EawStore.tells) g.S.EawStore.tells (is_done c.insert_below.result) g.S.EawStore.view g.S.EawStore.calls c.args.tid (below c.args.key m c.node_of.result.pairs.items) (limits_below m)
     (actions_below m (g.S.EawStore.view c.fetch_super.new.pages.store).state.bytes c.node_of.result.page c.node_of.result.page 0 c.args.key) (blamed_index c.insert_below.result) (g.S.EawStore.view c.fetch_super.new.pages.store) (g.S.EawStore.view c.insert_below.new.pages.store)) c.node_of.ensures.level c.insert_below.ensures.works in
-    subst (λ (b : Bool). WorksFrom [] (IsTrue T) T (is_done c.insert_below.result) V g.S.EawStore.calls t (down root.page key) (insertion_limits b (tree_finding root.page key) v0.store.shape) (tree_actions v0.store.state.bytes root.page key) (blamed_index c.insert_below.result) v0.store v2.store) (sym (ap (λ (o : Option LeafPage). is_some o) c.in-Some.is))
+    works_left _ (c.insert_below.ensures.left)
+    (subst (λ (b : Bool). WorksFrom [] (IsTrue T) T (is_done c.insert_below.result) V g.S.EawStore.calls t (down root.page key) (insertion_limits b (tree_finding root.page key) v0.store.shape) (tree_actions v0.store.state.bytes root.page key) (blamed_index c.insert_below.result) v0.store v2.store) (sym (ap (λ (o : Option LeafPage). is_some o) c.in-Some.is))
     (works_placed T V g.S.EawStore.calls t key root.page (tree_actions v0.store.state.bytes root.page key) c.args.pages.now.store (insertion_limits true (tree_finding root.page key) v0.store.shape) (omega arith) c.fetch_super.new.pages.store c.in-Ok.ensures.reads.0 c.in-Ok.ensures.looks.shape c.in-Ok.ensures.reads.1 node.page node.pairs.items (omega arith) (omega arith) (actions_below 0 vs.store.state.bytes node.page node.page 0 key)
-    (place_due T E t root key v0 vs c.requires.sound c.requires.named small c.in-Ok.ensures.looks c.in-Ok.ensures.cause node.page node.pairs.items opens) c.insert_below.new.pages.store c.insert_below.result works)
+    (place_due T E t root key v0 vs c.requires.sound c.requires.named small c.in-Ok.ensures.looks c.in-Ok.ensures.cause node.page node.pairs.items opens) c.insert_below.new.pages.store c.insert_below.result works))
+
+pub returns-in-Err-clause-full : goal.returns-in-Err-clause-full
+returns-in-Err-clause-full g c = λ full. not_filled _ (told_left c.in-Err.fault c.index_fault.result c.index_fault.ensures) full
+
+pub returns-then-not-is_slot_left-clause-full : goal.returns-then-not-is_slot_left-clause-full
+returns-then-not-is_slot_left-clause-full g c = λ full. c.in-Ok.ensures.looks
+
+pub returns-then-not-is_index_page-clause-full : goal.returns-then-not-is_index_page-clause-full
+returns-then-not-is_index_page-clause-full g c = λ full. not_filled _ refl full
+
+pub returns-in-Err-fetch_node-clause-full : goal.returns-in-Err-fetch_node-clause-full
+returns-in-Err-fetch_node-clause-full g c = λ full. not_filled _ (told_left c.in-Err-fetch_node.fault c.index_fault-in-Err-fetch_node.result c.index_fault-in-Err-fetch_node.ensures) full
+
+pub returns-then-len-lt-PAIRS_MAX-clause-full : goal.returns-then-len-lt-PAIRS_MAX-clause-full
+returns-then-len-lt-PAIRS_MAX-clause-full g c = λ full. not_filled _ c.insert_below-then-len-lt-PAIRS_MAX.ensures.left full
+
+pub returns-clause-full : goal.returns-clause-full
+returns-clause-full g c = λ full. not_filled _ c.insert_above.ensures.left full
+
+pub returns-in-Some-clause-full : goal.returns-in-Some-clause-full
+returns-in-Some-clause-full g c = λ full. not_filled _ c.insert_below.ensures.left full

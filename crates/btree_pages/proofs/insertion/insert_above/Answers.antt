@@ -1,3 +1,4 @@
+use Rattle.index_pages.proofs.Filled.{told_left}
 use Rattle.std.proofs.Common.{[], ◌∷◌, ◌+◌, ◌-◌, ◌^◌, ◌<◌, ◌≤◌, ℕ, Option, None, Result, Ok, Err, false, IsTrue, refl, sym, ◌∙◌, ap, subst, arith}
 use Rattle.std.proofs.lemmas.Bool.{false≢true}
 use Rattle.array_shape.specs.declared.shape.Shape.{Shape}
@@ -506,3 +507,15 @@ returns-clause-works g c =
     (actions_below half.result.level v3.store.state.bytes half.result.page half.result.page 0 key) half.ensures.level
     (root_leads T E t root key v0 c.index_page_count-count.result n.count n.all n.most n.some small c.requires.sound c.requires.named c.requires.absent long c.requires.alive front c.requires.front c.requires.slot c.requires.says top.level top.pairs.items read c.requires.level c.requires.pairs c.requires.full c.if-top-eq-LEVEL_MAX.false (c.if-not-are_pages_left.ensures.0 refl) v2 looks left.number right.number left.front right.front one other v3 (acts (Ok tt) c.in-Ok-grow_root.ensures.acts) half.result.page half.result.pairs.items half.ensures.page half.ensures.pairs) (root_half_among left.number right.number root.page key half.result.page top.pairs.items half.ensures.page)
     (root_rest T E t root key v0 c.index_page_count-count.result n.count n.all n.most n.some small c.requires.sound c.requires.named c.requires.absent long c.requires.alive front c.requires.front c.requires.slot c.requires.says top.level top.pairs.items read c.requires.level c.requires.pairs c.requires.full c.if-top-eq-LEVEL_MAX.false (c.if-not-are_pages_left.ensures.0 refl) v2 looks left.number right.number left.front right.front one other v3 (acts (Ok tt) c.in-Ok-grow_root.ensures.acts) half.result.page half.result.pairs.items half.ensures.page half.ensures.pairs half.result.level half.ensures.level) c.insert_below.new.pages.store c.insert_below.result c.insert_below.ensures.works
+
+pub returns-in-Err-clause-left : goal.returns-in-Err-clause-left
+returns-in-Err-clause-left g c = told_left c.in-Err.fault c.index_fault.result c.index_fault.ensures
+
+pub returns-in-Err-take_page-clause-left : goal.returns-in-Err-take_page-clause-left
+returns-in-Err-take_page-clause-left g c = told_left c.in-Err-take_page.fault c.index_fault-in-Err-take_page.result c.index_fault-in-Err-take_page.ensures
+
+pub returns-in-Err-grow_root-clause-left : goal.returns-in-Err-grow_root-clause-left
+returns-in-Err-grow_root-clause-left g c = told_left c.in-Err-grow_root.fault c.index_fault-in-Err-grow_root.result c.index_fault-in-Err-grow_root.ensures
+
+pub returns-clause-left : goal.returns-clause-left
+returns-clause-left g c = c.insert_below.ensures.left

@@ -1,3 +1,4 @@
+use Rattle.index_pages.proofs.Filled.{told_left}
 use Rattle.std.proofs.Common.{◌≡◌, ◌+◌, ◌-◌, ◌^◌, ◌<◌, ◌≤◌, ℕ, [], ◌∷◌, Option, Result, Ok, Err, length, false, IsTrue, refl, sym, ◌∙◌, ap, subst, arith}
 use Rattle.std.proofs.lemmas.Bool.{false≢true}
 use Rattle.array_shape.specs.declared.shape.Shape.{Shape}
@@ -252,6 +253,7 @@ returns-in-Err g c =
           (look_err T E t root key v0 node.page node.level (c.args.front.next_page + node.level) c.index_page_count-count.result n.count n.all n.most n.some small c.requires.table c.requires.sound c.requires.named c.requires.absent long c.requires.alive limit v1 c.loop-node.front at.page at.level at.pairs.items c.loop-node.invariant.stands Node v2 c.in-Err.fault (c.in-Err.ensures.looks, c.in-Err.ensures.cause));
       works = subst (λ (f : IndexFault). (let r : Result ℕ IndexFault = Err f in WorksFrom (known_from node.level node.page) (IsTrue T) T (is_done r) V g.S.EawStore.calls t (below key node.level node.pairs.items) (limits_below node.level) (actions_below node.level v0.store.state.bytes node.page node.page 0 key) (blamed_index r) v0.store v2.store)) (sym c.index_fault.ensures)
           (works_read_err T V g.S.EawStore.calls t key node.page node.level node.pairs.items (actions_below node.level v0.store.state.bytes node.page node.page 0 key) c.args.pages.now.store c.loop-node.pages.store c.fetch_child.new.pages.store at.page at.level at.pairs.items (actions_below at.level v1.store.state.bytes at.page at.page 0 key) c.loop-node.invariant.stepped c.in-Err.fault c.in-Err.ensures.reads (not_zero _ c.loop-node-test.true));
+      left = told_left c.in-Err.fault c.index_fault.result c.index_fault.ensures;
       dead = λ told. c.in-Err.ensures.dead (ap Err (dead_fault c.in-Err.fault c.index_fault.result (look_of_index Node T v1.store c.in-Err.fault c.in-Err.ensures.cause) c.index_fault.ensures told));
     }
 
@@ -647,3 +649,15 @@ returns-in-Err-add_pair-clause-works g c =
     (log_len v2.store t, adding_parts half slot.front slot.number at.page 0 at.pairs.items root.table key, refl, adding_in half slot.front slot.number at.page 0 at.pairs.items root.table key)
     [] (λ told. rest_last T E t root key v0 node.page node.level (c.args.front.next_page + node.level) c.index_page_count-count.result n.count n.all n.most n.some small c.requires.table c.requires.sound c.requires.named c.requires.absent long c.requires.alive limit v1 c.loop-node.front at.page at.level at.pairs.items c.loop-node.invariant.stands v2 c.in-Ok-take_slot.ensures.looks bottom slot.number slot.front takes inside told ∙ ap (λ (h : ℕ). (let a : Action = record { pages = adding_pages h slot.number at.page; takes = 0 } in a) ∷ []) half_is)
     q r refl (blamed_same ℕ (Unit {0}) c.in-Err-add_pair.fault ∙ act_blames (Unit {0}) v2.store t (adding_pages half slot.number at.page) c.in-Err-add_pair.fault c.in-Err-add_pair.ensures.acts.cause) (λ told yes. refl) c.in-Err-add_pair.ensures.runs)
+
+pub returns-in-Err-take_page-clause-left : goal.returns-in-Err-take_page-clause-left
+returns-in-Err-take_page-clause-left g c = told_left c.in-Err-take_page.fault c.index_fault-in-Err-take_page.result c.index_fault-in-Err-take_page.ensures
+
+pub returns-in-Err-cut_page-clause-left : goal.returns-in-Err-cut_page-clause-left
+returns-in-Err-cut_page-clause-left g c = told_left c.in-Err-cut_page.fault c.index_fault-in-Err-cut_page.result c.index_fault-in-Err-cut_page.ensures
+
+pub returns-in-Err-take_slot-clause-left : goal.returns-in-Err-take_slot-clause-left
+returns-in-Err-take_slot-clause-left g c = told_left c.in-Err-take_slot.fault c.index_fault-in-Err-take_slot.result c.index_fault-in-Err-take_slot.ensures
+
+pub returns-in-Err-add_pair-clause-left : goal.returns-in-Err-add_pair-clause-left
+returns-in-Err-add_pair-clause-left g c = told_left c.in-Err-add_pair.fault c.index_fault-in-Err-add_pair.result c.index_fault-in-Err-add_pair.ensures

@@ -1,4 +1,4 @@
-use Rattle.std.proofs.Common.{◌≡◌, ◌<◌, ℕ, List, [], ◌∷◌, Some, length, refl, sym, ◌∙◌, ap, subst, arith}
+use Rattle.std.proofs.Common.{◌≡◌, ◌<◌, ℕ, List, [], ◌∷◌, Option, Some, length, refl, sym, ◌∙◌, ap, subst, arith}
 use Rattle.std.proofs.lemmas.Bool.{false≢true}
 use Rattle.page_store.specs.Pairs.{Pair, found}
 use Rattle.index_pages.specs.Page.{pairs_said, level_of, page_pairs}
@@ -13,6 +13,11 @@ use Rattle.btree_pages.specs.Trees.{whole_of, table_sound}
 use Rattle.btree_pages.proofs.Crowds.{crowded_two, open_leaf, length-pairs_said}
 use Rattle.btree_pages.proofs.Given.{given_found}
 use Rattle.btree_pages.proofs.Whole.{above_all}
+use Rattle.page_store.specs.Course.{LeafSaid}
+use Rattle.page_store.specs.Placed.{IsPlaceSaid, slot_sought}
+use Rattle.index_pages.proofs.Courses.{walks_ok, walks_bad, walks_err}
+use Rattle.btree_pages.specs.Downward.{down, slot_at, tree_placing, Descended}
+use Rattle.btree_pages.proofs.Turning.{slot_is, leaf_placed, descended_last}
 use Rattle.btree_pages.proofs.look.find_place.Goals as goal
 
 pub returns-then-slot-from-clause-cause : goal.returns-then-slot-from-clause-cause
@@ -66,3 +71,36 @@ returns-clause-inside g c =
       room = omega (arith, room, c.in-Ok.ensures.count, ap (λ (ps : List Pair). length ps) c.read_pairs.ensures.pairs, length-pairs_said c.descend.new.bytes);
       small = c.read_pairs.ensures.small;
     }
+
+pub returns-in-Err-clause-follows : goal.returns-in-Err-clause-follows
+returns-in-Err-clause-follows g c =
+    walks_err g.S.EawStore.tells (g.S.EawStore.calls c.args.pages.now.store) (g.S.EawStore.calls c.descend.new.pages.store) (down c.args.root.page c.args.key) (down c.args.root.page c.args.key) 8 8
+    (Descended c.args.key c.descend.new.bytes) (λ sought read. (slot_at c.args.key read ≡ Some (slot_sought sought)) × IsPlaceSaid (tree_placing c.args.key read) sought) (g.S.EawStore.view c.args.pages.now.store) (g.S.EawStore.view c.descend.new.pages.store) (λ read way. way) (omega arith) c.in-Err.fault c.in-Err.ensures.walks
+
+pub returns-then-slot-from-clause-follows : goal.returns-then-slot-from-clause-follows
+returns-then-slot-from-clause-follows g c =
+    walks_bad g.S.EawStore.tells (g.S.EawStore.calls c.args.pages.now.store) (g.S.EawStore.calls c.descend.new.pages.store) (down c.args.root.page c.args.key) (down c.args.root.page c.args.key) 8 8
+    (Descended c.args.key c.descend.new.bytes) (λ sought read. (slot_at c.args.key read ≡ Some (slot_sought sought)) × IsPlaceSaid (tree_placing c.args.key read) sought) (g.S.EawStore.view c.args.pages.now.store) (g.S.EawStore.view c.descend.new.pages.store) (λ read way. way) (omega arith) c.in-Ok.leaf c.in-Ok.leaf.page c.in-Ok.ensures.walks (descended_last c.args.key c.descend.new.bytes c.in-Ok.leaf)
+
+pub returns-in-Some-clause-follows : goal.returns-in-Some-clause-follows
+returns-in-Some-clause-follows g c =
+    walks_ok g.S.EawStore.tells (g.S.EawStore.calls c.args.pages.now.store) (g.S.EawStore.calls c.descend.new.pages.store) (down c.args.root.page c.args.key) (down c.args.root.page c.args.key) 8 8
+    (Descended c.args.key c.descend.new.bytes) (λ sought read. (slot_at c.args.key read ≡ Some (slot_sought sought)) × IsPlaceSaid (tree_placing c.args.key read) sought) (g.S.EawStore.view c.args.pages.now.store) (g.S.EawStore.view c.descend.new.pages.store) (λ read way. way) (omega arith) c.in-Ok.leaf _ c.in-Ok.ensures.walks (λ read way ends. (slot_is c.args.key c.descend.new.bytes c.in-Ok.leaf read ends ∙ ap Some (sym c.slot_in.ensures ∙ c.in-Some.is), tt))
+
+pub returns-then-full-clause-follows : goal.returns-then-full-clause-follows
+returns-then-full-clause-follows g c =
+    walks_ok g.S.EawStore.tells (g.S.EawStore.calls c.args.pages.now.store) (g.S.EawStore.calls c.descend.new.pages.store) (down c.args.root.page c.args.key) (down c.args.root.page c.args.key) 8 8
+    (Descended c.args.key c.descend.new.bytes) (λ sought read. (slot_at c.args.key read ≡ Some (slot_sought sought)) × IsPlaceSaid (tree_placing c.args.key read) sought) (g.S.EawStore.view c.args.pages.now.store) (g.S.EawStore.view c.descend.new.pages.store) (λ read way. way) (omega arith) c.in-Ok.leaf _ c.in-Ok.ensures.walks (λ read way ends. (slot_is c.args.key c.descend.new.bytes c.in-Ok.leaf read ends ∙ ap Some (sym c.slot_in.ensures ∙ c.in_default.is), tt))
+
+pub returns-then-not-is_index_page-clause-follows : goal.returns-then-not-is_index_page-clause-follows
+returns-then-not-is_index_page-clause-follows g c =
+    walks_bad g.S.EawStore.tells (g.S.EawStore.calls c.args.pages.now.store) (g.S.EawStore.calls c.descend.new.pages.store) (down c.args.root.page c.args.key) (down c.args.root.page c.args.key) 8 8
+    (Descended c.args.key c.descend.new.bytes) (λ sought read. (slot_at c.args.key read ≡ Some (slot_sought sought)) × IsPlaceSaid (tree_placing c.args.key read) sought) (g.S.EawStore.view c.args.pages.now.store) (g.S.EawStore.view c.descend.new.pages.store) (λ read way. way) (omega arith) c.in-Ok.leaf c.in-Ok.leaf.page c.in-Ok.ensures.walks (descended_last c.args.key c.descend.new.bytes c.in-Ok.leaf)
+
+pub returns-clause-follows : goal.returns-clause-follows
+returns-clause-follows g c =
+    walks_ok g.S.EawStore.tells (g.S.EawStore.calls c.args.pages.now.store) (g.S.EawStore.calls c.descend.new.pages.store) (down c.args.root.page c.args.key) (down c.args.root.page c.args.key) 8 8
+    (Descended c.args.key c.descend.new.bytes) (λ sought read. (slot_at c.args.key read ≡ Some (slot_sought sought)) × IsPlaceSaid (tree_placing c.args.key read) sought) (g.S.EawStore.view c.args.pages.now.store) (g.S.EawStore.view c.descend.new.pages.store) (λ read way. way) (omega arith) c.in-Ok.leaf _ c.in-Ok.ensures.walks (λ read way ends. (
+      slot_is c.args.key c.descend.new.bytes c.in-Ok.leaf read ends ∙ ap Some (sym c.slot_in.ensures ∙ c.in_default.is),
+      leaf_placed c.args.key c.descend.new.bytes c.in-Ok.leaf read ends ∙ ap (λ (ps : List Pair). (let o : Option LeafSaid = Some (record { page = c.in-Ok.leaf.page; link = 0; pairs = ps }) in o)) (sym c.read_pairs.ensures.pairs),
+    ))

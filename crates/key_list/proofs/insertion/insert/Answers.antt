@@ -16,11 +16,12 @@ use Rattle.key_list.proofs.Whole.{look_err, slots_full, alive_yet, yet, looked_c
 use Rattle.std.proofs.lemmas.Bool.{cases_Bool}
 use Rattle.std.specs.Prelude.{is_some}
 use Rattle.page_store.specs.Index.{index_pages_of}
-use Rattle.page_store.specs.Works.{Step, IsMet, IsAmong, blamed_index, insertion_limits, is_done}
+use Rattle.page_store.specs.Works.{Step, IsMet, IsAmong, blamed_index, insertion_limits, is_done, unless_full}
 use Rattle.page_store.specs.declared.fault.PageFault.{PageFault}
+use Rattle.index_pages.proofs.Filled.{told_left, works_left, not_filled}
 use Rattle.index_pages.proofs.Working.{blamed_same}
 use Rattle.key_list.specs.Along.{chain_finding}
-use Rattle.key_list.specs.Finds.{limits_here, limits_cut, most_read}
+use Rattle.key_list.specs.Finds.{limits_here, limits_cut, limits_none, most_read}
 use Rattle.key_list.specs.Index.{chain_actions}
 use Rattle.key_list.proofs.Finding.{finds_fail, finds_then, front_only}
 use Rattle.key_list.proofs.Spending.{limits_one, limits_two, none_done}
@@ -181,8 +182,9 @@ returns-in-Err-clause-works g c =
     let one = limits_one known c.args.root c.args.key v0.store.shape in
     let due = chain_actions v0.store.state.bytes c.args.root c.args.key in
     let s : Result ℕ IndexFault = Err c.index_fault.result in
-    finds_fail g.S.EawStore.tells V g.S.EawStore.calls c.args.root c.args.key most Located (λ (at : Located) (steps : List Step). IsMet 0 steps) (IsTrue g.S.EawStore.tells) c.args.tid limits due (blamed_index s) v0.store v1.store one.0 one.1 c.in-Err.fault
-    (ap (λ (f : IndexFault). (let r : Result ℕ IndexFault = Err f in blamed_index r)) c.index_fault.ensures ∙ blamed_same ℕ Located c.in-Err.fault) c.in-Err.ensures.finds
+    works_left _ (told_left c.in-Err.fault c.index_fault.result c.index_fault.ensures)
+    (finds_fail g.S.EawStore.tells V g.S.EawStore.calls c.args.root c.args.key most Located (λ (at : Located) (steps : List Step). IsMet 0 steps) (IsTrue g.S.EawStore.tells) c.args.tid limits due (blamed_index s) v0.store v1.store one.0 one.1 c.in-Err.fault
+    (ap (λ (f : IndexFault). (let r : Result ℕ IndexFault = Err f in blamed_index r)) c.index_fault.ensures ∙ blamed_same ℕ Located c.in-Err.fault) c.in-Err.ensures.finds)
 
 pub returns-then-not-has_slot-clause-works : goal.returns-then-not-has_slot-clause-works
 returns-then-not-has_slot-clause-works g c =
@@ -190,13 +192,13 @@ returns-then-not-has_slot-clause-works g c =
     let v0 = pages_of (V c.args.pages.now.store) c.args.pages.now in
     let v1 = pages_of (V c.locate_for.new.pages.store) c.locate_for.new.pages in
     let known = is_some c.args.place in
-    let limits = insertion_limits known (chain_finding c.args.root c.args.key) v0.store.shape in
+    let limits = unless_full true (insertion_limits known (chain_finding c.args.root c.args.key) v0.store.shape) in
     let most = most_read known v0.store.shape in
     let one = limits_one known c.args.root c.args.key v0.store.shape in
     let due = chain_actions v0.store.state.bytes c.args.root c.args.key in
     let then_due = chain_actions v1.store.state.bytes c.args.root c.args.key in
-    finds_then g.S.EawStore.tells V g.S.EawStore.calls c.args.root c.args.key most Located (λ (at : Located) (steps : List Step). IsMet 0 steps) (IsTrue g.S.EawStore.tells) c.args.tid limits due None v0.store v1.store one.0 one.1 v1.store false limits_here then_due (0 ∷ []) c.in-Ok.ensures.looks.shape c.in-Ok.at c.in-Ok.ensures.finds refl refl one.2 one.3 (λ told. ap (λ (b : List ℕ). chain_actions b c.args.root c.args.key) (ap (λ (s : State). s.bytes) ((c.in-Ok.ensures.looks.still refl).state told))) (λ page among. front_only page c.in-Ok.ensures.finds.steps c.in-Ok.ensures.finds.ends among)
-    (none_done g.S.EawStore.tells V g.S.EawStore.calls (IsTrue g.S.EawStore.tells) c.args.tid limits_here then_due None (0 ∷ []) then_due false v1.store tt (λ told. refl) (λ told is. absurd (false≢true is)))
+    finds_then g.S.EawStore.tells V g.S.EawStore.calls c.args.root c.args.key most Located (λ (at : Located) (steps : List Step). IsMet 0 steps) (IsTrue g.S.EawStore.tells) c.args.tid limits due None v0.store v1.store one.0 one.1 v1.store false limits_none then_due (0 ∷ []) c.in-Ok.ensures.looks.shape c.in-Ok.at c.in-Ok.ensures.finds refl refl (omega arith) (omega arith) (λ told. ap (λ (b : List ℕ). chain_actions b c.args.root c.args.key) (ap (λ (s : State). s.bytes) ((c.in-Ok.ensures.looks.still refl).state told))) (λ page among. front_only page c.in-Ok.ensures.finds.steps c.in-Ok.ensures.finds.ends among)
+    (none_done g.S.EawStore.tells V g.S.EawStore.calls (IsTrue g.S.EawStore.tells) c.args.tid limits_none then_due None (0 ∷ []) then_due false v1.store tt (λ told. refl) (λ told is. absurd (false≢true is)))
 
 pub returns-then-len-lt-PAIRS_MAX-clause-works : goal.returns-then-len-lt-PAIRS_MAX-clause-works
 returns-then-len-lt-PAIRS_MAX-clause-works g c =
@@ -208,8 +210,9 @@ returns-then-len-lt-PAIRS_MAX-clause-works g c =
     let most = most_read known v0.store.shape in
     let one = limits_one known c.args.root c.args.key v0.store.shape in
     let due = chain_actions v0.store.state.bytes c.args.root c.args.key in
-    finds_then g.S.EawStore.tells V g.S.EawStore.calls c.args.root c.args.key most Located (λ (at : Located) (steps : List Step). IsMet 0 steps) (IsTrue g.S.EawStore.tells) c.args.tid limits due (blamed_index c.insert_here.result) v0.store v1.store one.0 one.1 (V c.insert_here.new.pages.store) (is_done c.insert_here.result) limits_here (chain_actions v1.store.state.bytes c.args.root c.args.key) (0 ∷ []) c.in-Ok.ensures.looks.shape c.in-Ok.at c.in-Ok.ensures.finds
-    refl refl one.2 one.3 (λ told. ap (λ (b : List ℕ). chain_actions b c.args.root c.args.key) (ap (λ (s : State). s.bytes) ((c.in-Ok.ensures.looks.still refl).state told))) (λ page among. front_only page c.in-Ok.ensures.finds.steps c.in-Ok.ensures.finds.ends among) c.insert_here.ensures.works
+    works_left _ (c.insert_here.ensures.left)
+    (finds_then g.S.EawStore.tells V g.S.EawStore.calls c.args.root c.args.key most Located (λ (at : Located) (steps : List Step). IsMet 0 steps) (IsTrue g.S.EawStore.tells) c.args.tid limits due (blamed_index c.insert_here.result) v0.store v1.store one.0 one.1 (V c.insert_here.new.pages.store) (is_done c.insert_here.result) limits_here (chain_actions v1.store.state.bytes c.args.root c.args.key) (0 ∷ []) c.in-Ok.ensures.looks.shape c.in-Ok.at c.in-Ok.ensures.finds
+    refl refl one.2 one.3 (λ told. ap (λ (b : List ℕ). chain_actions b c.args.root c.args.key) (ap (λ (s : State). s.bytes) ((c.in-Ok.ensures.looks.still refl).state told))) (λ page among. front_only page c.in-Ok.ensures.finds.steps c.in-Ok.ensures.finds.ends among) c.insert_here.ensures.works)
 
 pub returns-clause-works : goal.returns-clause-works
 returns-clause-works g c =
@@ -225,5 +228,18 @@ returns-clause-works g c =
     let unknown : known ≡ false = elim (cases_Bool known) [ inl is ↦ absurd (let room = c.in-Ok.ensures.room is in omega (arith, room, full)) | inr other ↦ other ] in
     let some : 1 ≤ index_pages_of v0.store.shape = omega (arith, c.in-Ok.ensures.located.inside) in
     let two = limits_two known c.args.root c.args.key v0.store.shape unknown some in
-    finds_then g.S.EawStore.tells V g.S.EawStore.calls c.args.root c.args.key most Located (λ (at : Located) (steps : List Step). IsMet 0 steps) (IsTrue g.S.EawStore.tells) c.args.tid limits due (blamed_index c.insert_cut.result) v0.store v1.store one.0 one.1 (V c.insert_cut.new.pages.store) (is_done c.insert_cut.result) limits_cut (chain_actions v1.store.state.bytes c.args.root c.args.key) (0 ∷ []) c.in-Ok.ensures.looks.shape c.in-Ok.at c.in-Ok.ensures.finds
-    refl refl two.0 two.1 (λ told. ap (λ (b : List ℕ). chain_actions b c.args.root c.args.key) (ap (λ (s : State). s.bytes) ((c.in-Ok.ensures.looks.still refl).state told))) (λ page among. front_only page c.in-Ok.ensures.finds.steps c.in-Ok.ensures.finds.ends among) c.insert_cut.ensures.works
+    works_left _ (c.insert_cut.ensures.left)
+    (finds_then g.S.EawStore.tells V g.S.EawStore.calls c.args.root c.args.key most Located (λ (at : Located) (steps : List Step). IsMet 0 steps) (IsTrue g.S.EawStore.tells) c.args.tid limits due (blamed_index c.insert_cut.result) v0.store v1.store one.0 one.1 (V c.insert_cut.new.pages.store) (is_done c.insert_cut.result) limits_cut (chain_actions v1.store.state.bytes c.args.root c.args.key) (0 ∷ []) c.in-Ok.ensures.looks.shape c.in-Ok.at c.in-Ok.ensures.finds
+    refl refl two.0 two.1 (λ told. ap (λ (b : List ℕ). chain_actions b c.args.root c.args.key) (ap (λ (s : State). s.bytes) ((c.in-Ok.ensures.looks.still refl).state told))) (λ page among. front_only page c.in-Ok.ensures.finds.steps c.in-Ok.ensures.finds.ends among) c.insert_cut.ensures.works)
+
+pub returns-in-Err-clause-full : goal.returns-in-Err-clause-full
+returns-in-Err-clause-full g c = λ full. not_filled _ (told_left c.in-Err.fault c.index_fault.result c.index_fault.ensures) full
+
+pub returns-then-not-has_slot-clause-full : goal.returns-then-not-has_slot-clause-full
+returns-then-not-has_slot-clause-full g c = λ full. c.in-Ok.ensures.looks
+
+pub returns-then-len-lt-PAIRS_MAX-clause-full : goal.returns-then-len-lt-PAIRS_MAX-clause-full
+returns-then-len-lt-PAIRS_MAX-clause-full g c = λ full. not_filled _ c.insert_here.ensures.left full
+
+pub returns-clause-full : goal.returns-clause-full
+returns-clause-full g c = λ full. not_filled _ c.insert_cut.ensures.left full

@@ -1,3 +1,4 @@
+use Rattle.index_pages.proofs.Filled.{told_left}
 use Rattle.std.proofs.Common.{◌^◌, ◌<◌, ◌≤◌, ℕ, Option, Result, Err, IsTrue, refl, sym, ◌∙◌, ap, subst, arith, ◌≡◌, true, List, [], ◌∷◌, None, Ok, false}
 use Rattle.std.proofs.lemmas.Bool.{false≢true}
 use Rattle.array_shape.specs.declared.shape.Shape.{Shape}
@@ -235,3 +236,12 @@ returns-clause-works g c =
     v0.store v1.store v2.store c.in-Ok.ensures.peeks r c.in-Ok-cut_page.ensures.runs (cutting_by c.args.tid mark taken.front taken.number at.page at.link at.pairs.items) (V c.insert_here.new.pages.store) (is_done c.insert_here.result) limits_here
     (chain_actions v2.store.state.bytes c.args.root c.args.key) refl (c.in-Ok-cut_page.ensures.acts.shape ∙ c.in-Ok.ensures.looks.shape) refl refl (omega arith) (omega arith) (omega arith)
     (made_cut g.S.EawStore.tells g.S.EawStore.opens c.args.tid c.args.root c.args.table c.args.key v0 c.index_page_count-count.result n.count n.all n.most small c.requires.table c.requires.sound c.requires.named c.requires.absent long c.requires.alive at.front at.page at.link at.pairs.items c.requires.located c.requires.said c.requires.slot c.requires.full (c.if-not-has_page.ensures.0 refl) v1 c.in-Ok.ensures.looks taken.front taken.number c.in-Ok.ensures.takes c.in-Ok.ensures.inside c.in-Ok.ensures.front c.in-Ok.ensures.slots v2 c.in-Ok-cut_page.ensures.acts) c.insert_here.ensures.works
+
+pub returns-in-Err-clause-left : goal.returns-in-Err-clause-left
+returns-in-Err-clause-left g c = told_left c.in-Err.fault c.index_fault.result c.index_fault.ensures
+
+pub returns-in-Err-cut_page-clause-left : goal.returns-in-Err-cut_page-clause-left
+returns-in-Err-cut_page-clause-left g c = told_left c.in-Err-cut_page.fault c.index_fault-in-Err-cut_page.result c.index_fault-in-Err-cut_page.ensures
+
+pub returns-clause-left : goal.returns-clause-left
+returns-clause-left g c = c.insert_here.ensures.left

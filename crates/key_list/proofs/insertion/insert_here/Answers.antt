@@ -1,3 +1,4 @@
+use Rattle.index_pages.proofs.Filled.{told_left}
 use Rattle.std.proofs.Common.{◌^◌, ◌<◌, ℕ, Option, Result, Err, IsTrue, refl, sym, ◌∙◌, ap, subst, arith, ◌≡◌, true, List, [], ◌∷◌, None, Ok}
 use Rattle.array_shape.specs.declared.shape.Shape.{Shape}
 use Rattle.page_store.specs.Index.{slots_of, index_pages_of}
@@ -164,3 +165,9 @@ returns-in-Err-add_pair-clause-works g c =
     ∙ act_blames Claim v1.store c.args.tid (adding_pages half taken.number at.page) c.in-Err-add_pair.fault c.in-Err-add_pair.ensures.acts.cause in
     act_ends g.S.EawStore.tells V g.S.EawStore.calls (IsTrue g.S.EawStore.tells) c.args.tid limits_here due (blamed_index s) Claim taken c.args.pages.now (acted (adding_pages half taken.number at.page) 0) (acting_of c.args.tid mark (adding_parts half taken.front taken.number at.page at.link at.pairs.items c.args.table c.args.key))
     v0.store v1.store v2.store c.in-Ok.ensures.peeks r c.in-Err-add_pair.ensures.runs (adding_by c.args.tid mark half taken.front taken.number at.page at.link at.pairs.items c.args.table c.args.key) (0 ∷ []) [] (omega arith) (omega arith) blames made (λ told is. refl)
+
+pub returns-in-Err-clause-left : goal.returns-in-Err-clause-left
+returns-in-Err-clause-left g c = told_left c.in-Err.fault c.index_fault.result c.index_fault.ensures
+
+pub returns-in-Err-add_pair-clause-left : goal.returns-in-Err-add_pair-clause-left
+returns-in-Err-add_pair-clause-left g c = told_left c.in-Err-add_pair.fault c.index_fault-in-Err-add_pair.result c.index_fault-in-Err-add_pair.ensures

@@ -20,8 +20,8 @@ use Rattle.key_list.specs.Linked.{IsLinked}
 use Rattle.key_list.specs.Resting.{sound_table}
 use Rattle.key_list.specs.declared.look.KeyPage.{KeyPage}
 use Rattle.key_list.proofs.Others.{root_own}
-use Rattle.key_list.proofs.Staying.{along_first, along_on, along_ends, along_out, along_more, along_past, ends_linked}
-use Rattle.key_list.proofs.Walking.{place_first, first_linked, place_linked, place_some, place_here, place_step, place_ends, place_out, some_said}
+use Rattle.key_list.proofs.Staying.{along_first, along_on, along_ends, along_out, along_more, along_past, begins_below, ends_linked}
+use Rattle.key_list.proofs.Walking.{place_first, first_linked, place_linked, place_some, place_here, place_step, place_ends, place_out, some_said, length-said}
 use Rattle.key_list.proofs.look.page_for.Goals as goal
 
 pub returns-in-Err-clause-cause : goal.returns-in-Err-clause-cause
@@ -219,7 +219,9 @@ loop-step-preserved g c =
       says = c.in-Ok-read_page.ensures.head;
       bytes = λ told. c.in-Ok-read_page.ensures.bytes told ∙ ap (λ (s : State). page_bytes s.bytes c.loop-step.head.link) (still.state told);
       on = along_more g.S.EawStore.tells (g.S.EawStore.calls c.args.pages.now.store) (g.S.EawStore.calls c.loop-step.pages.store) c.args.root c.args.key c.loop-step._step c.loop-step.page c.loop-step.bytes view mid inv.on
-          (g.S.EawStore.calls c.read_page-in-loop-step.new.pages.store) (g.S.EawStore.view c.read_page-in-loop-step.new.pages.store) still inv.looks.shape c.loop-step.head.link goes inv.says.link c.read_page-in-loop-step.new.bytes c.in-Ok-read_page.ensures.reads;
+          (g.S.EawStore.calls c.read_page-in-loop-step.new.pages.store) (g.S.EawStore.view c.read_page-in-loop-step.new.pages.store) still inv.looks.shape c.loop-step.head.link goes inv.says.link c.read_page-in-loop-step.new.bytes c.in-Ok-read_page.ensures.reads
+          (begins_below (pairs_said c.read_page-in-loop-step.new.bytes) c.args.key
+          (λ some lt. false≢true (c.if-is_past.ensures.1 ((λ none. omega (arith, some, none, length-said c.read_page-in-loop-step.new.bytes)), lt))));
       few = omega (arith, c.loop-step-test.true, c.index_page_count-count.ensures.count);
       place = λ told.
           let buf = c.in-Ok-read_page.ensures.bytes told ∙ ap (λ (s : State). page_bytes s.bytes c.loop-step.head.link) (still.state told) in

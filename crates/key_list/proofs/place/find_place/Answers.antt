@@ -1,27 +1,30 @@
 use Rattle.std.proofs.Common.{◌≡◌, ◌≢◌, ◌*◌, ◌<◌, ℕ, Option, Some, None, sym, ◌∙◌, ap, arith}
 use Rattle.page_store.specs.Index.{index_pages_of, slots_of}
 use Rattle.page_store.specs.Pairs.{Pair, next}
-use Rattle.page_store.specs.Placed.{slot_sought}
+use Rattle.page_store.specs.Placed.{IsPlaceSaid, slot_sought}
 use Rattle.index_pages.specs.Page.{pairs_said}
 use Rattle.index_pages.proofs.Courses.{walks_ok, walks_bad, walks_err}
 use Rattle.index_pages.proofs.Sizes.{slots_are}
-use Rattle.key_list.specs.Along.{along, answered, led_to, Stays}
+use Rattle.key_list.specs.Along.{along, answered, chain_placing, led_to, Stays}
 use Rattle.key_list.specs.Resting.{sound_table}
-use Rattle.key_list.proofs.Placing.{room_none, room_inside, room_place, led_in_chain, led_given, led_some}
+use Rattle.key_list.proofs.Placing.{room_none, room_inside, room_place, room_said, led_in_chain, led_given, led_some}
 use Rattle.key_list.proofs.place.find_place.Goals as goal
 
 pub returns-in-Err-clause-follows : goal.returns-in-Err-clause-follows
 returns-in-Err-clause-follows g c =
     let view = g.S.EawStore.view c.args.pages.now.store in
     walks_err g.S.EawStore.tells (g.S.EawStore.calls c.args.pages.now.store) (g.S.EawStore.calls c.page_for.new.pages.store) (along c.args.root c.args.key) (along c.args.root c.args.key)
-    (index_pages_of view.shape) (index_pages_of view.shape) (Stays c.args.key c.page_for.new.bytes) (λ sought read. answered (λ pairs. led_to c.args.key (next pairs c.args.key)) c.args.key read ≡ Some (slot_sought sought)) view (g.S.EawStore.view c.page_for.new.pages.store) (λ read way. way) (omega arith) c.in-Err.fault c.in-Err.ensures.walks
+    (index_pages_of view.shape) (index_pages_of view.shape) (Stays c.args.key c.page_for.new.bytes) (λ sought read. (answered (λ pairs. led_to c.args.key (next pairs c.args.key)) c.args.key read ≡ Some (slot_sought sought)) × IsPlaceSaid (chain_placing c.args.key read) sought) view (g.S.EawStore.view c.page_for.new.pages.store) (λ read way. way) (omega arith) c.in-Err.fault c.in-Err.ensures.walks
 
 pub returns-in_default-clause-follows : goal.returns-in_default-clause-follows
 returns-in_default-clause-follows g c =
     let view = g.S.EawStore.view c.args.pages.now.store in
     walks_ok g.S.EawStore.tells (g.S.EawStore.calls c.args.pages.now.store) (g.S.EawStore.calls c.page_for.new.pages.store) (along c.args.root c.args.key) (along c.args.root c.args.key)
-    (index_pages_of view.shape) (index_pages_of view.shape) (Stays c.args.key c.page_for.new.bytes) (λ sought read. answered (λ pairs. led_to c.args.key (next pairs c.args.key)) c.args.key read ≡ Some (slot_sought sought)) view (g.S.EawStore.view c.page_for.new.pages.store) (λ read way. way) (omega arith) _ _ c.in-Ok.ensures.walks
-    (λ read way ends. ends.answer ∙ ap Some (sym c.slot_in.ensures ∙ c.in_default.is ∙ sym (room_none c.in-Ok.at c.page_for.new.bytes c.room_in.result c.room_in.ensures)))
+    (index_pages_of view.shape) (index_pages_of view.shape) (Stays c.args.key c.page_for.new.bytes) (λ sought read. (answered (λ pairs. led_to c.args.key (next pairs c.args.key)) c.args.key read ≡ Some (slot_sought sought)) × IsPlaceSaid (chain_placing c.args.key read) sought) view (g.S.EawStore.view c.page_for.new.pages.store) (λ read way. way) (omega arith) _ _ c.in-Ok.ensures.walks
+    (λ read way ends. (
+      ends.answer ∙ ap Some (sym c.slot_in.ensures ∙ c.in_default.is ∙ sym (room_none c.in-Ok.at c.page_for.new.bytes c.room_in.result c.room_in.ensures)),
+      room_said c.args.key c.in-Ok.at c.page_for.new.bytes c.room_in.result read c.room_in.ensures c.in-Ok.ensures.head.link ends.place,
+    ))
 
 pub returns-in_default-clause-found : goal.returns-in_default-clause-found
 returns-in_default-clause-found g c = λ told.
@@ -53,15 +56,15 @@ returns-then-slot-from-clause-follows g c =
     let view = g.S.EawStore.view c.args.pages.now.store in
     let p = led_some c.args.key c.in-Some.slot (next (pairs_said c.page_for.new.bytes) c.args.key) (sym c.slot_in.ensures ∙ c.in-Some.is) in
     walks_bad g.S.EawStore.tells (g.S.EawStore.calls c.args.pages.now.store) (g.S.EawStore.calls c.page_for.new.pages.store) (along c.args.root c.args.key) (along c.args.root c.args.key)
-    (index_pages_of view.shape) (index_pages_of view.shape) (Stays c.args.key c.page_for.new.bytes) (λ sought read. answered (λ pairs. led_to c.args.key (next pairs c.args.key)) c.args.key read ≡ Some (slot_sought sought)) view (g.S.EawStore.view c.page_for.new.pages.store) (λ read way. way) (omega arith) _ c.in-Ok.at.page c.in-Ok.ensures.walks
+    (index_pages_of view.shape) (index_pages_of view.shape) (Stays c.args.key c.page_for.new.bytes) (λ sought read. (answered (λ pairs. led_to c.args.key (next pairs c.args.key)) c.args.key read ≡ Some (slot_sought sought)) × IsPlaceSaid (chain_placing c.args.key read) sought) view (g.S.EawStore.view c.page_for.new.pages.store) (λ read way. way) (omega arith) _ c.in-Ok.at.page c.in-Ok.ensures.walks
     (λ read ends. ends.last (λ none. (let e : None ≡ Some p.0 = sym none ∙ p.1 in absurd (cc))))
 
 pub returns-clause-follows : goal.returns-clause-follows
 returns-clause-follows g c =
     let view = g.S.EawStore.view c.args.pages.now.store in
     walks_ok g.S.EawStore.tells (g.S.EawStore.calls c.args.pages.now.store) (g.S.EawStore.calls c.page_for.new.pages.store) (along c.args.root c.args.key) (along c.args.root c.args.key)
-    (index_pages_of view.shape) (index_pages_of view.shape) (Stays c.args.key c.page_for.new.bytes) (λ sought read. answered (λ pairs. led_to c.args.key (next pairs c.args.key)) c.args.key read ≡ Some (slot_sought sought)) view (g.S.EawStore.view c.page_for.new.pages.store) (λ read way. way) (omega arith) _ _ c.in-Ok.ensures.walks
-    (λ read way ends. ends.answer ∙ ap Some (sym c.slot_in.ensures ∙ c.in-Some.is))
+    (index_pages_of view.shape) (index_pages_of view.shape) (Stays c.args.key c.page_for.new.bytes) (λ sought read. (answered (λ pairs. led_to c.args.key (next pairs c.args.key)) c.args.key read ≡ Some (slot_sought sought)) × IsPlaceSaid (chain_placing c.args.key read) sought) view (g.S.EawStore.view c.page_for.new.pages.store) (λ read way. way) (omega arith) _ _ c.in-Ok.ensures.walks
+    (λ read way ends. (ends.answer ∙ ap Some (sym c.slot_in.ensures ∙ c.in-Some.is), tt))
 
 pub returns-clause-found : goal.returns-clause-found
 returns-clause-found g c = λ told.
