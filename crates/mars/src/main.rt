@@ -1,21 +1,24 @@
 //! The program: it makes the real source, sink and image, and hands them to `mars_shell::run`.
 //!
-//! Read first `main.rt`. `choice.rt` says which image the words name, `ending.rt` what is told on standard error and with which status the
-//! program ends.
+//! Read first `main.rt`. `choice.rt` says which image the words name, `kept.rt` how much of a file stays in memory, `ending.rt` what is told on
+//! standard error and with which status the program ends.
 #![tactic(auto)]
 
 mod choice;
 mod ending;
 mod image;
+mod kept;
 
 use crate::choice::{Image, choose};
 use crate::ending::tell;
 use crate::image::{fresh_image, no_image};
+use crate::kept::KEPT;
 use mars_base::NoMemory;
 use mars_shell::{OpenGate, Status, run};
 use media_file::FileMedia;
 use outside::{StdSink, StdSource};
 use pcm_media::{Media, MemoryMedia};
+use resident_media::ResidentMedia;
 use std::fs::File;
 use std::io::{ErrorKind, Input, Result as IoResult};
 use std::process::ExitCode;
@@ -58,13 +61,16 @@ where
     }
 }
 
-// A run over a file. A missing file that is not to be created is an image of no bytes.
+// A run over a file, which is kept in memory as it is read. A missing file that is not to be created is an image of no bytes.
 fn run_on_file<R>(rt: &R, words: &[String], path: &str, least: u64) -> Status
 where
     R: AllocGlobal + Files<File = File> + Input + Print + Threads + Wait + Sync,
 {
     match FileMedia::attach(rt, path, least) {
-        Ok(Some(media)) => run_over(rt, words, media),
+        Ok(Some(media)) => match ResidentMedia::over(rt.alloc(), media, KEPT) {
+            Ok(media) => run_over(rt, words, media),
+            Err(_) => Status::NoMemory,
+        },
         Ok(None) => run_in_memory(rt, words, no_image(rt.alloc())),
         Err(_) => Status::MediaFault,
     }
