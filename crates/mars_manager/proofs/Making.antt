@@ -117,6 +117,7 @@ module _ {C : Type 0} where
     };
     each = λ _ t. h.each t;
     idle = λ dead. absurd (true≢false (sym live ∙ dead));
+    quiet = λ dead. absurd (true≢false (sym live ∙ dead));
   }
 
   pub unreadied : (call : Call) (was : Known C) → ((t : ℕ) → hold_of t was ≢ Trying) → IsFalse (takes_of was) → HasReadied call was was
@@ -127,6 +128,7 @@ module _ {C : Type 0} where
     covered = λ takes. absurd (true≢false (sym takes ∙ dead));
     each = λ takes. absurd (true≢false (sym takes ∙ dead));
     idle = λ _. refl;
+    quiet = λ _. refl;
   }
 
   module _ (tells : Bool) (show : C → CoreView) (k k1 k2 : Known C) (call : Call) (reply : Reply) (r : HasReadied call k k1) (m : HasMade tells show k1 call reply k2) where

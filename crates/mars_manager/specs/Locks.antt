@@ -158,7 +158,7 @@ module _ {C : Type 0} where
     pub same : now ≡ with_locks now.holds (was.met ++ more) was
     pub each : (t : ℕ) → hold_of t now ≡ raised_for (locks (names_of was) call t) (hold_of t was)
 
-  -- A pass whose transaction takes calls has what a call locks. Another has what it had.
+  -- A pass whose transaction takes calls has what a call locks. Another has what it had, and has looked at no word of a stripe.
   pub record HasReadied (call : Call) (was now : Known C) : Type 0 where
     pub more : List Met
     pub same : now ≡ with_locks now.holds (was.met ++ more) was
@@ -166,6 +166,7 @@ module _ {C : Type 0} where
     pub covered : IsTrue (takes_of was) → IsCovered (locks (names_of was) call) now.holds
     pub each : IsTrue (takes_of was) → (t : ℕ) → hold_of t now ≡ raised_for (locks (names_of was) call t) (hold_of t was)
     pub idle : IsFalse (takes_of was) → now.holds ≡ was.holds
+    pub quiet : IsFalse (takes_of was) → now.met ≡ was.met
 
   -- one of the stripes that a call locks was refused
   pub record IsRefusedFor (call : Call) (h : ℕ) (was now : Known C) : Type 0 where
