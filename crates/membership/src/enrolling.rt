@@ -1,13 +1,12 @@
 // A user comes into a group.
-ghost use Rattle.std.specs.Prelude.{◌≡◌, ◌≢◌, ◌<◌, [], ℕ, Some, IsTrue, IfOk, IfErr, OnOk, OnErr};
+ghost use Rattle.std.specs.Prelude.{◌≡◌, ◌≢◌, ◌<◌, ℕ, IsTrue, IfOk, IfErr, OnOk, OnErr};
 ghost use Rattle.history.specs.Key.{main_name};
 ghost use Rattle.history.specs.Table.{left_by};
 ghost use Rattle.caller_steps.specs.Core.{Continues};
 ghost use Rattle.caller_steps.specs.Sound.{IsSound};
 ghost use Rattle.caller_steps.specs.State.{records_of};
-ghost use Rattle.transactions.specs.Adds.{Stays};
-ghost use Rattle.transactions.specs.Went.{WentWithin, IsOfCore};
-ghost use Rattle.transactions.specs.Makes.{Holds, IsEnded, IsGivenUp, IsInDoubt, IsMade};
+ghost use Rattle.transactions.specs.Went.{IsOfCore};
+ghost use Rattle.transactions.specs.Makes.{IsEnded, IsGivenUp, IsInDoubt, IsMade};
 ghost use Rattle.membership.specs.Enrolled.{Enrolls, IsTaken, StaysInStep};
 
 use caller_steps::Core;
@@ -32,17 +31,8 @@ impl Work<(), Taken> for Entry {
 
     ghost gives_up = { λ entry taken table. IsTaken entry.user table };
 
-    fn make<C: Core>(&self, core: &mut C, caller: u8) -> Result<(), Stop<Taken>>
-        requires inside { caller < (C.view core.old).limits.callers }
-        requires sound { IsTrue C.tells → IsSound (C.view core.old).state }
-        requires begun { IsTrue C.tells → (C.view core.old).state.live caller ≡ Some [] }
-        ensures limits { (C.view core.new).limits ≡ (C.view core.old).limits }
-        ensures stays { IsTrue C.tells → Stays caller (C.view core.old) (C.view core.new) }
-        ensures within { IsTrue C.tells → WentWithin caller (C.view core.old) (C.view core.new) }
-        ensures done { IsTrue C.tells → IfOk result (λ done. Holds (λ calls. Enrolls self.now.groups self.now.user self.now.group (records_of (C.view core.old).state) (left_by (records_of (C.view core.old).state) calls)) caller (C.view core.new)) }
-        ensures stopped { IsTrue C.tells → IfErr result (IsGivenUp (λ taken table. IsTaken self.now.user table) (records_of (C.view core.old).state)) }
-        ensures of_core { IsTrue C.tells → IfErr result (IsOfCore caller (C.view core.old) (C.view core.new)) }
-    {
+    // It has the clauses of the trait, since it has none of its own.
+    fn make<C: Core>(&self, core: &mut C, caller: u8) -> Result<(), Stop<Taken>> {
         calls_join::<C, Taken>();
         let user = u64::from(self.user);
         let group = u64::from(self.group);
