@@ -42,6 +42,10 @@ class Stamped:
         rows = [self.waits[first : first + WINDOW] for first in range(0, len(self.waits), WINDOW)]
         return max(self.wait_of(0.5), min(sum(row) / len(row) for row in rows if len(row) == WINDOW or len(rows) == 1))
 
+    def mean_behind(self, first):
+        """The mean wait of all transactions behind the first ones, which are so many."""
+        return sum(self.waits) / (len(self.waits) + 1 - first)
+
 
 def spent():
     """Seconds of the processor of all programs that have ended."""

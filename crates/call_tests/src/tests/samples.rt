@@ -133,9 +133,10 @@ impl MemoryChip {
 
 impl Chip for MemoryChip {
     fn fetch(&mut self, at: u64, buf: &mut [u8]) -> bool {
+        let is_spent = self.is_spent();
         let at = at as usize;
         let end = at.saturating_add(buf.len());
-        if end > self.bytes.len() || self.is_spent() {
+        if is_spent || end > self.bytes.len() {
             return false;
         }
         buf.copy_from_slice(&self.bytes[at..end]);
@@ -143,9 +144,10 @@ impl Chip for MemoryChip {
     }
 
     fn program(&mut self, at: u64, bytes: &[u8]) -> bool {
+        let is_spent = self.is_spent();
         let at = at as usize;
         let end = at.saturating_add(bytes.len());
-        if end > self.bytes.len() || self.is_spent() {
+        if is_spent || end > self.bytes.len() {
             return false;
         }
         self.bytes[at..end].copy_from_slice(bytes);
