@@ -5,6 +5,7 @@ mod feeds;
 mod frames;
 mod histories;
 mod lists;
+mod members;
 mod mirrors;
 mod opening;
 mod queues;

@@ -1,4 +1,4 @@
-//! Commits transactions in groups on an array, and says how many: what `bench/run.sh` times. The first word is the image, a file that holds
+//! Commits transactions in groups on an array, and says how many: what `bench/figures` times. The first word is the image, a file that holds
 //! an array, or `-` for one in memory. The second is how many transactions are committed together, 1 to 64, and the third how many groups.
 #![tactic(auto)]
 

@@ -1,5 +1,5 @@
 //! Four callers on threads make transactions of gets and a few puts over an array in memory, and it is said how many of them had to be made
-//! again because a key was held: what `bench/run.sh` times. The first word is how many transactions each caller makes, and the second how
+//! again because a key was held: what `bench/figures` times. The first word is how many transactions each caller makes, and the second how
 //! many of a hundred calls are puts.
 #![tactic(auto)]
 
