@@ -1,1 +1,2 @@
 pub mod Causing
+pub mod Keeping

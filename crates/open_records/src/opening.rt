@@ -1,7 +1,9 @@
 // Records on a medium.
-ghost use Rattle.std.specs.Prelude.{◌≡◌, ◌≤◌, [], ℕ, None, IfOk, IfErr, IsTrue};
+ghost use Rattle.std.specs.Prelude.{◌≡◌, ◌≤◌, [], ℕ, None, IfOk, IfErr, IsTrue, IsFalse};
+ghost use Rattle.mars_base.specs.Causes.{Rose};
 ghost use Rattle.caller_steps.specs.Sound.{IsSound};
-ghost use Rattle.open_records.specs.Opens.{Begins, OfData, IsUnopened};
+ghost use Rattle.caller_steps.specs.State.{unoffered};
+ghost use Rattle.open_records.specs.Opens.{Begins, BeginsOn, GivesBack, KeepsAt, KeepsRecords, OfData, IsUnopened, is_media};
 
 use caller_steps::{Core as Steps, steps_keep_all_sound};
 use eaw_device::{AttachFault, Eaw};
@@ -35,12 +37,23 @@ pub fn open<M: Media, K: KeyIndex>(
     media: M,
     callers: u8,
 ) -> Result<Core<Eaw<M>, K>, (OpenFault, M)>
-    // The core begins with the records of the data with which the image opens.
+    // The medium holds an array, and the core begins with the records of its data, which are those of the data with which the image opens.
+    ensures array { IfOk result (λ core. IsTrue M.tells → BeginsOn K.index (M.view media) (⟦<Core<Eaw<M>, K> as Steps>⟧.view core)) }
     ensures opened { IfOk result (λ core. OfData M.tells (M.view media) (λ shape bytes. Begins K.index shape bytes (⟦<Core<Eaw<M>, K> as Steps>⟧.view core))) }
     ensures sound { IfOk result (λ core. IsTrue M.tells → IsSound (⟦<Core<Eaw<M>, K> as Steps>⟧.view core).state) }
-    ensures fresh { IfOk result (λ core. ((⟦<Core<Eaw<M>, K> as Steps>⟧.view core).state.history ≡ []) × ((caller : ℕ) → (⟦<Core<Eaw<M>, K> as Steps>⟧.view core).state.live caller ≡ None)) }
+    ensures fresh { IfOk result (λ core. ((⟦<Core<Eaw<M>, K> as Steps>⟧.view core).state.history ≡ []) × ((caller : ℕ) → (⟦<Core<Eaw<M>, K> as Steps>⟧.view core).state.live caller ≡ None)
+        × ((⟦<Core<Eaw<M>, K> as Steps>⟧.view core).state.doubt ≡ []) × ((caller : ℕ) → (⟦<Core<Eaw<M>, K> as Steps>⟧.view core).state.offers caller ≡ unoffered)) }
     ensures enough { IfOk result (λ core. callers ≤ (⟦<Core<Eaw<M>, K> as Steps>⟧.view core).limits.callers) }
+    ensures whole { IfOk result (λ core. (⟦<Core<Eaw<M>, K> as Steps>⟧.view core).faults ≡ (M.view media).faults) }
+    // At each moment of it, what a loss of power leaves opens with data that was left before, or with the same in version 2.
+    ensures time { IfOk result (λ core. KeepsRecords M.tells (M.view media) (⟦<Core<Eaw<M>, K> as Steps>⟧.view core).moment (⟦<Core<Eaw<M>, K> as Steps>⟧.view core).left_since) }
     ensures cause { IfErr result (λ failed. IsUnopened M.tells K.index callers (M.view media) (M.view failed.1).faults failed.0) }
+    // The medium that is given back is as it was, unless it failed, but that an array on it may be recovered.
+    ensures gives_back { IfErr result (λ failed. GivesBack M.tells (M.view media) (M.view failed.1) failed.0) }
+    ensures keeps { IfErr result (λ failed. KeepsAt M.tells (M.view media) (M.view failed.1) failed.0) }
+    ensures fails { IfErr result (λ failed. IsTrue (is_media failed.0) → Rose (M.view media).faults (M.view failed.1).faults) }
+    ensures kept { IfErr result (λ failed. IsFalse (is_media failed.0) → (M.view failed.1).faults ≡ (M.view media).faults) }
+    ensures early { IfErr result (λ failed. failed.0 ≡ OpenFault.NoMemory → failed.1 ≡ media) }
 {
     steps_keep_all_sound();
     let Ok(room) = SaveRoom::new(alloc) else {
