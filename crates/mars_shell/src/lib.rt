@@ -2,7 +2,7 @@
 //! `docs/THEOREM.md` retells from the top.
 //!
 //! `run` does what the words of the command line ask for, and answers with a status. Read first `whole.rt`, then `specs/Asked` (what
-//! comes of it, by command and status), `specs/Outcome` (what was not begun), `specs/Run` (turns of callers over records) and
+//! comes of it, by command and status), `specs/Outcome` of `array_runs` (what was not begun), `specs/Run` (turns of callers over records) and
 //! `specs/PrefixLaw` (what a loss of power leaves). The trait of work over records is in `record_work.rt`, that of work on a core in
 //! `core_work.rt`, and `records.rt` goes from the opening to the status.
 //!
