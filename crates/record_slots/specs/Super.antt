@@ -1,5 +1,5 @@
 -- What the 512 bytes of the super page say, and the bytes that are written.
-use Rattle.std.specs.Prelude.{ℕ, zero, suc, ◌≡◌, ◌≢◌, ◌-◌, ◌<◌, ◌≤◌, Bool, true, IsTrue, nat_eq, nat_le, ◌&&◌, if◌then◌else◌, List, [], ◌∷◌, ◌++◌, length, take, drop, codes, replicate, slice_index, slice_get, Option, Some, None}
+use Rattle.std.specs.Prelude.{ℕ, zero, suc, ◌≡◌, ◌≢◌, ◌-◌, ◌^◌, ◌<◌, ◌≤◌, Bool, true, IsTrue, nat_eq, nat_le, ◌&&◌, if◌then◌else◌, List, [], ◌∷◌, ◌++◌, length, take, drop, codes, replicate, slice_index, slice_get, Option, Some, None}
 use Rattle.std.specs.List.{list_all}
 use Rattle.byteorder.specs.Endian.{little_from, little_bytes}
 use Rattle.mars_base.specs.Bytes.{range}
@@ -140,6 +140,23 @@ part_bytes front =
 -- the 512 bytes of a super page: the mark, the version, the form, that part, and zeros
 abbrev pub super_bytes : Super → List ℕ
 super_bytes front = super_mark ++ front.version ∷ front.form ∷ 0 ∷ 0 ∷ (part_bytes front ++ replicate 224 0)
+
+-- numbers of 32 bits, and entries of 256 bytes
+pub record IsWhole (front : Super) : Type 0 where
+  pub next_slot : front.next_slot < 2 ^ 32
+  pub next_page : front.next_page < 2 ^ 32
+  pub entries : length front.entries ≡ 256
+  pub free_slot : front.free_slot < 2 ^ 32
+  pub free_page : front.free_page < 2 ^ 32
+  pub free_slots : front.free_slots < 2 ^ 32
+  pub free_pages : front.free_pages < 2 ^ 32
+
+-- a page with the mark, with the version and the form of a super page, and with these bytes as the part
+pub record IsPartOf (piece bytes : List ℕ) (front : Super) : Type 0 where
+  pub has_mark : HasSuperMark bytes
+  pub version : front.version ≡ version_said bytes
+  pub form : front.form ≡ form_said bytes
+  pub part : range bytes 8 280 ≡ piece
 
 -- an entry of a table, and a free one
 abbrev pub entry_bytes : TableEntry → List ℕ

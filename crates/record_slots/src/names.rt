@@ -66,7 +66,8 @@ impl Names {
 
     /// Adds a name behind the others. Where there are eight, nothing changes.
     pub fn push(&mut self, name: &Name)
-        ensures { length self.old < 8 → self.new ≡ self.old ++ name.now ∷ [] }
+        ensures added { length self.old < 8 → self.new ≡ self.old ++ name.now ∷ [] }
+        ensures full { 8 ≤ length self.old → self.new ≡ self.old }
     {
         let count = used_count(&self.entries);
         if count == TABLES_MAX {

@@ -14,8 +14,8 @@ invariant_of-self c =
     let room : length (tables_used c.self.inside.entries) < 8 = omega (arith, c.used_count-count.ensures.count, c.used_count-count.ensures.most, c.if-count-eq-TABLES_MAX.false) in
     (last_added es c.copy_from_slice.new.self c.args.name.now k 0 (32 * k + 32 - 32 * k) c.entry_of.ensures.named (omega arith) c.self.told c.self.invariant c.used_count-count.ensures.count room size (c.copy_from_slice.ensures.after ∙ c.entry_of.ensures.bytes)).1
 
-pub returns : goal.returns
-returns c = λ lt.
+pub returns-clause-added : goal.returns-clause-added
+returns-clause-added c = λ lt.
     let es = c.self.inside.entries in
     let k = c.used_count-count.result in
     let last : TableEntry = record { name = c.args.name.now; root = 0 } in
