@@ -8,7 +8,7 @@ use Rattle.mars_base.proofs.Puts.{get_or-put_inside}
 use Rattle.pcm_media.specs.Images.{Content, Touched}
 use Rattle.pcm_media.proofs.Ranges.{length-range, get_or-range}
 use Rattle.pcm_media.proofs.Left.{get_or-put_outside}
-use Rattle.resident_media.specs.Blocks.{Holds, AreKnown, IsMarked, IsPut, end_block}
+use Rattle.resident_media.specs.Blocks.{Holds, AreKnown, IsMarked, IsPut, Covers, end_block}
 
 pub not_both : false ≡ true → ⊥
 not_both e = true≢false (sym e)
@@ -72,11 +72,13 @@ module _ (from k : ℕ) (kept part : List ℕ) (long : length part ≡ k) (fits 
         ]
 
 -- a write that was done
-pub holds_put : (kept next content : List ℕ) (known : List Bool) (at : ℕ) (bytes : List ℕ) → at + length bytes ≤ length content → length kept ≤ length content
-    → IsPut at bytes kept next → Holds kept known content → Holds next known (put content at bytes)
-holds_put kept next content known at bytes fits few is holds i lt seen =
+pub holds_put : (kept next content : List ℕ) (known marked : List Bool) (at : ℕ) (bytes : List ℕ) → at + length bytes ≤ length content → length kept ≤ length content
+    → IsPut at bytes kept next → Covers at (length bytes) (length kept) known marked → Holds kept known content → Holds next marked (put content at bytes)
+holds_put kept next content known marked at bytes fits few is covers holds i lt seen =
     let low : i < length kept = omega (arith, is.long) in
-    let old : (at ≤ i → i < at + length bytes → ⊥) → get_or next i 0 ≡ get_or (put content at bytes) i 0 = λ out. is.outside i out ∙ holds i low seen ∙ sym (get_or-put_outside content at bytes fits i out) in
+    let old : (at ≤ i → i < at + length bytes → ⊥) → get_or next i 0 ≡ get_or (put content at bytes) i 0 = λ out.
+    let was : get_or known (i / 4096) false ≡ true = sym (covers.outside (i / 4096) (λ c. out (omega (arith, c.1)) (omega (arith, c.2, low)))) ∙ seen in
+    is.outside i out ∙ holds i low was ∙ sym (get_or-put_outside content at bytes fits i out) in
     elim (cases_lt i at) [
       | inl before ↦ old (λ le lt'. omega arith)
       | inr le ↦ elim (cases_lt i (at + length bytes)) [

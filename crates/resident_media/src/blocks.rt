@@ -4,7 +4,7 @@ ghost use Rattle.std.specs.Bool.{OnTrue, OnFalse};
 ghost use Rattle.std.specs.Vec.{vec_capacity};
 ghost use Rattle.mars_base.specs.Bytes.{range};
 ghost use Rattle.pcm_media.specs.Images.{Touched};
-ghost use Rattle.resident_media.specs.Blocks.{Holds, AreKnown, AreFor, IsMarked, IsPut, Learns, StaysOutside, end_block};
+ghost use Rattle.resident_media.specs.Blocks.{Holds, AreKnown, AreFor, IsMarked, IsPut, Covers, Learns, StaysOutside, end_block};
 ghost use Rattle.resident_media.specs.Resident.{Called, Served};
 
 use mars_base::Failed;
@@ -95,6 +95,25 @@ pub fn put_kept(kept: &mut [u8], at: u64, bytes: &[u8])
     let at = at as usize;
     let count = bytes.len().min(len - at);
     kept[at..at + count].copy_from_slice(&bytes[..count]);
+}
+
+/// Makes the blocks known that these `count` bytes cover, when so many are `kept`.
+pub fn cover(known: &mut [bool], kept: usize, at: u64, count: usize)
+    requires { 0 < kept → AreFor kept (length known.old) }
+    ensures { Covers at count kept known.old known.new }
+{
+    if at >= kept as u64 {
+        return;
+    }
+    let at = at as usize;
+    let behind = at + count.min(kept - at);
+    let first = at.div_ceil(BLOCK);
+    let end = if behind == kept {
+        known.len()
+    } else {
+        behind / BLOCK
+    };
+    mark(known, first, end.max(first), true);
 }
 
 /// Makes the blocks unknown that lie in these `count` bytes, in whole or in part.

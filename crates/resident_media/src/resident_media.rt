@@ -5,10 +5,10 @@ ghost use Rattle.mars_base.specs.Bytes.{range};
 ghost use Rattle.pcm_media.specs.Images.{written, settled};
 ghost use Rattle.pcm_media.specs.View.{Writes};
 ghost use Rattle.resident_media.specs.Blocks.{Learns, StaysOutside, end_block};
-ghost use Rattle.resident_media.specs.Once.{Does, handed};
+ghost use Rattle.resident_media.specs.Once.{Does, handed, written_at};
 ghost use Rattle.resident_media.specs.Resident.{shown, is_steady, IsTicked, IsAnew, Knows, Called, Served};
 
-use crate::blocks::{BLOCK, count_read, forget, is_within, put_kept, read_kept};
+use crate::blocks::{BLOCK, count_read, cover, forget, is_within, put_kept, read_kept};
 use crate::moment_notes::MomentNotes;
 use mars_base::Failed;
 use pcm_media::Media;
@@ -16,8 +16,9 @@ use std::alloc::{AllocFailed, Global};
 use std::marker::Model;
 
 /// A medium over a medium that nobody else writes, of whose first bytes it keeps those in memory that were read, by blocks of 4,096. A read within
-/// known blocks makes no call below. A write is handed on, and then put into what is kept. Where it fails, the blocks that it touches are unknown
-/// again. As many reads as there are blocks are handed on first: clearing the room costs about as much, and a short run does not pay for it.
+/// known blocks makes no call below. A write is handed on, and then put into what is kept: the blocks that it covers whole are known then. Where it
+/// fails, the blocks that it touches are unknown again. As many reads as there are blocks are handed on first: clearing the room costs about as
+/// much, and a short run does not pay for it.
 #[derive(Drop)]
 pub struct ResidentMedia<M: Media> {
     inner: M,
@@ -161,7 +162,7 @@ impl<M: Media> Media for ResidentMedia<M> {
         ensures steady { (calls more : ℕ) → IsTrue (is_steady M.view M.steady self.old (calls + 1) (length bytes.now + more))
             → IsOk result × IsTrue (is_steady M.view M.steady self.new calls more) }
 
-        ensures handed { OnOk result (Does M.view handed self.old self.new) }
+        ensures handed { OnOk result (Does M.view (written_at at (length bytes.now)) self.old self.new) }
         ensures others { StaysOutside (at / 4096) (end_block at (length bytes.now)) self.old.known self.new.known }
         ensures room { (length self.new.kept ≡ length self.old.kept) × (self.new.len ≡ self.old.len) × (self.new.wait ≡ self.old.wait) }
     {
@@ -169,6 +170,7 @@ impl<M: Media> Media for ResidentMedia<M> {
         match self.inner.write(at, bytes) {
             Ok(()) => {
                 put_kept(&mut self.kept, at, bytes);
+                cover(&mut self.known, self.kept.len(), at, bytes.len());
                 Ok(())
             }
             Err(failed) => {

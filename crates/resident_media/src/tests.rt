@@ -47,6 +47,30 @@ fn forgets<M: Media>(media: &mut M) -> Result<()> {
     Ok(())
 }
 
+// Five calls below so far. The write of a whole block is one more, and the read of it none.
+fn covers<M: Media>(media: &mut M) -> Result<()> {
+    ensure!(media.len() >= 8192, "it lies within");
+    if media.write(4096, &[5; 4096]).is_err() {
+        bail!("the write failed");
+    }
+    ensure!(get(media, 5000)? == 5, "what was written");
+    Ok(())
+}
+
+#[test]
+fn knows_what_was_written(rt: HostRuntime) -> Result<()> {
+    let sevens = vec![in rt.alloc(); 7; 10_000]?;
+    let below = MemoryMedia::new(rt.alloc(), &sevens, 100, 10_000)?;
+    let Ok(mut media) = ResidentMedia::over(rt.alloc(), below, 10_000) else {
+        bail!("no memory");
+    };
+    fills(&mut media)?;
+    covers(&mut media)?;
+    ensure!(media.moment() == 7, "seven calls");
+    ensure!(media.into_inner().moment() == 6, "six below");
+    Ok(())
+}
+
 #[test]
 fn reads_from_memory(rt: HostRuntime) -> Result<()> {
     let sevens = vec![in rt.alloc(); 7; 10_000]?;

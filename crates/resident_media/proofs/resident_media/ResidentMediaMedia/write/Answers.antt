@@ -1,9 +1,10 @@
-use Rattle.std.proofs.Common.{◌≡◌, ◌+◌, ◌≤◌, ◌∙◌, ℕ, [], ◌∷◌, List, Bool, true, false, get_or, length, sym, ap, subst, arith, refl}
+use Rattle.std.proofs.Common.{◌≡◌, ◌+◌, ◌/◌, ◌≤◌, ◌∙◌, ℕ, [], ◌∷◌, ◌++◌, List, Bool, true, false, get_or, take, drop, length, sym, ap, subst, arith, refl}
 use Rattle.std.proofs.lemmas.Result.{err_from_is_err_and}
 use Rattle.std.specs.Prelude.{IsTrue}
 use Rattle.mars_base.specs.Bytes.{put}
-use Rattle.resident_media.specs.Blocks.{Holds, IsPut}
-use Rattle.resident_media.specs.Resident.{Lies}
+use Rattle.resident_media.specs.Blocks.{Holds, IsPut, Covers, StaysOutside, end_block}
+use Rattle.resident_media.specs.Resident.{Resident, Lies}
+use Rattle.resident_media.proofs.Counts.{outside_covered}
 use Rattle.resident_media.proofs.Kept.{holds_put, holds_forgotten, still_none}
 use Rattle.resident_media.proofs.Steps.{back, stopped_of, step_of, does_called, moves_called, lies_after, steady_called}
 use Rattle.resident_media.proofs.resident_media.ResidentMediaMedia.write.Goals as goal
@@ -35,18 +36,25 @@ invariant_of-self g c =
     let items = c.self.inside.kept.items in
     let flags = c.self.inside.known.items in
     let bytes = c.args.bytes.now in
+    let next = c.put_kept.new.kept in
+    let marked = c.cover.new.known in
     let was = (g.M.Media.view c.self.inside.inner).content in
-    let put_is : IsPut c.args.at bytes items c.put_kept.new.kept = subst (λ (l : List ℕ). IsPut c.args.at bytes l c.put_kept.new.kept) c.deref_mut.ensures.value c.put_kept.ensures in
+    let put_is : IsPut c.args.at bytes items next = subst (λ (l : List ℕ). IsPut c.args.at bytes l next) c.deref_mut.ensures.value c.put_kept.ensures in
+    let covers : Covers c.args.at (length bytes) (length items) flags marked =
+    subst (λ (n : ℕ). Covers c.args.at (length bytes) n flags marked) (c.len.ensures ∙ c.self.inside.kept.ok.0)
+    (subst (λ (l : List Bool). Covers c.args.at (length bytes) c.len.result l marked) c.deref_mut-in-Ok.ensures.value c.cover.ensures) in
     let moves = moves_called g.M.Media.view g.M.Media.tells g.M.Media.steady c.args.self.now _ s ((c.args.at, length bytes) ∷ []) after _ c.in-Ok.ensures.does c.in-Ok.ensures.ticks in
     let size : (g.M.Media.view c.self.inside.inner).size ≡ (g.M.Media.view c.args.self.now.inner).size = ap (λ x. (g.M.Media.view x).size) s.inner in
-    let holds : IsTrue g.M.Media.tells → Holds items flags was.bytes → Holds c.put_kept.new.kept flags (g.M.Media.view after).content.bytes = λ told h.
+    let holds : IsTrue g.M.Media.tells → Holds items flags was.bytes → Holds next marked (g.M.Media.view after).content.bytes = λ told h.
     let long : length was.bytes ≡ (g.M.Media.view c.self.inside.inner).size = g.met.M.Media.long c.self.inside.inner told in
     let fits : c.args.at + length bytes ≤ length was.bytes = omega (arith, c.requires, size, long) in
     let few : length items ≤ length was.bytes = omega (arith, c.self.invariant.fits, c.self.invariant.low, long) in
-    let new : Holds c.put_kept.new.kept flags (put was.bytes c.args.at bytes) = holds_put items c.put_kept.new.kept was.bytes flags c.args.at bytes fits few put_is h in
-    subst (λ (l : List ℕ). Holds c.put_kept.new.kept flags l) (sym (ap (λ content. content.bytes) (c.in-Ok.ensures.written told))) new in
-    let lies = lies_after g.M.Media.view g.M.Media.tells g.M.Media.steady c.args.self.now _ s after _ _ items c.put_kept.new.kept flags flags _ moves c.self.invariant put_is.long refl c.self.invariant.none holds in
-    subst (λ (l : List ℕ). Lies g.M.Media.tells (g.M.Media.view after) c.self.inside.len c.self.inside.kept.cap l flags c.self.inside.wait c.self.inside.moment c.self.inside.notes.stood) (sym (back items c.put_kept.new.kept _ c.self.inside.kept.ok.0 put_is.long)) lies
+    let new : Holds next marked (put was.bytes c.args.at bytes) = holds_put items next was.bytes flags marked c.args.at bytes fits few put_is covers h in
+    subst (λ (l : List ℕ). Holds next marked l) (sym (ap (λ content. content.bytes) (c.in-Ok.ensures.written told))) new in
+    let none : length items ≡ 0 → (b : ℕ) → get_or marked b false ≡ false = λ z b. covers.outside b (λ is. omega (arith, is.0, z)) ∙ c.self.invariant.none z b in
+    let lies = lies_after g.M.Media.view g.M.Media.tells g.M.Media.steady c.args.self.now _ s after _ _ items next flags marked _ moves c.self.invariant put_is.long covers.long none holds in
+    subst (λ (l : List ℕ). Lies g.M.Media.tells (g.M.Media.view after) c.self.inside.len c.self.inside.kept.cap l (take c.self.inside.known.len (marked ++ drop (length marked) flags)) c.self.inside.wait c.self.inside.moment c.self.inside.notes.stood) (sym (back items next _ c.self.inside.kept.ok.0 put_is.long))
+    (subst (λ (l : List Bool). Lies g.M.Media.tells (g.M.Media.view after) c.self.inside.len c.self.inside.kept.cap next l c.self.inside.wait c.self.inside.moment c.self.inside.notes.stood) (sym (back flags marked _ c.self.inside.known.ok.0 covers.long)) lies)
 
 pub invariant_of-self-in-Err : goal.invariant_of-self-in-Err
 invariant_of-self-in-Err g c =
@@ -64,3 +72,18 @@ invariant_of-self-in-Err g c =
     others h in
     let lies = lies_after g.M.Media.view g.M.Media.tells g.M.Media.steady c.args.self.now _ s after _ _ items items flags c.forget.new.known _ moves c.self.invariant refl long (λ z. still_none flags c.forget.new.known others (c.self.invariant.none z)) holds in
     subst (λ (l : List Bool). Lies g.M.Media.tells (g.M.Media.view after) c.self.inside.len c.self.inside.kept.cap items l c.self.inside.wait c.self.inside.moment c.self.inside.notes.stood) (sym (back flags c.forget.new.known _ c.self.inside.known.ok.0 long)) lies
+
+pub returns-in-Ok-clause-others : goal.returns-in-Ok-clause-others
+returns-in-Ok-clause-others g c =
+    let items = c.self.inside.kept.items in
+    let flags = c.self.inside.known.items in
+    let bytes = c.args.bytes.now in
+    let marked = c.cover.new.known in
+    let covers : Covers c.args.at (length bytes) (length items) flags marked =
+    subst (λ (n : ℕ). Covers c.args.at (length bytes) n flags marked) (c.len.ensures ∙ c.self.inside.kept.ok.0)
+    (subst (λ (l : List Bool). Covers c.args.at (length bytes) c.len.result l marked) c.deref_mut-in-Ok.ensures.value c.cover.ensures) in
+    let first = c.args.at / 4096 in
+    let end = end_block c.args.at (length bytes) in
+    let same : flags ≡ c.args.self.now.known = ap (λ (r : Resident g.row.M.Denot). r.known) c.self.view_is ∙ c.tick.ensures.known in
+    subst (λ (l : List Bool). StaysOutside first end l (take c.self.inside.known.len (marked ++ drop (length marked) flags))) same
+    (subst (λ (l : List Bool). StaysOutside first end flags l) (sym (back flags marked _ c.self.inside.known.ok.0 covers.long)) (outside_covered c.args.at (length bytes) (length items) flags marked covers))
