@@ -33,3 +33,4 @@ pub mod Made
 pub mod KeptNames
 pub mod Hearing
 mod Erasing
+pub mod Blaming

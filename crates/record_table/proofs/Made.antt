@@ -35,13 +35,13 @@ use Rattle.page_store.proofs.Numbers.{with_here, with_there}
 use Rattle.record_table.specs.Calls as calls
 use Rattle.record_table.specs.Faults.{told_as}
 use Rattle.record_table.specs.Invariant.{AreSlotParts, Holds}
-use Rattle.record_table.specs.Making.{as_make, IsFit, IsOfMake, names_said, PlaceCause, MakeCause, Makes, is_make_failed, with_page}
+use Rattle.record_table.specs.Making.{as_make, IsFit, IsOfMake, names_said, PlaceCause, MakeCause, Makes, OnlyUpgrades, is_make_failed, with_page}
 use Rattle.record_table.specs.Names.{names_of, IsCalled, IsNew}
 use Rattle.record_table.specs.Does.{OpensNamed}
 use Rattle.record_table.specs.Shown.{state_of, keys_of, table_of}
 use Rattle.record_table.specs.Sought.{LooksAs}
 use Rattle.record_table.specs.State.{TableState, Keys}
-use Rattle.record_table.specs.Upgrading.{Upgrades}
+use Rattle.record_table.specs.Upgrading.{Upgrades, upgraded}
 use Rattle.record_table.specs.declared.fault.TableFault.{TableFault}
 use Rattle.record_table.specs.declared.making.MakeFault.{MakeFault}
 use Rattle.record_table.specs.declared.making.MakeFault.TheVariants as unmade
@@ -75,6 +75,15 @@ module _ (d : List ℕ) (front : Super) (says : SaysSuper (page_bytes d 0) front
     tables = subst (λ (x : ℕ × ℕ × List ℕ). HasTables x.0 x.1 x.2) (λ i. (two i, sym says.next_page i, sym says.entries i)) counts.tables;
   }
 
+-- nothing but the upgrade was written
+only_upgraded : (old new : List ℕ) (f : MakeFault) → new ≡ upgraded old → OnlyUpgrades old new (Err f)
+only_upgraded old new unmade.Exists is = is
+only_upgraded old new unmade.TablesFull is = is
+only_upgraded old new (unmade.PagesFull n) is = is
+only_upgraded old new (unmade.Damaged bad) is = tt
+only_upgraded old new unmade.Media is = tt
+only_upgraded old new unmade.Dead is = tt
+
 module _ (tells : Bool) (Opens : List ℕ → List ℕ → Type 0) (index : Index) (name : List ℕ) where
   -- at each moment the records are left, under the names that there were
   abbrev Before : PagesView → PagesView → Type 0
@@ -103,6 +112,7 @@ module _ (tells : Bool) (Opens : List ℕ → List ℕ → Type 0) (index : Inde
     pub keys : IsTrue tells → keys_of index now.store.state.bytes ≡ keys_of index old.store.state.bytes
     pub indexes : IsTrue tells → (table root : ℕ) → IsTable old.store.state.bytes table root → index.pairs now.store.state.bytes root ≡ index.pairs old.store.state.bytes root
     pub state : IsTrue tells → state_of index now ≡ state_of index old
+    pub bytes : IsTrue tells → now.store.state.bytes ≡ upgraded old.store.state.bytes
     pub quiet : IsTrue tells → version_of old.store.state.bytes ≡ 2 → now.store.state.bytes ≡ old.store.state.bytes
     pub time : IsTrue tells → Before old now
     pub mirrors : Mirrors tells old.store now.store
@@ -130,6 +140,7 @@ module _ (tells : Bool) (Opens : List ℕ → List ℕ → Type 0) (index : Inde
     same_keys = λ told well. absurd (false≢true (sym well));
     same_state = λ told well. absurd (false≢true (sym well));
     same_numbers = λ well. absurd (false≢true (sym well));
+    upgrades = λ told. tt;
     quiet = λ told well. absurd (false≢true (sym well));
     others = others;
     time = λ told _. time told;
@@ -154,6 +165,7 @@ module _ (tells : Bool) (Opens : List ℕ → List ℕ → Type 0) (index : Inde
     same_keys = λ told _. refl;
     same_state = λ told _. refl;
     same_numbers = λ _. (refl, refl);
+    upgrades = λ told. tt;
     quiet = λ told _ two. refl;
     others = λ u ne. (refl, refl);
     time = λ told alive. absurd (false≢true (sym alive ∙ dead));
@@ -163,8 +175,9 @@ module _ (tells : Bool) (Opens : List ℕ → List ℕ → Type 0) (index : Inde
   refused_by : (old now : PagesView) (f : MakeFault) → (let r : Result ℕ MakeFault = Err f in IsFalse (is_make_failed r) × MakeCause tells name old.store r) → now.store.shape ≡ old.store.shape → Mirrors tells old.store now.store → now.store.is_dead ≡ old.store.is_dead
       → now.store.faults ≡ old.store.faults → now.counts ≡ old.counts → now.store.ranges 0 ≡ old.store.ranges 0 → ((u : ℕ) → u ≢ 0 → now.store.ranges u ≡ old.store.ranges u)
       → (IsTrue tells → tables_of now.store.state.bytes ≡ tables_of old.store.state.bytes) → (IsTrue tells → keys_of index now.store.state.bytes ≡ keys_of index old.store.state.bytes) → (IsTrue tells → state_of index now ≡ state_of index old)
-      → (IsTrue tells → version_of old.store.state.bytes ≡ 2 → now.store.state.bytes ≡ old.store.state.bytes) → (IsTrue tells → IsAlive old.store → Before old now) → Makes tells Opens index name old now (Err f)
-  refused_by old now f well shape mirrors dead faults counts ranges others tables keys state quiet time = record {
+      → (IsTrue tells → version_of old.store.state.bytes ≡ 2 → now.store.state.bytes ≡ old.store.state.bytes) → (IsTrue tells → IsAlive old.store → Before old now)
+      → (IsTrue tells → OnlyUpgrades old.store.state.bytes now.store.state.bytes (Err f)) → Makes tells Opens index name old now (Err f)
+  refused_by old now f well shape mirrors dead faults counts ranges others tables keys state quiet time only = record {
     shape = shape;
     mirrors = mirrors;
     cause = well.1;
@@ -181,6 +194,7 @@ module _ (tells : Bool) (Opens : List ℕ → List ℕ → Type 0) (index : Inde
     same_keys = λ told _. keys told;
     same_state = λ told _. state told;
     same_numbers = λ _. (ranges, counts);
+    upgrades = only;
     quiet = λ told _ two. quiet told two;
     others = λ u ne. (others u ne, ap (λ (f : ℕ → List ℕ). f u) counts);
     time = λ told alive. either old now (time told alive);
@@ -188,7 +202,7 @@ module _ (tells : Bool) (Opens : List ℕ → List ℕ → Type 0) (index : Inde
 
   refused_ready : (old now : PagesView) (f : MakeFault) → Ready old now → (let r : Result ℕ MakeFault = Err f in IsFalse (is_make_failed r) × MakeCause tells name old.store r) → Makes tells Opens index name old now (Err f)
   refused_ready old now f ready well =
-      refused_by old now f well ready.shape ready.mirrors ready.dead ready.faults ready.counts ready.ranges ready.others ready.tables ready.keys ready.state ready.quiet (λ told _. ready.time told)
+      refused_by old now f well ready.shape ready.mirrors ready.dead ready.faults ready.counts ready.ranges ready.others ready.tables ready.keys ready.state ready.quiet (λ told _. ready.time told) (λ told. only_upgraded old.store.state.bytes now.store.state.bytes f (ready.bytes told))
 
   -- the upgrade was refused
   pub not_upgraded : (old mid : PagesView) (f : PageFault) → (let r : Result (Unit {0}) PageFault = Err f in Upgrades tells Opens index old mid (told_as r)) → (f ≡ fault.Dead → mid ≡ old) → Makes tells Opens index name old mid (Err (as_make f))
@@ -197,7 +211,7 @@ module _ (tells : Bool) (Opens : List ℕ → List ℕ → Type 0) (index : Inde
   not_upgraded old mid fault.Dead up same = subst (λ (v : PagesView). Makes tells Opens index name old v (Err unmade.Dead)) (sym (same refl)) (was_dead old up.cause)
   not_upgraded old mid (fault.Damaged bad) up same =
       refused_by old mid (unmade.Damaged bad) (refl, up.cause) up.shape up.mirrors (up.faults refl).0 (up.faults refl).1 up.saves (up.ranges refl) up.others (λ told. up.tables told refl) (λ told. up.keys told refl) (λ told. up.state told refl)
-      (λ told two. up.quiet told refl two) up.named
+      (λ told two. up.quiet told refl two) up.named (λ told. tt)
   not_upgraded old mid fault.SavesFull up same = absurd up.cause
   not_upgraded old mid (fault.LogFull g h n) up same = absurd up.cause
 
@@ -243,6 +257,7 @@ module _ (tells : Bool) (Opens : List ℕ → List ℕ → Type 0) (index : Inde
           keys = λ told. ap (keys_of index) (same told) ∙ up.keys told refl;
           indexes = λ told table root is. ap (λ (b : List ℕ). index.pairs b root) (same told) ∙ up.indexes told refl table root is;
           state = λ told. shown_same index mid now (still.state told) looks.saves ∙ up.state told refl;
+          bytes = λ told. same told ∙ up.bytes told;
           quiet = λ told two. same told ∙ up.quiet told refl two;
           time = look_time false looks;
         }
@@ -427,6 +442,7 @@ module _ (tells : Bool) (Opens : List ℕ → List ℕ → Type 0) (index : Inde
                 same_keys = λ told _. tt;
                 same_state = λ told _. tt;
                 same_numbers = λ _. tt;
+                upgrades = λ told. tt;
                 quiet = λ told _ two. tt;
                 others = λ u ne. (
                   does.others u (λ e. ne e) ∙ acts.others u ne ∙ ready.others u ne,

@@ -11,6 +11,7 @@ pub mod AllTables
 pub mod Sought
 pub mod Faults
 pub mod Hearing
+pub mod Blames
 pub mod Seeks
 pub mod Scanned
 pub mod Form

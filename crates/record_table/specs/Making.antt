@@ -18,6 +18,7 @@ use Rattle.record_table.specs.Does.{OpensNamed}
 use Rattle.record_table.specs.Names.{names_of, IsNew}
 use Rattle.record_table.specs.Shown.{state_of, keys_of}
 use Rattle.record_table.specs.State.{Keys}
+use Rattle.record_table.specs.Upgrading.{upgraded}
 use Rattle.record_table.specs.declared.making.MakeFault.{MakeFault}
 use Rattle.record_table.specs.declared.making.MakeFault.TheVariants.{Exists, TablesFull, PagesFull, Media, Dead, Damaged}
 use Rattle.eaw_face.specs.Mirroring.{Mirrors}
@@ -73,9 +74,16 @@ MakeCause tells name old (Err (Damaged page)) = IsAlive old × ¬ IsTrue tells
 abbrev pub with_page : Keys → Keys
 with_page keys = record keys { used_pages = suc keys.used_pages; next_page = suc keys.next_page }
 
+-- where there is no place for the table, the upgrade was done, and nothing else was written
+abbrev pub OnlyUpgrades : List ℕ → List ℕ → Result ℕ MakeFault → Type 0
+OnlyUpgrades old new (Err Exists) = new ≡ upgraded old
+OnlyUpgrades old new (Err TablesFull) = new ≡ upgraded old
+OnlyUpgrades old new (Err (PagesFull n)) = new ≡ upgraded old
+OnlyUpgrades old new result = Unit {0}
+
 -- The making of a table of this name. After an Ok it is the last one, and its index, in the page that was next, has no pairs; the super page
 -- is of version 2. All other tables have their indexes and records, and all numbers what they have written and saved, but for the number 0,
--- which is as after an abort. After a refusal other than Media at most the version has changed. Media leaves the store dead. At each moment
+-- which is as after an abort. After a refusal other than Media at most the version has changed; where there is no place for the table, it is 2. Media leaves the store dead. At each moment
 -- of a store that was not dead, a loss of power leaves what it might have left before, or an image that opens with the records that there
 -- were, under the names that there were, or under those and the new one.
 pub record Makes (tells : Bool) (Opens : List ℕ → List ℕ → Type 0) (index : Index) (name : List ℕ) (old new : PagesView) (result : Result ℕ MakeFault) : Type 0 where
@@ -94,6 +102,7 @@ pub record Makes (tells : Bool) (Opens : List ℕ → List ℕ → Type 0) (inde
   pub same_keys : IsTrue tells → IsFalse (is_make_failed result) → OnErr result (keys_of index new.store.state.bytes ≡ keys_of index old.store.state.bytes)
   pub same_state : IsTrue tells → IsFalse (is_make_failed result) → OnErr result (state_of index new ≡ state_of index old)
   pub same_numbers : IsFalse (is_make_failed result) → OnErr result ((new.store.ranges 0 ≡ old.store.ranges 0) × (new.counts ≡ old.counts))
+  pub upgrades : IsTrue tells → OnlyUpgrades old.store.state.bytes new.store.state.bytes result
   pub quiet : IsTrue tells → IsFalse (is_make_failed result) → version_of old.store.state.bytes ≡ 2 → OnErr result (new.store.state.bytes ≡ old.store.state.bytes)
   pub others : (u : ℕ) → u ≢ 0 → (new.store.ranges u ≡ old.store.ranges u) × (new.counts u ≡ old.counts u)
   pub time : IsTrue tells → IsAlive old.store

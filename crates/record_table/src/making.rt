@@ -8,6 +8,7 @@ ghost use Rattle.page_store.specs.Shown.{pages_of, top_in};
 ghost use Rattle.record_slots.specs.Fresh.{fresh_page};
 ghost use Rattle.record_slots.specs.Super.{super_bytes};
 ghost use Rattle.record_slots.specs.Places.{next_page};
+ghost use Rattle.record_table.specs.Blames.{BlamesFrontMade};
 ghost use Rattle.record_table.specs.Invariant.{Holds};
 ghost use Rattle.record_table.specs.Making.{IsOfMake, Makes, PlaceCause, as_make};
 
@@ -69,7 +70,8 @@ fn place_for(front: &Super, name: &Name, half: u32) -> Result<u8, MakeFault>
     requires half { 2 ≤ half }
     requires oldest { 1 ≤ front.now.version }
     requires newest { front.now.version ≤ 2 }
-    ensures { PlaceCause name.now half front.now result }
+    ensures cause { PlaceCause name.now half front.now result }
+    ensures blames { BlamesFrontMade result }
 {
     if front.version != VERSION {
         return Err(MakeFault::Damaged { page: 0 });
@@ -124,6 +126,7 @@ pub fn make<S: EawStore, K: KeyIndex>(
     ensures makes { Makes S.tells (S.opens (S.view pages.old.store).shape) K.index name.now
         (pages_of (S.view pages.old.store) pages.old) (pages_of (S.view pages.new.store) pages.new) result }
     ensures holds { Holds S.tells K.index (pages_of (S.view pages.new.store) pages.new) }
+    ensures blames { BlamesFrontMade result }
     ensures root { IsTrue S.tells → OnOk result (root.new ≡ next_page (S.view pages.old.store).state.bytes) }
     ensures inside { OnOk result (root.new < page_count (S.view pages.old.store).shape) }
     ensures number { IfOk result (λ number. number < 8) }

@@ -7,6 +7,7 @@ ghost use Rattle.page_store.specs.Index.{HasCounts};
 ghost use Rattle.page_store.specs.Looks.{Looks, LookCause, is_failed};
 ghost use Rattle.page_store.specs.Shown.{pages_of};
 ghost use Rattle.record_slots.specs.Super.{tables_in};
+ghost use Rattle.record_table.specs.Blames.{BlamesFront};
 ghost use Rattle.record_table.specs.Names.{names_of, AreRootsOf, ArePages};
 
 use eaw_face::EawStore;
@@ -54,6 +55,7 @@ pub fn names_and_roots<S: EawStore>(pages: &mut Pages<S>) -> Result<(Names, Root
     ensures looks { Looks S.tells (S.opens (S.view pages.old.store).shape) (is_failed result)
         (pages_of (S.view pages.old.store) pages.old) (pages_of (S.view pages.new.store) pages.new) }
     ensures cause { LookCause S.tells (S.view pages.old.store) result }
+    ensures blames { BlamesFront result }
     ensures names { IsTrue S.tells → IfOk result (λ read. read.0 ≡ names_of (S.view pages.old.store).state.bytes) }
     ensures roots { IsTrue S.tells → IfOk result (λ read. AreRootsOf (S.view pages.old.store).state.bytes read.1.at) }
     ensures long { IfOk result (λ read. length read.1.at ≡ 8) }

@@ -17,6 +17,7 @@ ghost use Rattle.record_slots.specs.Places.{version_of};
 ghost use Rattle.record_table.specs.Removing.{IsAbsent, IsUnwritten, IsNextAbsent, SearchCause, Removes};
 ghost use Rattle.record_table.specs.Groups.{CommitsGroup, group_writes};
 ghost use Rattle.record_table.specs.Does.{Does, replied, is_failed};
+ghost use Rattle.record_table.specs.Blames.{BlamesOne, BlamesFrontHere, BlamesFrontMade};
 ghost use Rattle.record_table.specs.Hearing.{Hearing, HearsAbsent, HearsRows};
 ghost use Rattle.record_table.specs.Seeks.{Erases, Gets};
 ghost use Rattle.record_table.specs.Shown.{state_of, table_of, pairs_of, held_on, is_write_on, AreNamed};
@@ -112,6 +113,7 @@ impl<S: EawStore, K: KeyIndex> Records<S, K> {
         requires free { (S.view self.old.store).ranges 0 ≡ None }
         ensures upgrades { Upgrades S.tells (S.opens (S.view self.old.store).shape) K.index
             (pages_of (S.view self.old.store) self.old) (pages_of (S.view self.new.store) self.new) result }
+        ensures blames { BlamesFrontHere result }
         ensures dead { IsErrOf result TableFault.Dead → self.new ≡ self.old }
     {
         told(upgrade::<S, K>(&mut self.pages))
@@ -123,6 +125,7 @@ impl<S: EawStore, K: KeyIndex> Records<S, K> {
         requires free { (S.view self.old.store).ranges 0 ≡ None }
         ensures makes { Makes S.tells (S.opens (S.view self.old.store).shape) K.index name.now
             (pages_of (S.view self.old.store) self.old) (pages_of (S.view self.new.store) self.new) result }
+        ensures blames { BlamesFrontMade result }
         ensures dead { IsErrOf result MakeFault.Dead → self.new ≡ self.old }
     {
         let mut root = 0;
@@ -250,6 +253,7 @@ impl<S: EawStore, K: KeyIndex> Records<S, K> {
         ensures does { (name : List ℕ) → (IsTrue S.tells → IsAlive (S.view self.old.store) → IsCalled (S.view self.old.store).state.bytes table name)
             → Does S.tells (S.opens (S.view self.old.store).shape) K.index table tid (Put name key value)
             (pages_of (S.view self.old.store) self.old) (pages_of (S.view self.new.store) self.new) (replied (λ done. Fine) result) }
+        ensures blames { BlamesOne (S.view self.old.store).shape result }
         ensures dead { IsErrOf result TableFault.Dead → self.new ≡ self.old }
     {
         let root = self.roots.of_table(table);
@@ -431,6 +435,7 @@ impl<S: EawStore, K: KeyIndex> Records<S, K> {
         requires unwritten { IsTrue S.tells → IsAlive (S.view self.old.store) → IsUnwritten K.index (pages_of (S.view self.old.store) self.old) (key_in (S.view self.old.store).state.bytes table key) }
         ensures removes { Removes S.tells (S.opens (S.view self.old.store).shape) K.index table tid key
             (pages_of (S.view self.old.store) self.old) (pages_of (S.view self.new.store) self.new) result }
+        ensures blames { BlamesOne (S.view self.old.store).shape result }
         ensures dead { IsErrOf result TableFault.Dead → self.new ≡ self.old }
     {
         let root = self.roots.of_table(table);

@@ -5,6 +5,7 @@ ghost use Rattle.page_store.specs.Looks.{LookCause, is_failed};
 ghost use Rattle.page_store.specs.Shown.{pages_of};
 ghost use Rattle.record_slots.specs.Places.{page_bytes};
 ghost use Rattle.record_slots.specs.Super.{SaysSuper};
+ghost use Rattle.record_table.specs.Blames.{BlamesFront};
 ghost use Rattle.record_table.specs.Faults.{told_as};
 ghost use Rattle.record_table.specs.Invariant.{Holds};
 ghost use Rattle.record_table.specs.Sought.{LooksAs};
@@ -27,6 +28,7 @@ pub fn read_front<S: EawStore, K: KeyIndex>(pages: &mut Pages<S>) -> Result<Supe
     ensures cause { LookCause S.tells (S.view pages.old.store) result }
     ensures says { IsTrue S.tells → IfOk result (SaysSuper (page_bytes (S.view pages.old.store).state.bytes 0)) }
     ensures version { IfOk result (λ front. (1 ≤ front.version) × (front.version ≤ 2)) }
+    ensures blames { BlamesFront result }
     ensures dead { IsErrOf result PageFault.Dead → pages.new ≡ pages.old }
 {
     let mut bytes = [0; PAGE_LEN];
@@ -43,6 +45,7 @@ pub fn upgrade<S: EawStore, K: KeyIndex>(pages: &mut Pages<S>) -> Result<(), Pag
     requires holds { Holds S.tells K.index (pages_of (S.view pages.old.store) pages.old) }
     ensures upgrades { Upgrades S.tells (S.opens (S.view pages.old.store).shape) K.index
         (pages_of (S.view pages.old.store) pages.old) (pages_of (S.view pages.new.store) pages.new) (told_as result) }
+    ensures blames { BlamesFront result }
     ensures holds { Holds S.tells K.index (pages_of (S.view pages.new.store) pages.new) }
     ensures dead { IsErrOf result PageFault.Dead → pages.new ≡ pages.old }
 {

@@ -15,6 +15,7 @@ use Rattle.record_slots.specs.declared.super_page.Super.{Super}
 use Rattle.record_table.specs.Sought.{LooksAs}
 use Rattle.record_table.proofs.Made.{not_upgraded, ready_of, not_read, not_placed, not_written, far_holds, written}
 use Rattle.record_table.proofs.Sharing.{Laws}
+use Rattle.record_table.proofs.Blaming.{front_made, acted_front}
 use Rattle.record_table.proofs.making.make.Goals as goal
 
 pub returns-in-Err-clause-makes : goal.returns-in-Err-clause-makes
@@ -91,7 +92,7 @@ returns-in-Err-place_for-clause-makes g c =
     let ready = ready_of T O I name v0 v1 v2 up c.in-Ok.ensures.holds looks in
     let says = λ (told : IsTrue T). subst (λ (s : State). SaysSuper (page_bytes s.bytes 0) front) (sym ((looks.same refl).still.state told)) (c.in-Ok-read_front.ensures.says told) in
     let long = λ (told : IsTrue T). g.met.S.EawStore.long now.store told in
-    not_placed T O I name laws v0 v2 ready front c.index_page_count.result says c.index_page_count.ensures.count long c.in-Err-place_for.fault c.in-Err-place_for.ensures
+    not_placed T O I name laws v0 v2 ready front c.index_page_count.result says c.index_page_count.ensures.count long c.in-Err-place_for.fault c.in-Err-place_for.ensures.cause
 
 pub returns-in-Err-place_for-clause-holds : goal.returns-in-Err-place_for-clause-holds
 returns-in-Err-place_for-clause-holds g c =
@@ -176,10 +177,10 @@ returns-in-Err-write_table-clause-makes g c =
       free_page = omega arith;
       free_slots = omega arith;
       free_pages = omega arith;
-      none = λ one. absurd (let two : after.version ≡ 2 = ap (λ (f : Super). f.version) c.with_table.ensures.said ∙ c.in-Ok-place_for.ensures.0.version in omega (arith, one, two));
+      none = λ one. absurd (let two : after.version ≡ 2 = ap (λ (f : Super). f.version) c.with_table.ensures.said ∙ c.in-Ok-place_for.ensures.cause.0.version in omega (arith, one, two));
     } in
     let acts = subst (λ (s : Shape). (let r : Result (Unit {0}) PageFault = Err c.in-Err-write_table.fault in Acts T (E s) 0 (front.next_page ∷ 0 ∷ []) ((512 * front.next_page + 0, fresh_page 1) ∷ (512 * 0 + 0, super_bytes after) ∷ []) v2 v3 r)) ready.shape c.in-Err-write_table.ensures.acts in
-    rw c.refusal-in-Err-write_table.ensures (not_written T O I name laws v0 v2 ready front half says c.index_page_count.ensures.count long number c.in-Ok-place_for.ensures after c.with_table.ensures.said c.with_table.ensures.tables c.with_table.ensures.has writable v3 (g.met.S.EawStore.shaped now.store).some_entries c.requires.free c.in-Err-write_table.fault acts).0
+    rw c.refusal-in-Err-write_table.ensures (not_written T O I name laws v0 v2 ready front half says c.index_page_count.ensures.count long number c.in-Ok-place_for.ensures.cause after c.with_table.ensures.said c.with_table.ensures.tables c.with_table.ensures.has writable v3 (g.met.S.EawStore.shaped now.store).some_entries c.requires.free c.in-Err-write_table.fault acts).0
 
 pub end-requires-clause-closed : goal.end-requires-clause-closed
 end-requires-clause-closed g c =
@@ -216,10 +217,10 @@ end-requires-clause-closed g c =
       free_page = omega arith;
       free_slots = omega arith;
       free_pages = omega arith;
-      none = λ one. absurd (let two : after.version ≡ 2 = ap (λ (f : Super). f.version) c.with_table.ensures.said ∙ c.in-Ok-place_for.ensures.0.version in omega (arith, one, two));
+      none = λ one. absurd (let two : after.version ≡ 2 = ap (λ (f : Super). f.version) c.with_table.ensures.said ∙ c.in-Ok-place_for.ensures.cause.0.version in omega (arith, one, two));
     } in
     let acts = subst (λ (s : Shape). (let r : Result (Unit {0}) PageFault = Ok tt in Acts T (E s) 0 (front.next_page ∷ 0 ∷ []) ((512 * front.next_page + 0, fresh_page 1) ∷ (512 * 0 + 0, super_bytes after) ∷ []) v2 v3 r)) ready.shape c.in-Ok-write_table.ensures.acts in
-    λ living. (far_holds T O I name laws v0 v2 ready front half says c.index_page_count.ensures.count long number c.in-Ok-place_for.ensures after c.with_table.ensures.said c.with_table.ensures.tables c.with_table.ensures.has writable v3 acts living).closed 0
+    λ living. (far_holds T O I name laws v0 v2 ready front half says c.index_page_count.ensures.count long number c.in-Ok-place_for.ensures.cause after c.with_table.ensures.said c.with_table.ensures.tables c.with_table.ensures.has writable v3 acts living).closed 0
 
 pub returns-in-Ok-end-clause-makes : goal.returns-in-Ok-end-clause-makes
 returns-in-Ok-end-clause-makes g c =
@@ -256,13 +257,13 @@ returns-in-Ok-end-clause-makes g c =
       free_page = omega arith;
       free_slots = omega arith;
       free_pages = omega arith;
-      none = λ one. absurd (let two : after.version ≡ 2 = ap (λ (f : Super). f.version) c.with_table.ensures.said ∙ c.in-Ok-place_for.ensures.0.version in omega (arith, one, two));
+      none = λ one. absurd (let two : after.version ≡ 2 = ap (λ (f : Super). f.version) c.with_table.ensures.said ∙ c.in-Ok-place_for.ensures.cause.0.version in omega (arith, one, two));
     } in
     let acts = subst (λ (s : Shape). (let r : Result (Unit {0}) PageFault = Ok tt in Acts T (E s) 0 (front.next_page ∷ 0 ∷ []) ((512 * front.next_page + 0, fresh_page 1) ∷ (512 * 0 + 0, super_bytes after) ∷ []) v2 v3 r)) ready.shape c.in-Ok-write_table.ensures.acts in
     let new = c.end.new.self in
     let v4 = pages_of (V new.store) new in
     let does = subst (λ (s : Shape). (let r : Result (Unit {0}) PageFault = Ok tt in page_does.Does T (E s) (page.end 0 false) v3 v4 r)) (acts.shape ∙ ready.shape) c.in-Ok-end.ensures.does in
-    (written T O I name laws v0 v2 ready front half says c.index_page_count.ensures.count long number c.in-Ok-place_for.ensures after c.with_table.ensures.said c.with_table.ensures.tables c.with_table.ensures.has writable v3 acts v4 does).0
+    (written T O I name laws v0 v2 ready front half says c.index_page_count.ensures.count long number c.in-Ok-place_for.ensures.cause after c.with_table.ensures.said c.with_table.ensures.tables c.with_table.ensures.has writable v3 acts v4 does).0
 
 pub returns-in-Ok-end-clause-holds : goal.returns-in-Ok-end-clause-holds
 returns-in-Ok-end-clause-holds g c =
@@ -299,10 +300,22 @@ returns-in-Ok-end-clause-holds g c =
       free_page = omega arith;
       free_slots = omega arith;
       free_pages = omega arith;
-      none = λ one. absurd (let two : after.version ≡ 2 = ap (λ (f : Super). f.version) c.with_table.ensures.said ∙ c.in-Ok-place_for.ensures.0.version in omega (arith, one, two));
+      none = λ one. absurd (let two : after.version ≡ 2 = ap (λ (f : Super). f.version) c.with_table.ensures.said ∙ c.in-Ok-place_for.ensures.cause.0.version in omega (arith, one, two));
     } in
     let acts = subst (λ (s : Shape). (let r : Result (Unit {0}) PageFault = Ok tt in Acts T (E s) 0 (front.next_page ∷ 0 ∷ []) ((512 * front.next_page + 0, fresh_page 1) ∷ (512 * 0 + 0, super_bytes after) ∷ []) v2 v3 r)) ready.shape c.in-Ok-write_table.ensures.acts in
     let new = c.end.new.self in
     let v4 = pages_of (V new.store) new in
     let does = subst (λ (s : Shape). (let r : Result (Unit {0}) PageFault = Ok tt in page_does.Does T (E s) (page.end 0 false) v3 v4 r)) (acts.shape ∙ ready.shape) c.in-Ok-end.ensures.does in
-    (written T O I name laws v0 v2 ready front half says c.index_page_count.ensures.count long number c.in-Ok-place_for.ensures after c.with_table.ensures.said c.with_table.ensures.tables c.with_table.ensures.has writable v3 acts v4 does).1
+    (written T O I name laws v0 v2 ready front half says c.index_page_count.ensures.count long number c.in-Ok-place_for.ensures.cause after c.with_table.ensures.said c.with_table.ensures.tables c.with_table.ensures.has writable v3 acts v4 does).1
+
+pub returns-in-Err-clause-blames : goal.returns-in-Err-clause-blames
+returns-in-Err-clause-blames g c = rw c.refusal.ensures (front_made (Unit {0}) c.in-Err.fault c.in-Err.ensures.blames)
+
+pub returns-in-Err-read_front-clause-blames : goal.returns-in-Err-read_front-clause-blames
+returns-in-Err-read_front-clause-blames g c = rw c.refusal-in-Err-read_front.ensures (front_made Super c.in-Err-read_front.fault c.in-Err-read_front.ensures.blames)
+
+pub returns-in-Err-place_for-clause-blames : goal.returns-in-Err-place_for-clause-blames
+returns-in-Err-place_for-clause-blames g c = c.in-Err-place_for.ensures.blames
+
+pub returns-in-Err-write_table-clause-blames : goal.returns-in-Err-write_table-clause-blames
+returns-in-Err-write_table-clause-blames g c = rw c.refusal-in-Err-write_table.ensures (front_made (Unit {0}) c.in-Err-write_table.fault (acted_front _ _ _ _ _ _ c.in-Err-write_table.fault c.in-Err-write_table.ensures.acts))

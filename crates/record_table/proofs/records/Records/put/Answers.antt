@@ -12,6 +12,7 @@ use Rattle.page_store.specs.Index.{IsTable, slots_of}
 use Rattle.page_store.specs.Inserts.{Inserts}
 use Rattle.page_store.specs.Shown.{Shown, pages_of}
 use Rattle.page_store.specs.declared.index_fault.IndexFault.{IndexFault}
+use Rattle.page_store.specs.declared.leaf_page.Sought.{Sought}
 use Rattle.history.specs.declared.call.Call.TheVariants.{Put}
 use Rattle.record_table.proofs.Doing.{look_refused}
 use Rattle.record_table.proofs.Ending.{does_of, err_same}
@@ -21,6 +22,10 @@ use Rattle.record_table.specs.Names.{name_at}
 use Rattle.record_table.proofs.Rooted.{rooted_as, inside_as, called_inside}
 use Rattle.record_table.proofs.Sharing.{Laws, called_below, found_in}
 use Rattle.record_table.proofs.KeptNames.{kept}
+use Rattle.record_table.specs.Blames.{BlamesOne}
+use Rattle.record_table.specs.Faults.{as_table, inserted_as, told_as}
+use Rattle.record_table.specs.declared.fault.TableFault.{TableFault}
+use Rattle.record_table.proofs.Blaming.{found_blames, inserted_blames, done_blames}
 use Rattle.record_table.proofs.records.Records.put.Goals as goal
 
 pub insert-requires-clause-closed : goal.insert-requires-clause-closed
@@ -281,3 +286,32 @@ pub insert-requires-clause-root : goal.insert-requires-clause-root
 insert-requires-clause-root g c =
     subst (λ (s : Shape). c.of_table-root.result < page_count s) (sym c.in-Ok.ensures.looks.shape)
     (inside_as g.S.EawStore.tells (pages_of (g.S.EawStore.view c.self.inside.pages.store) c.self.inside.pages) c.self.inside.roots.at c.args.table c.requires.table c.self.invariant.1.1 c.of_table-root.result c.of_table-root.ensures)
+
+pub returns-in-Err-clause-blames : goal.returns-in-Err-clause-blames
+returns-in-Err-clause-blames g c =
+    let V = g.S.EawStore.view in
+    let inside = c.self.inside.pages in
+    subst (λ (p : Shown g.row.S.Denot). (let r : Result (Unit {0}) TableFault = Err c.from.result in BlamesOne (V p.store).shape r)) c.self.view_is
+    (rw c.from.ensures (found_blames Sought (Unit {0}) g.S.EawStore.tells (g.S.EawStore.calls inside.store) (g.S.EawStore.calls c.find_place.new.pages.store) (V inside.store) (V c.find_place.new.pages.store) c.in-Err.fault c.in-Err.ensures.follows))
+
+pub returns-in-Some-clause-blames : goal.returns-in-Some-clause-blames
+returns-in-Some-clause-blames g c =
+    let V = g.S.EawStore.view in
+    let mid = c.find_place.new.pages in
+    let new = c.write_as.new.pages in
+    rw c.told.ensures (done_blames g.S.EawStore.tells (g.S.EawStore.opens (V mid.store).shape) _ (pages_of (V mid.store) mid) (pages_of (V new.store) new) (V c.args.self.now.store).shape c.write_as.result c.write_as.ensures.does)
+
+pub returns-in-Ok-insert-clause-blames : goal.returns-in-Ok-insert-clause-blames
+returns-in-Ok-insert-clause-blames g c =
+    let V = g.S.EawStore.view in
+    let far = c.insert.new.pages in
+    let new = c.write_as-in-Ok-insert.new.pages in
+    rw c.told-in-Ok-insert.ensures (done_blames g.S.EawStore.tells (g.S.EawStore.opens (V far.store).shape) _ (pages_of (V far.store) far) (pages_of (V new.store) new) (V c.args.self.now.store).shape c.write_as-in-Ok-insert.result c.write_as-in-Ok-insert.ensures.does)
+
+pub returns-in-Err-insert-clause-blames : goal.returns-in-Err-insert-clause-blames
+returns-in-Err-insert-clause-blames g c =
+    let V = g.S.EawStore.view in
+    let mid = c.find_place.new.pages in
+    subst (λ (p : Shown g.row.S.Denot). (let r : Result (Unit {0}) TableFault = Err c.from-in-Err-insert.result in BlamesOne (V p.store).shape r)) c.self.view_is
+    (subst (λ (s : Shape). (let r : Result (Unit {0}) TableFault = Err c.from-in-Err-insert.result in BlamesOne s r)) c.in-Ok.ensures.looks.shape
+    (rw c.from-in-Err-insert.ensures (inserted_blames ℕ (Unit {0}) (V mid.store).shape _ c.in-Err-insert.fault c.in-Err-insert.ensures.works.blames)))

@@ -2,6 +2,10 @@ use Rattle.record_table.specs.Names.{name_at}
 use Rattle.record_table.proofs.Sharing.{called_below}
 use Rattle.record_table.proofs.Rooted.{rooted_as, inside_as, called_inside}
 use Rattle.page_store.specs.Shown.{pages_of}
+use Rattle.std.proofs.Common.{subst}
+use Rattle.page_store.specs.Shown.{Shown}
+use Rattle.record_table.specs.Blames.{BlamesOne}
+use Rattle.record_table.specs.Faults.{told_as}
 use Rattle.record_table.proofs.records.Records.remove.Goals as goal
 
 pub remove-requires-clause-named : goal.remove-requires-clause-named
@@ -15,3 +19,8 @@ remove-requires-clause-named g c =
 
 pub remove-requires-clause-root : goal.remove-requires-clause-root
 remove-requires-clause-root g c = inside_as g.S.EawStore.tells (pages_of (g.S.EawStore.view c.self.inside.pages.store) c.self.inside.pages) c.self.inside.roots.at c.args.table c.requires.table c.self.invariant.1.1 c.of_table-root.result c.of_table-root.ensures
+
+pub returns-clause-blames : goal.returns-clause-blames
+returns-clause-blames g c =
+    let V = g.S.EawStore.view in
+    rw c.told.ensures (subst (λ (p : Shown g.row.S.Denot). BlamesOne (V p.store).shape (told_as c.remove.result)) c.self.view_is c.remove.ensures.blames)
