@@ -7,6 +7,7 @@ use Rattle.mars_base.proofs.Going.{then, weaker}
 use Rattle.array_shape.specs.declared.shape.Shape.{Shape}
 use Rattle.eaw_face.specs.State.{State, count_on}
 use Rattle.eaw_face.specs.Causes.{IsAlive}
+use Rattle.eaw_face.specs.StoreView.{LeavesOnly}
 use Rattle.mars_base.specs.Room.{IsFirstFull}
 use Rattle.history.specs.Log.{Log, is_rewritten}
 use Rattle.history.specs.Table as history
@@ -25,7 +26,7 @@ use Rattle.page_store.specs.declared.fault.PageFault.{PageFault}
 use Rattle.page_store.specs.declared.fault.PageFault.TheVariants as page
 use Rattle.record_table.specs.Calls.{Replies, after, saves_after}
 use Rattle.record_table.specs.Causes.{Cause, MaySave, Fits, HasRoom, IsFull, IsShort, IsSought}
-use Rattle.record_table.specs.Does.{Does, OpensWith, Indexed, IsQuiet, replied}
+use Rattle.record_table.specs.Does.{Does, OpensAs, Indexed, IsQuiet, replied}
 use Rattle.record_table.specs.Does as answers
 use Rattle.record_table.specs.Faults.{as_table}
 use Rattle.record_table.specs.Invariant.{Holds}
@@ -35,7 +36,7 @@ use Rattle.record_table.specs.Sought.{LooksAs}
 use Rattle.record_table.specs.State.{TableState, Keys, TakesPages, seen_by}
 use Rattle.record_table.specs.declared.fault.TableFault.{TableFault}
 use Rattle.record_table.specs.declared.fault.TableFault.TheVariants.{SlotsFull, PagesFull, SavesFull, LogFull, Media, Dead, Damaged, NoMemory}
-use Rattle.record_table.proofs.Moving.{Moved, Failed, moved_by_look, failed_by_look, rests_moved}
+use Rattle.record_table.proofs.Moving.{Moved, Failed, opens_behind, opens_with, moved_by_look, failed_by_look, rests_moved}
 use Rattle.record_table.proofs.States.{with_same, written}
 use Rattle.record_table.proofs.Wrote.{Wrote}
 use Rattle.eaw_face.proofs.Mirroring.{none_sent, sent_then}
@@ -81,7 +82,8 @@ module _ (tells : Bool) (Opens : List ℕ → List ℕ → Type 0) (index : Inde
     saves = on_ok r (λ e. same_counts old new t moved.counts ∙ e) saves;
     same_saves = on_err r moved.counts;
     others = λ u ne. (moved.others u ne, ap (λ (f : ℕ → List ℕ). f u) moved.counts);
-    time = λ told _. weaker (λ image opens. inl opens) (moved.time told);
+    time = λ told _. weaker (λ image opens. inl (opens_with Opens index image _ _ opens)) (moved.time told);
+    named = λ told _. weaker (λ image opens. inl opens) (moved.time told);
   }
 
   -- the medium failed
@@ -102,7 +104,8 @@ module _ (tells : Bool) (Opens : List ℕ → List ℕ → Type 0) (index : Inde
     saves = tt;
     same_saves = failed.counts;
     others = λ u ne. (failed.others u ne, ap (λ (f : ℕ → List ℕ). f u) failed.counts);
-    time = λ told _. weaker (λ image opens. inl opens) (failed.time told);
+    time = λ told _. weaker (λ image opens. inl (opens_with Opens index image _ _ opens)) (failed.time told);
+    named = λ told _. weaker (λ image opens. inl opens) (failed.time told);
   }
 
   -- the store was dead
@@ -124,6 +127,7 @@ module _ (tells : Bool) (Opens : List ℕ → List ℕ → Type 0) (index : Inde
     same_saves = refl;
     others = λ u ne. (refl, refl);
     time = λ told alive. absurd (false≢true (sym alive ∙ dead));
+    named = λ told alive. absurd (false≢true (sym alive ∙ dead));
   }
 
   pub does_dead : new ≡ old → old.store.is_dead ≡ true → Does tells Opens index table t c old new (Err Dead)
@@ -153,8 +157,12 @@ module _ (tells : Bool) (Opens : List ℕ → List ℕ → Type 0) (index : Inde
     saves = same_counts old new t (wrote.counts ∙ moved.counts) ∙ saves;
     same_saves = tt;
     others = λ u ne. (wrote.others u ne ∙ moved.others u ne, ap (λ (f : ℕ → List ℕ). f u) (wrote.counts ∙ moved.counts));
-    time = λ told _. weaker (λ image opens. inl opens) (then (moved.time told) (weaker (λ image. λ opens. subst (λ (s : TableState). OpensWith Opens index image s.table) (moved.state told) opens) (wrote.time told)));
+    time = λ told _. weaker (λ image opens. inl (opens_with Opens index image _ _ opens)) (wrote_time told);
+    named = λ told _. weaker (λ image opens. inl opens) (wrote_time told);
   }
+    where
+      wrote_time : IsTrue tells → LeavesOnly (λ image. OpensAs Opens index image old.store.state.bytes (state_of index old).table) old.store new.store
+      wrote_time told = then (moved.time told) (weaker (λ image opens. opens_behind Opens index image old mid (moved.version told) (moved.tables told) (moved.state told) opens) (wrote.time told))
 
   module _ (mid : PagesView) (moved : Moved tells Opens index t old mid) where
     held_behind : (g : ℕ) → held_on mid t g ≡ held_on old t g

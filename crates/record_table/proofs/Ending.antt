@@ -18,6 +18,7 @@ use Rattle.history.specs.declared.call.Reply.TheVariants.{Fine, Saved}
 use Rattle.page_store.specs.Command.{PageCommand}
 use Rattle.page_store.specs.Command as page
 use Rattle.page_store.specs.Does as page_does
+use Rattle.record_slots.specs.Names.{names_in}
 use Rattle.record_slots.specs.Places.{version_of, tables_of}
 use Rattle.page_store.specs.Index.{Index}
 use Rattle.page_store.specs.Kept.{IsOrdered}
@@ -31,7 +32,7 @@ use Rattle.page_store.proofs.Numbers.{with_here, with_there}
 use Rattle.page_store.proofs.Shown.{IsTold, kept}
 use Rattle.record_table.specs.Calls.{Replies, table_after, after, saves_after}
 use Rattle.record_table.specs.Causes.{MaySave, IsSavedOut, Fits}
-use Rattle.record_table.specs.Does.{Does, OpensWith, Indexed, IsQuiet, replied}
+use Rattle.record_table.specs.Does.{Does, OpensWith, OpensAs, Indexed, IsQuiet, replied}
 use Rattle.record_table.specs.Faults.{told_as}
 use Rattle.record_table.specs.Invariant.{AreSlotParts, Rests, Holds}
 use Rattle.record_table.specs.Shown.{writes_of, state_of, shown_by, keys_of}
@@ -40,6 +41,7 @@ use Rattle.record_table.specs.declared.fault.TableFault.{TableFault}
 use Rattle.record_table.specs.declared.fault.TableFault.TheVariants.{SavesFull}
 use Rattle.record_table.specs.declared.fault.TableFault.TheVariants as refusal
 use Rattle.record_table.proofs.Doing.{does_dead, holds_dead, holds_same, indexed_same}
+use Rattle.record_table.proofs.Moving.{opens_with}
 use Rattle.record_table.proofs.Sharing.{Laws}
 use Rattle.record_table.proofs.SlotParts.{applied_parts}
 use Rattle.record_table.proofs.States.{shown_save, shown_back, shown_commit, shown_abort, parts_back, parts_abort, parts_commit}
@@ -81,11 +83,26 @@ pub record IsCall (tells : Bool) (index : Index) (pc : PageCommand) (table t : �
 module _ (tells : Bool) (Opens : List ℕ → List ℕ → Type 0) (index : Index) (pc : PageCommand) (table t : ℕ) (c : Call) (old new : PagesView) (holds : Holds tells index old) (call : IsAlive old.store → IsCall tells index pc table t c old)
     (T : Type 0) (reply : T → Reply) where
   time_of : (r : Result T PageFault) → IsAlive old.store → page_does.Does tells Opens pc old new r → IsTrue tells
-      → LeavesOnly (λ image. OpensWith Opens index image (state_of index old).table ⊎ OpensWith Opens index image (table_after t c (state_of index old))) old.store new.store
+      → LeavesOnly (λ image. OpensAs Opens index image old.store.state.bytes (state_of index old).table ⊎ OpensAs Opens index image old.store.state.bytes (table_after t c (state_of index old))) old.store new.store
   time_of r alive does told = weaker (λ image either. elim either [
-    | inl before ↦ inl (record { bytes = old.store.state.bytes; opened = before; sound = ((holds alive).tied told).sound; shows = refl })
-    | inr behind ↦ inr (record { bytes = (page.after pc (pages.state_of old)).store.bytes; opened = behind; sound = (call alive).sound told; shows = ap (λ (s : TableState). s.table) ((call alive).shown told Fine) })
+    | inl before ↦ inl (record { bytes = old.store.state.bytes; opened = before; sound = ((holds alive).tied told).sound; version = λ two. two; named = refl; shows = refl })
+    | inr behind ↦ inr (record {
+      bytes = (page.after pc (pages.state_of old)).store.bytes;
+      opened = behind;
+      sound = (call alive).sound told;
+      version = λ two. (call alive).version told ∙ two;
+      named = ap names_in ((call alive).tables told);
+      shows = ap (λ (s : TableState). s.table) ((call alive).shown told Fine);
+    })
   ]) (does.time told alive)
+
+  -- so it opens with the records before or after
+  with_of : (r : Result T PageFault) → IsAlive old.store → page_does.Does tells Opens pc old new r → IsTrue tells
+      → LeavesOnly (λ image. OpensWith Opens index image (state_of index old).table ⊎ OpensWith Opens index image (table_after t c (state_of index old))) old.store new.store
+  with_of r alive does told = weaker (λ image either. elim either [
+    | inl before ↦ inl (opens_with Opens index image _ _ before)
+    | inr behind ↦ inr (opens_with Opens index image _ _ behind)
+  ]) (time_of r alive does told)
 
   pub ends : (r : Result T PageFault) → page_does.Does tells Opens pc old new r → ((f : PageFault) → r ≡ Err f → f ≢ fault.Media → new ≡ old)
       → (IsTrue tells → IfOk r (λ answer. Replies (state_of index old) t c (reply answer))) → Does tells Opens index table t c old new (replied reply (told_as r)) × Holds tells index new
@@ -110,7 +127,8 @@ module _ (tells : Bool) (Opens : List ℕ → List ℕ → Type 0) (index : Inde
           saves = ap (λ (o : Outline). length (o.counts t)) out ∙ is.saves;
           same_saves = tt;
           others = λ u ne. (does.others u (λ e. ne (is.named u e)), ap (λ (o : Outline). o.counts u) out ∙ is.other_saves u ne);
-          time = λ told _. time_of (let r : Result T PageFault = Ok answer in r) alive does told;
+          time = λ told _. with_of (let r : Result T PageFault = Ok answer in r) alive does told;
+          named = λ told _. time_of (let r : Result T PageFault = Ok answer in r) alive does told;
         },
         λ living. record {
           closed = λ u. ap (λ (o : Outline). o.top u) out ∙ is.tops u ∙ (holds alive).closed u;
@@ -139,7 +157,8 @@ module _ (tells : Bool) (Opens : List ℕ → List ℕ → Type 0) (index : Inde
           saves = tt;
           same_saves = does.marks.0;
           others = λ u ne. (does.others u (λ e. ne (is.named u e)), ap (λ (f : ℕ → List ℕ). f u) does.marks.0);
-          time = λ told _. time_of (let r : Result T PageFault = Err fault.Media in r) alive does told;
+          time = λ told _. with_of (let r : Result T PageFault = Err fault.Media in r) alive does told;
+          named = λ told _. time_of (let r : Result T PageFault = Err fault.Media in r) alive does told;
         },
         holds_dead tells Opens index table t c old new (does.dies refl),
       )
@@ -164,6 +183,7 @@ module _ (tells : Bool) (Opens : List ℕ → List ℕ → Type 0) (index : Inde
           same_saves = refl;
           others = λ u ne. (refl, refl);
           time = λ told _. stays old.store.moment old.store.left_since _;
+          named = λ told _. stays old.store.moment old.store.left_since _;
         }),
         holds_same tells Opens index table t c old new holds e,
       )

@@ -14,6 +14,7 @@ use Rattle.history.specs.Log.{Log}
 use Rattle.history.specs.Writes.{Write, all_written}
 use Rattle.page_store.specs.Command as page
 use Rattle.page_store.specs.Does as page_does
+use Rattle.record_slots.specs.Names.{names_in}
 use Rattle.record_slots.specs.Places.{version_of, tables_of}
 use Rattle.page_store.specs.Index.{Index}
 use Rattle.page_store.specs.Outline.{Outline}
@@ -22,7 +23,7 @@ use Rattle.page_store.specs.Shown as pages
 use Rattle.page_store.specs.State.{PagesState, log_of}
 use Rattle.page_store.specs.declared.fault.PageFault.{PageFault}
 use Rattle.page_store.specs.declared.fault.PageFault.TheVariants as fault
-use Rattle.record_table.specs.Does.{OpensWith}
+use Rattle.record_table.specs.Does.{OpensWith, OpensAs}
 use Rattle.record_table.specs.Faults.{told_as}
 use Rattle.record_table.specs.Groups.{group_writes, after_group, CommitsGroup}
 use Rattle.record_table.specs.Invariant.{AreSlotParts, Holds}
@@ -32,6 +33,7 @@ use Rattle.record_table.specs.declared.fault.TableFault.{TableFault}
 use Rattle.record_table.specs.declared.fault.TableFault.TheVariants.{Dead}
 use Rattle.record_table.proofs.Ending.{no_parts}
 use Rattle.record_table.proofs.Holding.{as_many_writes}
+use Rattle.record_table.proofs.Moving.{opens_with}
 use Rattle.record_table.proofs.Sharing.{Laws, called_same}
 use Rattle.record_table.proofs.SlotParts.{IsWritten, applied_parts, parts_carry}
 use Rattle.record_table.proofs.States.{logs_same}
@@ -112,14 +114,29 @@ module _ (tells : Bool) (Opens : List ℕ → List ℕ → Type 0) (index : Inde
   its_bytes none = no_parts index (group_log old.store.state.logs ts) old.store.state.bytes (group_said old.store.state.bytes old.store.state.logs ts ∙ none)
 
   time_of : {T : Type 0} (r : Result T PageFault) → IsAlive old.store → page_does.Does tells Opens (page.end_group ts) old new r → IsTrue tells
-      → LeavesOnly (λ image. OpensWith Opens index image (state_of index old).table ⊎ OpensWith Opens index image (after_group ts (state_of index old)).table) old.store new.store
+      → LeavesOnly (λ image. OpensAs Opens index image old.store.state.bytes (state_of index old).table ⊎ OpensAs Opens index image old.store.state.bytes (after_group ts (state_of index old)).table) old.store new.store
   time_of r alive does told =
       let tied = (holds alive).tied told in
       let w = group_written index laws before ts tied.sound tied.parts in
       weaker (λ image either. elim either [
-        | inl was ↦ inl (record { bytes = old.store.state.bytes; opened = was; sound = tied.sound; shows = refl })
-        | inr is ↦ inr (record { bytes = behind.store.bytes; opened = is; sound = w.sound; shows = ap (λ (s : TableState). s.table) (its_state alive told) })
+        | inl was ↦ inl (record { bytes = old.store.state.bytes; opened = was; sound = tied.sound; version = λ two. two; named = refl; shows = refl })
+        | inr is ↦ inr (record {
+          bytes = behind.store.bytes;
+          opened = is;
+          sound = w.sound;
+          version = λ two. its_version alive told ∙ two;
+          named = ap names_in (its_tables alive told);
+          shows = ap (λ (s : TableState). s.table) (its_state alive told);
+        })
       ]) (does.time told alive)
+
+  -- so it opens with the records before or after
+  with_of : {T : Type 0} (r : Result T PageFault) → IsAlive old.store → page_does.Does tells Opens (page.end_group ts) old new r → IsTrue tells
+      → LeavesOnly (λ image. OpensWith Opens index image (state_of index old).table ⊎ OpensWith Opens index image (after_group ts (state_of index old)).table) old.store new.store
+  with_of r alive does told = weaker (λ image either. elim either [
+    | inl was ↦ inl (opens_with Opens index image _ _ was)
+    | inr is ↦ inr (opens_with Opens index image _ _ is)
+  ]) (time_of r alive does told)
 
   other : {T : Type 0} (r : Result T PageFault) → page_does.Does tells Opens (page.end_group ts) old new r → (u : ℕ) → is_one_of ts u ≡ false → new.store.ranges u ≡ old.store.ranges u
   other r does u away = does.others u (λ so. false≢true (sym away ∙ so))
@@ -154,7 +171,8 @@ module _ (tells : Bool) (Opens : List ℕ → List ℕ → Type 0) (index : Inde
           saves = λ u here. ap (λ (o : Outline). o.counts u) out ∙ counts_here u here;
           same_saves = tt;
           others = λ u away. (other (let r : Result (Unit {0}) PageFault = Ok done in r) does u away, ap (λ (o : Outline). o.counts u) out ∙ counts_away u away);
-          time = λ told _. time_of (let r : Result (Unit {0}) PageFault = Ok done in r) alive does told;
+          time = λ told _. with_of (let r : Result (Unit {0}) PageFault = Ok done in r) alive does told;
+          named = λ told _. time_of (let r : Result (Unit {0}) PageFault = Ok done in r) alive does told;
         },
         λ living. record {
           closed = λ u. ap (λ (o : Outline). o.top u) out ∙ (holds alive).closed u;
@@ -185,7 +203,8 @@ module _ (tells : Bool) (Opens : List ℕ → List ℕ → Type 0) (index : Inde
           saves = tt;
           same_saves = does.marks.0;
           others = λ u away. (other (let r : Result (Unit {0}) PageFault = Err fault.Media in r) does u away, ap (λ (f : ℕ → List ℕ). f u) does.marks.0);
-          time = λ told _. time_of (let r : Result (Unit {0}) PageFault = Err fault.Media in r) alive does told;
+          time = λ told _. with_of (let r : Result (Unit {0}) PageFault = Err fault.Media in r) alive does told;
+          named = λ told _. time_of (let r : Result (Unit {0}) PageFault = Err fault.Media in r) alive does told;
         },
         λ living. absurd (false≢true (sym living ∙ does.dies refl)),
       )
@@ -207,6 +226,7 @@ module _ (tells : Bool) (Opens : List ℕ → List ℕ → Type 0) (index : Inde
       same_saves = refl;
       others = λ u away. (refl, refl);
       time = λ told _. stays old.store.moment old.store.left_since _;
+      named = λ told _. stays old.store.moment old.store.left_since _;
     }),
     subst (Holds tells index) (sym e) holds,
   )

@@ -8,6 +8,7 @@ use Rattle.array_shape.specs.Logged.{Part}
 use Rattle.eaw_face.specs.State.{State, listed}
 use Rattle.eaw_face.specs.StoreView.{LeavesOnly}
 use Rattle.eaw_face.specs.Causes.{IsAlive}
+use Rattle.record_slots.specs.Names.{names_in}
 use Rattle.record_slots.specs.Slots.{slot_said, slot_bytes}
 use Rattle.record_slots.specs.Places.{slot_of, slot_due, version_of, tables_of}
 use Rattle.record_slots.specs.declared.slot.Slot.TheVariants.{Absent}
@@ -19,7 +20,7 @@ use Rattle.page_store.specs.Records.{value_of}
 use Rattle.page_store.specs.Shown.{PagesView, saved_of}
 use Rattle.page_store.specs.declared.index_fault.IndexFault.{IndexFault}
 use Rattle.page_store.specs.declared.index_fault.IndexFault.TheVariants as fault
-use Rattle.record_table.specs.Does.{OpensWith}
+use Rattle.record_table.specs.Does.{OpensWith, OpensAs}
 use Rattle.record_table.specs.Invariant.{AreSlotParts, IsTied, Rests}
 use Rattle.record_table.specs.Shown.{KeyPair, found_key, table_in, table_of, write_of, writes_of, state_of, pairs_of}
 use Rattle.record_table.specs.Names.{IsCalled}
@@ -27,7 +28,7 @@ use Rattle.record_table.specs.Sought.{LooksAs}
 use Rattle.record_table.specs.State.{TableState}
 use Rattle.history.specs.declared.key.Key.{Key}
 use Rattle.history.specs.Key.{is_same_key, of_table}
-use Rattle.history.specs.Writes.{Write}
+use Rattle.history.specs.Writes.{Table, Write}
 use Rattle.history.proofs.Keys.{cases_key, same_key, other_key}
 use Rattle.history.proofs.Agreeing.{same_table}
 use Rattle.record_table.proofs.Tables.{record_at, get-table_in}
@@ -49,7 +50,7 @@ pub record Moved (tells : Bool) (Opens : List ℕ → List ℕ → Type 0) (inde
   pub tables : IsTrue tells → tables_of new.store.state.bytes ≡ tables_of old.store.state.bytes
   pub state : IsTrue tells → state_of index new ≡ state_of index old
   pub tied : IsTrue tells → IsTied index new
-  pub time : IsTrue tells → LeavesOnly (λ image. OpensWith Opens index image (state_of index old).table) old.store new.store
+  pub time : IsTrue tells → LeavesOnly (λ image. OpensAs Opens index image old.store.state.bytes (state_of index old).table) old.store new.store
   pub mirrors : Mirrors tells old.store new.store
 
 -- the medium failed
@@ -58,7 +59,7 @@ pub record Failed (tells : Bool) (Opens : List ℕ → List ℕ → Type 0) (ind
   pub dies : (new.store.is_dead ≡ true) × Rose old.store.faults new.store.faults
   pub counts : new.counts ≡ old.counts
   pub others : (u : ℕ) → u ≢ t → new.store.ranges u ≡ old.store.ranges u
-  pub time : IsTrue tells → LeavesOnly (λ image. OpensWith Opens index image (state_of index old).table) old.store new.store
+  pub time : IsTrue tells → LeavesOnly (λ image. OpensAs Opens index image old.store.state.bytes (state_of index old).table) old.store new.store
   pub mirrors : Mirrors tells old.store new.store
 
 -- the state of records is determined by data, logs and counts
@@ -67,6 +68,22 @@ shown_same index old new state counts = λ i. record {
   table = table_of index (state i).bytes;
   logs = λ u. record { writes = writes_of (state i).bytes (listed ((state i).logs u)); saved = map (writes_of (state i).bytes) (saved_of (listed ((state i).logs u)) (counts i u)) };
 }
+
+-- what opens as the data behind a change does, opens as the data before it
+pub opens_behind : (Opens : List ℕ → List ℕ → Type 0) (index : Index) (image : List ℕ) (old mid : PagesView) → (version_of old.store.state.bytes ≡ 2 → version_of mid.store.state.bytes ≡ 2) → tables_of mid.store.state.bytes ≡ tables_of old.store.state.bytes
+    → state_of index mid ≡ state_of index old → OpensAs Opens index image mid.store.state.bytes (state_of index mid).table → OpensAs Opens index image old.store.state.bytes (state_of index old).table
+opens_behind Opens index image old mid version tables state opens = record {
+  bytes = opens.bytes;
+  opened = opens.opened;
+  sound = opens.sound;
+  version = λ two. opens.version (version two);
+  named = opens.named ∙ ap names_in tables;
+  shows = opens.shows ∙ ap (λ (s : TableState). s.table) state;
+}
+
+-- so it opens with the records
+pub opens_with : (Opens : List ℕ → List ℕ → Type 0) (index : Index) (image bytes : List ℕ) (table : Table) → OpensAs Opens index image bytes table → OpensWith Opens index image table
+opens_with Opens index image bytes table opens = record { bytes = opens.bytes; opened = opens.opened; sound = opens.sound; shows = opens.shows }
 
 module _ (tells : Bool) (Opens : List ℕ → List ℕ → Type 0) (index : Index) (t : ℕ) where
   pub moved_none : (old : PagesView) → IsAlive old.store → Rests tells index old → Moved tells Opens index t old old
@@ -83,7 +100,7 @@ module _ (tells : Bool) (Opens : List ℕ → List ℕ → Type 0) (index : Inde
     tables = λ told. refl;
     state = λ told. refl;
     tied = rests.tied;
-    time = λ told. stays old.store.moment old.store.left_since (λ image. OpensWith Opens index image (state_of index old).table);
+    time = λ told. stays old.store.moment old.store.left_since (λ image. OpensAs Opens index image old.store.state.bytes (state_of index old).table);
   }
 
   pub rests_moved : (old new : PagesView) → Rests tells index old → Moved tells Opens index t old new → Rests tells index new
@@ -103,7 +120,7 @@ module _ (tells : Bool) (Opens : List ℕ → List ℕ → Type 0) (index : Inde
     tables = λ told. b.tables told ∙ a.tables told;
     state = λ told. b.state told ∙ a.state told;
     tied = b.tied;
-    time = λ told. then (a.time told) (weaker (λ image. λ opens. subst (λ (s : TableState). OpensWith Opens index image s.table) (a.state told) opens) (b.time told));
+    time = λ told. then (a.time told) (weaker (λ image opens. opens_behind Opens index image old mid (a.version told) (a.tables told) (a.state told) opens) (b.time told));
   }
 
   pub failed_then : (old mid new : PagesView) → Moved tells Opens index t old mid → Failed tells Opens index t mid new → Failed tells Opens index t old new
@@ -113,12 +130,12 @@ module _ (tells : Bool) (Opens : List ℕ → List ℕ → Type 0) (index : Inde
     dies = (b.dies.0, subst (λ (n : ℕ). Rose n new.store.faults) a.faults b.dies.1);
     counts = b.counts ∙ a.counts;
     others = λ u ne. b.others u ne ∙ a.others u ne;
-    time = λ told. then (a.time told) (weaker (λ image. λ opens. subst (λ (s : TableState). OpensWith Opens index image s.table) (a.state told) opens) (b.time told));
+    time = λ told. then (a.time told) (weaker (λ image opens. opens_behind Opens index image old mid (a.version told) (a.tables told) (a.state told) opens) (b.time told));
   }
 
   module _ (old new : PagesView) (alive : IsAlive old.store) (rests : Rests tells index old) where
-    looks_time : (failed : Bool) → LooksAs tells Opens t failed old new → IsTrue tells → LeavesOnly (λ image. OpensWith Opens index image (state_of index old).table) old.store new.store
-    looks_time failed looks told = weaker (λ image. λ opens. record { bytes = old.store.state.bytes; opened = opens; sound = (rests.tied told).sound; shows = refl }) (looks.time told alive)
+    looks_time : (failed : Bool) → LooksAs tells Opens t failed old new → IsTrue tells → LeavesOnly (λ image. OpensAs Opens index image old.store.state.bytes (state_of index old).table) old.store new.store
+    looks_time failed looks told = weaker (λ image. λ opens. record { bytes = old.store.state.bytes; opened = opens; sound = (rests.tied told).sound; version = λ two. two; named = refl; shows = refl }) (looks.time told alive)
 
     pub moved_by_look : LooksAs tells Opens t false old new → Moved tells Opens index t old new
     moved_by_look looks =
@@ -243,11 +260,13 @@ either_of index table root key d e (Err (fault.Damaged p)) well made = (made.0, 
 module _ (tells : Bool) (Opens : List ℕ → List ℕ → Type 0) (index : Index) (laws : Laws index) (t table root key : ℕ) (name : List ℕ) (reads : slot_said (slot_bytes (Absent table key)) ≡ Some (Absent table key)) (old new : PagesView) (alive : IsAlive old.store)
     (rests : Rests tells index old) (called : IsTrue tells → IsCalled old.store.state.bytes table name) (named : IsTrue tells → IsTable old.store.state.bytes table root) (absent : IsTrue tells → found (index.pairs old.store.state.bytes root) key ≡ None) (r : Result ℕ IndexFault)
     (does : Inserts tells Opens index t root table key old new r) where
-  insert_time : IsTrue tells → LeavesOnly (λ image. OpensWith Opens index image (state_of index old).table) old.store new.store
+  insert_time : IsTrue tells → LeavesOnly (λ image. OpensAs Opens index image old.store.state.bytes (state_of index old).table) old.store new.store
   insert_time told = weaker (λ image left. record {
     bytes = left.0;
     opened = left.1;
     sound = left.2.0.sound;
+    version = λ two. left.2.0.version ∙ two;
+    named = ap names_in left.2.0.tables;
     shows = (insertion_keeps index laws table root key name old.store.state.bytes left.0 (called told) (rests.tied told).sound (named told) (absent told) left.2.0 reads left.2.1).0;
   }) (does.time told alive)
 

@@ -8,6 +8,7 @@ use Rattle.std.specs.List.{list_any}
 use Rattle.eaw_face.specs.State.{listed}
 use Rattle.eaw_face.specs.StoreView.{LeavesOnly}
 use Rattle.eaw_face.specs.Causes.{IsAlive}
+use Rattle.record_slots.specs.Names.{names_in}
 use Rattle.record_slots.specs.Places.{version_of, tables_of}
 use Rattle.history.specs.declared.key.Key.{Key}
 use Rattle.history.specs.Key.{of_table}
@@ -19,7 +20,7 @@ use Rattle.page_store.specs.Removes as face
 use Rattle.page_store.specs.Shown.{PagesView}
 use Rattle.page_store.specs.declared.fault.PageFault.{PageFault}
 use Rattle.page_store.specs.declared.fault.PageFault.TheVariants as fault
-use Rattle.record_table.specs.Does.{OpensWith}
+use Rattle.record_table.specs.Does.{OpensAs}
 use Rattle.record_table.specs.Does as answers
 use Rattle.record_table.specs.Faults.{told_as}
 use Rattle.record_table.specs.Invariant.{AreSlotParts, Holds}
@@ -27,7 +28,7 @@ use Rattle.record_table.specs.Removing.{IsAbsent, IsUnwritten, Takes, RemoveCaus
 use Rattle.record_table.specs.Shown.{table_of, writes_of, state_of}
 use Rattle.record_table.specs.Names.{IsCalled}
 use Rattle.record_table.specs.declared.fault.TableFault.TheVariants as refusal
-use Rattle.record_table.proofs.Moving.{Moved, Failed, rests_moved}
+use Rattle.record_table.proofs.Moving.{Moved, Failed, opens_with, rests_moved}
 use Rattle.record_table.proofs.Sharing.{Laws}
 use Rattle.record_table.proofs.SlotParts.{log_kept}
 use Rattle.record_table.proofs.Lost.{has_absent, records_same, parts_kept, loses}
@@ -78,10 +79,17 @@ module _ (tells : Bool) (Opens : List ℕ → List ℕ → Type 0) (index : Inde
     alike told (Err (fault.Damaged page)) well made = alike_equal told new.store.state.bytes made
 
     module _ (r : Result Bool PageFault) (does : face.Removes tells Opens index t root key old new r) where
-      remove_time : IsTrue tells → LeavesOnly (λ image. OpensWith Opens index image (state_of index old).table) old.store new.store
+      remove_time : IsTrue tells → LeavesOnly (λ image. OpensAs Opens index image old.store.state.bytes (state_of index old).table) old.store new.store
       remove_time told = weaker (λ image either. elim either [
-        | inl was ↦ record { bytes = old.store.state.bytes; opened = was; sound = ((holds alive).tied told).sound; shows = refl }
-        | inr less ↦ record { bytes = less.0; opened = less.1; sound = less.2.2.sound; shows = (alike_less told less.0 less.2).records }
+        | inl was ↦ record { bytes = old.store.state.bytes; opened = was; sound = ((holds alive).tied told).sound; version = λ two. two; named = refl; shows = refl }
+        | inr less ↦ record {
+          bytes = less.0;
+          opened = less.1;
+          sound = less.2.2.sound;
+          version = λ two. less.2.2.version ∙ two;
+          named = ap names_in less.2.2.tables;
+          shows = (alike_less told less.0 less.2).records;
+        }
       ]) (does.time told alive)
 
       moved_by_remove : IsFalse (is_failed r) → Moved tells Opens index t old new
@@ -161,6 +169,7 @@ module _ (tells : Bool) (Opens : List ℕ → List ℕ → Type 0) (index : Inde
     ranges = λ _ u. refl;
     others = λ u ne. refl;
     time = λ told _. stays old.store.moment old.store.left_since _;
+    named = λ told _. stays old.store.moment old.store.left_since _;
   }
 
   holds_dead : (new : PagesView) → new.store.is_dead ≡ true → Holds tells index new
@@ -185,7 +194,8 @@ module _ (tells : Bool) (Opens : List ℕ → List ℕ → Type 0) (index : Inde
             saves = moved.counts;
             ranges = λ _. moved.ranges;
             others = moved.others;
-            time = λ told _. moved.time told;
+            time = λ told _. weaker (λ image opens. opens_with Opens index image _ _ opens) (moved.time told);
+            named = λ told _. moved.time told;
           },
           λ living. rests_moved tells Opens index t old new (holds alive) moved,
         )
@@ -208,7 +218,8 @@ module _ (tells : Bool) (Opens : List ℕ → List ℕ → Type 0) (index : Inde
             saves = failed.counts;
             ranges = λ well. absurd (false≢true (sym well));
             others = failed.others;
-            time = λ told _. failed.time told;
+            time = λ told _. weaker (λ image opens. opens_with Opens index image _ _ opens) (failed.time told);
+            named = λ told _. failed.time told;
           },
           holds_dead new failed.dies.0,
         )

@@ -27,7 +27,7 @@ use Rattle.page_store.specs.Shown as pages
 use Rattle.page_store.specs.State.{PagesState, log_of}
 use Rattle.page_store.specs.declared.fault.PageFault.{PageFault}
 use Rattle.page_store.specs.declared.fault.PageFault.TheVariants as fault
-use Rattle.record_table.specs.Does.{OpensNamed, OpensWith, is_failed}
+use Rattle.record_table.specs.Does.{OpensNamed, OpensAs, is_failed}
 use Rattle.record_table.specs.Faults.{as_table, told_as}
 use Rattle.record_table.specs.Invariant.{AreSlotParts, Rests, Holds}
 use Rattle.record_table.specs.Names.{names_of}
@@ -37,7 +37,7 @@ use Rattle.record_table.specs.Sought.{LooksAs}
 use Rattle.record_table.specs.Upgrading.{upgraded, OpensUpgraded, Upgrades, UpgradeCause}
 use Rattle.record_table.specs.declared.fault.TableFault.{TableFault}
 use Rattle.record_table.specs.declared.fault.TableFault.TheVariants as refusal
-use Rattle.record_table.proofs.Moving.{Moved, Failed, moved_by_look, failed_by_look, moved_then, failed_then, rests_moved}
+use Rattle.record_table.proofs.Moving.{Moved, Failed, opens_with, moved_by_look, failed_by_look, moved_then, failed_then, rests_moved}
 use Rattle.record_table.proofs.Sharing.{Laws, called_same}
 use Rattle.record_table.proofs.SlotParts.{parts_carry}
 use Rattle.record_table.proofs.Upgraded.{Upgraded, front_of, two_upgraded, older_upgraded, is_upgraded}
@@ -104,7 +104,7 @@ module _ (tells : Bool) (Opens : List ℕ → List ℕ → Type 0) (index : Inde
     saves = moved.counts;
     ranges = λ _. ranges;
     others = moved.others;
-    time = λ told _. moved.time told;
+    time = λ told _. weaker (λ image opens. opens_with Opens index image _ _ opens) (moved.time told);
     exact = λ told _. exact told;
     named = λ told _. named told;
   }
@@ -128,7 +128,7 @@ module _ (tells : Bool) (Opens : List ℕ → List ℕ → Type 0) (index : Inde
     saves = failed.counts;
     ranges = λ well. absurd (false≢true (sym well));
     others = failed.others;
-    time = λ told _. failed.time told;
+    time = λ told _. weaker (λ image opens. opens_with Opens index image _ _ opens) (failed.time told);
     exact = λ told _. exact told;
     named = λ told _. named told;
   }
@@ -233,12 +233,12 @@ module _ (tells : Bool) (Opens : List ℕ → List ℕ → Type 0) (index : Inde
     behind = page.after (page.atomic_write 0 0 bytes) (pages.state_of mid)
 
     time_of : (r : Result (Unit {0}) PageFault) → page_does.Does tells Opens (page.atomic_write 0 0 bytes) mid new r → IsTrue tells
-        → LeavesOnly (λ image. OpensWith Opens index image (state_of index mid).table) mid.store new.store
+        → LeavesOnly (λ image. OpensAs Opens index image mid.store.state.bytes (state_of index mid).table) mid.store new.store
     unfolding behind
     time_of r does told =
         weaker (λ image either. elim either [
-          | inl was ↦ record { bytes = mid.store.state.bytes; opened = was; sound = (rests.tied told).sound; shows = refl }
-          | inr is ↦ record { bytes = put mid.store.state.bytes 0 bytes; opened = is; sound = (facts told).sound; shows = (facts told).records }
+          | inl was ↦ record { bytes = mid.store.state.bytes; opened = was; sound = (rests.tied told).sound; version = λ two. two; named = refl; shows = refl }
+          | inr is ↦ record { bytes = put mid.store.state.bytes 0 bytes; opened = is; sound = (facts told).sound; version = λ two. (facts told).version; named = ap names_in (facts told).tables; shows = (facts told).records }
         ]) (does.time told living)
 
     exact_of : (r : Result (Unit {0}) PageFault) → page_does.Does tells Opens (page.atomic_write 0 0 bytes) mid new r → IsTrue tells

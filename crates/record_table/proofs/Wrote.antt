@@ -27,7 +27,7 @@ use Rattle.page_store.proofs.Outline.{listed-ranges}
 use Rattle.page_store.proofs.Outline as outline
 use Rattle.page_store.proofs.Shown.{IsTold, outlined}
 use Rattle.record_table.specs.Causes.{HasRoom, IsFull, IsShort}
-use Rattle.record_table.specs.Does.{OpensWith}
+use Rattle.record_table.specs.Does.{OpensAs}
 use Rattle.record_table.specs.Invariant.{IsSlotPart, AreSlotParts, IsTied, Rests}
 use Rattle.record_table.specs.Shown.{found_key, write_of, state_of, shown_by, pairs_of, held_on}
 use Rattle.history.specs.declared.key.Key.{Key}
@@ -53,7 +53,7 @@ pub record Wrote (tells : Bool) (Opens : List ℕ → List ℕ → Type 0) (inde
   pub state : IsTrue tells → state_of index new ≡ written (state_of index old) t key value
   pub tied : IsTrue tells → IsTied index new
   pub room : IsTrue tells → HasRoom index t old key slot
-  pub time : IsTrue tells → LeavesOnly (λ image. OpensWith Opens index image (state_of index old).table) old.store new.store
+  pub time : IsTrue tells → LeavesOnly (λ image. OpensAs Opens index image old.store.state.bytes (state_of index old).table) old.store new.store
   pub mirrors : Mirrors tells old.store new.store
 
 pub none_is : {A : Type 0} (o : Option A) → is_some o ≡ false → o ≡ None
@@ -106,11 +106,13 @@ module _ (tells : Bool) (Opens : List ℕ → List ℕ → Type 0) (index : Inde
       ∙ ap (is_rewritten ((state_of index old).logs t)) (key_is told)
 
   write_time : {T : Type 0} (r : Result T PageFault) → Does tells Opens (write_as t (64 * (slots_of old.store.shape + slot)) (slot_bytes said)) old new r → IsTrue tells
-      → LeavesOnly (λ image. OpensWith Opens index image (state_of index old).table) old.store new.store
+      → LeavesOnly (λ image. OpensAs Opens index image old.store.state.bytes (state_of index old).table) old.store new.store
   write_time r does told = weaker (λ image either. record {
     bytes = old.store.state.bytes;
     opened = elim either [ inl before ↦ before | inr behind ↦ behind ];
     sound = (rests.tied told).sound;
+    version = λ two. two;
+    named = refl;
     shows = refl;
   }) (does.time told alive)
 

@@ -36,6 +36,15 @@ pub record OpensNamed (Opens : List ℕ → List ℕ → Type 0) (index : Index)
   pub named : names_of bytes ≡ names
   pub shows : table_of index bytes ≡ table
 
+-- An image opens as this data does: with sound data, of version 2 if this is, whose tables have its names, and these records.
+pub record OpensAs (Opens : List ℕ → List ℕ → Type 0) (index : Index) (image old : List ℕ) (table : Table) : Type 0 where
+  pub bytes : List ℕ
+  pub opened : Opens image bytes
+  pub sound : index.sound bytes
+  pub version : version_of old ≡ 2 → version_of bytes ≡ 2
+  pub named : names_of bytes ≡ names_of old
+  pub shows : table_of index bytes ≡ table
+
 -- an answer of records as a reply
 abbrev pub replied : {T : Type 0} → (T → Reply) → Result T TableFault → Result Reply TableFault
 replied reply (Ok answer) = Ok (reply answer)
@@ -73,7 +82,8 @@ IsQuiet index old t call = Unit {0}
 -- Ok is answered as the model says, leaves what it says, and hides no fault. After a refusal other than Media, the records and the logs of every
 -- number are as before, and the tables always; data of version 2 stays so. Media leaves the store dead. A call that writes nothing into the data
 -- leaves it byte for byte, also if it is refused. Other numbers keep what they have logged, whatever the answer. At each moment of a store that
--- was not dead, a loss of power leaves what it might have left before, or an image that opens with the records before the call or after it.
+-- was not dead, a loss of power leaves what it might have left before, or an image that opens with the records before the call or after it, under
+-- the names that the tables have, and in version 2 if the data is.
 pub record Does (tells : Bool) (Opens : List ℕ → List ℕ → Type 0) (index : Index) (table t : ℕ) (call : Call) (old new : PagesView) (result : Result Reply TableFault) : Type 0 where
   pub shape : new.store.shape ≡ old.store.shape
   pub cause : Cause tells index table t call old result
@@ -91,4 +101,6 @@ pub record Does (tells : Bool) (Opens : List ℕ → List ℕ → Type 0) (index
   pub others : (u : ℕ) → u ≢ t → (new.store.ranges u ≡ old.store.ranges u) × (new.counts u ≡ old.counts u)
   pub time : IsTrue tells → IsAlive old.store
       → LeavesOnly (λ image. OpensWith Opens index image (state_of index old).table ⊎ OpensWith Opens index image (table_after t call (state_of index old))) old.store new.store
+  pub named : IsTrue tells → IsAlive old.store
+      → LeavesOnly (λ image. OpensAs Opens index image old.store.state.bytes (state_of index old).table ⊎ OpensAs Opens index image old.store.state.bytes (table_after t call (state_of index old))) old.store new.store
   pub mirrors : Mirrors tells old.store new.store

@@ -10,7 +10,7 @@ use Rattle.page_store.specs.Index.{Index}
 use Rattle.page_store.specs.Shown.{PagesView}
 use Rattle.record_table.specs.State.{TableState}
 use Rattle.record_table.specs.Shown.{state_of, keys_of}
-use Rattle.record_table.specs.Does.{OpensWith, is_failed}
+use Rattle.record_table.specs.Does.{OpensWith, OpensAs, is_failed}
 use Rattle.record_table.specs.declared.fault.TableFault.{TableFault}
 use Rattle.record_table.specs.declared.fault.TableFault.TheVariants.{Media, Dead}
 use Rattle.eaw_face.specs.Mirroring.{Mirrors}
@@ -53,4 +53,6 @@ pub record CommitsGroup (tells : Bool) (Opens : List ℕ → List ℕ → Type 0
   pub others : (u : ℕ) → is_one_of ts u ≡ false → (new.store.ranges u ≡ old.store.ranges u) × (new.counts u ≡ old.counts u)
   pub time : IsTrue tells → IsAlive old.store
       → LeavesOnly (λ image. OpensWith Opens index image (state_of index old).table ⊎ OpensWith Opens index image (after_group ts (state_of index old)).table) old.store new.store
+  pub named : IsTrue tells → IsAlive old.store
+      → LeavesOnly (λ image. OpensAs Opens index image old.store.state.bytes (state_of index old).table ⊎ OpensAs Opens index image old.store.state.bytes (after_group ts (state_of index old)).table) old.store new.store
   pub mirrors : Mirrors tells old.store new.store

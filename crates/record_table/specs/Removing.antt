@@ -17,7 +17,7 @@ use Rattle.page_store.specs.Shown.{PagesView}
 use Rattle.record_table.specs.Names.{IsCalled, key_in}
 use Rattle.record_table.specs.State.{LosesKey}
 use Rattle.record_table.specs.Shown.{table_of, found_key, pairs_of, state_of, keys_of}
-use Rattle.record_table.specs.Does.{OpensWith, is_failed}
+use Rattle.record_table.specs.Does.{OpensWith, OpensAs, is_failed}
 use Rattle.record_table.specs.declared.fault.TableFault.{TableFault}
 use Rattle.record_table.specs.declared.fault.TableFault.TheVariants.{LogFull, Media, Dead, Damaged}
 use Rattle.record_table.specs.declared.scanning.Next.{Next}
@@ -111,4 +111,5 @@ pub record Removes (tells : Bool) (Opens : List ℕ → List ℕ → Type 0) (in
   pub ranges : IsFalse (is_failed result) → (u : ℕ) → listed (new.store.ranges u) ≡ listed (old.store.ranges u)
   pub others : (u : ℕ) → u ≢ t → new.store.ranges u ≡ old.store.ranges u
   pub time : IsTrue tells → IsAlive old.store → LeavesOnly (λ image. OpensWith Opens index image (state_of index old).table) old.store new.store
+  pub named : IsTrue tells → IsAlive old.store → LeavesOnly (λ image. OpensAs Opens index image old.store.state.bytes (state_of index old).table) old.store new.store
   pub mirrors : Mirrors tells old.store new.store
