@@ -18,4 +18,5 @@ pub mod Form
 pub mod Upgrading
 pub mod Removing
 pub mod Making
+pub mod Works
 pub mod Placing

@@ -24,6 +24,7 @@ ghost use Rattle.record_table.specs.Shown.{state_of, table_of, pairs_of, held_on
 ghost use Rattle.record_table.specs.Sought.{LooksAs};
 ghost use Rattle.record_table.specs.Upgrading.{Upgrades};
 ghost use Rattle.record_table.specs.Making.{Makes};
+ghost use Rattle.record_table.specs.Works.{RemovesFrom};
 ghost use Rattle.record_table.specs.Names.{IsNew, IsCalled, names_of, name_at, key_in};
 
 use crate::fault::{AttachRecords, TableFault};
@@ -435,6 +436,7 @@ impl<S: EawStore, K: KeyIndex> Records<S, K> {
         requires unwritten { IsTrue S.tells → IsAlive (S.view self.old.store) → IsUnwritten K.index (pages_of (S.view self.old.store) self.old) (key_in (S.view self.old.store).state.bytes table key) }
         ensures removes { Removes S.tells (S.opens (S.view self.old.store).shape) K.index table tid key
             (pages_of (S.view self.old.store) self.old) (pages_of (S.view self.new.store) self.new) result }
+        ensures works { (root : ℕ) × RemovesFrom S.tells S.view S.calls K.index tid root key (S.view self.old.store) (S.view self.new.store) result × (IsTrue S.tells → IsAlive (S.view self.old.store) → IsTable (S.view self.old.store).state.bytes table root) }
         ensures blames { BlamesOne (S.view self.old.store).shape result }
         ensures dead { IsErrOf result TableFault.Dead → self.new ≡ self.old }
     {

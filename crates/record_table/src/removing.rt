@@ -8,6 +8,7 @@ ghost use Rattle.page_store.specs.Index.{IsTable, slots_of};
 ghost use Rattle.page_store.specs.Looks.{Looks, LookCause, is_failed};
 ghost use Rattle.page_store.specs.Shown.{pages_of};
 ghost use Rattle.record_table.specs.Blames.{BlamesOne};
+ghost use Rattle.record_table.specs.Works.{RemovesFrom};
 ghost use Rattle.record_table.specs.Faults.{told_as};
 ghost use Rattle.record_table.specs.Hearing.{HearsOne, HearsAbsent};
 ghost use Rattle.record_table.specs.Invariant.{Holds};
@@ -138,6 +139,7 @@ pub fn remove<S: EawStore, K: KeyIndex>(
     ensures removes { Removes S.tells (S.opens (S.view pages.old.store).shape) K.index table tid key
         (pages_of (S.view pages.old.store) pages.old) (pages_of (S.view pages.new.store) pages.new) (told_as result) }
     ensures blames { BlamesOne (S.view pages.old.store).shape (told_as result) }
+    ensures works { RemovesFrom S.tells S.view S.calls K.index tid root key (S.view pages.old.store) (S.view pages.new.store) (told_as result) }
     ensures holds { Holds S.tells K.index (pages_of (S.view pages.new.store) pages.new) }
     ensures dead { IsErrOf result PageFault.Dead → pages.new ≡ pages.old }
 {

@@ -1,4 +1,4 @@
-use Rattle.std.proofs.Common.{ap}
+use Rattle.std.proofs.Common.{ap, refl}
 use Rattle.page_store.specs.Shown.{pages_of}
 use Rattle.record_table.proofs.Removed.{absent_below, removes_so}
 use Rattle.record_table.specs.Names.{name_at}
@@ -36,3 +36,6 @@ returns-clause-holds g c =
 
 pub returns-clause-blames : goal.returns-clause-blames
 returns-clause-blames g c = removed_blames (g.S.EawStore.view c.args.pages.now.store).shape _ c.remove.result c.remove.ensures.works.blames
+
+pub returns-clause-works : goal.returns-clause-works
+returns-clause-works g c = record { removed = c.remove.result; told = refl; works = c.remove.ensures.works }
