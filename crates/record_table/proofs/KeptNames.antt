@@ -28,7 +28,7 @@ pub tables_kept : (tells : Bool) (old new : PagesView) (names : List (List ℕ))
     → (IsFalse failed → (new.store.is_dead ≡ old.store.is_dead) × (new.store.faults ≡ old.store.faults))
     → (IsTrue failed → (new.store.is_dead ≡ true) × Rose old.store.faults new.store.faults) → (IsTrue tells → IsFalse failed → tables_of new.store.state.bytes ≡ tables_of old.store.state.bytes) → KeepsTables tells old names roots → KeepsTables tells new names roots
 tables_kept tells old new names roots failed shape same dies tables keeps = (
-  λ told alive. let still = living failed same dies told alive in keeps.0 told still.0 ∙ ap names_in (sym (still.1 tables)),
+  (λ told alive. let still = living failed same dies told alive in keeps.0.0 told still.0 ∙ ap names_in (sym (still.1 tables)), keeps.0.1),
   record {
     long = keeps.1.long;
     inside = subst (λ (s : Shape). ArePages (page_count s) roots) (sym shape) keeps.1.inside;

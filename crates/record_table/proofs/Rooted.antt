@@ -1,9 +1,9 @@
 -- The root that is kept for a table that has a name.
 use Rattle.std.proofs.Common.{◌≡◌, ◌≢◌, ℕ, zero, suc, ◌<◌, Bool, cond, inl, inr, IsTrue, List, [], ◌∷◌, length, refl, sym, ◌∙◌, ap, subst, arith}
-use Rattle.std.specs.Prelude.{Some, get_or, map, slice_get, slice_set, ◌++◌}
+use Rattle.std.specs.Prelude.{◌≤◌, Some, codes, get_or, map, slice_get, slice_set, ◌++◌}
 use Rattle.std.proofs.lemmas.List.{map-append, length-map, length-set, get_or-set_same, get_or-set_other}
 use Rattle.std.specs.Option.{option_map}
-use Rattle.std.proofs.lemmas.Bool.{cases_eq, ne_eqb}
+use Rattle.std.proofs.lemmas.Bool.{cases_eq, cases_lt, ne_eqb}
 use Rattle.std.proofs.lemmas.Option.{same_Some}
 use Rattle.array_shape.specs.declared.shape.Shape.{Shape}
 use Rattle.array_shape.specs.Places.{data_len, page_count}
@@ -15,7 +15,7 @@ use Rattle.record_slots.specs.Places.{page_bytes, next_page, version_of, tables_
 use Rattle.record_slots.specs.declared.super_page.TableEntry.{TableEntry}
 use Rattle.page_store.specs.Index.{IsTable, HasCounts}
 use Rattle.page_store.specs.Shown.{PagesView, Shown}
-use Rattle.record_table.specs.Names.{IsCalled, names_of, KeepsNames, KeepsRoots, KeepsTables}
+use Rattle.record_table.specs.Names.{IsCalled, names_of, BeginsWithMain, KeepsNames, KeepsRoots, KeepsTables}
 use Rattle.record_table.proofs.Main.{root_there}
 use Rattle.record_table.proofs.Sharing.{root_called}
 
@@ -64,14 +64,19 @@ root_inside d shape long counts table root is = elim (cases_eq table 0) [
         entry_of (entry ∷ entries) zero has = (entry, refl, same_Some entry.root root has)
         entry_of (entry ∷ entries) (suc n) has = entry_of entries n has
 
+-- the first of a list stays so with one more behind
+first_kept : (names : List (List ℕ)) (name first : List ℕ) → slice_get names 0 ≡ Some first → slice_get (names ++ name ∷ []) 0 ≡ Some first
+first_kept [] name first none = absurd (cc)
+first_kept (n ∷ ns) name first is = is
+
 -- with one table more, the root of which is set under its number
 module _ (tells : Bool) (old new : PagesView) (name : List ℕ) (number root : ℕ) (names later : List (List ℕ)) (roots : List ℕ) (keeps : KeepsTables tells old names roots)
-    (shape : new.store.shape ≡ old.store.shape) (alive : IsAlive old.store) (some : number < 8) (added : length names < 8 → later ≡ names ++ name ∷ [])
+    (shape : new.store.shape ≡ old.store.shape) (alive : IsAlive old.store) (some : number < 8) (added : length names < 8 → later ≡ names ++ name ∷ []) (full : 8 ≤ length names → later ≡ names)
     (its : IsTrue tells → (number ≡ length (names_of old.store.state.bytes)) × (number < 8)) (tables : IsTrue tells → tables_of new.store.state.bytes ≡ with_last (tables_of old.store.state.bytes) name (next_page old.store.state.bytes))
     (next : IsTrue tells → root ≡ next_page old.store.state.bytes) (inside : root < page_count old.store.shape) where
   named_too : KeepsNames tells new later
   named_too told living =
-      let was = keeps.0 told alive in
+      let was = keeps.0.0 told alive in
       added (omega (arith, ap length was, (its told).0, some))
       ∙ ap (λ (ns : List (List ℕ)). ns ++ name ∷ []) was
       ∙ sym (map-append (λ (t : TableEntry). t.name) (tables_of old.store.state.bytes) (record { name = name; root = next_page old.store.state.bytes } ∷ []))
@@ -115,5 +120,11 @@ module _ (tells : Bool) (old new : PagesView) (name : List ℕ) (number root : �
         ];
   }
 
+  main_too : BeginsWithMain later
+  main_too = elim (cases_lt (length names) 8) [
+    | inl lt ↦ ap (λ (ns : List (List ℕ)). slice_get ns 0) (added lt) ∙ first_kept names name (codes "main") keeps.0.1
+    | inr ge ↦ ap (λ (ns : List (List ℕ)). slice_get ns 0) (full ge) ∙ keeps.0.1
+  ]
+
   pub one_more : KeepsTables tells new later (slice_set roots number root)
-  one_more = (named_too, rooted_too)
+  one_more = ((named_too, main_too), rooted_too)

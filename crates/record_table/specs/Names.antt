@@ -1,5 +1,5 @@
 -- The names of the tables in the data.
-use Rattle.std.specs.Prelude.{ℕ, ◌≡◌, ◌≢◌, ◌<◌, Bool, IsTrue, List, [], length, Some, get_or, slice_get}
+use Rattle.std.specs.Prelude.{ℕ, ◌≡◌, ◌≢◌, ◌<◌, Bool, IsTrue, List, [], codes, length, Some, get_or, slice_get}
 use Rattle.std.specs.Option.{unwrap_or}
 use Rattle.array_shape.specs.Places.{page_count}
 use Rattle.eaw_face.specs.Causes.{IsAlive}
@@ -33,7 +33,11 @@ IsNew name names = (j : ℕ) → slice_get names j ≢ Some name
 abbrev pub KeepsNames : Bool → PagesView → List (List ℕ) → Type 0
 KeepsNames tells pages names = IsTrue tells → IsAlive pages.store → names ≡ names_of pages.store.state.bytes
 
--- so it is with the roots of their indexes, each of which is a page of the array over any store
+-- over any store, whether it is dead or not, the first of them is `main`, which each array has
+abbrev pub BeginsWithMain : List (List ℕ) → Type 0
+BeginsWithMain names = slice_get names 0 ≡ Some (codes "main")
+
+-- The roots of their indexes are kept as the names are. Each is a page of the array over any store.
 abbrev pub AreRootsOf : List ℕ → List ℕ → Type 0
 AreRootsOf bytes roots = (table root : ℕ) → table < 8 → IsTable bytes table root → get_or roots table 0 ≡ root
 
@@ -47,4 +51,4 @@ pub record KeepsRoots (tells : Bool) (pages : PagesView) (roots : List ℕ) : Ty
 
 -- the tables that are kept
 abbrev pub KeepsTables : Bool → PagesView → List (List ℕ) → List ℕ → Type 0
-KeepsTables tells pages names roots = KeepsNames tells pages names × KeepsRoots tells pages roots
+KeepsTables tells pages names roots = (KeepsNames tells pages names × BeginsWithMain names) × KeepsRoots tells pages roots

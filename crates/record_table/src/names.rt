@@ -8,7 +8,7 @@ ghost use Rattle.page_store.specs.Looks.{Looks, LookCause, is_failed};
 ghost use Rattle.page_store.specs.Shown.{pages_of};
 ghost use Rattle.record_slots.specs.Super.{tables_in};
 ghost use Rattle.record_table.specs.Blames.{BlamesFront};
-ghost use Rattle.record_table.specs.Names.{names_of, AreRootsOf, ArePages};
+ghost use Rattle.record_table.specs.Names.{names_of, AreRootsOf, ArePages, BeginsWithMain};
 
 use eaw_face::EawStore;
 use index_pages::fetch_page;
@@ -57,6 +57,7 @@ pub fn names_and_roots<S: EawStore>(pages: &mut Pages<S>) -> Result<(Names, Root
     ensures cause { LookCause S.tells (S.view pages.old.store) result }
     ensures blames { BlamesFront result }
     ensures names { IsTrue S.tells → IfOk result (λ read. read.0 ≡ names_of (S.view pages.old.store).state.bytes) }
+    ensures main { IfOk result (λ read. BeginsWithMain read.0) }
     ensures roots { IsTrue S.tells → IfOk result (λ read. AreRootsOf (S.view pages.old.store).state.bytes read.1.at) }
     ensures long { IfOk result (λ read. length read.1.at ≡ 8) }
     ensures inside { IfOk result (λ read. ArePages (page_count (S.view pages.old.store).shape) read.1.at) }

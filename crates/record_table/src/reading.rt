@@ -4,7 +4,7 @@ ghost use Rattle.std.specs.FinMap.{entries};
 ghost use Rattle.std.specs.List.{zip};
 ghost use Rattle.array_shape.specs.Places.{page_count};
 ghost use Rattle.page_store.specs.Looks.{Looks};
-ghost use Rattle.record_table.specs.Names.{names_of, AreRootsOf, ArePages};
+ghost use Rattle.record_table.specs.Names.{names_of, AreRootsOf, ArePages, BeginsWithMain};
 ghost use Rattle.page_store.specs.Shown.{pages_of};
 ghost use Rattle.record_table.specs.AllTables.{place, by_name, ReadCause, is_unread, as_unread};
 ghost use Rattle.history.specs.Rows.{records_in};
@@ -35,6 +35,7 @@ pub fn read_whole<S: EawStore, K: KeyIndex>(
 ) -> Result<Whole, AttachRecords>
     ensures records { IsTrue S.tells → IfOk result (λ whole. records_in whole.tables.items ≡ entries (table_of K.index (S.view pages.old.store).state.bytes)) }
     ensures names { IsTrue S.tells → IfOk result (λ whole. whole.names ≡ names_of (S.view pages.old.store).state.bytes) }
+    ensures main { IfOk result (λ whole. BeginsWithMain whole.names) }
     ensures roots { IsTrue S.tells → IfOk result (λ whole. AreRootsOf (S.view pages.old.store).state.bytes whole.roots.at) }
     ensures long { IfOk result (λ whole. length whole.roots.at ≡ 8) }
     ensures inside { IfOk result (λ whole. ArePages (page_count (S.view pages.old.store).shape) whole.roots.at) }

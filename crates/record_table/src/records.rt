@@ -1,5 +1,5 @@
 // Records over pages, under an index.
-ghost use Rattle.std.specs.Prelude.{List, ◌≡◌, ◌<◌, ◌≤◌, ℕ, [], Some, None, IfOk, IfErr, IfSome, IfNone, OnOk, OnErr, IsErrOf, IsTrue, if◌then◌else◌, filter, length, slice_get, slice_index_or};
+ghost use Rattle.std.specs.Prelude.{List, ◌≡◌, ◌<◌, ◌≤◌, ℕ, [], codes, Some, None, IfOk, IfErr, IfSome, IfNone, OnOk, OnErr, IsErrOf, IsTrue, if◌then◌else◌, filter, length, slice_get, slice_index_or};
 ghost use Rattle.std.specs.FinMap.{entries};
 ghost use Rattle.array_shape.specs.NumberSet.{members};
 ghost use Rattle.eaw_face.specs.Causes.{IsAlive};
@@ -144,13 +144,15 @@ impl<S: EawStore, K: KeyIndex> Records<S, K> {
     pub fn table_of(&self, name: &Name) -> Option<u8>
         ensures some { IsTrue S.tells → IsAlive (S.view self.now.store) → IfSome result (λ j. slice_get (names_of (S.view self.now.store).state.bytes) j ≡ Some name.now) }
         ensures none { IsTrue S.tells → IsAlive (S.view self.now.store) → IfNone result (IsNew name.now (names_of (S.view self.now.store).state.bytes)) }
+        ensures main { name.now ≡ codes "main" → result ≡ Some 0 }
     {
         self.names.number(name)
     }
 
     /// The name of the table of this number, if there is one.
     pub fn name_at(&self, table: u8) -> Option<Name>
-        ensures { IsTrue S.tells → IsAlive (S.view self.now.store) → result ≡ slice_get (names_of (S.view self.now.store).state.bytes) table }
+        ensures name { IsTrue S.tells → IsAlive (S.view self.now.store) → result ≡ slice_get (names_of (S.view self.now.store).state.bytes) table }
+        ensures main { table ≡ 0 → result ≡ Some (codes "main") }
     {
         self.names.name(table)
     }

@@ -1,10 +1,13 @@
-use Rattle.std.proofs.Common.{◌≡◌, ◌<◌, ℕ, zero, suc, List, [], ◌∷◌, Option, Some, None, refl, sym, ◌∙◌, ap, subst, arith}
-use Rattle.std.specs.Prelude.{IfSome, get_or, slice_get}
+use Rattle.std.proofs.Common.{◌≡◌, ◌<◌, ◌≤◌, ℕ, zero, suc, inl, inr, List, [], ◌∷◌, Option, Some, None, refl, sym, ◌∙◌, ap, subst, arith}
+use Rattle.std.specs.Prelude.{IfSome, codes, get_or, slice_get}
 use Rattle.array_shape.specs.declared.shape.Shape.{Shape}
 use Rattle.array_shape.specs.Places.{page_count}
 use Rattle.std.specs.Option.{option_map}
+use Rattle.std.proofs.lemmas.Bool.{cases_eq}
 use Rattle.record_slots.specs.Names.{names_in}
-use Rattle.record_slots.specs.Super.{tables_in, tables_said}
+use Rattle.record_slots.specs.Super.{HasTables, IsMain, tables_in, tables_said, tables_used}
+use Rattle.record_slots.specs.declared.super_page.TableEntry.{TableEntry}
+use Rattle.record_table.specs.Names.{BeginsWithMain}
 use Rattle.record_table.proofs.Rooted.{root_inside}
 use Rattle.record_table.proofs.names.names_and_roots.Goals as goal
 
@@ -57,3 +60,24 @@ returns-clause-roots g c = λ told table root lt is.
     (λ e. its_root _ _ root c.root_of-r6.result c.root_of-r6.ensures.root e inside)
     (λ e. its_root _ _ root c.root_of-r7.result c.root_of-r7.ensures.root e inside)
     table lt entry
+
+-- the first table of a super page
+main_first : (version next : ℕ) (entries : List ℕ) → 1 ≤ version → version ≤ 2 → HasTables version next entries → BeginsWithMain (names_in (tables_in version entries))
+main_first version next entries oldest newest has = elim (cases_eq version 1) [
+  | inl one ↦ ap (λ (v : ℕ). slice_get (names_in (tables_in v entries)) 0) one
+  | inr other ↦
+      let two : version ≡ 2 = omega (arith, oldest, newest, other) in
+      ap (λ (v : ℕ). slice_get (names_in (tables_in v entries)) 0) two ∙ first_of (tables_used entries) (has two).1.main
+]
+  where
+    first_of : (tables : List TableEntry) → IsMain (slice_get tables 0) → slice_get (names_in tables) 0 ≡ Some (codes "main")
+    first_of [] main = absurd main
+    first_of (table ∷ tables) main = ap Some main.0
+
+pub returns-clause-main : goal.returns-clause-main
+returns-clause-main g c =
+    let front = c.in-Some.front in
+    let says = c.in-Some.ensures.says in
+    let oldest : 1 ≤ c.in-Some.front.version = omega (arith, says.has_mark.some, says.version) in
+    let newest : c.in-Some.front.version ≤ 2 = omega (arith, says.has_mark.known, says.version) in
+    subst BeginsWithMain (sym c.of.ensures) (main_first front.version front.next_page front.entries oldest newest (c.has_tables.ensures.0 c.if-not-has_tables.false))

@@ -19,7 +19,7 @@ invariant_of-records g c =
     let looks = c.in-Ok.ensures.looks in (
       begins T O g.K.KeyIndex.index v0 v1 looks alive (c.requires.closed alive) (c.requires.idle alive) (λ told t. g.met.S.EawStore.outlines c.args.pages.store t told alive) c.in-Ok.ensures.cause.1,
       (
-        λ told living. c.in-Ok.ensures.names told ∙ ap (λ (s : State). names_of s.bytes) (sym ((looks.still refl).state told)),
+        (λ told living. c.in-Ok.ensures.names told ∙ ap (λ (s : State). names_of s.bytes) (sym ((looks.still refl).state told)), c.in-Ok.ensures.main),
         record {
           long = c.in-Ok.ensures.long;
           inside = subst (λ (s : Shape). ArePages (page_count s) c.in-Ok.whole.roots.at) (sym c.in-Ok.ensures.looks.shape) c.in-Ok.ensures.inside;

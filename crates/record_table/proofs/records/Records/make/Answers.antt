@@ -16,7 +16,7 @@ invariant_of-self g c =
       c.in-Ok.ensures.holds,
       subst (λ (n : ℕ). KeepsTables g.S.EawStore.tells (pages_of (g.S.EawStore.view c.make.new.pages.store) c.make.new.pages) c.push.new.self (slice_set c.self.inside.roots.at n c.make.new.root)) (sym c.from.ensures)
           (one_more T (pages_of (V inside.store) inside) (pages_of (V new.store) new) c.args.name.now c.in-Ok.number c.make.new.root c.self.inside.names c.push.new.self c.self.inside.roots.at c.self.invariant.1
-          makes.shape makes.cause.0 c.in-Ok.ensures.number c.push.ensures.added (λ told. ((makes.cause.1 told).1, (makes.cause.1 told).2)) (λ told. makes.tables told) (λ told. c.in-Ok.ensures.root told) c.in-Ok.ensures.inside),
+          makes.shape makes.cause.0 c.in-Ok.ensures.number c.push.ensures.added c.push.ensures.full (λ told. ((makes.cause.1 told).1, (makes.cause.1 told).2)) (λ told. makes.tables told) (λ told. c.in-Ok.ensures.root told) c.in-Ok.ensures.inside),
     )
 
 pub invariant_of-self-in-Err : goal.invariant_of-self-in-Err
