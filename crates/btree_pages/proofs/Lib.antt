@@ -40,3 +40,4 @@ pub mod Acted
 pub mod Beginning
 pub mod Crowds
 pub mod Removing
+pub mod Testing

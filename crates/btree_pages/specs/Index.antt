@@ -11,6 +11,7 @@ use Rattle.index_pages.specs.Slots.{index_check}
 use Rattle.index_pages.specs.Within.{within}
 use Rattle.btree_laws.specs.Descent.{child_for, leaf_for}
 use Rattle.btree_pages.specs.Downward.{tree_finding, tree_nexting, tree_placing}
+use Rattle.btree_pages.specs.Testing.{tree_testing}
 use Rattle.btree_laws.specs.Removals.{right_of, parent_for, stays_last}
 use Rattle.btree_laws.specs.Tree.{tree_check, pairs_of_tree, IsPageOfTree}
 
@@ -108,6 +109,7 @@ tree = record {
   finding = tree_finding;
   nexting = tree_nexting;
   placing = tree_placing;
+  testing = tree_testing;
 }
 
 -- The index for the rest of an insertion, from a page on its way that has room and is this many levels above the leaves. Its actions are

@@ -8,6 +8,7 @@ pub mod Writes
 pub mod Steps
 pub mod Crowded
 pub mod Checked
+pub mod Testing
 -- lemmas that the laws of the index cite
 pub mod Props
 pub mod Trees

@@ -1,21 +1,24 @@
 // Tests the whole tree.
-ghost use Rattle.std.specs.Prelude.{◌≡◌, ◌≢◌, ◌<◌, ◌≤◌, ◌-◌, ◌^◌, ◌↔◌, ◌++◌, suc, OnOk, IsErrOf, IsTrue};
+ghost use Rattle.std.specs.Prelude.{◌≡◌, ◌≢◌, ◌<◌, ◌≤◌, ◌-◌, ◌^◌, ◌↔◌, ◌++◌, suc, None, OnOk, IsErrOf, IsTrue};
 ghost use Rattle.mars_base.specs.Check.{each};
 ghost use Rattle.eaw_face.specs.Causes.{IsAlive};
 ghost use Rattle.record_slots.specs.Places.{next_slot, page_bytes, tables_of, IsSuper};
-ghost use Rattle.record_slots.specs.Super.{SaysSuper};
+ghost use Rattle.record_slots.specs.Super.{SaysSuper, tables_in};
 ghost use Rattle.page_store.specs.Index.{slots_of, index_pages_of};
 ghost use Rattle.page_store.specs.Looks.{Looks, CheckCause, is_check_failed};
 ghost use Rattle.page_store.specs.Shown.{pages_of};
 ghost use Rattle.page_store.specs.Pairs.{Rise};
 ghost use Rattle.page_store.specs.Records.{rows_of, records_of};
+ghost use Rattle.page_store.specs.Tested.{Tests};
 ghost use Rattle.index_pages.specs.Fetched.{IsFront};
 ghost use Rattle.index_pages.specs.Page.{count_said, level_said, pairs_said, pairs_from};
 ghost use Rattle.btree_pages.specs.Checked.{high_of, least_of, IsFrontOf};
 ghost use Rattle.index_pages.specs.Keys.{key_end};
 ghost use Rattle.index_pages.specs.Pieces.{joined};
+ghost use Rattle.index_pages.specs.Plans.{Tries, slots_plan, tables_plan};
 ghost use Rattle.index_pages.specs.Slots.{slot_check, tables_check, IsVerdict};
 ghost use Rattle.btree_pages.specs.Index.{tree, tree_of};
+ghost use Rattle.btree_pages.specs.Testing.{children_plan, page_plan, tree_plan, tree_testing, under_plan};
 ghost use Rattle.btree_laws.specs.Tree.{AreChildren, next_low, children_check, tree_from, tree_check, pieces_with, pairs_under, pairs_of_tree};
 
 use crate::page::read_node_head;
@@ -54,6 +57,8 @@ pub fn check<S: EawStore>(
         (pages_of (S.view pages.old.store) pages.old) (pages_of (S.view pages.new.store) pages.new) }
     ensures cause { CheckCause S.tells tree (S.view pages.old.store) result }
     ensures records { IsTrue S.tells → OnOk result (tables.new ≡ tables.old ++ records_of tree (S.view pages.old.store).state.bytes) }
+    ensures tests { Tests S.tells (S.calls pages.old.store) (S.calls pages.new.store) (tree_testing (S.view pages.old.store).shape)
+        (S.view pages.old.store) (S.view pages.new.store) result }
     ensures dead { IsErrOf result CheckFault.Dead → pages.new ≡ pages.old }
 {
     let front = match check_super(pages, FORM) {
@@ -83,6 +88,8 @@ fn check_tables<S: EawStore>(
         → IsVerdict (tables_check (tree_of (S.view pages.old.store).state.bytes) 0 (tables_of (S.view pages.old.store).state.bytes)) result }
     ensures records { IsTrue S.tells → SaysSuper (page_bytes (S.view pages.old.store).state.bytes 0) front.now
         → OnOk result (tables.new ≡ tables.old ++ records_of tree (S.view pages.old.store).state.bytes) }
+    ensures tests { Tries S.tells (S.calls pages.old.store) (S.calls pages.new.store) (tables_plan front.now.next_page (tree_plan (S.view pages.old.store).shape front.now) 0 (tables_in front.now.version front.now.entries))
+        (S.view pages.old.store) (S.view pages.new.store) result }
     ensures dead { IsErrOf result CheckFault.Dead → ⊥ }
 {
     for table in 0..TABLES_MAX as u8 {
@@ -120,6 +127,8 @@ fn check_tree<S: EawStore>(
     ensures cause { IsTrue S.tells → IsFrontOf (S.view pages.old.store).state.bytes front.now
         → IsVerdict (tree_check root (S.view pages.old.store).state.bytes) result }
     ensures rows { IsTrue S.tells → OnOk result (rows.new ≡ rows.old ++ rows_of (S.view pages.old.store).state.bytes (pairs_of_tree (S.view pages.old.store).state.bytes root.page)) }
+    ensures tests { Tries S.tells (S.calls pages.old.store) (S.calls pages.new.store) (tree_plan (S.view pages.old.store).shape front.now root.page root.table)
+        (S.view pages.old.store) (S.view pages.new.store) result }
     ensures dead { IsErrOf result CheckFault.Dead → ⊥ }
 {
     let page = root.page;
@@ -165,6 +174,8 @@ fn check_under<S: EawStore>(
     ensures cause { IsTrue S.tells → IsFrontOf (S.view pages.old.store).state.bytes front.now
         → IsVerdict (tree_from root level (S.view pages.old.store).state.bytes spot.page spot.low (high_of spot.high)) result }
     ensures rows { IsTrue S.tells → OnOk result (rows.new ≡ rows.old ++ rows_of (S.view pages.old.store).state.bytes (pairs_under level (S.view pages.old.store).state.bytes spot.page)) }
+    ensures tests { Tries S.tells (S.calls pages.old.store) (S.calls pages.new.store) (under_plan (S.view pages.old.store).shape front.now root.page root.table level spot.page spot.low (high_of spot.high))
+        (S.view pages.old.store) (S.view pages.new.store) result }
     ensures dead { IsErrOf result CheckFault.Dead → ⊥ }
 {
     let mut bytes = [0; PAGE_LEN];
@@ -195,6 +206,8 @@ fn check_page<S: EawStore>(
         → IsVerdict (tree_from root level (S.view pages.old.store).state.bytes spot.page spot.low (high_of spot.high)) result }
     ensures rows { IsTrue S.tells → bytes.now ≡ page_bytes (S.view pages.old.store).state.bytes spot.page
         → OnOk result (rows.new ≡ rows.old ++ rows_of (S.view pages.old.store).state.bytes (pairs_under level (S.view pages.old.store).state.bytes spot.page)) }
+    ensures tests { Tries S.tells (S.calls pages.old.store) (S.calls pages.new.store) (page_plan (S.view pages.old.store).shape front.now root.page root.table level spot.page spot.low (high_of spot.high) bytes.now)
+        (S.view pages.old.store) (S.view pages.new.store) result }
     ensures dead { IsErrOf result CheckFault.Dead → ⊥ }
 {
     let page = spot.page;
@@ -251,6 +264,8 @@ fn check_children<S: EawStore>(
         → IsVerdict (children_check (tree_from root (level - 1) (S.view pages.old.store).state.bytes) (pairs_said bytes.now) (high_of high)) result }
     ensures rows { IsTrue S.tells → OnOk result (rows.new ≡ rows.old ++ rows_of (S.view pages.old.store).state.bytes
         (joined (pieces_with (pairs_under (level - 1) (S.view pages.old.store).state.bytes) (pairs_said bytes.now)))) }
+    ensures tests { Tries S.tells (S.calls pages.old.store) (S.calls pages.new.store) (children_plan (under_plan (S.view pages.old.store).shape front.now root.page root.table (level - 1)) (pairs_said bytes.now) (high_of high))
+        (S.view pages.old.store) (S.view pages.new.store) result }
     ensures dead { IsErrOf result CheckFault.Dead → ⊥ }
 {
     for i in 0..count {
@@ -386,6 +401,8 @@ fn check_slots<S: EawStore>(
     ensures cause { IsTrue S.tells → slots ≡ next_slot (S.view pages.old.store).state.bytes
         → IsVerdict (each (slot_check (S.view pages.old.store).state.bytes table page) (pairs_said bytes.now)) result }
     ensures rows { IsTrue S.tells → OnOk result (rows.new ≡ rows.old ++ rows_of (S.view pages.old.store).state.bytes (pairs_said bytes.now)) }
+    ensures tests { Tries S.tells (S.calls pages.old.store) (S.calls pages.new.store) (slots_plan (index_pages_of (S.view pages.old.store).shape) slots table page None (pairs_said bytes.now))
+        (S.view pages.old.store) (S.view pages.new.store) result }
     ensures dead { IsErrOf result CheckFault.Dead → ⊥ }
 {
     let mut held = HeldPage::none();

@@ -45,3 +45,4 @@ pub mod Even
 pub mod Extending
 pub mod Turns
 pub mod Working
+pub mod Trying

@@ -72,6 +72,9 @@ tables_few : (version : ℕ) (entries : List ℕ) → length (tables_in version 
 unfolding tables_used
 tables_few version entries = elim (cases_Bool (nat_eq version 1)) [ inl b ↦ rw b (omega arith) | inr b ↦ rw b (used_few 8 entries) ]
 
+pub none_left : (version : ℕ) (entries : List ℕ) (j : ℕ) → 8 ≤ j → drop j (tables_in version entries) ≡ []
+none_left version entries j all = (let few = tables_few version entries in drop_all j (tables_in version entries) (omega (arith, few, all)))
+
 -- so none is left after eight
 pub none_behind : (bytes : List ℕ) (j : ℕ) → 8 ≤ j → drop j (tables_of bytes) ≡ []
 unfolding tables_said

@@ -14,3 +14,4 @@ pub mod Giving
 pub mod Slots
 pub mod Within
 pub mod Peeks
+pub mod Plans

@@ -17,4 +17,5 @@ within index most actions = record {
   finding = index.finding;
   nexting = index.nexting;
   placing = index.placing;
+  testing = index.testing;
 }

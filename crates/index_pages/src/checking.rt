@@ -4,12 +4,13 @@ ghost use Rattle.mars_base.specs.Check.{both};
 ghost use Rattle.eaw_face.specs.Causes.{IsAlive};
 ghost use Rattle.record_slots.specs.Places.{next_slot, page_bytes, IsOfKey};
 ghost use Rattle.record_slots.specs.Super.{SaysSuper};
-ghost use Rattle.page_store.specs.Index.{slots_of};
+ghost use Rattle.page_store.specs.Index.{index_pages_of, slots_of};
 ghost use Rattle.page_store.specs.Looks.{Looks, is_check_failed};
 ghost use Rattle.page_store.specs.Records.{value_of, row_at, row_of};
 ghost use Rattle.page_store.specs.Shown.{pages_of};
 ghost use Rattle.index_pages.specs.Fetched.{IsFront};
 ghost use Rattle.index_pages.specs.Held.{IsHeld};
+ghost use Rattle.index_pages.specs.Plans.{Tries, free_pages_plan, free_slots_plan, held_after, held_of, lists_plan, slot_plan};
 ghost use Rattle.index_pages.specs.Slots.{slot_check, slots_check, pages_check, IsVerdict};
 
 use crate::fault::check_fault;
@@ -43,6 +44,9 @@ pub fn check_slot<S: EawStore>(
         (pages_of (S.view pages.old.store) pages.old) (pages_of (S.view pages.new.store) pages.new) }
     ensures cause { IsTrue S.tells → slots ≡ next_slot (S.view pages.old.store).state.bytes
         → IsVerdict (slot_check (S.view pages.old.store).state.bytes table page pair) result }
+    ensures tests { Tries S.tells (S.calls pages.old.store) (S.calls pages.new.store)
+        (slot_plan (index_pages_of (S.view pages.old.store).shape) slots table page (held_of held.old) pair (held_after result held.new))
+        (S.view pages.old.store) (S.view pages.new.store) result }
     ensures rows { IsTrue S.tells → OnOk result (rows.new ≡ rows.old ++ row_of (S.view pages.old.store).state.bytes pair) }
     ensures held { IsTrue S.tells → OnOk result (IsHeld (S.view pages.old.store).state.bytes held.new) }
     ensures dead { IsErrOf result CheckFault.Dead → ⊥ }
@@ -109,6 +113,8 @@ pub fn check_lists<S: EawStore>(pages: &mut Pages<S>, front: &Super) -> Result<(
         (pages_of (S.view pages.old.store) pages.old) (pages_of (S.view pages.new.store) pages.new) }
     ensures cause { IsTrue S.tells → SaysSuper (page_bytes (S.view pages.old.store).state.bytes 0) front.now
         → IsVerdict (both (slots_check (S.view pages.old.store).state.bytes) (pages_check (S.view pages.old.store).state.bytes)) result }
+    ensures tests { Tries S.tells (S.calls pages.old.store) (S.calls pages.new.store) (lists_plan (index_pages_of (S.view pages.old.store).shape) front.now)
+        (S.view pages.old.store) (S.view pages.new.store) result }
     ensures dead { IsErrOf result CheckFault.Dead → ⊥ }
 {
     match check_free_slots(pages, front) {
@@ -126,6 +132,8 @@ fn check_free_slots<S: EawStore>(pages: &mut Pages<S>, front: &Super) -> Result<
         (pages_of (S.view pages.old.store) pages.old) (pages_of (S.view pages.new.store) pages.new) }
     ensures cause { IsTrue S.tells → SaysSuper (page_bytes (S.view pages.old.store).state.bytes 0) front.now
         → IsVerdict (slots_check (S.view pages.old.store).state.bytes) result }
+    ensures tests { Tries S.tells (S.calls pages.old.store) (S.calls pages.new.store) (free_slots_plan (index_pages_of (S.view pages.old.store).shape) front.now)
+        (S.view pages.old.store) (S.view pages.new.store) result }
     ensures dead { IsErrOf result CheckFault.Dead → ⊥ }
 {
     let count = index_page_count(pages);
@@ -162,6 +170,8 @@ fn check_free_pages<S: EawStore>(pages: &mut Pages<S>, front: &Super) -> Result<
         (pages_of (S.view pages.old.store) pages.old) (pages_of (S.view pages.new.store) pages.new) }
     ensures cause { IsTrue S.tells → SaysSuper (page_bytes (S.view pages.old.store).state.bytes 0) front.now
         → IsVerdict (pages_check (S.view pages.old.store).state.bytes) result }
+    ensures tests { Tries S.tells (S.calls pages.old.store) (S.calls pages.new.store) (free_pages_plan front.now)
+        (S.view pages.old.store) (S.view pages.new.store) result }
     ensures dead { IsErrOf result CheckFault.Dead → ⊥ }
 {
     let mut named = front.free_page;

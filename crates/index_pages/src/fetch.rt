@@ -4,13 +4,16 @@ ghost use Rattle.array_shape.specs.Places.{page_count};
 ghost use Rattle.eaw_face.specs.Command as model;
 ghost use Rattle.mars_base.specs.Costs.{Costs};
 ghost use Rattle.record_slots.specs.Places.{page_bytes, slot_of, free_slot_of, free_page_of, IsSuper};
+ghost use Rattle.record_slots.specs.Free.{free_page_said, free_slot_said};
 ghost use Rattle.record_slots.specs.Slots.{slot_said};
 ghost use Rattle.record_slots.specs.Super.{SaysSuper, HasTables};
 ghost use Rattle.page_store.specs.Follows.{HasRead, one_reading};
 ghost use Rattle.page_store.specs.Index.{slots_of, index_pages_of};
 ghost use Rattle.page_store.specs.Looks.{Looks, is_failed};
 ghost use Rattle.page_store.specs.Shown.{address, pages_of};
+ghost use Rattle.page_store.specs.Tested.{HasReadBytes};
 ghost use Rattle.index_pages.specs.Fetched.{ReadCause, TestCause, IsFront};
+ghost use Rattle.index_pages.specs.Plans.{IsFrontOf, IsTested, one_excerpt};
 
 use crate::page::PAGE_LEN;
 use eaw_face::EawStore;
@@ -66,6 +69,27 @@ pub fn fetch_slot<S: EawStore>(pages: &mut Pages<S>, slot: u32) -> Result<Option
     Ok(read_slot(&bytes))
 }
 
+// Reads the bytes of a slot.
+fn fetch_slot_bytes<S: EawStore>(
+    pages: &mut Pages<S>,
+    slot: u32,
+    bytes: &mut [u8; SLOT_LEN],
+) -> Result<(), PageFault>
+    requires { slot < slots_of (S.view pages.old.store).shape }
+    ensures looks { Looks S.tells (S.opens (S.view pages.old.store).shape) (is_failed result)
+        (pages_of (S.view pages.old.store) pages.old) (pages_of (S.view pages.new.store) pages.new) }
+    ensures cause { ReadCause (S.view pages.old.store) result }
+    ensures bytes { IsTrue S.tells → OnOk result (bytes.new ≡ slot_of (S.view pages.old.store).state.bytes slot) }
+    ensures costs { Costs true (S.calls pages.old.store (model.read (address (index_pages_of (S.view pages.old.store).shape + slot / 8) (slot % 8 * 64)) 64))
+        (S.view pages.old.store).moment (S.view pages.new.store).moment result }
+    ensures reads { HasReadBytes S.tells (is_failed result) (S.calls pages.old.store) (S.calls pages.new.store) (S.view pages.old.store) (S.view pages.new.store)
+        (one_excerpt (index_pages_of (S.view pages.old.store).shape + slot / 8) (slot % 8 * 64) 64 bytes.new (slot_of (S.view pages.old.store).state.bytes slot) result) }
+    ensures dead { IsErrOf result PageFault.Dead → pages.new ≡ pages.old }
+{
+    let page = index_page_count(pages) + slot / SLOTS_IN_PAGE;
+    pages.read(page, slot % SLOTS_IN_PAGE * SLOT_LEN as u32, bytes)
+}
+
 /// Reads what a slot says if it is free.
 pub fn fetch_free_slot<S: EawStore>(
     pages: &mut Pages<S>,
@@ -78,11 +102,13 @@ pub fn fetch_free_slot<S: EawStore>(
     ensures said { IsTrue S.tells → IfOk result (λ said. said ≡ free_slot_of (S.view pages.old.store).state.bytes slot) }
     ensures costs { Costs true (S.calls pages.old.store (model.read (address (index_pages_of (S.view pages.old.store).shape + slot / 8) (slot % 8 * 64)) 64))
         (S.view pages.old.store).moment (S.view pages.new.store).moment result }
+    ensures reads { (said : List ℕ) × HasReadBytes S.tells (is_failed result) (S.calls pages.old.store) (S.calls pages.new.store) (S.view pages.old.store)
+        (S.view pages.new.store) (one_excerpt (index_pages_of (S.view pages.old.store).shape + slot / 8) (slot % 8 * 64) 64 said
+        (slot_of (S.view pages.old.store).state.bytes slot) result) × IfOk result (λ free. free ≡ free_slot_said said) }
     ensures dead { IsErrOf result PageFault.Dead → pages.new ≡ pages.old }
 {
-    let page = index_page_count(pages) + slot / SLOTS_IN_PAGE;
     let mut bytes = [0; SLOT_LEN];
-    pages.read(page, slot % SLOTS_IN_PAGE * SLOT_LEN as u32, &mut bytes)?;
+    fetch_slot_bytes(pages, slot, &mut bytes)?;
     Ok(read_free_slot(&bytes))
 }
 
@@ -97,7 +123,8 @@ pub fn fetch_free_page<S: EawStore>(
     ensures cause { ReadCause (S.view pages.old.store) result }
     ensures said { IsTrue S.tells → IfOk result (λ said. said ≡ free_page_of (S.view pages.old.store).state.bytes page) }
     ensures reads { (said : List ℕ) × HasRead S.tells (is_failed result) (S.calls pages.old.store) (S.calls pages.new.store) (S.view pages.old.store)
-        (S.view pages.new.store) (one_reading page said (page_bytes (S.view pages.old.store).state.bytes page) result) }
+        (S.view pages.new.store) (one_reading page said (page_bytes (S.view pages.old.store).state.bytes page) result)
+        × IfOk result (λ free. free ≡ free_page_said said) }
     ensures dead { IsErrOf result PageFault.Dead → pages.new ≡ pages.old }
 {
     let mut bytes = [0; PAGE_LEN];
@@ -113,7 +140,8 @@ pub fn fetch_super<S: EawStore>(pages: &mut Pages<S>, form: u8) -> Result<Super,
     ensures front { IfOk result (IsFront (S.view pages.old.store).shape) }
     ensures form { IfOk result (λ front. front.form ≡ form) }
     ensures reads { (said : List ℕ) × HasRead S.tells (is_failed result) (S.calls pages.old.store) (S.calls pages.new.store) (S.view pages.old.store)
-        (S.view pages.new.store) (one_reading 0 said (page_bytes (S.view pages.old.store).state.bytes 0) result) }
+        (S.view pages.new.store) (one_reading 0 said (page_bytes (S.view pages.old.store).state.bytes 0) result)
+        × IsFrontOf form (S.view pages.old.store).shape said result }
     ensures says { IsTrue S.tells → IfOk result (SaysSuper (page_bytes (S.view pages.old.store).state.bytes 0)) }
     ensures dead { IsErrOf result PageFault.Dead → pages.new ≡ pages.old }
 {
@@ -136,6 +164,9 @@ pub fn check_super<S: EawStore>(pages: &mut Pages<S>, form: u8) -> Result<Super,
         (pages_of (S.view pages.old.store) pages.old) (pages_of (S.view pages.new.store) pages.new) }
     ensures cause { TestCause S.tells (IsSuper form (S.view pages.old.store).state.bytes) 0 (S.view pages.old.store) result }
     ensures front { IfOk result (IsFront (S.view pages.old.store).shape) }
+    ensures reads { (said : List ℕ) × HasRead S.tells (is_failed result) (S.calls pages.old.store) (S.calls pages.new.store) (S.view pages.old.store)
+        (S.view pages.new.store) (one_reading 0 said (page_bytes (S.view pages.old.store).state.bytes 0) result)
+        × IsTested form (S.view pages.old.store).shape said result }
     ensures tables { IfOk result (λ front. HasTables front.version front.next_page front.entries) }
     ensures sound { IsTrue S.tells → OnOk result (IsSuper form (S.view pages.old.store).state.bytes) }
     ensures says { IsTrue S.tells → IfOk result (SaysSuper (page_bytes (S.view pages.old.store).state.bytes 0)) }

@@ -1,5 +1,5 @@
 // Reads of slots that lie beside each other, by whole pages.
-ghost use Rattle.std.specs.Prelude.{◌≡◌, ◌+◌, ◌*◌, ◌/◌, ◌<◌, ◌↔◌, None, Some, IfOk, OnOk, IsErrOf, IsTrue};
+ghost use Rattle.std.specs.Prelude.{◌≡◌, ◌+◌, ◌*◌, ◌/◌, ◌%◌, ◌<◌, ◌↔◌, None, Some, IfOk, OnOk, IsErrOf, IsTrue};
 ghost use Rattle.mars_base.specs.Bytes.{range};
 ghost use Rattle.array_shape.specs.Places.{page_count};
 ghost use Rattle.eaw_face.specs.Causes.{IsAlive};
@@ -10,6 +10,7 @@ ghost use Rattle.page_store.specs.Looks.{Looks, is_failed};
 ghost use Rattle.page_store.specs.Shown.{pages_of};
 ghost use Rattle.index_pages.specs.Fetched.{ReadCause};
 ghost use Rattle.index_pages.specs.Held.{IsHeld};
+ghost use Rattle.index_pages.specs.Plans.{Holds};
 
 use crate::fetch::{SLOTS_IN_PAGE, fetch_page, index_page_count};
 use crate::page::PAGE_LEN;
@@ -53,6 +54,9 @@ pub fn fetch_held_slot<S: EawStore>(
     ensures held { IsTrue S.tells → OnOk result (IsHeld (S.view pages.old.store).state.bytes held.new) }
     ensures page { OnOk result (held.new.page ≡ Some (index_pages_of (S.view pages.old.store).shape + slot / 8)) }
     ensures unread { held.old.page ≡ Some (index_pages_of (S.view pages.old.store).shape + slot / 8) → pages.new ≡ pages.old }
+    ensures slot { IfOk result (λ said. said ≡ slot_said (range held.new.bytes (64 * (slot % 8)) 64)) }
+    ensures holds { Holds S.tells (S.calls pages.old.store) (S.calls pages.new.store) (index_pages_of (S.view pages.old.store).shape + slot / 8)
+        held.old held.new (S.view pages.old.store) (S.view pages.new.store) result }
     ensures dead { IsErrOf result PageFault.Dead → pages.new ≡ pages.old }
 {
     let page = index_page_count(pages) + slot / SLOTS_IN_PAGE;
@@ -71,6 +75,7 @@ fn hold<S: EawStore>(pages: &mut Pages<S>, held: &mut HeldPage, page: u32) -> Re
     ensures page { OnOk result (held.new.page ≡ Some page) }
     ensures bytes { IsTrue S.tells → OnOk result (held.new.bytes ≡ page_bytes (S.view pages.old.store).state.bytes page) }
     ensures unread { held.old.page ≡ Some page → pages.new ≡ pages.old }
+    ensures holds { Holds S.tells (S.calls pages.old.store) (S.calls pages.new.store) page held.old held.new (S.view pages.old.store) (S.view pages.new.store) result }
     ensures dead { IsErrOf result PageFault.Dead → pages.new ≡ pages.old }
 {
     if is_page(held.page, page) {

@@ -15,3 +15,4 @@ pub mod Whole
 pub mod Taking
 pub mod Testing
 pub mod Gathering
+pub mod Trials

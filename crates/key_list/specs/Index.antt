@@ -4,6 +4,7 @@ use Rattle.std.specs.Option.{unwrap_or}
 use Rattle.record_slots.specs.Places.{next_page, slot_page, slot_due, page_due}
 use Rattle.page_store.specs.Index.{Action, Index}
 use Rattle.page_store.specs.Pairs.{Pair, found}
+use Rattle.key_list.specs.Tried.{chain_testing}
 use Rattle.key_list.specs.Along.{chain_finding, chain_nexting, chain_placing}
 use Rattle.key_list.specs.Chain.{chains_check, pairs_of_chain, page_of_key}
 use Rattle.index_pages.specs.Keys.{key_at}
@@ -72,6 +73,7 @@ chain = record {
   finding = chain_finding;
   nexting = chain_nexting;
   placing = chain_placing;
+  testing = chain_testing;
 }
 
 -- what is left of an insertion once the page of the key has room, or is cut: so many pages are given out at most

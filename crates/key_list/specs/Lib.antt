@@ -5,6 +5,7 @@ pub mod Along
 pub mod Index
 pub mod Located
 pub mod Checked
+pub mod Tried
 -- lemmas that the laws of the index cite
 pub mod Seen
 pub mod Props

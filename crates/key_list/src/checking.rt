@@ -1,21 +1,24 @@
 // The test of the whole chain.
-ghost use Rattle.std.specs.Prelude.{◌≡◌, ◌<◌, ◌≤◌, ◌↔◌, ◌^◌, ◌++◌, IfOk, IfSome, IfNone, OnOk, IsErrOf, IsTrue};
+ghost use Rattle.std.specs.Prelude.{◌≡◌, ◌<◌, ◌≤◌, ◌↔◌, ◌^◌, ◌++◌, None, IfOk, IfSome, IfNone, OnOk, IsErrOf, IsTrue};
 ghost use Rattle.eaw_face.specs.Causes.{IsAlive};
 ghost use Rattle.array_shape.specs.Places.{page_count};
 ghost use Rattle.record_slots.specs.Places.{next_slot, page_bytes, tables_of, IsSuper};
-ghost use Rattle.record_slots.specs.Super.{SaysSuper};
+ghost use Rattle.record_slots.specs.Super.{SaysSuper, tables_in};
 ghost use Rattle.page_store.specs.Index.{slots_of, index_pages_of};
 ghost use Rattle.page_store.specs.Looks.{Looks, CheckCause, is_check_failed};
 ghost use Rattle.page_store.specs.Records.{row_of, rows_of, records_of};
 ghost use Rattle.page_store.specs.Shown.{pages_of};
+ghost use Rattle.page_store.specs.Tested.{Tests, holding};
 ghost use Rattle.index_pages.specs.Fetched.{IsFront};
 ghost use Rattle.index_pages.specs.Held.{IsHeld};
 ghost use Rattle.index_pages.specs.Page.{count_said, pairs_said};
+ghost use Rattle.index_pages.specs.Plans.{Tries, held_after, held_of, slot_plan, tables_plan};
 ghost use Rattle.key_list.specs.Linked.{SaysLeaf};
 ghost use Rattle.index_pages.specs.Slots.{IsVerdict, tables_check};
 ghost use Rattle.key_list.specs.Chain.{behind, IsChainHead, pair_check, pairs_check, chain_check, pairs_of_chain};
 ghost use Rattle.key_list.specs.Checked.{low_of};
 ghost use Rattle.key_list.specs.Index.{chain};
+ghost use Rattle.key_list.specs.Tried.{chain_plan, chain_testing, pairs_plan};
 
 use crate::page::read_leaf_head;
 use crate::place::FORM;
@@ -39,6 +42,8 @@ pub fn check<S: EawStore>(
         (pages_of (S.view pages.old.store) pages.old) (pages_of (S.view pages.new.store) pages.new) }
     ensures cause { CheckCause S.tells chain (S.view pages.old.store) result }
     ensures records { IsTrue S.tells → OnOk result (tables.new ≡ tables.old ++ records_of chain (S.view pages.old.store).state.bytes) }
+    ensures tests { Tests S.tells (S.calls pages.old.store) (S.calls pages.new.store) (chain_testing (S.view pages.old.store).shape)
+        (S.view pages.old.store) (S.view pages.new.store) result }
     ensures dead { IsErrOf result CheckFault.Dead → pages.new ≡ pages.old }
 {
     let front = match check_super(pages, FORM) {
@@ -68,6 +73,8 @@ fn check_tables<S: EawStore>(
         → IsVerdict (tables_check (chain_check (S.view pages.old.store).state.bytes) 0 (tables_of (S.view pages.old.store).state.bytes)) result }
     ensures records { IsTrue S.tells → SaysSuper (page_bytes (S.view pages.old.store).state.bytes 0) front.now
         → OnOk result (tables.new ≡ tables.old ++ records_of chain (S.view pages.old.store).state.bytes) }
+    ensures tests { Tries S.tells (S.calls pages.old.store) (S.calls pages.new.store) (tables_plan front.now.next_page (chain_plan (S.view pages.old.store).shape front.now) 0 (tables_in front.now.version front.now.entries))
+        (S.view pages.old.store) (S.view pages.new.store) result }
     ensures dead { IsErrOf result CheckFault.Dead → ⊥ }
 {
     for table in 0..TABLES_MAX as u8 {
@@ -107,6 +114,8 @@ fn check_table<S: EawStore>(
         → IsVerdict (chain_check (S.view pages.old.store).state.bytes root table) result }
     ensures rows { IsTrue S.tells → SaysSuper (page_bytes (S.view pages.old.store).state.bytes 0) front.now
         → OnOk result (rows.new ≡ rows.old ++ rows_of (S.view pages.old.store).state.bytes (pairs_of_chain (S.view pages.old.store).state.bytes root)) }
+    ensures tests { Tries S.tells (S.calls pages.old.store) (S.calls pages.new.store) (chain_plan (S.view pages.old.store).shape front.now root table)
+        (S.view pages.old.store) (S.view pages.new.store) result }
     ensures dead { IsErrOf result CheckFault.Dead → ⊥ }
 {
     let mut page = root;
@@ -143,6 +152,10 @@ fn check_table<S: EawStore>(
             return Err(CheckFault::Damaged { page });
         }
         page = head.link;
+    }
+    match fetch_page(pages, page, &mut bytes) {
+        Ok(()) => {}
+        Err(fault) => return Err(check_fault(fault)),
     }
     Err(CheckFault::Damaged { page })
 }
@@ -189,6 +202,9 @@ fn check_pairs<S: EawStore>(
         → IsVerdict (pairs_check (S.view pages.old.store).state.bytes table page (low_of last) (pairs_said bytes.now)) result }
     ensures rows { IsTrue S.tells → OnOk result (rows.new ≡ rows.old ++ rows_of (S.view pages.old.store).state.bytes (pairs_said bytes.now)) }
     ensures behind { IfOk result (λ key. low_of key ≡ behind (low_of last) (pairs_said bytes.now)) }
+    ensures tests { Tries S.tells (S.calls pages.old.store) (S.calls pages.new.store)
+        (pairs_plan (index_pages_of (S.view pages.old.store).shape) slots table page (low_of last) None (pairs_said bytes.now))
+        (S.view pages.old.store) (S.view pages.new.store) result }
     ensures dead { IsErrOf result CheckFault.Dead → ⊥ }
 {
     let mut last = last;
@@ -233,6 +249,9 @@ fn check_pair<S: EawStore>(
     ensures rows { IsTrue S.tells → OnOk result (rows.new ≡ rows.old ++ row_of (S.view pages.old.store).state.bytes pair) }
     ensures cause { IsTrue S.tells → slots ≡ next_slot (S.view pages.old.store).state.bytes
         → IsVerdict (pair_check (S.view pages.old.store).state.bytes table page (low_of last) pair) result }
+    ensures tests { Tries S.tells (S.calls pages.old.store) (S.calls pages.new.store) (holding (low_of last ≤ pair.0) page
+        (slot_plan (index_pages_of (S.view pages.old.store).shape) slots table page (held_of held.old) pair (held_after result held.new)))
+        (S.view pages.old.store) (S.view pages.new.store) result }
     ensures dead { IsErrOf result CheckFault.Dead → ⊥ }
 {
     if !is_above(last, pair.0) {

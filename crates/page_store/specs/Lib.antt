@@ -23,4 +23,5 @@ pub mod Records
 pub mod Inserts
 pub mod Removes
 pub mod Works
+pub mod Tested
 pub mod Placed

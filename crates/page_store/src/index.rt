@@ -12,6 +12,7 @@ ghost use Rattle.page_store.specs.Pairs.{Rise, AreInside, AreNext, found};
 ghost use Rattle.page_store.specs.Placed.{FollowsToPlace, IsPlaceIn, IsSoughtFor, IsSoughtIn, slot_sought};
 ghost use Rattle.page_store.specs.Records.{records_of};
 ghost use Rattle.page_store.specs.Shown.{pages_of, top_in};
+ghost use Rattle.page_store.specs.Tested.{Tests};
 ghost use Rattle.page_store.specs.Works.{Works, blamed, blamed_index, insertion_limits, is_done, removal_actions, removal_limits, unless_full};
 
 use crate::fault::PageFault;
@@ -55,6 +56,8 @@ pub trait KeyIndex {
             (pages_of (S.view pages.old.store) pages.old) (pages_of (S.view pages.new.store) pages.new) }
         ensures cause { CheckCause S.tells index (S.view pages.old.store) result }
         ensures records { IsTrue S.tells → OnOk result (tables.new ≡ tables.old ++ records_of index (S.view pages.old.store).state.bytes) }
+        ensures tests { Tests S.tells (S.calls pages.old.store) (S.calls pages.new.store) (index.testing (S.view pages.old.store).shape)
+            (S.view pages.old.store) (S.view pages.new.store) result }
         ensures dead { IsErrOf result CheckFault.Dead → pages.new ≡ pages.old };
 
     /// The slot of a key of a table, if its index has the key.

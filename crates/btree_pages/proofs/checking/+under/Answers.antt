@@ -21,6 +21,12 @@ use Rattle.index_pages.specs.Slots.{IsVerdict}
 use Rattle.btree_pages.proofs.Checks.{under_inner, whole_left, named_step, named_here, ChildrenLeft, children_step, children_fail, inner_fails, inner_children}
 use Rattle.record_slots.specs.Places.{page_bytes}
 use Rattle.index_pages.proofs.Tests.{not_damaged, not_passed, told_looks, told_verdict, told_dead}
+use Rattle.page_store.specs.Tested.{Plan}
+use Rattle.index_pages.specs.Plans.{Tries}
+use Rattle.index_pages.proofs.Causing.{still_same}
+use Rattle.index_pages.proofs.Trying.{SoFar, so_first, so_passes, so_then, so_fails, so_ends, so_page, so_page_err}
+use Rattle.btree_pages.specs.Testing.{children_plan, page_plan, under_plan}
+use Rattle.btree_pages.proofs.Testing.{page_bad, page_leaf, page_inner}
 use Rattle.btree_pages.proofs.checking.+under.Goals as goal
 
 -- the pairs under children
@@ -41,6 +47,7 @@ check_children-loop-i-init g t c =
       rows = λ told. subst (λ (ps : List Pair). RowsLeft view.state.bytes c.args.rows.now (under view.state.bytes (c.args.level - 1) (pairs_said c.args.bytes.now)) c.args.rows.now (under view.state.bytes (c.args.level - 1) ps)) e refl;
       left = λ told front. subst (λ (ps : List Pair). ChildrenLeft c.args.root (c.args.level - 1) view.state.bytes (pairs_said c.args.bytes.now) ps (high_of c.args.high)) e
           (λ verdict told. told);
+      tests = subst (λ (ps : List Pair). SoFar g.S.EawStore.tells (g.S.EawStore.calls c.args.pages.now.store) (g.S.EawStore.calls c.args.pages.now.store) (children_plan (under_plan (g.S.EawStore.view c.args.pages.now.store).shape c.args.front.now c.args.root.page c.args.root.table (c.args.level - 1)) ps (high_of c.args.high)) (children_plan (under_plan (g.S.EawStore.view c.args.pages.now.store).shape c.args.front.now c.args.root.page c.args.root.table (c.args.level - 1)) (pairs_said c.args.bytes.now) (high_of c.args.high)) (g.S.EawStore.view c.args.pages.now.store) (g.S.EawStore.view c.args.pages.now.store)) e (so_first (children_plan (under_plan (g.S.EawStore.view c.args.pages.now.store).shape c.args.front.now c.args.root.page c.args.root.table (c.args.level - 1)) (pairs_said c.args.bytes.now) (high_of c.args.high)));
     }
 
 pub check_children-overflow_cast-spot : goal.check_children-overflow_cast-spot
@@ -115,6 +122,14 @@ check_children-loop-i-preserved g t c =
           let on : suc c.loop-i.i ≡ c.loop-i.i + 1 = omega arith in
           subst (λ (n : ℕ). ChildrenLeft c.args.root (c.args.level - 1) view.state.bytes (pairs_said c.args.bytes.now) (pairs_from c.args.bytes.now n (c.args.count - n)) (high_of c.args.high)) on
           (children_step c.args.root (c.args.level - 1) view.state.bytes (pairs_said c.args.bytes.now) (pair_said c.args.bytes.now c.loop-i.i) rest (high_of c.args.high) left cause');
+      tests =
+          let on : suc c.loop-i.i ≡ c.loop-i.i + 1 = omega arith in
+          let r : Result (Unit {0}) CheckFault = Ok tt in
+          subst (λ (n : ℕ). SoFar g.S.EawStore.tells (g.S.EawStore.calls c.args.pages.now.store) (g.S.EawStore.calls c.check_under.new.pages.store) (children_plan (under_plan (g.S.EawStore.view c.args.pages.now.store).shape c.args.front.now c.args.root.page c.args.root.table (c.args.level - 1)) (pairs_from c.args.bytes.now n (c.args.count - n)) (high_of c.args.high)) (children_plan (under_plan (g.S.EawStore.view c.args.pages.now.store).shape c.args.front.now c.args.root.page c.args.root.table (c.args.level - 1)) (pairs_said c.args.bytes.now) (high_of c.args.high)) (g.S.EawStore.view c.args.pages.now.store) (g.S.EawStore.view c.check_under.new.pages.store)) on
+          (so_then (c.loop-i.invariant.looks.still refl) c.loop-i.invariant.looks.shape (under_plan (g.S.EawStore.view c.args.pages.now.store).shape c.args.front.now c.args.root.page c.args.root.table (c.args.level - 1) (pair_said c.args.bytes.now c.loop-i.i).1 (pair_said c.args.bytes.now c.loop-i.i).0 (next_low (pairs_from c.args.bytes.now (suc c.loop-i.i) (c.args.count - suc c.loop-i.i)) (high_of c.args.high))) (children_plan (under_plan (g.S.EawStore.view c.args.pages.now.store).shape c.args.front.now c.args.root.page c.args.root.table (c.args.level - 1)) (pairs_from c.args.bytes.now (suc c.loop-i.i) (c.args.count - suc c.loop-i.i)) (high_of c.args.high)) tt (subst (λ (ps : List Pair). SoFar g.S.EawStore.tells (g.S.EawStore.calls c.args.pages.now.store) (g.S.EawStore.calls c.loop-i.pages.store) (children_plan (under_plan (g.S.EawStore.view c.args.pages.now.store).shape c.args.front.now c.args.root.page c.args.root.table (c.args.level - 1)) ps (high_of c.args.high)) (children_plan (under_plan (g.S.EawStore.view c.args.pages.now.store).shape c.args.front.now c.args.root.page c.args.root.table (c.args.level - 1)) (pairs_said c.args.bytes.now) (high_of c.args.high)) (g.S.EawStore.view c.args.pages.now.store) (g.S.EawStore.view c.loop-i.pages.store)) (from_step c.args.bytes.now c.loop-i.i c.args.count c.loop-i-test.true) c.loop-i.invariant.tests)
+          (subst (λ (s : Shape). Tries g.S.EawStore.tells (g.S.EawStore.calls c.loop-i.pages.store) (g.S.EawStore.calls c.check_under.new.pages.store) (under_plan s c.args.front.now c.args.root.page c.args.root.table (c.args.level - 1) (pair_said c.args.bytes.now c.loop-i.i).1 (pair_said c.args.bytes.now c.loop-i.i).0 (next_low (pairs_from c.args.bytes.now (suc c.loop-i.i) (c.args.count - suc c.loop-i.i)) (high_of c.args.high))) (g.S.EawStore.view c.loop-i.pages.store) (g.S.EawStore.view c.check_under.new.pages.store) r) c.loop-i.invariant.looks.shape
+    (subst (λ (h : ℕ). Tries g.S.EawStore.tells (g.S.EawStore.calls c.loop-i.pages.store) (g.S.EawStore.calls c.check_under.new.pages.store) (under_plan (g.S.EawStore.view c.loop-i.pages.store).shape c.args.front.now c.args.root.page c.args.root.table (c.args.level - 1) (pair_said c.args.bytes.now c.loop-i.i).1 (pair_said c.args.bytes.now c.loop-i.i).0 h) (g.S.EawStore.view c.loop-i.pages.store) (g.S.EawStore.view c.check_under.new.pages.store) r) c.end_of.ensures
+    (subst (λ (p : Pair). Tries g.S.EawStore.tells (g.S.EawStore.calls c.loop-i.pages.store) (g.S.EawStore.calls c.check_under.new.pages.store) (under_plan (g.S.EawStore.view c.loop-i.pages.store).shape c.args.front.now c.args.root.page c.args.root.table (c.args.level - 1) p.1 p.0 (high_of c.end_of.result)) (g.S.EawStore.view c.loop-i.pages.store) (g.S.EawStore.view c.check_under.new.pages.store) r) c.read_pair-low.ensures.pair c.in-Ok.ensures.tests))));
     }
 
 pub check_children-returns-clause-cause : goal.check_children-returns-clause-cause
@@ -195,6 +210,7 @@ check_page-returns-clause-dead g t c = c.check_children.ensures.dead
 
 pub check_under-returns-in-Err : goal.check_under-returns-in-Err
 check_under-returns-in-Err g t c = record {
+  tests = so_page_err (still_same g.S.EawStore.tells (g.S.EawStore.view c.args.pages.now.store)) refl (Unit {0}) c.args.spot.page (λ said. page_plan (g.S.EawStore.view c.args.pages.now.store).shape c.args.front.now c.args.root.page c.args.root.table c.args.level c.args.spot.page c.args.spot.low (high_of c.args.spot.high) said) c.fetch_page.new.bytes (page_bytes (g.S.EawStore.view c.args.pages.now.store).state.bytes c.args.spot.page) c.in-Err.fault c.check_fault.result c.check_fault.ensures (so_first (under_plan (g.S.EawStore.view c.args.pages.now.store).shape c.args.front.now c.args.root.page c.args.root.table c.args.level c.args.spot.page c.args.spot.low (high_of c.args.spot.high))) c.requires.alive c.in-Err.ensures.cause c.in-Err.ensures.reads;
   looks = told_looks g.S.EawStore.tells (g.S.EawStore.opens (g.S.EawStore.view c.args.pages.now.store).shape) (pages_of (g.S.EawStore.view c.args.pages.now.store) c.args.pages.now) (pages_of (g.S.EawStore.view c.fetch_page.new.pages.store) c.fetch_page.new.pages) c.requires.alive c.in-Err.fault c.in-Err.ensures.cause c.check_fault.result c.check_fault.ensures c.in-Err.ensures.looks;
   cause = λ told front. told_verdict g.S.EawStore.tells (g.S.EawStore.opens (g.S.EawStore.view c.args.pages.now.store).shape) (pages_of (g.S.EawStore.view c.args.pages.now.store) c.args.pages.now) (pages_of (g.S.EawStore.view c.fetch_page.new.pages.store) c.fetch_page.new.pages) c.requires.alive c.in-Err.fault c.in-Err.ensures.cause c.check_fault.result c.check_fault.ensures (tree_from c.args.root c.args.level (g.S.EawStore.view c.args.pages.now.store).state.bytes c.args.spot.page c.args.spot.low (high_of c.args.spot.high));
   rows = λ told. tt;
@@ -203,6 +219,9 @@ check_under-returns-in-Err g t c = record {
 
 pub check_under-returns : goal.check_under-returns
 check_under-returns g t c = record {
+  tests = so_ends (c.in-Ok.ensures.looks.still refl) c.in-Ok.ensures.looks.shape ((λ said. page_plan (g.S.EawStore.view c.args.pages.now.store).shape c.args.front.now c.args.root.page c.args.root.table c.args.level c.args.spot.page c.args.spot.low (high_of c.args.spot.high) said) c.fetch_page.new.bytes) c.check_page.result
+      (so_page (still_same g.S.EawStore.tells (g.S.EawStore.view c.args.pages.now.store)) refl c.args.spot.page (λ said. page_plan (g.S.EawStore.view c.args.pages.now.store).shape c.args.front.now c.args.root.page c.args.root.table c.args.level c.args.spot.page c.args.spot.low (high_of c.args.spot.high) said) c.fetch_page.new.bytes (so_first (under_plan (g.S.EawStore.view c.args.pages.now.store).shape c.args.front.now c.args.root.page c.args.root.table c.args.level c.args.spot.page c.args.spot.low (high_of c.args.spot.high))) c.in-Ok.ensures.reads)
+      (subst (λ (s : Shape). Tries g.S.EawStore.tells (g.S.EawStore.calls c.fetch_page.new.pages.store) (g.S.EawStore.calls c.check_page.new.pages.store) ((λ said. page_plan s c.args.front.now c.args.root.page c.args.root.table c.args.level c.args.spot.page c.args.spot.low (high_of c.args.spot.high) said) c.fetch_page.new.bytes) (g.S.EawStore.view c.fetch_page.new.pages.store) (g.S.EawStore.view c.check_page.new.pages.store) c.check_page.result) c.in-Ok.ensures.looks.shape c.check_page.ensures.tests);
   looks = looks_next g.S.EawStore.tells g.S.EawStore.opens _ (pages_of (g.S.EawStore.view c.args.pages.now.store) c.args.pages.now) (pages_of (g.S.EawStore.view c.fetch_page.new.pages.store) c.fetch_page.new.pages) (pages_of (g.S.EawStore.view c.check_page.new.pages.store) c.check_page.new.pages) c.in-Ok.ensures.looks c.check_page.ensures.looks;
   cause = λ told front.
       let same = (c.in-Ok.ensures.looks.still refl).state told in
@@ -235,3 +254,40 @@ check_page-returns-clause-rows g t c = λ told is.
     let b = (g.S.EawStore.view c.args.pages.now.store).state.bytes in
     subst (λ (ps : List Pair). OnOk c.check_children.result (c.check_children.new.rows ≡ c.args.rows.now ++ rows_of b ps)) (sym (under_inner c.args.level b c.args.spot.page c.if-level-eq0.false))
     (subst (λ (buf : List ℕ). OnOk c.check_children.result (c.check_children.new.rows ≡ c.args.rows.now ++ rows_of b (under b (c.args.level - 1) (pairs_said buf)))) is (c.check_children.ensures.rows told))
+
+pub check_children-returns-in-Err-clause-tests : goal.check_children-returns-in-Err-clause-tests
+check_children-returns-in-Err-clause-tests g t c =
+    let r : Result (Unit {0}) CheckFault = Err c.in-Err.fault in
+    so_fails (c.loop-i.invariant.looks.still refl) c.loop-i.invariant.looks.shape (under_plan (g.S.EawStore.view c.args.pages.now.store).shape c.args.front.now c.args.root.page c.args.root.table (c.args.level - 1) (pair_said c.args.bytes.now c.loop-i.i).1 (pair_said c.args.bytes.now c.loop-i.i).0 (next_low (pairs_from c.args.bytes.now (suc c.loop-i.i) (c.args.count - suc c.loop-i.i)) (high_of c.args.high))) (children_plan (under_plan (g.S.EawStore.view c.args.pages.now.store).shape c.args.front.now c.args.root.page c.args.root.table (c.args.level - 1)) (pairs_from c.args.bytes.now (suc c.loop-i.i) (c.args.count - suc c.loop-i.i)) (high_of c.args.high)) c.in-Err.fault (subst (λ (ps : List Pair). SoFar g.S.EawStore.tells (g.S.EawStore.calls c.args.pages.now.store) (g.S.EawStore.calls c.loop-i.pages.store) (children_plan (under_plan (g.S.EawStore.view c.args.pages.now.store).shape c.args.front.now c.args.root.page c.args.root.table (c.args.level - 1)) ps (high_of c.args.high)) (children_plan (under_plan (g.S.EawStore.view c.args.pages.now.store).shape c.args.front.now c.args.root.page c.args.root.table (c.args.level - 1)) (pairs_said c.args.bytes.now) (high_of c.args.high)) (g.S.EawStore.view c.args.pages.now.store) (g.S.EawStore.view c.loop-i.pages.store)) (from_step c.args.bytes.now c.loop-i.i c.args.count c.loop-i-test.true) c.loop-i.invariant.tests)
+    (subst (λ (s : Shape). Tries g.S.EawStore.tells (g.S.EawStore.calls c.loop-i.pages.store) (g.S.EawStore.calls c.check_under.new.pages.store) (under_plan s c.args.front.now c.args.root.page c.args.root.table (c.args.level - 1) (pair_said c.args.bytes.now c.loop-i.i).1 (pair_said c.args.bytes.now c.loop-i.i).0 (next_low (pairs_from c.args.bytes.now (suc c.loop-i.i) (c.args.count - suc c.loop-i.i)) (high_of c.args.high))) (g.S.EawStore.view c.loop-i.pages.store) (g.S.EawStore.view c.check_under.new.pages.store) r) c.loop-i.invariant.looks.shape
+    (subst (λ (h : ℕ). Tries g.S.EawStore.tells (g.S.EawStore.calls c.loop-i.pages.store) (g.S.EawStore.calls c.check_under.new.pages.store) (under_plan (g.S.EawStore.view c.loop-i.pages.store).shape c.args.front.now c.args.root.page c.args.root.table (c.args.level - 1) (pair_said c.args.bytes.now c.loop-i.i).1 (pair_said c.args.bytes.now c.loop-i.i).0 h) (g.S.EawStore.view c.loop-i.pages.store) (g.S.EawStore.view c.check_under.new.pages.store) r) c.end_of.ensures
+    (subst (λ (p : Pair). Tries g.S.EawStore.tells (g.S.EawStore.calls c.loop-i.pages.store) (g.S.EawStore.calls c.check_under.new.pages.store) (under_plan (g.S.EawStore.view c.loop-i.pages.store).shape c.args.front.now c.args.root.page c.args.root.table (c.args.level - 1) p.1 p.0 (high_of c.end_of.result)) (g.S.EawStore.view c.loop-i.pages.store) (g.S.EawStore.view c.check_under.new.pages.store) r) c.read_pair-low.ensures.pair c.in-Err.ensures.tests)))
+
+pub check_children-returns-clause-tests : goal.check_children-returns-clause-tests
+check_children-returns-clause-tests g t c =
+    so_passes tt (subst (λ (ps : List Pair). SoFar g.S.EawStore.tells (g.S.EawStore.calls c.args.pages.now.store) (g.S.EawStore.calls c.loop-i.pages.store) (children_plan (under_plan (g.S.EawStore.view c.args.pages.now.store).shape c.args.front.now c.args.root.page c.args.root.table (c.args.level - 1)) ps (high_of c.args.high)) (children_plan (under_plan (g.S.EawStore.view c.args.pages.now.store).shape c.args.front.now c.args.root.page c.args.root.table (c.args.level - 1)) (pairs_said c.args.bytes.now) (high_of c.args.high)) (g.S.EawStore.view c.args.pages.now.store) (g.S.EawStore.view c.loop-i.pages.store)) (from_end c.args.bytes.now c.loop-i.i c.args.count c.loop-i-test.false) c.loop-i.invariant.tests)
+
+pub check_page-returns-in_default-clause-tests : goal.check_page-returns-in_default-clause-tests
+check_page-returns-in_default-clause-tests g t c = page_bad g.S.EawStore.tells (g.S.EawStore.calls c.args.pages.now.store) (g.S.EawStore.view c.args.pages.now.store).shape c.args.front.now c.args.root.page c.args.root.table c.args.spot.page c.args.spot.low (high_of c.args.spot.high) c.args.bytes.now (g.S.EawStore.view c.args.pages.now.store) c.args.level (λ is leaf. c.in_default.ensures.other leaf.node) (λ some inner. c.in_default.ensures.other inner.node)
+
+pub check_page-returns-then-head-level-clause-tests : goal.check_page-returns-then-head-level-clause-tests
+check_page-returns-then-head-level-clause-tests g t c = page_bad g.S.EawStore.tells (g.S.EawStore.calls c.args.pages.now.store) (g.S.EawStore.view c.args.pages.now.store).shape c.args.front.now c.args.root.page c.args.root.table c.args.spot.page c.args.spot.low (high_of c.args.spot.high) c.args.bytes.now (g.S.EawStore.view c.args.pages.now.store) c.args.level
+    (λ is leaf. c.if-head-level.true (c.in-Some.ensures.says.level ∙ leaf.level ∙ sym is)) (λ some inner. c.if-head-level.true (c.in-Some.ensures.says.level ∙ inner.level_is))
+
+pub check_page-returns-then-not-is_leaf-clause-tests : goal.check_page-returns-then-not-is_leaf-clause-tests
+check_page-returns-then-not-is_leaf-clause-tests g t c = page_bad g.S.EawStore.tells (g.S.EawStore.calls c.args.pages.now.store) (g.S.EawStore.view c.args.pages.now.store).shape c.args.front.now c.args.root.page c.args.root.table c.args.spot.page c.args.spot.low (high_of c.args.spot.high) c.args.bytes.now (g.S.EawStore.view c.args.pages.now.store) c.args.level (λ is leaf. false≢true (c.if-not-is_leaf.ensures.1 (leaf.some, leaf.rises))) (λ some inner. absurd (some c.if-level-eq0.true))
+
+pub check_page-returns-then-not-is_inner-clause-tests : goal.check_page-returns-then-not-is_inner-clause-tests
+check_page-returns-then-not-is_inner-clause-tests g t c = page_bad g.S.EawStore.tells (g.S.EawStore.calls c.args.pages.now.store) (g.S.EawStore.view c.args.pages.now.store).shape c.args.front.now c.args.root.page c.args.root.table c.args.spot.page c.args.spot.low (high_of c.args.spot.high) c.args.bytes.now (g.S.EawStore.view c.args.pages.now.store) c.args.level (λ is leaf. absurd (c.if-level-eq0.false is)) (λ some inner. false≢true (c.if-not-is_inner.ensures.1 (inner.first, inner.rises, inner.children)))
+
+pub check_page-returns-then-level-eq0-clause-tests : goal.check_page-returns-then-level-eq0-clause-tests
+check_page-returns-then-level-eq0-clause-tests g t c =
+    let tests = c.if-not-is_leaf.ensures.0 refl in
+    page_leaf g.S.EawStore.tells (g.S.EawStore.calls c.args.pages.now.store) (g.S.EawStore.view c.args.pages.now.store).shape c.args.front.now c.args.root.page c.args.root.table c.args.spot.page c.args.spot.low (high_of c.args.spot.high) c.args.bytes.now (g.S.EawStore.view c.args.pages.now.store) (g.S.EawStore.calls c.check_slots.new.pages.store) (g.S.EawStore.view c.check_slots.new.pages.store) c.check_slots.result c.args.level c.if-level-eq0.true
+    (record { node = c.in-Some.ensures.says.node; level = sym c.in-Some.ensures.says.level ∙ c.if-head-level.false ∙ c.if-level-eq0.true; some = tests.0; rises = tests.1 }) c.check_slots.ensures.tests
+
+pub check_page-returns-clause-tests : goal.check_page-returns-clause-tests
+check_page-returns-clause-tests g t c =
+    let tests = c.if-not-is_inner.ensures.0 refl in
+    page_inner g.S.EawStore.tells (g.S.EawStore.calls c.args.pages.now.store) (g.S.EawStore.view c.args.pages.now.store).shape c.args.front.now c.args.root.page c.args.root.table c.args.spot.page c.args.spot.low (high_of c.args.spot.high) c.args.bytes.now (g.S.EawStore.view c.args.pages.now.store) (g.S.EawStore.calls c.check_children.new.pages.store) (g.S.EawStore.view c.check_children.new.pages.store) c.check_children.result c.args.level c.if-level-eq0.false
+    (record { node = c.in-Some.ensures.says.node; level_is = sym c.in-Some.ensures.says.level ∙ c.if-head-level.false; first = tests.0; rises = tests.1; children = tests.2 }) c.check_children.ensures.tests

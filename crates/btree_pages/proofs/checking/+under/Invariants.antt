@@ -8,6 +8,8 @@ use Rattle.index_pages.specs.Pieces.{joined}
 use Rattle.index_pages.proofs.Gathered.{RowsLeft}
 use Rattle.btree_laws.specs.Tree.{AreChildren, pieces_with, pairs_under}
 use Rattle.btree_pages.proofs.Checks.{ChildrenLeft}
+use Rattle.index_pages.proofs.Trying.{SoFar}
+use Rattle.btree_pages.specs.Testing.{children_plan, under_plan}
 use Rattle.btree_pages.proofs.checking.+under.Given as goal
 
 abbrev pub decreases-check_under : goal.decreases-check_under
@@ -31,4 +33,8 @@ invariant-check_children-loop-i g l = record {
       (joined (pieces_with (pairs_under (l.level - 1) (g.S.EawStore.view l.fn.pages.store).state.bytes) (pairs_from l.bytes l.i (l.count - l.i))));
   left : IsTrue g.S.EawStore.tells → IsFrontOf (g.S.EawStore.view l.fn.pages.store).state.bytes l.front
       → ChildrenLeft l.root (l.level - 1) (g.S.EawStore.view l.fn.pages.store).state.bytes (pairs_said l.bytes) (pairs_from l.bytes l.i (l.count - l.i)) (high_of l.high);
+  tests : SoFar g.S.EawStore.tells (g.S.EawStore.calls l.fn.pages.store) (g.S.EawStore.calls l.pages.store)
+      (children_plan (under_plan (g.S.EawStore.view l.fn.pages.store).shape l.front l.root.page l.root.table (l.level - 1)) (pairs_from l.bytes l.i (l.count - l.i)) (high_of l.high))
+      (children_plan (under_plan (g.S.EawStore.view l.fn.pages.store).shape l.front l.root.page l.root.table (l.level - 1)) (pairs_said l.bytes) (high_of l.high))
+      (g.S.EawStore.view l.fn.pages.store) (g.S.EawStore.view l.pages.store);
 }

@@ -14,6 +14,14 @@ use Rattle.index_pages.proofs.Looking.{looks_next}
 use Rattle.page_store.specs.Records.{records_of}
 use Rattle.btree_pages.specs.Index.{tree, tree_of}
 use Rattle.index_pages.proofs.Tests.{check_looks, dead_told, super_fails, lists_fail, tables_tell}
+use Rattle.std.proofs.Common.{ℕ, List}
+use Rattle.record_slots.specs.Super.{tables_in}
+use Rattle.page_store.specs.Index.{index_pages_of}
+use Rattle.index_pages.specs.Plans.{Tries, lists_plan, tables_plan, front_said}
+use Rattle.index_pages.proofs.Causing.{still_same}
+use Rattle.index_pages.proofs.Trying.{SoFar, so_first, so_then, so_fails, so_ends, tests_of, owns_index, front_read, front_err}
+use Rattle.btree_pages.specs.Testing.{tree_plan, tree_testing}
+use Rattle.btree_pages.proofs.Testing.{owns_tree}
 use Rattle.btree_pages.proofs.checking.check.Goals as goal
 
 pub returns-in-Err-clause-looks : goal.returns-in-Err-clause-looks
@@ -81,3 +89,19 @@ returns-clause-records g c = λ told.
     let same = (c.in-Ok-check_lists.ensures.looks.still refl).state told ∙ (c.in-Ok.ensures.looks.still refl).state told in
     subst (λ (s : State). OnOk c.check_tables.result (c.check_tables.new.tables ≡ c.args.tables.now ++ records_of tree s.bytes)) same
     (c.check_tables.ensures.records told (subst (λ (s : State). SaysSuper (page_bytes s.bytes 0) c.in-Ok.front) (sym same) (c.in-Ok.ensures.says told)))
+
+pub returns-in-Err-clause-tests : goal.returns-in-Err-clause-tests
+returns-in-Err-clause-tests g c =
+    tests_of (tree_testing (g.S.EawStore.view c.args.pages.now.store).shape) _ (owns_index 1 tree_plan (g.S.EawStore.view c.args.pages.now.store).shape (owns_tree (g.S.EawStore.view c.args.pages.now.store).shape)) (front_err 1 tree_plan g.S.EawStore.tells (g.S.EawStore.calls c.args.pages.now.store) (g.S.EawStore.calls c.check_super.new.pages.store) (g.S.EawStore.view c.args.pages.now.store).shape (g.S.EawStore.view c.args.pages.now.store) (g.S.EawStore.view c.check_super.new.pages.store) c.in-Err.ensures.reads.0 (page_bytes (g.S.EawStore.view c.args.pages.now.store).state.bytes 0) c.in-Err.fault c.check_fault.result c.check_fault.ensures (IsSuper 1 (g.S.EawStore.view c.args.pages.now.store).state.bytes) c.in-Err.ensures.cause c.in-Err.ensures.reads.1 c.in-Err.ensures.reads.2)
+
+pub returns-in-Err-check_lists-clause-tests : goal.returns-in-Err-check_lists-clause-tests
+returns-in-Err-check_lists-clause-tests g c =
+    let r : Result (Unit {0}) CheckFault = Err c.in-Err-check_lists.fault in
+    tests_of (tree_testing (g.S.EawStore.view c.args.pages.now.store).shape) _ (owns_index 1 tree_plan (g.S.EawStore.view c.args.pages.now.store).shape (owns_tree (g.S.EawStore.view c.args.pages.now.store).shape)) (so_fails (c.in-Ok.ensures.looks.still refl) c.in-Ok.ensures.looks.shape (lists_plan (index_pages_of (g.S.EawStore.view c.args.pages.now.store).shape) c.in-Ok.front) (tables_plan c.in-Ok.front.next_page (tree_plan (g.S.EawStore.view c.args.pages.now.store).shape c.in-Ok.front) 0 (tables_in c.in-Ok.front.version c.in-Ok.front.entries)) c.in-Err-check_lists.fault (front_read 1 tree_plan g.S.EawStore.tells (g.S.EawStore.calls c.args.pages.now.store) (g.S.EawStore.calls c.check_super.new.pages.store) (g.S.EawStore.view c.args.pages.now.store).shape (g.S.EawStore.view c.args.pages.now.store) (g.S.EawStore.view c.check_super.new.pages.store) c.in-Ok.ensures.reads.0 c.in-Ok.front c.in-Ok.ensures.reads.1 c.in-Ok.ensures.reads.2) (subst (λ (s : Shape). Tries g.S.EawStore.tells (g.S.EawStore.calls c.check_super.new.pages.store) (g.S.EawStore.calls c.check_lists.new.pages.store) (lists_plan (index_pages_of s) c.in-Ok.front) (g.S.EawStore.view c.check_super.new.pages.store) (g.S.EawStore.view c.check_lists.new.pages.store) r) c.in-Ok.ensures.looks.shape c.in-Err-check_lists.ensures.tests))
+
+pub returns-clause-tests : goal.returns-clause-tests
+returns-clause-tests g c =
+    let r : Result (Unit {0}) CheckFault = Ok tt in
+    tests_of (tree_testing (g.S.EawStore.view c.args.pages.now.store).shape) _ (owns_index 1 tree_plan (g.S.EawStore.view c.args.pages.now.store).shape (owns_tree (g.S.EawStore.view c.args.pages.now.store).shape))
+    (so_ends ((looks_next g.S.EawStore.tells g.S.EawStore.opens false (pages_of (g.S.EawStore.view c.args.pages.now.store) c.args.pages.now) (pages_of (g.S.EawStore.view c.check_super.new.pages.store) c.check_super.new.pages) (pages_of (g.S.EawStore.view c.check_lists.new.pages.store) c.check_lists.new.pages) c.in-Ok.ensures.looks c.in-Ok-check_lists.ensures.looks).still refl) (looks_next g.S.EawStore.tells g.S.EawStore.opens false (pages_of (g.S.EawStore.view c.args.pages.now.store) c.args.pages.now) (pages_of (g.S.EawStore.view c.check_super.new.pages.store) c.check_super.new.pages) (pages_of (g.S.EawStore.view c.check_lists.new.pages.store) c.check_lists.new.pages) c.in-Ok.ensures.looks c.in-Ok-check_lists.ensures.looks).shape (tables_plan c.in-Ok.front.next_page (tree_plan (g.S.EawStore.view c.args.pages.now.store).shape c.in-Ok.front) 0 (tables_in c.in-Ok.front.version c.in-Ok.front.entries)) c.check_tables.result (so_then (c.in-Ok.ensures.looks.still refl) c.in-Ok.ensures.looks.shape (lists_plan (index_pages_of (g.S.EawStore.view c.args.pages.now.store).shape) c.in-Ok.front) (tables_plan c.in-Ok.front.next_page (tree_plan (g.S.EawStore.view c.args.pages.now.store).shape c.in-Ok.front) 0 (tables_in c.in-Ok.front.version c.in-Ok.front.entries)) tt (front_read 1 tree_plan g.S.EawStore.tells (g.S.EawStore.calls c.args.pages.now.store) (g.S.EawStore.calls c.check_super.new.pages.store) (g.S.EawStore.view c.args.pages.now.store).shape (g.S.EawStore.view c.args.pages.now.store) (g.S.EawStore.view c.check_super.new.pages.store) c.in-Ok.ensures.reads.0 c.in-Ok.front c.in-Ok.ensures.reads.1 c.in-Ok.ensures.reads.2) (subst (λ (s : Shape). Tries g.S.EawStore.tells (g.S.EawStore.calls c.check_super.new.pages.store) (g.S.EawStore.calls c.check_lists.new.pages.store) (lists_plan (index_pages_of s) c.in-Ok.front) (g.S.EawStore.view c.check_super.new.pages.store) (g.S.EawStore.view c.check_lists.new.pages.store) r) c.in-Ok.ensures.looks.shape c.in-Ok-check_lists.ensures.tests))
+    (subst (λ (s : Shape). Tries g.S.EawStore.tells (g.S.EawStore.calls c.check_lists.new.pages.store) (g.S.EawStore.calls c.check_tables.new.pages.store) (tables_plan c.in-Ok.front.next_page (tree_plan s c.in-Ok.front) 0 (tables_in c.in-Ok.front.version c.in-Ok.front.entries)) (g.S.EawStore.view c.check_lists.new.pages.store) (g.S.EawStore.view c.check_tables.new.pages.store) c.check_tables.result) (c.in-Ok-check_lists.ensures.looks.shape ∙ c.in-Ok.ensures.looks.shape) c.check_tables.ensures.tests))

@@ -15,6 +15,12 @@ use Rattle.index_pages.specs.Slots.{slot_check, IsVerdict}
 use Rattle.page_store.specs.Records.{row_of}
 use Rattle.index_pages.proofs.Gathered.{RowsLeft, left_row, left_none}
 use Rattle.btree_pages.proofs.Checks.{whole_left, SlotsLeft, slots_step, slots_fail}
+use Rattle.std.specs.Option.{option_map}
+use Rattle.page_store.specs.Course.{Reading}
+use Rattle.page_store.specs.Index.{index_pages_of}
+use Rattle.page_store.specs.Tested.{Plan}
+use Rattle.index_pages.specs.Plans.{Tries, slot_plan, slots_plan, held_of, held_after}
+use Rattle.index_pages.proofs.Trying.{SoFar, so_first, so_passes, so_slot, so_slot_err, slots_stop}
 use Rattle.btree_pages.proofs.checking.check_slots.Goals as goal
 
 pub loop-i-init : goal.loop-i-init
@@ -27,6 +33,9 @@ loop-i-init g c =
       held = λ told. subst (λ (o : Option ℕ). AreOf view.state.bytes c.none-held.result.bytes o) (sym c.none-held.ensures) tt;
       left = λ told slots. subst (λ (ps : List Pair). SlotsLeft view.state.bytes c.args.table c.args.page (pairs_said c.args.bytes.now) ps) (whole_left c.args.bytes.now c.args.count c.requires.count)
           (λ verdict told. told);
+      tests =
+          subst (λ (o : Option Reading). SoFar g.S.EawStore.tells (g.S.EawStore.calls c.args.pages.now.store) (g.S.EawStore.calls c.args.pages.now.store) (slots_plan (index_pages_of (g.S.EawStore.view c.args.pages.now.store).shape) c.args.slots c.args.table c.args.page o (pairs_from c.args.bytes.now 0 (c.args.count - 0))) (slots_plan (index_pages_of (g.S.EawStore.view c.args.pages.now.store).shape) c.args.slots c.args.table c.args.page None (pairs_said c.args.bytes.now)) (g.S.EawStore.view c.args.pages.now.store) (g.S.EawStore.view c.args.pages.now.store)) (sym (ap (λ (o : Option ℕ). option_map (λ page. (page, c.none-held.result.bytes)) o) c.none-held.ensures))
+          (subst (λ (ps : List Pair). SoFar g.S.EawStore.tells (g.S.EawStore.calls c.args.pages.now.store) (g.S.EawStore.calls c.args.pages.now.store) (slots_plan (index_pages_of (g.S.EawStore.view c.args.pages.now.store).shape) c.args.slots c.args.table c.args.page None ps) (slots_plan (index_pages_of (g.S.EawStore.view c.args.pages.now.store).shape) c.args.slots c.args.table c.args.page None (pairs_said c.args.bytes.now)) (g.S.EawStore.view c.args.pages.now.store) (g.S.EawStore.view c.args.pages.now.store)) (whole_left c.args.bytes.now c.args.count c.requires.count) (so_first (slots_plan (index_pages_of (g.S.EawStore.view c.args.pages.now.store).shape) c.args.slots c.args.table c.args.page None (pairs_said c.args.bytes.now))));
     }
 
 pub check_slot-requires : goal.check_slot-requires
@@ -79,6 +88,14 @@ loop-i-preserved g c =
           let on : suc c.loop-i.i ≡ c.loop-i.i + 1 = omega arith in
           subst (λ (n : ℕ). SlotsLeft view.state.bytes c.args.table c.args.page (pairs_said c.args.bytes.now) (pairs_from c.args.bytes.now n (c.args.count - n))) on
           (slots_step view.state.bytes c.args.table c.args.page (pairs_said c.args.bytes.now) (pair_said c.args.bytes.now c.loop-i.i) rest left cause');
+      tests =
+          let on : suc c.loop-i.i ≡ c.loop-i.i + 1 = omega arith in
+          let r : Result (Unit {0}) CheckFault = Ok tt in
+          subst (λ (n : ℕ). SoFar g.S.EawStore.tells (g.S.EawStore.calls c.args.pages.now.store) (g.S.EawStore.calls c.check_slot.new.pages.store) (slots_plan (index_pages_of (g.S.EawStore.view c.args.pages.now.store).shape) c.args.slots c.args.table c.args.page (held_of c.check_slot.new.held) (pairs_from c.args.bytes.now n (c.args.count - n))) (slots_plan (index_pages_of (g.S.EawStore.view c.args.pages.now.store).shape) c.args.slots c.args.table c.args.page None (pairs_said c.args.bytes.now)) (g.S.EawStore.view c.args.pages.now.store) (g.S.EawStore.view c.check_slot.new.pages.store)) on
+          (so_slot (index_pages_of (g.S.EawStore.view c.args.pages.now.store).shape) c.args.slots c.args.table c.args.page (held_of c.loop-i.held) (pair_said c.args.bytes.now c.loop-i.i) (λ (now : Option Reading). slots_plan (index_pages_of (g.S.EawStore.view c.args.pages.now.store).shape) c.args.slots c.args.table c.args.page now (pairs_from c.args.bytes.now (suc c.loop-i.i) (c.args.count - suc c.loop-i.i))) (c.loop-i.invariant.looks.still refl) c.loop-i.invariant.looks.shape
+          (subst (λ (ps : List Pair). SoFar g.S.EawStore.tells (g.S.EawStore.calls c.args.pages.now.store) (g.S.EawStore.calls c.loop-i.pages.store) (slots_plan (index_pages_of (g.S.EawStore.view c.args.pages.now.store).shape) c.args.slots c.args.table c.args.page (held_of c.loop-i.held) ps) (slots_plan (index_pages_of (g.S.EawStore.view c.args.pages.now.store).shape) c.args.slots c.args.table c.args.page None (pairs_said c.args.bytes.now)) (g.S.EawStore.view c.args.pages.now.store) (g.S.EawStore.view c.loop-i.pages.store)) (from_step c.args.bytes.now c.loop-i.i c.args.count c.loop-i-test.true) c.loop-i.invariant.tests) tt c.check_slot.new.held
+          (subst (λ (n : ℕ). Tries g.S.EawStore.tells (g.S.EawStore.calls c.loop-i.pages.store) (g.S.EawStore.calls c.check_slot.new.pages.store) (slot_plan n c.args.slots c.args.table c.args.page (held_of c.loop-i.held) (pair_said c.args.bytes.now c.loop-i.i) (held_after r c.check_slot.new.held)) (g.S.EawStore.view c.loop-i.pages.store) (g.S.EawStore.view c.check_slot.new.pages.store) r) (ap index_pages_of c.loop-i.invariant.looks.shape)
+          (subst (λ (p : Pair). Tries g.S.EawStore.tells (g.S.EawStore.calls c.loop-i.pages.store) (g.S.EawStore.calls c.check_slot.new.pages.store) (slot_plan (index_pages_of (g.S.EawStore.view c.loop-i.pages.store).shape) c.args.slots c.args.table c.args.page (held_of c.loop-i.held) p (held_after r c.check_slot.new.held)) (g.S.EawStore.view c.loop-i.pages.store) (g.S.EawStore.view c.check_slot.new.pages.store) r) c.read_pair-pair.ensures.pair c.in-Ok.ensures.tests)));
     }
 
 pub returns-clause-cause : goal.returns-clause-cause
@@ -96,3 +113,15 @@ pub returns-in-Err-clause-looks : goal.returns-in-Err-clause-looks
 returns-in-Err-clause-looks g c =
     looks_next g.S.EawStore.tells g.S.EawStore.opens _ (pages_of (g.S.EawStore.view c.args.pages.now.store) c.args.pages.now) (pages_of (g.S.EawStore.view c.loop-i.pages.store) c.loop-i.pages)
     (pages_of (g.S.EawStore.view c.check_slot.new.pages.store) c.check_slot.new.pages) c.loop-i.invariant.looks c.in-Err.ensures.looks
+
+pub returns-in-Err-clause-tests : goal.returns-in-Err-clause-tests
+returns-in-Err-clause-tests g c =
+    let r : Result (Unit {0}) CheckFault = Err c.in-Err.fault in
+    so_slot_err (index_pages_of (g.S.EawStore.view c.args.pages.now.store).shape) c.args.slots c.args.table c.args.page (held_of c.loop-i.held) (pair_said c.args.bytes.now c.loop-i.i) (λ (now : Option Reading). slots_plan (index_pages_of (g.S.EawStore.view c.args.pages.now.store).shape) c.args.slots c.args.table c.args.page now (pairs_from c.args.bytes.now (suc c.loop-i.i) (c.args.count - suc c.loop-i.i))) (c.loop-i.invariant.looks.still refl) c.loop-i.invariant.looks.shape
+    (subst (λ (ps : List Pair). SoFar g.S.EawStore.tells (g.S.EawStore.calls c.args.pages.now.store) (g.S.EawStore.calls c.loop-i.pages.store) (slots_plan (index_pages_of (g.S.EawStore.view c.args.pages.now.store).shape) c.args.slots c.args.table c.args.page (held_of c.loop-i.held) ps) (slots_plan (index_pages_of (g.S.EawStore.view c.args.pages.now.store).shape) c.args.slots c.args.table c.args.page None (pairs_said c.args.bytes.now)) (g.S.EawStore.view c.args.pages.now.store) (g.S.EawStore.view c.loop-i.pages.store)) (from_step c.args.bytes.now c.loop-i.i c.args.count c.loop-i-test.true) c.loop-i.invariant.tests) c.in-Err.fault (λ now. slots_stop _ _ _ _ _ now)
+    (subst (λ (n : ℕ). Tries g.S.EawStore.tells (g.S.EawStore.calls c.loop-i.pages.store) (g.S.EawStore.calls c.check_slot.new.pages.store) (slot_plan n c.args.slots c.args.table c.args.page (held_of c.loop-i.held) (pair_said c.args.bytes.now c.loop-i.i) (held_after r c.check_slot.new.held)) (g.S.EawStore.view c.loop-i.pages.store) (g.S.EawStore.view c.check_slot.new.pages.store) r) (ap index_pages_of c.loop-i.invariant.looks.shape)
+          (subst (λ (p : Pair). Tries g.S.EawStore.tells (g.S.EawStore.calls c.loop-i.pages.store) (g.S.EawStore.calls c.check_slot.new.pages.store) (slot_plan (index_pages_of (g.S.EawStore.view c.loop-i.pages.store).shape) c.args.slots c.args.table c.args.page (held_of c.loop-i.held) p (held_after r c.check_slot.new.held)) (g.S.EawStore.view c.loop-i.pages.store) (g.S.EawStore.view c.check_slot.new.pages.store) r) c.read_pair-pair.ensures.pair c.in-Err.ensures.tests))
+
+pub returns-clause-tests : goal.returns-clause-tests
+returns-clause-tests g c =
+    so_passes tt (subst (λ (ps : List Pair). SoFar g.S.EawStore.tells (g.S.EawStore.calls c.args.pages.now.store) (g.S.EawStore.calls c.loop-i.pages.store) (slots_plan (index_pages_of (g.S.EawStore.view c.args.pages.now.store).shape) c.args.slots c.args.table c.args.page (held_of c.loop-i.held) ps) (slots_plan (index_pages_of (g.S.EawStore.view c.args.pages.now.store).shape) c.args.slots c.args.table c.args.page None (pairs_said c.args.bytes.now)) (g.S.EawStore.view c.args.pages.now.store) (g.S.EawStore.view c.loop-i.pages.store)) (from_end c.args.bytes.now c.loop-i.i c.args.count c.loop-i-test.false) c.loop-i.invariant.tests)

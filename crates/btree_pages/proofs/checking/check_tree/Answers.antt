@@ -14,6 +14,12 @@ use Rattle.btree_laws.specs.Tree.{tree_check, tree_from, pairs_under, pairs_of_t
 use Rattle.btree_pages.specs.Checked.{IsFrontOf}
 use Rattle.btree_pages.proofs.Checks.{level_fails, level_passes}
 use Rattle.index_pages.proofs.Tests.{not_damaged, told_looks, told_verdict, told_dead}
+use Rattle.std.proofs.Common.{◌≤◌, List, arith}
+use Rattle.index_pages.specs.Plans.{Tries}
+use Rattle.page_store.specs.Tested.{Plan, holding}
+use Rattle.index_pages.proofs.Causing.{still_same}
+use Rattle.index_pages.proofs.Trying.{SoFar, so_first, so_holds, so_bad, so_ends, so_page, so_page_err}
+use Rattle.btree_pages.specs.Testing.{page_plan, tree_plan}
 use Rattle.btree_pages.proofs.checking.check_tree.Goals as goal
 
 pub returns-in-Err-clause-looks : goal.returns-in-Err-clause-looks
@@ -65,3 +71,18 @@ returns-clause-rows g c = λ told.
     subst (λ (l : ℕ). OnOk c.check_page.result (c.check_page.new.rows ≡ c.args.rows.now ++ rows_of (g.S.EawStore.view c.args.pages.now.store).state.bytes (pairs_under l (g.S.EawStore.view c.args.pages.now.store).state.bytes c.args.root.page))) level
     (subst (λ (s : State). OnOk c.check_page.result (c.check_page.new.rows ≡ c.args.rows.now ++ rows_of s.bytes (pairs_under c.level_in-level.result s.bytes c.args.root.page))) same
     (c.check_page.ensures.rows told (subst (λ (s : State). c.fetch_page.new.bytes ≡ page_bytes s.bytes c.args.root.page) (sym same) (c.in-Ok.ensures.bytes told))))
+
+pub returns-in-Err-clause-tests : goal.returns-in-Err-clause-tests
+returns-in-Err-clause-tests g c =
+    so_page_err (still_same g.S.EawStore.tells (g.S.EawStore.view c.args.pages.now.store)) refl (Unit {0}) c.args.root.page (λ said. holding (level_said said ≤ 7) c.args.root.page (page_plan (g.S.EawStore.view c.args.pages.now.store).shape c.args.front.now c.args.root.page c.args.root.table (level_said said) c.args.root.page 0 key_end said)) c.fetch_page.new.bytes (page_bytes (g.S.EawStore.view c.args.pages.now.store).state.bytes c.args.root.page) c.in-Err.fault c.check_fault.result c.check_fault.ensures (so_first (tree_plan (g.S.EawStore.view c.args.pages.now.store).shape c.args.front.now c.args.root.page c.args.root.table)) c.requires.alive c.in-Err.ensures.cause c.in-Err.ensures.reads
+
+pub returns-then-level-gt-LEVEL_MAX-clause-tests : goal.returns-then-level-gt-LEVEL_MAX-clause-tests
+returns-then-level-gt-LEVEL_MAX-clause-tests g c = so_bad _ _ _ (so_page (still_same g.S.EawStore.tells (g.S.EawStore.view c.args.pages.now.store)) refl c.args.root.page (λ said. holding (level_said said ≤ 7) c.args.root.page (page_plan (g.S.EawStore.view c.args.pages.now.store).shape c.args.front.now c.args.root.page c.args.root.table (level_said said) c.args.root.page 0 key_end said)) c.fetch_page.new.bytes (so_first (tree_plan (g.S.EawStore.view c.args.pages.now.store).shape c.args.front.now c.args.root.page c.args.root.table)) c.in-Ok.ensures.reads) (λ few. omega (arith, few, c.level_in-level.ensures, c.if-level-gt-LEVEL_MAX.true))
+
+pub returns-clause-tests : goal.returns-clause-tests
+returns-clause-tests g c =
+    let few : level_said c.fetch_page.new.bytes ≤ 7 = omega (arith, c.level_in-level.ensures, c.if-level-gt-LEVEL_MAX.false) in
+    so_ends (c.in-Ok.ensures.looks.still refl) c.in-Ok.ensures.looks.shape (page_plan (g.S.EawStore.view c.args.pages.now.store).shape c.args.front.now c.args.root.page c.args.root.table (level_said c.fetch_page.new.bytes) c.args.root.page 0 key_end c.fetch_page.new.bytes) c.check_page.result
+    (so_holds _ _ _ (so_page (still_same g.S.EawStore.tells (g.S.EawStore.view c.args.pages.now.store)) refl c.args.root.page (λ said. holding (level_said said ≤ 7) c.args.root.page (page_plan (g.S.EawStore.view c.args.pages.now.store).shape c.args.front.now c.args.root.page c.args.root.table (level_said said) c.args.root.page 0 key_end said)) c.fetch_page.new.bytes (so_first (tree_plan (g.S.EawStore.view c.args.pages.now.store).shape c.args.front.now c.args.root.page c.args.root.table)) c.in-Ok.ensures.reads) few)
+    (subst (λ (s : Shape). Tries g.S.EawStore.tells (g.S.EawStore.calls c.fetch_page.new.pages.store) (g.S.EawStore.calls c.check_page.new.pages.store) (page_plan s c.args.front.now c.args.root.page c.args.root.table (level_said c.fetch_page.new.bytes) c.args.root.page 0 key_end c.fetch_page.new.bytes) (g.S.EawStore.view c.fetch_page.new.pages.store) (g.S.EawStore.view c.check_page.new.pages.store) c.check_page.result) c.in-Ok.ensures.looks.shape
+    (subst (λ (l : ℕ). Tries g.S.EawStore.tells (g.S.EawStore.calls c.fetch_page.new.pages.store) (g.S.EawStore.calls c.check_page.new.pages.store) (page_plan (g.S.EawStore.view c.fetch_page.new.pages.store).shape c.args.front.now c.args.root.page c.args.root.table l c.args.root.page 0 key_end c.fetch_page.new.bytes) (g.S.EawStore.view c.fetch_page.new.pages.store) (g.S.EawStore.view c.check_page.new.pages.store) c.check_page.result) c.level_in-level.ensures c.check_page.ensures.tests))

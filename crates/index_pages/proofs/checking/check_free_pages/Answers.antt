@@ -10,6 +10,16 @@ use Rattle.index_pages.proofs.Members.{names_fail, rank_fails, rank_on, rank_is}
 use Rattle.index_pages.proofs.Tests.{check_looks}
 use Rattle.page_store.specs.Looks.{is_failed}
 use Rattle.page_store.specs.declared.fault.PageFault.{PageFault}
+use Rattle.std.proofs.Common.{suc, ◌*◌, ◌/◌, ◌%◌, List}
+use Rattle.page_store.specs.Index.{index_pages_of}
+use Rattle.page_store.specs.Tested.{Plan, Brings, holding, HasReadBytes}
+use Rattle.page_store.specs.Follows.{HasRead, one_reading}
+use Rattle.page_store.specs.declared.index_fault.CheckFault.{CheckFault}
+use Rattle.page_store.specs.declared.index_fault.CheckFault.TheVariants.{Damaged}
+use Rattle.record_slots.specs.Places.{page_bytes, slot_of}
+use Rattle.record_slots.specs.Free.{free_page_said}
+use Rattle.index_pages.specs.Plans.{Tries, list_plan, free_page_plan, free_pages_plan, one_excerpt}
+use Rattle.index_pages.proofs.Trying.{SoFar, so_first, so_holds, so_bad, so_passes, so_read, so_page, so_page_err, so_bytes_err, so_member, so_listed, so_ranked}
 use Rattle.index_pages.proofs.checking.check_free_pages.Goals as goal
 
 pub returns-then-named-le2-clause-cause : goal.returns-then-named-le2-clause-cause
@@ -57,6 +67,9 @@ loop-done-preserved g c =
           let next : c.in-Some.free.next ≡ next_of (free_page_of b (c.loop-done.named - 1)) = ap next_of (sym found) in
           inv.left told says verdict (rank_on (free_page_of b) (λ (p : ℕ). p) 2 front.next_page (front.free_pages - c.loop-done.done) (front.free_pages - (c.loop-done.done + 1)) c.loop-done.named c.loop-done.page (omega (arith, c.loop-done-test.true)) names rank verdict
           (subst (λ (n : ℕ). list_check (free_page_of b) (λ (p : ℕ). p) 2 front.next_page (front.free_pages - (c.loop-done.done + 1)) n (c.loop-done.named - 1) verdict) next rest));
+      tests =
+          so_ranked free_page_plan (λ page. page) 2 c.args.front.now.next_page (c.args.front.now.free_pages - c.loop-done.done) (c.args.front.now.free_pages - (c.loop-done.done + 1)) c.loop-done.named (free_page_said c.in-Ok.ensures.reads.0) c.in-Some.free c.in-Some.free.next (c.loop-done.named - 1) (let e : (c.args.front.now.free_pages - c.loop-done.done) ≡ suc (c.args.front.now.free_pages - (c.loop-done.done + 1)) = omega (arith, c.loop-done-test.true) in e) (so_page (c.loop-done.invariant.looks.still refl) c.loop-done.invariant.looks.shape (c.loop-done.named - 1) _ c.in-Ok.ensures.reads.0 (so_holds _ _ _ (so_member free_page_plan (λ page. page) 2 c.args.front.now.next_page (c.args.front.now.free_pages - c.loop-done.done) (c.args.front.now.free_pages - (c.loop-done.done + 1)) c.loop-done.named c.loop-done.page (let e : (c.args.front.now.free_pages - c.loop-done.done) ≡ suc (c.args.front.now.free_pages - (c.loop-done.done + 1)) = omega (arith, c.loop-done-test.true) in e) c.loop-done.invariant.tests) (omega (arith, c.if-named-le2.false), c.if-named-front.false)) c.in-Ok.ensures.reads.1)
+          (sym c.in-Ok.ensures.reads.2 ∙ c.in-Some.ensures.some.0) c.in-Some.ensures.some.1 refl refl;
     }
 
 pub loop-done-init : goal.loop-done-init
@@ -64,6 +77,7 @@ loop-done-init g c = record {
   looks = looks_none g.S.EawStore.tells (g.S.EawStore.opens (g.S.EawStore.view c.args.pages.now.store).shape) (pages_of (g.S.EawStore.view c.args.pages.now.store) c.args.pages.now);
   alive = c.requires.alive;
   left = search rules;
+  tests = subst (λ (n : ℕ). SoFar g.S.EawStore.tells (g.S.EawStore.calls c.args.pages.now.store) (g.S.EawStore.calls c.args.pages.now.store) (list_plan free_page_plan (λ page. page) 2 c.args.front.now.next_page n c.args.front.now.free_page 0) (free_pages_plan c.args.front.now) (g.S.EawStore.view c.args.pages.now.store) (g.S.EawStore.view c.args.pages.now.store)) (let e : c.args.front.now.free_pages ≡ c.args.front.now.free_pages - 0 = omega arith in e) (so_first (free_pages_plan c.args.front.now));
 }
 
 pub returns-in_default-clause-looks : goal.returns-in_default-clause-looks
@@ -75,3 +89,22 @@ returns-in-Err-clause-looks g c =
     let r : Result (Option Free) PageFault = Err c.in-Err.fault in
     check_looks (Option Free) g.S.EawStore.tells (g.S.EawStore.opens (g.S.EawStore.view c.args.pages.now.store).shape) (pages_of (g.S.EawStore.view c.args.pages.now.store) c.args.pages.now) (pages_of (g.S.EawStore.view c.fetch_free_page.new.pages.store) c.fetch_free_page.new.pages) c.in-Err.fault c.check_fault.result c.check_fault.ensures
     (looks_next g.S.EawStore.tells g.S.EawStore.opens (is_failed r) (pages_of (g.S.EawStore.view c.args.pages.now.store) c.args.pages.now) (pages_of (g.S.EawStore.view c.loop-done.pages.store) c.loop-done.pages) (pages_of (g.S.EawStore.view c.fetch_free_page.new.pages.store) c.fetch_free_page.new.pages) c.loop-done.invariant.looks c.in-Err.ensures.looks)
+
+pub returns-then-named-le2-clause-tests : goal.returns-then-named-le2-clause-tests
+returns-then-named-le2-clause-tests g c = so_bad _ _ _ (so_member free_page_plan (λ page. page) 2 c.args.front.now.next_page (c.args.front.now.free_pages - c.loop-done.done) (c.args.front.now.free_pages - (c.loop-done.done + 1)) c.loop-done.named c.loop-done.page (let e : (c.args.front.now.free_pages - c.loop-done.done) ≡ suc (c.args.front.now.free_pages - (c.loop-done.done + 1)) = omega (arith, c.loop-done-test.true) in e) c.loop-done.invariant.tests) (λ names. omega (arith, names.0, c.if-named-le2.true))
+
+pub returns-then-named-front-clause-tests : goal.returns-then-named-front-clause-tests
+returns-then-named-front-clause-tests g c = so_bad _ _ _ (so_member free_page_plan (λ page. page) 2 c.args.front.now.next_page (c.args.front.now.free_pages - c.loop-done.done) (c.args.front.now.free_pages - (c.loop-done.done + 1)) c.loop-done.named c.loop-done.page (let e : (c.args.front.now.free_pages - c.loop-done.done) ≡ suc (c.args.front.now.free_pages - (c.loop-done.done + 1)) = omega (arith, c.loop-done-test.true) in e) c.loop-done.invariant.tests) (λ names. omega (arith, names.1, c.if-named-front.true))
+
+pub returns-in-Err-clause-tests : goal.returns-in-Err-clause-tests
+returns-in-Err-clause-tests g c = so_page_err (c.loop-done.invariant.looks.still refl) c.loop-done.invariant.looks.shape (Option Free) (c.loop-done.named - 1) _ c.in-Err.ensures.reads.0 (page_bytes (g.S.EawStore.view c.loop-done.pages.store).state.bytes (c.loop-done.named - 1)) c.in-Err.fault c.check_fault.result c.check_fault.ensures (so_holds _ _ _ (so_member free_page_plan (λ page. page) 2 c.args.front.now.next_page (c.args.front.now.free_pages - c.loop-done.done) (c.args.front.now.free_pages - (c.loop-done.done + 1)) c.loop-done.named c.loop-done.page (let e : (c.args.front.now.free_pages - c.loop-done.done) ≡ suc (c.args.front.now.free_pages - (c.loop-done.done + 1)) = omega (arith, c.loop-done-test.true) in e) c.loop-done.invariant.tests) (omega (arith, c.if-named-le2.false), c.if-named-front.false)) c.loop-done.invariant.alive c.in-Err.ensures.cause c.in-Err.ensures.reads.1
+
+pub returns-in_default-clause-tests : goal.returns-in_default-clause-tests
+returns-in_default-clause-tests g c =
+    so_bad _ _ _ (so_page (c.loop-done.invariant.looks.still refl) c.loop-done.invariant.looks.shape (c.loop-done.named - 1) _ c.in-Ok.ensures.reads.0 (so_holds _ _ _ (so_member free_page_plan (λ page. page) 2 c.args.front.now.next_page (c.args.front.now.free_pages - c.loop-done.done) (c.args.front.now.free_pages - (c.loop-done.done + 1)) c.loop-done.named c.loop-done.page (let e : (c.args.front.now.free_pages - c.loop-done.done) ≡ suc (c.args.front.now.free_pages - (c.loop-done.done + 1)) = omega (arith, c.loop-done-test.true) in e) c.loop-done.invariant.tests) (omega (arith, c.if-named-le2.false), c.if-named-front.false)) c.in-Ok.ensures.reads.1) (λ ranked. c.in_default.ensures.none (subst (λ (o : Option Free). HasRank (c.args.front.now.free_pages - c.loop-done.done) o) (sym c.in-Ok.ensures.reads.2) (subst (λ (k : ℕ). HasRank k (free_page_said c.in-Ok.ensures.reads.0)) (sym (let e : (c.args.front.now.free_pages - c.loop-done.done) ≡ suc (c.args.front.now.free_pages - (c.loop-done.done + 1)) = omega (arith, c.loop-done-test.true) in e)) ranked)))
+
+pub returns-then-named-ne0-clause-tests : goal.returns-then-named-ne0-clause-tests
+returns-then-named-ne0-clause-tests g c = so_bad _ _ _ (so_listed free_page_plan (λ page. page) 2 c.args.front.now.next_page (c.args.front.now.free_pages - c.loop-done.done) c.loop-done.named c.loop-done.page (omega (arith, c.loop-done-test.false)) c.loop-done.invariant.tests) c.if-named-ne0.true
+
+pub returns-clause-tests : goal.returns-clause-tests
+returns-clause-tests g c = so_passes tt (so_holds _ _ _ (so_listed free_page_plan (λ page. page) 2 c.args.front.now.next_page (c.args.front.now.free_pages - c.loop-done.done) c.loop-done.named c.loop-done.page (omega (arith, c.loop-done-test.false)) c.loop-done.invariant.tests) c.if-named-ne0.false)

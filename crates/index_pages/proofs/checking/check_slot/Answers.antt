@@ -6,6 +6,18 @@ use Rattle.index_pages.proofs.Sizes.{slot_page_is}
 use Rattle.index_pages.proofs.Carrying.{carries_said, carries_not}
 use Rattle.page_store.specs.Shown.{pages_of}
 use Rattle.index_pages.proofs.Looking.{looks_none}
+use Rattle.std.proofs.Common.{◌≡◌, ◌+◌, ◌*◌, ◌/◌, ◌%◌, ◌<◌, ℕ, Ok, Err, Some, Result, refl, subst}
+use Rattle.mars_base.specs.Bytes.{range}
+use Rattle.record_slots.specs.Places.{IsOfKey}
+use Rattle.record_slots.specs.Slots.{slot_said}
+use Rattle.page_store.specs.Course.{Reading}
+use Rattle.page_store.specs.Index.{index_pages_of}
+use Rattle.page_store.specs.Tested.{Plan}
+use Rattle.page_store.specs.declared.index_fault.CheckFault.{CheckFault}
+use Rattle.page_store.specs.declared.index_fault.CheckFault.TheVariants.{Damaged}
+use Rattle.index_pages.specs.Plans.{Tries, held_of, slot_plan}
+use Rattle.index_pages.proofs.Causing.{still_same}
+use Rattle.index_pages.proofs.Trying.{slot_unnamed, slot_unread, slot_other, slot_holds, slot_no_memory}
 use Rattle.index_pages.proofs.checking.check_slot.Goals as goal
 
 pub returns-in-Ok-push_record-clause-cause : goal.returns-in-Ok-push_record-clause-cause
@@ -32,3 +44,31 @@ returns-then-not-is_of_key-clause-cause g c = λ told slots.
 
 pub returns-then-pair-from-clause-looks : goal.returns-then-pair-from-clause-looks
 returns-then-pair-from-clause-looks g c = looks_none g.S.EawStore.tells (g.S.EawStore.opens (g.S.EawStore.view c.args.pages.now.store).shape) (pages_of (g.S.EawStore.view c.args.pages.now.store) c.args.pages.now)
+
+pub returns-then-pair-from-clause-tests : goal.returns-then-pair-from-clause-tests
+returns-then-pair-from-clause-tests g c =
+    slot_unnamed g.S.EawStore.tells (g.S.EawStore.calls c.args.pages.now.store) (index_pages_of (g.S.EawStore.view c.args.pages.now.store).shape) c.args.slots c.args.table c.args.page c.args.held.now c.args.pair (g.S.EawStore.view c.args.pages.now.store)
+    (λ given. omega (arith, given, c.if-pair-from.true, c.from.ensures))
+
+pub returns-in-Err-clause-tests : goal.returns-in-Err-clause-tests
+returns-in-Err-clause-tests g c =
+    slot_unread g.S.EawStore.tells (g.S.EawStore.calls c.args.pages.now.store) (g.S.EawStore.calls c.fetch_held_slot.new.pages.store) (index_pages_of (g.S.EawStore.view c.args.pages.now.store).shape) c.args.slots c.args.table c.args.page c.args.held.now c.fetch_held_slot.new.held c.args.pair (g.S.EawStore.view c.args.pages.now.store) (g.S.EawStore.view c.fetch_held_slot.new.pages.store)
+    (omega (arith, c.if-pair-from.false, c.from.ensures)) (Option Slot) c.in-Err.fault c.check_fault.result c.check_fault.ensures c.requires.alive c.in-Err.ensures.cause c.in-Err.ensures.holds
+
+pub returns-then-not-is_of_key-clause-tests : goal.returns-then-not-is_of_key-clause-tests
+returns-then-not-is_of_key-clause-tests g c =
+    slot_other g.S.EawStore.tells (g.S.EawStore.calls c.args.pages.now.store) (g.S.EawStore.calls c.fetch_held_slot.new.pages.store) (index_pages_of (g.S.EawStore.view c.args.pages.now.store).shape) c.args.slots c.args.table c.args.page c.args.held.now c.fetch_held_slot.new.held c.args.pair (g.S.EawStore.view c.args.pages.now.store) (g.S.EawStore.view c.fetch_held_slot.new.pages.store)
+    (omega (arith, c.if-pair-from.false, c.from.ensures)) (Option Slot) c.in-Ok.said c.in-Ok.ensures.holds c.index_page_count-count.result c.index_page_count-count.ensures.count
+    (λ carries. false≢true (c.if-not-is_of_key.ensures.1 (subst (λ (o : Option Slot). IsOfKey c.args.table c.args.pair.0 o) (sym c.in-Ok.ensures.slot) carries)))
+
+pub returns-in-Ok-push_record-clause-tests : goal.returns-in-Ok-push_record-clause-tests
+returns-in-Ok-push_record-clause-tests g c =
+    slot_holds g.S.EawStore.tells (g.S.EawStore.calls c.args.pages.now.store) (g.S.EawStore.calls c.fetch_held_slot.new.pages.store) (index_pages_of (g.S.EawStore.view c.args.pages.now.store).shape) c.args.slots c.args.table c.args.page c.args.held.now c.fetch_held_slot.new.held c.args.pair (g.S.EawStore.view c.args.pages.now.store) (g.S.EawStore.view c.fetch_held_slot.new.pages.store)
+    (omega (arith, c.if-pair-from.false, c.from.ensures)) (Option Slot) c.in-Ok.said c.in-Ok.ensures.holds c.in-Ok.ensures.page
+    (subst (λ (o : Option Slot). IsOfKey c.args.table c.args.pair.0 o) c.in-Ok.ensures.slot (c.is_of_key.ensures.0 c.if-not-is_of_key.false))
+
+pub returns-in-Err-push_record-clause-tests : goal.returns-in-Err-push_record-clause-tests
+returns-in-Err-push_record-clause-tests g c =
+    slot_no_memory g.S.EawStore.tells (g.S.EawStore.calls c.args.pages.now.store) (g.S.EawStore.calls c.fetch_held_slot.new.pages.store) (index_pages_of (g.S.EawStore.view c.args.pages.now.store).shape) c.args.slots c.args.table c.args.page c.args.held.now c.fetch_held_slot.new.held c.args.pair (g.S.EawStore.view c.args.pages.now.store) (g.S.EawStore.view c.fetch_held_slot.new.pages.store)
+    (omega (arith, c.if-pair-from.false, c.from.ensures)) (Option Slot) c.in-Ok.said c.in-Ok.ensures.holds
+    (subst (λ (o : Option Slot). IsOfKey c.args.table c.args.pair.0 o) c.in-Ok.ensures.slot (c.is_of_key.ensures.0 c.if-not-is_of_key.false))

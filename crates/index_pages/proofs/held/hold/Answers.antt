@@ -1,4 +1,6 @@
-use Rattle.std.proofs.Common.{subst, refl, ℕ, Option}
+use Rattle.std.proofs.Common.{subst, refl, sym, ◌∙◌, ℕ, Option}
+use Rattle.std.proofs.lemmas.Bool.{false≢true}
+use Rattle.index_pages.proofs.Courses.{reads_none}
 use Rattle.index_pages.specs.Held.{AreOf}
 use Rattle.page_store.specs.Shown.{pages_of}
 use Rattle.index_pages.proofs.Looking.{looks_none}
@@ -11,3 +13,21 @@ returns-then-is_page-clause-bytes g c = λ told.
 
 pub returns-then-is_page-clause-looks : goal.returns-then-is_page-clause-looks
 returns-then-is_page-clause-looks g c = looks_none g.S.EawStore.tells (g.S.EawStore.opens (g.S.EawStore.view c.args.pages.now.store).shape) (pages_of (g.S.EawStore.view c.args.pages.now.store) c.args.pages.now)
+
+pub returns-then-is_page-clause-holds : goal.returns-then-is_page-clause-holds
+returns-then-is_page-clause-holds g c = record {
+  same = λ is. (refl, refl, reads_none g.S.EawStore.tells (g.S.EawStore.calls c.args.pages.now.store) (g.S.EawStore.view c.args.pages.now.store));
+  reads = λ other. absurd (other (c.is_page.ensures.0 c.if-is_page.true));
+}
+
+pub returns-in-Ok-clause-holds : goal.returns-in-Ok-clause-holds
+returns-in-Ok-clause-holds g c = record {
+  same = λ is. absurd (false≢true (sym c.if-is_page.false ∙ c.is_page.ensures.1 is));
+  reads = λ other. c.in-Ok.ensures.reads;
+}
+
+pub returns-in-Err-clause-holds : goal.returns-in-Err-clause-holds
+returns-in-Err-clause-holds g c = record {
+  same = λ is. absurd (false≢true (sym c.if-is_page.false ∙ c.is_page.ensures.1 is));
+  reads = λ other. c.in-Err.ensures.reads;
+}

@@ -17,6 +17,14 @@ use Rattle.page_store.specs.Records.{row_of}
 use Rattle.index_pages.proofs.Gathered.{RowsLeft, left_row, left_none}
 use Rattle.key_list.proofs.Testing.{PairsLeft, left_step, left_fails}
 use Rattle.page_store.specs.Looks.{is_check_failed}
+use Rattle.std.specs.Option.{option_map}
+use Rattle.page_store.specs.Course.{Reading}
+use Rattle.page_store.specs.Index.{index_pages_of}
+use Rattle.page_store.specs.Tested.{Plan, holding}
+use Rattle.index_pages.specs.Plans.{Tries, slot_plan, held_of, held_after}
+use Rattle.index_pages.proofs.Trying.{SoFar, so_first, so_passes}
+use Rattle.key_list.specs.Tried.{pairs_plan}
+use Rattle.key_list.proofs.Trials.{so_pair, so_pair_err, pairs_stop}
 use Rattle.key_list.proofs.checking.check_pairs.Goals as goal
 
 pub loop-i-init : goal.loop-i-init
@@ -33,6 +41,9 @@ loop-i-init g c =
       left = λ told slots. subst (λ (ps : List Pair). PairsLeft view.state.bytes c.args.table c.args.page (low_of c.args.last) (pairs_said c.args.bytes.now) (low_of c.args.last) ps) all
           (λ verdict told. told);
       ends = ap (λ (ps : List Pair). behind (low_of c.args.last) ps) (sym all);
+      tests =
+          subst (λ (o : Option Reading). SoFar g.S.EawStore.tells (g.S.EawStore.calls c.args.pages.now.store) (g.S.EawStore.calls c.args.pages.now.store) (pairs_plan (index_pages_of (g.S.EawStore.view c.args.pages.now.store).shape) c.args.slots c.args.table c.args.page (low_of c.args.last) o (pairs_from c.args.bytes.now 0 (c.args.count - 0))) (pairs_plan (index_pages_of (g.S.EawStore.view c.args.pages.now.store).shape) c.args.slots c.args.table c.args.page (low_of c.args.last) None (pairs_said c.args.bytes.now)) (g.S.EawStore.view c.args.pages.now.store) (g.S.EawStore.view c.args.pages.now.store)) (sym (ap (λ (o : Option ℕ). option_map (λ page. (page, c.none-held.result.bytes)) o) c.none-held.ensures))
+          (subst (λ (ps : List Pair). SoFar g.S.EawStore.tells (g.S.EawStore.calls c.args.pages.now.store) (g.S.EawStore.calls c.args.pages.now.store) (pairs_plan (index_pages_of (g.S.EawStore.view c.args.pages.now.store).shape) c.args.slots c.args.table c.args.page (low_of c.args.last) None ps) (pairs_plan (index_pages_of (g.S.EawStore.view c.args.pages.now.store).shape) c.args.slots c.args.table c.args.page (low_of c.args.last) None (pairs_said c.args.bytes.now)) (g.S.EawStore.view c.args.pages.now.store) (g.S.EawStore.view c.args.pages.now.store)) all (so_first (pairs_plan (index_pages_of (g.S.EawStore.view c.args.pages.now.store).shape) c.args.slots c.args.table c.args.page (low_of c.args.last) None (pairs_said c.args.bytes.now))));
     }
 
 pub check_pair-requires : goal.check_pair-requires
@@ -95,6 +106,13 @@ loop-i-preserved g c =
           let on : suc c.loop-i.i ≡ c.loop-i.i + 1 = omega arith in
           subst (λ (p : Pair). PairsLeft view.state.bytes c.args.table c.args.page (low_of c.args.last) (pairs_said c.args.bytes.now) (suc p.0) (pairs_from c.args.bytes.now (c.loop-i.i + 1) (c.args.count - (c.loop-i.i + 1)))) (sym c.read_pair-key.ensures.pair)
           (subst (λ (n : ℕ). PairsLeft view.state.bytes c.args.table c.args.page (low_of c.args.last) (pairs_said c.args.bytes.now) (suc (pair_said c.args.bytes.now c.loop-i.i).0) (pairs_from c.args.bytes.now n (c.args.count - n))) on next);
+      tests =
+          let on : suc c.loop-i.i ≡ c.loop-i.i + 1 = omega arith in
+          let r : Result (Unit {0}) CheckFault = Ok tt in
+          subst (λ (p : Pair). SoFar g.S.EawStore.tells (g.S.EawStore.calls c.args.pages.now.store) (g.S.EawStore.calls c.check_pair.new.pages.store) (pairs_plan (index_pages_of (g.S.EawStore.view c.args.pages.now.store).shape) c.args.slots c.args.table c.args.page (suc p.0) (held_of c.check_pair.new.held) (pairs_from c.args.bytes.now (c.loop-i.i + 1) (c.args.count - (c.loop-i.i + 1)))) (pairs_plan (index_pages_of (g.S.EawStore.view c.args.pages.now.store).shape) c.args.slots c.args.table c.args.page (low_of c.args.last) None (pairs_said c.args.bytes.now)) (g.S.EawStore.view c.args.pages.now.store) (g.S.EawStore.view c.check_pair.new.pages.store)) (sym c.read_pair-key.ensures.pair)
+          (subst (λ (n : ℕ). SoFar g.S.EawStore.tells (g.S.EawStore.calls c.args.pages.now.store) (g.S.EawStore.calls c.check_pair.new.pages.store) (pairs_plan (index_pages_of (g.S.EawStore.view c.args.pages.now.store).shape) c.args.slots c.args.table c.args.page (suc (pair_said c.args.bytes.now c.loop-i.i).0) (held_of c.check_pair.new.held) (pairs_from c.args.bytes.now n (c.args.count - n))) (pairs_plan (index_pages_of (g.S.EawStore.view c.args.pages.now.store).shape) c.args.slots c.args.table c.args.page (low_of c.args.last) None (pairs_said c.args.bytes.now)) (g.S.EawStore.view c.args.pages.now.store) (g.S.EawStore.view c.check_pair.new.pages.store)) on
+          (so_pair (index_pages_of (g.S.EawStore.view c.args.pages.now.store).shape) c.args.slots c.args.table c.args.page (low_of c.loop-i.last) (held_of c.loop-i.held) (pair_said c.args.bytes.now c.loop-i.i) (λ (now : Option Reading). pairs_plan (index_pages_of (g.S.EawStore.view c.args.pages.now.store).shape) c.args.slots c.args.table c.args.page (suc (pair_said c.args.bytes.now c.loop-i.i).0) now (pairs_from c.args.bytes.now (suc c.loop-i.i) (c.args.count - suc c.loop-i.i))) (c.loop-i.invariant.looks.still refl) c.loop-i.invariant.looks.shape (subst (λ (ps : List Pair). SoFar g.S.EawStore.tells (g.S.EawStore.calls c.args.pages.now.store) (g.S.EawStore.calls c.loop-i.pages.store) (pairs_plan (index_pages_of (g.S.EawStore.view c.args.pages.now.store).shape) c.args.slots c.args.table c.args.page (low_of c.loop-i.last) (held_of c.loop-i.held) ps) (pairs_plan (index_pages_of (g.S.EawStore.view c.args.pages.now.store).shape) c.args.slots c.args.table c.args.page (low_of c.args.last) None (pairs_said c.args.bytes.now)) (g.S.EawStore.view c.args.pages.now.store) (g.S.EawStore.view c.loop-i.pages.store)) (from_step c.args.bytes.now c.loop-i.i c.args.count c.loop-i-test.true) c.loop-i.invariant.tests) tt c.check_pair.new.held (subst (λ (n : ℕ). Tries g.S.EawStore.tells (g.S.EawStore.calls c.loop-i.pages.store) (g.S.EawStore.calls c.check_pair.new.pages.store) (holding (low_of c.loop-i.last ≤ (pair_said c.args.bytes.now c.loop-i.i).0) c.args.page (slot_plan n c.args.slots c.args.table c.args.page (held_of c.loop-i.held) (pair_said c.args.bytes.now c.loop-i.i) (held_after r c.check_pair.new.held))) (g.S.EawStore.view c.loop-i.pages.store) (g.S.EawStore.view c.check_pair.new.pages.store) r) (ap index_pages_of c.loop-i.invariant.looks.shape)
+    (subst (λ (p : Pair). Tries g.S.EawStore.tells (g.S.EawStore.calls c.loop-i.pages.store) (g.S.EawStore.calls c.check_pair.new.pages.store) (holding (low_of c.loop-i.last ≤ p.0) c.args.page (slot_plan (index_pages_of (g.S.EawStore.view c.loop-i.pages.store).shape) c.args.slots c.args.table c.args.page (held_of c.loop-i.held) p (held_after r c.check_pair.new.held))) (g.S.EawStore.view c.loop-i.pages.store) (g.S.EawStore.view c.check_pair.new.pages.store) r) c.read_pair-key.ensures.pair c.in-Ok.ensures.tests))));
     }
 
 pub returns-clause-cause : goal.returns-clause-cause
@@ -118,3 +136,12 @@ pub returns-in-Err-clause-looks : goal.returns-in-Err-clause-looks
 returns-in-Err-clause-looks g c =
     let r : Result (Option ℕ) CheckFault = Err c.in-Err.fault in
     looks_next g.S.EawStore.tells g.S.EawStore.opens (is_check_failed r) (pages_of (g.S.EawStore.view c.args.pages.now.store) c.args.pages.now) (pages_of (g.S.EawStore.view c.loop-i.pages.store) c.loop-i.pages) (pages_of (g.S.EawStore.view c.check_pair.new.pages.store) c.check_pair.new.pages) c.loop-i.invariant.looks c.in-Err.ensures.looks
+
+pub returns-in-Err-clause-tests : goal.returns-in-Err-clause-tests
+returns-in-Err-clause-tests g c =
+    let r : Result (Unit {0}) CheckFault = Err c.in-Err.fault in
+    so_pair_err (index_pages_of (g.S.EawStore.view c.args.pages.now.store).shape) c.args.slots c.args.table c.args.page (low_of c.loop-i.last) (held_of c.loop-i.held) (pair_said c.args.bytes.now c.loop-i.i) (λ (now : Option Reading). pairs_plan (index_pages_of (g.S.EawStore.view c.args.pages.now.store).shape) c.args.slots c.args.table c.args.page (suc (pair_said c.args.bytes.now c.loop-i.i).0) now (pairs_from c.args.bytes.now (suc c.loop-i.i) (c.args.count - suc c.loop-i.i))) (c.loop-i.invariant.looks.still refl) c.loop-i.invariant.looks.shape (subst (λ (ps : List Pair). SoFar g.S.EawStore.tells (g.S.EawStore.calls c.args.pages.now.store) (g.S.EawStore.calls c.loop-i.pages.store) (pairs_plan (index_pages_of (g.S.EawStore.view c.args.pages.now.store).shape) c.args.slots c.args.table c.args.page (low_of c.loop-i.last) (held_of c.loop-i.held) ps) (pairs_plan (index_pages_of (g.S.EawStore.view c.args.pages.now.store).shape) c.args.slots c.args.table c.args.page (low_of c.args.last) None (pairs_said c.args.bytes.now)) (g.S.EawStore.view c.args.pages.now.store) (g.S.EawStore.view c.loop-i.pages.store)) (from_step c.args.bytes.now c.loop-i.i c.args.count c.loop-i-test.true) c.loop-i.invariant.tests) c.in-Err.fault (λ now. pairs_stop _ _ _ _ _ now _) (subst (λ (n : ℕ). Tries g.S.EawStore.tells (g.S.EawStore.calls c.loop-i.pages.store) (g.S.EawStore.calls c.check_pair.new.pages.store) (holding (low_of c.loop-i.last ≤ (pair_said c.args.bytes.now c.loop-i.i).0) c.args.page (slot_plan n c.args.slots c.args.table c.args.page (held_of c.loop-i.held) (pair_said c.args.bytes.now c.loop-i.i) (held_after r c.check_pair.new.held))) (g.S.EawStore.view c.loop-i.pages.store) (g.S.EawStore.view c.check_pair.new.pages.store) r) (ap index_pages_of c.loop-i.invariant.looks.shape)
+    (subst (λ (p : Pair). Tries g.S.EawStore.tells (g.S.EawStore.calls c.loop-i.pages.store) (g.S.EawStore.calls c.check_pair.new.pages.store) (holding (low_of c.loop-i.last ≤ p.0) c.args.page (slot_plan (index_pages_of (g.S.EawStore.view c.loop-i.pages.store).shape) c.args.slots c.args.table c.args.page (held_of c.loop-i.held) p (held_after r c.check_pair.new.held))) (g.S.EawStore.view c.loop-i.pages.store) (g.S.EawStore.view c.check_pair.new.pages.store) r) c.read_pair-key.ensures.pair c.in-Err.ensures.tests))
+
+pub returns-clause-tests : goal.returns-clause-tests
+returns-clause-tests g c = so_passes c.loop-i.last (subst (λ (ps : List Pair). SoFar g.S.EawStore.tells (g.S.EawStore.calls c.args.pages.now.store) (g.S.EawStore.calls c.loop-i.pages.store) (pairs_plan (index_pages_of (g.S.EawStore.view c.args.pages.now.store).shape) c.args.slots c.args.table c.args.page (low_of c.loop-i.last) (held_of c.loop-i.held) ps) (pairs_plan (index_pages_of (g.S.EawStore.view c.args.pages.now.store).shape) c.args.slots c.args.table c.args.page (low_of c.args.last) None (pairs_said c.args.bytes.now)) (g.S.EawStore.view c.args.pages.now.store) (g.S.EawStore.view c.loop-i.pages.store)) (from_end c.args.bytes.now c.loop-i.i c.args.count c.loop-i-test.false) c.loop-i.invariant.tests)

@@ -17,6 +17,16 @@ use Rattle.key_list.proofs.Testing.{ChainLeft, chain_none, head_fails, pairs_fai
 use Rattle.page_store.specs.Looks.{is_failed, is_check_failed}
 use Rattle.page_store.specs.declared.fault.PageFault.{PageFault}
 use Rattle.index_pages.proofs.Tests.{check_looks}
+use Rattle.std.proofs.Common.{◌<◌, ◌≤◌, List, None}
+use Rattle.std.specs.Prelude.{nat_eq}
+use Rattle.array_shape.specs.declared.shape.Shape.{Shape}
+use Rattle.page_store.specs.Index.{index_pages_of}
+use Rattle.page_store.specs.Tested.{Plan, at_end, holding, in_turn}
+use Rattle.index_pages.specs.Plans.{Tries}
+use Rattle.index_pages.proofs.Trying.{SoFar, so_first, so_holds, so_bad, so_passes, so_then, so_fails, so_page, so_page_err}
+use Rattle.key_list.specs.Chain.{behind, IsChainHead}
+use Rattle.key_list.specs.Tried.{pairs_plan, chain_plan_from, chain_plan}
+use Rattle.key_list.proofs.Trials.{linked, link_none, link_some}
 use Rattle.key_list.proofs.checking.check_table.Goals as goal
 
 pub returns-in_default-clause-cause : goal.returns-in_default-clause-cause
@@ -164,6 +174,10 @@ loop-step-preserved g c =
           (omega (arith, c.if-head-lt2.false, c.in-Some.ensures.says.link), omega (arith, c.if-head-front.false, c.in-Some.ensures.says.link, says.next_page)) in
           subst (λ (x : ℕ). ChainLeft b c.args.root c.args.table x (low_of c.in-Ok-check_pairs.last) (c.args.front.now.next_page - (c.loop-step._step + 1))) (sym c.in-Some.ensures.says.link)
           (subst (λ (m : ℕ). ChainLeft b c.args.root c.args.table (link_said c.fetch_page.new.bytes) (low_of c.in-Ok-check_pairs.last) (c.args.front.now.next_page - m)) (let e : suc c.loop-step._step ≡ c.loop-step._step + 1 = omega arith in e) next);
+      tests =
+          subst (λ (x : ℕ). SoFar g.S.EawStore.tells (g.S.EawStore.calls c.args.pages.now.store) (g.S.EawStore.calls c.check_pairs.new.pages.store) (chain_plan_from (g.S.EawStore.view c.args.pages.now.store).shape c.args.front.now c.args.table (c.args.front.now.next_page - (c.loop-step._step + 1)) x (low_of c.in-Ok-check_pairs.last)) (chain_plan (g.S.EawStore.view c.args.pages.now.store).shape c.args.front.now c.args.root c.args.table) (g.S.EawStore.view c.args.pages.now.store) (g.S.EawStore.view c.check_pairs.new.pages.store)) (sym c.in-Some.ensures.says.link)
+          (subst (λ (x : ℕ). SoFar g.S.EawStore.tells (g.S.EawStore.calls c.args.pages.now.store) (g.S.EawStore.calls c.check_pairs.new.pages.store) (chain_plan_from (g.S.EawStore.view c.args.pages.now.store).shape c.args.front.now c.args.table (c.args.front.now.next_page - (c.loop-step._step + 1)) (link_said c.fetch_page.new.bytes) x) (chain_plan (g.S.EawStore.view c.args.pages.now.store).shape c.args.front.now c.args.root c.args.table) (g.S.EawStore.view c.args.pages.now.store) (g.S.EawStore.view c.check_pairs.new.pages.store)) (sym c.in-Ok-check_pairs.ensures.behind)
+          (so_holds _ _ _ (subst (λ (p : Plan). SoFar g.S.EawStore.tells (g.S.EawStore.calls c.args.pages.now.store) (g.S.EawStore.calls c.check_pairs.new.pages.store) p (chain_plan (g.S.EawStore.view c.args.pages.now.store).shape c.args.front.now c.args.root c.args.table) (g.S.EawStore.view c.args.pages.now.store) (g.S.EawStore.view c.check_pairs.new.pages.store)) (link_some (g.S.EawStore.view c.args.pages.now.store).shape c.args.front.now c.args.table (c.args.front.now.next_page - (c.loop-step._step + 1)) c.loop-step.page (low_of c.loop-step.last) c.fetch_page.new.bytes (λ (e : link_said c.fetch_page.new.bytes ≡ 0). c.if-head-eq0.false (c.in-Some.ensures.says.link ∙ e))) (let r : Result (Option ℕ) CheckFault = Ok c.in-Ok-check_pairs.last in so_then ((looks_next g.S.EawStore.tells g.S.EawStore.opens false (pages_of (g.S.EawStore.view c.args.pages.now.store) c.args.pages.now) (pages_of (g.S.EawStore.view c.loop-step.pages.store) c.loop-step.pages) (pages_of (g.S.EawStore.view c.fetch_page.new.pages.store) c.fetch_page.new.pages) c.loop-step.invariant.looks c.in-Ok.ensures.looks).still refl) (looks_next g.S.EawStore.tells g.S.EawStore.opens false (pages_of (g.S.EawStore.view c.args.pages.now.store) c.args.pages.now) (pages_of (g.S.EawStore.view c.loop-step.pages.store) c.loop-step.pages) (pages_of (g.S.EawStore.view c.fetch_page.new.pages.store) c.fetch_page.new.pages) c.loop-step.invariant.looks c.in-Ok.ensures.looks).shape (pairs_plan (index_pages_of (g.S.EawStore.view c.args.pages.now.store).shape) c.args.front.now.next_slot c.args.table c.loop-step.page (low_of c.loop-step.last) None (pairs_said c.fetch_page.new.bytes)) (linked (g.S.EawStore.view c.args.pages.now.store).shape c.args.front.now c.args.table (c.args.front.now.next_page - (c.loop-step._step + 1)) c.loop-step.page (low_of c.loop-step.last) c.fetch_page.new.bytes) c.in-Ok-check_pairs.last (so_holds _ _ _ (so_page (c.loop-step.invariant.looks.still refl) c.loop-step.invariant.looks.shape c.loop-step.page (λ said. holding (IsChainHead (low_of c.loop-step.last) said) c.loop-step.page (in_turn (pairs_plan (index_pages_of (g.S.EawStore.view c.args.pages.now.store).shape) c.args.front.now.next_slot c.args.table c.loop-step.page (low_of c.loop-step.last) None (pairs_said said)) (linked (g.S.EawStore.view c.args.pages.now.store).shape c.args.front.now c.args.table (c.args.front.now.next_page - (c.loop-step._step + 1)) c.loop-step.page (low_of c.loop-step.last) said))) c.fetch_page.new.bytes (subst (λ (m : ℕ). SoFar g.S.EawStore.tells (g.S.EawStore.calls c.args.pages.now.store) (g.S.EawStore.calls c.loop-step.pages.store) (chain_plan_from (g.S.EawStore.view c.args.pages.now.store).shape c.args.front.now c.args.table m c.loop-step.page (low_of c.loop-step.last)) (chain_plan (g.S.EawStore.view c.args.pages.now.store).shape c.args.front.now c.args.root c.args.table) (g.S.EawStore.view c.args.pages.now.store) (g.S.EawStore.view c.loop-step.pages.store)) (let e : c.args.front.now.next_page - c.loop-step._step ≡ suc (c.args.front.now.next_page - (c.loop-step._step + 1)) = omega (arith, c.loop-step-test.true) in e) c.loop-step.invariant.tests) c.in-Ok.ensures.reads) c.in-Some.ensures.head) (subst (λ (s : Shape). Tries g.S.EawStore.tells (g.S.EawStore.calls c.fetch_page.new.pages.store) (g.S.EawStore.calls c.check_pairs.new.pages.store) (pairs_plan (index_pages_of s) c.args.front.now.next_slot c.args.table c.loop-step.page (low_of c.loop-step.last) None (pairs_said c.fetch_page.new.bytes)) (g.S.EawStore.view c.fetch_page.new.pages.store) (g.S.EawStore.view c.check_pairs.new.pages.store) r) (looks_next g.S.EawStore.tells g.S.EawStore.opens false (pages_of (g.S.EawStore.view c.args.pages.now.store) c.args.pages.now) (pages_of (g.S.EawStore.view c.loop-step.pages.store) c.loop-step.pages) (pages_of (g.S.EawStore.view c.fetch_page.new.pages.store) c.fetch_page.new.pages) c.loop-step.invariant.looks c.in-Ok.ensures.looks).shape c.in-Ok-check_pairs.ensures.tests))) (omega (arith, c.if-head-lt2.false, c.in-Some.ensures.says.link), omega (arith, c.if-head-front.false, c.in-Some.ensures.says.link))));
     }
 
 pub returns-clause-cause : goal.returns-clause-cause
@@ -190,6 +204,7 @@ loop-step-init g c =
       rows = λ told says. subst (λ (m : ℕ). RowsLeft view.state.bytes c.args.rows.now (pairs_of_chain view.state.bytes c.args.root) c.args.rows.now (chain_pairs m view.state.bytes c.args.root)) (let e : next_page view.state.bytes ≡ c.args.front.now.next_page - 0 = omega (arith, says.next_page) in e) refl;
       left = λ told says. subst (λ (m : ℕ). ChainLeft view.state.bytes c.args.root c.args.table c.args.root 0 m) (let e : next_page view.state.bytes ≡ c.args.front.now.next_page - 0 = omega (arith, says.next_page) in e)
           (λ verdict rest. rest);
+      tests = subst (λ (m : ℕ). SoFar g.S.EawStore.tells (g.S.EawStore.calls c.args.pages.now.store) (g.S.EawStore.calls c.args.pages.now.store) (chain_plan_from (g.S.EawStore.view c.args.pages.now.store).shape c.args.front.now c.args.table m c.args.root 0) (chain_plan (g.S.EawStore.view c.args.pages.now.store).shape c.args.front.now c.args.root c.args.table) (g.S.EawStore.view c.args.pages.now.store) (g.S.EawStore.view c.args.pages.now.store)) (let e : c.args.front.now.next_page ≡ c.args.front.now.next_page - 0 = omega arith in e) (so_first (chain_plan (g.S.EawStore.view c.args.pages.now.store).shape c.args.front.now c.args.root c.args.table));
     }
 
 pub returns-in_default-clause-looks : goal.returns-in_default-clause-looks
@@ -217,7 +232,9 @@ pub returns-then-head-front-clause-dead : goal.returns-then-head-front-clause-de
 returns-then-head-front-clause-dead g c = λ is. cc
 
 pub returns-clause-looks : goal.returns-clause-looks
-returns-clause-looks g c = c.loop-step.invariant.looks
+returns-clause-looks g c =
+    looks_next g.S.EawStore.tells g.S.EawStore.opens false (pages_of (g.S.EawStore.view c.args.pages.now.store) c.args.pages.now) (pages_of (g.S.EawStore.view c.loop-step.pages.store) c.loop-step.pages)
+    (pages_of (g.S.EawStore.view c.fetch_page-2.new.pages.store) c.fetch_page-2.new.pages) c.loop-step.invariant.looks c.in-Ok-fetch_page.ensures.looks
 
 pub returns-clause-dead : goal.returns-clause-dead
 returns-clause-dead g c = λ is. cc
@@ -251,3 +268,51 @@ returns-in-Err-check_pairs-clause-looks g c =
     let r : Result (Unit {0}) CheckFault = Err c.in-Err-check_pairs.fault in
     looks_next g.S.EawStore.tells g.S.EawStore.opens (is_check_failed r) (pages_of (g.S.EawStore.view c.args.pages.now.store) c.args.pages.now) (pages_of (g.S.EawStore.view c.fetch_page.new.pages.store) c.fetch_page.new.pages) (pages_of (g.S.EawStore.view c.check_pairs.new.pages.store) c.check_pairs.new.pages)
     (looks_next g.S.EawStore.tells g.S.EawStore.opens false (pages_of (g.S.EawStore.view c.args.pages.now.store) c.args.pages.now) (pages_of (g.S.EawStore.view c.loop-step.pages.store) c.loop-step.pages) (pages_of (g.S.EawStore.view c.fetch_page.new.pages.store) c.fetch_page.new.pages) c.loop-step.invariant.looks c.in-Ok.ensures.looks) c.in-Err-check_pairs.ensures.looks
+
+pub returns-in-Err-clause-tests : goal.returns-in-Err-clause-tests
+returns-in-Err-clause-tests g c =
+    so_page_err (c.loop-step.invariant.looks.still refl) c.loop-step.invariant.looks.shape (Unit {0}) c.loop-step.page (λ said. holding (IsChainHead (low_of c.loop-step.last) said) c.loop-step.page (in_turn (pairs_plan (index_pages_of (g.S.EawStore.view c.args.pages.now.store).shape) c.args.front.now.next_slot c.args.table c.loop-step.page (low_of c.loop-step.last) None (pairs_said said)) (linked (g.S.EawStore.view c.args.pages.now.store).shape c.args.front.now c.args.table (c.args.front.now.next_page - (c.loop-step._step + 1)) c.loop-step.page (low_of c.loop-step.last) said))) c.fetch_page.new.bytes (page_bytes (g.S.EawStore.view c.loop-step.pages.store).state.bytes c.loop-step.page) c.in-Err.fault c.check_fault.result c.check_fault.ensures (subst (λ (m : ℕ). SoFar g.S.EawStore.tells (g.S.EawStore.calls c.args.pages.now.store) (g.S.EawStore.calls c.loop-step.pages.store) (chain_plan_from (g.S.EawStore.view c.args.pages.now.store).shape c.args.front.now c.args.table m c.loop-step.page (low_of c.loop-step.last)) (chain_plan (g.S.EawStore.view c.args.pages.now.store).shape c.args.front.now c.args.root c.args.table) (g.S.EawStore.view c.args.pages.now.store) (g.S.EawStore.view c.loop-step.pages.store)) (let e : c.args.front.now.next_page - c.loop-step._step ≡ suc (c.args.front.now.next_page - (c.loop-step._step + 1)) = omega (arith, c.loop-step-test.true) in e) c.loop-step.invariant.tests) c.loop-step.invariant.alive c.in-Err.ensures.cause c.in-Err.ensures.reads
+
+pub returns-in_default-clause-tests : goal.returns-in_default-clause-tests
+returns-in_default-clause-tests g c = so_bad _ _ _ (so_page (c.loop-step.invariant.looks.still refl) c.loop-step.invariant.looks.shape c.loop-step.page (λ said. holding (IsChainHead (low_of c.loop-step.last) said) c.loop-step.page (in_turn (pairs_plan (index_pages_of (g.S.EawStore.view c.args.pages.now.store).shape) c.args.front.now.next_slot c.args.table c.loop-step.page (low_of c.loop-step.last) None (pairs_said said)) (linked (g.S.EawStore.view c.args.pages.now.store).shape c.args.front.now c.args.table (c.args.front.now.next_page - (c.loop-step._step + 1)) c.loop-step.page (low_of c.loop-step.last) said))) c.fetch_page.new.bytes (subst (λ (m : ℕ). SoFar g.S.EawStore.tells (g.S.EawStore.calls c.args.pages.now.store) (g.S.EawStore.calls c.loop-step.pages.store) (chain_plan_from (g.S.EawStore.view c.args.pages.now.store).shape c.args.front.now c.args.table m c.loop-step.page (low_of c.loop-step.last)) (chain_plan (g.S.EawStore.view c.args.pages.now.store).shape c.args.front.now c.args.root c.args.table) (g.S.EawStore.view c.args.pages.now.store) (g.S.EawStore.view c.loop-step.pages.store)) (let e : c.args.front.now.next_page - c.loop-step._step ≡ suc (c.args.front.now.next_page - (c.loop-step._step + 1)) = omega (arith, c.loop-step-test.true) in e) c.loop-step.invariant.tests) c.in-Ok.ensures.reads) c.in_default.ensures.other
+
+pub returns-in-Err-check_pairs-clause-tests : goal.returns-in-Err-check_pairs-clause-tests
+returns-in-Err-check_pairs-clause-tests g c =
+    let r : Result (Option ℕ) CheckFault = Err c.in-Err-check_pairs.fault in
+    so_fails ((looks_next g.S.EawStore.tells g.S.EawStore.opens false (pages_of (g.S.EawStore.view c.args.pages.now.store) c.args.pages.now) (pages_of (g.S.EawStore.view c.loop-step.pages.store) c.loop-step.pages) (pages_of (g.S.EawStore.view c.fetch_page.new.pages.store) c.fetch_page.new.pages) c.loop-step.invariant.looks c.in-Ok.ensures.looks).still refl) (looks_next g.S.EawStore.tells g.S.EawStore.opens false (pages_of (g.S.EawStore.view c.args.pages.now.store) c.args.pages.now) (pages_of (g.S.EawStore.view c.loop-step.pages.store) c.loop-step.pages) (pages_of (g.S.EawStore.view c.fetch_page.new.pages.store) c.fetch_page.new.pages) c.loop-step.invariant.looks c.in-Ok.ensures.looks).shape (pairs_plan (index_pages_of (g.S.EawStore.view c.args.pages.now.store).shape) c.args.front.now.next_slot c.args.table c.loop-step.page (low_of c.loop-step.last) None (pairs_said c.fetch_page.new.bytes)) (linked (g.S.EawStore.view c.args.pages.now.store).shape c.args.front.now c.args.table (c.args.front.now.next_page - (c.loop-step._step + 1)) c.loop-step.page (low_of c.loop-step.last) c.fetch_page.new.bytes) c.in-Err-check_pairs.fault (so_holds _ _ _ (so_page (c.loop-step.invariant.looks.still refl) c.loop-step.invariant.looks.shape c.loop-step.page (λ said. holding (IsChainHead (low_of c.loop-step.last) said) c.loop-step.page (in_turn (pairs_plan (index_pages_of (g.S.EawStore.view c.args.pages.now.store).shape) c.args.front.now.next_slot c.args.table c.loop-step.page (low_of c.loop-step.last) None (pairs_said said)) (linked (g.S.EawStore.view c.args.pages.now.store).shape c.args.front.now c.args.table (c.args.front.now.next_page - (c.loop-step._step + 1)) c.loop-step.page (low_of c.loop-step.last) said))) c.fetch_page.new.bytes (subst (λ (m : ℕ). SoFar g.S.EawStore.tells (g.S.EawStore.calls c.args.pages.now.store) (g.S.EawStore.calls c.loop-step.pages.store) (chain_plan_from (g.S.EawStore.view c.args.pages.now.store).shape c.args.front.now c.args.table m c.loop-step.page (low_of c.loop-step.last)) (chain_plan (g.S.EawStore.view c.args.pages.now.store).shape c.args.front.now c.args.root c.args.table) (g.S.EawStore.view c.args.pages.now.store) (g.S.EawStore.view c.loop-step.pages.store)) (let e : c.args.front.now.next_page - c.loop-step._step ≡ suc (c.args.front.now.next_page - (c.loop-step._step + 1)) = omega (arith, c.loop-step-test.true) in e) c.loop-step.invariant.tests) c.in-Ok.ensures.reads) c.in-Some.ensures.head) (subst (λ (s : Shape). Tries g.S.EawStore.tells (g.S.EawStore.calls c.fetch_page.new.pages.store) (g.S.EawStore.calls c.check_pairs.new.pages.store) (pairs_plan (index_pages_of s) c.args.front.now.next_slot c.args.table c.loop-step.page (low_of c.loop-step.last) None (pairs_said c.fetch_page.new.bytes)) (g.S.EawStore.view c.fetch_page.new.pages.store) (g.S.EawStore.view c.check_pairs.new.pages.store) r) (looks_next g.S.EawStore.tells g.S.EawStore.opens false (pages_of (g.S.EawStore.view c.args.pages.now.store) c.args.pages.now) (pages_of (g.S.EawStore.view c.loop-step.pages.store) c.loop-step.pages) (pages_of (g.S.EawStore.view c.fetch_page.new.pages.store) c.fetch_page.new.pages) c.loop-step.invariant.looks c.in-Ok.ensures.looks).shape c.in-Err-check_pairs.ensures.tests)
+
+pub returns-then-head-eq0-clause-tests : goal.returns-then-head-eq0-clause-tests
+returns-then-head-eq0-clause-tests g c =
+    so_passes tt (subst (λ (p : Plan). SoFar g.S.EawStore.tells (g.S.EawStore.calls c.args.pages.now.store) (g.S.EawStore.calls c.check_pairs.new.pages.store) p (chain_plan (g.S.EawStore.view c.args.pages.now.store).shape c.args.front.now c.args.root c.args.table) (g.S.EawStore.view c.args.pages.now.store) (g.S.EawStore.view c.check_pairs.new.pages.store)) (link_none (g.S.EawStore.view c.args.pages.now.store).shape c.args.front.now c.args.table (c.args.front.now.next_page - (c.loop-step._step + 1)) c.loop-step.page (low_of c.loop-step.last) c.fetch_page.new.bytes (sym c.in-Some.ensures.says.link ∙ c.if-head-eq0.true)) (let r : Result (Option ℕ) CheckFault = Ok c.in-Ok-check_pairs.last in so_then ((looks_next g.S.EawStore.tells g.S.EawStore.opens false (pages_of (g.S.EawStore.view c.args.pages.now.store) c.args.pages.now) (pages_of (g.S.EawStore.view c.loop-step.pages.store) c.loop-step.pages) (pages_of (g.S.EawStore.view c.fetch_page.new.pages.store) c.fetch_page.new.pages) c.loop-step.invariant.looks c.in-Ok.ensures.looks).still refl) (looks_next g.S.EawStore.tells g.S.EawStore.opens false (pages_of (g.S.EawStore.view c.args.pages.now.store) c.args.pages.now) (pages_of (g.S.EawStore.view c.loop-step.pages.store) c.loop-step.pages) (pages_of (g.S.EawStore.view c.fetch_page.new.pages.store) c.fetch_page.new.pages) c.loop-step.invariant.looks c.in-Ok.ensures.looks).shape (pairs_plan (index_pages_of (g.S.EawStore.view c.args.pages.now.store).shape) c.args.front.now.next_slot c.args.table c.loop-step.page (low_of c.loop-step.last) None (pairs_said c.fetch_page.new.bytes)) (linked (g.S.EawStore.view c.args.pages.now.store).shape c.args.front.now c.args.table (c.args.front.now.next_page - (c.loop-step._step + 1)) c.loop-step.page (low_of c.loop-step.last) c.fetch_page.new.bytes) c.in-Ok-check_pairs.last (so_holds _ _ _ (so_page (c.loop-step.invariant.looks.still refl) c.loop-step.invariant.looks.shape c.loop-step.page (λ said. holding (IsChainHead (low_of c.loop-step.last) said) c.loop-step.page (in_turn (pairs_plan (index_pages_of (g.S.EawStore.view c.args.pages.now.store).shape) c.args.front.now.next_slot c.args.table c.loop-step.page (low_of c.loop-step.last) None (pairs_said said)) (linked (g.S.EawStore.view c.args.pages.now.store).shape c.args.front.now c.args.table (c.args.front.now.next_page - (c.loop-step._step + 1)) c.loop-step.page (low_of c.loop-step.last) said))) c.fetch_page.new.bytes (subst (λ (m : ℕ). SoFar g.S.EawStore.tells (g.S.EawStore.calls c.args.pages.now.store) (g.S.EawStore.calls c.loop-step.pages.store) (chain_plan_from (g.S.EawStore.view c.args.pages.now.store).shape c.args.front.now c.args.table m c.loop-step.page (low_of c.loop-step.last)) (chain_plan (g.S.EawStore.view c.args.pages.now.store).shape c.args.front.now c.args.root c.args.table) (g.S.EawStore.view c.args.pages.now.store) (g.S.EawStore.view c.loop-step.pages.store)) (let e : c.args.front.now.next_page - c.loop-step._step ≡ suc (c.args.front.now.next_page - (c.loop-step._step + 1)) = omega (arith, c.loop-step-test.true) in e) c.loop-step.invariant.tests) c.in-Ok.ensures.reads) c.in-Some.ensures.head) (subst (λ (s : Shape). Tries g.S.EawStore.tells (g.S.EawStore.calls c.fetch_page.new.pages.store) (g.S.EawStore.calls c.check_pairs.new.pages.store) (pairs_plan (index_pages_of s) c.args.front.now.next_slot c.args.table c.loop-step.page (low_of c.loop-step.last) None (pairs_said c.fetch_page.new.bytes)) (g.S.EawStore.view c.fetch_page.new.pages.store) (g.S.EawStore.view c.check_pairs.new.pages.store) r) (looks_next g.S.EawStore.tells g.S.EawStore.opens false (pages_of (g.S.EawStore.view c.args.pages.now.store) c.args.pages.now) (pages_of (g.S.EawStore.view c.loop-step.pages.store) c.loop-step.pages) (pages_of (g.S.EawStore.view c.fetch_page.new.pages.store) c.fetch_page.new.pages) c.loop-step.invariant.looks c.in-Ok.ensures.looks).shape c.in-Ok-check_pairs.ensures.tests)))
+
+pub returns-then-head-lt2-clause-tests : goal.returns-then-head-lt2-clause-tests
+returns-then-head-lt2-clause-tests g c = so_bad _ _ _ (subst (λ (p : Plan). SoFar g.S.EawStore.tells (g.S.EawStore.calls c.args.pages.now.store) (g.S.EawStore.calls c.check_pairs.new.pages.store) p (chain_plan (g.S.EawStore.view c.args.pages.now.store).shape c.args.front.now c.args.root c.args.table) (g.S.EawStore.view c.args.pages.now.store) (g.S.EawStore.view c.check_pairs.new.pages.store)) (link_some (g.S.EawStore.view c.args.pages.now.store).shape c.args.front.now c.args.table (c.args.front.now.next_page - (c.loop-step._step + 1)) c.loop-step.page (low_of c.loop-step.last) c.fetch_page.new.bytes (λ (e : link_said c.fetch_page.new.bytes ≡ 0). c.if-head-eq0.false (c.in-Some.ensures.says.link ∙ e))) (let r : Result (Option ℕ) CheckFault = Ok c.in-Ok-check_pairs.last in so_then ((looks_next g.S.EawStore.tells g.S.EawStore.opens false (pages_of (g.S.EawStore.view c.args.pages.now.store) c.args.pages.now) (pages_of (g.S.EawStore.view c.loop-step.pages.store) c.loop-step.pages) (pages_of (g.S.EawStore.view c.fetch_page.new.pages.store) c.fetch_page.new.pages) c.loop-step.invariant.looks c.in-Ok.ensures.looks).still refl) (looks_next g.S.EawStore.tells g.S.EawStore.opens false (pages_of (g.S.EawStore.view c.args.pages.now.store) c.args.pages.now) (pages_of (g.S.EawStore.view c.loop-step.pages.store) c.loop-step.pages) (pages_of (g.S.EawStore.view c.fetch_page.new.pages.store) c.fetch_page.new.pages) c.loop-step.invariant.looks c.in-Ok.ensures.looks).shape (pairs_plan (index_pages_of (g.S.EawStore.view c.args.pages.now.store).shape) c.args.front.now.next_slot c.args.table c.loop-step.page (low_of c.loop-step.last) None (pairs_said c.fetch_page.new.bytes)) (linked (g.S.EawStore.view c.args.pages.now.store).shape c.args.front.now c.args.table (c.args.front.now.next_page - (c.loop-step._step + 1)) c.loop-step.page (low_of c.loop-step.last) c.fetch_page.new.bytes) c.in-Ok-check_pairs.last (so_holds _ _ _ (so_page (c.loop-step.invariant.looks.still refl) c.loop-step.invariant.looks.shape c.loop-step.page (λ said. holding (IsChainHead (low_of c.loop-step.last) said) c.loop-step.page (in_turn (pairs_plan (index_pages_of (g.S.EawStore.view c.args.pages.now.store).shape) c.args.front.now.next_slot c.args.table c.loop-step.page (low_of c.loop-step.last) None (pairs_said said)) (linked (g.S.EawStore.view c.args.pages.now.store).shape c.args.front.now c.args.table (c.args.front.now.next_page - (c.loop-step._step + 1)) c.loop-step.page (low_of c.loop-step.last) said))) c.fetch_page.new.bytes (subst (λ (m : ℕ). SoFar g.S.EawStore.tells (g.S.EawStore.calls c.args.pages.now.store) (g.S.EawStore.calls c.loop-step.pages.store) (chain_plan_from (g.S.EawStore.view c.args.pages.now.store).shape c.args.front.now c.args.table m c.loop-step.page (low_of c.loop-step.last)) (chain_plan (g.S.EawStore.view c.args.pages.now.store).shape c.args.front.now c.args.root c.args.table) (g.S.EawStore.view c.args.pages.now.store) (g.S.EawStore.view c.loop-step.pages.store)) (let e : c.args.front.now.next_page - c.loop-step._step ≡ suc (c.args.front.now.next_page - (c.loop-step._step + 1)) = omega (arith, c.loop-step-test.true) in e) c.loop-step.invariant.tests) c.in-Ok.ensures.reads) c.in-Some.ensures.head) (subst (λ (s : Shape). Tries g.S.EawStore.tells (g.S.EawStore.calls c.fetch_page.new.pages.store) (g.S.EawStore.calls c.check_pairs.new.pages.store) (pairs_plan (index_pages_of s) c.args.front.now.next_slot c.args.table c.loop-step.page (low_of c.loop-step.last) None (pairs_said c.fetch_page.new.bytes)) (g.S.EawStore.view c.fetch_page.new.pages.store) (g.S.EawStore.view c.check_pairs.new.pages.store) r) (looks_next g.S.EawStore.tells g.S.EawStore.opens false (pages_of (g.S.EawStore.view c.args.pages.now.store) c.args.pages.now) (pages_of (g.S.EawStore.view c.loop-step.pages.store) c.loop-step.pages) (pages_of (g.S.EawStore.view c.fetch_page.new.pages.store) c.fetch_page.new.pages) c.loop-step.invariant.looks c.in-Ok.ensures.looks).shape c.in-Ok-check_pairs.ensures.tests))) (λ to. omega (arith, to.0, c.if-head-lt2.true, c.in-Some.ensures.says.link))
+
+pub returns-then-head-front-clause-tests : goal.returns-then-head-front-clause-tests
+returns-then-head-front-clause-tests g c = so_bad _ _ _ (subst (λ (p : Plan). SoFar g.S.EawStore.tells (g.S.EawStore.calls c.args.pages.now.store) (g.S.EawStore.calls c.check_pairs.new.pages.store) p (chain_plan (g.S.EawStore.view c.args.pages.now.store).shape c.args.front.now c.args.root c.args.table) (g.S.EawStore.view c.args.pages.now.store) (g.S.EawStore.view c.check_pairs.new.pages.store)) (link_some (g.S.EawStore.view c.args.pages.now.store).shape c.args.front.now c.args.table (c.args.front.now.next_page - (c.loop-step._step + 1)) c.loop-step.page (low_of c.loop-step.last) c.fetch_page.new.bytes (λ (e : link_said c.fetch_page.new.bytes ≡ 0). c.if-head-eq0.false (c.in-Some.ensures.says.link ∙ e))) (let r : Result (Option ℕ) CheckFault = Ok c.in-Ok-check_pairs.last in so_then ((looks_next g.S.EawStore.tells g.S.EawStore.opens false (pages_of (g.S.EawStore.view c.args.pages.now.store) c.args.pages.now) (pages_of (g.S.EawStore.view c.loop-step.pages.store) c.loop-step.pages) (pages_of (g.S.EawStore.view c.fetch_page.new.pages.store) c.fetch_page.new.pages) c.loop-step.invariant.looks c.in-Ok.ensures.looks).still refl) (looks_next g.S.EawStore.tells g.S.EawStore.opens false (pages_of (g.S.EawStore.view c.args.pages.now.store) c.args.pages.now) (pages_of (g.S.EawStore.view c.loop-step.pages.store) c.loop-step.pages) (pages_of (g.S.EawStore.view c.fetch_page.new.pages.store) c.fetch_page.new.pages) c.loop-step.invariant.looks c.in-Ok.ensures.looks).shape (pairs_plan (index_pages_of (g.S.EawStore.view c.args.pages.now.store).shape) c.args.front.now.next_slot c.args.table c.loop-step.page (low_of c.loop-step.last) None (pairs_said c.fetch_page.new.bytes)) (linked (g.S.EawStore.view c.args.pages.now.store).shape c.args.front.now c.args.table (c.args.front.now.next_page - (c.loop-step._step + 1)) c.loop-step.page (low_of c.loop-step.last) c.fetch_page.new.bytes) c.in-Ok-check_pairs.last (so_holds _ _ _ (so_page (c.loop-step.invariant.looks.still refl) c.loop-step.invariant.looks.shape c.loop-step.page (λ said. holding (IsChainHead (low_of c.loop-step.last) said) c.loop-step.page (in_turn (pairs_plan (index_pages_of (g.S.EawStore.view c.args.pages.now.store).shape) c.args.front.now.next_slot c.args.table c.loop-step.page (low_of c.loop-step.last) None (pairs_said said)) (linked (g.S.EawStore.view c.args.pages.now.store).shape c.args.front.now c.args.table (c.args.front.now.next_page - (c.loop-step._step + 1)) c.loop-step.page (low_of c.loop-step.last) said))) c.fetch_page.new.bytes (subst (λ (m : ℕ). SoFar g.S.EawStore.tells (g.S.EawStore.calls c.args.pages.now.store) (g.S.EawStore.calls c.loop-step.pages.store) (chain_plan_from (g.S.EawStore.view c.args.pages.now.store).shape c.args.front.now c.args.table m c.loop-step.page (low_of c.loop-step.last)) (chain_plan (g.S.EawStore.view c.args.pages.now.store).shape c.args.front.now c.args.root c.args.table) (g.S.EawStore.view c.args.pages.now.store) (g.S.EawStore.view c.loop-step.pages.store)) (let e : c.args.front.now.next_page - c.loop-step._step ≡ suc (c.args.front.now.next_page - (c.loop-step._step + 1)) = omega (arith, c.loop-step-test.true) in e) c.loop-step.invariant.tests) c.in-Ok.ensures.reads) c.in-Some.ensures.head) (subst (λ (s : Shape). Tries g.S.EawStore.tells (g.S.EawStore.calls c.fetch_page.new.pages.store) (g.S.EawStore.calls c.check_pairs.new.pages.store) (pairs_plan (index_pages_of s) c.args.front.now.next_slot c.args.table c.loop-step.page (low_of c.loop-step.last) None (pairs_said c.fetch_page.new.bytes)) (g.S.EawStore.view c.fetch_page.new.pages.store) (g.S.EawStore.view c.check_pairs.new.pages.store) r) (looks_next g.S.EawStore.tells g.S.EawStore.opens false (pages_of (g.S.EawStore.view c.args.pages.now.store) c.args.pages.now) (pages_of (g.S.EawStore.view c.loop-step.pages.store) c.loop-step.pages) (pages_of (g.S.EawStore.view c.fetch_page.new.pages.store) c.fetch_page.new.pages) c.loop-step.invariant.looks c.in-Ok.ensures.looks).shape c.in-Ok-check_pairs.ensures.tests))) (λ to. omega (arith, to.1, c.if-head-front.true, c.in-Some.ensures.says.link))
+
+pub returns-in-Err-fetch_page-clause-looks : goal.returns-in-Err-fetch_page-clause-looks
+returns-in-Err-fetch_page-clause-looks g c =
+    let r : Result (Unit {0}) PageFault = Err c.in-Err-fetch_page.fault in
+    check_looks (Unit {0}) g.S.EawStore.tells (g.S.EawStore.opens (g.S.EawStore.view c.args.pages.now.store).shape) (pages_of (g.S.EawStore.view c.args.pages.now.store) c.args.pages.now) (pages_of (g.S.EawStore.view c.fetch_page-2.new.pages.store) c.fetch_page-2.new.pages)
+    c.in-Err-fetch_page.fault c.check_fault-in-Err-fetch_page.result c.check_fault-in-Err-fetch_page.ensures
+    (looks_next g.S.EawStore.tells g.S.EawStore.opens (is_failed r) (pages_of (g.S.EawStore.view c.args.pages.now.store) c.args.pages.now) (pages_of (g.S.EawStore.view c.loop-step.pages.store) c.loop-step.pages)
+    (pages_of (g.S.EawStore.view c.fetch_page-2.new.pages.store) c.fetch_page-2.new.pages) c.loop-step.invariant.looks c.in-Err-fetch_page.ensures.looks)
+
+pub returns-in-Err-fetch_page-clause-tests : goal.returns-in-Err-fetch_page-clause-tests
+returns-in-Err-fetch_page-clause-tests g c =
+    so_page_err (c.loop-step.invariant.looks.still refl) c.loop-step.invariant.looks.shape (Unit {0}) c.loop-step.page (λ said. holding ⊥ c.loop-step.page at_end) c.fetch_page-2.new.bytes
+    (page_bytes (g.S.EawStore.view c.loop-step.pages.store).state.bytes c.loop-step.page) c.in-Err-fetch_page.fault c.check_fault-in-Err-fetch_page.result c.check_fault-in-Err-fetch_page.ensures
+    (subst (λ (m : ℕ). SoFar g.S.EawStore.tells (g.S.EawStore.calls c.args.pages.now.store) (g.S.EawStore.calls c.loop-step.pages.store)
+    (chain_plan_from (g.S.EawStore.view c.args.pages.now.store).shape c.args.front.now c.args.table m c.loop-step.page (low_of c.loop-step.last)) (chain_plan (g.S.EawStore.view c.args.pages.now.store).shape c.args.front.now c.args.root c.args.table)
+    (g.S.EawStore.view c.args.pages.now.store) (g.S.EawStore.view c.loop-step.pages.store)) (let e : c.args.front.now.next_page - c.loop-step._step ≡ 0 = omega (arith, c.loop-step-test.false) in e) c.loop-step.invariant.tests)
+    c.loop-step.invariant.alive c.in-Err-fetch_page.ensures.cause c.in-Err-fetch_page.ensures.reads
+
+pub returns-clause-tests : goal.returns-clause-tests
+returns-clause-tests g c =
+    so_bad ⊥ c.loop-step.page at_end
+    (so_page (c.loop-step.invariant.looks.still refl) c.loop-step.invariant.looks.shape c.loop-step.page (λ said. holding ⊥ c.loop-step.page at_end) c.fetch_page-2.new.bytes
+    (subst (λ (m : ℕ). SoFar g.S.EawStore.tells (g.S.EawStore.calls c.args.pages.now.store) (g.S.EawStore.calls c.loop-step.pages.store)
+    (chain_plan_from (g.S.EawStore.view c.args.pages.now.store).shape c.args.front.now c.args.table m c.loop-step.page (low_of c.loop-step.last)) (chain_plan (g.S.EawStore.view c.args.pages.now.store).shape c.args.front.now c.args.root c.args.table)
+    (g.S.EawStore.view c.args.pages.now.store) (g.S.EawStore.view c.loop-step.pages.store)) (let e : c.args.front.now.next_page - c.loop-step._step ≡ 0 = omega (arith, c.loop-step-test.false) in e) c.loop-step.invariant.tests)
+    c.in-Ok-fetch_page.ensures.reads) (λ never. never)

@@ -14,6 +14,11 @@ use Rattle.index_pages.proofs.Tests.{not_damaged, not_passed}
 use Rattle.page_store.specs.Records.{rows_of}
 use Rattle.index_pages.proofs.Gathered.{told_step, told_none, told_end}
 use Rattle.key_list.specs.Chain.{chain_check, pairs_of_chain}
+use Rattle.std.proofs.Common.{ℕ, suc, ◌+◌, drop}
+use Rattle.record_slots.specs.Super.{tables_in}
+use Rattle.index_pages.specs.Plans.{Tries, tables_plan}
+use Rattle.index_pages.proofs.Trying.{SoFar, so_first, so_passes, table_named, table_fails, table_goes, table_stops, table_over, table_last, so_stops, tables_stop}
+use Rattle.key_list.specs.Tried.{chain_plan}
 use Rattle.key_list.proofs.checking.check_tables.Goals as goal
 
 pub loop-table-init : goal.loop-table-init
@@ -22,6 +27,7 @@ loop-table-init g c = record {
   alive = c.requires.alive;
   records = λ told says. refl;
   left = λ told says. all_left (chain_check (g.S.EawStore.view c.args.pages.now.store).state.bytes) (tables_of (g.S.EawStore.view c.args.pages.now.store).state.bytes);
+  tests = so_first (tables_plan c.args.front.now.next_page (chain_plan (g.S.EawStore.view c.args.pages.now.store).shape c.args.front.now) 0 (tables_in c.args.front.now.version c.args.front.now.entries));
 }
 
 pub returns-in_default-clause-cause : goal.returns-in_default-clause-cause
@@ -69,6 +75,11 @@ loop-table-preserved g c =
           tables_step (chain_check (g.S.EawStore.view c.args.pages.now.store).state.bytes) (tables_of (g.S.EawStore.view c.args.pages.now.store).state.bytes) c.loop-table.table (c.loop-table.invariant.left told says) c.in-Some.root
           (root_says (g.S.EawStore.view c.args.pages.now.store).state.bytes c.args.front.now c.loop-table.table says ∙ sym c.table_root.ensures ∙ c.in-Some.is)
           (subst (λ (s : State). IsVerdict (chain_check s.bytes c.in-Some.root c.loop-table.table) r) same cause);
+      tests =
+          let r : Result (Unit {0}) CheckFault = Ok tt in
+          let on : suc c.loop-table.table ≡ c.loop-table.table + 1 = omega arith in
+          subst (λ (n : ℕ). SoFar g.S.EawStore.tells (g.S.EawStore.calls c.args.pages.now.store) (g.S.EawStore.calls c.check_table.new.pages.store) (tables_plan c.args.front.now.next_page (chain_plan (g.S.EawStore.view c.args.pages.now.store).shape c.args.front.now) n (drop n (tables_in c.args.front.now.version c.args.front.now.entries))) (tables_plan c.args.front.now.next_page (chain_plan (g.S.EawStore.view c.args.pages.now.store).shape c.args.front.now) 0 (tables_in c.args.front.now.version c.args.front.now.entries)) (g.S.EawStore.view c.args.pages.now.store) (g.S.EawStore.view c.check_table.new.pages.store)) on
+          (table_goes c.args.front.now.next_page (chain_plan (g.S.EawStore.view c.args.pages.now.store).shape c.args.front.now) (tables_in c.args.front.now.version c.args.front.now.entries) c.loop-table.table c.in-Some.root (c.loop-table.invariant.looks.still refl) c.loop-table.invariant.looks.shape (table_named c.args.front.now.next_page (chain_plan (g.S.EawStore.view c.args.pages.now.store).shape c.args.front.now) (tables_in c.args.front.now.version c.args.front.now.entries) c.loop-table.table c.in-Some.root (sym c.table_root.ensures ∙ c.in-Some.is) c.loop-table.invariant.tests (omega (arith, c.if-root-front.false))) tt (subst (λ (s : Shape). Tries g.S.EawStore.tells (g.S.EawStore.calls c.loop-table.pages.store) (g.S.EawStore.calls c.check_table.new.pages.store) (chain_plan s c.args.front.now c.in-Some.root c.loop-table.table) (g.S.EawStore.view c.loop-table.pages.store) (g.S.EawStore.view c.check_table.new.pages.store) r) c.loop-table.invariant.looks.shape c.in-Ok.ensures.tests));
     }
 
 pub returns-clause-cause : goal.returns-clause-cause
@@ -114,3 +125,22 @@ returns-clause-records g c = λ told says.
 pub returns-in-Err-push-clause-looks : goal.returns-in-Err-push-clause-looks
 returns-in-Err-push-clause-looks g c =
     looks_next g.S.EawStore.tells g.S.EawStore.opens false (pages_of (g.S.EawStore.view c.args.pages.now.store) c.args.pages.now) (pages_of (g.S.EawStore.view c.loop-table.pages.store) c.loop-table.pages) (pages_of (g.S.EawStore.view c.check_table.new.pages.store) c.check_table.new.pages) c.loop-table.invariant.looks c.in-Ok.ensures.looks
+
+pub returns-in_default-clause-tests : goal.returns-in_default-clause-tests
+returns-in_default-clause-tests g c = table_over c.args.front.now.next_page (chain_plan (g.S.EawStore.view c.args.pages.now.store).shape c.args.front.now) (tables_in c.args.front.now.version c.args.front.now.entries) c.loop-table.table (sym c.table_root.ensures ∙ c.in_default.is) c.loop-table.invariant.tests
+
+pub returns-then-root-front-clause-tests : goal.returns-then-root-front-clause-tests
+returns-then-root-front-clause-tests g c = table_fails c.args.front.now.next_page (chain_plan (g.S.EawStore.view c.args.pages.now.store).shape c.args.front.now) (tables_in c.args.front.now.version c.args.front.now.entries) c.loop-table.table c.in-Some.root (sym c.table_root.ensures ∙ c.in-Some.is) c.loop-table.invariant.tests (λ less. omega (arith, less, c.if-root-front.true))
+
+pub returns-in-Err-clause-tests : goal.returns-in-Err-clause-tests
+returns-in-Err-clause-tests g c =
+    let r : Result (Unit {0}) CheckFault = Err c.in-Err.fault in
+    table_stops c.args.front.now.next_page (chain_plan (g.S.EawStore.view c.args.pages.now.store).shape c.args.front.now) (tables_in c.args.front.now.version c.args.front.now.entries) c.loop-table.table c.in-Some.root (c.loop-table.invariant.looks.still refl) c.loop-table.invariant.looks.shape (table_named c.args.front.now.next_page (chain_plan (g.S.EawStore.view c.args.pages.now.store).shape c.args.front.now) (tables_in c.args.front.now.version c.args.front.now.entries) c.loop-table.table c.in-Some.root (sym c.table_root.ensures ∙ c.in-Some.is) c.loop-table.invariant.tests (omega (arith, c.if-root-front.false))) c.in-Err.fault (subst (λ (s : Shape). Tries g.S.EawStore.tells (g.S.EawStore.calls c.loop-table.pages.store) (g.S.EawStore.calls c.check_table.new.pages.store) (chain_plan s c.args.front.now c.in-Some.root c.loop-table.table) (g.S.EawStore.view c.loop-table.pages.store) (g.S.EawStore.view c.check_table.new.pages.store) r) c.loop-table.invariant.looks.shape c.in-Err.ensures.tests)
+
+pub returns-in-Err-push-clause-tests : goal.returns-in-Err-push-clause-tests
+returns-in-Err-push-clause-tests g c =
+    let r : Result (Unit {0}) CheckFault = Ok tt in
+    so_stops _ (table_goes c.args.front.now.next_page (chain_plan (g.S.EawStore.view c.args.pages.now.store).shape c.args.front.now) (tables_in c.args.front.now.version c.args.front.now.entries) c.loop-table.table c.in-Some.root (c.loop-table.invariant.looks.still refl) c.loop-table.invariant.looks.shape (table_named c.args.front.now.next_page (chain_plan (g.S.EawStore.view c.args.pages.now.store).shape c.args.front.now) (tables_in c.args.front.now.version c.args.front.now.entries) c.loop-table.table c.in-Some.root (sym c.table_root.ensures ∙ c.in-Some.is) c.loop-table.invariant.tests (omega (arith, c.if-root-front.false))) tt (subst (λ (s : Shape). Tries g.S.EawStore.tells (g.S.EawStore.calls c.loop-table.pages.store) (g.S.EawStore.calls c.check_table.new.pages.store) (chain_plan s c.args.front.now c.in-Some.root c.loop-table.table) (g.S.EawStore.view c.loop-table.pages.store) (g.S.EawStore.view c.check_table.new.pages.store) r) c.loop-table.invariant.looks.shape c.in-Ok.ensures.tests)) (tables_stop _ _ _ _)
+
+pub returns-clause-tests : goal.returns-clause-tests
+returns-clause-tests g c = table_last c.args.front.now.next_page (chain_plan (g.S.EawStore.view c.args.pages.now.store).shape c.args.front.now) c.args.front.now.version c.args.front.now.entries c.loop-table.table (omega (arith, c.loop-table-test.false)) c.loop-table.invariant.tests
