@@ -17,7 +17,7 @@ use Rattle.record_slots.specs.Places.{next_page, tables_of}
 use Rattle.record_slots.specs.declared.super_page.TableEntry.{TableEntry}
 use Rattle.record_table.specs.Attached.{Attached}
 use Rattle.record_table.specs.Does.{OpensWith}
-use Rattle.record_table.specs.Making.{Makes, MakeCause, is_make_failed}
+use Rattle.record_table.specs.Making.{Makes, MakeCause, OnlyUpgrades, is_make_failed}
 use Rattle.record_table.specs.Does.{OpensNamed}
 use Rattle.record_table.specs.Names.{names_of, IsNew}
 use Rattle.record_table.specs.Shown.{table_of, state_of}
@@ -122,4 +122,5 @@ module _ (tells : Bool) (Opens : Shape → List ℕ → List ℕ → Type 0) (in
     time = time result makes;
     now = at_ok result makes;
     same = at_refusal result makes;
+    upgrades = λ told. subst (λ (b : List ℕ). OnlyUpgrades b r.store.state.bytes result) (bytes result makes told) (makes.upgrades told);
   }

@@ -15,8 +15,9 @@ use Rattle.eaw_face.proofs.Mirroring.{sent_then}
 use Rattle.eaw_device.specs.Opens.{Opens, KeepsData, Attached, HoldsArray, IsBehind}
 use Rattle.record_slots.specs.Places.{next_page}
 use Rattle.page_store.specs.Index.{Index, index_pages_of}
-use Rattle.record_table.specs.Making.{is_make_failed}
+use Rattle.record_table.specs.Making.{OnlyUpgrades, is_make_failed}
 use Rattle.record_table.specs.Names.{names_of, IsNew}
+use Rattle.record_table.specs.Upgrading.{upgraded}
 use Rattle.record_table.specs.declared.making.MakeFault.{MakeFault}
 use Rattle.record_table.specs.declared.making.MakeFault.TheVariants as make
 use Rattle.mars_core.specs.Making.{OpensAsNamed, OpensWithName}
@@ -102,12 +103,13 @@ module _ (tells : Bool) (told : IsTrue tells) (old : View) (only_now : (image : 
   made_outcome j made status false text is wrote = subst (λ (s : Status). MakeOutcome name old s new false text) (sym is) (inl (makes j made script.All false text refl wrote))
 
   -- it was not made
-  refuses : (f : MakeFault) (made : making.MakesTable tells (Opens store.shape) (index_at store.state.bytes) name store later (Err f)) → (let r : Result ℕ MakeFault = Err f in is_make_failed r ≡ false) → (refusal : Refusal)
-      → RefusalCause name store.shape old refusal → Refuses name refusal old new false []
-  refuses f made well refusal cause = record {
+  refuses : (f : MakeFault) (made : making.MakesTable tells (Opens store.shape) (index_at store.state.bytes) name store later (Err f)) → (let r : Result ℕ MakeFault = Err f in is_make_failed r ≡ false)
+      → later.state.bytes ≡ upgraded store.state.bytes → (refusal : Refusal) → RefusalCause name store.shape old refusal → Refuses name refusal old new false []
+  refuses f made well upgrades refusal cause = record {
     shape = store.shape;
     tries = tries (Err f) made;
     cause = cause;
+    left = subst (λ (s : Shape). settled_data s new.content.bytes ≡ later.state.bytes) made.shape (behind.bytes told ((made.kept well).0 ∙ attached.alive)) ∙ own (λ b. later.state.bytes ≡ upgraded b) upgrades;
     now = λ image left. had (Err f) made image (made.same told well image (left_now image left));
     quiet = quiet (Err f) made ((made.kept well).0 ∙ attached.alive);
     silent = refl;
@@ -116,11 +118,11 @@ module _ (tells : Bool) (told : IsTrue tells) (old : View) (only_now : (image : 
   pub unmade_outcome : (f : MakeFault) → making.MakesTable tells (Opens store.shape) (index_at store.state.bytes) name store later (Err f) → MakeOutcome name old (made_status f name) new false []
   unmade_outcome make.Exists made =
       let cause = own (λ b. (j : ℕ) × (slice_get (names_of b) j ≡ Some name)) (made.cause.1 told) in
-      inr (Exists name, refl, refuses make.Exists made refl (Exists name) (refl, cause.0, cause.1))
-  unmade_outcome make.TablesFull made = inr (TablesFull, refl, refuses make.TablesFull made refl TablesFull (own (λ b. IsNew name (names_of b) × (length (names_of b) ≡ 8)) (made.cause.1 told)))
+      inr (Exists name, refl, refuses make.Exists made refl (made.upgrades told) (Exists name) (refl, cause.0, cause.1))
+  unmade_outcome make.TablesFull made = inr (TablesFull, refl, refuses make.TablesFull made refl (made.upgrades told) TablesFull (own (λ b. IsNew name (names_of b) × (length (names_of b) ≡ 8)) (made.cause.1 told)))
   unmade_outcome (make.PagesFull n) made =
       let cause = own (λ b. IsNew name (names_of b) × (length (names_of b) < 8) × (next_page b ≡ index_pages_of store.shape)) (made.cause.2 told) in
-      inr (PagesFull n, refl, refuses (make.PagesFull n) made refl (PagesFull n) (cause.0, cause.1, cause.2, made.cause.1))
+      inr (PagesFull n, refl, refuses (make.PagesFull n) made refl (made.upgrades told) (PagesFull n) (cause.0, cause.1, cause.2, made.cause.1))
   unmade_outcome make.Media made = inl (inr (refl, (store.shape, tries (Err make.Media) made)))
   unmade_outcome make.Dead made = absurd (false≢true (sym attached.alive ∙ made.cause))
   unmade_outcome (make.Damaged page) made = absurd (made.cause.1 told)
@@ -165,6 +167,7 @@ makes_over tells Opens form name old mid new alive says made makes = record {
   time = λ told. going.then (going.weaker (λ image opens. inl (record { bytes = old.state.bytes; opened = opens; sound = moved told (λ h b i. i.sound b) (makes.sound told); named = refl; shows = refl })) (says.time told))
       (moved told (λ h b i. LeavesOnly (λ image. OpensAsNamed (Opens h) i b image ⊎ OpensWithName (Opens h) i name b image) mid new) (makes.time told));
   now = λ told. moved told (λ h b i. OnOk made ((image : List ℕ) → new.left_since new.moment image → OpensWithName (Opens h) i name b image)) (makes.now told);
+  upgrades = λ told. moved told (λ h b i. OnlyUpgrades b new.state.bytes made) (makes.upgrades told);
   same = λ told well. moved told (λ h b i. OnErr made ((image : List ℕ) → new.left_since new.moment image → OpensAsNamed (Opens h) i b image)) (makes.same told well);
 }
   where

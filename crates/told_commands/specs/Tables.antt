@@ -11,6 +11,7 @@ use Rattle.eaw_device.specs.Opens.{Opens}
 use Rattle.record_slots.specs.Places.{next_page}
 use Rattle.page_store.specs.Index.{Index, index_pages_of}
 use Rattle.record_table.specs.Names.{names_of, IsNew}
+use Rattle.record_table.specs.Upgrading.{upgraded}
 use Rattle.record_table.specs.declared.making.MakeFault.{MakeFault}
 use Rattle.record_table.specs.declared.making.MakeFault.TheVariants as make
 use Rattle.mars_core.specs.Making as making
@@ -70,11 +71,13 @@ RefusalCause name shape old TablesFull = IsNew name (names_on shape old) × (len
 RefusalCause name shape old (PagesFull n) =
     IsNew name (names_on shape old) × (length (names_on shape old) < 8) × (next_page (settled_data shape old.content.bytes) ≡ index_pages_of shape) × (n ≡ index_pages_of shape - 1)
 
--- It was refused, and nothing is told. Whatever a loss of power may leave at the end has the records and the names that were there.
+-- It was refused, and nothing is told. The data is that before in version 2, byte for byte, and whatever a loss of power may leave at the end
+-- has the records and the names that were there.
 pub record Refuses (name : List ℕ) (refusal : Refusal) (old new : View) (cut : Bool) (text : List ℕ) : Type 0 where
   pub shape : Shape
   pub tries : Tries name shape old new
   pub cause : RefusalCause name shape old refusal
+  pub left : settled_data shape new.content.bytes ≡ upgraded (settled_data shape old.content.bytes)
   pub now : (image : List ℕ) → MayLeave new.content image → HasNames shape old image
   pub quiet : HasNoVote shape new.content.bytes
   pub silent : IsWritten cut text []
