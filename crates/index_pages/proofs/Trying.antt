@@ -335,28 +335,34 @@ module _ (half slots table page : ℕ) (held : Option Reading) (pair : Pair) (ne
   pub slot_on : (now : HeldPage) (read later : List Excerpt) (to : Outcome) → Brings (slot_plan half slots table page held pair (λ h. holding (h ≡ held_of now) 0 at_end)) read passes → Brings (next (held_of now)) later to
       → Brings (slot_plan half slots table page held pair next) (read ++ later) to
   slot_on now read later to (inl first) rest =
-      inl (first.0, held_on held _ _ _ read later passes to
-      (λ said es more. elim more [
-        | inl carries ↦ elim carries.1 [
-          | inl same ↦
-              let none : es ≡ [] = same.1.0 in
-              inl (carries.0, subst (λ (xs : List Excerpt). Brings (next (Some (half + pair.1 / 8, said))) (xs ++ later) to) (sym none) (subst (λ (h : Option Reading). Brings (next h) later to) (sym same.0) rest))
-          | inr over ↦ absurd over.1
-        ]
-        | inr over ↦ absurd over.1
-      ]) (λ is. cc) first.1)
+      inl (
+        first.0,
+        held_on held _ _ _ read later passes to
+            (λ said es more. elim more [
+              | inl carries ↦ elim carries.1 [
+                | inl same ↦
+                    let none : es ≡ [] = same.1.0 in
+                    inl (carries.0, subst (λ (xs : List Excerpt). Brings (next (Some (half + pair.1 / 8, said))) (xs ++ later) to) (sym none) (subst (λ (h : Option Reading). Brings (next h) later to) (sym same.0) rest))
+                | inr over ↦ absurd over.1
+              ]
+              | inr over ↦ absurd over.1
+            ]) (λ is. cc) first.1,
+      )
   slot_on now read later to (inr over) rest = absurd over.1
 
   pub slot_same : (read : List Excerpt) (to : Outcome) → to ≢ passes → ((now : Option Reading) → Brings (next now) [] stops) → Brings (slot_plan half slots table page held pair (λ h. at_end)) read to → Brings (slot_plan half slots table page held pair next) read to
   slot_same read to other may (inl first) =
-      inl (first.0, held_same held _ _ _ read to
-      (λ said es more. elim more [
-        | inl carries ↦ elim carries.1.1 [
-          | inl passed ↦ absurd (other passed)
-          | inr stopped ↦ inl (carries.0, subst (λ (xs : List Excerpt). Brings (next (Some (half + pair.1 / 8, said))) xs to) (sym carries.1.0) (subst (λ (o : Outcome). Brings (next (Some (half + pair.1 / 8, said))) [] o) (sym stopped) (may (Some (half + pair.1 / 8, said)))))
-        ]
-        | inr over ↦ inr over
-      ]) first.1)
+      inl (
+        first.0,
+        held_same held _ _ _ read to
+            (λ said es more. elim more [
+              | inl carries ↦ elim carries.1.1 [
+                | inl passed ↦ absurd (other passed)
+                | inr stopped ↦ inl (carries.0, subst (λ (xs : List Excerpt). Brings (next (Some (half + pair.1 / 8, said))) xs to) (sym carries.1.0) (subst (λ (o : Outcome). Brings (next (Some (half + pair.1 / 8, said))) [] o) (sym stopped) (may (Some (half + pair.1 / 8, said)))))
+              ]
+              | inr over ↦ inr over
+            ]) first.1,
+      )
   slot_same read to other may (inr over) = inr over
 
   module _ {tells : Bool} {calls calls_mid calls_now : Command → ℕ} {whole : Plan} {old mid new : StoreView} (still : IsStill tells old mid) (shape : mid.shape ≡ old.shape)

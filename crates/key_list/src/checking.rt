@@ -153,6 +153,7 @@ fn check_table<S: EawStore>(
         }
         page = head.link;
     }
+    // More pages than there are: this one was met before. It is read, so that each page that is named was read.
     match fetch_page(pages, page, &mut bytes) {
         Ok(()) => {}
         Err(fault) => return Err(check_fault(fault)),

@@ -128,8 +128,8 @@ check_children-loop-i-preserved g t c =
           subst (λ (n : ℕ). SoFar g.S.EawStore.tells (g.S.EawStore.calls c.args.pages.now.store) (g.S.EawStore.calls c.check_under.new.pages.store) (children_plan (under_plan (g.S.EawStore.view c.args.pages.now.store).shape c.args.front.now c.args.root.page c.args.root.table (c.args.level - 1)) (pairs_from c.args.bytes.now n (c.args.count - n)) (high_of c.args.high)) (children_plan (under_plan (g.S.EawStore.view c.args.pages.now.store).shape c.args.front.now c.args.root.page c.args.root.table (c.args.level - 1)) (pairs_said c.args.bytes.now) (high_of c.args.high)) (g.S.EawStore.view c.args.pages.now.store) (g.S.EawStore.view c.check_under.new.pages.store)) on
           (so_then (c.loop-i.invariant.looks.still refl) c.loop-i.invariant.looks.shape (under_plan (g.S.EawStore.view c.args.pages.now.store).shape c.args.front.now c.args.root.page c.args.root.table (c.args.level - 1) (pair_said c.args.bytes.now c.loop-i.i).1 (pair_said c.args.bytes.now c.loop-i.i).0 (next_low (pairs_from c.args.bytes.now (suc c.loop-i.i) (c.args.count - suc c.loop-i.i)) (high_of c.args.high))) (children_plan (under_plan (g.S.EawStore.view c.args.pages.now.store).shape c.args.front.now c.args.root.page c.args.root.table (c.args.level - 1)) (pairs_from c.args.bytes.now (suc c.loop-i.i) (c.args.count - suc c.loop-i.i)) (high_of c.args.high)) tt (subst (λ (ps : List Pair). SoFar g.S.EawStore.tells (g.S.EawStore.calls c.args.pages.now.store) (g.S.EawStore.calls c.loop-i.pages.store) (children_plan (under_plan (g.S.EawStore.view c.args.pages.now.store).shape c.args.front.now c.args.root.page c.args.root.table (c.args.level - 1)) ps (high_of c.args.high)) (children_plan (under_plan (g.S.EawStore.view c.args.pages.now.store).shape c.args.front.now c.args.root.page c.args.root.table (c.args.level - 1)) (pairs_said c.args.bytes.now) (high_of c.args.high)) (g.S.EawStore.view c.args.pages.now.store) (g.S.EawStore.view c.loop-i.pages.store)) (from_step c.args.bytes.now c.loop-i.i c.args.count c.loop-i-test.true) c.loop-i.invariant.tests)
           (subst (λ (s : Shape). Tries g.S.EawStore.tells (g.S.EawStore.calls c.loop-i.pages.store) (g.S.EawStore.calls c.check_under.new.pages.store) (under_plan s c.args.front.now c.args.root.page c.args.root.table (c.args.level - 1) (pair_said c.args.bytes.now c.loop-i.i).1 (pair_said c.args.bytes.now c.loop-i.i).0 (next_low (pairs_from c.args.bytes.now (suc c.loop-i.i) (c.args.count - suc c.loop-i.i)) (high_of c.args.high))) (g.S.EawStore.view c.loop-i.pages.store) (g.S.EawStore.view c.check_under.new.pages.store) r) c.loop-i.invariant.looks.shape
-    (subst (λ (h : ℕ). Tries g.S.EawStore.tells (g.S.EawStore.calls c.loop-i.pages.store) (g.S.EawStore.calls c.check_under.new.pages.store) (under_plan (g.S.EawStore.view c.loop-i.pages.store).shape c.args.front.now c.args.root.page c.args.root.table (c.args.level - 1) (pair_said c.args.bytes.now c.loop-i.i).1 (pair_said c.args.bytes.now c.loop-i.i).0 h) (g.S.EawStore.view c.loop-i.pages.store) (g.S.EawStore.view c.check_under.new.pages.store) r) c.end_of.ensures
-    (subst (λ (p : Pair). Tries g.S.EawStore.tells (g.S.EawStore.calls c.loop-i.pages.store) (g.S.EawStore.calls c.check_under.new.pages.store) (under_plan (g.S.EawStore.view c.loop-i.pages.store).shape c.args.front.now c.args.root.page c.args.root.table (c.args.level - 1) p.1 p.0 (high_of c.end_of.result)) (g.S.EawStore.view c.loop-i.pages.store) (g.S.EawStore.view c.check_under.new.pages.store) r) c.read_pair-low.ensures.pair c.in-Ok.ensures.tests))));
+          (subst (λ (h : ℕ). Tries g.S.EawStore.tells (g.S.EawStore.calls c.loop-i.pages.store) (g.S.EawStore.calls c.check_under.new.pages.store) (under_plan (g.S.EawStore.view c.loop-i.pages.store).shape c.args.front.now c.args.root.page c.args.root.table (c.args.level - 1) (pair_said c.args.bytes.now c.loop-i.i).1 (pair_said c.args.bytes.now c.loop-i.i).0 h) (g.S.EawStore.view c.loop-i.pages.store) (g.S.EawStore.view c.check_under.new.pages.store) r) c.end_of.ensures
+          (subst (λ (p : Pair). Tries g.S.EawStore.tells (g.S.EawStore.calls c.loop-i.pages.store) (g.S.EawStore.calls c.check_under.new.pages.store) (under_plan (g.S.EawStore.view c.loop-i.pages.store).shape c.args.front.now c.args.root.page c.args.root.table (c.args.level - 1) p.1 p.0 (high_of c.end_of.result)) (g.S.EawStore.view c.loop-i.pages.store) (g.S.EawStore.view c.check_under.new.pages.store) r) c.read_pair-low.ensures.pair c.in-Ok.ensures.tests))));
     }
 
 pub check_children-returns-clause-cause : goal.check_children-returns-clause-cause

@@ -120,7 +120,7 @@ returns-in-Err-clause-tests g c =
     so_slot_err (index_pages_of (g.S.EawStore.view c.args.pages.now.store).shape) c.args.slots c.args.table c.args.page (held_of c.loop-i.held) (pair_said c.args.bytes.now c.loop-i.i) (λ (now : Option Reading). slots_plan (index_pages_of (g.S.EawStore.view c.args.pages.now.store).shape) c.args.slots c.args.table c.args.page now (pairs_from c.args.bytes.now (suc c.loop-i.i) (c.args.count - suc c.loop-i.i))) (c.loop-i.invariant.looks.still refl) c.loop-i.invariant.looks.shape
     (subst (λ (ps : List Pair). SoFar g.S.EawStore.tells (g.S.EawStore.calls c.args.pages.now.store) (g.S.EawStore.calls c.loop-i.pages.store) (slots_plan (index_pages_of (g.S.EawStore.view c.args.pages.now.store).shape) c.args.slots c.args.table c.args.page (held_of c.loop-i.held) ps) (slots_plan (index_pages_of (g.S.EawStore.view c.args.pages.now.store).shape) c.args.slots c.args.table c.args.page None (pairs_said c.args.bytes.now)) (g.S.EawStore.view c.args.pages.now.store) (g.S.EawStore.view c.loop-i.pages.store)) (from_step c.args.bytes.now c.loop-i.i c.args.count c.loop-i-test.true) c.loop-i.invariant.tests) c.in-Err.fault (λ now. slots_stop _ _ _ _ _ now)
     (subst (λ (n : ℕ). Tries g.S.EawStore.tells (g.S.EawStore.calls c.loop-i.pages.store) (g.S.EawStore.calls c.check_slot.new.pages.store) (slot_plan n c.args.slots c.args.table c.args.page (held_of c.loop-i.held) (pair_said c.args.bytes.now c.loop-i.i) (held_after r c.check_slot.new.held)) (g.S.EawStore.view c.loop-i.pages.store) (g.S.EawStore.view c.check_slot.new.pages.store) r) (ap index_pages_of c.loop-i.invariant.looks.shape)
-          (subst (λ (p : Pair). Tries g.S.EawStore.tells (g.S.EawStore.calls c.loop-i.pages.store) (g.S.EawStore.calls c.check_slot.new.pages.store) (slot_plan (index_pages_of (g.S.EawStore.view c.loop-i.pages.store).shape) c.args.slots c.args.table c.args.page (held_of c.loop-i.held) p (held_after r c.check_slot.new.held)) (g.S.EawStore.view c.loop-i.pages.store) (g.S.EawStore.view c.check_slot.new.pages.store) r) c.read_pair-pair.ensures.pair c.in-Err.ensures.tests))
+    (subst (λ (p : Pair). Tries g.S.EawStore.tells (g.S.EawStore.calls c.loop-i.pages.store) (g.S.EawStore.calls c.check_slot.new.pages.store) (slot_plan (index_pages_of (g.S.EawStore.view c.loop-i.pages.store).shape) c.args.slots c.args.table c.args.page (held_of c.loop-i.held) p (held_after r c.check_slot.new.held)) (g.S.EawStore.view c.loop-i.pages.store) (g.S.EawStore.view c.check_slot.new.pages.store) r) c.read_pair-pair.ensures.pair c.in-Err.ensures.tests))
 
 pub returns-clause-tests : goal.returns-clause-tests
 returns-clause-tests g c =

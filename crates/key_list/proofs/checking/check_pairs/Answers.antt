@@ -112,7 +112,7 @@ loop-i-preserved g c =
           subst (λ (p : Pair). SoFar g.S.EawStore.tells (g.S.EawStore.calls c.args.pages.now.store) (g.S.EawStore.calls c.check_pair.new.pages.store) (pairs_plan (index_pages_of (g.S.EawStore.view c.args.pages.now.store).shape) c.args.slots c.args.table c.args.page (suc p.0) (held_of c.check_pair.new.held) (pairs_from c.args.bytes.now (c.loop-i.i + 1) (c.args.count - (c.loop-i.i + 1)))) (pairs_plan (index_pages_of (g.S.EawStore.view c.args.pages.now.store).shape) c.args.slots c.args.table c.args.page (low_of c.args.last) None (pairs_said c.args.bytes.now)) (g.S.EawStore.view c.args.pages.now.store) (g.S.EawStore.view c.check_pair.new.pages.store)) (sym c.read_pair-key.ensures.pair)
           (subst (λ (n : ℕ). SoFar g.S.EawStore.tells (g.S.EawStore.calls c.args.pages.now.store) (g.S.EawStore.calls c.check_pair.new.pages.store) (pairs_plan (index_pages_of (g.S.EawStore.view c.args.pages.now.store).shape) c.args.slots c.args.table c.args.page (suc (pair_said c.args.bytes.now c.loop-i.i).0) (held_of c.check_pair.new.held) (pairs_from c.args.bytes.now n (c.args.count - n))) (pairs_plan (index_pages_of (g.S.EawStore.view c.args.pages.now.store).shape) c.args.slots c.args.table c.args.page (low_of c.args.last) None (pairs_said c.args.bytes.now)) (g.S.EawStore.view c.args.pages.now.store) (g.S.EawStore.view c.check_pair.new.pages.store)) on
           (so_pair (index_pages_of (g.S.EawStore.view c.args.pages.now.store).shape) c.args.slots c.args.table c.args.page (low_of c.loop-i.last) (held_of c.loop-i.held) (pair_said c.args.bytes.now c.loop-i.i) (λ (now : Option Reading). pairs_plan (index_pages_of (g.S.EawStore.view c.args.pages.now.store).shape) c.args.slots c.args.table c.args.page (suc (pair_said c.args.bytes.now c.loop-i.i).0) now (pairs_from c.args.bytes.now (suc c.loop-i.i) (c.args.count - suc c.loop-i.i))) (c.loop-i.invariant.looks.still refl) c.loop-i.invariant.looks.shape (subst (λ (ps : List Pair). SoFar g.S.EawStore.tells (g.S.EawStore.calls c.args.pages.now.store) (g.S.EawStore.calls c.loop-i.pages.store) (pairs_plan (index_pages_of (g.S.EawStore.view c.args.pages.now.store).shape) c.args.slots c.args.table c.args.page (low_of c.loop-i.last) (held_of c.loop-i.held) ps) (pairs_plan (index_pages_of (g.S.EawStore.view c.args.pages.now.store).shape) c.args.slots c.args.table c.args.page (low_of c.args.last) None (pairs_said c.args.bytes.now)) (g.S.EawStore.view c.args.pages.now.store) (g.S.EawStore.view c.loop-i.pages.store)) (from_step c.args.bytes.now c.loop-i.i c.args.count c.loop-i-test.true) c.loop-i.invariant.tests) tt c.check_pair.new.held (subst (λ (n : ℕ). Tries g.S.EawStore.tells (g.S.EawStore.calls c.loop-i.pages.store) (g.S.EawStore.calls c.check_pair.new.pages.store) (holding (low_of c.loop-i.last ≤ (pair_said c.args.bytes.now c.loop-i.i).0) c.args.page (slot_plan n c.args.slots c.args.table c.args.page (held_of c.loop-i.held) (pair_said c.args.bytes.now c.loop-i.i) (held_after r c.check_pair.new.held))) (g.S.EawStore.view c.loop-i.pages.store) (g.S.EawStore.view c.check_pair.new.pages.store) r) (ap index_pages_of c.loop-i.invariant.looks.shape)
-    (subst (λ (p : Pair). Tries g.S.EawStore.tells (g.S.EawStore.calls c.loop-i.pages.store) (g.S.EawStore.calls c.check_pair.new.pages.store) (holding (low_of c.loop-i.last ≤ p.0) c.args.page (slot_plan (index_pages_of (g.S.EawStore.view c.loop-i.pages.store).shape) c.args.slots c.args.table c.args.page (held_of c.loop-i.held) p (held_after r c.check_pair.new.held))) (g.S.EawStore.view c.loop-i.pages.store) (g.S.EawStore.view c.check_pair.new.pages.store) r) c.read_pair-key.ensures.pair c.in-Ok.ensures.tests))));
+          (subst (λ (p : Pair). Tries g.S.EawStore.tells (g.S.EawStore.calls c.loop-i.pages.store) (g.S.EawStore.calls c.check_pair.new.pages.store) (holding (low_of c.loop-i.last ≤ p.0) c.args.page (slot_plan (index_pages_of (g.S.EawStore.view c.loop-i.pages.store).shape) c.args.slots c.args.table c.args.page (held_of c.loop-i.held) p (held_after r c.check_pair.new.held))) (g.S.EawStore.view c.loop-i.pages.store) (g.S.EawStore.view c.check_pair.new.pages.store) r) c.read_pair-key.ensures.pair c.in-Ok.ensures.tests))));
     }
 
 pub returns-clause-cause : goal.returns-clause-cause
