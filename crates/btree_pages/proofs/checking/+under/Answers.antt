@@ -1,4 +1,4 @@
-use Rattle.std.proofs.Common.{◌≤◌, ◌≡◌, ◌+◌, ◌-◌, ◌++◌, ℕ, suc, false, List, None, Ok, Err, Result, refl, sym, ◌∙◌, ap, subst, arith}
+use Rattle.std.proofs.Common.{◌≤◌, ◌≡◌, ◌≢◌, ◌+◌, ◌-◌, ◌++◌, ℕ, suc, false, List, None, Ok, Err, Result, refl, sym, ◌∙◌, ap, subst, arith}
 use Rattle.std.specs.Prelude.{OnOk}
 use Rattle.std.proofs.lemmas.Bool.{false≢true}
 use Rattle.array_shape.specs.declared.shape.Shape.{Shape}
@@ -219,9 +219,9 @@ check_under-returns-in-Err g t c = record {
 
 pub check_under-returns : goal.check_under-returns
 check_under-returns g t c = record {
-  tests = so_ends (c.in-Ok.ensures.looks.still refl) c.in-Ok.ensures.looks.shape ((λ said. page_plan (g.S.EawStore.view c.args.pages.now.store).shape c.args.front.now c.args.root.page c.args.root.table c.args.level c.args.spot.page c.args.spot.low (high_of c.args.spot.high) said) c.fetch_page.new.bytes) c.check_page.result
+  tests = so_ends (c.in-Ok.ensures.looks.still refl) c.in-Ok.ensures.looks.shape (page_plan (g.S.EawStore.view c.args.pages.now.store).shape c.args.front.now c.args.root.page c.args.root.table c.args.level c.args.spot.page c.args.spot.low (high_of c.args.spot.high) c.fetch_page.new.bytes) c.check_page.result
       (so_page (still_same g.S.EawStore.tells (g.S.EawStore.view c.args.pages.now.store)) refl c.args.spot.page (λ said. page_plan (g.S.EawStore.view c.args.pages.now.store).shape c.args.front.now c.args.root.page c.args.root.table c.args.level c.args.spot.page c.args.spot.low (high_of c.args.spot.high) said) c.fetch_page.new.bytes (so_first (under_plan (g.S.EawStore.view c.args.pages.now.store).shape c.args.front.now c.args.root.page c.args.root.table c.args.level c.args.spot.page c.args.spot.low (high_of c.args.spot.high))) c.in-Ok.ensures.reads)
-      (subst (λ (s : Shape). Tries g.S.EawStore.tells (g.S.EawStore.calls c.fetch_page.new.pages.store) (g.S.EawStore.calls c.check_page.new.pages.store) ((λ said. page_plan s c.args.front.now c.args.root.page c.args.root.table c.args.level c.args.spot.page c.args.spot.low (high_of c.args.spot.high) said) c.fetch_page.new.bytes) (g.S.EawStore.view c.fetch_page.new.pages.store) (g.S.EawStore.view c.check_page.new.pages.store) c.check_page.result) c.in-Ok.ensures.looks.shape c.check_page.ensures.tests);
+      (subst (λ (s : Shape). Tries g.S.EawStore.tells (g.S.EawStore.calls c.fetch_page.new.pages.store) (g.S.EawStore.calls c.check_page.new.pages.store) (page_plan s c.args.front.now c.args.root.page c.args.root.table c.args.level c.args.spot.page c.args.spot.low (high_of c.args.spot.high) c.fetch_page.new.bytes) (g.S.EawStore.view c.fetch_page.new.pages.store) (g.S.EawStore.view c.check_page.new.pages.store) c.check_page.result) c.in-Ok.ensures.looks.shape c.check_page.ensures.tests);
   looks = looks_next g.S.EawStore.tells g.S.EawStore.opens _ (pages_of (g.S.EawStore.view c.args.pages.now.store) c.args.pages.now) (pages_of (g.S.EawStore.view c.fetch_page.new.pages.store) c.fetch_page.new.pages) (pages_of (g.S.EawStore.view c.check_page.new.pages.store) c.check_page.new.pages) c.in-Ok.ensures.looks c.check_page.ensures.looks;
   cause = λ told front.
       let same = (c.in-Ok.ensures.looks.still refl).state told in
@@ -275,7 +275,7 @@ check_page-returns-then-head-level-clause-tests g t c = page_bad g.S.EawStore.te
     (λ is leaf. c.if-head-level.true (c.in-Some.ensures.says.level ∙ leaf.level ∙ sym is)) (λ some inner. c.if-head-level.true (c.in-Some.ensures.says.level ∙ inner.level_is))
 
 pub check_page-returns-then-not-is_leaf-clause-tests : goal.check_page-returns-then-not-is_leaf-clause-tests
-check_page-returns-then-not-is_leaf-clause-tests g t c = page_bad g.S.EawStore.tells (g.S.EawStore.calls c.args.pages.now.store) (g.S.EawStore.view c.args.pages.now.store).shape c.args.front.now c.args.root.page c.args.root.table c.args.spot.page c.args.spot.low (high_of c.args.spot.high) c.args.bytes.now (g.S.EawStore.view c.args.pages.now.store) c.args.level (λ is leaf. false≢true (c.if-not-is_leaf.ensures.1 (leaf.some, leaf.rises))) (λ some inner. absurd (some c.if-level-eq0.true))
+check_page-returns-then-not-is_leaf-clause-tests g t c = page_bad g.S.EawStore.tells (g.S.EawStore.calls c.args.pages.now.store) (g.S.EawStore.view c.args.pages.now.store).shape c.args.front.now c.args.root.page c.args.root.table c.args.spot.page c.args.spot.low (high_of c.args.spot.high) c.args.bytes.now (g.S.EawStore.view c.args.pages.now.store) c.args.level (λ is leaf. false≢true (c.if-not-is_leaf.ensures.1 (subst (λ (n : ℕ). c.args.spot.page ≢ c.args.root.page → 1 ≤ n) (sym c.in-Some.ensures.says.count) leaf.some, leaf.rises))) (λ some inner. absurd (some c.if-level-eq0.true))
 
 pub check_page-returns-then-not-is_inner-clause-tests : goal.check_page-returns-then-not-is_inner-clause-tests
 check_page-returns-then-not-is_inner-clause-tests g t c = page_bad g.S.EawStore.tells (g.S.EawStore.calls c.args.pages.now.store) (g.S.EawStore.view c.args.pages.now.store).shape c.args.front.now c.args.root.page c.args.root.table c.args.spot.page c.args.spot.low (high_of c.args.spot.high) c.args.bytes.now (g.S.EawStore.view c.args.pages.now.store) c.args.level (λ is leaf. absurd (c.if-level-eq0.false is)) (λ some inner. false≢true (c.if-not-is_inner.ensures.1 (inner.first, inner.rises, inner.children)))
@@ -284,7 +284,7 @@ pub check_page-returns-then-level-eq0-clause-tests : goal.check_page-returns-the
 check_page-returns-then-level-eq0-clause-tests g t c =
     let tests = c.if-not-is_leaf.ensures.0 refl in
     page_leaf g.S.EawStore.tells (g.S.EawStore.calls c.args.pages.now.store) (g.S.EawStore.view c.args.pages.now.store).shape c.args.front.now c.args.root.page c.args.root.table c.args.spot.page c.args.spot.low (high_of c.args.spot.high) c.args.bytes.now (g.S.EawStore.view c.args.pages.now.store) (g.S.EawStore.calls c.check_slots.new.pages.store) (g.S.EawStore.view c.check_slots.new.pages.store) c.check_slots.result c.args.level c.if-level-eq0.true
-    (record { node = c.in-Some.ensures.says.node; level = sym c.in-Some.ensures.says.level ∙ c.if-head-level.false ∙ c.if-level-eq0.true; some = tests.0; rises = tests.1 }) c.check_slots.ensures.tests
+    (record { node = c.in-Some.ensures.says.node; level = sym c.in-Some.ensures.says.level ∙ c.if-head-level.false ∙ c.if-level-eq0.true; some = subst (λ (n : ℕ). c.args.spot.page ≢ c.args.root.page → 1 ≤ n) c.in-Some.ensures.says.count tests.0; rises = tests.1 }) c.check_slots.ensures.tests
 
 pub check_page-returns-clause-tests : goal.check_page-returns-clause-tests
 check_page-returns-clause-tests g t c =
