@@ -13,6 +13,8 @@ ARRAY_MARK, RECORD_MARK = b"MARSEAW1", b"MREC"
 HEADER = PAGE = 512
 ROW, HEAD, CELL, SLOT = 16, 16, 528, 64
 MOST = [(1, 8), (1, 64), (8, 64), (4, 4096)]
+# Half of the pages hold eight slots each.
+SLOTS_OF_A_PAGE = 4
 VOTED = 0xC3
 CHAIN, TREE = 0, 1
 LEAF, INNER, MOST_PAIRS, MOST_LEVEL = 1, 2, 30, 7
@@ -52,7 +54,7 @@ class Shape(NamedTuple):
 
     @property
     def slots(self):
-        return 4 * self.all_pages
+        return SLOTS_OF_A_PAGE * self.all_pages
 
     def region_at(self, logger):
         return HEADER + logger * self.region
